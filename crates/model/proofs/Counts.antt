@@ -1,0 +1,92 @@
+-- Booleans, counting, and sums over lists. Assumes nothing.
+use Prim.Native.Nat.{ℕ, zero, suc, _+_, _-_, _≤_, _<_}
+use mathlib.Core.Path.{_≡_, refl, sym, ap, _∙_, subst}
+use mathlib.Core.List.{List, [], _∷_, _++_, reverse, reverseAux}
+use mathlib.Core.Bool.{Bool, true, false, cond, not, _&&_, _||_, false≢true, true≢false}
+use native.Mathlib.Omega.{arith}
+use native.Mathlib.Nat.{le-refl}
+use lib.Dec.{eqb, leb, ltb}
+use lib.ListN.{take, drop, take-append-drop, length}
+use borrow.Author.Tests.{eqb-true, eqb-false, eq-eqb, ne-eqb, not-true}
+use Rattle.model.specs.Lists.{count, elem, distinct, every, filter, total}
+
+-- by cases on a test, with what it answered
+pub by-cases {ℓ} : {P : Type ℓ} (b : Bool) → (b ≡ true → P) → (b ≡ false → P) → P
+by-cases true f g = f refl
+by-cases false f g = g refl
+
+pub and-l : (a b : Bool) → (a && b) ≡ true → a ≡ true
+and-l true b e = refl
+and-l false b e = e
+
+pub and-r : (a b : Bool) → (a && b) ≡ true → b ≡ true
+and-r true b e = e
+and-r false b e = cc
+
+pub count-append : (w : ℕ) (s t : List ℕ) → count w (s ++ t) ≡ count w s + count w t
+count-append w [] t = omega arith
+count-append w (x ∷ s) t = let ih = count-append w s t in omega arith
+
+count-reverseAux : (w : ℕ) (s t : List ℕ) → count w (reverseAux s t) ≡ count w s + count w t
+count-reverseAux w [] t = omega arith
+count-reverseAux w (x ∷ s) t = let ih = count-reverseAux w s (x ∷ t) in omega arith
+
+pub count-reverse : (w : ℕ) (s : List ℕ) → count w (reverse s) ≡ count w s
+count-reverse w s = let h = count-reverseAux w s [] in omega arith
+
+pub count-cut : (w n : ℕ) (s : List ℕ) → count w (take n s) + count w (drop n s) ≡ count w s
+count-cut w n s = sym (count-append w (take n s) (drop n s)) ∙ ap (count w) (take-append-drop n s)
+
+pub elem-count : (w : ℕ) (s : List ℕ) → elem w s ≡ true → 1 ≤ count w s
+elem-count w [] e = absurd (false≢true e)
+elem-count w (x ∷ s) e =
+    by-cases (eqb w x)
+    (λ b. rw b (omega arith))
+    (λ b. let ih = elem-count w s (rw b at e) in omega arith)
+
+pub count-elem : (w : ℕ) (s : List ℕ) → elem w s ≡ false → count w s ≡ 0
+count-elem w [] e = refl
+count-elem w (x ∷ s) e =
+    by-cases (eqb w x)
+    (λ b. absurd (true≢false (rw b at e)))
+    (λ b. let ih = count-elem w s (rw b at e) in rw b (omega arith))
+
+pub every-count : (t : ℕ → Bool) (w : ℕ) (s : List ℕ) → every t s ≡ true → 1 ≤ count w s → t w ≡ true
+every-count t w [] e h = absurd (omega arith)
+every-count t w (x ∷ s) e h =
+    by-cases (eqb w x)
+    (λ b. rw (eqb-true w x b) (and-l (t x) (every t s) e))
+    (λ b. let h′ : 1 ≤ 0 + count w s = rw b at h in every-count t w s (and-r (t x) (every t s) e) (omega arith))
+
+pub filter-le : (t : ℕ → Bool) (w : ℕ) (s : List ℕ) → count w (filter t s) ≤ count w s
+filter-le t w [] = omega arith
+filter-le t w (x ∷ s) =
+    let ih = filter-le t w s in
+    by-cases (t x) (λ b. rw b (omega arith)) (λ b. rw b (omega arith))
+
+pub filter-passes : (t : ℕ → Bool) (w : ℕ) (s : List ℕ) → 1 ≤ count w (filter t s) → t w ≡ true
+filter-passes t w [] h = absurd (omega arith)
+filter-passes t w (x ∷ s) h =
+    by-cases (t x)
+    (λ b. by-cases (eqb w x)
+    (λ a. rw (eqb-true w x a) b)
+    (λ a. let h′ : 1 ≤ 0 + count w (filter t s) = rw (b, a) at h in filter-passes t w s (omega arith)))
+    (λ b. filter-passes t w s (rw b at h))
+
+pub distinct-count : (w : ℕ) (s : List ℕ) → distinct s ≡ true → count w s ≤ 1
+distinct-count w [] e = omega arith
+distinct-count w (x ∷ s) e =
+    let ih = distinct-count w s (and-r (not (elem x s)) (distinct s) e) in
+    by-cases (eqb w x)
+    (λ b. rw b (let z = count-elem x s (not-true (elem x s) (and-l (not (elem x s)) (distinct s) e)) in
+    let y : count w s ≡ count x s = rw (eqb-true w x b) in omega arith))
+    (λ b. rw b (omega arith))
+
+module _ {A : Type 0} (f : A → ℕ) where
+  pub total-append : (s t : List A) → total f (s ++ t) ≡ total f s + total f t
+  total-append [] t = omega arith
+  total-append (x ∷ s) t = let ih = total-append s t in omega arith
+
+  pub total-at : (s : List A) (p : A) (t : List A) → total f (s ++ p ∷ t) ≡ f p + total f (s ++ t)
+  total-at [] p t = refl
+  total-at (x ∷ s) p t = let ih = total-at s p t in omega arith

@@ -1,0 +1,72 @@
+-- The demands, as statements about every history from an opening of an arena of `size` pages. proofs/Theorems proves each. Assumes nothing.
+use Prim.Native.Nat.{ℕ, _+_, _-_, _*_, _/_, _≤_, _<_}
+use mathlib.Core.Path.{_≡_}
+use mathlib.Core.Logic.{_↔_}
+use mathlib.Core.List.{List, []}
+use mathlib.Core.Bool.{Bool, true, false}
+use mathlib.Core.Option.{none}
+use lib.Dec.{eqb}
+use Rattle.classes.specs.Sizes.{pageBytes}
+use Rattle.classes.specs.Shape.{shapeOf}
+use Rattle.model.specs.Lists.{total, below}
+use Rattle.model.specs.Calls.{Call, Request, take, Answer}
+use Rattle.model.specs.Arena as Arenas
+use Rattle.model.specs.Class.{Class, Ask, done}
+use Rattle.model.specs.Chunks.{answer}
+use Rattle.model.specs.Heap.{Heap, isHeld, isDirect, idlePages, classCall}
+use Rattle.model.specs.History.{Event, events, heapAfter, callsOf, answersOf, runsOf}
+use Rattle.model.specs.Entries.{Entry, Live, HasByte, firstByte, blockBytes, directAfter}
+use Rattle.model.specs.Ledger.{inHoles, above, runsWith, heldBy, abandonedFrom}
+use Rattle.model.specs.BestFit.{Commits, Remembers}
+use Rattle.model.specs.Yields.{Listed, TakeYields}
+use Rattle.model.specs.Heap.{newHeap}
+
+-- the longest arena: number 1 is above it
+abbrev pub arenaMax : ℕ
+arenaMax = 262144
+
+-- Demand 2: a commit on the heap after a history answers by best fit, or none with its reason; and the memory is what document 01 makes it
+pub record BestFit (size : ℕ) (xs : List Call) : Type 0 where
+  pub commits : (h n : ℕ) → Commits size h n (heapAfter size xs .arena) (Arenas.commit size h n (heapAfter size xs .arena) .run) (Arenas.commit size h n (heapAfter size xs .arena) .fresh)
+  pub remembers : Remembers (heapAfter size xs .arena .store)
+
+-- Demand 2: "Each source is tried only if the earlier gave no block", so a take is empty only if the arena was asked and gave none
+pub record Yielding (size : ℕ) (xs : List Call) : Type 0 where
+  pub listed : (c : ℕ) → Listed (shapeOf c) (heapAfter size xs .classes c)
+  pub takes : (c h : ℕ) (l : List ℕ) → TakeYields (answer (shapeOf c) (heapAfter size xs .classes c) (take h l))
+
+-- Conservation: every page is in exactly one place, and the report's figures count these places
+pub record Conserved (size : ℕ) (xs : List Call) : Type 0 where
+  pub one : (x : ℕ) → isHeld (heapAfter size xs .holder x) + inHoles x (heapAfter size xs .arena) + above (heapAfter size xs .arena .frontier) x + abandonedFrom size newHeap xs x ≡ 1
+  pub classes : (c x : ℕ) → runsWith (shapeOf c) x (heapAfter size xs .classes c) ≡ heldBy c (heapAfter size xs .holder x)
+  pub direct : (x : ℕ) → directAfter (events size xs) x ≡ isDirect (heapAfter size xs .holder x)
+  pub holeTotal : heapAfter size xs .arena .store .total ≡ total (λ h. h .pages) (heapAfter size xs .arena .store .holes)
+  pub idle : idlePages size (heapAfter size xs .arena) ≡ total (λ x. inHoles x (heapAfter size xs .arena) + above (heapAfter size xs .arena .frontier) x) (below size)
+
+-- Demand 3, second half: two entries not yet released share a byte exactly when they are the same entry, and none has a byte of a
+-- page held by the direct calls
+pub record Disjoint (vs : List Event) : Type 0 where
+  pub apart : (e e′ : Entry) → Live 0 vs e → Live 0 vs e′ → ((b : ℕ) × HasByte e b × HasByte e′ b) ↔ ((e .call ≡ e′ .call) × (e .place ≡ e′ .place))
+  pub offDirect : (e : Entry) → Live 0 vs e → (b : ℕ) → HasByte e b → directAfter vs (b / pageBytes) ≡ false
+
+-- Demand 3, "one claim about whole histories"
+pub record Demand3 (size : ℕ) : Type 0 where
+  -- where a class's calls are equal, its answers are equal exactly when what the arena gave it is
+  pub alone : (c : ℕ) (xs ys : List Call) → callsOf c xs ≡ callsOf c ys → (answersOf c (events size xs) ≡ answersOf c (events size ys)) ↔ (runsOf c (events size xs) ≡ runsOf c (events size ys))
+  pub disjoint : (xs : List Call) → Disjoint (events size xs)
+
+-- Demand 2 in ISO C's words (C11 7.22.3): each allocation that is not yet freed yields an object disjoint from any other. An
+-- allocation's bytes lie in the arena, from its first byte on, as many as its class's block size; two have no byte in common.
+pub record IsoDisjoint (size : ℕ) (vs : List Event) : Type 0 where
+  pub inArena : (e : Entry) → Live 0 vs e → firstByte e + blockBytes e ≤ size * pageBytes
+  pub noCommon : (e e′ : Entry) → Live 0 vs e → Live 0 vs e′ → ((e .call ≡ e′ .call) × (e .place ≡ e′ .place) → ⊥) → (i j : ℕ) → i < blockBytes e → j < blockBytes e′ → firstByte e + i ≡ firstByte e′ + j → ⊥
+
+-- A.14 at the model: two neighbouring calls on different classes, one of which does not reach the arena, in either order
+pub record Commute (size : ℕ) (H : Heap) (c d : ℕ) (x y : Request) : Type 0 where
+  pub heap : classCall size (classCall size H c x .heap) d y .heap ≡ classCall size (classCall size H d y .heap) c x .heap
+  pub first : classCall size H c x .answer ≡ classCall size (classCall size H d y .heap) c x .answer
+  pub second : classCall size (classCall size H c x .heap) d y .answer ≡ classCall size H d y .answer
+
+-- a call that does not reach the arena: it is done, and gives no run
+pub data StaysHome : Ask → Type 0 where
+  stays : (s : Class) (a : Answer) → StaysHome (done (record { class = s; answer = a; gives = [] }))

@@ -1,0 +1,15 @@
+pub mod Lists
+pub mod Calls
+pub mod HoleStore
+pub mod Arena
+pub mod Page
+pub mod Class
+pub mod Release
+pub mod Chunks
+pub mod Heap
+pub mod History
+pub mod Entries
+pub mod Ledger
+pub mod BestFit
+pub mod Yields
+pub mod Demands

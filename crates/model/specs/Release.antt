@@ -1,0 +1,125 @@
+-- Releases by list, and what becomes of a page (document 01, "Blocks out and back"). Assumes nothing.
+use Prim.Native.Nat.{ℕ, suc, _+_, _*_}
+use mathlib.Core.List.{List, [], _∷_, _++_}
+use mathlib.Core.Option.{Option, none, some}
+use mathlib.Core.Bool.{Bool, true, false, cond, not, _&&_}
+use lib.Dec.{eqb, leb, ltb}
+use lib.ListN.{length}
+use Rattle.words.specs.Word.{kindOf}
+use Rattle.words.specs.Host.{discardZeroed}
+use Rattle.classes.specs.declared.Shape.{Shape}
+use Rattle.model.specs.Lists.{isNil, isSome, every, distinct}
+use Rattle.model.specs.Calls.{fate}
+use Rattle.model.specs.Page.{Page, isMedium, isOut, noneOut, returned, retire}
+use Rattle.model.specs.Class.{Class, lists, Ask, done, refuse}
+
+-- the first page of a list that passes a test, with what stands before and behind it
+pub record Found : Type 0 where
+  pub before : List Page
+  pub page : Page
+  pub behind : List Page
+
+abbrev pub prepend : Page → Option Found → Option Found
+prepend p none = none
+prepend p (some f) = some (record { before = p ∷ f .before; page = f .page; behind = f .behind })
+
+unfoldable pub find : (Page → Bool) → List Page → Option Found
+find t [] = none
+find t (p ∷ ps) = cond (t p) (some (record { before = []; page = p; behind = ps })) (prepend p (find t ps))
+
+-- a page with blocks out: the class without it, and with another in its stead; a partial page keeps its place in the list, a full
+-- one "heads the partial list"
+pub record Site : Type 0 where
+  pub page : Page
+  pub without : Class
+  pub with : Page → Class
+
+unfoldable pub inPartial : Class → Found → Site
+inPartial s f = record {
+  page = f .page;
+  without = lists (f .before ++ f .behind) (s .empty) (s .cold) (s .full);
+  with = λ p. lists (f .before ++ p ∷ f .behind) (s .empty) (s .cold) (s .full);
+}
+
+unfoldable pub inFull : Class → Found → Site
+inFull s f = record {
+  page = f .page;
+  without = lists (s .partial) (s .empty) (s .cold) (f .before ++ f .behind);
+  with = λ p. lists (p ∷ s .partial) (s .empty) (s .cold) (f .before ++ f .behind);
+}
+
+abbrev pub orElse : Option Site → Option Site → Option Site
+orElse none y = y
+orElse (some x) y = some x
+
+abbrev pub mapFound : (Found → Site) → Option Found → Option Site
+mapFound g none = none
+mapFound g (some f) = some (g f)
+
+unfoldable pub locate : (Page → Bool) → Class → Option Site
+locate t s = orElse (mapFound (inPartial s) (find t (s .partial))) (mapFound (inFull s) (find t (s .full)))
+
+-- what comes of one page's release: the class, the page's fate, and the run if it goes to the arena
+pub record Settled : Type 0 where
+  pub class : Class
+  pub fate : ℕ
+  pub gives : List ℕ
+
+-- "Release answers each page's fate: 0 kept, 1 cold, 2 to the arena; plus 4 if retired." "For medium, cold counts as 0"
+abbrev pub coldFate : Shape → ℕ
+coldFate sh = cond (isMedium sh) 0 1
+
+abbrev pub parkEmpty : Class → Page → Settled
+parkEmpty s p = record { class = lists (s .partial) (p ∷ s .empty) (s .cold) (s .full); fate = 0; gives = [] }
+
+abbrev pub parkCold : Shape → ℕ → Class → Page → Settled
+parkCold sh h s p = record { class = lists (s .partial) (s .empty) (record { first = p .first; zeroed = discardZeroed h } ∷ s .cold) (s .full); fate = coldFate sh; gives = [] }
+
+abbrev pub letGo : Class → Page → Settled
+letGo s p = record { class = s; fate = 2; gives = p .first ∷ [] }
+
+-- "at most 4 empty, last in first out, then 256 cold, then given to the arena"; for spans "32 and 8 MiB"
+abbrev pub keepsEmpty : Shape → Class → Bool
+keepsEmpty sh s = ltb (length (s .empty)) (sh .empties) && leb (suc (length (s .empty)) * sh .pages) (sh .emptypages)
+
+abbrev pub keepsCold : Shape → Class → Bool
+keepsCold sh s = ltb (length (s .cold)) (sh .colds)
+
+unfoldable pub park : Shape → ℕ → Class → Page → Settled
+park sh h s p = cond (keepsEmpty sh s) (parkEmpty s p) (cond (keepsCold sh s) (parkCold sh h s p) (letGo s p))
+
+abbrev pub markRetired : Settled → Settled
+markRetired b = record { class = b .class; fate = 4 + b .fate; gives = b .gives }
+
+-- blocks come back to a page: one with none out is parked, retired first if a chunk returned them all
+unfoldable pub settle : Shape → ℕ → Bool → List ℕ → Site → Settled
+settle sh h retires ws x =
+    cond (noneOut sh (returned ws (x .page)))
+    (cond retires (markRetired (park sh h (x .without) (retire (x .page)))) (park sh h (x .without) (returned ws (x .page))))
+    (record { class = x .with (returned ws (x .page)); fate = 0; gives = [] })
+
+-- the tests of numbers 9 and 10
+unfoldable pub ofKind : ℕ → ℕ → Bool
+ofKind k w = eqb (kindOf w) k
+
+unfoldable pub outHere : Shape → Class → ℕ → Bool
+outHere sh s w = isSome (locate (isOut sh w) s)
+
+-- `release_blocks_with_tail`: numbers 7, 9, 10, 11, each over the whole list
+unfoldable pub onPage : Shape → ℕ → Class → List ℕ → Option Site → Ask
+onPage sh h s ws none = refuse s 10
+onPage sh h s ws (some x) =
+    cond (every (λ w. isOut sh w (x .page)) ws)
+    (let b = settle sh h false ws x in done (record { class = b .class; answer = fate (b .fate); gives = b .gives }))
+    (refuse s 11)
+
+abbrev pub siteOfFirst : Shape → Class → List ℕ → Option Site
+siteOfFirst sh s [] = none
+siteOfFirst sh s (w ∷ ws) = locate (isOut sh w) s
+
+unfoldable pub releaseList : Shape → ℕ → Class → List ℕ → Ask
+releaseList sh h s ws =
+    cond (isNil ws) (refuse s 7)
+    (cond (not (every (ofKind (sh .kind)) ws)) (refuse s 9)
+    (cond (not (every (outHere sh s) ws && distinct ws)) (refuse s 10)
+    (onPage sh h s ws (siteOfFirst sh s ws))))
