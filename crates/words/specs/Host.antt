@@ -1,7 +1,14 @@
 -- The host word: the system's answers for one call (document 01, "What the editor lends"). Assumes nothing.
 use Prim.Native.Nat.{ℕ, _/_, _%_, _^_}
 use mathlib.Core.Bool.{Bool, _&&_}
-use lib.Dec.{eqb}
+use lib.Dec.{eqb, leb}
+
+-- a host word has four bits, so that it is at most 15; more is refused by number 3
+abbrev pub hostBits : ℕ
+hostBits = 4
+
+abbrev pub hostWithin : ℕ → Bool
+hostWithin h = leb h 15
 
 -- is bit k of a number set
 abbrev pub bit : ℕ → ℕ → Bool
@@ -13,6 +20,13 @@ reservationGranted h = bit 0 h
 abbrev pub commitGranted : ℕ → Bool
 commitGranted h = bit 1 h
 
+abbrev pub discardDone : ℕ → Bool
+discardDone h = bit 2 h
+
+-- a done discard zeroes; of one that is not done this bit says nothing
+abbrev pub discardZeroes : ℕ → Bool
+discardZeroes h = bit 3 h
+
 -- a discard is done, and a done discard zeroes: only both together leave zeroed pages
 abbrev pub discardZeroed : ℕ → Bool
-discardZeroed h = bit 2 h && bit 3 h
+discardZeroed h = discardDone h && discardZeroes h

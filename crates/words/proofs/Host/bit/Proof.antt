@@ -1,0 +1,14 @@
+-- `words::Host::bit` meets its contract. Assumes nothing.
+use borrow.Author.Needs.{needs}
+use mathlib.Core.Path.{ap}
+use Prim.Native.Nat.{ℕ, _/_, _^_}
+use lib.Bits.{and-mask}
+use lib.Dec.{eqb}
+use Rattle.words.proofs.Host.bit.Statement.{statement}
+use Rattle.words.proofs.Host.bit.Tie as tie
+
+returns : tie.Need-returns
+returns c = ap (λ (n : ℕ). eqb n 1) (and-mask (c .before .args .self .bits / 2 ^ (c .before .args .k)) 1)
+
+pub bit-spec : {M : Type 1} → statement M
+bit-spec = tie.close (tie.spec (λ c. search needs) returns)

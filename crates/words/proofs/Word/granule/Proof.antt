@@ -1,0 +1,8 @@
+-- `words::Word::granule` meets its contract. Assumes nothing.
+use lib.Bits.{and-mask}
+use Rattle.words.specs.Word.{kindBits}
+use Rattle.words.proofs.Word.granule.Statement.{statement}
+use Rattle.words.proofs.Word.granule.Tie as tie
+
+pub granule-spec : {M : Type 1} → statement M
+granule-spec = tie.close (tie.spec (λ c. and-mask _ kindBits))

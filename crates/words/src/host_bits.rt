@@ -1,0 +1,60 @@
+// The host word, taken apart.
+ghost use mathlib.Core.Path.{_≡_};
+ghost use Prim.Native.Nat.{_<_};
+ghost use Rattle.words.specs.Host.{bit, hostBits, hostWithin, reservationGranted, commitGranted, discardDone, discardZeroes, discardZeroed};
+use super::Host;
+
+impl Host {
+    // The largest host word: its four bits all set.
+    pub const MOST: u32 = 15;
+
+    pub fn of(bits: u32) -> Host
+        ensures { λ r. ⌜ r .bits ≡ bits ⌝ }
+    {
+        Host { bits }
+    }
+
+    pub fn within(self) -> bool
+        ensures { λ r. ⌜ r ≡ hostWithin (self .bits) ⌝ }
+    {
+        self.bits <= Host::MOST
+    }
+
+    fn bit(self, k: u32) -> bool
+        requires { ⌜ k < hostBits ⌝ }
+        ensures { λ r. ⌜ r ≡ bit k (self .bits) ⌝ }
+    {
+        (self.bits >> k) & 1 == 1
+    }
+
+    pub fn reservation_granted(self) -> bool
+        ensures { λ r. ⌜ r ≡ reservationGranted (self .bits) ⌝ }
+    {
+        self.bit(0)
+    }
+
+    pub fn commit_granted(self) -> bool
+        ensures { λ r. ⌜ r ≡ commitGranted (self .bits) ⌝ }
+    {
+        self.bit(1)
+    }
+
+    pub fn discard_done(self) -> bool
+        ensures { λ r. ⌜ r ≡ discardDone (self .bits) ⌝ }
+    {
+        self.bit(2)
+    }
+
+    pub fn discard_zeroes(self) -> bool
+        ensures { λ r. ⌜ r ≡ discardZeroes (self .bits) ⌝ }
+    {
+        self.bit(3)
+    }
+
+    // Does a discard of this call leave zeroed pages.
+    pub fn discard_zeroed(self) -> bool
+        ensures { λ r. ⌜ r ≡ discardZeroed (self .bits) ⌝ }
+    {
+        self.discard_done() && self.discard_zeroes()
+    }
+}
