@@ -9,7 +9,7 @@ use Prim.Native.Nat.{ℕ, _+_, _*_, _/_, _%_, _^_, _<_}
 use native.Mathlib.Nat.{mod-lt, mod-eq-of-lt}
 use lib.Arith.{digits-lt}
 use lib.Dec.{lit<}
-use lib.Pow.{pow-pos, pow-add, split, high, low, field, mod-pow-add, mod-mod-pow, shr-lt}
+use lib.Pow.{pow-pos, split, high, low, field, mod-pow-add, mod-mod-pow, shr-lt}
 use Rattle.words.specs.Word.{chunkKind, kindBits, kindWidth, wordBits, pageBits, countBits, kindOf, granuleOf, countOf, pageOf, blockWord, chunkWord, packBlock, packChunk}
 
 -- ---- the parts of a word
