@@ -1,3 +1,4 @@
 pub mod Sizes
 pub mod Shape
 pub mod Sound
+pub mod Lookup
