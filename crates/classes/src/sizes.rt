@@ -111,3 +111,37 @@ pub fn medium_size(class: u32) -> u32
         MEDIUM_CLASSES[11]
     }
 }
+
+const PAGE_SIZE: u32 = 65536;
+
+// Bytes before the first block of a small page, and of a span.
+pub const PAGE_HEADER: u32 = 48;
+
+pub const SPAN_HEADER: u32 = 64;
+
+const TARGET_BLOCKS_PER_SPAN: u32 = 8;
+
+// Blocks of a small page.
+pub fn capacity_for(size: u32) -> u32
+    requires { ⌜ 0 < size ⌝ }
+    ensures { λ r. ⌜ r ≡ smallCapacity size ⌝ }
+{
+    (PAGE_SIZE - PAGE_HEADER) / size
+}
+
+// Pages of a span: the fewest that hold eight blocks after the header.
+pub fn span_pages_for(size: u32) -> u32
+    requires { ⌜ size ≤ pageBytes ⌝ }
+    ensures { λ r. ⌜ r ≡ spanPages size ⌝ }
+{
+    (SPAN_HEADER + TARGET_BLOCKS_PER_SPAN * size + (PAGE_SIZE - 1)) / PAGE_SIZE
+}
+
+// Blocks of a span.
+pub fn medium_capacity_for(size: u32) -> u32
+    requires { ⌜ 0 < size ⌝ }
+    requires { ⌜ size ≤ pageBytes ⌝ }
+    ensures { λ r. ⌜ r ≡ spanCapacity size ⌝ }
+{
+    (span_pages_for(size) * PAGE_SIZE - SPAN_HEADER) / size
+}
