@@ -8,15 +8,7 @@ use std::fs;
 use std::path::{Path, PathBuf};
 
 /// The files that are read, in the original's own layout.
-const FILES: [&str; 7] = [
-    "arena.rs",
-    "classes.rs",
-    "counters.rs",
-    "heap.rs",
-    "page.rs",
-    "sys/mod.rs",
-    "sys/unix.rs",
-];
+const FILES: [&str; 7] = ["arena.rs", "classes.rs", "counters.rs", "heap.rs", "page.rs", "sys/mod.rs", "sys/unix.rs"];
 
 /// The modules that stand beside each other in the original's root.
 const MODULES: [&str; 6] = ["arena", "classes", "counters", "heap", "page", "sys"];
@@ -127,13 +119,15 @@ const PATCHES: [Patch; 10] = [
 /// Spellings that stand in many places: the root's path, and the features `std` (on) and `telemetry` (off).
 const EVERYWHERE: [(&str, &str); 3] = [
     ("crate::", "crate::oracle::original::"),
-    ("feature = \"std\"", "all()"),
-    ("feature = \"telemetry\"", "any()"),
+    ("feature = \"std\"", "original_std"),
+    ("feature = \"telemetry\"", "original_telemetry"),
 ];
 
 fn main() {
     let package = PathBuf::from(env::var("CARGO_MANIFEST_DIR").expect("CARGO_MANIFEST_DIR"));
     let out = PathBuf::from(env::var("OUT_DIR").expect("OUT_DIR")).join("original");
+    println!("cargo:rustc-check-cfg=cfg(original_std, original_telemetry)");
+    println!("cargo:rustc-cfg=original_std");
     patch_original(&original_folder(&package), &package, &out);
     link_port(&package);
 }

@@ -25,11 +25,17 @@ pub enum Call {
 pub enum Answer {
     Refused(u32),
     /// The list's entries below the count; those past it keep their content.
-    Taken { virgin: bool, words: Vec<u32> },
+    Taken {
+        virgin: bool,
+        words: Vec<u32>,
+    },
     Fate(u32),
     /// The fates of the groups; entries past them keep their content.
     Fates(Vec<u32>),
-    Run { first: u32, fresh: bool },
+    Run {
+        first: u32,
+        fresh: bool,
+    },
     NoRun,
     Grown(bool),
     Released,

@@ -143,16 +143,7 @@ fn take(book: &mut [u32], family: Family, class: u32, host: u32, lent: Lent) -> 
     };
     // SAFETY: slices and out-parameters are lent for the call.
     let number = unsafe {
-        ask(
-            book.as_mut_ptr(),
-            book.len(),
-            class,
-            host,
-            list.as_mut_ptr(),
-            list.len(),
-            &mut count,
-            &mut virgin,
-        )
+        ask(book.as_mut_ptr(), book.len(), class, host, list.as_mut_ptr(), list.len(), &mut count, &mut virgin)
     };
     let kept = |from: usize| list[from..].iter().all(|&entry| entry == lent.fill);
     if number != 0 {
@@ -173,9 +164,7 @@ fn release_blocks(book: &mut [u32], family: Family, class: u32, host: u32, list:
         Family::Medium => vigbuso_medium_release_blocks,
     };
     // SAFETY: slices and out-parameters are lent for the call.
-    let number = unsafe {
-        ask(book.as_mut_ptr(), book.len(), class, host, list.as_ptr(), list.len(), &mut fate)
-    };
+    let number = unsafe { ask(book.as_mut_ptr(), book.len(), class, host, list.as_ptr(), list.len(), &mut fate) };
     match number {
         0 => Answer::Fate(fate),
         _ => refusal(number, fate == UNTOUCHED),
@@ -225,8 +214,7 @@ fn commit(book: &mut [u32], host: u32, pages: u64) -> Answer {
 fn grow(book: &mut [u32], host: u32, [first, old, new]: [u64; 3]) -> Answer {
     let mut grown = UNTOUCHED;
     // SAFETY: the book and the out-parameter are lent for the call.
-    let number =
-        unsafe { vigbuso_grow_frontier(book.as_mut_ptr(), book.len(), host, first, old, new, &mut grown) };
+    let number = unsafe { vigbuso_grow_frontier(book.as_mut_ptr(), book.len(), host, first, old, new, &mut grown) };
     match number {
         0 => yes_or_no("grown", grown, Answer::Grown),
         _ => refusal(number, grown == UNTOUCHED),

@@ -52,11 +52,11 @@ pub const fn kind_of(word: u32) -> u32 {
 }
 
 pub const fn block_word(family: Family, granule: u32) -> u32 {
-    family.kind() << 30 | granule
+    (family.kind() << 30) | granule
 }
 
 pub const fn granule_of(word: u32) -> u32 {
-    word & (1 << 30) - 1
+    word & ((1 << 30) - 1)
 }
 
 pub const fn page_of(word: u32) -> u32 {
@@ -66,13 +66,13 @@ pub const fn page_of(word: u32) -> u32 {
 pub const GROUP_KIND: u32 = 3;
 
 pub const fn group_word(count: u32, page: u32) -> u32 {
-    GROUP_KIND << 30 | count << 18 | page
+    (GROUP_KIND << 30) | (count << 18) | page
 }
 
 pub const fn group_count(word: u32) -> u32 {
-    word >> 18 & 0xFFF
+    (word >> 18) & 0xFFF
 }
 
 pub const fn group_page(word: u32) -> u32 {
-    word & (1 << 18) - 1
+    word & ((1 << 18) - 1)
 }

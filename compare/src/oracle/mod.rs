@@ -14,9 +14,7 @@ mod original {
 
 use std::sync::atomic::{AtomicBool, Ordering};
 
-use crate::words::{
-    block_word, granule_of, group_count, group_page, Family, GRANULE_BYTES, PAGE_BYTES, SMALL_BATCH,
-};
+use crate::words::{block_word, granule_of, group_count, group_page, Family, GRANULE_BYTES, PAGE_BYTES, SMALL_BATCH};
 use original::{arena, classes, heap, page};
 
 // Document 01: debug assertions off.
