@@ -1,18 +1,16 @@
 -- The arena keeps account of pages: what a commit, a growth or a give takes from the idle pages or adds to them. Assumes nothing.
-use Prim.Native.Nat.{ℕ, zero, suc, _+_, _-_, _≤_, _<_}
+use Prim.Native.Nat.{ℕ, _+_, _≤_}
 use mathlib.Core.Path.{_≡_, refl, sym, ap, _∙_, subst}
-use mathlib.Core.List.{List, [], _∷_, _++_}
+use mathlib.Core.List.{List, [], _∷_}
 use mathlib.Core.Option.{Option, none, some}
-use mathlib.Core.Bool.{Bool, true, false, cond, _&&_}
+use mathlib.Core.Bool.{Bool, cond}
 use native.Mathlib.Omega.{arith}
-use lib.Dec.{eqb, leb, ltb}
-use lib.ListN.{length}
+use lib.Dec.{eqb, leb}
 use borrow.Author.Tests.{leb-true, eqb-true}
 use Rattle.words.specs.Host.{reservationGranted, commitGranted}
-use Rattle.model.specs.declared.Hole.{Hole}
-use Rattle.model.specs.Lists.{total, covers, coversAll, coversRun}
-use Rattle.model.specs.HoleStore.{HoleStore, holeAt, choose, takeAt, accepts, append}
-use Rattle.model.specs.Arena.{Arena, Status, unasked, ready, disabled, withStatus, withFrontier, withStore, give, giveAll, Given, drawFrom, draw, grant, commitReady, commitAs, commit, Grown, canGrow, grow}
+use Rattle.model.specs.Lists.{covers, coversAll, coversRun}
+use Rattle.model.specs.HoleStore.{HoleStore, choose, accepts, append}
+use Rattle.model.specs.Arena.{Arena, Status, unasked, ready, disabled, withStatus, withFrontier, withStore, give, giveAll, Given, drawFrom, draw, grant, commitReady, commitAs, commit, canGrow, grow}
 use Rattle.model.specs.Ledger.{inHoles, above, abandons, allAbandon, grantAbandons, readyAbandons, commitAbandons, growAbandons}
 use Rattle.model.specs.BestFit.{LeastAt}
 use Rattle.model.proofs.Counts.{by-cases, and-l, and-r, total-append}

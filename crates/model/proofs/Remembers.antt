@@ -1,23 +1,20 @@
 -- The hole store along the arena's steps: a length up to 128 is remembered exactly if some hole has it, the total is the holes' sum,
 -- and both limits hold. Every step of 1 page or more keeps this. Assumes nothing.
-use Prim.Native.Nat.{ℕ, zero, suc, _+_, _-_, _≤_, _<_}
-use mathlib.Core.Path.{_≡_, refl, sym, ap, _∙_, subst}
+use Prim.Native.Nat.{ℕ, _+_, _-_, _≤_, _<_}
+use mathlib.Core.Path.{_≡_, refl, sym, _∙_}
 use mathlib.Core.List.{List, [], _∷_, _++_}
 use mathlib.Core.Option.{Option, none, some}
-use mathlib.Core.Bool.{Bool, true, false, cond, _&&_, _||_}
+use mathlib.Core.Bool.{true, false, _&&_}
 use native.Mathlib.Omega.{arith}
 use lib.Dec.{eqb, leb, ltb}
 use lib.ListN.{length, length-append}
-use borrow.Author.Tests.{leb-true, leb-false, ltb-true, ltb-false, eqb-true, eqb-false, le-leb, ne-eqb, eq-eqb}
-use Rattle.words.specs.Host.{reservationGranted, commitGranted}
+use borrow.Author.Tests.{leb-true, ltb-true, ltb-false, eqb-true, eqb-false, le-leb, ne-eqb}
 use Rattle.model.specs.declared.Hole.{Hole}
-use Rattle.model.specs.Lists.{All, any, isSome, total, update}
+use Rattle.model.specs.Lists.{All, isSome, total}
 use Rattle.model.specs.HoleStore.{HoleStore, Memory, store, emptyStore, hole, holeAt, setAt, removeAt, holeSlots, holePagesMax, rememberedMax, lowest, remember, refresh, stillHolds, chooseIn, choose, cutFrom, takeAt, accepts, append}
-use Rattle.model.specs.Arena.{Arena, Status, unasked, ready, disabled, newArena, withStatus, withFrontier, withStore, give, giveAll, drawFrom, draw, grant, commitReady, commitAs, commit, canGrow, grow}
-use Rattle.model.specs.BestFit.{LeastAt, Remembers}
+use Rattle.model.specs.BestFit.{Remembers}
 use Rattle.model.proofs.Counts.{by-cases, and-l, and-r, total-append}
-use Rattle.model.proofs.HoleLists.{hasLength, set-total, remove-total, set-length, remove-length, all-set, all-remove, all-snoc, all-at, set-other, remove-other, snoc-other, set-own, snoc-own, lowest-some, lowest-inside}
-use Rattle.model.proofs.StoreLaws.{Chosen, at-hole, no-hole, chosen, choose-holes}
+use Rattle.model.proofs.HoleLists.{hasLength, set-total, remove-total, set-length, remove-length, all-set, all-remove, all-snoc, set-other, remove-other, snoc-other, set-own, snoc-own, lowest-some, lowest-inside}
 
 -- what is remembered of length n: an index exactly if some hole has n pages. The index may be stale, but it is one of a store's.
 pub record IndexFor (n : ℕ) (hs : List Hole) (o : Option ℕ) : Type 0 where
