@@ -9,12 +9,12 @@ use Prim.Native.Nat.{ℕ, _+_, _*_, _/_, _%_, _^_, _<_}
 use native.Mathlib.Nat.{mod-lt, mod-eq-of-lt}
 use lib.Arith.{digits-lt}
 use lib.Dec.{lit<}
-use lib.Pow.{pow-pos, pow-add, split, high, low, field, mod-pow-add, mod-mod-pow, shr-lt}
-use Rattle.words.specs.Word.{chunkKind, kindBits, kindWidth, pageBits, countBits, kindOf, granuleOf, countOf, pageOf, blockWord, chunkWord, packBlock, packChunk}
+use lib.Pow.{pow-pos, split, high, low, field, mod-pow-add, mod-mod-pow, shr-lt}
+use Rattle.words.specs.Word.{chunkKind, kindBits, kindWidth, wordBits, pageBits, countBits, kindOf, granuleOf, countOf, pageOf, blockWord, chunkWord, packBlock, packChunk}
 
 -- ---- the parts of a word
 
-pub kind-lt : {w : ℕ} → w < 2 ^ (kindWidth + kindBits) → kindOf w < 2 ^ kindWidth
+pub kind-lt : {w : ℕ} → w < 2 ^ wordBits → kindOf w < 2 ^ kindWidth
 kind-lt h = shr-lt kindWidth kindBits h
 
 pub granule-lt : (w : ℕ) → granuleOf w < 2 ^ kindBits
@@ -35,7 +35,7 @@ module _ (kind : ℕ) {granule : ℕ} (hg : granule < 2 ^ kindBits) where
   pub granule-block : granuleOf (blockWord kind granule) ≡ granule
   granule-block = low kind kindBits hg
 
-  pub block-lt : kind < 2 ^ kindWidth → blockWord kind granule < 2 ^ (kindWidth + kindBits)
+  pub block-lt : kind < 2 ^ kindWidth → blockWord kind granule < 2 ^ wordBits
   block-lt hk = digits-lt hk hg
 
   pub pack-block : kind < 2 ^ kindWidth → packBlock kind granule ≡ blockWord kind granule
@@ -64,7 +64,7 @@ module _ {count page : ℕ} (hc : count < 2 ^ countBits) (hp : page < 2 ^ pageBi
       sym (mod-mod-pow (chunkWord count page) countBits pageBits) ∙ ap (λ (n : ℕ). n % 2 ^ pageBits) (granule-block chunkKind chunk-below)
       ∙ low count pageBits hp
 
-  pub chunk-lt : chunkWord count page < 2 ^ (kindWidth + kindBits)
+  pub chunk-lt : chunkWord count page < 2 ^ wordBits
   chunk-lt = block-lt chunkKind chunk-below (lit< tt)
 
   pub pack-chunk : packChunk count page ≡ chunkWord count page

@@ -1,6 +1,6 @@
 -- The host word: the system's answers for one call (document 01, "What the editor lends"). Assumes nothing.
-use Prim.Native.Nat.{ℕ, _/_, _%_, _^_}
-use mathlib.Core.Bool.{Bool, _&&_}
+use Prim.Native.Nat.{ℕ, _+_, _*_, _/_, _%_, _^_}
+use mathlib.Core.Bool.{Bool, true, false, _&&_}
 use lib.Dec.{eqb, leb}
 
 -- a host word has four bits, so that it is at most 15; more is refused by number 3
@@ -30,3 +30,11 @@ discardZeroes h = bit 3 h
 -- a discard is done, and a done discard zeroes: only both together leave zeroed pages
 abbrev pub discardZeroed : ℕ → Bool
 discardZeroed h = discardDone h && discardZeroes h
+
+-- the host word of four answers
+abbrev pub digit : Bool → ℕ
+digit true = 1
+digit false = 0
+
+abbrev pub hostWord : Bool → Bool → Bool → Bool → ℕ
+hostWord reservation commit done zeroes = digit zeroes * 2 ^ 3 + (digit done * 2 ^ 2 + (digit commit * 2 ^ 1 + digit reservation))

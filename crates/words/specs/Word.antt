@@ -15,12 +15,15 @@ mediumKind = 2
 abbrev pub chunkKind : ℕ
 chunkKind = 3
 
--- the kind stands above these bits of a word, and takes the two left
+-- the kind stands above these bits of a word, and takes the two left; a word is 32 bits
 abbrev pub kindBits : ℕ
 kindBits = 30
 
 abbrev pub kindWidth : ℕ
 kindWidth = 2
+
+abbrev pub wordBits : ℕ
+wordBits = kindWidth + kindBits
 
 -- a chunk's count stands above these bits, and takes the next
 abbrev pub pageBits : ℕ

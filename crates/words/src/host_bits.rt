@@ -1,19 +1,33 @@
-// The host word, taken apart.
+// The host word, made and taken apart.
 ghost use mathlib.Core.Path.{_≡_};
 ghost use Prim.Native.Nat.{_<_};
-ghost use Rattle.words.specs.Host.{bit, hostBits, hostWithin, reservationGranted, commitGranted, discardDone, discardZeroes, discardZeroed};
+ghost use Rattle.words.specs.Host.{bit, hostBits, hostWithin, hostWord, reservationGranted, commitGranted, discardDone, discardZeroes, discardZeroed};
 use super::Host;
 
 impl Host {
     // The largest host word: its four bits all set.
     pub const MOST: u32 = 15;
 
+    // The word as the editor gives it.
     pub fn of(bits: u32) -> Host
         ensures { λ r. ⌜ r .bits ≡ bits ⌝ }
     {
         Host { bits }
     }
 
+    // The word of four answers, as specs/Host.antt orders them.
+    pub fn new(reservation: bool, commit: bool, done: bool, zeroes: bool) -> Host
+        ensures { λ r. ⌜ r .bits ≡ hostWord reservation commit done zeroes ⌝ }
+    {
+        Host {
+            bits: reservation as u32
+                | (commit as u32) << 1
+                | (done as u32) << 2
+                | (zeroes as u32) << 3,
+        }
+    }
+
+    // False is number 3's refusal.
     pub fn within(self) -> bool
         ensures { λ r. ⌜ r ≡ hostWithin (self .bits) ⌝ }
     {

@@ -1,0 +1,38 @@
+-- Number 13's tests for the steps of the arena (docs/RANGES.md): every word that the step reads is in its range. n is the arena's
+-- length. Assumes nothing.
+use Prim.Native.Nat.{ℕ, _+_}
+use mathlib.Core.List.{List}
+use mathlib.Core.Bool.{Bool, true, false, cond, _&&_}
+use lib.Dec.{leb}
+use Rattle.fields.specs.Field.{arena, memory, state, frontier, holes, holePages, held, get}
+use Rattle.model.specs.declared.Hole.{Hole}
+use Rattle.model.specs.Lists.{every}
+use Rattle.model.specs.HoleStore.{holeSlots, holePagesMax, rememberedMax}
+use Rattle.arena.specs.Load.{loadHoles}
+
+-- the record
+unfoldable pub recordFair : ℕ → List ℕ → Bool
+recordFair n b =
+    leb (get b (arena state)) 2
+    && (leb (get b (arena frontier)) n
+    && (leb (get b (arena holes)) holeSlots
+    && (leb (get b (arena holePages)) holePagesMax
+    && leb (get b (arena held)) n)))
+
+-- a hole: pages 1 to HOLE_PAGES, ending at or below FRONTIER
+abbrev pub holeFair : ℕ → ℕ → Hole → Bool
+holeFair total f h = leb 1 (h .pages) && (leb (h .pages) total && leb (h .first + h .pages) f)
+
+unfoldable pub holesFair : List ℕ → Bool
+holesFair b = every (holeFair (get b (arena holePages)) (get b (arena frontier))) (loadHoles b 0 (get b (arena holes)))
+
+-- the memory of a length
+abbrev pub memoryFair : List ℕ → ℕ → Bool
+memoryFair b m = cond (leb m rememberedMax) (leb (get b (memory m)) holeSlots) true
+
+-- a commit of m pages reads all of these; a give of m pages the record alone
+unfoldable pub commitFair : ℕ → List ℕ → ℕ → Bool
+commitFair n b m = recordFair n b && (memoryFair b m && holesFair b)
+
+unfoldable pub giveFair : ℕ → List ℕ → ℕ → Bool
+giveFair n b m = recordFair n b && leb m (get b (arena held))

@@ -1,0 +1,9 @@
+pub mod Load
+pub mod Store
+pub mod Record
+pub mod Fair
+pub mod Owners
+pub mod Plan
+pub mod Calls
+pub mod Open
+pub mod Represents

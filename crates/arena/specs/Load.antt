@@ -1,0 +1,60 @@
+-- The arena that the words hold. Any words hold one; number 13's tests (Fair) say which of them a step may use. Assumes nothing.
+use Prim.Native.Nat.{ℕ, zero, suc, _+_, _*_, _^_}
+use mathlib.Core.List.{List, [], _∷_}
+use mathlib.Core.Option.{Option, none, some}
+use mathlib.Core.Bool.{cond}
+use lib.Dec.{leb}
+use Rattle.fields.specs.Field.{ArenaField, arena, memory, hole, state, frontier, holes, holePages, commits, commitsHigh, reuses, reusesHigh, abandoned, abandonedHigh, start, pages, get}
+use Rattle.model.specs.declared.Hole.{Hole}
+use Rattle.model.specs.HoleStore as Model
+use Rattle.model.specs.HoleStore.{HoleStore, rememberedMax}
+use Rattle.model.specs.Arena.{Arena, Status, unasked, ready, disabled}
+
+-- STATE: 0 unasked, 1 ready, 2 disabled
+abbrev pub statusOf : ℕ → Status
+statusOf zero = unasked
+statusOf (suc zero) = ready
+statusOf (suc (suc n)) = disabled
+
+abbrev pub statusCode : Status → ℕ
+statusCode unasked = 0
+statusCode ready = 1
+statusCode disabled = 2
+
+-- an index is stored with one added, 0 is none
+abbrev pub indexOf : ℕ → Option ℕ
+indexOf zero = none
+indexOf (suc i) = some i
+
+abbrev pub indexCode : Option ℕ → ℕ
+indexCode none = 0
+indexCode (some i) = suc i
+
+-- a count of 64 bits stands in two words, the low one first
+abbrev pub wide : List ℕ → ArenaField → ArenaField → ℕ
+wide b low high = get b (arena low) + get b (arena high) * 2 ^ 32
+
+abbrev pub loadHole : List ℕ → ℕ → Hole
+loadHole b i = Model.hole (get b (hole start i)) (get b (hole pages i))
+
+-- k holes from index i on
+unfoldable pub loadHoles : List ℕ → ℕ → ℕ → List Hole
+loadHoles b i zero = []
+loadHoles b i (suc k) = loadHole b i ∷ loadHoles b (suc i) k
+
+-- the remembered index of a length
+abbrev pub recall : List ℕ → ℕ → Option ℕ
+recall b n = cond (leb n rememberedMax) (indexOf (get b (memory n))) none
+
+unfoldable pub loadStore : List ℕ → HoleStore
+loadStore b = Model.store (loadHoles b 0 (get b (arena holes))) (get b (arena holePages)) (recall b)
+
+unfoldable pub loadArena : List ℕ → Arena
+loadArena b = record {
+  status = statusOf (get b (arena state));
+  frontier = get b (arena frontier);
+  store = loadStore b;
+  commits = wide b commits commitsHigh;
+  reuses = wide b reuses reusesHigh;
+  abandoned = wide b abandoned abandonedHigh;
+}

@@ -1,0 +1,245 @@
+-- The laws of the book's fields: reading after a write, two writes, and the length.
+--     get-put-same, get-put-other    what is read after a write: at the field itself, and at another
+--     put-put-same, put-comm         two writes: at one field, and at two
+--     put-get                        a write of what is there changes nothing
+--     length-put                     a write keeps the length
+--     get-room                       what is read is a value that the field can hold
+-- All arithmetic of the layout is in `separate`. Assumes nothing.
+use Prim.Native.Nat.{ℕ, _+_, _*_, _/_, _%_, _≤_, _<_}
+use native.Mathlib.Omega.{arith}
+use native.Mathlib.Decide.{ℕ-discrete, decLe}
+use mathlib.Core.Bool.{Bool, true, false, _&&_}
+use mathlib.Core.List.{List}
+use mathlib.Core.Logic.{_⊎_, inl, inr, _≢_, ⊎-elim}
+use mathlib.Core.Path.{_≡_, refl, sym, ap, _∙_}
+use lib.Dec.{eqb, ltb, leb}
+use lib.ListN.{length, getD, set, length-set}
+use lib.Seq.{getD-set-same, getD-set-other, set-getD, set-set, set-comm, set-out}
+use borrow.Author.Tests.{leb-true, ltb-true, eqb-false, lt-ltb}
+use Rattle.fields.specs.Field.{Field, arena, memory, class, hole, page, out, slot, ArenaField, ClassField, HoleField, PageField, arenaOff, classOff, holeOff, pageOff, word, Part, bits, part, read, place, get, put, same, ok, valid, words, room}
+use Rattle.fields.proofs.Parts.{Split, below, above, holdable, read-place, read-small, place-read, place-place, read-place-other, place-comm}
+
+-- ---- the offsets
+arenaOff-lt : (k : ArenaField) → arenaOff k < 12
+arenaOff-lt ArenaField.size = omega arith
+arenaOff-lt ArenaField.state = omega arith
+arenaOff-lt ArenaField.frontier = omega arith
+arenaOff-lt ArenaField.holes = omega arith
+arenaOff-lt ArenaField.holePages = omega arith
+arenaOff-lt ArenaField.commits = omega arith
+arenaOff-lt ArenaField.commitsHigh = omega arith
+arenaOff-lt ArenaField.reuses = omega arith
+arenaOff-lt ArenaField.reusesHigh = omega arith
+arenaOff-lt ArenaField.abandoned = omega arith
+arenaOff-lt ArenaField.abandonedHigh = omega arith
+arenaOff-lt ArenaField.held = omega arith
+
+classOff-lt : (k : ClassField) → classOff k < 8
+classOff-lt ClassField.partial = omega arith
+classOff-lt ClassField.empty = omega arith
+classOff-lt ClassField.emptyCount = omega arith
+classOff-lt ClassField.cold = omega arith
+classOff-lt ClassField.coldCount = omega arith
+
+holeOff-lt : (k : HoleField) → holeOff k < 2
+holeOff-lt HoleField.start = omega arith
+holeOff-lt HoleField.pages = omega arith
+
+pageOff-lt : (k : PageField) → pageOff k < 16
+pageOff-lt PageField.owner = omega arith
+pageOff-lt PageField.first = omega arith
+pageOff-lt PageField.next = omega arith
+pageOff-lt PageField.prev = omega arith
+pageOff-lt PageField.free = omega arith
+pageOff-lt PageField.carved = omega arith
+pageOff-lt PageField.listed = omega arith
+pageOff-lt PageField.virgin = omega arith
+pageOff-lt PageField.tally = omega arith
+
+-- ---- tests
+pub and-false : (a b : Bool) → (a && b) ≡ false → (a ≡ false) ⊎ (b ≡ false)
+and-false true b e = inr e
+and-false false b e = inl refl
+
+pub and-left : (a b : Bool) → (a && b) ≡ true → a ≡ true
+and-left true b e = refl
+and-left false b e = e
+
+pub and-right : (a b : Bool) → (a && b) ≡ true → b ≡ true
+and-right true b e = e
+and-right false b e = cc
+
+both : (k l x y : ℕ) → (eqb k l && eqb x y) ≡ false → k ≡ l → x ≡ y → ⊥
+both k l x y e u v = ⊎-elim (λ z. eqb-false k l z u) (λ z. eqb-false x y z v) (and-false _ _ e)
+
+-- ---- two fields lie in different words, or in different bits of one
+Separate : Field → Field → Type 0
+Separate f g = (word f ≢ word g) ⊎ ((word f ≡ word g) × Split (part f) (part g))
+
+apart : (x y : ℕ) → (x ≡ y → ⊥) → (x < y) ⊎ (y < x)
+apart x y d = elim (decLe y x) [ yes h ↦ inr (omega arith) | no h ↦ inl (omega arith) ]
+
+singles : (x y : ℕ) → (x < y) ⊎ (y < x) → Split (bits x 1) (bits y 1)
+singles x y (inl h) = let l : x + 1 ≤ y = omega arith in below l
+singles x y (inr h) = let l : y + 1 ≤ x = omega arith in above l
+
+halves : (x y : ℕ) → (x < y) ⊎ (y < x) → Split (bits (16 * x) 16) (bits (16 * y) 16)
+halves x y (inl h) = let l : 16 * x + 16 ≤ 16 * y = omega arith in below l
+halves x y (inr h) = let l : 16 * y + 16 ≤ 16 * x = omega arith in above l
+
+outs : (p q i j : ℕ) → i < 4096 → j < 4096 → (eqb i j && eqb p q) ≡ false → Separate (out p i) (out q j)
+unfolding Separate
+outs p q i j hi hj e =
+    elim (ℕ-discrete (40016 + 4112 * p + i / 32) (40016 + 4112 * q + j / 32)) [
+      | yes z ↦ inr (z, singles (i % 32) (j % 32) (apart (i % 32) (j % 32) (λ t. both i j p q e (omega arith) (omega arith))))
+      | no z ↦ inl z
+    ]
+
+slots : (p q i j : ℕ) → i < 4096 → j < 4096 → (eqb i j && eqb p q) ≡ false → Separate (slot p i) (slot q j)
+unfolding Separate
+slots p q i j hi hj e =
+    elim (ℕ-discrete (40272 + 4112 * p + i / 2) (40272 + 4112 * q + j / 2)) [
+      | yes z ↦ inr (z, halves (i % 2) (j % 2) (apart (i % 2) (j % 2) (λ t. both i j p q e (omega arith) (omega arith))))
+      | no z ↦ inl z
+    ]
+
+separate : (f g : Field) → ok f ≡ true → ok g ≡ true → same f g ≡ false → Separate f g
+unfolding Separate
+separate (arena k) (arena l) u v e = inl (λ z. both (arenaOff k) (arenaOff l) 0 0 e z refl)
+separate (arena k) (memory m) u v e = inl (λ z. omega (arith, ltb-true, arenaOff-lt k))
+separate (arena k) (class l d) u v e = inl (λ z. omega (arith, ltb-true, arenaOff-lt k, classOff-lt l))
+separate (arena k) (hole l j) u v e = inl (λ z. omega (arith, ltb-true, arenaOff-lt k, holeOff-lt l))
+separate (arena k) (page l q) u v e = inl (λ z. omega (arith, ltb-true, arenaOff-lt k, pageOff-lt l))
+separate (arena k) (out q j) u v e = inl (λ z. omega (arith, ltb-true, arenaOff-lt k))
+separate (arena k) (slot q j) u v e = inl (λ z. omega (arith, ltb-true, arenaOff-lt k))
+separate (memory n) (arena l) u v e = inl (λ z. omega (arith, ltb-true, arenaOff-lt l))
+separate (memory n) (memory m) u v e = inl (λ z. eqb-false n m e (omega arith))
+separate (memory n) (class l d) u v e = inl (λ z. omega (arith, ltb-true, classOff-lt l))
+separate (memory n) (hole l j) u v e = inl (λ z. omega (arith, ltb-true, holeOff-lt l))
+separate (memory n) (page l q) u v e = inl (λ z. omega (arith, ltb-true, pageOff-lt l))
+separate (memory n) (out q j) u v e = inl (λ z. omega (arith, ltb-true))
+separate (memory n) (slot q j) u v e = inl (λ z. omega (arith, ltb-true))
+separate (class k c) (arena l) u v e = inl (λ z. omega (arith, ltb-true, classOff-lt k, arenaOff-lt l))
+separate (class k c) (memory m) u v e = inl (λ z. omega (arith, ltb-true, classOff-lt k))
+separate (class k c) (class l d) u v e = inl (λ z. both (classOff k) (classOff l) c d e (omega (arith, ltb-true, classOff-lt k, classOff-lt l)) (omega (arith, ltb-true, classOff-lt k, classOff-lt l)))
+separate (class k c) (hole l j) u v e = inl (λ z. omega (arith, ltb-true, classOff-lt k, holeOff-lt l))
+separate (class k c) (page l q) u v e = inl (λ z. omega (arith, ltb-true, classOff-lt k, pageOff-lt l))
+separate (class k c) (out q j) u v e = inl (λ z. omega (arith, ltb-true, classOff-lt k))
+separate (class k c) (slot q j) u v e = inl (λ z. omega (arith, ltb-true, classOff-lt k))
+separate (hole k i) (arena l) u v e = inl (λ z. omega (arith, ltb-true, holeOff-lt k, arenaOff-lt l))
+separate (hole k i) (memory m) u v e = inl (λ z. omega (arith, ltb-true, holeOff-lt k))
+separate (hole k i) (class l d) u v e = inl (λ z. omega (arith, ltb-true, holeOff-lt k, classOff-lt l))
+separate (hole k i) (hole l j) u v e = inl (λ z. both (holeOff k) (holeOff l) i j e (omega (arith, ltb-true, holeOff-lt k, holeOff-lt l)) (omega (arith, ltb-true, holeOff-lt k, holeOff-lt l)))
+separate (hole k i) (page l q) u v e = inl (λ z. omega (arith, ltb-true, holeOff-lt k, pageOff-lt l))
+separate (hole k i) (out q j) u v e = inl (λ z. omega (arith, ltb-true, holeOff-lt k))
+separate (hole k i) (slot q j) u v e = inl (λ z. omega (arith, ltb-true, holeOff-lt k))
+separate (page k p) (arena l) u v e = inl (λ z. omega (arith, ltb-true, pageOff-lt k, arenaOff-lt l))
+separate (page k p) (memory m) u v e = inl (λ z. omega (arith, ltb-true, pageOff-lt k))
+separate (page k p) (class l d) u v e = inl (λ z. omega (arith, ltb-true, pageOff-lt k, classOff-lt l))
+separate (page k p) (hole l j) u v e = inl (λ z. omega (arith, ltb-true, pageOff-lt k, holeOff-lt l))
+separate (page k p) (page l q) u v e = inl (λ z. both (pageOff k) (pageOff l) p q e (omega (arith, ltb-true, pageOff-lt k, pageOff-lt l)) (omega (arith, ltb-true, pageOff-lt k, pageOff-lt l)))
+separate (page k p) (out q j) u v e = inl (λ z. omega (arith, ltb-true, pageOff-lt k))
+separate (page k p) (slot q j) u v e = inl (λ z. omega (arith, ltb-true, pageOff-lt k))
+separate (out p i) (arena l) u v e = inl (λ z. omega (arith, ltb-true, arenaOff-lt l))
+separate (out p i) (memory m) u v e = inl (λ z. omega (arith, ltb-true))
+separate (out p i) (class l d) u v e = inl (λ z. omega (arith, ltb-true, classOff-lt l))
+separate (out p i) (hole l j) u v e = inl (λ z. omega (arith, ltb-true, holeOff-lt l))
+separate (out p i) (page l q) u v e = inl (λ z. omega (arith, ltb-true, pageOff-lt l))
+separate (out p i) (out q j) u v e = outs p q i j (ltb-true _ _ u) (ltb-true _ _ v) e
+separate (out p i) (slot q j) u v e = inl (λ z. omega (arith, ltb-true))
+separate (slot p i) (arena l) u v e = inl (λ z. omega (arith, ltb-true, arenaOff-lt l))
+separate (slot p i) (memory m) u v e = inl (λ z. omega (arith, ltb-true))
+separate (slot p i) (class l d) u v e = inl (λ z. omega (arith, ltb-true, classOff-lt l))
+separate (slot p i) (hole l j) u v e = inl (λ z. omega (arith, ltb-true, holeOff-lt l))
+separate (slot p i) (page l q) u v e = inl (λ z. omega (arith, ltb-true, pageOff-lt l))
+separate (slot p i) (out q j) u v e = inl (λ z. omega (arith, ltb-true))
+separate (slot p i) (slot q j) u v e = slots p q i j (ltb-true _ _ u) (ltb-true _ _ v) e
+
+-- ---- what a field holds
+holds : (f : Field) (v : ℕ) → room f v ≡ true → holdable (part f) v
+holds (arena k) v e = tt
+holds (memory n) v e = tt
+holds (class k c) v e = tt
+holds (hole k i) v e = tt
+holds (page k p) v e = tt
+holds (out p i) v e = ltb-true v 2 e
+holds (slot p i) v e = ltb-true v 65536 e
+
+pub get-room : (b : List ℕ) (f : Field) → room f (get b f) ≡ true
+unfolding get
+get-room b (arena k) = refl
+get-room b (memory n) = refl
+get-room b (class k c) = refl
+get-room b (hole k i) = refl
+get-room b (page k p) = refl
+get-room b (out p i) = lt-ltb _ _ (read-small (i % 32) 1 (getD b (word (out p i)) 0))
+get-room b (slot p i) = lt-ltb _ _ (read-small (16 * (i % 2)) 16 (getD b (word (slot p i)) 0))
+
+-- ---- a field of a book of n pages lies in it
+pub within : (n : ℕ) (f : Field) → valid n f ≡ true → word f < words n
+within n (arena k) e = omega (arith, arenaOff-lt k)
+within n (memory m) e = omega (arith, ltb-true)
+within n (class k c) e = omega (arith, ltb-true, classOff-lt k)
+within n (hole k i) e = omega (arith, ltb-true, holeOff-lt k)
+within n (page k p) e = omega (arith, ltb-true, pageOff-lt k)
+within n (out p i) e =
+    omega (arith, ltb-true i 4096 (and-left _ (ltb p n) e), ltb-true p n (and-right (ltb i 4096) _ e))
+within n (slot p i) e =
+    omega (arith, ltb-true i 4096 (and-left _ (ltb p n) e), ltb-true p n (and-right (ltb i 4096) _ e))
+
+-- ---- the laws
+pub length-put : (b : List ℕ) (f : Field) (v : ℕ) → length (put b f v) ≡ length b
+unfolding put
+length-put b f v = simp length-set
+
+pub get-put-same : (n : ℕ) (b : List ℕ) (f : Field) (v : ℕ) → leb (words n) (length b) ≡ true → valid n f ≡ true → room f v ≡ true → get (put b f v) f ≡ v
+unfolding get put
+get-put-same n b f v hb hf hv =
+    ap (read (part f)) (getD-set-same b (word f) _ 0 (omega (arith, leb-true, within n f hf)))
+    ∙ read-place (part f) (getD b (word f) 0) v (holds f v hv)
+
+pub put-get : (b : List ℕ) (f : Field) → put b f (get b f) ≡ b
+unfolding get put
+put-get b f = ap (set b (word f)) (place-read (part f) (getD b (word f) 0)) ∙ set-getD b (word f) 0
+
+pub put-put-same : (n : ℕ) (b : List ℕ) (f : Field) (u v : ℕ) → leb (words n) (length b) ≡ true → valid n f ≡ true → put (put b f u) f v ≡ put b f v
+unfolding put
+put-put-same n b f u v hb hf =
+    set-set b (word f) _ _
+    ∙ ap (set b (word f)) (ap (λ w. place (part f) w v) (getD-set-same b (word f) _ 0 (omega (arith, leb-true, within n f hf)))
+    ∙ place-place (part f) (getD b (word f) 0) u v)
+
+-- two parts of one word, and of two words
+module _ {p q : Part} (b : List ℕ) (x : ℕ) (s : Split p q) where
+  one-word-read : (v : ℕ) → (x < length b) ⊎ (length b ≤ x) → read q (getD (set b x (place p (getD b x 0) v)) x 0) ≡ read q (getD b x 0)
+  one-word-read v (inl h) = rw getD-set-same (read-place-other (getD b x 0) v s)
+  one-word-read v (inr h) = rw set-out
+
+  one-word-place : (u v : ℕ) → (x < length b) ⊎ (length b ≤ x)
+      → set (set b x (place p (getD b x 0) u)) x (place q (getD (set b x (place p (getD b x 0) u)) x 0) v)
+      ≡ set (set b x (place q (getD b x 0) v)) x (place p (getD (set b x (place q (getD b x 0) v)) x 0) u)
+  one-word-place u v (inl h) = simp (getD-set-same, set-set) (ap (set b x) (place-comm (getD b x 0) u v s))
+  one-word-place u v (inr h) = simp set-out
+
+lt-or-le : (x n : ℕ) → (x < n) ⊎ (n ≤ x)
+lt-or-le x n = elim (decLe n x) [ yes h ↦ inr h | no h ↦ inl (omega arith) ]
+
+two-words-read : (b : List ℕ) (p q : Part) (x y v : ℕ) → (x ≢ y) ⊎ ((x ≡ y) × Split p q)
+    → read q (getD (set b x (place p (getD b x 0) v)) y 0) ≡ read q (getD b y 0)
+two-words-read b p q x y v (inl z) = ap (read q) (getD-set-other b x y _ 0 (λ e. z (sym e)))
+two-words-read b p q x y v (inr z) = rw (← (z .0)) (one-word-read b x (z .1) v (lt-or-le x (length b)))
+
+two-words-place : (b : List ℕ) (p q : Part) (x y u v : ℕ) → (x ≢ y) ⊎ ((x ≡ y) × Split p q)
+    → set (set b x (place p (getD b x 0) u)) y (place q (getD (set b x (place p (getD b x 0) u)) y 0) v)
+    ≡ set (set b y (place q (getD b y 0) v)) x (place p (getD (set b y (place q (getD b y 0) v)) x 0) u)
+two-words-place b p q x y u v (inl z) =
+    rw (getD-set-other b x y _ 0 (λ e. z (sym e)), getD-set-other b y x _ 0 z) (set-comm b x y _ _ z)
+two-words-place b p q x y u v (inr z) = rw (← (z .0)) (one-word-place b x (z .1) u v (lt-or-le x (length b)))
+
+pub get-put-other : (b : List ℕ) (f g : Field) (v : ℕ) → ok f ≡ true → ok g ≡ true → same f g ≡ false → get (put b f v) g ≡ get b g
+unfolding get put Separate
+get-put-other b f g v hf hg d = two-words-read b (part f) (part g) (word f) (word g) v (separate f g hf hg d)
+
+pub put-comm : (b : List ℕ) (f g : Field) (u v : ℕ) → ok f ≡ true → ok g ≡ true → same f g ≡ false → put (put b f u) g v ≡ put (put b g v) f u
+unfolding put Separate
+put-comm b f g u v hf hg d = two-words-place b (part f) (part g) (word f) (word g) u v (separate f g hf hg d)

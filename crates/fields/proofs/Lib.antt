@@ -1,0 +1,4 @@
+pub mod Parts
+pub mod Shifts
+pub mod Laws
+pub mod Changes
