@@ -15,11 +15,12 @@ use Rattle.model.specs.Lists.{All, count, every, distinct, filter, total
 use Rattle.model.specs.Calls.{Request, take, giveBack, giveChunks, Answer, taken, fate, fates, refused, blocksOf, releasedBy}
 use Rattle.model.specs.Page.{Page, isMedium, carve, isOut, noneOut, reused, returned, retire}
 use Rattle.model.specs.Class.{Class, lists, Cold, Result, Ask, done, asks, refuse, Filled, fillFromList, served, thawed, onRun, takeFrom}
-use Rattle.model.specs.Release.{Found, prepend, find, Site, inPartial, inFull, orElse, mapFound, locate, Settled, park, parkEmpty, parkCold, letGo, markRetired, settle, outHere, onPage, siteOfFirst, releaseList}
+use Rattle.model.specs.Release.{Found, find, Site, inPartial, inFull, orElse, mapFound, locate, Settled, park, parkEmpty, parkCold, letGo, markRetired, settle, outHere, onPage, siteOfFirst, releaseList}
 use Rattle.model.specs.Chunks.{startsAt, blocksOn, settleChunk, settleChunks, releaseChunks, answer}
 use Rattle.model.specs.Ledger.{runsWith}
 use Rattle.model.proofs.Counts.{by-cases, and-r, every-count, filter-le, filter-passes, distinct-count, total-append, total-at}
-use Rattle.model.proofs.Pages.{all-append, all-at, outOf, on, GoodPage, EmptyPage, carve-empty, carve-on, reused-empty, reused-on, thawed-empty, thawed-on, Fills, fills, return-good, return-moves, none-out-of, retire-empty, return-on, retire-on}
+use Rattle.model.proofs.Find.{all-at, FoundLaws, found-law}
+use Rattle.model.proofs.Pages.{all-append, outOf, on, GoodPage, EmptyPage, carve-empty, carve-on, reused-empty, reused-on, thawed-empty, thawed-on, Fills, fills, return-good, return-moves, none-out-of, retire-empty, return-on, retire-on}
 
 -- does a cold run have page x; how often w is out in the class
 abbrev pub onCold : Shape → ℕ → Cold → ℕ
@@ -109,51 +110,36 @@ module _ (sh : Shape) (ok : Sound sh) where
     pages-put : (p : Page) (z : ℕ) → runsWith sh z (x .with p) ≡ on sh z p + runsWith sh z (x .without)
     out-put : (p : Page) (w : ℕ) → outCount sh w (x .with p) ≡ outOf sh w p + outCount sh w (x .without)
 
-  abbrev FindLaw : List Page → Option Found → Type 0
-  FindLaw ps none = Unit {0}
-  FindLaw ps (some f) = ps ≡ f .before ++ f .page ∷ f .behind
-
-  prepend-law : (p : Page) (ps : List Page) (o : Option Found) → FindLaw ps o → FindLaw (p ∷ ps) (prepend p o)
-  prepend-law p ps none h = tt
-  prepend-law p ps (some f) h = ap (λ z. p ∷ z) h
-
-  find-law : (t : Page → Bool) (ps : List Page) → FindLaw ps (find t ps)
-  unfolding find
-  find-law t [] = tt
-  find-law t (p ∷ ps) =
-      let r = prepend-law p ps (find t ps) (find-law t ps) in
-      by-cases (t p) (λ e. rw e refl) (λ e. rw e r)
-
   abbrev SiteLaws : Class → Option Site → Type 0
   SiteLaws s none = Unit {0}
   SiteLaws s (some x) = SiteLaw s x
 
   module _ (s : Class) (good : GoodClass sh s) where
-    in-partial : (o : Option Found) → FindLaw (s .partial) o → SiteLaws s (mapFound (inPartial s) o)
+    in-partial : (t : Page → Bool) (o : Option Found) → FoundLaws t (s .partial) o → SiteLaws s (mapFound (inPartial s) o)
     unfolding inPartial
-    in-partial none h = tt
-    in-partial (some f) h =
-        let all = all-at (GoodPage sh) (f .before) (f .page) (f .behind) .0 (subst (All (GoodPage sh)) h (good .partial)) in
+    in-partial t none h = tt
+    in-partial t (some f) h =
+        let all = all-at (GoodPage sh) (f .before) (f .page) (f .behind) .0 (subst (All (GoodPage sh)) (h .is) (good .partial)) in
         record {
           page = all .0;
           rest = record { partial = all .1; empty = good .empty; full = good .full };
-          pages-rest = λ z. omega (arith, ap (total (on sh z)) h, total-at (on sh z) (f .before) (f .page) (f .behind));
-          out-rest = λ w. omega (arith, ap (total (outOf sh w)) h, total-at (outOf sh w) (f .before) (f .page) (f .behind));
+          pages-rest = λ z. omega (arith, ap (total (on sh z)) (h .is), total-at (on sh z) (f .before) (f .page) (f .behind));
+          out-rest = λ w. omega (arith, ap (total (outOf sh w)) (h .is), total-at (outOf sh w) (f .before) (f .page) (f .behind));
           put = λ p gp. record { partial = all-at (GoodPage sh) (f .before) p (f .behind) .1 (gp, all .1); empty = good .empty; full = good .full };
           pages-put = λ p z. omega (arith, total-at (on sh z) (f .before) p (f .behind));
           out-put = λ p w. omega (arith, total-at (outOf sh w) (f .before) p (f .behind));
         }
 
-    in-full : (o : Option Found) → FindLaw (s .full) o → SiteLaws s (mapFound (inFull s) o)
+    in-full : (t : Page → Bool) (o : Option Found) → FoundLaws t (s .full) o → SiteLaws s (mapFound (inFull s) o)
     unfolding inFull
-    in-full none h = tt
-    in-full (some f) h =
-        let all = all-at (GoodPage sh) (f .before) (f .page) (f .behind) .0 (subst (All (GoodPage sh)) h (good .full)) in
+    in-full t none h = tt
+    in-full t (some f) h =
+        let all = all-at (GoodPage sh) (f .before) (f .page) (f .behind) .0 (subst (All (GoodPage sh)) (h .is) (good .full)) in
         record {
           page = all .0;
           rest = record { partial = good .partial; empty = good .empty; full = all .1 };
-          pages-rest = λ z. omega (arith, ap (total (on sh z)) h, total-at (on sh z) (f .before) (f .page) (f .behind));
-          out-rest = λ w. omega (arith, ap (total (outOf sh w)) h, total-at (outOf sh w) (f .before) (f .page) (f .behind));
+          pages-rest = λ z. omega (arith, ap (total (on sh z)) (h .is), total-at (on sh z) (f .before) (f .page) (f .behind));
+          out-rest = λ w. omega (arith, ap (total (outOf sh w)) (h .is), total-at (outOf sh w) (f .before) (f .page) (f .behind));
           put = λ p gp. record { partial = (gp, good .partial); empty = good .empty; full = all .1 };
           pages-put = λ p z. omega arith;
           out-put = λ p w. omega arith;
@@ -165,7 +151,7 @@ module _ (sh : Shape) (ok : Sound sh) where
 
     locate-law : (t : Page → Bool) → SiteLaws s (locate t s)
     unfolding locate
-    locate-law t = or-else (mapFound (inPartial s) (find t (s .partial))) (mapFound (inFull s) (find t (s .full))) (in-partial (find t (s .partial)) (find-law t (s .partial))) (in-full (find t (s .full)) (find-law t (s .full)))
+    locate-law t = or-else (mapFound (inPartial s) (find t (s .partial))) (mapFound (inFull s) (find t (s .full))) (in-partial t (find t (s .partial)) (found-law t (s .partial))) (in-full t (find t (s .full)) (found-law t (s .full)))
 
   -- what comes of one page's release of the words ws; of a page with no block out that is parked
   record SettleLaw (s : Class) (ws : List ℕ) (b : Settled) : Type 0 where

@@ -3,7 +3,6 @@ use Prim.Native.Nat.{ℕ, zero, suc, _+_, _-_, _*_, _≤_, _<_, min}
 use mathlib.Core.Path.{_≡_, refl}
 use mathlib.Core.List.{List, [], _∷_, _++_, reverse}
 use mathlib.Core.Bool.{Bool, true, false, cond, not, _&&_}
-use mathlib.Core.Logic.{_↔_}
 use native.Mathlib.Omega.{arith}
 use native.Mathlib.Nat.{add-zero, add-suc, zero-add, mul-le-mul-right}
 use lib.Dec.{eqb, leb}
@@ -16,16 +15,9 @@ use Rattle.model.specs.Page.{Page, Popped, wordOf, wordsFrom, isMedium, 
 use Rattle.model.specs.Class.{Cold, Filled, after, fillFromList, thawed}
 use Rattle.model.proofs.Counts.{by-cases, and-l, and-r, count-append, count-reverse, count-cut, elem-count, count-elem, every-count}
 
-module _ {A : Type 0} (P : A → Type 0) where
-  pub all-append : (s t : List A) → All P s → All P t → All P (s ++ t)
-  all-append [] t h k = k
-  all-append (x ∷ s) t h k = (h .0, all-append s t (h .1) k)
-
-  pub all-at : (s : List A) (p : A) (t : List A) → All P (s ++ p ∷ t) ↔ (P p × All P (s ++ t))
-  all-at [] p t = (λ h. h, λ h. h)
-  all-at (x ∷ s) p t =
-      let r = all-at s p t in
-      (λ h. (r .0 (h .1) .0, (h .0, r .0 (h .1) .1)), λ h. (h .1 .0, r .1 (h .0, h .1 .1)))
+pub all-append : {A : Type 0} (P : A → Type 0) (s t : List A) → All P s → All P t → All P (s ++ t)
+all-append P [] t h k = k
+all-append P (x ∷ s) t h k = (h .0, all-append P s t (h .1) k)
 
 -- how often w is out on the page; does the run have page x
 abbrev pub outOf : Shape → ℕ → Page → ℕ
