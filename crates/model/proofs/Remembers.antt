@@ -132,7 +132,7 @@ module _ (n i : ℕ) (s : HoleStore) (k : Tidy s) (inside : i < length (s .holes
 pub tidy-append : (n q : ℕ) (s : HoleStore) → 1 ≤ n → accepts n s ≡ true → Tidy s → Tidy (append n q s)
 unfolding accepts append
 tidy-append n q s one e k =
-    let few = ltb-true (length (s .holes)) holeSlots (and-l (ltb (length (s .holes)) holeSlots) (leb (s .total + n) holePagesMax) e) in
+    let few = ltb-true (length (s .holes)) holeSlots (search and-l) in
     let hs = s .holes ++ hole q n ∷ [] in
     record {
       memory = λ j l. remember-at (λ o. IndexFor j hs o) n (some (length (s .holes))) (s .memory) j l
@@ -142,5 +142,5 @@ tidy-append n q s one e k =
       sum = rw total-append (omega (arith, k .sum));
       each = all-snoc (λ h. 1 ≤ h .pages) (s .holes) (hole q n) (k .each) one;
       slots = rw length-append (omega arith);
-      pages = leb-true (s .total + n) holePagesMax (and-r (ltb (length (s .holes)) holeSlots) (leb (s .total + n) holePagesMax) e);
+      pages = leb-true (s .total + n) holePagesMax (search and-r);
     }
