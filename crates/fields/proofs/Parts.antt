@@ -56,7 +56,7 @@ place-place (bits s n) w u v = rw (place-here s n w u) (omega (arith, read-le s 
 
 -- bits above a part, and below it, are read from what the write keeps
 from-high : (y s n t : ℕ) → s + n ≤ t → y / 2 ^ t ≡ y / 2 ^ s / 2 ^ n / 2 ^ (t - (s + n))
-from-high y s n t h = rw (shr-shr, shr-shr) (ap (λ x. y / 2 ^ x) (omega arith))
+from-high y s n t h = rw (shr-shr y s n, shr-shr y (s + n) (t - (s + n))) (ap (λ x. y / 2 ^ x) (omega arith))
 
 from-low : (y s t m : ℕ) → t + m ≤ s → y / 2 ^ t % 2 ^ m ≡ y % 2 ^ s % 2 ^ (m + t) / 2 ^ t
 from-low y s t m h =

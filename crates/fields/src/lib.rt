@@ -2,6 +2,7 @@
 pub mod arena;
 pub mod bits;
 pub mod class;
+pub mod fault;
 pub mod hole;
 pub mod out;
 pub mod page;

@@ -1,9 +1,9 @@
 -- Every step of the arena keeps its hole store tidy. Assumes nothing.
-use Prim.Native.Nat.{ℕ, _+_, _≤_, _<_}
-use mathlib.Core.Path.{_≡_, refl, sym, subst}
+use Prim.Native.Nat.{ℕ, _+_, _≤_}
+use mathlib.Core.Path.{_≡_, sym, subst}
 use mathlib.Core.List.{List, [], _∷_}
 use mathlib.Core.Option.{Option, none, some}
-use mathlib.Core.Bool.{Bool, true, false, cond}
+use mathlib.Core.Bool.{Bool}
 use lib.Dec.{leb}
 use Rattle.words.specs.Host.{reservationGranted, commitGranted}
 use Rattle.model.specs.HoleStore.{HoleStore, choose, accepts}

@@ -6,19 +6,24 @@ use mathlib.Core.Bool.{true, false}
 use lib.ListN.{replicate}
 use Rattle.words.specs.Word.{smallKind, mediumKind, blockWord, chunkWord}
 use Rattle.classes.specs.Sizes.{granuleBytes}
+use Rattle.classes.specs.Examples as Lookups
 use Rattle.model.specs.declared.Hole.{Hole}
 use Rattle.model.specs.Lists.{below}
 use Rattle.model.specs.Calls.{Call, takeBlocks, mediumTakeBlocks, releaseBlocks, releaseBinChunks, commit, release, Answer, taken, fate, fates, run, noRun, released}
 use Rattle.model.specs.HoleStore.{hole}
 use Rattle.model.specs.History.{answers, heapAfter}
 
--- what is told of an input: each call's answer, and the holes stored after the last
+-- what is told: the class of a size; or of a history, each call's answer, and the holes stored after the last
 pub data Told : Type 0 where
+  lookup : (class : ℕ) → Told
   history : (answers : List Answer) (holes : List Hole) → Told
 
 pub record Example : Type 0 where
   pub found : Told
   pub expected : Told
+
+abbrev pub ofSize : Lookups.Example → Example
+ofSize e = record { found = lookup (Lookups.answer e); expected = lookup (Lookups.expected e) }
 
 unfoldable pub onNewHeap : List Call → List Answer → List Hole → Example
 onNewHeap xs zs hs = record { found = history (answers 64 xs) (heapAfter 64 xs .arena .store .holes); expected = history zs hs }
@@ -53,6 +58,8 @@ three = smalls (2051 ∷ 1027 ∷ 3 ∷ [])
 
 unfoldable pub examples : List Example
 examples =
+    -- P1 to P5
+    map ofSize Lookups.examples ++
     -- P6: "64 words, granules 66 down to 3, virgin; first word 1,073,741,890"
     onNewHeap (take0 ∷ [])
     (taken 64 (1073741890 ∷ smalls (down 65 3)) true ∷ []) []
