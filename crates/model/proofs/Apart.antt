@@ -1,9 +1,9 @@
 -- Entries not yet released share no byte, with each other or with a page held by the direct calls. Assumes nothing.
-use Prim.Native.Nat.{ℕ, zero, suc, _+_, _-_, _*_, _/_, _%_, _^_, _≤_, _<_}
+use Prim.Native.Nat.{ℕ, zero, suc, _+_, _-_, _*_, _/_, _≤_, _<_}
 use mathlib.Core.Path.{_≡_, refl, sym, ap, _∙_, subst}
 use mathlib.Core.List.{List, [], _∷_, _++_}
-use mathlib.Core.Logic.{_↔_, _⊎_, inl, inr}
-use mathlib.Core.Bool.{Bool, true, false, cond, not, _&&_}
+use mathlib.Core.Logic.{_⊎_, inl, inr}
+use mathlib.Core.Bool.{Bool}
 use native.Mathlib.Omega.{arith}
 use native.Mathlib.Nat.{zero-add, mul-le-mul-right}
 use lib.Dec.{eqb, leb, ltb}
@@ -14,10 +14,10 @@ use Rattle.classes.specs.Shape.{shapeOf}
 use Rattle.classes.specs.Sizes.{granuleBytes, pageBytes}
 use Rattle.classes.specs.Sound.{Sound}
 use Rattle.classes.proofs.Shapes.{shape-sound}
-use Rattle.model.specs.Lists.{All, total, covers, count}
+use Rattle.model.specs.Lists.{All, total, count}
 use Rattle.model.specs.Calls.{Call}
 use Rattle.model.specs.Page.{Page, wordOf, wordsFrom, pageGranules, carvedWords}
-use Rattle.model.specs.Heap.{Heap, Holder, isDirect, isHeld}
+use Rattle.model.specs.Heap.{Heap}
 use Rattle.model.specs.History.{events, heapAfter}
 use Rattle.model.specs.Entries.{Entry, HasByte, In, Live, firstByte, blockBytes}
 use Rattle.model.specs.Ledger.{heldBy}

@@ -2,7 +2,7 @@
 -- what a take answers goes out, and only what a release names comes in. Assumes nothing.
 use Prim.Native.Nat.{ℕ, _+_, _≤_}
 use mathlib.Core.Path.{_≡_, refl, ap, subst}
-use mathlib.Core.List.{List, [], _∷_, _++_}
+use mathlib.Core.List.{List, [], _∷_}
 use mathlib.Core.Option.{Option, none, some}
 use mathlib.Core.Bool.{Bool, true, false, cond, not, _&&_}
 use native.Mathlib.Omega.{arith}
@@ -11,8 +11,8 @@ use borrow.Author.Tests.{not-false}
 use Rattle.words.specs.Word.{pageOf}
 use Rattle.classes.specs.declared.Shape.{Shape}
 use Rattle.classes.specs.Sound.{Sound}
-use Rattle.model.specs.Lists.{All, count, every, distinct, filter, total, covers, coversAll, coversRun}
-use Rattle.model.specs.Calls.{Request, take, giveBack, giveChunks, Answer, taken, fate, fates, refused, blocksOf, releasedBy}
+use Rattle.model.specs.Lists.{All, count, every, distinct, total, covers, coversAll, coversRun}
+use Rattle.model.specs.Calls.{Request, take, giveBack, giveChunks, fate, fates, refused, blocksOf, releasedBy}
 use Rattle.model.specs.Page.{Page, isMedium, carve, isOut, noneOut, reused, returned, retire}
 use Rattle.model.specs.Class.{Class, lists, Cold, Result, Ask, done, asks, serve, refuse, Filled, fillFromList, served, thawed, onRun, takeFrom}
 use Rattle.model.specs.Release.{Found, find, Site, inPartial, inFull, orElse, mapFound, locate, Settled, park, parkEmpty, parkCold, letGo, markRetired, settle, outHere, onPage, siteOfFirst, releaseList}
