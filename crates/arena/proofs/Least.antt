@@ -71,10 +71,10 @@ nearer-key need i k h none p l fits =
 nearer-key need i k h (some f) p l fits =
     by-test (leb need (h .pages))
     (λ e. by-test (leb (h .pages) (f .pages))
-      (λ d. let g : h .pages ≤ f .pages = leb-true _ _ d in
-        simp (e, d, le-ltb (h .pages) need (leb-true _ _ e), lt-ltb (key i (h .pages)) (key (i + 1 + f .index) (f .pages)) (omega arith)) (omega arith))
-      (λ d. let g : f .pages < h .pages = leb-false _ _ d in
-        simp (e, d, le-ltb (h .pages) need (leb-true _ _ e), le-ltb (key i (h .pages)) (key (i + 1 + f .index) (f .pages)) (omega arith)) (omega arith)))
+    (λ d. let g : h .pages ≤ f .pages = leb-true _ _ d in
+    simp (e, d, le-ltb (h .pages) need (leb-true _ _ e), lt-ltb (key i (h .pages)) (key (i + 1 + f .index) (f .pages)) (omega arith)) (omega arith))
+    (λ d. let g : f .pages < h .pages = leb-false _ _ d in
+    simp (e, d, le-ltb (h .pages) need (leb-true _ _ e), le-ltb (key i (h .pages)) (key (i + 1 + f .index) (f .pages)) (omega arith)) (omega arith)))
     (λ e. simp (e, lt-ltb (h .pages) need (leb-false _ _ e)) (omega arith))
 
 module _ (ys : List Hole) (count : ℕ) (within : count ≤ length ys) (count-fits : count < 2 ^ 32) (need : ℕ) where
@@ -126,13 +126,13 @@ nearer-exact n h (some f) p =
     by-test (eqb (h .pages) n)
     (λ e. let l : h .pages ≡ n = eqb-true _ _ e in simp (e, le-leb n (h .pages) (omega arith), le-leb (h .pages) (f .pages) (omega arith)))
     (λ e. by-test (leb n (h .pages))
-      (λ d. by-test (leb (h .pages) (f .pages))
-        (λ a. let apart : (h .pages ≡ n → ⊥) = eqb-false _ _ e in
-          let l : n ≤ h .pages = leb-true _ _ d in
-          let m : h .pages ≤ f .pages = leb-true _ _ a in
-          simp (e, d, a, ne-eqb (f .pages) n (λ (z : f .pages ≡ n). apart (omega arith))))
-        (λ a. by-test (eqb (f .pages) n) (λ z. simp (e, d, a, z)) (λ z. simp (e, d, a, z))))
-      (λ d. by-test (eqb (f .pages) n) (λ z. simp (e, d, z)) (λ z. simp (e, d, z))))
+    (λ d. by-test (leb (h .pages) (f .pages))
+    (λ a. let apart : (h .pages ≡ n → ⊥) = eqb-false _ _ e in
+    let l : n ≤ h .pages = leb-true _ _ d in
+    let m : h .pages ≤ f .pages = leb-true _ _ a in
+    simp (e, d, a, ne-eqb (f .pages) n (λ (z : f .pages ≡ n). apart (omega arith))))
+    (λ a. by-test (eqb (f .pages) n) (λ z. simp (e, d, a, z)) (λ z. simp (e, d, a, z))))
+    (λ d. by-test (eqb (f .pages) n) (λ z. simp (e, d, z)) (λ z. simp (e, d, z))))
 
 pub lowest-least : (n : ℕ) (hs : List Hole) → lowest n hs ≡ exact n (leastFit n hs)
 unfolding lowest leastFit

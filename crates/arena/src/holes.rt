@@ -43,10 +43,7 @@ fn best_at(key: u64) -> Best
     ensures { λ r. ⌜ r ≡ bestAt key ⌝ }
 {
     if key == 18_446_744_073_709_551_615 {
-        return Best {
-            code: 0,
-            pages: 0,
-        };
+        return Best { code: 0, pages: 0 };
     }
     Best {
         code: ((key + 1) % 4_294_967_296) as u32,
@@ -57,7 +54,7 @@ fn best_at(key: u64) -> Best
 // The hole at `i` is read, and set against the best so far.
 fn weigh(holes: &[Hole], need: u32, i: u32, best: u64) -> u64
     requires { ⌜ i < length (now holes) ⌝ }
-    ensures { λ r. ⌜ r ≡ betterOf need i (getD (now (holes .entry)) i noHole .pages) best ⌝ }
+    ensures { λ r. ⌜ (r ≡ betterOf need i (getD (now (holes .entry)) i noHole .pages) best) × (getD (now (holes .entry)) i noHole .pages < 2 ^ 32) ⌝ }
 {
     let h = hole_at(holes, i as usize);
     better(need, i, h.pages, best)
