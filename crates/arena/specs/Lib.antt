@@ -4,6 +4,7 @@ pub mod Record
 pub mod Fair
 pub mod Owners
 pub mod Plan
+pub mod Scan
 pub mod Calls
 pub mod Open
 pub mod Represents
