@@ -224,13 +224,16 @@ module _ (sh : Shape) (ok : Sound sh) where
   settled-moves : (s : Class) (ws : List ℕ) (b : Settled) → SettleLaw s ws b → Moves sh s none ws (record { class = b .class; answer = fate (b .fate); gives = b .gives })
   settled-moves s ws b k = record { good = k .good; pages = λ z. omega (arith, k .pages z); out = λ w z. omega (arith, k .out w); quiet = λ w z. refl }
 
-  page-lawful : (h : ℕ) (s : Class) (ws : List ℕ) → GoodClass sh s → distinct ws ≡ true → (o : Option Site) → SiteLaws s o → Lawful sh s (giveBack h ws) (onPage sh h s ws o)
-  unfolding onPage
-  page-lawful h s ws good d none law = lawful-refuse sh s good (giveBack h ws) 10
-  page-lawful h s ws good d (some x) law =
-      lawful-cond sh s good (giveBack h ws) _ _ _
-      (λ e. lawful-done (settled-moves s ws (settle sh h false ws x) (settle-law h s ws x law (λ w. distinct-count w ws d) (λ w. every-count (λ v. isOut sh v (x .page)) w ws e) false)))
-      (λ e. lawful-refuse sh s good (giveBack h ws) 11)
+  module _ (h : ℕ) (s : Class) (ws : List ℕ) (good : GoodClass sh s) (d : distinct ws ≡ true) where
+    settle-lawful : (x : Site) → SiteLaw s x → every (λ w. isOut sh w (x .page)) ws ≡ true
+        → (let b = settle sh h false ws x in Lawful sh s (giveBack h ws) (done (record { class = b .class; answer = fate (b .fate); gives = b .gives })))
+    settle-lawful x law e =
+        lawful-done (settled-moves s ws (settle sh h false ws x) (settle-law h s ws x law (λ w. distinct-count w ws d) (λ w. every-count (λ v. isOut sh v (x .page)) w ws e) false))
+
+    page-lawful : (o : Option Site) → SiteLaws s o → Lawful sh s (giveBack h ws) (onPage sh h s ws o)
+    unfolding onPage
+    page-lawful none law = lawful-refuse sh s good (giveBack h ws) 10
+    page-lawful (some x) law = search (lawful-cond sh s good, lawful-refuse sh s good, settle-lawful x law)
 
   -- a release by chunks
   record ChunkLaw (s : Class) (ws : List ℕ) (t : Class) (gives : List ℕ) : Type 0 where
