@@ -2,6 +2,7 @@
 
 mod arguments;
 mod call;
+mod damaged;
 mod generate;
 mod histories;
 mod history;
@@ -31,7 +32,9 @@ const USAGE: &str = "usage: compare COMMAND [--NAME VALUE ..]
   replay       --file F
                histories that were written down, on the port
   model-test   [--calls N] [--seed S] [--scenario NAME] [--longest STEPS] [--file F] [--repository FOLDER]
-               histories with the original's answers, computed by the checker on the model";
+               histories with the original's answers, computed by the checker on the model
+  damaged      [--calls N] [--seed S] [--only HISTORY]
+               calls with any arguments on damaged books";
 
 fn main() -> ExitCode {
     let words: Vec<String> = std::env::args().skip(1).collect();
@@ -42,6 +45,7 @@ fn main() -> ExitCode {
         Some("record") => histories::record(rest),
         Some("replay") => histories::replay(rest),
         Some("model-test") => model_test::run(rest),
+        Some("damaged") => damaged::run(rest),
         _ => Err(USAGE.into()),
     };
     match result {
