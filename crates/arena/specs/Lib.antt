@@ -5,5 +5,6 @@ pub mod Fair
 pub mod Owners
 pub mod Plan
 pub mod Calls
+pub mod Act
 pub mod Open
 pub mod Represents
