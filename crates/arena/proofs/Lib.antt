@@ -1,2 +1,4 @@
 pub mod StoreLaws
 pub mod Choice
+pub mod Frames
+pub mod Acts
