@@ -9,10 +9,10 @@ use native.Mathlib.Numerals.{add-one}
 use mathlib.Core.Bool.{Bool, true, false, cond, not, _&&_, true≢false, false≢true}
 use mathlib.Core.List.{List, [], _∷_, _++_}
 use mathlib.Core.Option.{Option, none, some}
-use mathlib.Core.Path.{_≡_, refl, sym, ap, _∙_}
+use mathlib.Core.Path.{_≡_, refl, sym, ap, _∙_, subst}
 use lib.Dec.{eqb, ltb, leb}
 use lib.ListN.{length, length-append}
-use borrow.Author.Tests.{lt-ltb, ltb-true, ltb-false, le-ltb, ne-eqb, eqb-true, eqb-false, le-leb, leb-true}
+use borrow.Author.Tests.{lt-ltb, ltb-true, ltb-false, le-ltb, eq-eqb, ne-eqb, eqb-true, le-leb, leb-true}
 use Rattle.words.specs.Host.{reservationGranted, commitGranted}
 use Rattle.fields.specs.Field.{arena, memory, state, frontier, holes, holePages, held, get, put, words}
 use Rattle.fields.proofs.Laws.{put-get}
@@ -31,8 +31,8 @@ use Rattle.arena.specs.Record.{recordOf, storeRecord, advanced, counted,
 use Rattle.arena.specs.Fair.{recordFair, memoryFair, holesFair, holeFair, commitFair}
 use Rattle.arena.specs.Owners.{own}
 use Rattle.arena.specs.Plan.{cutHoles, noPlan, planAt, planOf, chosen}
-use Rattle.arena.specs.Calls.{Committed, commitRefused, advance, committed, commitFor}
-use Rattle.arena.specs.Act.{rememberWord, recallWord, withState, withHoles, accepting, giveWords, giveRecord, cutWords, usedWords, drawWords, drawRecord, forgetWord, endNone, endRun, endGiven, settle, fromFrontier, commitDrawn, nextState, commitPlanned, planned, commitActs}
+use Rattle.arena.specs.Calls.{Committed, commitRefused, advance, committed, commitFor, given, grownBy, grownBook}
+use Rattle.arena.specs.Act.{rememberWord, recallWord, withState, withHoles, accepting, giveWords, giveRecord, cutWords, usedWords, drawWords, drawRecord, forgetWord, endNone, endRun, endGiven, settle, fromFrontier, commitDrawn, nextState, commitPlanned, planned, commitActs, giveActs, growActs}
 use Rattle.arena.proofs.StoreLaws.{hole-length, loaded-length, loaded-last, removed-length, set-length, remember-length, remember-twice, store-length, store-loaded, store-remembered, store-set, store-appended, store-removed}
 use Rattle.arena.proofs.Choice.{Choosing, empty, recalled, exact, longer, short, choosing, choice-of}
 use Rattle.arena.proofs.Frames.{isStored, isOwner, arena-changes, own-changes, own-twice}
@@ -415,3 +415,67 @@ commit-acts n b hb h m w =
     (λ v. rw (e, u, v) (cond-false (planned b m .fair) _ _ (planned-fair b m ∙ v))))
     (λ u. rw (e, u)))
     (λ e. rw e)
+
+-- ---- giving
+few-loaded : (b : List ℕ) → get b (arena holes) ≤ 4096 → length (loadArena b .store .holes) ≤ 4096
+unfolding loadArena loadStore
+few-loaded b l = rw (loaded-length b 0 (get b (arena holes))) l
+
+pub give-acts : (n : ℕ) (b : List ℕ) → leb (words n) (length b) ≡ true → FairRecord n b → (q m : ℕ) → given b q m ≡ giveActs b q m
+unfolding given giveActs
+give-acts n b hb k q m =
+    let a = give m q (loadArena b) in
+    let few = give-few m q (loadArena b) (few-loaded b (k .holes)) in
+    let y : storeArena b a ≡ storeRecord (giveWords b (recordOf b) m q) (giveRecord (recordOf b) m) = stands-stored b a _ _ (stands-give n b hb m q (loadArena b) b (recordOf b) (stands-loaded b (k .state))) in
+    rw (← (held-owned b a q m 0 few)) (rw y)
+
+-- ---- growth
+abbrev pub grew : Option ℕ → Bool
+grew none = false
+grew (some q) = true
+
+pub record Grows (n : ℕ) (b : List ℕ) (h e m : ℕ) : Type 0 where
+  pub book : grownBook b (Arenas.grow n h e m (loadArena b)) e m ≡ growActs n b h e m 77 .book
+  pub yes : Arenas.grow n h e m (loadArena b) .grew ≡ grew (growActs n b h e m 77 .run)
+
+-- the growth as a commit's end
+grown-given : (b : List ℕ) (e m : ℕ) (g : Arenas.Grown) → grownBook b g e m ≡ committed b (Arenas.given (g .arena) (grownBy (g .grew) e) (g .grew)) m 77
+unfolding grownBook committed
+grown-given b e m g = refl
+
+module _ (n : ℕ) (b : List ℕ) (hb : leb (words n) (length b) ≡ true) (k : FairRecord n b) (h m : ℕ) where
+  A : Arena
+  A = Arenas.withFrontier (get b (arena frontier) + m) (loadArena b)
+
+  stands-A : Stands b A b (advanced m (recordOf b))
+  unfolding A loadArena
+  stands-A = stands-frontier b (loadArena b) b (recordOf b) (stands-loaded b (k .state)) m
+
+  grows-at : get b (arena frontier) + m ≤ n → Grows n b h (get b (arena frontier)) m
+  unfolding growActs settle Arenas.grow loadArena A
+  grows-at l =
+      let f = get b (arena frontier) in
+      let few = few-loaded b (k .holes) in
+      by-cases (commitGranted h)
+      (λ t. let z = ends-fresh n b hb m 77 A b (advanced m (recordOf b)) stands-A few refl l in
+      record {
+        book = rw (eq-eqb f f refl, le-leb (f + m) n l, t) (grown-given b f m _ ∙ ap (λ y. y .book) z);
+        yes = rw (eq-eqb f f refl, le-leb (f + m) n l, t) (ap (λ y. grew (y .run)) z);
+      })
+      (λ t. let z = ends-fresh-given n b hb m 77 A b (advanced m (recordOf b)) stands-A few refl in
+      record {
+        book = rw (eq-eqb f f refl, le-leb (f + m) n l, t) (grown-given b f m _ ∙ ap (λ y. y .book) z);
+        yes = rw (eq-eqb f f refl, le-leb (f + m) n l, t) (ap (λ y. grew (y .run)) z);
+      })
+
+  grows-not : (e : ℕ) → (eqb (get b (arena frontier)) e && leb (e + m) n) ≡ false → Grows n b h e m
+  unfolding growActs endNone Arenas.grow loadArena
+  grows-not e t =
+      let z = ends-none n b hb m 77 (loadArena b) b (recordOf b) (stands-loaded b (k .state)) (few-loaded b (k .holes)) refl in
+      record { book = rw t (grown-given b e m _ ∙ ap (λ y. y .book) z); yes = rw t refl }
+
+  pub grow-acts : (e : ℕ) → Grows n b h e m
+  grow-acts e =
+      by-cases (eqb (get b (arena frontier)) e && leb (e + m) n)
+      (λ t. subst (λ z. Grows n b h z m) (eqb-true _ e (and-l _ _ t)) (grows-at (let y = leb-true (e + m) n (and-r (eqb (get b (arena frontier)) e) _ t) in let x = eqb-true (get b (arena frontier)) e (and-l _ _ t) in omega arith)))
+      (λ t. grows-not e t)

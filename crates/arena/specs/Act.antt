@@ -108,3 +108,14 @@ commitActs n b h m w =
     cond (recordFair n b && memoryFair b m)
     (cond (planned b m .fair) (commitPlanned n b (recordOf b) (planned b m) m h w) (commitRefused b 13))
     (commitRefused b 13)
+
+-- ---- the other steps
+unfoldable pub giveActs : List ℕ → ℕ → ℕ → List ℕ
+giveActs b q m =
+    let x = own (storeRecord (giveWords b (recordOf b) m q) (giveRecord (recordOf b) m)) q m 0 in
+    put x (arena held) (get x (arena held) - m)
+
+-- the run that ends at page e by m pages: it is settled as a commit of them is
+unfoldable pub growActs : ℕ → List ℕ → ℕ → ℕ → ℕ → ℕ → Committed
+growActs n b h e m w =
+    cond (eqb (recordOf b .frontier) e && leb (e + m) n) (settle b (advanced m (recordOf b)) m e true h w) (endNone b (recordOf b))
