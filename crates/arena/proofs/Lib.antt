@@ -2,3 +2,4 @@ pub mod StoreLaws
 pub mod Choice
 pub mod Frames
 pub mod Acts
+pub mod Plans
