@@ -1,1 +1,5 @@
+pub mod Table
 pub mod Shapes
+pub mod Rounding
+pub mod Meaning
+pub mod Examples

@@ -1,23 +1,16 @@
 -- Every class's shape is sound: one computed test over each of the two size tables. Assumes nothing.
-use Prim.Native.Nat.{ℕ, zero, suc, _+_, _-_, _*_, _≤_}
+use Prim.Native.Nat.{ℕ, _+_, _-_, _*_, _≤_, _<_}
 use mathlib.Core.Path.{_≡_, refl}
-use mathlib.Core.List.{List, [], _∷_}
+use mathlib.Core.List.{List}
 use mathlib.Core.Bool.{Bool, true, false, cond, _&&_}
 use lib.Dec.{leb, ltb}
 use borrow.Author.Tests.{leb-true}
 use lib.ListN.{getD}
 use Rattle.classes.specs.declared.Shape.{Shape}
-use Rattle.classes.specs.Sizes.{smallSizes, mediumSizes}
+use Rattle.classes.specs.Sizes.{smallSizes, mediumSizes, pageBytes}
 use Rattle.classes.specs.Shape.{smallShape, mediumShape, shapeOf}
 use Rattle.classes.specs.Sound.{Sound}
-
-and-l : (a b : Bool) → (a && b) ≡ true → a ≡ true
-and-l true b e = refl
-and-l false b e = e
-
-and-r : (a b : Bool) → (a && b) ≡ true → b ≡ true
-and-r true b e = e
-and-r false b e = cc
+use Rattle.classes.proofs.Table.{and-l, and-r, every, every-at}
 
 abbrev within : ℕ → ℕ → ℕ → Bool
 within low n high = leb low n && leb n high
@@ -40,27 +33,35 @@ is-sound s t = record {
   fits = leb-true (s .header + s .capacity * s .block) (4096 * s .pages) (search (and-l, and-r) depth 9);
 }
 
-abbrev every : (ℕ → Bool) → List ℕ → Bool
-every t [] = true
-every t (x ∷ l) = t x && every t l
-
-every-getD : (t : ℕ → Bool) (l : List ℕ) (i : ℕ) (d : ℕ) → every t l ≡ true → t d ≡ true → t (getD l i d) ≡ true
-every-getD t [] i d h k = k
-every-getD t (x ∷ l) zero d h k = and-l (t x) (every t l) h
-every-getD t (x ∷ l) (suc i) d h k = every-getD t l i d (and-r (t x) (every t l) h) k
-
 true-cond : {A : Type 0} (t : A → Bool) (b : Bool) (x y : A) → t x ≡ true → t y ≡ true → t (cond b x y) ≡ true
 true-cond t true x y p q = p
 true-cond t false x y p q = q
 
 small-sound : (c : ℕ) → sound (smallShape (getD smallSizes c 16384)) ≡ true
 unfolding smallShape smallSizes
-small-sound c = every-getD (λ size. sound (smallShape size)) smallSizes c 16384 refl refl
+small-sound c = every-at (λ size. sound (smallShape size)) smallSizes 16384 c refl refl
 
 medium-sound : (c : ℕ) → sound (mediumShape (getD mediumSizes c 65472)) ≡ true
 unfolding mediumShape mediumSizes
-medium-sound c = every-getD (λ size. sound (mediumShape size)) mediumSizes c 65472 refl refl
+medium-sound c = every-at (λ size. sound (mediumShape size)) mediumSizes 65472 c refl refl
 
 pub shape-sound : (c : ℕ) → Sound (shapeOf c)
 unfolding shapeOf
 shape-sound c = is-sound (shapeOf c) (true-cond sound (ltb c 64) _ _ (small-sound c) (medium-sound (c - 64)))
+
+-- block sizes are positive, and at most a page
+abbrev usable : ℕ → Bool
+usable size = within 1 size pageBytes
+
+usable-at : (sizes : List ℕ) (d c : ℕ) → every usable sizes ≡ true → usable d ≡ true → (0 < getD sizes c d) × (getD sizes c d ≤ pageBytes)
+usable-at sizes d c t e =
+    let u : usable (getD sizes c d) ≡ true = every-at usable sizes d c t e in
+    (leb-true 1 (getD sizes c d) (search and-l), leb-true (getD sizes c d) pageBytes (search and-r))
+
+pub small-usable : (c : ℕ) → (0 < getD smallSizes c 16384) × (getD smallSizes c 16384 ≤ pageBytes)
+unfolding smallSizes
+small-usable c = usable-at smallSizes 16384 c refl refl
+
+pub medium-usable : (c : ℕ) → (0 < getD mediumSizes c 65472) × (getD mediumSizes c 65472 ≤ pageBytes)
+unfolding mediumSizes
+medium-usable c = usable-at mediumSizes 65472 c refl refl

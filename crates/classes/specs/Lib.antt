@@ -1,3 +1,6 @@
 pub mod Sizes
 pub mod Shape
 pub mod Sound
+pub mod Lookup
+pub mod Meaning
+pub mod Examples

@@ -1,4 +1,20 @@
 // Size classes: the block sizes, the lookups, and what a class's runs look like.
+mod class_lut;
+mod lookup;
+mod medium_lut;
+mod runs;
+mod sizes;
+
+pub use lookup::class_for_size;
+pub use lookup::medium_class_for_size;
+pub use runs::shape_of;
+pub use sizes::NUM_CLASSES;
+pub use sizes::NUM_MEDIUM;
+pub use sizes::capacity_for;
+pub use sizes::medium_capacity_for;
+pub use sizes::medium_size;
+pub use sizes::small_size;
+pub use sizes::span_pages_for;
 
 // A class by its numbers: ids 0 to 63 are the small classes, 64 to 75 the medium ones.
 // Lengths are in granules of 16 bytes, 4,096 to a page.

@@ -17,7 +17,7 @@ module _ (s n w v : ℕ) where
   whole-word : (w / 2 ^ s / 2 ^ n * 2 ^ n + w / 2 ^ s % 2 ^ n) * 2 ^ s + w % 2 ^ s ≡ w
   whole-word = rw split (split w s)
 
-  read-le : w / 2 ^ s % 2 ^ n * 2 ^ s ≤ w
+  pub read-le : w / 2 ^ s % 2 ^ n * 2 ^ s ≤ w
   read-le = omega (arith, whole-word)
 
   place-form : place (bits s n) w v ≡ (w / 2 ^ s / 2 ^ n * 2 ^ n + v % 2 ^ n) * 2 ^ s + w % 2 ^ s
@@ -29,7 +29,7 @@ module _ (s n w v : ℕ) where
   place-up : place (bits s n) w v / 2 ^ s ≡ w / 2 ^ s / 2 ^ n * 2 ^ n + v % 2 ^ n
   place-up = rw place-form (high _ s (mod-lt w (pow-pos s)))
 
-  place-high : place (bits s n) w v / 2 ^ s / 2 ^ n ≡ w / 2 ^ s / 2 ^ n
+  pub place-high : place (bits s n) w v / 2 ^ s / 2 ^ n ≡ w / 2 ^ s / 2 ^ n
   place-high = rw place-up (high _ n (mod-lt v (pow-pos n)))
 
   place-here : place (bits s n) w v / 2 ^ s % 2 ^ n ≡ v % 2 ^ n
@@ -56,7 +56,7 @@ place-place (bits s n) w u v = rw (place-here s n w u) (omega (arith, read-le s 
 
 -- bits above a part, and below it, are read from what the write keeps
 from-high : (y s n t : ℕ) → s + n ≤ t → y / 2 ^ t ≡ y / 2 ^ s / 2 ^ n / 2 ^ (t - (s + n))
-from-high y s n t h = rw (shr-shr, shr-shr) (ap (λ x. y / 2 ^ x) (omega arith))
+from-high y s n t h = rw (shr-shr y s n, shr-shr y (s + n) (t - (s + n))) (ap (λ x. y / 2 ^ x) (omega arith))
 
 from-low : (y s t m : ℕ) → t + m ≤ s → y / 2 ^ t % 2 ^ m ≡ y % 2 ^ s % 2 ^ (m + t) / 2 ^ t
 from-low y s t m h =

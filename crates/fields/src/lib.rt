@@ -1,4 +1,9 @@
-// The book's words (`meta`) by the names of their fields.
-pub fn keep(x: u32) -> u32 {
-    x
-}
+// The book's words (`meta`) by the names of their fields: where each lies is said in specs/Field.antt.
+pub mod arena;
+pub mod bits;
+pub mod class;
+pub mod fault;
+pub mod hole;
+pub mod out;
+pub mod page;
+pub mod slot;

@@ -13,3 +13,4 @@ pub mod Ledger
 pub mod BestFit
 pub mod Yields
 pub mod Demands
+pub mod Examples

@@ -1,0 +1,113 @@
+//! One call of a history, and its answer, as CALLS.md passes them.
+
+use crate::words::Family;
+
+/// A lent list of a take or of fates: so many entries, all with this content before the call.
+#[derive(Clone, Copy, PartialEq, Eq, Debug)]
+pub struct Lent {
+    pub len: usize,
+    pub fill: u32,
+}
+
+#[derive(Clone, PartialEq, Eq, Debug)]
+pub enum Call {
+    Take { family: Family, class: u32, host: u32, lent: Lent },
+    ReleaseBlocks { family: Family, class: u32, host: u32, list: Vec<u32> },
+    ReleaseChunks { class: u32, host: u32, list: Vec<u32>, groups: Vec<u32>, lent: Lent },
+    Commit { host: u32, pages: u64 },
+    Grow { host: u32, first: u64, old: u64, new: u64 },
+    Release { host: u32, first: u64, pages: u64 },
+    Contains { offset: u64, length: u64 },
+    Report,
+}
+
+#[derive(Clone, PartialEq, Eq, Debug)]
+pub enum Answer {
+    Refused(u32),
+    /// The list's entries below the count; those past it keep their content.
+    Taken {
+        virgin: bool,
+        words: Vec<u32>,
+    },
+    Fate(u32),
+    /// The fates of the groups; entries past them keep their content.
+    Fates(Vec<u32>),
+    Run {
+        first: u32,
+        fresh: bool,
+    },
+    NoRun,
+    Grown(bool),
+    Released,
+    Contains(bool),
+    /// Commits, reuses, abandoned, pages held, idle pages.
+    Report([u64; 5]),
+    /// Something that CALLS.md rules out, in words.
+    Broken(String),
+}
+
+/// The calls as they are counted: the names of CALLS.md without their prefix.
+#[derive(Clone, Copy, PartialEq, Eq, PartialOrd, Ord, Debug)]
+pub enum Kind {
+    TakeBlocks,
+    MediumTakeBlocks,
+    ReleaseBlocks,
+    MediumReleaseBlocks,
+    ReleaseBinChunks,
+    Commit,
+    GrowFrontier,
+    Release,
+    Contains,
+    Report,
+}
+
+impl Kind {
+    pub const ALL: [Kind; 10] = [
+        Kind::TakeBlocks,
+        Kind::MediumTakeBlocks,
+        Kind::ReleaseBlocks,
+        Kind::MediumReleaseBlocks,
+        Kind::ReleaseBinChunks,
+        Kind::Commit,
+        Kind::GrowFrontier,
+        Kind::Release,
+        Kind::Contains,
+        Kind::Report,
+    ];
+
+    pub const fn name(self) -> &'static str {
+        match self {
+            Kind::TakeBlocks => "take_blocks",
+            Kind::MediumTakeBlocks => "medium_take_blocks",
+            Kind::ReleaseBlocks => "release_blocks",
+            Kind::MediumReleaseBlocks => "medium_release_blocks",
+            Kind::ReleaseBinChunks => "release_bin_chunks",
+            Kind::Commit => "commit",
+            Kind::GrowFrontier => "grow_frontier",
+            Kind::Release => "release",
+            Kind::Contains => "contains",
+            Kind::Report => "report",
+        }
+    }
+
+    pub fn named(name: &str) -> Option<Kind> {
+        Kind::ALL.into_iter().find(|kind| kind.name() == name)
+    }
+}
+
+impl Call {
+    pub fn kind(&self) -> Kind {
+        match self {
+            Call::Take { family: Family::Small, .. } => Kind::TakeBlocks,
+            Call::Take { family: Family::Medium, .. } => Kind::MediumTakeBlocks,
+            Call::ReleaseBlocks { family: Family::Small, .. } => Kind::ReleaseBlocks,
+            Call::ReleaseBlocks { family: Family::Medium, .. } => Kind::MediumReleaseBlocks,
+            Call::ReleaseChunks { .. } => Kind::ReleaseBinChunks,
+            Call::Commit { .. } => Kind::Commit,
+            Call::Grow { .. } => Kind::GrowFrontier,
+            Call::Release { .. } => Kind::Release,
+            Call::Contains { .. } => Kind::Contains,
+            Call::Report => Kind::Report,
+        }
+    }
+}

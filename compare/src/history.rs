@@ -1,0 +1,226 @@
+//! Histories as text: one call a line, `NAME ARGUMENTS = RETURNED OUT-PARAMETERS`, as CALLS.md passes them.
+//!
+//! ```text
+//! open PAGES
+//! take_blocks CLASS HOST LENGTH FILL = 0 COUNT VIRGIN WORD..      (medium_take_blocks alike)
+//! release_blocks CLASS HOST N WORD.. = 0 FATE                     (medium_release_blocks alike)
+//! release_bin_chunks CLASS HOST N WORD.. M GROUP.. LENGTH FILL = 0 FATE..
+//! commit HOST PAGES = 0 FIRST FRESH
+//! grow_frontier HOST FIRST OLD NEW = 0 GROWN
+//! release HOST FIRST PAGES = 0
+//! contains OFFSET LENGTH = YES
+//! report = 0 COMMITS REUSES ABANDONED HELD IDLE
+//! ```
+//!
+//! A refused call has just its number after `=`. A lent list of LENGTH entries holds FILL in each before the call.
+//! Numbers are decimal, separated by one space; an empty line or one that starts with `#` says nothing.
+
+use std::fmt::Write;
+
+use crate::call::{Answer, Call, Kind, Lent};
+use crate::run::Due;
+use crate::words::{Family, NO_PAGE};
+
+#[derive(Clone, PartialEq, Eq, Debug)]
+pub struct History {
+    pub pages: u32,
+    pub calls: Vec<Due>,
+}
+
+impl History {
+    pub fn text(&self) -> String {
+        let mut text = format!("open {}\n", self.pages);
+        for (call, answer) in &self.calls {
+            text += &line(call, answer);
+            text.push('\n');
+        }
+        text
+    }
+}
+
+/// One call and its answer, without the line's end.
+pub fn line(call: &Call, answer: &Answer) -> String {
+    let mut line = String::from(call.kind().name());
+    for number in arguments(call) {
+        write!(line, " {number}").expect("a string takes all");
+    }
+    line.push_str(" =");
+    if let Answer::Broken(what) = answer {
+        return line + " " + what;
+    }
+    for number in results(answer) {
+        write!(line, " {number}").expect("a string takes all");
+    }
+    line
+}
+
+fn listed(list: &[u32]) -> impl Iterator<Item = u64> + '_ {
+    std::iter::once(list.len() as u64).chain(list.iter().map(|&word| u64::from(word)))
+}
+
+fn lent_list(lent: &Lent) -> [u64; 2] {
+    [lent.len as u64, u64::from(lent.fill)]
+}
+
+fn arguments(call: &Call) -> Vec<u64> {
+    match call {
+        Call::Take { class, host, lent, .. } => {
+            [u64::from(*class), u64::from(*host)].into_iter().chain(lent_list(lent)).collect()
+        }
+        Call::ReleaseBlocks { class, host, list, .. } => {
+            [u64::from(*class), u64::from(*host)].into_iter().chain(listed(list)).collect()
+        }
+        Call::ReleaseChunks { class, host, list, groups, lent } => [u64::from(*class), u64::from(*host)]
+            .into_iter()
+            .chain(listed(list))
+            .chain(listed(groups))
+            .chain(lent_list(lent))
+            .collect(),
+        Call::Commit { host, pages } => vec![u64::from(*host), *pages],
+        Call::Grow { host, first, old, new } => vec![u64::from(*host), *first, *old, *new],
+        Call::Release { host, first, pages } => vec![u64::from(*host), *first, *pages],
+        Call::Contains { offset, length } => vec![*offset, *length],
+        Call::Report => Vec::new(),
+    }
+}
+
+fn results(answer: &Answer) -> Vec<u64> {
+    let words = |words: &[u32]| words.iter().map(|&word| u64::from(word)).collect::<Vec<u64>>();
+    match answer {
+        Answer::Refused(number) => vec![u64::from(*number)],
+        Answer::Taken { virgin, words: taken } => {
+            [vec![0, taken.len() as u64, u64::from(*virgin)], words(taken)].concat()
+        }
+        Answer::Fate(fate) => vec![0, u64::from(*fate)],
+        Answer::Fates(fates) => [vec![0], words(fates)].concat(),
+        Answer::Run { first, fresh } => vec![0, u64::from(*first), u64::from(*fresh)],
+        Answer::NoRun => vec![0, u64::from(NO_PAGE), 0],
+        Answer::Grown(grown) => vec![0, u64::from(*grown)],
+        Answer::Released => vec![0],
+        Answer::Contains(yes) => vec![u64::from(*yes)],
+        Answer::Report(figures) => [&[0], &figures[..]].concat(),
+        Answer::Broken(_) => Vec::new(),
+    }
+}
+
+/// The histories of a file. What does not read as the format says is an error that names the line.
+pub fn parse(text: &str) -> Result<Vec<History>, String> {
+    let mut histories: Vec<History> = Vec::new();
+    for (at, line) in text.lines().enumerate().filter(|(_, line)| !line.is_empty() && !line.starts_with('#')) {
+        let bad = || format!("line {}: {line}", at + 1);
+        if let Some(pages) = line.strip_prefix("open ") {
+            histories.push(History { pages: pages.parse().map_err(|_| bad())?, calls: Vec::new() });
+        } else {
+            let history = histories.last_mut().ok_or_else(bad)?;
+            history.calls.push(parse_line(line).ok_or_else(bad)?);
+        }
+    }
+    Ok(histories)
+}
+
+/// The numbers of a line's side, read from the front.
+struct Numbers(std::vec::IntoIter<u64>);
+
+impl Numbers {
+    fn of(text: &str) -> Option<Numbers> {
+        let numbers: Option<Vec<u64>> = text.split_whitespace().map(|word| word.parse().ok()).collect();
+        Some(Numbers(numbers?.into_iter()))
+    }
+
+    fn next(&mut self) -> Option<u64> {
+        self.0.next()
+    }
+
+    fn word(&mut self) -> Option<u32> {
+        u32::try_from(self.next()?).ok()
+    }
+
+    fn flag(&mut self) -> Option<bool> {
+        match self.next()? {
+            0 => Some(false),
+            1 => Some(true),
+            _ => None,
+        }
+    }
+
+    fn words(&mut self, number: usize) -> Option<Vec<u32>> {
+        (0..number).map(|_| self.word()).collect()
+    }
+
+    fn list(&mut self) -> Option<Vec<u32>> {
+        let number = self.next()? as usize;
+        self.words(number)
+    }
+
+    fn lent(&mut self) -> Option<Lent> {
+        Some(Lent { len: self.next()? as usize, fill: self.word()? })
+    }
+}
+
+fn parse_line(line: &str) -> Option<Due> {
+    let (asked, answered) = line.split_once(" =")?;
+    let (name, rest) = asked.split_once(' ').unwrap_or((asked, ""));
+    let mut from = Numbers::of(rest)?;
+    let call = parse_call(Kind::named(name)?, &mut from)?;
+    let mut results = Numbers::of(answered)?;
+    let answer = parse_answer(&call, &mut results)?;
+    (from.next().is_none() && results.next().is_none()).then_some((call, answer))
+}
+
+fn parse_call(kind: Kind, from: &mut Numbers) -> Option<Call> {
+    Some(match kind {
+        Kind::TakeBlocks | Kind::MediumTakeBlocks => {
+            Call::Take { family: family(kind), class: from.word()?, host: from.word()?, lent: from.lent()? }
+        }
+        Kind::ReleaseBlocks | Kind::MediumReleaseBlocks => {
+            Call::ReleaseBlocks { family: family(kind), class: from.word()?, host: from.word()?, list: from.list()? }
+        }
+        Kind::ReleaseBinChunks => Call::ReleaseChunks {
+            class: from.word()?,
+            host: from.word()?,
+            list: from.list()?,
+            groups: from.list()?,
+            lent: from.lent()?,
+        },
+        Kind::Commit => Call::Commit { host: from.word()?, pages: from.next()? },
+        Kind::GrowFrontier => {
+            Call::Grow { host: from.word()?, first: from.next()?, old: from.next()?, new: from.next()? }
+        }
+        Kind::Release => Call::Release { host: from.word()?, first: from.next()?, pages: from.next()? },
+        Kind::Contains => Call::Contains { offset: from.next()?, length: from.next()? },
+        Kind::Report => Call::Report,
+    })
+}
+
+fn family(kind: Kind) -> Family {
+    match kind {
+        Kind::MediumTakeBlocks | Kind::MediumReleaseBlocks => Family::Medium,
+        _ => Family::Small,
+    }
+}
+
+fn parse_answer(call: &Call, from: &mut Numbers) -> Option<Answer> {
+    if let Call::Contains { .. } = call {
+        return from.flag().map(Answer::Contains);
+    }
+    let number = from.word()?;
+    if number != 0 {
+        return Some(Answer::Refused(number));
+    }
+    Some(match call {
+        Call::Take { .. } => {
+            let count = from.next()? as usize;
+            Answer::Taken { virgin: from.flag()?, words: from.words(count)? }
+        }
+        Call::ReleaseBlocks { .. } => Answer::Fate(from.word()?),
+        Call::ReleaseChunks { groups, .. } => Answer::Fates(from.words(groups.len())?),
+        Call::Commit { .. } => match (from.word()?, from.flag()?) {
+            (NO_PAGE, false) => Answer::NoRun,
+            (first, fresh) => Answer::Run { first, fresh },
+        },
+        Call::Grow { .. } => Answer::Grown(from.flag()?),
+        Call::Release { .. } => Answer::Released,
+        Call::Report => Answer::Report([from.next()?, from.next()?, from.next()?, from.next()?, from.next()?]),
+        Call::Contains { .. } => unreachable!("answered above"),
+    })
+}

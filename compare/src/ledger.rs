@@ -1,0 +1,275 @@
+//! What the answers of a history say so far: who holds each page, and which blocks are out.
+//!
+//! From this the tool knows which calls lie in document 01's domain, and tells what the original does not: the number
+//! of a refused call, and the report's pages held.
+
+use std::collections::BTreeMap;
+
+use crate::call::{Answer, Call};
+use crate::oracle;
+use crate::words::{
+    group_count, group_page, kind_of, page_of, Family, GROUP_KIND, HOST_ALL, MAX_GROUPS, RUN_LIMIT, SMALL_CLASSES,
+};
+
+/// Small classes, then medium ones.
+pub const CLASSES: usize = 76;
+
+const NOBODY: u8 = 0;
+const DIRECT: u8 = 77;
+const NOWHERE: u32 = u32::MAX;
+
+/// The blocks that are out of one page or span.
+#[derive(Clone, Debug)]
+pub struct Out {
+    pub first: u32,
+    pub words: Vec<u32>,
+}
+
+pub struct Ledger {
+    pages: u32,
+    owner: Vec<u8>,
+    /// Of a page that a class holds: the first page of its page or span.
+    run: Vec<u32>,
+    /// Of such a first page: where its blocks stand in `out`, or nowhere.
+    place: Vec<u32>,
+    out: Vec<Vec<Out>>,
+    direct: BTreeMap<u32, u32>,
+    held: u64,
+}
+
+pub fn class_id(family: Family, class: u32) -> usize {
+    match family {
+        Family::Small => class as usize,
+        Family::Medium => (SMALL_CLASSES + class) as usize,
+    }
+}
+
+impl Ledger {
+    pub fn new(pages: u32) -> Ledger {
+        let len = pages as usize;
+        Ledger {
+            pages,
+            owner: vec![NOBODY; len],
+            run: vec![0; len],
+            place: vec![NOWHERE; len],
+            out: vec![Vec::new(); CLASSES],
+            direct: BTreeMap::new(),
+            held: 0,
+        }
+    }
+
+    pub fn pages(&self) -> u32 {
+        self.pages
+    }
+
+    /// Pages that a class or the direct calls hold.
+    pub fn held(&self) -> u64 {
+        self.held
+    }
+
+    /// Pages and spans of the class that have blocks out.
+    pub fn out(&self, family: Family, class: u32) -> &[Out] {
+        &self.out[class_id(family, class)]
+    }
+
+    /// Runs of the direct calls, by first page.
+    pub fn direct(&self) -> &BTreeMap<u32, u32> {
+        &self.direct
+    }
+
+    fn own(&mut self, first: u32, pages: u32, owner: u8) {
+        for held in &mut self.owner[first as usize..(first + pages) as usize] {
+            self.held -= u64::from(*held != NOBODY);
+            self.held += u64::from(owner != NOBODY);
+            *held = owner;
+        }
+    }
+
+    /// Takes in what a call answered. `run_of` tells the first page of a block's page or span.
+    pub fn note(&mut self, call: &Call, answer: &Answer, run_of: impl Fn(Family, u32) -> u32) {
+        match (call, answer) {
+            (Call::Take { family, class, .. }, Answer::Taken { words, .. }) => {
+                for &word in words {
+                    self.hand_out(*family, *class, run_of(*family, word), word);
+                }
+            }
+            (Call::ReleaseBlocks { family, class, list, .. }, Answer::Fate(fate)) => {
+                let first = self.run[page_of(list[0]) as usize];
+                self.take_back(*family, *class, first, &sorted(list), *fate);
+            }
+            (Call::ReleaseChunks { class, list, groups, .. }, Answer::Fates(fates)) => {
+                let gone = sorted(list);
+                for (&group, &fate) in groups.iter().zip(fates) {
+                    self.take_back(Family::Small, *class, group_page(group), &gone, fate);
+                }
+            }
+            (Call::Commit { pages, .. }, Answer::Run { first, .. }) => self.hold(*first, *pages as u32),
+            (Call::Grow { first, old, new, .. }, Answer::Grown(true)) => {
+                self.hold((first + old) as u32, (new - old) as u32);
+            }
+            (Call::Release { first, pages, .. }, Answer::Released) => self.let_go(*first as u32, *pages as u32),
+            _ => {}
+        }
+    }
+
+    fn hand_out(&mut self, family: Family, class: u32, first: u32, word: u32) {
+        let id = class_id(family, class);
+        if self.owner[first as usize] != id as u8 + 1 {
+            let pages = oracle::run_pages(family, class);
+            self.own(first, pages, id as u8 + 1);
+            self.run[first as usize..(first + pages) as usize].fill(first);
+            self.place[first as usize] = NOWHERE;
+        }
+        if self.place[first as usize] == NOWHERE {
+            self.place[first as usize] = self.out[id].len() as u32;
+            self.out[id].push(Out { first, words: Vec::new() });
+        }
+        self.out[id][self.place[first as usize] as usize].words.push(word);
+    }
+
+    /// Of the run at `first`, the words in `gone`, which is sorted, are out no more.
+    fn take_back(&mut self, family: Family, class: u32, first: u32, gone: &[u32], fate: u32) {
+        let id = class_id(family, class);
+        let at = self.place[first as usize] as usize;
+        self.out[id][at].words.retain(|word| gone.binary_search(word).is_err());
+        if self.out[id][at].words.is_empty() {
+            self.out[id].swap_remove(at);
+            self.place[first as usize] = NOWHERE;
+            if let Some(moved) = self.out[id].get(at) {
+                self.place[moved.first as usize] = at as u32;
+            }
+        }
+        if fate % 4 == 2 {
+            self.own(first, oracle::run_pages(family, class), NOBODY);
+        }
+    }
+
+    /// The direct calls hold a run. It joins the one before it, as a growth does.
+    fn hold(&mut self, first: u32, pages: u32) {
+        self.own(first, pages, DIRECT);
+        match self.direct.range_mut(..first).next_back() {
+            Some((before, length)) if before + *length == first => *length += pages,
+            _ => {
+                self.direct.insert(first, pages);
+            }
+        }
+    }
+
+    fn let_go(&mut self, first: u32, pages: u32) {
+        self.own(first, pages, NOBODY);
+        let end = first + pages;
+        let start = self.direct.range(..=first).next_back().map_or(first, |(&start, _)| start);
+        let met: Vec<(u32, u32)> = self.direct.range(start..end).map(|(&at, &length)| (at, length)).collect();
+        for (at, length) in met {
+            self.direct.remove(&at);
+            if at < first {
+                self.direct.insert(at, (at + length).min(first) - at);
+            }
+            if at + length > end {
+                self.direct.insert(end, at + length - end);
+            }
+        }
+    }
+
+    /// The number that document 01 gives the call, if it refuses it. 1 and 2 concern the book, and 13 answers no call
+    /// on a book that was reached from an opening.
+    pub fn refusal(&self, call: &Call) -> Option<u32> {
+        match call {
+            Call::Take { family, class, host, lent } => self
+                .class_refusal(*family, *class, *host)
+                .or_else(|| (lent.len < oracle::batch(*family, *class)).then_some(5)),
+            Call::ReleaseBlocks { family, class, host, list } => {
+                self.class_refusal(*family, *class, *host).or_else(|| self.list_refusal(*family, *class, list))
+            }
+            Call::ReleaseChunks { class, host, list, groups, lent } => self
+                .class_refusal(Family::Small, *class, *host)
+                .or_else(|| self.chunk_refusal(*class, list, groups, lent.len)),
+            Call::Commit { host, pages } => first_of(&[(3, *host > HOST_ALL), (6, bad_run(*pages))]),
+            Call::Grow { host, first, old, new } => first_of(&[
+                (3, *host > HOST_ALL),
+                (6, bad_run(*old) || bad_run(*new) || new <= old),
+                (12, !self.is_direct(*first, *old)),
+            ]),
+            Call::Release { host, first, pages } => {
+                first_of(&[(3, *host > HOST_ALL), (6, bad_run(*pages)), (12, !self.is_direct(*first, *pages))])
+            }
+            Call::Contains { .. } | Call::Report => None,
+        }
+    }
+
+    fn class_refusal(&self, family: Family, class: u32, host: u32) -> Option<u32> {
+        first_of(&[(3, host > HOST_ALL), (4, class >= family.classes())])
+    }
+
+    fn list_refusal(&self, family: Family, class: u32, list: &[u32]) -> Option<u32> {
+        if list.is_empty() {
+            return Some(7);
+        }
+        let first = |word: u32| self.run[page_of(word) as usize];
+        self.block_refusal(family, class, list)
+            .or_else(|| list.iter().any(|&word| first(word) != first(list[0])).then_some(11))
+    }
+
+    /// Numbers 9 and 10, over the whole list.
+    fn block_refusal(&self, family: Family, class: u32, list: &[u32]) -> Option<u32> {
+        if list.iter().any(|&word| kind_of(word) != family.kind()) {
+            return Some(9);
+        }
+        let id = class_id(family, class);
+        let words = sorted(list);
+        let twice = words.windows(2).any(|pair| pair[0] == pair[1]);
+        let held = |word: &u32| self.owner.get(page_of(*word) as usize) == Some(&(id as u8 + 1));
+        if twice || !words.iter().all(held) {
+            return Some(10);
+        }
+        let mut runs: Vec<u32> = words.iter().map(|&word| self.run[page_of(word) as usize]).collect();
+        runs.dedup();
+        let listed = |first: &u32| {
+            let out = self.out[id].get(self.place[*first as usize] as usize);
+            out.map_or(0, |out| out.words.iter().filter(|word| words.binary_search(word).is_ok()).count())
+        };
+        (runs.iter().map(listed).sum::<usize>() != words.len()).then_some(10)
+    }
+
+    fn chunk_refusal(&self, class: u32, list: &[u32], groups: &[u32], room: usize) -> Option<u32> {
+        if list.is_empty() || groups.is_empty() {
+            return Some(7);
+        }
+        if groups.len() > MAX_GROUPS || room < groups.len() {
+            return Some(8);
+        }
+        let wrong_kind = |word: &u32| kind_of(*word) != Family::Small.kind();
+        if list.iter().any(wrong_kind) || groups.iter().any(|&group| kind_of(group) != GROUP_KIND) {
+            return Some(9);
+        }
+        self.block_refusal(Family::Small, class, list).or_else(|| {
+            let mut counts: BTreeMap<u32, u32> = BTreeMap::new();
+            for &word in list {
+                *counts.entry(page_of(word)).or_default() += 1;
+            }
+            let matched = groups.iter().all(|&group| counts.remove(&group_page(group)) == Some(group_count(group)));
+            (!matched || !counts.is_empty()).then_some(11)
+        })
+    }
+
+    fn is_direct(&self, first: u64, pages: u64) -> bool {
+        let length = u64::from(self.pages);
+        first <= length
+            && pages <= length - first
+            && self.owner[first as usize..(first + pages) as usize].iter().all(|&owner| owner == DIRECT)
+    }
+}
+
+fn sorted(list: &[u32]) -> Vec<u32> {
+    let mut words = list.to_vec();
+    words.sort_unstable();
+    words
+}
+
+fn bad_run(pages: u64) -> bool {
+    pages == 0 || pages >= RUN_LIMIT
+}
+
+fn first_of(tests: &[(u32, bool)]) -> Option<u32> {
+    tests.iter().find(|(_, refused)| *refused).map(|(number, _)| *number)
+}

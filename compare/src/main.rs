@@ -1,0 +1,48 @@
+//! Compares Vigbuso's exported calls with the Rust that they port. README.md says how to run it.
+
+mod arguments;
+mod call;
+mod generate;
+mod histories;
+mod history;
+mod ledger;
+mod lookups;
+mod memory;
+mod oracle;
+mod plan;
+mod port;
+mod progress;
+mod random;
+mod run;
+mod session;
+mod shrink;
+mod tally;
+mod words;
+
+use std::process::ExitCode;
+
+const USAGE: &str = "usage: compare COMMAND [--NAME VALUE ..]
+  lookups                                            both size lookups
+  histories [--calls N] [--seed S] [--pages N,N..] [--scenario NAME]   random histories on the original and the port
+  record --file F [--calls N] [--seed S] [--pages ..] [--scenario ..] [--kinds all|arena]  the same on the original alone, written down
+  replay --file F                                    histories that were written down, on the port";
+
+fn main() -> ExitCode {
+    let words: Vec<String> = std::env::args().skip(1).collect();
+    let rest = words.get(1..).unwrap_or(&[]);
+    let result = match words.first().map(String::as_str) {
+        Some("lookups") => Ok(lookups::run()),
+        Some("histories") => histories::histories(rest),
+        Some("record") => histories::record(rest),
+        Some("replay") => histories::replay(rest),
+        _ => Err(USAGE.into()),
+    };
+    match result {
+        Ok(true) => ExitCode::SUCCESS,
+        Ok(false) => ExitCode::FAILURE,
+        Err(message) => {
+            eprintln!("{message}");
+            ExitCode::from(2)
+        }
+    }
+}

@@ -1,0 +1,243 @@
+//! The original, asked as document 01's calls: granules and page numbers for pointers, the host word for the system,
+//! the fates as answers.
+//!
+//! It is asked only what its own callers would ask; what document 01 refuses is never passed on.
+
+mod fates;
+mod host;
+mod slot;
+
+#[allow(warnings, clippy::all)]
+mod original {
+    include!(concat!(env!("OUT_DIR"), "/original/root.rs"));
+}
+
+use std::sync::atomic::{AtomicBool, Ordering};
+
+use crate::words::{block_word, granule_of, group_count, group_page, Family, GRANULE_BYTES, PAGE_BYTES, SMALL_BATCH};
+use original::{arena, classes, heap, page};
+
+// Document 01: debug assertions off.
+const _: () = assert!(!cfg!(debug_assertions));
+
+pub fn class_for_size(size: u64) -> u32 {
+    classes::class_for_size(size as usize) as u32
+}
+
+pub fn medium_class_for_size(size: u64) -> u32 {
+    classes::medium_class_for_size(size as usize) as u32
+}
+
+/// Bytes of a block.
+pub fn block_bytes(family: Family, class: u32) -> usize {
+    match family {
+        Family::Small => classes::CLASSES[class as usize],
+        Family::Medium => classes::MEDIUM_CLASSES[class as usize],
+    }
+}
+
+/// Pages of a class's page or span.
+pub fn run_pages(family: Family, class: u32) -> u32 {
+    match family {
+        Family::Small => 1,
+        Family::Medium => classes::span_pages_for(block_bytes(family, class)) as u32,
+    }
+}
+
+/// The most blocks that a take gives, and what its list must hold.
+pub fn batch(family: Family, class: u32) -> usize {
+    match family {
+        Family::Small => SMALL_BATCH,
+        Family::Medium => heap::medium_refill_batch(class as usize) as usize,
+    }
+}
+
+/// Touched pages of the region are given back to the system beyond this many.
+const TOUCHED_LIMIT: usize = 8_192;
+
+static IN_USE: AtomicBool = AtomicBool::new(false);
+
+/// A heap of the original with its own arena. The arena is a static of the original, so there is one at a time.
+pub struct Original {
+    pages: u32,
+    touched: usize,
+    small: Box<heap::GlobalHeap>,
+    medium: Box<heap::MediumHeap>,
+}
+
+impl Original {
+    pub fn open(pages: u32) -> Original {
+        assert!(!IN_USE.swap(true, Ordering::AcqRel), "one history of the original at a time");
+        arena::rebuild(pages as usize);
+        Original {
+            pages,
+            touched: 0,
+            small: Box::new(heap::GlobalHeap::new()),
+            medium: Box::new(heap::MediumHeap::new()),
+        }
+    }
+
+    /// The words of the blocks, latest popped first, and virgin.
+    pub fn take_blocks(&mut self, family: Family, class: u32, host: u32) -> (Vec<u32>, bool) {
+        host::set(host);
+        // SAFETY: the class is the family's; every page of the heap lies in the region.
+        let (chain, count, virgin) = unsafe {
+            match family {
+                Family::Small => self.small.take_blocks(class as usize),
+                Family::Medium => self.medium.take_blocks(class as usize),
+            }
+        };
+        self.touched = self.touched.max(self.frontier() as usize);
+        (words_of_chain(family, chain, count), virgin)
+    }
+
+    /// The first page of the page or span that a block out belongs to.
+    pub fn run_of(&self, family: Family, word: u32) -> u32 {
+        page_number(run_address(family, word))
+    }
+
+    /// The fate of the page or span that the blocks, all out of it, go back to.
+    pub fn release_blocks(&mut self, family: Family, class: u32, host: u32, list: &[u32]) -> u32 {
+        host::set(host);
+        let (head, tail) = link(list);
+        let run = run_address(family, list[0]);
+        // SAFETY: the blocks are out of this one run and are linked from head to tail.
+        unsafe {
+            match family {
+                Family::Small => {
+                    self.small.release_blocks_with_tail(run.cast(), head, tail, list.len() as u16);
+                }
+                Family::Medium => {
+                    self.medium.release_blocks(class as usize, run.cast(), head, tail, list.len() as u32);
+                }
+            }
+        }
+        let fates = fates::take();
+        assert!(fates.len() == 1, "one release has one fate, not {fates:?}");
+        fates[0]
+    }
+
+    /// The fates of the groups, in their order; 4 more for a page that was retired.
+    pub fn release_bin_chunks(&mut self, class: u32, host: u32, list: &[u32], groups: &[u32]) -> Vec<u32> {
+        host::set(host);
+        let (head, _) = link(list);
+        let mut chunks: Vec<heap::PageReleaseChunk> = groups
+            .iter()
+            .map(|&group| heap::PageReleaseChunk {
+                page: address(group_page(group) as usize * PAGE_BYTES).cast(),
+                head: std::ptr::null_mut(),
+                tail: std::ptr::null_mut(),
+                n: group_count(group) as u16,
+            })
+            .collect();
+        // SAFETY: the blocks are out of this class, and the chunks name each of their pages once with its blocks' number.
+        unsafe { self.small.release_bin_chunks(class as usize, head, list.len() as u32, &mut chunks) };
+        let fates = fates::take();
+        assert!(fates.len() == groups.len(), "{} groups have {} fates", groups.len(), fates.len());
+        let retired = |chunk: &heap::PageReleaseChunk| chunk.n & heap::PAGE_RELEASE_RETIRED != 0;
+        chunks.iter().zip(fates).map(|(chunk, fate)| if retired(chunk) { fate + 4 } else { fate }).collect()
+    }
+
+    /// First page and fresh, or none.
+    pub fn commit(&mut self, host: u32, pages: u64) -> Option<(u32, bool)> {
+        host::set(host);
+        // SAFETY: at least one page; the bytes of the run are never touched by the comparison.
+        let (base, fresh) = unsafe { arena::commit(pages as usize) };
+        (!base.is_null()).then(|| (page_number(base), fresh))
+    }
+
+    pub fn grow_frontier(&mut self, host: u32, first: u64, old: u64, new: u64) -> bool {
+        host::set(host);
+        // SAFETY: the run is held by the direct calls.
+        unsafe { arena::grow_frontier(address(first as usize * PAGE_BYTES), old as usize, new as usize) }
+    }
+
+    pub fn release(&mut self, host: u32, first: u64, pages: u64) {
+        host::set(host);
+        // SAFETY: the run is held by the direct calls.
+        unsafe { arena::release(address(first as usize * PAGE_BYTES), pages as usize) }
+    }
+
+    pub fn contains(&self, offset: u64, length: u64) -> bool {
+        arena::contains(address(offset as usize), length as usize)
+    }
+
+    /// Commits, reuses, abandoned.
+    pub fn counts(&self) -> [u64; 3] {
+        let (commits, reuses, abandoned) = arena::stats();
+        [commits, reuses, abandoned]
+    }
+
+    pub fn frontier(&self) -> u32 {
+        arena::frontier_pages() as u32
+    }
+
+    pub fn holes(&self) -> usize {
+        arena::stored_holes().0
+    }
+
+    pub fn hole_pages(&self) -> u32 {
+        arena::stored_holes().1 as u32
+    }
+
+    /// Hole pages, and those at or above the frontier.
+    pub fn idle_pages(&self) -> u64 {
+        u64::from(self.hole_pages()) + u64::from(self.pages - self.frontier())
+    }
+}
+
+impl Drop for Original {
+    fn drop(&mut self) {
+        if self.touched > TOUCHED_LIMIT {
+            host::forget(self.touched);
+        }
+        IN_USE.store(false, Ordering::Release);
+    }
+}
+
+fn address(offset: usize) -> *mut u8 {
+    host::region().wrapping_add(offset) as *mut u8
+}
+
+fn page_number(address: *mut u8) -> u32 {
+    ((address as usize - host::region()) / PAGE_BYTES) as u32
+}
+
+fn block_address(word: u32) -> *mut u8 {
+    address(granule_of(word) as usize * GRANULE_BYTES)
+}
+
+/// Where the header of the block's page or span stands, as the original finds it.
+fn run_address(family: Family, word: u32) -> *mut u8 {
+    // SAFETY: the block is out, so its page or span is there.
+    unsafe {
+        match family {
+            Family::Small => page::PageHeader::of(block_address(word)).cast(),
+            Family::Medium => page::SpanMaster::of(block_address(word)).cast(),
+        }
+    }
+}
+
+/// Links the blocks in the list's order, and answers the first and the last.
+fn link(list: &[u32]) -> (*mut u8, *mut u8) {
+    let mut next = std::ptr::null_mut();
+    for &word in list.iter().rev() {
+        let block = block_address(word);
+        // SAFETY: the blocks are out, so their bytes are the comparison's; they are aligned to 16.
+        unsafe { block.cast::<*mut u8>().write(next) };
+        next = block;
+    }
+    (next, block_address(list[list.len() - 1]))
+}
+
+fn words_of_chain(family: Family, chain: *mut u8, count: u32) -> Vec<u32> {
+    let mut block = chain;
+    (0..count)
+        .map(|_| {
+            let granule = (block as usize - host::region()) / GRANULE_BYTES;
+            // SAFETY: a block of the chain that the original handed out; its first word links the next.
+            block = unsafe { block.cast::<*mut u8>().read() };
+            block_word(family, granule as u32)
+        })
+        .collect()
+}

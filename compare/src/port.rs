@@ -1,0 +1,245 @@
+//! The port, through the C boundary of CALLS.md.
+//!
+//! A part of the calls whose feature is off is not linked: `landed` says which may be asked.
+
+use crate::call::{Answer, Call, Kind, Lent};
+use crate::words::{Family, NO_PAGE};
+
+/// Declares exported functions of a part; where its feature is off, names that nobody may call.
+macro_rules! exported {
+    ($part:ident, $feature:literal, $(fn $name:ident($($argument:ident: $type:ty),*);)*) => {
+        #[allow(dead_code)]
+        mod $part {
+            #[cfg(feature = $feature)]
+            extern "C" {
+                $(pub fn $name($($argument: $type),*) -> u32;)*
+            }
+            $(
+                #[cfg(not(feature = $feature))]
+                pub unsafe fn $name($(_: $type),*) -> u32 {
+                    unreachable!(concat!("feature ", $feature, " is off"))
+                }
+            )*
+        }
+        use $part::*;
+    };
+}
+
+exported! { lookups, "lookups",
+    fn vigbuso_class_for_size(size: u64);
+    fn vigbuso_medium_class_for_size(size: u64);
+}
+
+exported! { arena, "arena",
+    fn vigbuso_open(book: *mut u32, words: usize, pages: u64);
+    fn vigbuso_commit(book: *mut u32, words: usize, host: u32, pages: u64, first: *mut u32, fresh: *mut u32);
+    fn vigbuso_grow_frontier(
+        book: *mut u32, words: usize, host: u32, first: u64, old_pages: u64, new_pages: u64, grown: *mut u32
+    );
+    fn vigbuso_release(book: *mut u32, words: usize, host: u32, first: u64, pages: u64);
+    fn vigbuso_contains(book: *const u32, words: usize, offset: u64, length: u64);
+    fn vigbuso_report(book: *const u32, words: usize, figures: *mut u64);
+}
+
+exported! { blocks, "blocks",
+    fn vigbuso_take_blocks(
+        book: *mut u32, words: usize, class: u32, host: u32,
+        list: *mut u32, len: usize, count: *mut u32, virgin: *mut u32
+    );
+    fn vigbuso_medium_take_blocks(
+        book: *mut u32, words: usize, class: u32, host: u32,
+        list: *mut u32, len: usize, count: *mut u32, virgin: *mut u32
+    );
+    fn vigbuso_release_blocks(
+        book: *mut u32, words: usize, class: u32, host: u32, list: *const u32, len: usize, fate: *mut u32
+    );
+    fn vigbuso_medium_release_blocks(
+        book: *mut u32, words: usize, class: u32, host: u32, list: *const u32, len: usize, fate: *mut u32
+    );
+}
+
+exported! { chunks, "chunks",
+    fn vigbuso_release_bin_chunks(
+        book: *mut u32, words: usize, class: u32, host: u32, list: *const u32, len: usize,
+        groups: *const u32, number: usize, fates: *mut u32, room: usize
+    );
+}
+
+/// Whether calls of this kind are linked.
+pub const fn landed(kind: Kind) -> bool {
+    match kind {
+        Kind::Commit | Kind::GrowFrontier | Kind::Release | Kind::Contains | Kind::Report => {
+            cfg!(feature = "arena")
+        }
+        Kind::TakeBlocks | Kind::MediumTakeBlocks | Kind::ReleaseBlocks | Kind::MediumReleaseBlocks => {
+            cfg!(feature = "blocks")
+        }
+        Kind::ReleaseBinChunks => cfg!(feature = "chunks"),
+    }
+}
+
+pub const fn lookups_landed() -> bool {
+    cfg!(feature = "lookups")
+}
+
+pub fn class_for_size(size: u64) -> u32 {
+    // SAFETY: a number for a number.
+    unsafe { vigbuso_class_for_size(size) }
+}
+
+pub fn medium_class_for_size(size: u64) -> u32 {
+    // SAFETY: a number for a number.
+    unsafe { vigbuso_medium_class_for_size(size) }
+}
+
+/// 0, or the refusal's number.
+pub fn open(book: &mut [u32], pages: u64) -> u32 {
+    // SAFETY: the slice is lent for the call.
+    unsafe { vigbuso_open(book.as_mut_ptr(), book.len(), pages) }
+}
+
+/// Asks the port. Every answer that CALLS.md does not allow is `Broken`.
+pub fn ask(book: &mut [u32], call: &Call) -> Answer {
+    match call {
+        Call::Take { family, class, host, lent } => take(book, *family, *class, *host, *lent),
+        Call::ReleaseBlocks { family, class, host, list } => release_blocks(book, *family, *class, *host, list),
+        Call::ReleaseChunks { class, host, list, groups, lent } => {
+            release_chunks(book, *class, *host, list, groups, *lent)
+        }
+        Call::Commit { host, pages } => commit(book, *host, *pages),
+        Call::Grow { host, first, old, new } => grow(book, *host, [*first, *old, *new]),
+        Call::Release { host, first, pages } => release(book, *host, *first, *pages),
+        Call::Contains { offset, length } => contains(book, *offset, *length),
+        Call::Report => report(book),
+    }
+}
+
+/// What stands in an out-parameter before a call.
+const UNTOUCHED: u32 = 0xDEAD_BEEF;
+const UNTOUCHED_FIGURE: u64 = 0xDEAD_BEEF_DEAD_BEEF;
+
+/// A refusal: its number is one of document 01's, and nothing that was lent has changed.
+fn refusal(number: u32, unchanged: bool) -> Answer {
+    match (number, unchanged) {
+        (1..=13, true) => Answer::Refused(number),
+        (1..=13, false) => Answer::Broken(format!("refused as {number}, yet a lent list or an out-parameter changed")),
+        _ => Answer::Broken(format!("returned {number}")),
+    }
+}
+
+fn yes_or_no(name: &str, value: u32, answer: impl FnOnce(bool) -> Answer) -> Answer {
+    match value {
+        0 | 1 => answer(value == 1),
+        _ => Answer::Broken(format!("{name} is {value}")),
+    }
+}
+
+fn take(book: &mut [u32], family: Family, class: u32, host: u32, lent: Lent) -> Answer {
+    let mut list = vec![lent.fill; lent.len];
+    let (mut count, mut virgin) = (UNTOUCHED, UNTOUCHED);
+    let ask = match family {
+        Family::Small => vigbuso_take_blocks,
+        Family::Medium => vigbuso_medium_take_blocks,
+    };
+    // SAFETY: slices and out-parameters are lent for the call.
+    let number = unsafe {
+        ask(book.as_mut_ptr(), book.len(), class, host, list.as_mut_ptr(), list.len(), &mut count, &mut virgin)
+    };
+    let kept = |from: usize| list[from..].iter().all(|&entry| entry == lent.fill);
+    if number != 0 {
+        return refusal(number, kept(0) && count == UNTOUCHED && virgin == UNTOUCHED);
+    }
+    let count = count as usize;
+    if count > list.len() || !kept(count) {
+        return Answer::Broken(format!("count {count}, and an entry past it changed or the list is shorter"));
+    }
+    list.truncate(count);
+    yes_or_no("virgin", virgin, |virgin| Answer::Taken { virgin, words: list })
+}
+
+fn release_blocks(book: &mut [u32], family: Family, class: u32, host: u32, list: &[u32]) -> Answer {
+    let mut fate = UNTOUCHED;
+    let ask = match family {
+        Family::Small => vigbuso_release_blocks,
+        Family::Medium => vigbuso_medium_release_blocks,
+    };
+    // SAFETY: slices and out-parameters are lent for the call.
+    let number = unsafe { ask(book.as_mut_ptr(), book.len(), class, host, list.as_ptr(), list.len(), &mut fate) };
+    match number {
+        0 => Answer::Fate(fate),
+        _ => refusal(number, fate == UNTOUCHED),
+    }
+}
+
+fn release_chunks(book: &mut [u32], class: u32, host: u32, list: &[u32], groups: &[u32], lent: Lent) -> Answer {
+    let mut fates = vec![lent.fill; lent.len];
+    // SAFETY: slices are lent for the call.
+    let number = unsafe {
+        vigbuso_release_bin_chunks(
+            book.as_mut_ptr(),
+            book.len(),
+            class,
+            host,
+            list.as_ptr(),
+            list.len(),
+            groups.as_ptr(),
+            groups.len(),
+            fates.as_mut_ptr(),
+            fates.len(),
+        )
+    };
+    let kept = |from: usize| fates[from..].iter().all(|&entry| entry == lent.fill);
+    if number != 0 {
+        return refusal(number, kept(0));
+    }
+    if groups.len() > fates.len() || !kept(groups.len()) {
+        return Answer::Broken("an entry past the groups' fates changed, or the fate list is shorter".into());
+    }
+    fates.truncate(groups.len());
+    Answer::Fates(fates)
+}
+
+fn commit(book: &mut [u32], host: u32, pages: u64) -> Answer {
+    let (mut first, mut fresh) = (UNTOUCHED, UNTOUCHED);
+    // SAFETY: the book and the out-parameters are lent for the call.
+    let number = unsafe { vigbuso_commit(book.as_mut_ptr(), book.len(), host, pages, &mut first, &mut fresh) };
+    match (number, first, fresh) {
+        (0, NO_PAGE, 0) => Answer::NoRun,
+        (0, NO_PAGE, _) => Answer::Broken(format!("no run, yet fresh is {fresh}")),
+        (0, _, _) => yes_or_no("fresh", fresh, |fresh| Answer::Run { first, fresh }),
+        _ => refusal(number, first == UNTOUCHED && fresh == UNTOUCHED),
+    }
+}
+
+fn grow(book: &mut [u32], host: u32, [first, old, new]: [u64; 3]) -> Answer {
+    let mut grown = UNTOUCHED;
+    // SAFETY: the book and the out-parameter are lent for the call.
+    let number = unsafe { vigbuso_grow_frontier(book.as_mut_ptr(), book.len(), host, first, old, new, &mut grown) };
+    match number {
+        0 => yes_or_no("grown", grown, Answer::Grown),
+        _ => refusal(number, grown == UNTOUCHED),
+    }
+}
+
+fn release(book: &mut [u32], host: u32, first: u64, pages: u64) -> Answer {
+    // SAFETY: the book is lent for the call.
+    match unsafe { vigbuso_release(book.as_mut_ptr(), book.len(), host, first, pages) } {
+        0 => Answer::Released,
+        number => refusal(number, true),
+    }
+}
+
+fn contains(book: &[u32], offset: u64, length: u64) -> Answer {
+    // SAFETY: the book is lent for the call, to be read.
+    let answer = unsafe { vigbuso_contains(book.as_ptr(), book.len(), offset, length) };
+    yes_or_no("contains", answer, Answer::Contains)
+}
+
+fn report(book: &[u32]) -> Answer {
+    let mut figures = [UNTOUCHED_FIGURE; 5];
+    // SAFETY: the book is lent for the call, to be read, and the five figures to be written.
+    match unsafe { vigbuso_report(book.as_ptr(), book.len(), figures.as_mut_ptr()) } {
+        0 => Answer::Report(figures),
+        number => refusal(number, figures == [UNTOUCHED_FIGURE; 5]),
+    }
+}

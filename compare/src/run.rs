@@ -1,0 +1,88 @@
+//! A plan run on the original and on the port, call by call.
+
+use crate::call::{Answer, Call, Kind};
+use crate::memory::Reserved;
+use crate::plan::Plan;
+use crate::port;
+use crate::session::Session;
+use crate::words::{book_words, MAX_PAGES};
+
+/// A call with the answer that is due.
+pub type Due = (Call, Answer);
+
+/// The first call on which the port differs.
+#[derive(Debug)]
+pub struct Difference {
+    /// Place of the step in the plan.
+    pub step: usize,
+    pub call: Call,
+    pub due: Answer,
+    pub got: Answer,
+}
+
+/// The book of every history, with whatever the one before left in it.
+pub struct Book {
+    words: Reserved,
+}
+
+/// Pages whose words are overwritten before each history.
+const SOILED_PAGES: u32 = 8;
+
+impl Book {
+    pub fn new() -> Book {
+        Book { words: Reserved::new(book_words(MAX_PAGES)) }
+    }
+
+    /// All words are 0.
+    pub fn clear(&mut self) {
+        self.words.forget();
+    }
+
+    /// A book of just the length that is asked for, its first words full of one content: an opening must not care.
+    fn soiled(&mut self, pages: u32, content: u32) -> &mut [u32] {
+        let book = &mut self.words.words_mut()[..book_words(pages)];
+        book[..book_words(pages.min(SOILED_PAGES))].fill(content);
+        book
+    }
+}
+
+/// Content of the book before a history, told from its steps so that it is the same when the history is run again.
+fn soil(plan: &Plan) -> u32 {
+    let chance = plan.steps.last().map_or(0, |step| step.chance);
+    [0, u32::MAX, chance as u32, 1 + (chance as u32 & 0xFF)][(chance >> 32) as usize % 4]
+}
+
+/// Runs a plan on both; tells `seen` each call that was compared.
+pub fn compare(plan: &Plan, book: &mut Book, mut seen: impl FnMut(&Call, &Answer, &Session)) -> Option<Difference> {
+    let mut session = Session::open(plan.pages);
+    let book = book.soiled(plan.pages, soil(plan));
+    let opened = port::open(book, u64::from(plan.pages));
+    assert!(opened == 0, "an opening of {} pages is refused as {opened}", plan.pages);
+    for (step, wanted) in plan.steps.iter().enumerate() {
+        let Some(call) = wanted.call(&session.ledger, session.frontier()) else { continue };
+        if !port::landed(call.kind()) {
+            continue;
+        }
+        let due = session.answer(&call);
+        let got = port::ask(book, &call);
+        if got != due {
+            return Some(Difference { step, call, due, got });
+        }
+        seen(&call, &due, &session);
+    }
+    None
+}
+
+/// Runs a plan on the original alone, leaving out what is not asked.
+pub fn record(plan: &Plan, asked: impl Fn(Kind) -> bool) -> Vec<Due> {
+    let mut session = Session::open(plan.pages);
+    let mut history = Vec::new();
+    for wanted in &plan.steps {
+        let Some(call) = wanted.call(&session.ledger, session.frontier()) else { continue };
+        if asked(call.kind()) {
+            let due = session.answer(&call);
+            history.push((call, due));
+        }
+    }
+    history
+}

@@ -1,0 +1,67 @@
+//! One history on the original: its answers, with the numbers of refused calls and the pages held from the ledger.
+
+use crate::call::{Answer, Call};
+use crate::ledger::Ledger;
+use crate::oracle::Original;
+
+pub struct Session {
+    original: Original,
+    pub ledger: Ledger,
+}
+
+impl Session {
+    pub fn open(pages: u32) -> Session {
+        Session { original: Original::open(pages), ledger: Ledger::new(pages) }
+    }
+
+    /// Pages below the frontier.
+    pub fn frontier(&self) -> u32 {
+        self.original.frontier()
+    }
+
+    /// Stored holes and their pages together.
+    pub fn holes(&self) -> (usize, u32) {
+        (self.original.holes(), self.original.hole_pages())
+    }
+
+    /// The answer that is due. A refused call is not passed on to the original.
+    pub fn answer(&mut self, call: &Call) -> Answer {
+        if let Some(number) = self.ledger.refusal(call) {
+            return Answer::Refused(number);
+        }
+        let answer = self.ask(call);
+        let original = &self.original;
+        self.ledger.note(call, &answer, |family, word| original.run_of(family, word));
+        answer
+    }
+
+    fn ask(&mut self, call: &Call) -> Answer {
+        let original = &mut self.original;
+        match call {
+            Call::Take { family, class, host, .. } => {
+                let (words, virgin) = original.take_blocks(*family, *class, *host);
+                Answer::Taken { virgin, words }
+            }
+            Call::ReleaseBlocks { family, class, host, list } => {
+                Answer::Fate(original.release_blocks(*family, *class, *host, list))
+            }
+            Call::ReleaseChunks { class, host, list, groups, .. } => {
+                Answer::Fates(original.release_bin_chunks(*class, *host, list, groups))
+            }
+            Call::Commit { host, pages } => match original.commit(*host, *pages) {
+                Some((first, fresh)) => Answer::Run { first, fresh },
+                None => Answer::NoRun,
+            },
+            Call::Grow { host, first, old, new } => Answer::Grown(original.grow_frontier(*host, *first, *old, *new)),
+            Call::Release { host, first, pages } => {
+                original.release(*host, *first, *pages);
+                Answer::Released
+            }
+            Call::Contains { offset, length } => Answer::Contains(original.contains(*offset, *length)),
+            Call::Report => {
+                let [commits, reuses, abandoned] = original.counts();
+                Answer::Report([commits, reuses, abandoned, self.ledger.held(), original.idle_pages()])
+            }
+        }
+    }
+}

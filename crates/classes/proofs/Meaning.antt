@@ -1,0 +1,61 @@
+-- Pages per span are the fewest that hold 8 blocks, for every size; the class of a size is the first that fits. Assumes nothing.
+use Prim.Native.Nat.{ℕ, zero, suc, _+_, _-_, _*_, _/_, _≤_, _<_, zero-le, suc-le-suc}
+use mathlib.Core.Path.{_≡_, refl}
+use mathlib.Core.Bool.{Bool, true, false, cond}
+use mathlib.Core.List.{List, [], _∷_}
+use mathlib.Core.Logic.{inl, inr, by-cases}
+use native.Mathlib.Nat.{le-div-iff-mul-le, div-lt-iff-lt-mul, le-of-suc-le-suc, not-suc-le-zero}
+use native.Mathlib.Decide.{decLe}
+use native.Mathlib.Omega.{arith}
+use lib.Dec.{leb}
+use lib.ListN.{length, getD}
+use borrow.Author.Tests.{leb-true, leb-false, le-leb, lt-leb, lt-ltb, le-ltb}
+use Rattle.classes.specs.Sizes.{smallSizes, mediumSizes, pageBytes, mediumHeader, spanPages, spanCapacity}
+use Rattle.classes.specs.Lookup.{firstFit, classForSize, mediumClassForSize}
+use Rattle.classes.specs.Meaning.{FewestPages, FirstFit}
+use Rattle.classes.proofs.Rounding.{small-above, medium-outside}
+
+pub span-pages : (size : ℕ) → FewestPages size (spanPages size)
+span-pages size = record { enough = omega arith; fewest = λ fewer h. omega arith }
+
+-- counted in blocks: a span has 8 or more, and with fewer pages it would have less
+pub span-holds-eight : (size : ℕ) → 0 < size → 8 ≤ spanCapacity size
+span-holds-eight size pos = le-div-iff-mul-le pos .1 (omega arith)
+
+pub fewer-hold-less : (size fewer : ℕ) → 0 < size → fewer < spanPages size → (fewer * pageBytes - mediumHeader) / size < 8
+fewer-hold-less size fewer pos h = div-lt-iff-lt-mul pos .1 (omega arith)
+
+found : (size x : ℕ) (xs : List ℕ) (b : Bool) → leb size x ≡ b → (b ≡ false → FirstFit size xs (firstFit size xs)) → FirstFit size (x ∷ xs) (cond b 0 (suc (firstFit size xs)))
+found size x xs true e rest = record { within = suc-le-suc zero-le; fits = leb-true size x e; first = λ j h. absurd (not-suc-le-zero h) }
+found size x xs false e rest = record { within = suc-le-suc (rest refl .within); fits = rest refl .fits; first = before }
+  where
+    before : (j : ℕ) → j < suc (firstFit size xs) → getD (x ∷ xs) j 0 < size
+    before zero h = leb-false size x e
+    before (suc j) h = rest refl .first j (le-of-suc-le-suc h)
+
+-- where some entry is not below the size, there is a first one
+pub first-fit : (size : ℕ) (xs : List ℕ) (k : ℕ) → k < length xs → size ≤ getD xs k 0 → FirstFit size xs (firstFit size xs)
+unfolding firstFit
+first-fit size [] k l h = absurd (not-suc-le-zero l)
+first-fit size (x ∷ xs) zero l h = found size x xs (leb size x) refl (λ e. absurd (omega (arith, leb-false size x e)))
+first-fit size (x ∷ xs) (suc k) l h = found size x xs (leb size x) refl (λ e. first-fit size xs k (le-of-suc-le-suc l) h)
+
+pub small-first-fit : (size : ℕ) → size ≤ 16384 → FirstFit size smallSizes (classForSize size)
+unfolding classForSize smallSizes
+small-first-fit size h = rw (le-leb size 16384 h) (first-fit size smallSizes 63 (omega arith) h)
+
+pub medium-first-fit : (size : ℕ) → 16384 < size → size ≤ 65472 → FirstFit size mediumSizes (mediumClassForSize size)
+unfolding mediumClassForSize mediumSizes
+medium-first-fit size l h = rw (lt-ltb 16384 size l, le-leb size 65472 h) (first-fit size mediumSizes 11 (omega arith) h)
+
+-- every answer is a class
+pub small-class : (size : ℕ) → classForSize size < 64
+unfolding smallSizes
+small-class size =
+    by-cases (decLe size 16384) (λ h. small-first-fit size h .within) (λ n. omega (arith, small-above size (omega arith)))
+
+pub medium-class : (size : ℕ) → mediumClassForSize size < 12
+unfolding mediumSizes
+medium-class size =
+    by-cases (decLe size 16384) (λ h. omega (arith, medium-outside size (inl h)))
+    (λ n. by-cases (decLe size 65472) (λ h. medium-first-fit size (omega arith) h .within) (λ m. omega (arith, medium-outside size (inr (omega arith)))))

@@ -1,0 +1,65 @@
+// The shape of a class, made from its block size.
+ghost use mathlib.Core.Path.{_≡_};
+ghost use Prim.Native.Nat.{_<_, _≤_};
+ghost use Rattle.classes.specs.Sizes.{pageBytes};
+ghost use Rattle.classes.specs.Shape.{smallShape, mediumShape, shapeOf};
+use super::Shape;
+use super::sizes::NUM_CLASSES;
+use super::sizes::PAGE_HEADER;
+use super::sizes::SPAN_HEADER;
+use super::sizes::capacity_for;
+use super::sizes::medium_capacity_for;
+use super::sizes::medium_size;
+use super::sizes::small_size;
+use super::sizes::span_pages_for;
+
+const GRANULE: u32 = 16;
+
+// At most 64 blocks a take, and 4 empty pages.
+fn small_shape(size: u32) -> Shape
+    requires { ⌜ 0 < size ⌝ }
+    ensures { λ r. ⌜ r ≡ smallShape size ⌝ }
+{
+    Shape {
+        kind: words::Word::SMALL,
+        block: size / GRANULE,
+        header: PAGE_HEADER / GRANULE,
+        pages: 1,
+        capacity: capacity_for(size),
+        batch: 64,
+        empties: 4,
+        emptypages: 4,
+        colds: 256,
+    }
+}
+
+// At most a span's blocks a take, and 32 empty spans of 128 pages, which is 8 MiB.
+fn medium_shape(size: u32) -> Shape
+    requires { ⌜ 0 < size ⌝ }
+    requires { ⌜ size ≤ pageBytes ⌝ }
+    ensures { λ r. ⌜ r ≡ mediumShape size ⌝ }
+{
+    let capacity = medium_capacity_for(size);
+    Shape {
+        kind: words::Word::MEDIUM,
+        block: size / GRANULE,
+        header: SPAN_HEADER / GRANULE,
+        pages: span_pages_for(size),
+        capacity,
+        batch: capacity,
+        empties: 32,
+        emptypages: 128,
+        colds: 256,
+    }
+}
+
+// The shape of the class with an id. Past the last class it is the last one's.
+pub fn shape_of(id: u32) -> Shape
+    ensures { λ r. ⌜ r ≡ shapeOf id ⌝ }
+{
+    if id < NUM_CLASSES {
+        small_shape(small_size(id))
+    } else {
+        medium_shape(medium_size(id - NUM_CLASSES))
+    }
+}

@@ -1,0 +1,43 @@
+-- Outcomes one after another, and the laws of `putAt`: those of `put`, at a stored number. Assumes nothing.
+use Prim.Native.Nat.{ℕ, zero, suc}
+use mathlib.Core.Bool.{Bool, true, false, _&&_}
+use mathlib.Core.List.{List}
+use mathlib.Core.Path.{_≡_, refl, sym, ap, _∙_}
+use lib.Dec.{eqb, leb, ltb, eqb·suc-suc}
+use lib.ListN.{length}
+use Rattle.fields.specs.Field.{PageField, Field, arena, memory, class, hole, page, out, slot, words, get, put, ok, same, valid}
+use Rattle.fields.specs.Outcome.{Outcome, Did, onCode, andThen, putAt, sameAt}
+use Rattle.fields.proofs.Laws.{get-put-same, get-put-other, length-put}
+use Rattle.fields.proofs.Changes.{Changes, changes-put}
+
+pub then-stop : (r : ℕ) (b : List ℕ) (o : Outcome) (f : List ℕ → Outcome) → (r ≡ 0 → ⊥) → Did r b o → Did r b (andThen o f)
+unfolding andThen
+then-stop r b o f h s = go (o .code) refl
+  where
+    go : (k : ℕ) → o .code ≡ k → Did r b (onCode k o (f (o .meta)))
+    go zero e = absurd (h (s .answer ∙ e))
+    go (suc k) e = s
+
+pub then-go : (r s : ℕ) (b b′ : List ℕ) (o : Outcome) (f : List ℕ → Outcome) → r ≡ 0 → Did r b o → Did s b′ (f b) → Did s b′ (andThen o f)
+unfolding andThen
+then-go r s b b′ o f h t u =
+    let e : o .code ≡ 0 = sym (t .answer) ∙ h in
+    rw (e, ← (t .left)) u
+
+at-page : (k : PageField) (q : ℕ) (g : Field) → sameAt k (suc q) g ≡ false → same (page k q) g ≡ false
+at-page k q g e = rw eqb·suc-suc at e
+
+pub length-putAt : (b : List ℕ) (k : PageField) (code v : ℕ) → length (putAt b k code v) ≡ length b
+length-putAt b k zero v = refl
+length-putAt b k (suc q) v = length-put b (page k q) v
+
+pub get-putAt-other : (b : List ℕ) (k : PageField) (code v : ℕ) (g : Field) → ok g ≡ true → sameAt k code g ≡ false → get (putAt b k code v) g ≡ get b g
+get-putAt-other b k zero v g hg d = refl
+get-putAt-other b k (suc q) v g hg d = get-put-other b (page k q) g v refl hg (at-page k q g d)
+
+pub get-putAt-same : (n : ℕ) (b : List ℕ) (k : PageField) (code v q : ℕ) → leb (words n) (length b) ≡ true → ltb q n ≡ true → code ≡ suc q → get (putAt b k code v) (page k q) ≡ v
+get-putAt-same n b k code v q hb hq e = rw e (get-put-same n b (page k q) v hb hq refl)
+
+pub changes-putAt : (t : Field → Bool) (b b′ : List ℕ) (k : PageField) (code v : ℕ) → ((q : ℕ) → code ≡ suc q → t (page k q) ≡ true) → Changes t b b′ → Changes t b (putAt b′ k code v)
+changes-putAt t b b′ k zero v d h = h
+changes-putAt t b b′ k (suc q) v d h = changes-put t b b′ (page k q) v refl (d q refl) h

@@ -1,0 +1,10 @@
+use borrow.Author.Needs.{needs}
+use Rattle.fields.specs.Field.{put}
+use Rattle.fields.proofs.page.set_virgin.Statement.{statement}
+use Rattle.fields.proofs.page.set_virgin.Tie as tie
+
+pub set-virgin-spec : {M : Type 1} → statement M
+unfolding put
+set-virgin-spec =
+    tie.close
+    (tie.spec (λ c κs. search needs) (λ c. search needs) (λ c. search needs) (λ c. search needs) (λ c. rw (c .page-word .ensures)))

@@ -1,0 +1,29 @@
+// Numbers 1 and 2 of a refused call: the arena's length, and the book's.
+ghost use mathlib.Core.Path.{_≡_};
+ghost use Rattle.fields.specs.Ranges.{lengthFault, metaFault};
+
+// For an opening: an arena of so many pages, in a book of so many words.
+pub fn length_fault(pages: u64, words: usize) -> u32
+    ensures { λ r. ⌜ r ≡ lengthFault pages words ⌝ }
+{
+    if pages == 0 {
+        return 1;
+    }
+    if 262_144 < pages {
+        return 1;
+    }
+    if words < 40_000 + 4_112 * (pages as usize) {
+        return 2;
+    }
+    0
+}
+
+// For any other call. An empty book has no first word, and reads as length 0.
+pub fn meta_fault(meta: &[u32]) -> u32
+    ensures { λ r. ⌜ r ≡ metaFault (now (meta .entry)) ⌝ }
+{
+    if meta.len() == 0 {
+        return 1;
+    }
+    length_fault(meta[0] as u64, meta.len())
+}

@@ -1,0 +1,27 @@
+// Whether a block of a page is out: bit i of the page's out words.
+ghost use mathlib.Core.Path.{_≡_};
+ghost use Rattle.fields.specs.Field.{out, word, Has, get, put};
+use crate::bits::place_bits;
+use crate::bits::read_bits;
+use crate::page::page_word;
+
+fn out_word(p: u32, i: u32) -> usize
+    ensures { λ r. ⌜ r ≡ word (out p i) ⌝ }
+{
+    page_word(p, 16 + (i / 32) as usize)
+}
+
+pub fn bit(meta: &[u32], p: u32, i: u32) -> u32
+    requires { ⌜ Has (now meta) (out p i) ⌝ }
+    ensures { λ r. ⌜ r ≡ get (now (meta .entry)) (out p i) ⌝ }
+{
+    read_bits(meta[out_word(p, i)], i % 32, 1)
+}
+
+pub fn set_bit(meta: &mut [u32], p: u32, i: u32, v: u32)
+    requires { ⌜ Has (now meta) (out p i) ⌝ }
+    ensures { λ _. ⌜ now (meta .exit) ≡ put (now (meta .entry)) (out p i) v ⌝ }
+{
+    let at = out_word(p, i);
+    meta[at] = place_bits(meta[at], i % 32, 1, v);
+}

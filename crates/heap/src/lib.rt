@@ -1,0 +1,1 @@
+// Takes and releases on the words: each call is planned, with every test, and then done.

@@ -1,0 +1,213 @@
+-- Demand 3, first half: a class's answers and the runs that it was given determine each other. Assumes nothing.
+-- A class by itself is its calls and what it is given (`replay`); a history shows each class nothing else.
+use Prim.Native.Nat.{ℕ}
+use mathlib.Core.Path.{_≡_, refl, sym, ap, _∙_, subst, ap₂}
+use mathlib.Core.List.{List, [], _∷_, map, head-eq-of-cons-eq, tail-eq-of-cons-eq}
+use mathlib.Core.Option.{Option, none, some}
+use mathlib.Core.Bool.{Bool, true, false, cond, false≢true}
+use mathlib.Core.Logic.{_↔_}
+use borrow.Author.Tests.{eqb-true}
+use Rattle.classes.specs.declared.Shape.{Shape}
+use Rattle.classes.specs.Shape.{shapeOf}
+use Rattle.classes.specs.Sound.{Sound}
+use Rattle.classes.proofs.Shapes.{shape-sound}
+use Rattle.model.specs.Calls as Calls
+use Rattle.model.specs.Calls.{Call, Answer, Request, Named, names, hostOf}
+use Rattle.model.specs.Page.{Page}
+use Rattle.model.specs.Class.{Class, Cold, Result, Ask, done, asks, serve, refuse, takeFrom}
+use Rattle.model.specs.Release.{Site, onPage, releaseList}
+use Rattle.model.specs.Chunks.{releaseChunks, answer}
+use Rattle.model.specs.Heap.{Heap, Outcome, step, route, classCall, interact, directCall, finish, offer, newHeap, runWith, asked, commitCall, growCall, releaseCall}
+use Rattle.model.specs.History.{Event, eventOf, eventsFrom, events, callsOf, answersOf, runsOf, isOf}
+use Rattle.model.proofs.Counts.{by-cases}
+use Rattle.model.proofs.Update.{update-same, update-other}
+use Rattle.model.proofs.NewRun.{Tells, run-tells}
+
+-- a request of a class is done, or asks for one of its runs and tells in its answer which it was given
+data Shows (sh : Shape) : Ask → Type 0 where
+  is-done : {r : Result} → Shows sh (done r)
+  is-asked : {k : Option ℕ → Result} → Tells k → Shows sh (asks (sh .pages) k)
+
+shows-cond : (sh : Shape) (b : Bool) (x y : Ask) → Shows sh x → Shows sh y → Shows sh (cond b x y)
+shows-cond sh true x y p q = p
+shows-cond sh false x y p q = q
+
+module _ (sh : Shape) (ok : Sound sh) where
+  take-shows : (l : List ℕ) (ps es : List Page) (cs : List Cold) (fs : List Page) → Shows sh (takeFrom sh l ps es cs fs)
+  unfolding takeFrom
+  take-shows l (p ∷ ps) es cs fs = is-done
+  take-shows l [] (e ∷ es) cs fs = is-done
+  take-shows l [] [] (c ∷ cs) fs = is-done
+  take-shows l [] [] [] fs = is-asked (run-tells sh ok l fs)
+
+  page-shows : (h : ℕ) (s : Class) (ws : List ℕ) (x : Option Site) → Shows sh (onPage sh h s ws x)
+  unfolding onPage
+  page-shows h s ws none = is-done
+  page-shows h s ws (some x) = search (shows-cond, is-done)
+
+  answer-shows : (s : Class) (r : Request) → Shows sh (answer sh s r)
+  unfolding answer releaseList releaseChunks
+  answer-shows s (Calls.take h l) = search (shows-cond, is-done, take-shows)
+  answer-shows s (Calls.giveBack h ws) = search (shows-cond, is-done, page-shows)
+  answer-shows s (Calls.giveChunks h ws gs fs) = search (shows-cond, is-done) depth 9
+
+-- a call that does not ask is given none
+abbrev Fits : Ask → Option ℕ → Type 0
+Fits (done r) g = g ≡ none
+Fits (asks n k) g = Unit {0}
+
+serve-tells : {sh : Shape} {q : Ask} (g g′ : Option ℕ) → Shows sh q → Fits q g → Fits q g′ → serve q g .answer ≡ serve q g′ .answer → g ≡ g′
+serve-tells g g′ is-done f f′ e = f ∙ sym f′
+serve-tells g g′ (is-asked s) f f′ e = s g g′ e
+
+-- a class by itself: its calls and what it is given
+abbrev ask : ℕ → Class → Option Named → Ask
+ask c s none = refuse s 4
+ask c s (some d) = answer (shapeOf c) s (d .request)
+
+abbrev reply : ℕ → Class → Call → Option ℕ → Result
+reply c s x g = serve (ask c s (names x)) g
+
+abbrev replay : ℕ → Class → List Call → List (Option ℕ) → List Answer
+replay c s [] gs = []
+replay c s (x ∷ xs) [] = []
+replay c s (x ∷ xs) (g ∷ gs) = reply c s x g .answer ∷ replay c (reply c s x g .class) xs gs
+
+-- one gift for each call, and none to a call that does not ask
+abbrev AllFit : ℕ → Class → List Call → List (Option ℕ) → Type 0
+AllFit c s [] gs = gs ≡ []
+AllFit c s (x ∷ xs) [] = ⊥
+AllFit c s (x ∷ xs) (g ∷ gs) = Fits (ask c s (names x)) g × AllFit c (reply c s x g .class) xs gs
+
+ask-shows : (c : ℕ) (s : Class) (d : Option Named) → Shows (shapeOf c) (ask c s d)
+ask-shows c s none = is-done
+ask-shows c s (some d) = answer-shows (shapeOf c) (shape-sound c) s (d .request)
+
+-- from answers to gifts
+replay-tells : (c : ℕ) (s : Class) (xs : List Call) (gs gs′ : List (Option ℕ)) → AllFit c s xs gs → AllFit c s xs gs′ → replay c s xs gs ≡ replay c s xs gs′ → gs ≡ gs′
+replay-tells c s [] gs gs′ f f′ e = f ∙ sym f′
+replay-tells c s (x ∷ xs) [] gs′ f f′ e = absurd f
+replay-tells c s (x ∷ xs) (g ∷ gs) [] f f′ e = absurd f′
+replay-tells c s (x ∷ xs) (g ∷ gs) (g′ ∷ gs′) f f′ e =
+    let same : g ≡ g′ = serve-tells g g′ (ask-shows c s (names x)) (f .0) (f′ .0) (head-eq-of-cons-eq e) in
+    let rest = subst (λ z. AllFit c (reply c s x z .class) xs gs′ → replay c (reply c s x g .class) xs gs ≡ replay c (reply c s x z .class) xs gs′ → gs ≡ gs′)
+    same (replay-tells c (reply c s x g .class) xs gs gs′ (f .1)) in
+    ap₂ _∷_ same (rest (f′ .1) (tail-eq-of-cons-eq e))
+
+-- a call that names no class leaves all classes
+pub record Keeps (C : ℕ → Class) (o : Outcome) : Type 0 where
+  pub kept : o .heap .classes ≡ C
+
+keeps-cond : (C : ℕ → Class) (b : Bool) (x y : Outcome) → Keeps C x → Keeps C y → Keeps C (cond b x y)
+keeps-cond C true x y p q = p
+keeps-cond C false x y p q = q
+
+pub direct-keeps : (size : ℕ) (H : Heap) (x : Call) → Keeps (H .classes) (directCall size H x)
+unfolding directCall commitCall growCall releaseCall
+direct-keeps size H (Calls.takeBlocks c h l) = search
+direct-keeps size H (Calls.mediumTakeBlocks c h l) = search
+direct-keeps size H (Calls.releaseBlocks c h ws) = search
+direct-keeps size H (Calls.mediumReleaseBlocks c h ws) = search
+direct-keeps size H (Calls.releaseBinChunks c h ws gs fs) = search
+direct-keeps size H (Calls.commit h n) = search keeps-cond
+direct-keeps size H (Calls.growFrontier h q old new) = search keeps-cond
+direct-keeps size H (Calls.release h q n) = search keeps-cond
+direct-keeps size H (Calls.contains o b) = search
+direct-keeps size H Calls.report = search
+
+-- a call of class c: what it was given, and what it made of it
+record Own (c : ℕ) (o : Outcome) (q : Ask) : Type 0 where
+  gift : Option ℕ
+  run : o .run ≡ runWith (shapeOf c .pages) gift
+  class : o .heap .classes c ≡ serve q gift .class
+  answer : o .answer ≡ serve q gift .answer
+  fits : Fits q gift
+
+asked-pages : {sh : Shape} {q : Ask} (g : Option ℕ) → Shows sh q → Fits q g → runWith (asked q) g ≡ runWith (sh .pages) g
+asked-pages g is-done f = rw f
+asked-pages g (is-asked t) f = refl
+
+offer-fits : (size h : ℕ) (H : Heap) (q : Ask) → Fits q (offer size h (H .arena) q .run)
+unfolding offer
+offer-fits size h H (done r) = refl
+offer-fits size h H (asks n k) = tt
+
+module _ (size : ℕ) (H : Heap) where
+  other : (c : ℕ) (x : Call) (d : Option Named) → isOf c d ≡ false → route size H x d .heap .classes c ≡ H .classes c
+  unfolding classCall interact finish
+  other c x none e = ap (λ f. f c) (direct-keeps size H x .kept)
+  other c x (some d) e = update-other (H .classes) (d .class) c _ e
+
+  own-call : (c : ℕ) (r : Request) → Own c (classCall size H c r) (answer (shapeOf c) (H .classes c) r)
+  unfolding classCall interact finish
+  own-call c r =
+      let q = answer (shapeOf c) (H .classes c) r in
+      let f = offer-fits size (hostOf r) H q in
+      record {
+        gift = offer size (hostOf r) (H .arena) q .run;
+        run = asked-pages (offer size (hostOf r) (H .arena) q .run) (answer-shows (shapeOf c) (shape-sound c) (H .classes c) r) f;
+        class = update-same (H .classes) c _;
+        answer = refl;
+        fits = f;
+      }
+
+  own : (c : ℕ) (x : Call) (d : Option Named) → isOf c d ≡ true → Own c (route size H x d) (ask c (H .classes c) d)
+  own c x none e = absurd (false≢true e)
+  own c x (some d) e =
+      subst (λ k. Own c (classCall size H k (d .request)) (answer (shapeOf c) (H .classes c) (d .request))) (sym (eqb-true (d .class) c e)) (own-call c (d .request))
+
+-- a class's answers are a replay of its calls with what it was given
+record Replayed (c : ℕ) (s : Class) (xs : List Call) (es : List Event) : Type 0 where
+  gifts : List (Option ℕ)
+  runs : runsOf c es ≡ map (runWith (shapeOf c .pages)) gifts
+  answers : answersOf c es ≡ replay c s (callsOf c xs) gifts
+  fit : AllFit c s (callsOf c xs) gifts
+
+module _ (c : ℕ) (s : Class) (x : Call) (xs : List Call) (o : Outcome) (es : List Event) (ih : Replayed c (o .heap .classes c) xs es) where
+  replayed-own : isOf c (names x) ≡ true → Own c o (ask c s (names x)) → Replayed c s (x ∷ xs) (eventOf x o ∷ es)
+  replayed-own e own = record {
+    gifts = own .gift ∷ ih .gifts;
+    runs = rw e (ap₂ _∷_ (own .run) (ih .runs));
+    answers = rw e (ap₂ _∷_ (own .answer) (ih .answers ∙ ap (λ z. replay c z (callsOf c xs) (ih .gifts)) (own .class)));
+    fit = rw e (own .fits, subst (λ z. AllFit c z (callsOf c xs) (ih .gifts)) (own .class) (ih .fit));
+  }
+
+  replayed-other : isOf c (names x) ≡ false → o .heap .classes c ≡ s → Replayed c s (x ∷ xs) (eventOf x o ∷ es)
+  replayed-other e kept = record {
+    gifts = ih .gifts;
+    runs = rw e (ih .runs);
+    answers = rw e (rw kept at (ih .answers));
+    fit = rw e (rw kept at (ih .fit));
+  }
+
+replayed : (size c : ℕ) (H : Heap) (xs : List Call) → Replayed c (H .classes c) xs (eventsFrom size H xs)
+unfolding step
+replayed size c H [] = record { gifts = []; runs = refl; answers = refl; fit = refl }
+replayed size c H (x ∷ xs) =
+    let ih = replayed size c (step size H x .heap) xs in
+    by-cases (isOf c (names x))
+    (λ e. replayed-own c (H .classes c) x xs (step size H x) _ ih e (own size H c x (names x) e))
+    (λ e. replayed-other c (H .classes c) x xs (step size H x) _ ih e (other size H c x (names x) e))
+
+-- from runs to gifts
+run-first : (n : ℕ) (g g′ : Option ℕ) → runWith n g ≡ runWith n g′ → g ≡ g′
+run-first n none none e = refl
+run-first n none (some q) e = cc
+run-first n (some q) none e = cc
+run-first n (some q) (some q′) e = ap some (ap (λ o. elim o [ none ↦ q | some h ↦ h .first ]) e)
+
+runs-first : (n : ℕ) (gs gs′ : List (Option ℕ)) → map (runWith n) gs ≡ map (runWith n) gs′ → gs ≡ gs′
+runs-first n [] [] e = refl
+runs-first n [] (g ∷ gs) e = cc
+runs-first n (g ∷ gs) [] e = cc
+runs-first n (g ∷ gs) (g′ ∷ gs′) e = ap₂ _∷_ (run-first n g g′ (head-eq-of-cons-eq e)) (runs-first n gs gs′ (tail-eq-of-cons-eq e))
+
+-- The two arenas need not have one length.
+pub alone : (size₁ size₂ c : ℕ) (xs ys : List Call) → callsOf c xs ≡ callsOf c ys
+    → (answersOf c (events size₁ xs) ≡ answersOf c (events size₂ ys)) ↔ (runsOf c (events size₁ xs) ≡ runsOf c (events size₂ ys))
+alone size₁ size₂ c xs ys same =
+    let a = replayed size₁ c newHeap xs in
+    let b = replayed size₂ c newHeap ys in (
+      (λ e. a .runs ∙ ap (map (runWith (shapeOf c .pages))) (replay-tells c (newHeap .classes c) (callsOf c xs) (a .gifts) (b .gifts) (a .fit) (rw same (b .fit)) (sym (a .answers) ∙ e ∙ rw same (b .answers))) ∙ sym (b .runs)),
+      (λ e. a .answers ∙ rw (same, runs-first (shapeOf c .pages) (a .gifts) (b .gifts) (sym (a .runs) ∙ e ∙ b .runs)) (sym (b .answers))),
+    )

@@ -1,0 +1,84 @@
+-- The idle pages: holes lie below the frontier, and the report's figure counts the pages in holes and at or above the frontier. Assumes nothing.
+use Prim.Native.Nat.{ℕ, zero, suc, _+_, _-_, _≤_}
+use mathlib.Core.Path.{_≡_, refl, sym, _∙_}
+use mathlib.Core.List.{List, [], _∷_}
+use native.Mathlib.Omega.{arith}
+use lib.Dec.{ltb}
+use borrow.Author.Tests.{ltb-true, ltb-false}
+use Rattle.model.specs.declared.Hole.{Hole}
+use Rattle.model.specs.Lists.{All, total, below, covers}
+use Rattle.model.specs.Arena.{Arena}
+use Rattle.model.specs.Heap.{idlePages}
+use Rattle.model.specs.Ledger.{inHoles, above}
+use Rattle.model.proofs.Counts.{by-cases}
+use Rattle.model.proofs.Runs.{covers-in, above-at, above-not, above-cut}
+use Rattle.model.proofs.HoleLists.{all-map}
+use Rattle.model.proofs.Remembers.{Tidy}
+use Rattle.model.proofs.ArenaLaws.{idle}
+
+-- a run with no page at or above the frontier ends there or below
+pub run-below : (n q f : ℕ) → 1 ≤ n → ((x : ℕ) → covers n q x + above f x ≤ 1) → q + n ≤ f
+run-below n q f one k =
+    let x = q + n - 1 in
+    by-cases (ltb x f)
+    (λ e. omega (arith, ltb-true x f e))
+    (λ e. omega (arith, k x, covers-in n q x (omega arith) (omega arith), above-at f x (ltb-false x f e)))
+
+-- no page is idle twice: so every hole lies below the frontier
+abbrev pub HolesBelow : ℕ → List Hole → Type 0
+HolesBelow f hs = All (λ h. h .first + h .pages ≤ f) hs
+
+holesBelow : (f : ℕ) (hs : List Hole) → All (λ h. 1 ≤ h .pages) hs → ((x : ℕ) → total (λ h. covers (h .pages) (h .first) x) hs + above f x ≤ 1) → HolesBelow f hs
+holesBelow f [] each k = tt
+holesBelow f (h ∷ hs) each k =
+    (run-below (h .pages) (h .first) f (each .0) (λ x. omega (arith, k x)), holesBelow f hs (each .1) (λ x. omega (arith, k x)))
+
+pub holes-below : (a : Arena) → Tidy (a .store) → ((x : ℕ) → idle x a ≤ 1) → HolesBelow (a .frontier) (a .store .holes)
+holes-below a t k = holesBelow (a .frontier) (a .store .holes) (t .each) k
+
+-- sums over the pages of the arena
+total-plus : {A : Type 0} (f g : A → ℕ) (l : List A) → total (λ x. f x + g x) l ≡ total f l + total g l
+total-plus f g [] = omega arith
+total-plus f g (x ∷ l) = let ih = total-plus f g l in omega arith
+
+total-same : {A : Type 0} (f g : A → ℕ) (l : List A) → ((x : A) → f x ≡ g x) → total f l ≡ total g l
+total-same f g [] e = refl
+total-same f g (x ∷ l) e = omega (arith, e x, total-same f g l e)
+
+above-total : (f size : ℕ) → total (above f) (below size) ≡ size - f
+above-total f zero = omega arith
+above-total f (suc s) =
+    let ih = above-total f s in
+    by-cases (ltb s f)
+    (λ e. omega (arith, above-not f s (ltb-true s f e), ltb-true s f e))
+    (λ e. omega (arith, above-at f s (ltb-false s f e), ltb-false s f e))
+
+covers-total : (n q size : ℕ) → q + n ≤ size → total (covers n q) (below size) ≡ n
+covers-total n q size l =
+    let both = sym (total-plus (covers n q) (above (q + n)) (below size)) ∙ total-same (λ x. covers n q x + above (q + n) x) (above q) (below size) (above-cut n q) in
+    omega (arith, both, above-total q size, above-total (q + n) size)
+
+holes-total : (size : ℕ) (hs : List Hole) → HolesBelow size hs → total (λ x. total (λ h. covers (h .pages) (h .first) x) hs) (below size) ≡ total (λ h. h .pages) hs
+holes-total size [] k = zeros (below size)
+  where
+    zeros : (l : List ℕ) → total (λ x. 0) l ≡ 0
+    zeros [] = refl
+    zeros (x ∷ l) = let ih = zeros l in omega arith
+holes-total size (h ∷ hs) k =
+    omega (
+      arith,
+      total-plus (covers (h .pages) (h .first)) (λ x. total (λ g. covers (g .pages) (g .first) x) hs) (below size),
+      covers-total (h .pages) (h .first) size (k .0),
+      holes-total size hs (k .1),
+    )
+
+pub idle-figure : (size : ℕ) (a : Arena) → Tidy (a .store) → a .frontier ≤ size → ((x : ℕ) → idle x a ≤ 1) → idlePages size a ≡ total (λ x. idle x a) (below size)
+idle-figure size a t l k =
+    let low = all-map (λ h. h .first + h .pages ≤ a .frontier) (λ h. h .first + h .pages ≤ size) (λ h b. omega arith) (a .store .holes) (holes-below a t k) in
+    omega (
+      arith,
+      t .sum,
+      total-plus (λ x. inHoles x a) (above (a .frontier)) (below size),
+      above-total (a .frontier) size,
+      holes-total size (a .store .holes) low,
+    )

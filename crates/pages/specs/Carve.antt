@@ -1,0 +1,30 @@
+-- Carving a run, and a new run from the arena. Assumes nothing.
+use Prim.Native.Nat.{ℕ, zero, suc, _+_, _*_, _/_}
+use mathlib.Core.Bool.{Bool, true, false, cond}
+use mathlib.Core.List.{List}
+use lib.ListN.{set}
+use Rattle.classes.specs.declared.Shape.{Shape}
+use Rattle.fields.specs.Field.{page, free, carved, listed, virgin, out, word, put}
+use Rattle.model.specs.Page.{isMedium}
+use Rattle.pages.specs.Runs.{flag, nameRun}
+use Rattle.pages.specs.Stack.{downs, push}
+
+-- how many blocks carving links at once: a span's all, a small page's none
+abbrev pub stocked : Shape → ℕ
+stocked sh = cond (isMedium sh) (sh .capacity) 0
+
+unfoldable pub carveAnew : List ℕ → Shape → ℕ → Bool → List ℕ
+carveAnew b sh q v =
+    put (put (put (push b q 0 (downs 0 (stocked sh))) (page virgin q) (flag v)) (page carved q) (stocked sh)) (page free q) (stocked sh)
+
+-- the out bits of blocks below the capacity are cleared, k whole words of them
+unfoldable pub clearOut : List ℕ → ℕ → ℕ → List ℕ
+clearOut b q zero = b
+clearOut b q (suc k) = set (clearOut b q k) (word (out q (32 * k))) 0
+
+abbrev pub outWords : Shape → ℕ
+outWords sh = (sh .capacity + 31) / 32
+
+-- a run that the arena gave: it names its first page, no block is out, it is in no list, and it is carved
+unfoldable pub newRun : List ℕ → Shape → ℕ → List ℕ
+newRun b sh q = carveAnew (put (clearOut (nameRun b q q (sh .pages)) q (outWords sh)) (page listed q) 0) sh q true

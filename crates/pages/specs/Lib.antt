@@ -1,0 +1,4 @@
+pub mod Runs
+pub mod Stack
+pub mod Links
+pub mod Carve

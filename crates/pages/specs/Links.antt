@@ -1,0 +1,59 @@
+-- A class's lists of pages. A page is stored as its code, page + 1, and 0 is none. Assumes nothing.
+--     link, unlink     into the partial list at its head, and out of it, wherever the page stands
+--     stow, unstow     onto the empty or the cold store, and the newest page off it
+use Prim.Native.Nat.{ℕ, zero, suc, _+_, _-_}
+use mathlib.Core.List.{List}
+use Rattle.fields.specs.Field.{PageField, ClassField, class, page, partial, empty, emptyCount, cold, coldCount, next, prev, listed, get, put}
+
+-- a write where there is a page; a write to what points forward to a place: the page before it, or else the class
+abbrev pub putAt : List ℕ → PageField → ℕ → ℕ → List ℕ
+putAt b k zero v = b
+putAt b k (suc q) v = put b (page k q) v
+
+abbrev pub pointNext : List ℕ → ℕ → ℕ → ℕ → List ℕ
+pointNext b c zero v = put b (class partial c) v
+pointNext b c (suc q) v = put b (page next q) v
+
+unfoldable pub linked : List ℕ → ℕ → ℕ → List ℕ
+linked b c q =
+    put (putAt (put (put b (page next q) (get b (class partial c))) (page prev q) 0) prev (get b (class partial c)) (q + 1)) (class partial c) (q + 1)
+
+-- page q, whose neighbours are stored as x behind it and y before it, is cut out
+unfoldable pub cutOut : List ℕ → ℕ → ℕ → ℕ → ℕ → List ℕ
+cutOut b c q x y = put (put (putAt (pointNext b c y x) prev x y) (page next q) 0) (page prev q) 0
+
+abbrev pub unlinked : List ℕ → ℕ → ℕ → List ℕ
+unlinked b c q = cutOut b c q (get b (page next q)) (get b (page prev q))
+
+unfoldable pub link : List ℕ → ℕ → ℕ → List ℕ
+link b c q = put (linked b c q) (page listed q) 1
+
+unfoldable pub unlink : List ℕ → ℕ → ℕ → List ℕ
+unlink b c q = put (unlinked b c q) (page listed q) 0
+
+-- the two stores, by one definition: the field of the newest page's code, and that of the count
+pub data Park : Type 0 where
+  emptyPages coldPages : Park
+
+abbrev pub other : Park → Park
+other emptyPages = coldPages
+other coldPages = emptyPages
+
+abbrev pub top : Park → ClassField
+top emptyPages = empty
+top coldPages = cold
+
+abbrev pub tally : Park → ClassField
+tally emptyPages = emptyCount
+tally coldPages = coldCount
+
+unfoldable pub unstow : List ℕ → ℕ → Park → ℕ → List ℕ
+unstow b c k q = put (put b (class (top k) c) (get b (page next q))) (class (tally k) c) (get b (class (tally k) c) - 1)
+
+unfoldable pub stow : List ℕ → ℕ → Park → ℕ → List ℕ
+stow b c k q =
+    put (put (put b (page next q) (get b (class (top k) c))) (class (top k) c) (q + 1)) (class (tally k) c) (get b (class (tally k) c) + 1)
+
+-- a page of a store heads the partial list
+abbrev pub wake : List ℕ → ℕ → Park → ℕ → List ℕ
+wake b c k q = link (unstow b c k q) c q

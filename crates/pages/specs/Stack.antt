@@ -1,0 +1,55 @@
+-- The stack of a page's free blocks, its out bits, and what it gives and takes back. Blocks are indices here. Assumes nothing.
+--     marked    the out bit of block i, 0 at and above the capacity
+--     tops      the top n entries of a stack whose top stands below t, the topmost first
+--     marks     the out bits of the listed blocks set to v, the list's last first
+--     latest    the blocks that a page gives when n are wanted, the latest first: free ones first, then new ones, lowest first
+--     draw      the page after it gave them
+--     push      blocks laid on a stack whose top stands below t, the list's first on top
+--     back      the page after the listed blocks came back
+use Prim.Native.Nat.{ℕ, zero, suc, _+_, _-_, min}
+use mathlib.Core.Bool.{Bool, true, false, cond, not, _||_}
+use mathlib.Core.List.{List, [], _∷_, _++_, reverse}
+use lib.Dec.{eqb, ltb}
+use lib.ListN.{length}
+use Rattle.classes.specs.declared.Shape.{Shape}
+use Rattle.fields.specs.Field.{page, slot, out, free, carved, virgin, get, put}
+
+unfoldable pub marked : List ℕ → Shape → ℕ → ℕ → ℕ
+marked b sh q i = cond (ltb i (sh .capacity)) (get b (out q i)) 0
+
+abbrev pub tops : List ℕ → ℕ → ℕ → ℕ → List ℕ
+tops b q zero t = []
+tops b q (suc n) zero = []
+tops b q (suc n) (suc t) = get b (slot q t) ∷ tops b q n t
+
+-- a + k - 1 down to a
+abbrev pub downs : ℕ → ℕ → List ℕ
+downs a zero = []
+downs a (suc k) = (a + k) ∷ downs a k
+
+abbrev pub marks : List ℕ → ℕ → ℕ → List ℕ → List ℕ
+marks b q v [] = b
+marks b q v (i ∷ is) = put (marks b q v is) (out q i) v
+
+-- how many blocks are carved when n are wanted
+abbrev pub carvedNow : List ℕ → Shape → ℕ → ℕ → ℕ
+carvedNow b sh q n = min (n - get b (page free q)) (sh .capacity - get b (page carved q))
+
+unfoldable pub latest : List ℕ → Shape → ℕ → ℕ → List ℕ
+latest b sh q n = downs (get b (page carved q)) (carvedNow b sh q n) ++ reverse (tops b q n (get b (page free q)))
+
+unfoldable pub draw : List ℕ → Shape → ℕ → ℕ → List ℕ
+draw b sh q n =
+    put (put (marks b q 1 (latest b sh q n)) (page free q) (get b (page free q) - n)) (page carved q) (get b (page carved q) + carvedNow b sh q n)
+
+-- can the page give a block
+unfoldable pub hasMore : List ℕ → Shape → ℕ → Bool
+hasMore b sh q = not (eqb (get b (page free q)) 0) || ltb (get b (page carved q)) (sh .capacity)
+
+abbrev pub push : List ℕ → ℕ → ℕ → List ℕ → List ℕ
+push b q t [] = b
+push b q t (i ∷ is) = put (push b q t is) (slot q (t + length is)) i
+
+unfoldable pub back : List ℕ → ℕ → List ℕ → List ℕ
+back b q is =
+    put (put (push (marks b q 0 is) q (get b (page free q)) is) (page virgin q) 0) (page free q) (get b (page free q) + length is)

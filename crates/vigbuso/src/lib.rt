@@ -1,0 +1,2 @@
+// The exported C functions. Numbers and slices only; each is thin over a proved function.
+mod lookup;
