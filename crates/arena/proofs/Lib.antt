@@ -1,3 +1,6 @@
+-- What the proofs of several functions use, and the laws of storing that the crates above use.
+mod Big
+mod Least
 pub mod StoreLaws
 pub mod Choice
 pub mod Frames

@@ -1,0 +1,75 @@
+// The hole store, lent as a slice of holes: read, stored to, and scanned for the least length that is enough.
+use model::Hole;
+ghost use mathlib.Core.Path.{_≡_};
+ghost use Prim.Native.Nat.{_+_, _*_, _<_, _≤_, _^_};
+ghost use lib.ListN.{length, getD, set, take};
+ghost use Rattle.model.specs.HoleStore.{leastFit};
+ghost use Rattle.arena.specs.Scan.{noHole, betterOf, bestAt, bestOf};
+
+pub fn hole_at(holes: &[Hole], i: usize) -> Hole
+    requires { ⌜ i < length (now holes) ⌝ }
+    ensures { λ r. ⌜ r ≡ getD (now (holes .entry)) i noHole ⌝ }
+{
+    holes[i]
+}
+
+pub fn put_hole(holes: &mut [Hole], i: usize, h: Hole)
+    requires { ⌜ i < length (now holes) ⌝ }
+    ensures { λ _. ⌜ now (holes .exit) ≡ set (now (holes .entry)) i h ⌝ }
+{
+    holes[i] = h;
+}
+
+// What a scan finds: the index and one, or 0 for none, and the length.
+pub struct Best {
+    pub code: u32,
+    pub pages: u32,
+}
+
+// The key of the hole at `i`, of so many pages, where that is enough and the key is less; else the best key before it.
+// A key has the pages in its upper half and the index in its lower one, so the least key is the lowest index of the least length.
+fn better(need: u32, i: u32, pages: u32, best: u64) -> u64
+    ensures { λ r. ⌜ r ≡ betterOf need i pages best ⌝ }
+{
+    if pages < need {
+        return best;
+    }
+    let key = (pages as u64) * 4_294_967_296 + (i as u64);
+    if key < best { key } else { best }
+}
+
+// What a key says; the greatest number is the key of none.
+fn best_at(key: u64) -> Best
+    ensures { λ r. ⌜ r ≡ bestAt key ⌝ }
+{
+    if key == 18_446_744_073_709_551_615 {
+        return Best { code: 0, pages: 0 };
+    }
+    Best {
+        code: ((key + 1) % 4_294_967_296) as u32,
+        pages: (key / 4_294_967_296) as u32,
+    }
+}
+
+// The hole at `i` is read, and set against the best so far.
+fn weigh(holes: &[Hole], need: u32, i: u32, best: u64) -> u64
+    requires { ⌜ i < length (now holes) ⌝ }
+    ensures { λ r. ⌜ (r ≡ betterOf need i (getD (now (holes .entry)) i noHole .pages) best) × (getD (now (holes .entry)) i noHole .pages < 2 ^ 32) ⌝ }
+{
+    let h = hole_at(holes, i as usize);
+    better(need, i, h.pages, best)
+}
+
+// The lowest index of the least length that is enough, of the first `count` holes. The last hole is weighed first.
+pub fn scan(holes: &[Hole], count: u32, need: u32) -> Best
+    requires { ⌜ count ≤ length (now holes) ⌝ }
+    ensures { λ r. ⌜ r ≡ bestOf (leastFit need (take count (now (holes .entry)))) ⌝ }
+{
+    let mut best: u64 = 18_446_744_073_709_551_615;
+    let mut i = count;
+    while 0 < i {
+        i -= 1;
+        best = weigh(holes, need, i, best);
+    }
+    best_at(best)
+}
