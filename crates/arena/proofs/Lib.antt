@@ -1,4 +1,9 @@
--- What the proofs of several functions use.
+-- What the proofs of several functions use, and the laws of storing that the crates above use.
 mod Big
 mod Least
 mod Loading
+pub mod StoreLaws
+pub mod Choice
+pub mod Frames
+pub mod Acts
+pub mod Plans

@@ -6,5 +6,6 @@ pub mod Owners
 pub mod Plan
 pub mod Scan
 pub mod Calls
+pub mod Act
 pub mod Open
 pub mod Represents

@@ -1,0 +1,85 @@
+-- What the arena's stores and the owners' writes leave as it was. Assumes nothing.
+use Prim.Native.Nat.{ℕ, zero, suc, _+_, _-_, _≤_, _<_}
+use native.Mathlib.Omega.{arith}
+use mathlib.Core.Bool.{Bool, true, false, _&&_}
+use mathlib.Core.List.{List, [], _∷_}
+use mathlib.Core.Path.{_≡_, refl, sym, ap, _∙_}
+use lib.Dec.{eqb, ltb, leb}
+use lib.ListN.{length}
+use borrow.Author.Tests.{lt-ltb, ne-eqb, leb-true, le-leb}
+use Rattle.fields.specs.Field.{Field, arena, memory, class, hole, page, out, slot, ArenaField, state, frontier, holes, holePages, commits, commitsHigh, reuses, reusesHigh, abandoned, abandonedHigh, held, start, pages, owner, arenaOff, pageOff, get, put, ok, words}
+use Rattle.fields.proofs.Laws.{put-put-same, put-comm, length-put}
+use Rattle.fields.proofs.Changes.{Changes, changes-none, changes-put}
+use Rattle.model.specs.declared.Hole.{Hole}
+use Rattle.model.specs.HoleStore.{Memory}
+use Rattle.model.specs.Arena.{Arena}
+use Rattle.arena.specs.Load.{statusCode, indexCode}
+use Rattle.arena.specs.Store.{storeHole, storeHoles, storeMemory, memoryWords, storeCounts, storeTop, storeStore, storeArena}
+use Rattle.arena.specs.Owners.{own}
+
+-- the words that hold the arena: all of its record but the length and HELD, the memory, the holes
+abbrev pub isStored : Field → Bool
+isStored (arena k) = ltb 0 (arenaOff k) && ltb (arenaOff k) 11
+isStored (memory m) = true
+isStored (class k c) = false
+isStored (hole k i) = true
+isStored (page k p) = false
+isStored (out p i) = false
+isStored (slot p i) = false
+
+module _ (b : List ℕ) where
+  holes-change : (i : ℕ) (hs : List Hole) → i + length hs ≤ 4096 → Changes isStored b (storeHoles b i hs)
+  unfolding storeHoles
+  holes-change i [] l = changes-none isStored b
+  holes-change i (h ∷ hs) l =
+      let o : ltb i 4096 ≡ true = lt-ltb i 4096 (omega arith) in
+      changes-put isStored b _ (hole pages i) (h .pages) o refl (changes-put isStored b _ (hole start i) (h .first) o refl (holes-change (suc i) hs (omega arith)))
+
+  memory-changes : (x : List ℕ) (f : Memory) (m : ℕ) → m ≤ 129 → Changes isStored b x → Changes isStored b (storeMemory x f m)
+  unfolding storeMemory
+  memory-changes x f zero l k = k
+  memory-changes x f (suc m) l k = changes-put isStored b _ (memory m) _ (lt-ltb m 129 (omega arith)) refl (memory-changes x f m (omega arith) k)
+
+  changed : (k : ArenaField) → isStored (arena k) ≡ true → (x : List ℕ) (v : ℕ) → Changes isStored b x → Changes isStored b (put x (arena k) v)
+  changed k t x v h = changes-put isStored b x (arena k) v refl t h
+
+  pub record-changes : (x : List ℕ) (c r a s f k t : ℕ) → Changes isStored b x → Changes isStored b (storeTop (storeCounts x c r a) s f k t)
+  unfolding storeTop storeCounts
+  record-changes x c r a s f k t h =
+      changed holePages refl _ _ (changed holes refl _ _ (changed frontier refl _ _ (changed state refl _ _
+      (changed abandonedHigh refl _ _ (changed abandoned refl _ _ (changed reusesHigh refl _ _ (changed reuses refl _ _ (changed commitsHigh refl _ _ (changed commits refl _ _ h)))))))))
+
+  pub arena-changes : (a : Arena) → length (a .store .holes) ≤ 4096 → Changes isStored b (storeArena b a)
+  unfolding storeArena storeStore memoryWords
+  arena-changes a l = record-changes _ _ _ _ _ _ _ _ (memory-changes _ (a .store .memory) 129 (omega arith) (holes-change 0 (a .store .holes) (omega arith)))
+
+-- ---- owners
+abbrev pub isOwner : Field → Bool
+isOwner (arena k) = false
+isOwner (memory m) = false
+isOwner (class k c) = false
+isOwner (hole k i) = false
+isOwner (page k p) = eqb (pageOff k) 0
+isOwner (out p i) = false
+isOwner (slot p i) = false
+
+pub own-changes : (b x : List ℕ) (q m w : ℕ) → Changes isOwner b x → Changes isOwner b (own x q m w)
+unfolding own
+own-changes b x q zero w k = k
+own-changes b x q (suc m) w k = own-changes b (put x (page owner q) w) (suc q) m w (changes-put isOwner b x (page owner q) w refl refl k)
+
+-- an owner written before later pages' owners, or after
+own-past : (b : List ℕ) (p w q m v : ℕ) → p < q → own (put b (page owner p) w) q m v ≡ put (own b q m v) (page owner p) w
+unfolding own
+own-past b p w q zero v l = refl
+own-past b p w q (suc m) v l =
+    ap (λ x. own x (suc q) m v) (put-comm b (page owner p) (page owner q) w v refl refl (ne-eqb p q (λ e. omega arith)))
+    ∙ own-past (put b (page owner q) v) p w (suc q) m v (omega arith)
+
+-- the owner that is written last stays
+pub own-twice : (n : ℕ) (b : List ℕ) → leb (words n) (length b) ≡ true → (q m v w : ℕ) → q + m ≤ n → own (own b q m v) q m w ≡ own b q m w
+unfolding own
+own-twice n b hb q zero v w l = refl
+own-twice n b hb q (suc m) v w l =
+    rw (← (own-past (put b (page owner q) v) q w (suc q) m v (omega arith)), put-put-same n b (page owner q) v w hb (lt-ltb q n (omega arith)))
+    (own-twice n (put b (page owner q) w) (rw length-put hb) (suc q) m v w (omega arith))
