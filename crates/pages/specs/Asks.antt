@@ -1,6 +1,6 @@
 -- What the functions ask of the words: those that they read and write are there, and no sum leaves 32 bits.
 -- A page is there where the book has its words; a stored code is one of a page that is there, or 0. Assumes nothing.
-use Prim.Native.Nat.{ℕ, _+_, _<_, _≤_}
+use Prim.Native.Nat.{ℕ, _+_, _^_, _<_, _≤_}
 use mathlib.Core.List.{List}
 use lib.ListN.{length}
 use Rattle.classes.specs.declared.Shape.{Shape}
@@ -53,6 +53,12 @@ pub record WakeAsks (b : List ℕ) (c : ℕ) (k : Park) (q : ℕ) : Type 0 where
   pub some : 1 ≤ get b (class (tally k) c)
 
 -- ---- runs
+-- the m pages from q on, which may be anything else
+pub record OfRunAsks (b : List ℕ) (c q m : ℕ) : Type 0 where
+  pub known : c < 76
+  pub below : q + m < 2 ^ 32
+  pub there : words (q + m) ≤ length b
+
 pub record WholeAsks (b : List ℕ) (n c : ℕ) : Type 0 where
   pub known : c < 76
   pub long : words n ≤ length b
@@ -62,6 +68,10 @@ pub record RunAsks (b : List ℕ) (q m : ℕ) : Type 0 where
   pub there : words (q + m) ≤ length b
 
 -- ---- carving
+pub record StockAsks (b : List ℕ) (q k : ℕ) : Type 0 where
+  pub few : k ≤ 4096
+  pub there : words (q + 1) ≤ length b
+
 pub record CarveAsks (b : List ℕ) (sh : Shape) (q : ℕ) : Type 0 where
   pub few : sh .capacity ≤ 4096
   pub there : words (q + 1) ≤ length b
