@@ -6,16 +6,18 @@ use mathlib.Core.Bool.{Bool, true, false, cond}
 use mathlib.Core.List.{List}
 use mathlib.Core.Path.{_≡_, refl, sym, ap, _∙_}
 use lib.Dec.{eqb}
-use lib.ListN.{length, set, length-set}
+use lib.ListN.{length}
 use borrow.Author.Tests.{eq-eqb, ne-eqb}
 use Rattle.classes.specs.declared.Shape.{Shape}
-use Rattle.fields.specs.Field.{page, slot, out, free, carved, virgin, listed, word, get, put}
+use Rattle.fields.specs.Field.{page, slot, free, carved, virgin, listed, put}
+use Rattle.fields.specs.Clear.{clearOut}
 use Rattle.fields.proofs.Laws.{length-put}
+use Rattle.fields.proofs.Clear.{length-clear, clear-more}
 use Rattle.model.specs.Page.{isMedium}
 use Rattle.pages.specs.Runs.{flag, nameRun}
 use Rattle.pages.specs.Stack.{downs, push}
 use Rattle.pages.specs.Asks.{StockAsks, CarveAsks}
-use Rattle.pages.specs.Carve.{stocked, carveAnew, clearOut, outWords, newRun}
+use Rattle.pages.specs.Carve.{stocked, carveAnew, newRun}
 use Rattle.pages.proofs.Downs.{length-downs}
 
 -- ---- blocks laid on the stack
@@ -42,22 +44,33 @@ stock-done b₀ q k b i h v = let e : i ≡ k = omega (arith, v .within) in v .d
 pub record ClearInv (b₀ : List ℕ) (q k : ℕ) (b : List ℕ) (i : ℕ) : Type 0 where
   pub within : i ≤ k
   pub long : length b ≡ length b₀
-  pub done : b ≡ clearOut b₀ q i
+  pub done : b ≡ clearOut b₀ q 0 (32 * i)
 
-pub clear-again : (b₀ : List ℕ) (q k : ℕ) (b : List ℕ) (i at : ℕ) → i < k → ClearInv b₀ q k b i → at ≡ 40000 + 4112 * q + (16 + i) → ClearInv b₀ q k (set b at 0) (i + 1)
+pub clear-start : (b₀ : List ℕ) (q k : ℕ) → ClearInv b₀ q k b₀ 0
 unfolding clearOut
-clear-again b₀ q k b i at h v e =
+clear-start b₀ q k = record { within = omega arith; long = refl; done = refl }
+
+pub clear-again : (b₀ : List ℕ) (q k : ℕ) (b b′ : List ℕ) (i : ℕ) → i < k → ClearInv b₀ q k b i → b′ ≡ clearOut b q (32 * i) 32 → ClearInv b₀ q k b′ (i + 1)
+clear-again b₀ q k b b′ i h v e =
     record {
       within = omega arith;
-      long = length-set b at 0 ∙ v .long;
-      done = rw (v .done, add-one) (ap (λ z. set (clearOut b₀ q i) z 0) place);
+      long = rw e (length-clear 32 q (32 * i) b ∙ v .long);
+      done =
+          e
+          ∙ ap (λ z. clearOut z q (32 * i) 32) (v .done)
+          ∙ ap (λ z. clearOut (clearOut b₀ q 0 (32 * i)) q z 32) (sum (32 * i))
+          ∙ clear-more (32 * i) 32 q 0 b₀
+          ∙ ap (clearOut b₀ q 0) next;
     }
   where
-    place : at ≡ word (out q (32 * i))
-    place = omega arith
+    sum : (x : ℕ) → x ≡ 0 + x
+    sum x = omega arith
 
-pub clear-done : (b₀ : List ℕ) (q k : ℕ) (b : List ℕ) (i : ℕ) → k ≤ i → ClearInv b₀ q k b i → b ≡ clearOut b₀ q k
-clear-done b₀ q k b i h v = let e : i ≡ k = omega (arith, v .within) in v .done ∙ ap (clearOut b₀ q) e
+    next : 32 * i + 32 ≡ 32 * (i + 1)
+    next = omega arith
+
+pub clear-done : (b₀ : List ℕ) (q k : ℕ) (b : List ℕ) (i : ℕ) → k ≤ i → ClearInv b₀ q k b i → b ≡ clearOut b₀ q 0 (32 * k)
+clear-done b₀ q k b i h v = let e : i ≡ k = omega (arith, v .within) in v .done ∙ ap (λ z. clearOut b₀ q 0 (32 * z)) e
 
 -- ---- a run
 pub stocked-all : (sh : Shape) → sh .kind ≡ 2 → sh .capacity ≡ stocked sh
@@ -80,6 +93,6 @@ pub carve-done : (b : List ℕ) (sh : Shape) (q : ℕ) (v : Bool) (k f : ℕ) (b
 unfolding carveAnew
 carve-done b sh q v k f b₁ b₂ b₃ b₄ e e₁ e′ e₂ e₃ e₄ = rw (e₄, e₃, e₂, e₁, e′, e)
 
-pub new-done : (b : List ℕ) (sh : Shape) (q : ℕ) (b₁ b₂ b₃ b₄ : List ℕ) → b₁ ≡ nameRun b q q (sh .pages) → b₂ ≡ clearOut b₁ q ((sh .capacity + 31) / 32) → b₃ ≡ put b₂ (page listed q) 0 → b₄ ≡ carveAnew b₃ sh q true → b₄ ≡ newRun b sh q
+pub new-done : (b : List ℕ) (sh : Shape) (q : ℕ) (b₁ b₂ b₃ b₄ : List ℕ) → b₁ ≡ nameRun b q q (sh .pages) → b₂ ≡ clearOut b₁ q 0 (32 * ((sh .capacity + 31) / 32)) → b₃ ≡ put b₂ (page listed q) 0 → b₄ ≡ carveAnew b₃ sh q true → b₄ ≡ newRun b sh q
 unfolding newRun
 new-done b sh q b₁ b₂ b₃ b₄ e₁ e₂ e₃ e₄ = cc

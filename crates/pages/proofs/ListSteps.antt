@@ -7,17 +7,13 @@ use mathlib.Core.Path.{_≡_, refl, sym, ap, _∙_}
 use lib.Dec.{ltb}
 use lib.ListN.{length}
 use borrow.Author.Tests.{lt-ltb}
-use Rattle.fields.specs.Field.{PageField, ClassField, class, page, partial, next, prev, listed, get, put}
+use Rattle.fields.specs.Field.{ClassField, class, page, partial, next, prev, listed, get, put}
 use Rattle.fields.specs.Outcome.{putAt}
 use Rattle.fields.proofs.Laws.{get-put-other, length-put}
 use Rattle.pages.specs.declared.Park.{Park}
 use Rattle.pages.specs.declared.Park.the-variants.{Empty, Cold}
 use Rattle.pages.specs.Asks.{LinkAsks, WakeAsks}
 use Rattle.pages.specs.Links.{pointNext, linked, cutOut, link, unlink, top, tally, stow, unstow, wake}
-
-pub putAt-some : (b b′ : List ℕ) (k : PageField) (code v : ℕ) → (code ≡ 0 → ⊥) → b′ ≡ put b (page k (code - 1)) v → b′ ≡ putAt b k code v
-putAt-some b b′ k zero v h e = absurd (h refl)
-putAt-some b b′ k (suc q) v h e = rw sub-one at e
 
 pub pointNext-none : (b b′ : List ℕ) (c code v : ℕ) → code ≡ 0 → b′ ≡ put b (class partial c) v → b′ ≡ pointNext b c code v
 pointNext-none b b′ c code v h e = rw h e

@@ -1,11 +1,10 @@
 // Carving a run, and a run that the arena gave.
 ghost use mathlib.Core.Path.{_≡_};
-ghost use Prim.Native.Nat.{_+_, _≤_};
-ghost use lib.ListN.{length};
-ghost use Rattle.fields.specs.Field.{words};
+ghost use Prim.Native.Nat.{_*_};
+ghost use Rattle.fields.specs.Clear.{clearOut};
 ghost use Rattle.pages.specs.Runs.{flag};
 ghost use Rattle.pages.specs.Stack.{downs, push};
-ghost use Rattle.pages.specs.Carve.{stocked, carveAnew, clearOut, newRun};
+ghost use Rattle.pages.specs.Carve.{stocked, carveAnew, newRun};
 ghost use Rattle.pages.specs.Asks.{StockAsks, CarveAsks, ClearAsks, NewAsks};
 use crate::runs::name_run;
 use classes::Shape;
@@ -51,14 +50,14 @@ pub fn carve_anew(meta: &mut [u32], shape: Shape, q: u32, virgin: bool)
     fields::page::set_free(meta, q, k);
 }
 
-// No block is out, in the first k words of out bits.
+// The blocks of the first k words of out bits are not out.
 pub fn clear_out(meta: &mut [u32], q: u32, k: u32)
     requires { ⌜ ClearAsks (now meta) q k ⌝ }
-    ensures { λ _. ⌜ now (meta .exit) ≡ clearOut (now (meta .entry)) q k ⌝ }
+    ensures { λ _. ⌜ now (meta .exit) ≡ clearOut (now (meta .entry)) q 0 (32 * k) ⌝ }
 {
     let mut i = 0;
     while i < k {
-        meta[fields::page::page_word(q, 16 + i as usize)] = 0;
+        fields::out::clear_word(meta, q, i);
         i += 1;
     }
 }

@@ -1,5 +1,4 @@
-use Rattle.pages.specs.Carve.{clearOut}
-use Rattle.pages.proofs.CarveSteps.{ClearInv, clear-again, clear-done}
+use Rattle.pages.proofs.CarveSteps.{ClearInv, clear-start, clear-again, clear-done}
 use Prim.Native.Nat.{_-_}
 use borrow.Author.Needs.{needs}
 use Rattle.pages.proofs.carve.clear_out.Statement.{statement}
@@ -12,5 +11,4 @@ abbrev μ-loop : tie.MeasureT-loop
 μ-loop meta₀ q k i₀ meta i = k - i
 
 pub clear-out-spec : {M : Type 1} → statement M
-unfolding clearOut
-clear-out-spec = tie.close (tie.spec Inv-loop μ-loop (λ c. search needs) (λ c. search needs) (λ c. search needs) (λ c κs. search needs) (λ c. search needs) (λ c. search needs) (λ c. search needs) (λ c. search needs) (λ c. search clear-again) (λ c. search needs) (λ c. search clear-done))
+clear-out-spec = tie.close (tie.spec Inv-loop μ-loop (λ c. search clear-start) (λ c κs. search needs) (λ c. search needs) (λ c. search needs) (λ c. search clear-again) (λ c. search needs) (λ c. search clear-done))

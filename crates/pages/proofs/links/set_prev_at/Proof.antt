@@ -1,4 +1,4 @@
-use Rattle.pages.proofs.ListSteps.{putAt-some}
+use Rattle.fields.proofs.Outcome.{putAt-some}
 use borrow.Author.Needs.{needs}
 use Rattle.pages.proofs.links.set_prev_at.Statement.{statement}
 use Rattle.pages.proofs.links.set_prev_at.Tie as tie
