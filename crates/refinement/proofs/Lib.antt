@@ -1,1 +1,2 @@
 pub mod ArenaStore
+pub mod ArenaFrames
