@@ -1,2 +1,4 @@
 pub mod ArenaStore
 pub mod ArenaFrames
+pub mod ArenaReached
+pub mod ArenaFair
