@@ -2,3 +2,5 @@ pub mod ArenaStore
 pub mod ArenaFrames
 pub mod ArenaReached
 pub mod ArenaFair
+pub mod ArenaHeld
+pub mod ArenaSteps
