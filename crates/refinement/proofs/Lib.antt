@@ -4,3 +4,5 @@ pub mod ArenaReached
 pub mod ArenaFair
 pub mod ArenaHeld
 pub mod ArenaSteps
+pub mod CommitRep
+pub mod GiveRep
