@@ -14,6 +14,7 @@ use borrow.Author.Tests.{ltb-true, ltb-false, leb-true, eqb-true, eqb-false, eq-
 use Rattle.model.specs.Lists.{total, below, inRun, covers, coversRun}
 use Rattle.model.specs.Calls.{Call}
 use Rattle.model.specs.Arena.{Arena, commit, grow, give}
+use Rattle.model.specs.Class.{Class}
 use Rattle.model.specs.Heap.{Heap, Holder, nobody, direct, class, isHeld, passTo, heldPages}
 use Rattle.model.specs.History.{heapAfter}
 use Rattle.model.specs.Ledger.{above, abandons}
@@ -39,12 +40,19 @@ reached-after n xs = record {
   apart = λ x. omega (arith, kept n xs .inv .one x);
 }
 
+-- the arena's part does not look at the classes, so they may be any
+abbrev pub heapOf : Arena → (ℕ → Holder) → (ℕ → Class) → Heap
+heapOf a w cs = record { arena = a; holder = w; classes = cs }
+
 pub not-held : (w : Holder) → isHeld w ≡ 0 → w ≡ nobody
 not-held nobody e = refl
 not-held direct e = absurd (omega arith)
 not-held (class c) e = absurd (omega arith)
 
 module _ (n : ℕ) (H : Heap) (r : Reached n H) where
+  pub reached-classes : (cs : ℕ → Class) → Reached n (heapOf (H .arena) (H .holder) cs)
+  reached-classes cs = record { tidy = r .tidy; bound = r .bound; apart = r .apart }
+
   pub idle-once : (x : ℕ) → idle x (H .arena) ≤ 1
   idle-once x = omega (arith, r .apart x)
 
@@ -71,10 +79,7 @@ total-le f (suc n) h = omega (arith, h n, total-le f n h)
 pub held-le : (n : ℕ) (H : Heap) → Reached n H → heldPages n H ≤ n
 held-le n H r = total-le (λ x. isHeld (H .holder x)) n (λ x. omega (arith, r .apart x))
 
--- ---- steps. A holder takes the pages x with g x not 0
-abbrev pub withPassed : Heap → Arena → Holder → (ℕ → ℕ) → Heap
-withPassed H a who g = record { arena = a; holder = passTo who g (H .holder); classes = H .classes }
-
+-- ---- steps
 takes : (o who : Holder) (i i′ g : ℕ) → isHeld o + i ≤ 1 → i′ + g ≤ i → isHeld who ≤ 1 → isHeld (cond (eqb g 0) o who) + i′ ≤ 1
 takes o who i i′ g a l h = by-cases (eqb g 0) (λ e. rw e (omega arith)) (λ e. let z : g ≡ 0 → ⊥ = eqb-false g 0 e in rw e (omega (arith, z)))
 
@@ -83,8 +88,8 @@ one-held nobody = omega arith
 one-held direct = omega arith
 one-held (class c) = omega arith
 
-module _ (n : ℕ) (H : Heap) (r : Reached n H) (h m : ℕ) (one : 1 ≤ m) (who : Holder) where
-  pub reached-commit : Reached n (withPassed H (commit n h m (H .arena) .arena) who (coversRun m (commit n h m (H .arena) .run)))
+module _ (n : ℕ) (H : Heap) (r : Reached n H) (h m : ℕ) (one : 1 ≤ m) (who : Holder) (cs : ℕ → Class) where
+  pub reached-commit : Reached n (heapOf (commit n h m (H .arena) .arena) (passTo who (coversRun m (commit n h m (H .arena) .run)) (H .holder)) cs)
   reached-commit =
       let g = commit n h m (H .arena) in
       let law = commit-law n h m (H .arena) in
@@ -94,7 +99,7 @@ module _ (n : ℕ) (H : Heap) (r : Reached n H) (h m : ℕ) (one : 1 ≤ m) (who
         apart = λ x. takes (H .holder x) who (idle x (H .arena)) (idle x (g .arena)) (coversRun m (g .run) x) (r .apart x) (omega (arith, law .pages x)) (one-held who);
       }
 
-  pub reached-grow : (e : ℕ) → Reached n (withPassed H (grow n h e m (H .arena) .arena) who (λ x. cond (grow n h e m (H .arena) .grew) (covers m e x) 0))
+  pub reached-grow : (e : ℕ) → Reached n (heapOf (grow n h e m (H .arena) .arena) (passTo who (λ x. cond (grow n h e m (H .arena) .grew) (covers m e x) 0) (H .holder)) cs)
   reached-grow e =
       let g = grow n h e m (H .arena) in
       record {
@@ -107,8 +112,9 @@ gives : (o : Holder) (i i′ g : ℕ) → isHeld o + i ≤ 1 → i′ ≤ i + g 
 gives o i i′ g a l h = by-cases (eqb g 0) (λ e. rw e (let z = eqb-true g 0 e in omega arith)) (λ e. rw e (omega (arith, one-held o)))
 
 -- a run that is held is given
-pub reached-give : (n : ℕ) (H : Heap) → Reached n H → (q m : ℕ) → 1 ≤ m → ((x : ℕ) → covers m q x ≤ isHeld (H .holder x)) → Reached n (withPassed H (give m q (H .arena)) nobody (covers m q))
-reached-give n H r q m one k =
+pub reached-give : (n : ℕ) (H : Heap) → Reached n H → (q m : ℕ) → 1 ≤ m → ((x : ℕ) → covers m q x ≤ isHeld (H .holder x)) → (cs : ℕ → Class)
+    → Reached n (heapOf (give m q (H .arena)) (passTo nobody (covers m q) (H .holder)) cs)
+reached-give n H r q m one k cs =
     record {
       tidy = tidy-give m one q (H .arena) (r .tidy);
       bound = omega (arith, give-frontier m q (H .arena), r .bound);

@@ -24,6 +24,7 @@ use Rattle.arena.specs.Owners.{ownerCode, own}
 use Rattle.arena.specs.Represents.{ArenaRep}
 use Rattle.refinement.proofs.ArenaStore.{isStored, long-kept, load-kept, store-changes, store-written, load-store}
 use Rattle.refinement.proofs.ArenaFrames.{isOwner, own-changes, own-in}
+use Rattle.refinement.proofs.ArenaReached.{heapOf}
 use Rattle.refinement.proofs.ArenaFair.{loads-number}
 use Rattle.refinement.proofs.ArenaHeld.{heldOf}
 
@@ -39,10 +40,10 @@ pub record Stands (n : ℕ) (b : List ℕ) (a : Arena) (w : ℕ → Holder) (f k
 pub rep-stands : (n : ℕ) (b : List ℕ) (H : Heap) → ArenaRep n b H → Stands n b (H .arena) (H .holder) (H .arena .frontier) (heldPages n H)
 rep-stands n b H r = record { long = r .long; length = r .length; loads = r .loads; state = r .state; held = r .held; owners = r .owners }
 
-pub stands-rep : (n : ℕ) (b : List ℕ) (a : Arena) (w : ℕ → Holder) (k : ℕ) (cs : ℕ → Class) → k ≡ heldOf n w → Stands n b a w (a .frontier) k → ArenaRep n b (record { arena = a; holder = w; classes = cs })
+pub stands-rep : (n : ℕ) (b : List ℕ) (a : Arena) (w : ℕ → Holder) (k : ℕ) (cs : ℕ → Class) → k ≡ heldOf n w → Stands n b a w (a .frontier) k → ArenaRep n b (heapOf a w cs)
 stands-rep n b a w k cs e s = record { long = s .long; length = s .length; loads = s .loads; state = s .state; held = s .held ∙ e; owners = s .owners }
 
-pub rep-classes : (n : ℕ) (b : List ℕ) (H : Heap) (cs : ℕ → Class) → ArenaRep n b H → ArenaRep n b (record { arena = H .arena; holder = H .holder; classes = cs })
+pub rep-classes : (n : ℕ) (b : List ℕ) (H : Heap) (cs : ℕ → Class) → ArenaRep n b H → ArenaRep n b (heapOf (H .arena) (H .holder) cs)
 rep-classes n b H cs r = stands-rep n b (H .arena) (H .holder) (heldPages n H) cs refl (rep-stands n b H r)
 
 owner-apart : (t : ℕ → Bool) (g : Field) → isStored g ≡ true → isOwner t g ≡ false

@@ -24,7 +24,7 @@ use Rattle.model.proofs.IdlePages.{run-below, commit-below}
 use Rattle.arena.specs.Owners.{ownerCode, own, ownRun, heldWith}
 use Rattle.arena.specs.Calls.{advance, Committed, committed, commitFor, grownBy, grownBook}
 use Rattle.arena.specs.Represents.{ArenaRep}
-use Rattle.refinement.proofs.ArenaReached.{Reached, idle-once, above-nobody}
+use Rattle.refinement.proofs.ArenaReached.{Reached, heapOf, idle-once, above-nobody}
 use Rattle.refinement.proofs.ArenaFair.{loads-frontier, commit-passes}
 use Rattle.refinement.proofs.ArenaHeld.{heldOf, held-more}
 use Rattle.refinement.proofs.ArenaSteps.{Stands, rep-stands, stands-rep, store-stands, own-stands, fresh-stands, held-stands}
@@ -37,12 +37,12 @@ module _ (n : ℕ) (b : List ℕ) (H : Heap) (rep : ArenaRep n b H) (r : Reached
         let s = store-stands n b (H .arena) (H .holder) (H .arena .frontier) (heldPages n H) (rep-stands n b H rep) a tidy in
         rw (loads-frontier b (H .arena) (rep .loads)) (fresh-stands n _ a (H .holder) (H .arena .frontier) (heldPages n H) s (tidy .slots) (a .frontier) rises bound (above-nobody n H r))
 
-    pub advance-rep : ArenaRep n (advance b a) (record { arena = a; holder = H .holder; classes = H .classes })
+    pub advance-rep : ArenaRep n (advance b a) (heapOf a (H .holder) (H .classes))
     advance-rep = stands-rep n (advance b a) a (H .holder) (heldPages n H) (H .classes) refl advance-stands
 
     -- a run that nobody held passes to a holder, and counts as held
     passed-rep : (o : Option ℕ) (m : ℕ) (who : Holder) → isHeld who ≡ 1 → ((x : ℕ) → coversRun m o x + isHeld (H .holder x) ≤ 1) → ((q : ℕ) → o ≡ some q → q + m ≤ n) → (cs : ℕ → Class)
-        → ArenaRep n (put (ownRun (advance b a) o m (ownerCode who)) (arena held) (heldWith (get b (arena held)) o m)) (record { arena = a; holder = passTo who (coversRun m o) (H .holder); classes = cs })
+        → ArenaRep n (put (ownRun (advance b a) o m (ownerCode who)) (arena held) (heldWith (get b (arena held)) o m)) (heapOf a (passTo who (coversRun m o) (H .holder)) cs)
     passed-rep none m who one free low cs =
         stands-rep n _ a (H .holder) (get b (arena held)) cs (rep .held)
         (held-stands n (advance b a) a (H .holder) (a .frontier) (heldPages n H) advance-stands (tidy .slots) (get b (arena held)))
@@ -60,7 +60,7 @@ module _ (n : ℕ) (b : List ℕ) (H : Heap) (rep : ArenaRep n b H) (r : Reached
 
     module _ (one : 1 ≤ m) (who : Holder) (holds : isHeld who ≡ 1) (cs : ℕ → Class) where
       pub commit-rep : ArenaRep n (committed b (commit n h m (H .arena)) m (ownerCode who))
-          (record { arena = commit n h m (H .arena) .arena; holder = passTo who (coversRun m (commit n h m (H .arena) .run)) (H .holder); classes = cs })
+          (heapOf (commit n h m (H .arena) .arena) (passTo who (coversRun m (commit n h m (H .arena) .run)) (H .holder)) cs)
       unfolding committed
       commit-rep =
           let g = commit n h m (H .arena) in
@@ -71,7 +71,7 @@ module _ (n : ℕ) (b : List ℕ) (H : Heap) (rep : ArenaRep n b H) (r : Reached
           cs
 
       pub grow-rep : (e : ℕ) → ArenaRep n (put (ownRun (advance b (grow n h e m (H .arena) .arena)) (grownBy (grow n h e m (H .arena) .grew) e) m (ownerCode who)) (arena held) (heldWith (get b (arena held)) (grownBy (grow n h e m (H .arena) .grew) e) m))
-          (record { arena = grow n h e m (H .arena) .arena; holder = passTo who (coversRun m (grownBy (grow n h e m (H .arena) .grew) e)) (H .holder); classes = cs })
+          (heapOf (grow n h e m (H .arena) .arena) (passTo who (coversRun m (grownBy (grow n h e m (H .arena) .grew) e)) (H .holder)) cs)
       grow-rep e =
           let g = grow n h e m (H .arena) in
           let bound = grow-bound n h e m (H .arena) (r .bound) in

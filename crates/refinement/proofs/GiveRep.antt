@@ -20,7 +20,7 @@ use Rattle.arena.specs.Owners.{own}
 use Rattle.arena.specs.Fair.{giveFair}
 use Rattle.arena.specs.Calls.{given}
 use Rattle.arena.specs.Represents.{ArenaRep}
-use Rattle.refinement.proofs.ArenaReached.{Reached, held-below}
+use Rattle.refinement.proofs.ArenaReached.{Reached, heapOf, held-below}
 use Rattle.refinement.proofs.ArenaFair.{give-passes}
 use Rattle.refinement.proofs.ArenaHeld.{heldOf, held-less}
 use Rattle.refinement.proofs.ArenaSteps.{Stands, rep-stands, stands-rep, store-stands, own-stands, held-stands}
@@ -38,7 +38,7 @@ module _ (n : ℕ) (b : List ℕ) (H : Heap) (rep : ArenaRep n b H) (r : Reached
   pub give-fair : giveFair n b m ≡ true
   give-fair = give-passes n b H rep r m (omega (arith, held-is))
 
-  pub give-rep : (cs : ℕ → Class) → ArenaRep n (given b q m) (record { arena = give m q (H .arena); holder = passTo nobody (covers m q) (H .holder); classes = cs })
+  pub give-rep : (cs : ℕ → Class) → ArenaRep n (given b q m) (heapOf (give m q (H .arena)) (passTo nobody (covers m q) (H .holder)) cs)
   unfolding given
   give-rep cs =
       let a = give m q (H .arena) in

@@ -6,3 +6,4 @@ pub mod ArenaHeld
 pub mod ArenaSteps
 pub mod CommitRep
 pub mod GiveRep
+pub mod ArenaRuns
