@@ -234,6 +234,15 @@ whole-names n b sh d x y e r =
     let z : x + (y - x) ≡ y = omega arith in
     rw z at (every-at (ofRun b d x) (sh .pages) (y - x) all (omega arith))
 
+pub named-whole : (n : ℕ) (b : List ℕ) (sh : Shape) (d x : ℕ) → x + sh .pages ≤ n → x + sh .pages ≤ get b (arena frontier)
+    → ((y : ℕ) → inRun (sh .pages) x y ≡ true → names b d x y ≡ true) → whole n b sh d x ≡ true
+unfolding whole
+named-whole n b sh d x l u h = rw (le-leb (x + sh .pages) n l, le-leb (x + sh .pages) (get b (arena frontier)) u) (all (sh .pages) (omega arith))
+  where
+    all : (j : ℕ) → j ≤ sh .pages → every (ofRun b d x) (below j) ≡ true
+    all zero v = refl
+    all (suc j) v = rw (h (x + j) (rw (le-leb x (x + j) (omega arith), lt-ltb (x + j) (x + sh .pages) (omega arith)))) (all j (omega arith))
+
 pub whole-ends : (n : ℕ) (b : List ℕ) (sh : Shape) (d x : ℕ) → whole n b sh d x ≡ true → (x + sh .pages ≤ n) × (x + sh .pages ≤ get b (arena frontier))
 unfolding whole
 whole-ends n b sh d x e =

@@ -15,20 +15,24 @@ use lib.Dec.{eqb, ltb, leb, eqb·zero-suc}
 use lib.ListN.{length}
 use borrow.Author.Tests.{ltb-true, ltb-false, ne-eqb, eqb-true, eqb-false, eq-eqb, le-leb, lt-ltb, leb-true}
 use Rattle.classes.specs.declared.Shape.{Shape}
-use Rattle.fields.specs.Field.{arena, page, owner, first, frontier, get}
+use Rattle.fields.specs.Field.{arena, page, owner, first, frontier, held, get, put}
+use Rattle.fields.proofs.Changes.{Changes}
 use Rattle.model.specs.Lists.{every, below, inRun, covers, coversRun}
-use Rattle.model.specs.Arena.{Arena, commit, give}
+use Rattle.model.specs.Arena.{Arena, commit, grow, give}
 use Rattle.model.specs.Class.{Class}
 use Rattle.model.specs.Heap.{Heap, Holder, nobody, direct, class, isHeld, passTo}
 use Rattle.model.proofs.Counts.{by-cases, and-l, and-r}
-use Rattle.model.proofs.ArenaLaws.{idle, commit-law}
+use Rattle.model.proofs.ArenaTidy.{tidy-commit, tidy-grow, tidy-give}
+use Rattle.model.proofs.ArenaLaws.{idle, commit-law, grow-law, grow-rises, give-frontier}
 use Rattle.pages.specs.Runs.{ofRun, whole}
-use Rattle.arena.specs.Owners.{ownerCode}
-use Rattle.arena.specs.Calls.{committed, given}
+use Rattle.arena.specs.Owners.{ownerCode, ownRun, heldWith}
+use Rattle.arena.specs.Calls.{advance, committed, given, grownBy}
 use Rattle.arena.specs.Represents.{ArenaRep}
 use Rattle.refinement.proofs.ArenaReached.{Reached, heapOf, above-nobody, idle-nobody}
 use Rattle.refinement.proofs.ArenaFair.{loads-frontier}
-use Rattle.refinement.proofs.ArenaFrames.{names, whole-same, whole-names, whole-ends}
+use Rattle.refinement.proofs.ArenaFrames.{isStep, inRunOf, either, passed, step-first, passed-changes, committed-changes, given-changes, names, whole-same, whole-names, named-whole}
+use Rattle.refinement.proofs.CommitRep.{commit-rep, grown-covers, grow-rep}
+use Rattle.refinement.proofs.GiveRep.{run-ends, give-rep}
 
 -- is a holder class d
 abbrev pub isOf : ℕ → Holder → Bool
@@ -113,3 +117,87 @@ module _ (n : ℕ) (b b′ : List ℕ) (H : Heap) (r : Reached n H) (rep : Arena
         (λ y l. by-cases (eqb (g y) 0)
         (λ e. page-left d x y l e)
         (λ e. free (and-false-r (eqb (get b′ (page owner y)) (suc d)) _ (rw (fs y e) (ne-eqb q x (λ z. ne (sym z))))) (λ u. rw (rep .owners y u, drawn-nobody y e) (and-false-l _ _ (nobody-other d)))))
+
+    -- and the run itself
+    pub claimed-new : (c q : ℕ) → who ≡ class c → (sh : Shape) → ((y : ℕ) → inRun (sh .pages) q y ≡ true → eqb (g y) 0 ≡ false)
+        → ((y : ℕ) → eqb (g y) 0 ≡ false → get b′ (page first y) ≡ q) → q + sh .pages ≤ a .frontier → a .frontier ≤ n → whole n b′ sh c q ≡ true
+    claimed-new c q wc sh ins fs l u =
+        named-whole n b′ sh c q (omega arith) (rw (loads-frontier b′ a (rep′ .loads)) l)
+        (λ y e. let k = ins y e in
+        let z : y < q + sh .pages = ltb-true y (q + sh .pages) (and-r (leb q y) (ltb y (q + sh .pages)) e) in
+        let o : get b′ (page owner y) ≡ suc c = rw (k, wc) at (rep′ .owners y (omega arith)) in
+        rw (o, fs y k, eq-eqb (suc c) (suc c) refl, eq-eqb q q refl))
+
+-- ---- a run that is held is given
+module _ (n : ℕ) (b : List ℕ) (H : Heap) (rep : ArenaRep n b H) (r : Reached n H) (q m : ℕ) (one : 1 ≤ m) (holds : (x : ℕ) → covers m q x ≤ isHeld (H .holder x)) where
+  given-step : Changes (isStep (inRun m q)) b (given b q m)
+  given-step = given-changes b q m (rw (rep .loads) (tidy-give m one q (H .arena) (r .tidy) .slots))
+
+  given-rep : ArenaRep n (given b q m) (heapOf (give m q (H .arena)) (passTo nobody (covers m q) (H .holder)) (H .classes))
+  given-rep = give-rep n b H rep r q m one holds (H .classes)
+
+  given-pages : (sh : Shape) (d x : ℕ) → 1 ≤ sh .pages → ((y : ℕ) → inRun m q y ≡ true → names b d x y ≡ false) → whole n (given b q m) sh d x ≡ whole n b sh d x
+  given-pages sh d x some-page k =
+      let H′ = heapOf (give m q (H .arena)) (passTo nobody (covers m q) (H .holder)) (H .classes) in
+      pages-whole n b (given b q m) H H′ rep given-rep (omega (arith, give-frontier m q (H .arena))) sh d x some-page
+      (λ y l. by-cases (inRun m q y)
+      (λ e. let o : get (given b q m) (page owner y) ≡ 0 = rw e at (given-rep .owners y l) in free (rw (o, eqb·zero-suc d)) (λ u. k y e))
+      (λ e. same (omega (arith, give-frontier m q (H .arena))) (rw e) (step-first (inRun m q) b (given b q m) given-step y)))
+
+  -- from a holder that is not class d
+  pub give-whole : (sh : Shape) (d x : ℕ) → 1 ≤ sh .pages → ((y : ℕ) → inRun m q y ≡ true → isOf d (H .holder y) ≡ false) → whole n (given b q m) sh d x ≡ whole n b sh d x
+  give-whole sh d x some-page k =
+      given-pages sh d x some-page
+      (λ y e. let u = ltb-true y (q + m) (and-r (leb q y) (ltb y (q + m)) e) in
+      rw (rep .owners y (omega (arith, run-ends n b H rep r q m one holds)), k y e))
+
+  -- from class c, whose run it was
+  module _ (sh₀ : Shape) (c : ℕ) (pages : sh₀ .pages ≡ m) (run : whole n b sh₀ c q ≡ true) where
+    pub left-whole : (sh : Shape) (d x : ℕ) → 1 ≤ sh .pages → (d ≡ c → x ≡ q → ⊥) → whole n (given b q m) sh d x ≡ whole n b sh d x
+    left-whole sh d x some-page ne = given-pages sh d x some-page (λ y e. other y (whole-names n b sh₀ c q y run (rw pages e)))
+      where
+        other : (y : ℕ) → names b c q y ≡ true → names b d x y ≡ false
+        other y t =
+            let o = eqb-true (get b (page owner y)) (suc c) (and-l (eqb (get b (page owner y)) (suc c)) (eqb (get b (page first y)) q) t) in
+            let s = eqb-true (get b (page first y)) q (and-r (eqb (get b (page owner y)) (suc c)) (eqb (get b (page first y)) q) t) in
+            rw (o, s)
+            (by-cases (eqb c d)
+            (λ e. let z = eqb-true c d e in and-false-r (eqb (suc c) (suc d)) (eqb q x) (ne-eqb q x (λ w. ne (sym z) (sym w))))
+            (λ e. let z : c ≡ d → ⊥ = eqb-false c d e in and-false-l (eqb (suc c) (suc d)) (eqb q x) (class-other c d z)))
+
+    pub left-gone : whole n (given b q m) sh₀ c q ≡ false
+    left-gone =
+        by-cases (whole n (given b q m) sh₀ c q)
+        (λ e. absurd (let t = whole-names n (given b q m) sh₀ c q q e (rw (le-leb q q (omega arith), lt-ltb q (q + sh₀ .pages) (omega arith))) in
+        let o = eqb-true (get (given b q m) (page owner q)) (suc c) (and-l (eqb (get (given b q m) (page owner q)) (suc c)) (eqb (get (given b q m) (page first q)) q) t) in
+        let i : inRun m q q ≡ true = rw (le-leb q q (omega arith), lt-ltb q (q + m) (omega arith)) in
+        let z : get (given b q m) (page owner q) ≡ 0 = rw i at (given-rep .owners q (omega (arith, give-frontier m q (H .arena), run-ends n b H rep r q m one holds))) in
+        omega arith))
+        (λ e. e)
+
+-- ---- a commit and a growth for a holder that is not class d
+module _ (n : ℕ) (b : List ℕ) (H : Heap) (rep : ArenaRep n b H) (r : Reached n H) (h m : ℕ) (one : 1 ≤ m) (who : Holder) (holds : isHeld who ≡ 1) where
+  pub commit-whole : (sh : Shape) (d x : ℕ) → 1 ≤ sh .pages → isOf d who ≡ false → whole n (committed b (commit n h m (H .arena)) m (ownerCode who)) sh d x ≡ whole n b sh d x
+  commit-whole sh d x some-page o =
+      let g = commit n h m (H .arena) in
+      let law = commit-law n h m (H .arena) in
+      let c = committed b g m (ownerCode who) in
+      let t = either (passed b (g .arena)) (inRunOf m (g .run)) in
+      drawn-whole n b c H r rep (g .arena) (coversRun m (g .run)) who (H .classes) (commit-rep n b H rep r h m one who holds (H .classes)) (law .rises)
+      (λ y. omega (arith, law .pages y))
+      (λ y e. step-first t b c (committed-changes b g m (ownerCode who) (tidy-commit n h m one (H .arena) (r .tidy) .slots)) y)
+      sh d x some-page o
+
+  pub grow-whole : (e : ℕ) (sh : Shape) (d x : ℕ) → 1 ≤ sh .pages → isOf d who ≡ false
+      → whole n (put (ownRun (advance b (grow n h e m (H .arena) .arena)) (grownBy (grow n h e m (H .arena) .grew) e) m (ownerCode who)) (arena held) (heldWith (get b (arena held)) (grownBy (grow n h e m (H .arena) .grew) e) m)) sh d x
+      ≡ whole n b sh d x
+  grow-whole e sh d x some-page o =
+      let g = grow n h e m (H .arena) in
+      let v = grownBy (g .grew) e in
+      let k = heldWith (get b (arena held)) v m in
+      let c = put (ownRun (advance b (g .arena)) v m (ownerCode who)) (arena held) k in
+      let t = either (passed b (g .arena)) (inRunOf m v) in
+      drawn-whole n b c H r rep (g .arena) (coversRun m v) who (H .classes) (grow-rep n b H rep r h m one who holds (H .classes) e) (grow-rises n h e m (H .arena))
+      (λ y. omega (arith, grown-covers m (g .grew) e y, grow-law n h e m (H .arena) y))
+      (λ y z. step-first t b c (passed-changes b (g .arena) v m (ownerCode who) k (tidy-grow n h m one e (H .arena) (r .tidy) .slots)) y)
+      sh d x some-page o

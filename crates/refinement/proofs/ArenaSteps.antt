@@ -1,4 +1,5 @@
 -- The arena's part of the representation along the writes of a step: storing an arena, giving pages an owner, counting them as held.
+--     rep-kept              a book with the same words of the arena and OWNERs stands for the same
 --     Stands n b a w f k    the words stand for the arena a and for the holders w of the pages below f, and HELD is k
 -- Assumes nothing.
 use Prim.Native.Nat.{ℕ, zero, suc, _+_, _-_, _≤_, _<_}
@@ -9,7 +10,7 @@ use mathlib.Core.Path.{_≡_, refl, sym, ap, _∙_}
 use lib.Dec.{eqb, ltb, leb}
 use lib.ListN.{length}
 use borrow.Author.Tests.{ltb-true, ltb-false, le-leb, lt-ltb, lt-leb}
-use Rattle.fields.specs.Field.{Field, arena, memory, class, hole, page, out, slot, owner, size, state, held, holes, get, put, ok, words}
+use Rattle.fields.specs.Field.{Field, arena, memory, class, hole, page, out, slot, owner, size, state, held, holes, pageOff, get, put, ok, words}
 use Rattle.fields.proofs.Laws.{get-put-same, get-put-other, length-put}
 use Rattle.fields.proofs.Changes.{Changes, differ}
 use Rattle.model.specs.Lists.{inRun, covers}
@@ -45,6 +46,36 @@ stands-rep n b a w k cs e s = record { long = s .long; length = s .length; loads
 
 pub rep-classes : (n : ℕ) (b : List ℕ) (H : Heap) (cs : ℕ → Class) → ArenaRep n b H → ArenaRep n b (heapOf (H .arena) (H .holder) cs)
 rep-classes n b H cs r = stands-rep n b (H .arena) (H .holder) (heldPages n H) cs refl (rep-stands n b H r)
+
+-- the words that the arena's part reads: what keeps them keeps it
+abbrev pub isArenas : Field → Bool
+isArenas (arena k) = true
+isArenas (memory m) = true
+isArenas (class k c) = false
+isArenas (hole k i) = true
+isArenas (page k p) = eqb (pageOff k) 0
+isArenas (out p i) = false
+isArenas (slot p i) = false
+
+stored-arenas : (g : Field) → isStored g ≡ true → isArenas g ≡ true
+stored-arenas (arena k) e = refl
+stored-arenas (memory m) e = refl
+stored-arenas (class k c) e = e
+stored-arenas (hole k i) e = refl
+stored-arenas (page k p) e = absurd (false≢true e)
+stored-arenas (out p i) e = e
+stored-arenas (slot p i) e = e
+
+pub rep-kept : (n : ℕ) (b b′ : List ℕ) (H : Heap) → length (H .arena .store .holes) ≤ 4096 → length b′ ≡ length b → ((g : Field) → ok g ≡ true → isArenas g ≡ true → get b′ g ≡ get b g)
+    → ArenaRep n b H → ArenaRep n b′ H
+rep-kept n b b′ H few long k r = record {
+  long = long-kept n b b′ long (r .long);
+  length = k (arena size) refl refl ∙ r .length;
+  loads = load-kept b b′ (rw (loads-number b (H .arena) (r .loads)) few) (λ g o e. k g o (stored-arenas g e)) ∙ r .loads;
+  state = k (arena state) refl refl ∙ r .state;
+  held = k (arena held) refl refl ∙ r .held;
+  owners = λ x l. k (page owner x) refl refl ∙ r .owners x l;
+}
 
 owner-apart : (t : ℕ → Bool) (g : Field) → isStored g ≡ true → isOwner t g ≡ false
 owner-apart t (arena k) e = refl

@@ -29,6 +29,10 @@ use Rattle.refinement.proofs.ArenaFair.{loads-frontier, commit-passes}
 use Rattle.refinement.proofs.ArenaHeld.{heldOf, held-more}
 use Rattle.refinement.proofs.ArenaSteps.{Stands, rep-stands, stands-rep, store-stands, own-stands, fresh-stands, held-stands}
 
+pub grown-covers : (m : ℕ) (y : Bool) (e x : ℕ) → coversRun m (grownBy y e) x ≡ cond y (covers m e x) 0
+grown-covers m true e x = refl
+grown-covers m false e x = refl
+
 module _ (n : ℕ) (b : List ℕ) (H : Heap) (rep : ArenaRep n b H) (r : Reached n H) where
   module _ (a : Arena) (tidy : Tidy (a .store)) (rises : H .arena .frontier ≤ a .frontier) (bound : a .frontier ≤ n) where
     advance-stands : Stands n (advance b a) a (H .holder) (a .frontier) (heldPages n H)
@@ -76,14 +80,10 @@ module _ (n : ℕ) (b : List ℕ) (H : Heap) (rep : ArenaRep n b H) (r : Reached
           let g = grow n h e m (H .arena) in
           let bound = grow-bound n h e m (H .arena) (r .bound) in
           passed-rep (g .arena) (tidy-grow n h m one e (H .arena) (r .tidy)) (grow-rises n h e m (H .arena)) bound (grownBy (g .grew) e) m who holds
-          (λ x. omega (arith, grown-covers (g .grew) e x, grow-law n h e m (H .arena) x, r .apart x))
+          (λ x. omega (arith, grown-covers m (g .grew) e x, grow-law n h e m (H .arena) x, r .apart x))
           (λ q d. omega (arith, bound, inside (g .grew) e q d (g .arena .frontier) (λ x. omega (arith, grow-law n h e m (H .arena) x, idle-once n H r x))))
           cs
         where
-          grown-covers : (y : Bool) (e x : ℕ) → coversRun m (grownBy y e) x ≡ cond y (covers m e x) 0
-          grown-covers true e x = refl
-          grown-covers false e x = refl
-
           inside : (y : Bool) (e q : ℕ) → grownBy y e ≡ some q → (f : ℕ) → ((x : ℕ) → cond y (covers m e x) 0 + above f x ≤ 1) → q + m ≤ f
           inside true e q d f k = let z : e ≡ q = cc in omega (arith, run-below m e f one k)
           inside false e q d f k = absurd (let z : _≡_ {A = ℕ} 0 1 = cc in omega arith)
