@@ -173,7 +173,7 @@ advance-changes b a l =
     (changes-mono (isOwner t) (isStep t) c (own c f (a .frontier - f) 0) (owner-step t t (λ x e. e)) (own-changes c f (a .frontier - f) 0))
 
 -- what a commit or a growth writes: the frontier passed pages, a run got an owner, HELD changed
-pub passed-changes : (b : List ℕ) (a : Arena) (o : Option ℕ) (m w k : ℕ) → length (a .store .holes) ≤ 4096
+passed-changes : (b : List ℕ) (a : Arena) (o : Option ℕ) (m w k : ℕ) → length (a .store .holes) ≤ 4096
     → Changes (isStep (either (passed b a) (inRunOf m o))) b (put (ownRun (advance b a) o m w) (arena held) k)
 passed-changes b a o m w k l =
     let t = passed b a in
@@ -198,6 +198,11 @@ pub committed-changes : (b : List ℕ) (g : Given) (m w : ℕ) → length (g .ar
     → Changes (isStep (either (passed b (g .arena)) (inRunOf m (g .run)))) b (committed b g m w)
 unfolding committed
 committed-changes b g m w l = passed-changes b (g .arena) (g .run) m w (heldWith (get b (arena held)) (g .run) m) l
+
+pub grown-changes : (b : List ℕ) (g : Grown) (e m : ℕ) → length (g .arena .store .holes) ≤ 4096
+    → Changes (isStep (either (passed b (g .arena)) (inRunOf m (grownBy (g .grew) e)))) b (grownBook b g e m)
+unfolding grownBook
+grown-changes b g e m l = passed-changes b (g .arena) (grownBy (g .grew) e) m 77 (heldWith (get b (arena held)) (grownBy (g .grew) e) m) l
 
 pub given-changes : (b : List ℕ) (q m : ℕ) → length (Model.give m q (loadArena b) .store .holes) ≤ 4096 → Changes (isStep (inRun m q)) b (given b q m)
 unfolding given

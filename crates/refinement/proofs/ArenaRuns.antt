@@ -15,7 +15,7 @@ use lib.Dec.{eqb, ltb, leb, eqb·zero-suc}
 use lib.ListN.{length}
 use borrow.Author.Tests.{ltb-true, ltb-false, ne-eqb, eqb-true, eqb-false, eq-eqb, le-leb, lt-ltb, leb-true}
 use Rattle.classes.specs.declared.Shape.{Shape}
-use Rattle.fields.specs.Field.{arena, page, owner, first, frontier, held, get, put}
+use Rattle.fields.specs.Field.{arena, page, owner, first, frontier, get}
 use Rattle.fields.proofs.Changes.{Changes}
 use Rattle.model.specs.Lists.{every, below, inRun, covers, coversRun}
 use Rattle.model.specs.Arena.{Arena, commit, grow, give}
@@ -25,13 +25,13 @@ use Rattle.model.proofs.Counts.{by-cases, and-l, and-r}
 use Rattle.model.proofs.ArenaTidy.{tidy-commit, tidy-grow, tidy-give}
 use Rattle.model.proofs.ArenaLaws.{idle, commit-law, grow-law, grow-rises, give-frontier}
 use Rattle.pages.specs.Runs.{ofRun, whole}
-use Rattle.arena.specs.Owners.{ownerCode, ownRun, heldWith}
-use Rattle.arena.specs.Calls.{advance, committed, given, grownBy}
+use Rattle.arena.specs.Owners.{ownerCode}
+use Rattle.arena.specs.Calls.{committed, given, grownBy, grownBook}
 use Rattle.arena.specs.Represents.{ArenaRep}
 use Rattle.refinement.proofs.ArenaReached.{Reached, heapOf, above-nobody, idle-nobody}
 use Rattle.refinement.proofs.ArenaFair.{loads-frontier}
-use Rattle.refinement.proofs.ArenaFrames.{isStep, inRunOf, either, passed, step-first, passed-changes, committed-changes, given-changes, names, whole-same, whole-names, named-whole}
-use Rattle.refinement.proofs.CommitRep.{commit-rep, grown-covers, grow-rep}
+use Rattle.refinement.proofs.ArenaFrames.{isStep, inRunOf, either, passed, step-first, committed-changes, grown-changes, given-changes, names, whole-same, whole-names, named-whole}
+use Rattle.refinement.proofs.CommitRep.{commit-rep, grow-rep}
 use Rattle.refinement.proofs.GiveRep.{run-ends, give-rep}
 
 -- is a holder class d
@@ -175,7 +175,7 @@ module _ (n : ℕ) (b : List ℕ) (H : Heap) (rep : ArenaRep n b H) (r : Reached
         omega arith))
         (λ e. e)
 
--- ---- a commit and a growth for a holder that is not class d
+-- ---- a commit for a holder that is not class d
 module _ (n : ℕ) (b : List ℕ) (H : Heap) (rep : ArenaRep n b H) (r : Reached n H) (h m : ℕ) (one : 1 ≤ m) (who : Holder) (holds : isHeld who ≡ 1) where
   pub commit-whole : (sh : Shape) (d x : ℕ) → 1 ≤ sh .pages → isOf d who ≡ false → whole n (committed b (commit n h m (H .arena)) m (ownerCode who)) sh d x ≡ whole n b sh d x
   commit-whole sh d x some-page o =
@@ -188,16 +188,13 @@ module _ (n : ℕ) (b : List ℕ) (H : Heap) (rep : ArenaRep n b H) (r : Reached
       (λ y e. step-first t b c (committed-changes b g m (ownerCode who) (tidy-commit n h m one (H .arena) (r .tidy) .slots)) y)
       sh d x some-page o
 
-  pub grow-whole : (e : ℕ) (sh : Shape) (d x : ℕ) → 1 ≤ sh .pages → isOf d who ≡ false
-      → whole n (put (ownRun (advance b (grow n h e m (H .arena) .arena)) (grownBy (grow n h e m (H .arena) .grew) e) m (ownerCode who)) (arena held) (heldWith (get b (arena held)) (grownBy (grow n h e m (H .arena) .grew) e) m)) sh d x
-      ≡ whole n b sh d x
-  grow-whole e sh d x some-page o =
-      let g = grow n h e m (H .arena) in
-      let v = grownBy (g .grew) e in
-      let k = heldWith (get b (arena held)) v m in
-      let c = put (ownRun (advance b (g .arena)) v m (ownerCode who)) (arena held) k in
-      let t = either (passed b (g .arena)) (inRunOf m v) in
-      drawn-whole n b c H r rep (g .arena) (coversRun m v) who (H .classes) (grow-rep n b H rep r h m one who holds (H .classes) e) (grow-rises n h e m (H .arena))
-      (λ y. omega (arith, grown-covers m (g .grew) e y, grow-law n h e m (H .arena) y))
-      (λ y z. step-first t b c (passed-changes b (g .arena) v m (ownerCode who) k (tidy-grow n h m one e (H .arena) (r .tidy) .slots)) y)
-      sh d x some-page o
+-- a growth, for a class
+pub grow-whole : (n : ℕ) (b : List ℕ) (H : Heap) → ArenaRep n b H → Reached n H → (h m : ℕ) → 1 ≤ m → (e : ℕ) (sh : Shape) (d x : ℕ) → 1 ≤ sh .pages → ltb d 76 ≡ true
+    → whole n (grownBook b (grow n h e m (H .arena)) e m) sh d x ≡ whole n b sh d x
+grow-whole n b H rep r h m one e sh d x some-page hd =
+    let g = grow n h e m (H .arena) in
+    let t = either (passed b (g .arena)) (inRunOf m (grownBy (g .grew) e)) in
+    drawn-whole n b (grownBook b g e m) H r rep (g .arena) (λ y. cond (g .grew) (covers m e y) 0) direct (H .classes) (grow-rep n b H rep r h m one e (H .classes)) (grow-rises n h e m (H .arena))
+    (λ y. omega (arith, grow-law n h e m (H .arena) y))
+    (λ y z. step-first t b (grownBook b g e m) (grown-changes b g e m (tidy-grow n h m one e (H .arena) (r .tidy) .slots)) y)
+    sh d x some-page (direct-other d hd)

@@ -9,13 +9,13 @@ use native.Mathlib.Omega.{arith}
 use mathlib.Core.Bool.{Bool, true, false, cond}
 use mathlib.Core.List.{List}
 use mathlib.Core.Option.{Option, none, some}
-use mathlib.Core.Path.{_≡_, refl, sym, ap, _∙_, subst}
+use mathlib.Core.Path.{_≡_, refl, sym, ap, _∙_, subst, fun-ext}
 use Rattle.fields.specs.Field.{arena, held, get, put}
 use Rattle.model.specs.Lists.{covers, coversRun}
 use Rattle.model.specs.Arena.{Arena, commit, grow}
 use Rattle.model.specs.Ledger.{above}
 use Rattle.model.specs.Class.{Class}
-use Rattle.model.specs.Heap.{Heap, Holder, isHeld, passTo, heldPages}
+use Rattle.model.specs.Heap.{Heap, Holder, direct, isHeld, passTo, heldPages}
 use Rattle.model.proofs.Counts.{by-cases}
 use Rattle.model.proofs.Remembers.{Tidy}
 use Rattle.model.proofs.ArenaTidy.{tidy-commit, tidy-grow}
@@ -74,16 +74,20 @@ module _ (n : ℕ) (b : List ℕ) (H : Heap) (rep : ArenaRep n b H) (r : Reached
           (λ q e. omega (arith, commit-below n h m (H .arena) one (idle-once n H r) q e, law .bound (r .bound)))
           cs
 
-      pub grow-rep : (e : ℕ) → ArenaRep n (put (ownRun (advance b (grow n h e m (H .arena) .arena)) (grownBy (grow n h e m (H .arena) .grew) e) m (ownerCode who)) (arena held) (heldWith (get b (arena held)) (grownBy (grow n h e m (H .arena) .grew) e) m))
-          (heapOf (grow n h e m (H .arena) .arena) (passTo who (coversRun m (grownBy (grow n h e m (H .arena) .grew) e)) (H .holder)) cs)
-      grow-rep e =
-          let g = grow n h e m (H .arena) in
-          let bound = grow-bound n h e m (H .arena) (r .bound) in
-          passed-rep (g .arena) (tidy-grow n h m one e (H .arena) (r .tidy)) (grow-rises n h e m (H .arena)) bound (grownBy (g .grew) e) m who holds
-          (λ x. omega (arith, grown-covers m (g .grew) e x, grow-law n h e m (H .arena) x, r .apart x))
-          (λ q d. omega (arith, bound, inside (g .grew) e q d (g .arena .frontier) (λ x. omega (arith, grow-law n h e m (H .arena) x, idle-once n H r x))))
-          cs
-        where
-          inside : (y : Bool) (e q : ℕ) → grownBy y e ≡ some q → (f : ℕ) → ((x : ℕ) → cond y (covers m e x) 0 + above f x ≤ 1) → q + m ≤ f
-          inside true e q d f k = let z : e ≡ q = cc in omega (arith, run-below m e f one k)
-          inside false e q d f k = absurd (let z : _≡_ {A = ℕ} 0 1 = cc in omega arith)
+    -- a growth of the run that ends at e is for the direct calls alone
+    pub grow-rep : 1 ≤ m → (e : ℕ) (cs : ℕ → Class) → ArenaRep n (grownBook b (grow n h e m (H .arena)) e m)
+        (heapOf (grow n h e m (H .arena) .arena) (passTo direct (λ x. cond (grow n h e m (H .arena) .grew) (covers m e x) 0) (H .holder)) cs)
+    unfolding grownBook
+    grow-rep one e cs =
+        let g = grow n h e m (H .arena) in
+        let bound = grow-bound n h e m (H .arena) (r .bound) in
+        let same : coversRun m (grownBy (g .grew) e) ≡ (λ x. cond (g .grew) (covers m e x) 0) = fun-ext (grown-covers m (g .grew) e) in
+        subst (λ k. ArenaRep n (grownBook b g e m) (heapOf (g .arena) (passTo direct k (H .holder)) cs)) same
+        (passed-rep (g .arena) (tidy-grow n h m one e (H .arena) (r .tidy)) (grow-rises n h e m (H .arena)) bound (grownBy (g .grew) e) m direct refl
+        (λ x. omega (arith, grown-covers m (g .grew) e x, grow-law n h e m (H .arena) x, r .apart x))
+        (λ q d. omega (arith, bound, inside (g .grew) e q d (g .arena .frontier) (λ x. omega (arith, grow-law n h e m (H .arena) x, idle-once n H r x))))
+        cs)
+      where
+        inside : (y : Bool) (e q : ℕ) → grownBy y e ≡ some q → (f : ℕ) → ((x : ℕ) → cond y (covers m e x) 0 + above f x ≤ 1) → q + m ≤ f
+        inside true e q d f k = let z : e ≡ q = cc in omega (arith, run-below m e f one k)
+        inside false e q d f k = absurd (let z : _≡_ {A = ℕ} 0 1 = cc in omega arith)
