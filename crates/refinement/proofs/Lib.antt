@@ -7,3 +7,4 @@ pub mod ArenaSteps
 pub mod CommitRep
 pub mod GiveRep
 pub mod ArenaRuns
+pub mod OpenRep
