@@ -1,5 +1,5 @@
 -- What the arena's part of the representation uses of a heap, and that every heap after a history has it.
---     Reached          the hole store is tidy, the frontier is in the arena, and no page is in two places
+--     Reached          the hole store is tidy, the frontier is in the arena, no page is in two places, and holders are known
 --     reached-after    every heap after a history is reached
 --     reached-commit, reached-grow, reached-give    a step of the arena, with what it passes to a holder, keeps this
 -- Assumes nothing.
@@ -26,18 +26,22 @@ use Rattle.model.proofs.ArenaLaws.{idle, commit-law, grow-law, grow-bound, give
 use Rattle.model.proofs.IdlePages.{HolesBelow, holes-below, run-below}
 use Rattle.model.proofs.HeapLaws.{kept}
 use Rattle.model.proofs.HistoryArena.{tidy-after}
+use Rattle.refinement.proofs.ArenaHolders.{isKnown, Known, known-passed, known-after}
 
 pub record Reached (n : ℕ) (H : Heap) : Type 0 where
   pub tidy : Tidy (H .arena .store)
   pub bound : H .arena .frontier ≤ n
   -- held, in a hole, or at or above the frontier: once at most
   pub apart : (x : ℕ) → isHeld (H .holder x) + idle x (H .arena) ≤ 1
+  -- by nobody, the direct calls or one of the 76 classes
+  pub known : Known (H .holder)
 
 pub reached-after : (n : ℕ) (xs : List Call) → Reached n (heapAfter n xs)
 reached-after n xs = record {
   tidy = tidy-after n xs;
   bound = kept n xs .inv .bound;
   apart = λ x. omega (arith, kept n xs .inv .one x);
+  known = known-after n xs;
 }
 
 -- the arena's part does not look at the classes, so they may be any
@@ -51,7 +55,7 @@ not-held (class c) e = absurd (omega arith)
 
 module _ (n : ℕ) (H : Heap) (r : Reached n H) where
   pub reached-classes : (cs : ℕ → Class) → Reached n (heapOf (H .arena) (H .holder) cs)
-  reached-classes cs = record { tidy = r .tidy; bound = r .bound; apart = r .apart }
+  reached-classes cs = record { tidy = r .tidy; bound = r .bound; apart = r .apart; known = r .known }
 
   pub idle-once : (x : ℕ) → idle x (H .arena) ≤ 1
   idle-once x = omega (arith, r .apart x)
@@ -88,7 +92,7 @@ one-held nobody = omega arith
 one-held direct = omega arith
 one-held (class c) = omega arith
 
-module _ (n : ℕ) (H : Heap) (r : Reached n H) (h m : ℕ) (one : 1 ≤ m) (who : Holder) (cs : ℕ → Class) where
+module _ (n : ℕ) (H : Heap) (r : Reached n H) (h m : ℕ) (one : 1 ≤ m) (who : Holder) (ours : isKnown who ≡ true) (cs : ℕ → Class) where
   pub reached-commit : Reached n (heapOf (commit n h m (H .arena) .arena) (passTo who (coversRun m (commit n h m (H .arena) .run)) (H .holder)) cs)
   reached-commit =
       let g = commit n h m (H .arena) in
@@ -97,6 +101,7 @@ module _ (n : ℕ) (H : Heap) (r : Reached n H) (h m : ℕ) (one : 1 ≤ m) (who
         tidy = tidy-commit n h m one (H .arena) (r .tidy);
         bound = law .bound (r .bound);
         apart = λ x. takes (H .holder x) who (idle x (H .arena)) (idle x (g .arena)) (coversRun m (g .run) x) (r .apart x) (omega (arith, law .pages x)) (one-held who);
+        known = known-passed who (coversRun m (g .run)) (H .holder) ours (r .known);
       }
 
   pub reached-grow : (e : ℕ) → Reached n (heapOf (grow n h e m (H .arena) .arena) (passTo who (λ x. cond (grow n h e m (H .arena) .grew) (covers m e x) 0) (H .holder)) cs)
@@ -106,6 +111,7 @@ module _ (n : ℕ) (H : Heap) (r : Reached n H) (h m : ℕ) (one : 1 ≤ m) (who
         tidy = tidy-grow n h m one e (H .arena) (r .tidy);
         bound = grow-bound n h e m (H .arena) (r .bound);
         apart = λ x. takes (H .holder x) who (idle x (H .arena)) (idle x (g .arena)) (cond (g .grew) (covers m e x) 0) (r .apart x) (omega (arith, grow-law n h e m (H .arena) x)) (one-held who);
+        known = known-passed who (λ x. cond (g .grew) (covers m e x) 0) (H .holder) ours (r .known);
       }
 
 gives : (o : Holder) (i i′ g : ℕ) → isHeld o + i ≤ 1 → i′ ≤ i + g → g ≤ isHeld o → isHeld (cond (eqb g 0) o nobody) + i′ ≤ 1
@@ -119,4 +125,5 @@ reached-give n H r q m one k cs =
       tidy = tidy-give m one q (H .arena) (r .tidy);
       bound = omega (arith, give-frontier m q (H .arena), r .bound);
       apart = λ x. gives (H .holder x) (idle x (H .arena)) (idle x (give m q (H .arena))) (covers m q x) (r .apart x) (omega (arith, give-law m q x (H .arena))) (k x);
+      known = known-passed nobody (covers m q) (H .holder) refl (r .known);
     }

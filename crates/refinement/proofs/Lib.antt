@@ -1,5 +1,6 @@
 pub mod ArenaStore
 pub mod ArenaFrames
+pub mod ArenaHolders
 pub mod ArenaReached
 pub mod ArenaFair
 pub mod ArenaHeld
