@@ -12,7 +12,7 @@ use mathlib.Core.Path.{_≡_, refl, sym, ap, _∙_}
 use lib.Dec.{ltb, leb}
 use lib.ListN.{length}
 use borrow.Author.Tests.{le-leb, leb-true}
-use Rattle.fields.specs.Field.{arena, memory, state, frontier, holes, holePages, held, get}
+use Rattle.fields.specs.Field.{arena, memory, state, frontier, holes, holePages, commits, commitsHigh, reuses, reusesHigh, abandoned, abandonedHigh, held, get}
 use Rattle.model.specs.HoleStore.{holeSlots}
 use Rattle.model.specs.declared.Hole.{Hole}
 use Rattle.model.specs.Lists.{All, every, total}
@@ -21,7 +21,7 @@ use Rattle.model.specs.Heap.{Heap, heldPages}
 use Rattle.model.proofs.Counts.{by-cases}
 use Rattle.model.proofs.Remembers.{Tidy}
 use Rattle.model.proofs.IdlePages.{HolesBelow}
-use Rattle.arena.specs.Load.{statusCode, indexOf, recall, loadHoles, loadStore, loadArena}
+use Rattle.arena.specs.Load.{statusCode, indexOf, wide, recall, loadHoles, loadStore, loadArena}
 use Rattle.arena.specs.Fair.{holeFair, recordFair, holesFair, memoryFair, commitFair, giveFair}
 use Rattle.arena.specs.Represents.{ArenaRep}
 use Rattle.refinement.proofs.ArenaReached.{Reached, reached-holes, held-le}
@@ -39,6 +39,18 @@ module _ (b : List ℕ) (a : Arena) (loads : loadArena b ≡ a) where
   pub loads-holes : loadHoles b 0 (get b (arena holes)) ≡ a .store .holes
   unfolding loadArena loadStore
   loads-holes = ap (λ x. x .store .holes) loads
+
+  pub loads-commits : wide b commits commitsHigh ≡ a .commits
+  unfolding loadArena
+  loads-commits = ap (λ x. x .commits) loads
+
+  pub loads-reuses : wide b reuses reusesHigh ≡ a .reuses
+  unfolding loadArena
+  loads-reuses = ap (λ x. x .reuses) loads
+
+  pub loads-abandoned : wide b abandoned abandonedHigh ≡ a .abandoned
+  unfolding loadArena
+  loads-abandoned = ap (λ x. x .abandoned) loads
 
   loaded-length : (i k : ℕ) → length (loadHoles b i k) ≡ k
   unfolding loadHoles

@@ -9,3 +9,4 @@ pub mod CommitRep
 pub mod GiveRep
 pub mod ArenaRuns
 pub mod OpenRep
+pub mod DirectCalls
