@@ -1,0 +1,12 @@
+pub mod ArenaStore
+pub mod ArenaFrames
+pub mod ArenaHolders
+pub mod ArenaReached
+pub mod ArenaFair
+pub mod ArenaHeld
+pub mod ArenaSteps
+pub mod CommitRep
+pub mod GiveRep
+pub mod ArenaRuns
+pub mod OpenRep
+pub mod DirectCalls
