@@ -3,7 +3,7 @@
 --     choose-is                  the remembered code, or the scan's, is the model's choice
 --     chosen-within              the hole chosen is stored
 -- Assumes nothing.
-use mathlib.Core.Path.{_≡_, refl, sym, ap, _∙_}
+use mathlib.Core.Path.{_≡_, refl, sym, ap, subst, _∙_}
 use Prim.Native.Nat.{ℕ, zero, suc, _+_, _-_, _<_, _≤_}
 use native.Mathlib.Omega.{arith}
 use mathlib.Core.Bool.{Bool, true, false, cond, _&&_}
@@ -12,14 +12,14 @@ use mathlib.Core.Option.{Option, none, some}
 use lib.Dec.{eqb, leb, ltb}
 use lib.ListN.{length, getD, set, take}
 use lib.Seq.{getD-take, length-take-le}
-use borrow.Author.Tests.{leb-true, leb-false, lt-ltb, le-ltb, le-leb}
+use borrow.Author.Tests.{ltb-true, leb-true, leb-false, lt-ltb, le-ltb, le-leb}
 use Rattle.model.specs.declared.Hole.{Hole}
 use Rattle.model.specs.HoleStore as Model
 use Rattle.model.specs.HoleStore.{Fit, holeAt, setAt, leastFit, stillHolds, Choice, chooseIn, rememberedMax}
 use Rattle.arena.specs.declared.holes.Best.{Best}
 use Rattle.arena.specs.Load.{indexOf, indexCode}
 use Rattle.arena.specs.Plan.{chosen}
-use Rattle.arena.specs.Scan.{noHole, bestOf, holeOf, recalledOf, remembered, searchedOf, settledOf}
+use Rattle.arena.specs.Scan.{noHole, bestOf, holeOf, recalledOf, remembered, searchedOf, settledOf, storedOf}
 use Rattle.arena.proofs.Least.{Within, by-test, least-within}
 
 pub hole-at-get : (i : ℕ) (hs : List Hole) → holeAt i hs ≡ getD hs i noHole
@@ -106,3 +106,28 @@ searched-within count m code x = by-test (remembered count m code x) (λ e. simp
 
 pub recalled-within : (count code : ℕ) → recalledOf count code ≤ count
 recalled-within count code = by-test (leb code count) (λ e. simp e (omega (arith, leb-true code count e))) (λ e. simp e (omega arith))
+
+-- ---- the hole chosen is stored
+within-code : (k : ℕ) (o : Option Fit) → Within k o → indexCode (Model.indexOf o) ≤ k
+within-code k none p = omega arith
+within-code k (some f) p = omega arith
+
+still-stored : (m : ℕ) (hs : List Hole) (code : ℕ) → stillHolds m hs (indexOf code) ≡ true → code ≤ length hs
+unfolding stillHolds
+still-stored m hs zero e = omega arith
+still-stored m hs (suc i) e = omega (arith, ltb-true i (length hs) (both-true (ltb i (length hs)) (eqb (holeAt i hs .pages) m) e .0))
+
+choice-within : (t : Bool) (k a b : ℕ) → (t ≡ true → a ≤ k) → b ≤ k → cond t a b ≤ k
+choice-within true k a b p q = p refl
+choice-within false k a b p q = q
+
+pub chosen-within : (hs : List Hole) (m code : ℕ) → indexCode (chosen hs m code) ≤ length hs
+chosen-within hs m code =
+    let t : Bool = leb m rememberedMax && stillHolds m hs (indexOf code) in
+    let l : cond t code (indexCode (Model.indexOf (leastFit m hs))) ≤ length hs = choice-within t (length hs) code (indexCode (Model.indexOf (leastFit m hs)))
+    (λ e. still-stored m hs code (both-true (leb m rememberedMax) (stillHolds m hs (indexOf code)) e .1)) (within-code (length hs) (leastFit m hs) (least-within m hs)) in
+    subst (λ (n : ℕ). n ≤ length hs) (sym (chosen-code hs m code)) l
+
+pub stored-within : (fair : Bool) {count k : ℕ} → count ≤ k → storedOf fair count ≤ k
+stored-within true l = l
+stored-within false l = omega arith

@@ -1,4 +1,5 @@
 -- What the proofs of several functions use.
+mod Again
 mod Big
 mod Choosing
 mod Least

@@ -10,7 +10,8 @@ use Rattle.model.specs.HoleStore as Model
 use Rattle.model.specs.HoleStore.{Fit, leastFit, rememberedMax}
 use Rattle.arena.specs.declared.Plan.{Plan}
 use Rattle.arena.specs.declared.holes.Best.{Best}
-use Rattle.arena.specs.Plan.{noPlan}
+use Rattle.arena.specs.Load.{indexCode}
+use Rattle.arena.specs.Plan.{chosen, noPlan}
 
 -- what stands past the end of a list of holes
 abbrev pub noHole : Hole
@@ -69,6 +70,12 @@ storedOf fair count = cond fair count 0
 -- the plan before its lowest index is known, and then
 unfoldable pub drawnOf : Bool → ℕ → Hole → Hole → Plan
 drawnOf fair code x last = cond (eqb code 0) (noPlan fair) (record { fair = fair; code = code; first = x .first; pages = x .pages; lastfirst = last .first; lastpages = last .pages; lowest = 0 })
+
+unfoldable pub pickedOf : List Hole → Bool → ℕ → ℕ → ℕ → Plan
+pickedOf hs fair count n code =
+    let k = storedOf fair count in
+    let c = indexCode (chosen (take k hs) n code) in
+    drawnOf fair c (holeOf hs c) (holeOf hs k)
 
 unfoldable pub plannedOf : Plan → Best → Plan
 plannedOf p best = record { fair = p .fair; code = p .code; first = p .first; pages = p .pages; lastfirst = p .lastfirst; lastpages = p .lastpages; lowest = cond (eqb (best .pages) (p .pages)) (best .code) 0 }

@@ -4,6 +4,7 @@ use super::Plan;
 use super::holes::Best;
 use super::holes::hole_at;
 use super::holes::load_holes;
+use super::holes::put_hole;
 use super::holes::scan;
 use model::Hole;
 ghost use mathlib.Core.Path.{_≡_};
@@ -12,7 +13,7 @@ ghost use lib.ListN.{length, getD, set, take};
 ghost use Rattle.fields.specs.Field.{hole, start, word};
 ghost use Rattle.arena.specs.Load.{indexCode, loadHoles};
 ghost use Rattle.arena.specs.Plan.{chosen, planOf};
-ghost use Rattle.arena.specs.Scan.{noHole, holeOf, recalledOf, searchedOf, settledOf, storedOf, drawnOf, plannedOf, cutOf, leftOf, cutBest};
+ghost use Rattle.arena.specs.Scan.{noHole, holeOf, recalledOf, searchedOf, settledOf, storedOf, drawnOf, pickedOf, plannedOf, cutOf, leftOf, cutBest};
 
 // The index that a code names; 0 stands for the first.
 fn place(code: u32) -> usize
@@ -145,4 +146,45 @@ fn choose(holes: &[Hole], count: u32, pages: u32, code: u32) -> u32
     let n = searched(count, pages, code, h);
     let best = scan(holes, n, pages);
     settled(count, n, code, best)
+}
+
+// The chosen hole and the last one.
+fn pick(holes: &[Hole], fair: bool, count: u32, pages: u32, code: u32) -> Plan
+    requires { ⌜ (0 < length (now holes)) × (count ≤ length (now holes)) ⌝ }
+    ensures { λ r. ⌜ r ≡ pickedOf (now (holes .entry)) fair count pages code ⌝ }
+{
+    let n = stored(fair, count);
+    let at = choose(holes, n, pages, code);
+    let x = hole_of(holes, at);
+    let last = hole_of(holes, n);
+    drawn(fair, at, x, last)
+}
+
+// The chosen hole is cut, and the holes that are left are scanned for its old length.
+fn cut_at(holes: &mut [Hole], p: Plan, count: u32, pages: u32) -> Best
+    requires { ⌜ (p .code - 1 < length (now holes)) × (count ≤ length (now holes)) ⌝ }
+    ensures { λ r. ⌜ (r ≡ cutBest (now (holes .entry)) p count pages) × (now (holes .exit) ≡ set (now (holes .entry)) (p .code - 1) (cutOf p pages)) ⌝ }
+{
+    put_hole(holes, place(p.code), cut(p, pages));
+    scan(holes, left(p, count, pages), p.pages)
+}
+
+// What is in `holes` is of no matter, and what is left there neither.
+fn plan_in(meta: &[u32], holes: &mut [Hole], a: Arena, pages: u32, code: u32) -> Plan
+    requires { ⌜ (0 < length (now holes)) × (a .count ≤ length (now holes)) × (word (hole start (a .count)) ≤ length (now meta)) ⌝ }
+    ensures { λ r. ⌜ r ≡ planOf (loadHoles (now (meta .entry)) 0 (a .count)) (a .total) (a .frontier) pages code ⌝ }
+{
+    let fair = load_holes(meta, holes, a.count, a.total, a.frontier);
+    let p = pick(holes, fair, a.count, pages, code);
+    let best = cut_at(holes, p, a.count, pages);
+    planned(p, best)
+}
+
+// For up to 64 holes.
+fn plan_few(meta: &[u32], a: Arena, pages: u32, code: u32) -> Plan
+    requires { ⌜ (a .count ≤ 64) × (word (hole start (a .count)) ≤ length (now meta)) ⌝ }
+    ensures { λ r. ⌜ r ≡ planOf (loadHoles (now (meta .entry)) 0 (a .count)) (a .total) (a .frontier) pages code ⌝ }
+{
+    let mut holes = [Hole { first: 0, pages: 0 }; 64];
+    plan_in(meta, &mut holes, a, pages, code)
 }
