@@ -4,3 +4,4 @@ pub mod Frames
 pub mod Kept
 pub mod Links
 pub mod Linked
+pub mod Moves
