@@ -8,3 +8,10 @@ pub mod CommitRep
 pub mod GiveRep
 pub mod ArenaRuns
 pub mod OpenRep
+pub mod Basics
+pub mod Lists
+pub mod Frames
+pub mod Kept
+pub mod Links
+pub mod Linked
+pub mod Moves
