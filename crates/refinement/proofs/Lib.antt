@@ -15,3 +15,5 @@ pub mod Kept
 pub mod Links
 pub mod Linked
 pub mod Moves
+pub mod Blocks
+pub mod Draw
