@@ -104,3 +104,45 @@ module _ {n : ℕ} {b : List ℕ} {c : ℕ} {sh : Shape} (s : Setting n b c sh) 
         within = omega (arith, h .within);
         outs = draw-outs;
       }
+
+-- ---- the page
+is-nil : (xs : List ℕ) → isNil xs ≡ eqb (length xs) 0
+is-nil [] = refl
+is-nil (x ∷ xs) = sym (ne-eqb (suc (length xs)) 0 (λ e. omega arith))
+
+module _ {n : ℕ} {b : List ℕ} {c : ℕ} {sh : Shape} {l : ℕ} {p : Page} (r : PageRep n sh b c l p) where
+  pub free-length : length (p .free) ≡ length (r .stack)
+  free-length = ap length (r .names) ∙ length-map (wordOf sh (p .first)) (r .stack)
+
+  pub more-is : hasMore b sh (p .first) ≡ Model.hasMore sh p
+  unfolding hasMore Model.hasMore
+  more-is = rw (is-nil (p .free), free-length, r .holds .height, r .holds .ready)
+
+  now-is : (m : ℕ) → Model.carvedNow sh m p ≡ min (m - length (r .stack)) (sh .capacity - p .carved)
+  unfolding Model.carvedNow
+  now-is m = rw free-length
+
+module _ {n : ℕ} {b : List ℕ} {c : ℕ} {sh : Shape} (s : Setting n b c sh) {l : ℕ} {p : Page} (r : PageRep n sh b c l p) (m : ℕ) where
+  pub pop-rep : PageRep n sh (draw b sh (p .first) m) c l (pop sh m p .page)
+  unfolding pop
+  pop-rep = record {
+    stack = drop m (r .stack);
+    names = ap (drop m) (r .names) ∙ sym (map-drop (wordOf sh (p .first)) m (r .stack));
+    holds = rw (now-is r m) (draw-holds s (r .holds) m);
+  }
+
+  pub pop-blocks : map (wordOf sh (p .first)) (latest b sh (p .first) m) ≡ pop sh m p .blocks
+  unfolding pop
+  pop-blocks =
+      let f = wordOf sh (p .first) in
+      let new = downs (p .carved) (min (m - length (r .stack)) (sh .capacity - p .carved)) in
+      ap (map f) (latest-is s (r .holds) m)
+      ∙ map-append f new (reverse (take m (r .stack)))
+      ∙ rw (now-is r m, words-downs)
+      (ap (λ z. map f new ++ z) (map-reverse f (take m (r .stack)) ∙ ap reverse (map-take f m (r .stack) ∙ ap (take m) (sym (r .names)))))
+
+  pub pop-length : length (latest b sh (p .first) m) ≡ length (pop sh m p .blocks)
+  pop-length = sym (length-map (wordOf sh (p .first)) (latest b sh (p .first) m)) ∙ ap length pop-blocks
+
+  pub latest-size : length (latest b sh (p .first) m) ≡ min (m - length (p .free)) (sh .capacity - p .carved) + min m (length (p .free))
+  latest-size = latest-length s (r .holds) m ∙ rw (free-length r)

@@ -17,3 +17,4 @@ pub mod Linked
 pub mod Moves
 pub mod Blocks
 pub mod Draw
+pub mod Fill
