@@ -18,3 +18,5 @@ pub mod Moves
 pub mod Blocks
 pub mod Draw
 pub mod Fill
+pub mod Plan
+pub mod Take
