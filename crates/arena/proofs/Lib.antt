@@ -1,5 +1,8 @@
 -- What the proofs of several functions use, and the laws of storing that the crates above use.
+-- What the proofs of several functions use.
+mod Again
 mod Big
+mod Choosing
 mod Least
 mod Loading
 pub mod StoreLaws

@@ -10,3 +10,15 @@ pub mod GiveRep
 pub mod ArenaRuns
 pub mod OpenRep
 pub mod DirectCalls
+pub mod Basics
+pub mod Lists
+pub mod Frames
+pub mod Kept
+pub mod Links
+pub mod Linked
+pub mod Moves
+pub mod Blocks
+pub mod Draw
+pub mod Fill
+pub mod Plan
+pub mod Take
