@@ -9,4 +9,4 @@ pub mod StoreLaws
 pub mod Choice
 pub mod Frames
 pub mod Acts
-pub mod Plans
+pub mod PlanLaws
