@@ -19,6 +19,8 @@ mod run;
 mod session;
 mod shrink;
 mod tally;
+#[cfg(test)]
+mod tests;
 mod words;
 
 use std::process::ExitCode;
