@@ -15,8 +15,8 @@ mod plan;
 mod port;
 mod progress;
 mod random;
+mod reference;
 mod run;
-mod session;
 mod shrink;
 mod tally;
 #[cfg(test)]

@@ -8,8 +8,8 @@ use crate::history::{self, History};
 use crate::oracle;
 use crate::plan::{Intent, Place, Plan, Step};
 use crate::random::Random;
+use crate::reference::Reference;
 use crate::run;
-use crate::session::Session;
 use crate::shrink::shrink;
 use crate::words::{block_word, group_word, Family, HOST_ALL};
 
@@ -18,8 +18,8 @@ static ORIGINAL: Mutex<()> = Mutex::new(());
 
 fn answers(calls: &[Call]) -> Vec<Answer> {
     let _alone = ORIGINAL.lock().unwrap_or_else(|poisoned| poisoned.into_inner());
-    let mut session = Session::open(64);
-    calls.iter().map(|call| session.answer(call)).collect()
+    let mut reference = Reference::open(64);
+    calls.iter().map(|call| reference.answer(call)).collect()
 }
 
 fn take(family: Family, class: u32) -> Call {
