@@ -118,7 +118,7 @@ unfolding stillHolds
 still-stored m hs zero e = omega arith
 still-stored m hs (suc i) e = omega (arith, ltb-true i (length hs) (both-true (ltb i (length hs)) (eqb (holeAt i hs .pages) m) e .0))
 
-choice-within : (t : Bool) (k a b : ℕ) → (t ≡ true → a ≤ k) → b ≤ k → cond t a b ≤ k
+pub choice-within : (t : Bool) (k a b : ℕ) → (t ≡ true → a ≤ k) → b ≤ k → cond t a b ≤ k
 choice-within true k a b p q = p refl
 choice-within false k a b p q = q
 

@@ -4,3 +4,4 @@ mod Big
 mod Choosing
 mod Least
 mod Loading
+mod Planning
