@@ -3,6 +3,8 @@
 mod Again
 mod Big
 mod Choosing
+mod Filled
+mod Laid
 mod Least
 mod Loading
 pub mod StoreLaws
@@ -10,3 +12,4 @@ pub mod Choice
 pub mod Frames
 pub mod Acts
 pub mod PlanLaws
+mod Planning
