@@ -32,7 +32,7 @@ use Rattle.arena.specs.Fair.{recordFair, memoryFair, holesFair, holeFair
 use Rattle.arena.specs.Owners.{own}
 use Rattle.arena.specs.Plan.{cutHoles, noPlan, planAt, planOf, chosen}
 use Rattle.arena.specs.Calls.{Committed, commitRefused, advance, committed, commitFor, given, grownBy, grownBook}
-use Rattle.arena.specs.Act.{rememberWord, recallWord, withState, withHoles, accepting, giveWords, giveRecord, cutWords, usedWords, drawWords, drawRecord, forgetWord, endNone, endRun, endGiven, settle, fromFrontier, commitDrawn, nextState, commitPlanned, planned, commitActs, giveActs, growActs}
+use Rattle.arena.specs.Act.{rememberWord, recallWord, withState, withHoles, accepting, appendWords, giveWords, giveRecord, cutWords, usedWords, drawWords, drawRecord, forgetWord, endNone, endRun, endGiven, settle, fromFrontier, commitDrawn, nextState, commitPlanned, planned, commitActs, giveActs, growActs}
 use Rattle.arena.proofs.StoreLaws.{hole-length, loaded-length, loaded-last, removed-length, set-length, remember-length, remember-twice, store-length, store-loaded, store-remembered, store-set, store-appended, store-removed}
 use Rattle.arena.proofs.Choice.{Choosing, empty, recalled, exact, longer, short, choosing, choice-of}
 use Rattle.arena.proofs.Frames.{isStored, isOwner, arena-changes, own-changes, own-twice}
@@ -76,7 +76,7 @@ unfolding append
 append-top m q a = rw length-append
 
 give-own : (n : ℕ) (b : List ℕ) → leb (words n) (length b) ≡ true → (m q : ℕ) (a : Arena) → Stands b (give m q a) (giveWords (storeStore b (a .store)) (summary a) m q) (giveRecord (summary a) m)
-unfolding give accepts giveWords giveRecord
+unfolding give accepts giveWords appendWords giveRecord
 give-own n b hb m q a =
     by-cases (ltb (length (a .store .holes)) 4096 && leb (a .store .total + m) 65536)
     (λ e. rw e (record {
@@ -137,12 +137,12 @@ module _ (n : ℕ) (b : List ℕ) (hb : leb (words n) (length b) ≡ true) (m w 
 
   -- of a hole
   pub ends-reuse : (a : Arena) (x : List ℕ) (r : Record) (q : ℕ) → Stands b a x r → length (a .store .holes) ≤ 4096 → a .frontier ≡ get b (arena frontier)
-      → finish b (Arenas.given (Arenas.counted false a) (some q) false) m w ≡ endRun x r m q false w
+      → finish b (Arenas.given (Arenas.counted false a) (some q) false) m w ≡ endRun x r m q false w (get b (arena held))
   unfolding committed endRun
   ends-reuse a x r q k few e =
       let z = stands-stored b (Arenas.counted false a) x (counted false r) (stands-counted b a x r k false) in
       ap (λ y. record { code = 0; book = y; run = some q; fresh = false })
-      (rw (advance-still b (Arenas.counted false a) e, ← (held-owned b (Arenas.counted false a) q m w few)) (rw z))
+      (rw (advance-still b (Arenas.counted false a) e, z))
 
   pub ends-reuse-given : (a : Arena) (x : List ℕ) (r : Record) (q : ℕ) → Stands b a x r → length (a .store .holes) ≤ 4096 → a .frontier ≡ get b (arena frontier)
       → finish b (Arenas.given (give m q a) none false) m w ≡ endGiven x r m q false
@@ -155,7 +155,7 @@ module _ (n : ℕ) (b : List ℕ) (hb : leb (words n) (length b) ≡ true) (m w 
 
   -- of the frontier
   pub ends-fresh : (a : Arena) (x : List ℕ) (r : Record) → Stands b a x r → length (a .store .holes) ≤ 4096 → a .frontier ≡ get b (arena frontier) + m → a .frontier ≤ n
-      → finish b (Arenas.given (Arenas.counted true a) (some (get b (arena frontier))) true) m w ≡ endRun x r m (get b (arena frontier)) true w
+      → finish b (Arenas.given (Arenas.counted true a) (some (get b (arena frontier))) true) m w ≡ endRun x r m (get b (arena frontier)) true w (get b (arena held))
   unfolding committed endRun
   ends-fresh a x r k few e l =
       let z = stands-stored b (Arenas.counted true a) x (counted true r) (stands-counted b a x r k true) in
@@ -179,16 +179,16 @@ module _ (n : ℕ) (b : List ℕ) (hb : leb (words n) (length b) ≡ true) (m w 
 
 -- granted or not
 module _ (n : ℕ) (b : List ℕ) (hb : leb (words n) (length b) ≡ true) (m h w : ℕ) (a : Arena) (x : List ℕ) (r : Record) (k : Stands b a x r) (few : length (a .store .holes) ≤ 4096) where
-  settles-reuse : (q : ℕ) → a .frontier ≡ get b (arena frontier) → finish b (grant h m a (some q) false) m w ≡ settle x r m q false h w
+  settles-reuse : (q : ℕ) → a .frontier ≡ get b (arena frontier) → finish b (grant h m a (some q) false) m w ≡ settle x r m q false h w (get b (arena held))
   unfolding grant settle
   settles-reuse q e = by-cases (commitGranted h) (λ t. rw t (ends-reuse n b hb m w a x r q k few e)) (λ t. rw t (ends-reuse-given n b hb m w a x r q k few e))
 
   settles-fresh : a .frontier ≡ get b (arena frontier) + m → a .frontier ≤ n
-      → finish b (grant h m a (some (get b (arena frontier))) true) m w ≡ settle x r m (get b (arena frontier)) true h w
+      → finish b (grant h m a (some (get b (arena frontier))) true) m w ≡ settle x r m (get b (arena frontier)) true h w (get b (arena held))
   unfolding grant settle
   settles-fresh e l = by-cases (commitGranted h) (λ t. rw t (ends-fresh n b hb m w a x r k few e l)) (λ t. rw t (ends-fresh-given n b hb m w a x r k few e))
 
-  settles-at : (q : ℕ) → q ≡ get b (arena frontier) → a .frontier ≡ q + m → a .frontier ≤ n → finish b (grant h m a (some q) true) m w ≡ settle x r m q true h w
+  settles-at : (q : ℕ) → q ≡ get b (arena frontier) → a .frontier ≡ q + m → a .frontier ≤ n → finish b (grant h m a (some q) true) m w ≡ settle x r m q true h w (get b (arena held))
   settles-at q e f l = rw e (settles-fresh (rw e at f) l)
 
 -- ---- a run from the holes
@@ -291,7 +291,7 @@ module _ (n : ℕ) (b : List ℕ) (hb : leb (words n) (length b) ≡ true) (few 
     settled : Given → Committed
     settled d = finish b (grant h m (d .arena) (d .run) (d .fresh)) m w
 
-    by-frontier : (g : Memory) (x : List ℕ) → storeStore b (Model.store HS T g) ≡ x → settled (drawFrom n m (Arenas.withStore (Model.store HS T g) a) none) ≡ fromFrontier n x r m h w
+    by-frontier : (g : Memory) (x : List ℕ) → storeStore b (Model.store HS T g) ≡ x → settled (drawFrom n m (Arenas.withStore (Model.store HS T g) a) none) ≡ fromFrontier n x r m h w (get b (arena held))
     unfolding settled drawFrom fromFrontier grant
     by-frontier g x k =
         let s : Stands b (Arenas.withStore (Model.store HS T g) a) x (summary (Arenas.withStore (Model.store HS T g) a)) = record { words = k; top = refl } in
@@ -299,17 +299,17 @@ module _ (n : ℕ) (b : List ℕ) (hb : leb (words n) (length b) ≡ true) (few 
         by-cases (leb (a .frontier + m) n)
         (λ t. rw t (settles-at n b hb m h w _ x _ (stands-frontier b _ x _ s m) lf (a .frontier) fr refl (leb-true _ n t)))
         (λ t. rw t (ends-none n b hb m w _ x _ s lf fr))
-        ∙ ap (λ z. fromFrontier n x z m h w) top
+        ∙ ap (λ z. fromFrontier n x z m h w (get b (arena held))) top
 
     by-hole : (i : ℕ) (g : Memory) → i < length HS → storeStore b (takeAt m i (Model.store HS T g)) ≡ drawWords b m (plan i)
         → summary (Arenas.withStore (takeAt m i (Model.store HS T g)) a) ≡ drawRecord (summary (Arenas.withStore (Model.store HS T g) a)) m (plan i)
-        → settled (drawFrom n m (Arenas.withStore (Model.store HS T g) a) (some i)) ≡ commitDrawn n b r (plan i) m h w
+        → settled (drawFrom n m (Arenas.withStore (Model.store HS T g) a) (some i)) ≡ commitDrawn n b r (plan i) m h w (get b (arena held))
     unfolding settled drawFrom commitDrawn plan planAt
     by-hole i g l ws tp =
         rw (ne-eqb (suc i) 0 (λ e. omega arith))
         (settles-reuse n b hb m h w _ (drawWords b m (plan i)) (drawRecord r m (plan i)) (record { words = ws; top = tp ∙ ap (λ z. drawRecord z m (plan i)) top }) (few-drawn i g l) (holeAt i HS .first) fr)
 
-    drawn : (c : Choice) → Choosing m HS T F c → settled (drawFrom n m (Arenas.withStore (c .store) a) (c .index)) ≡ commitDrawn n b r (planAt HS m (c .index)) m h w
+    drawn : (c : Choice) → Choosing m HS T F c → settled (drawFrom n m (Arenas.withStore (c .store) a) (c .index)) ≡ commitDrawn n b r (planAt HS m (c .index)) m h w (get b (arena held))
     unfolding commitDrawn planAt noPlan forgetWord plan
     drawn c (empty e) =
         let z : r .count ≡ 0 = sym (ap (λ y. y .count) top) ∙ ap length e in
@@ -325,7 +325,7 @@ module _ (n : ℕ) (b : List ℕ) (hb : leb (words n) (length b) ≡ true) (few 
 
   module _ (h w : ℕ) where
     by-ready : (s : Status) (r : Record) → summary (Arenas.withStatus s (loadArena b)) ≡ r
-        → finish b (commitReady n h m (Arenas.withStatus s (loadArena b))) m w ≡ commitDrawn n b r (planAt HS m (chooseIn m HS T F .index)) m h w
+        → finish b (commitReady n h m (Arenas.withStatus s (loadArena b))) m w ≡ commitDrawn n b r (planAt HS m (chooseIn m HS T F .index)) m h w (get b (arena held))
     unfolding commitReady draw loadArena loadStore HS T F settled
     by-ready s r top = drawn h w (Arenas.withStatus s (loadArena b)) r top refl (chooseIn m HS T F) (choosing m HS T F)
 
@@ -338,7 +338,7 @@ module _ (n : ℕ) (b : List ℕ) (hb : leb (words n) (length b) ≡ true) (few 
     off s r top = ends-none n b hb m w (Arenas.withStatus s (loadArena b)) b r (record { words = store-loaded b; top = top }) (rw length-HS few) refl
 
     by-state : (s : ℕ) → s ≤ 2 → get b (arena state) ≡ s
-        → finish b (commitAs n h m (loadArena b) (statusOf s)) m w ≡ commitPlanned n b (recordOf b) (planAt HS m (chooseIn m HS T F .index)) m h w
+        → finish b (commitAs n h m (loadArena b) (statusOf s)) m w ≡ commitPlanned n b (recordOf b) (planAt HS m (chooseIn m HS T F .index)) m h w (get b (arena held))
     unfolding commitAs commitPlanned
     by-state zero l e =
         by-cases (reservationGranted h)
@@ -349,7 +349,7 @@ module _ (n : ℕ) (b : List ℕ) (hb : leb (words n) (length b) ≡ true) (few 
     by-state (suc (suc (suc s))) l e = absurd (omega arith)
 
     commit-fair : get b (arena state) ≤ 2
-        → finish b (commit n h m (loadArena b)) m w ≡ commitPlanned n b (recordOf b) (planAt (loadHoles b 0 (get b (arena holes))) m (chooseIn m (loadHoles b 0 (get b (arena holes))) (get b (arena holePages)) (recall b) .index)) m h w
+        → finish b (commit n h m (loadArena b)) m w ≡ commitPlanned n b (recordOf b) (planAt (loadHoles b 0 (get b (arena holes))) m (chooseIn m (loadHoles b 0 (get b (arena holes))) (get b (arena holePages)) (recall b) .index)) m h w (get b (arena held))
     unfolding commit loadArena HS T F
     commit-fair l = by-state (get b (arena state)) l refl
 
@@ -410,7 +410,7 @@ commit-acts n b hb h m w =
     by-cases (memoryFair b m)
     (λ u. by-cases (holesFair b)
     (λ v. rw (e, u, v) (cond-true (planned b m .fair) _ _ (planned-fair b m ∙ v)
-    ∙ ap (λ p. commitPlanned n b (recordOf b) p m h w) (planned-at b m v)
+    ∙ ap (λ p. commitPlanned n b (recordOf b) p m h w (get b (arena held))) (planned-at b m v)
     ∙ sym (commit-fair n b hb (k .holes) m h w (k .state))))
     (λ v. rw (e, u, v) (cond-false (planned b m .fair) _ _ (planned-fair b m ∙ v))))
     (λ u. rw (e, u)))
@@ -425,9 +425,8 @@ pub give-acts : (n : ℕ) (b : List ℕ) → leb (words n) (length b) ≡ true �
 unfolding given giveActs
 give-acts n b hb k q m =
     let a = give m q (loadArena b) in
-    let few = give-few m q (loadArena b) (few-loaded b (k .holes)) in
     let y : storeArena b a ≡ storeRecord (giveWords b (recordOf b) m q) (giveRecord (recordOf b) m) = stands-stored b a _ _ (stands-give n b hb m q (loadArena b) b (recordOf b) (stands-loaded b (k .state))) in
-    rw (← (held-owned b a q m 0 few)) (rw y)
+    rw y
 
 -- ---- growth
 abbrev pub grew : Option ℕ → Bool

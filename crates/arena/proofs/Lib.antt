@@ -1,6 +1,8 @@
 -- What the proofs of several functions use, and the laws of storing that the crates above use.
 mod Big
 mod Least
+mod Ways
+mod ActWays
 pub mod StoreLaws
 pub mod Choice
 pub mod Frames

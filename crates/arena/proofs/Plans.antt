@@ -11,7 +11,7 @@ use mathlib.Core.Path.{_≡_, refl, sym, ap, _∙_, subst}
 use lib.Dec.{eqb, ltb, leb}
 use lib.ListN.{length}
 use borrow.Author.Tests.{eqb-true, eq-eqb, ne-eqb, leb-true, le-leb, lt-leb}
-use Rattle.fields.specs.Field.{arena, frontier, holes, holePages, get, words}
+use Rattle.fields.specs.Field.{arena, frontier, holes, holePages, held, get, words}
 use Rattle.model.specs.declared.Hole.{Hole}
 use Rattle.model.specs.Lists.{every}
 use Rattle.model.specs.HoleStore.{Memory, holeAt, Choice, chooseIn}
@@ -89,7 +89,7 @@ plan-fits b m p e f d =
 
 -- ---- a commit of more pages than any arena has
 module _ (n : ℕ) (b : List ℕ) (h w m : ℕ) (small : n ≤ 262144) (large : 262145 ≤ m) where
-  no-room : (a : Arena) → fromFrontier n (forgetWord b a m) a m h w ≡ endNone b a
+  no-room : (a : Arena) → fromFrontier n (forgetWord b a m) a m h w (get b (arena held)) ≡ endNone b a
   unfolding fromFrontier forgetWord rememberWord
   no-room a = rw (lt-leb (a .frontier + m) n (omega arith), lt-leb m 128 (omega arith)) (same-of (eqb (a .count) 0))
     where
@@ -97,14 +97,14 @@ module _ (n : ℕ) (b : List ℕ) (h w m : ℕ) (small : n ≤ 262144) (large : 
       same-of true = refl
       same-of false = refl
 
-  long-planned : (a : Arena) → commitPlanned n b a (noPlan true) m h w ≡ endNone b (withState (nextState (a .state) h) a)
+  long-planned : (a : Arena) → commitPlanned n b a (noPlan true) m h w (get b (arena held)) ≡ endNone b (withState (nextState (a .state) h) a)
   unfolding commitPlanned commitDrawn noPlan
   long-planned a =
       by-cases (eqb (nextState (a .state) h) 2)
       (λ t. rw t)
       (λ t. rw t (no-room (withState (nextState (a .state) h) a)))
 
-  fair-none : cond (noPlan true .fair) (commitPlanned n b (recordOf b) (noPlan true) m h w) (commitRefused b 13) ≡ endNone b (withState (nextState (recordOf b .state) h) (recordOf b))
+  fair-none : cond (noPlan true .fair) (commitPlanned n b (recordOf b) (noPlan true) m h w (get b (arena held))) (commitRefused b 13) ≡ endNone b (withState (nextState (recordOf b .state) h) (recordOf b))
   unfolding noPlan
   fair-none = long-planned (recordOf b)
 
@@ -118,11 +118,11 @@ module _ (n : ℕ) (b : List ℕ) (h w m : ℕ) (small : n ≤ 262144) (large : 
       (λ e. let k = fair-record n b e in
       rw (e, long-fair)
       (by-cases (holesFair b)
-      (λ v. rw v (ap (λ p. cond (p .fair) (commitPlanned n b (recordOf b) p m h w) (commitRefused b 13)) (none-planned b m v (let z = k .holePages in omega arith)) ∙ fair-none))
+      (λ v. rw v (ap (λ p. cond (p .fair) (commitPlanned n b (recordOf b) p m h w (get b (arena held))) (commitRefused b 13)) (none-planned b m v (let z = k .holePages in omega arith)) ∙ fair-none))
       (λ v. rw v (unfair (planned b m .fair) (planned-fair b m ∙ v)))))
       (λ e. rw e)
     where
-      unfair : (t : Bool) → t ≡ false → cond t (commitPlanned n b (recordOf b) (planned b m) m h w) (commitRefused b 13) ≡ commitRefused b 13
+      unfair : (t : Bool) → t ≡ false → cond t (commitPlanned n b (recordOf b) (planned b m) m h w (get b (arena held))) (commitRefused b 13) ≡ commitRefused b 13
       unfair true e = absurd (false≢true (sym e))
       unfair false e = refl
 
