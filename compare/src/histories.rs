@@ -9,7 +9,7 @@ use crate::generate::{self, SCENARIOS};
 use crate::history::{self, History};
 use crate::memory::{Fence, Fenced};
 use crate::plan::Plan;
-use crate::port;
+use crate::port::{self, Room};
 use crate::progress::Progress;
 use crate::random::Random;
 use crate::run::{self, Book, Difference};
@@ -141,6 +141,7 @@ pub fn replay(words: &[String]) -> Result<bool, String> {
     let file = arguments.text("file").ok_or("replay needs --file")?;
     let text = fs::read_to_string(file).map_err(|error| format!("{file}: {error}"))?;
     let (mut compared, mut left_out) = (0, 0);
+    let mut room = Room::new(Fence::Back);
     for history in history::parse(&text)? {
         let mut book = Fenced::new(book_words(history.pages), Fence::Back);
         let opened = port::open(book.words_mut(), u64::from(history.pages));
@@ -152,7 +153,7 @@ pub fn replay(words: &[String]) -> Result<bool, String> {
                 left_out += 1;
                 continue;
             }
-            let got = port::ask(book.words_mut(), call);
+            let got = port::ask(book.words_mut(), &mut room, call);
             if got != *due {
                 println!("{}\n# the port answers:\n# {}", history::line(call, due), history::line(call, &got));
                 return Ok(false);

@@ -2,12 +2,14 @@
 
 mod arguments;
 mod call;
+mod damaged;
 mod generate;
 mod histories;
 mod history;
 mod ledger;
 mod lookups;
 mod memory;
+mod model_test;
 mod oracle;
 mod plan;
 mod port;
@@ -22,10 +24,17 @@ mod words;
 use std::process::ExitCode;
 
 const USAGE: &str = "usage: compare COMMAND [--NAME VALUE ..]
-  lookups                                            both size lookups
-  histories [--calls N] [--seed S] [--pages N,N..] [--scenario NAME]   random histories on the original and the port
-  record --file F [--calls N] [--seed S] [--pages ..] [--scenario ..] [--kinds all|arena]  the same on the original alone, written down
-  replay --file F                                    histories that were written down, on the port";
+  lookups      both size lookups
+  histories    [--calls N] [--seed S] [--pages N,N..] [--scenario NAME]
+               random histories on the original and on the port
+  record       --file F [--calls N] [--seed S] [--pages N,N..] [--scenario NAME] [--kinds all|arena]
+               random histories on the original, written down with its answers
+  replay       --file F
+               histories that were written down, on the port
+  model-test   [--calls N] [--seed S] [--scenario NAME] [--longest STEPS] [--file F] [--repository FOLDER]
+               histories with the original's answers, computed by the checker on the model
+  damaged      [--calls N] [--seed S] [--only HISTORY]
+               calls with any arguments on damaged books";
 
 fn main() -> ExitCode {
     let words: Vec<String> = std::env::args().skip(1).collect();
@@ -35,6 +44,8 @@ fn main() -> ExitCode {
         Some("histories") => histories::histories(rest),
         Some("record") => histories::record(rest),
         Some("replay") => histories::replay(rest),
+        Some("model-test") => model_test::run(rest),
+        Some("damaged") => damaged::run(rest),
         _ => Err(USAGE.into()),
     };
     match result {

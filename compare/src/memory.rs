@@ -48,6 +48,7 @@ pub enum Fence {
 pub struct Fenced {
     mapping: usize,
     mapped: usize,
+    fence: Fence,
     first: *mut u32,
     len: usize,
 }
@@ -65,7 +66,7 @@ impl Fenced {
             Fence::Front => mapping + SYSTEM_PAGE,
             Fence::Back => mapping + SYSTEM_PAGE + inner - bytes,
         };
-        Fenced { mapping, mapped, first: first as *mut u32, len }
+        Fenced { mapping, mapped, fence, first: first as *mut u32, len }
     }
 
     pub fn words(&self) -> &[u32] {
@@ -76,6 +77,15 @@ impl Fenced {
     pub fn words_mut(&mut self) -> &mut [u32] {
         // SAFETY: as above, and `self` is borrowed exclusively.
         unsafe { slice::from_raw_parts_mut(self.first, self.len) }
+    }
+
+    /// So many of the words, at the end that touches the unmapped page.
+    pub fn lend(&mut self, len: usize) -> &mut [u32] {
+        let from = match self.fence {
+            Fence::Front => 0,
+            Fence::Back => self.len - len,
+        };
+        &mut self.words_mut()[from..from + len]
     }
 }
 

@@ -3,6 +3,7 @@
 //! A part of the calls whose feature is off is not linked: `landed` says which may be asked.
 
 use crate::call::{Answer, Call, Kind, Lent};
+use crate::memory::{Fence, Fenced};
 use crate::words::{Family, NO_PAGE};
 
 /// Declares exported functions of a part; where its feature is off, names that nobody may call.
@@ -98,19 +99,64 @@ pub fn open(book: &mut [u32], pages: u64) -> u32 {
     unsafe { vigbuso_open(book.as_mut_ptr(), book.len(), pages) }
 }
 
+/// The most entries of a lent list.
+const ROOM: usize = 1 << 18;
+
+/// Where the lists of a call stand, each against an unmapped page.
+pub struct Room {
+    list: Fenced,
+    groups: Fenced,
+    lent: Fenced,
+}
+
+impl Room {
+    pub fn new(fence: Fence) -> Room {
+        Room { list: Fenced::new(ROOM, fence), groups: Fenced::new(ROOM, fence), lent: Fenced::new(ROOM, fence) }
+    }
+}
+
+/// A list that is lent to be read, at its place.
+fn placed<'a>(place: &'a mut Fenced, list: &[u32]) -> &'a [u32] {
+    let words = place.lend(list.len());
+    words.copy_from_slice(list);
+    words
+}
+
+/// A list that is lent to be written, at its place.
+fn filled<'a>(place: &'a mut Fenced, lent: &Lent) -> &'a mut [u32] {
+    let words = place.lend(lent.len);
+    words.fill(lent.fill);
+    words
+}
+
 /// Asks the port. Every answer that CALLS.md does not allow is `Broken`.
-pub fn ask(book: &mut [u32], call: &Call) -> Answer {
+pub fn ask(book: &mut [u32], room: &mut Room, call: &Call) -> Answer {
     match call {
-        Call::Take { family, class, host, lent } => take(book, *family, *class, *host, *lent),
-        Call::ReleaseBlocks { family, class, host, list } => release_blocks(book, *family, *class, *host, list),
+        Call::Take { family, class, host, lent } => {
+            take(book, *family, [*class, *host], filled(&mut room.lent, lent), lent)
+        }
+        Call::ReleaseBlocks { family, class, host, list } => {
+            let placed = placed(&mut room.list, list);
+            only_read(release_blocks(book, *family, [*class, *host], placed), &[(placed, list)])
+        }
         Call::ReleaseChunks { class, host, list, groups, lent } => {
-            release_chunks(book, *class, *host, list, groups, *lent)
+            let (words, chunks) = (placed(&mut room.list, list), placed(&mut room.groups, groups));
+            let answer = release_chunks(book, [*class, *host], words, chunks, filled(&mut room.lent, lent), lent);
+            only_read(answer, &[(words, list), (chunks, groups)])
         }
         Call::Commit { host, pages } => commit(book, *host, *pages),
         Call::Grow { host, first, old, new } => grow(book, *host, [*first, *old, *new]),
         Call::Release { host, first, pages } => release(book, *host, *first, *pages),
         Call::Contains { offset, length } => contains(book, *offset, *length),
         Call::Report => report(book),
+    }
+}
+
+/// Release and group lists are only read.
+fn only_read(answer: Answer, lists: &[(&[u32], &Vec<u32>)]) -> Answer {
+    match lists.iter().all(|(after, before)| after == before) {
+        true => answer,
+        false => Answer::Broken("a list that is only read has changed".into()),
     }
 }
 
@@ -134,17 +180,15 @@ fn yes_or_no(name: &str, value: u32, answer: impl FnOnce(bool) -> Answer) -> Ans
     }
 }
 
-fn take(book: &mut [u32], family: Family, class: u32, host: u32, lent: Lent) -> Answer {
-    let mut list = vec![lent.fill; lent.len];
+fn take(book: &mut [u32], family: Family, [class, host]: [u32; 2], list: &mut [u32], lent: &Lent) -> Answer {
     let (mut count, mut virgin) = (UNTOUCHED, UNTOUCHED);
     let ask = match family {
         Family::Small => vigbuso_take_blocks,
         Family::Medium => vigbuso_medium_take_blocks,
     };
+    let (words, len) = (book.len(), list.len());
     // SAFETY: slices and out-parameters are lent for the call.
-    let number = unsafe {
-        ask(book.as_mut_ptr(), book.len(), class, host, list.as_mut_ptr(), list.len(), &mut count, &mut virgin)
-    };
+    let number = unsafe { ask(book.as_mut_ptr(), words, class, host, list.as_mut_ptr(), len, &mut count, &mut virgin) };
     let kept = |from: usize| list[from..].iter().all(|&entry| entry == lent.fill);
     if number != 0 {
         return refusal(number, kept(0) && count == UNTOUCHED && virgin == UNTOUCHED);
@@ -153,11 +197,10 @@ fn take(book: &mut [u32], family: Family, class: u32, host: u32, lent: Lent) -> 
     if count > list.len() || !kept(count) {
         return Answer::Broken(format!("count {count}, and an entry past it changed or the list is shorter"));
     }
-    list.truncate(count);
-    yes_or_no("virgin", virgin, |virgin| Answer::Taken { virgin, words: list })
+    yes_or_no("virgin", virgin, |virgin| Answer::Taken { virgin, words: list[..count].to_vec() })
 }
 
-fn release_blocks(book: &mut [u32], family: Family, class: u32, host: u32, list: &[u32]) -> Answer {
+fn release_blocks(book: &mut [u32], family: Family, [class, host]: [u32; 2], list: &[u32]) -> Answer {
     let mut fate = UNTOUCHED;
     let ask = match family {
         Family::Small => vigbuso_release_blocks,
@@ -171,8 +214,14 @@ fn release_blocks(book: &mut [u32], family: Family, class: u32, host: u32, list:
     }
 }
 
-fn release_chunks(book: &mut [u32], class: u32, host: u32, list: &[u32], groups: &[u32], lent: Lent) -> Answer {
-    let mut fates = vec![lent.fill; lent.len];
+fn release_chunks(
+    book: &mut [u32],
+    [class, host]: [u32; 2],
+    list: &[u32],
+    groups: &[u32],
+    fates: &mut [u32],
+    lent: &Lent,
+) -> Answer {
     // SAFETY: slices are lent for the call.
     let number = unsafe {
         vigbuso_release_bin_chunks(
@@ -195,8 +244,7 @@ fn release_chunks(book: &mut [u32], class: u32, host: u32, list: &[u32], groups:
     if groups.len() > fates.len() || !kept(groups.len()) {
         return Answer::Broken("an entry past the groups' fates changed, or the fate list is shorter".into());
     }
-    fates.truncate(groups.len());
-    Answer::Fates(fates)
+    Answer::Fates(fates[..groups.len()].to_vec())
 }
 
 fn commit(book: &mut [u32], host: u32, pages: u64) -> Answer {

@@ -1,9 +1,9 @@
 //! A plan run on the original and on the port, call by call.
 
 use crate::call::{Answer, Call, Kind};
-use crate::memory::Reserved;
+use crate::memory::{Fence, Reserved};
 use crate::plan::Plan;
-use crate::port;
+use crate::port::{self, Room};
 use crate::session::Session;
 use crate::words::{book_words, MAX_PAGES};
 
@@ -20,9 +20,10 @@ pub struct Difference {
     pub got: Answer,
 }
 
-/// The book of every history, with whatever the one before left in it.
+/// The book of every history, with whatever the one before left in it, and the room for lists.
 pub struct Book {
     words: Reserved,
+    room: Room,
 }
 
 /// Pages whose words are overwritten before each history.
@@ -30,7 +31,7 @@ const SOILED_PAGES: u32 = 8;
 
 impl Book {
     pub fn new() -> Book {
-        Book { words: Reserved::new(book_words(MAX_PAGES)) }
+        Book { words: Reserved::new(book_words(MAX_PAGES)), room: Room::new(Fence::Back) }
     }
 
     /// All words are 0.
@@ -39,10 +40,10 @@ impl Book {
     }
 
     /// A book of just the length that is asked for, its first words full of one content: an opening must not care.
-    fn soiled(&mut self, pages: u32, content: u32) -> &mut [u32] {
+    fn soiled(&mut self, pages: u32, content: u32) -> (&mut [u32], &mut Room) {
         let book = &mut self.words.words_mut()[..book_words(pages)];
         book[..book_words(pages.min(SOILED_PAGES))].fill(content);
-        book
+        (book, &mut self.room)
     }
 }
 
@@ -55,7 +56,7 @@ fn soil(plan: &Plan) -> u32 {
 /// Runs a plan on both; tells `seen` each call that was compared.
 pub fn compare(plan: &Plan, book: &mut Book, mut seen: impl FnMut(&Call, &Answer, &Session)) -> Option<Difference> {
     let mut session = Session::open(plan.pages);
-    let book = book.soiled(plan.pages, soil(plan));
+    let (book, room) = book.soiled(plan.pages, soil(plan));
     let opened = port::open(book, u64::from(plan.pages));
     assert!(opened == 0, "an opening of {} pages is refused as {opened}", plan.pages);
     for (step, wanted) in plan.steps.iter().enumerate() {
@@ -64,7 +65,7 @@ pub fn compare(plan: &Plan, book: &mut Book, mut seen: impl FnMut(&Call, &Answer
             continue;
         }
         let due = session.answer(&call);
-        let got = port::ask(book, &call);
+        let got = port::ask(book, room, &call);
         if got != due {
             return Some(Difference { step, call, due, got });
         }

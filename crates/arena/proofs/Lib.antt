@@ -1,6 +1,7 @@
 -- What the proofs of several functions use, and the laws of storing that the crates above use.
 mod Big
 mod Least
+mod Loading
 mod Ways
 mod ActWays
 pub mod StoreLaws

@@ -2,8 +2,13 @@
 use model::Hole;
 ghost use mathlib.Core.Path.{_≡_};
 ghost use Prim.Native.Nat.{_+_, _*_, _<_, _≤_, _^_};
-ghost use lib.ListN.{length, getD, set, take};
+ghost use mathlib.Core.Bool.{_&&_};
+ghost use lib.ListN.{length, getD, set, take, drop};
 ghost use Rattle.model.specs.HoleStore.{leastFit};
+ghost use Rattle.model.specs.Lists.{every};
+ghost use Rattle.fields.specs.Field.{hole, start, pages, word};
+ghost use Rattle.arena.specs.Load.{loadHole, loadHoles};
+ghost use Rattle.arena.specs.Fair.{holeFair};
 ghost use Rattle.arena.specs.Scan.{noHole, betterOf, bestAt, bestOf};
 
 pub fn hole_at(holes: &[Hole], i: usize) -> Hole
@@ -72,4 +77,48 @@ pub fn scan(holes: &[Hole], count: u32, need: u32) -> Best
         best = weigh(holes, need, i, best);
     }
     best_at(best)
+}
+
+// The hole that the words hold at `i`.
+fn hole_from(meta: &[u32], i: u32) -> Hole
+    requires { ⌜ word (hole pages i) < length (now meta) ⌝ }
+    ensures { λ r. ⌜ r ≡ loadHole (now (meta .entry)) i ⌝ }
+{
+    let at = 1024 + 2 * (i as usize);
+    Hole {
+        first: meta[at],
+        pages: meta[at + 1],
+    }
+}
+
+// All holes before this one are in their range, and so is this one: number 13's test. The sum has 64 bits, so it does not wrap.
+fn fair_too(fair: bool, h: Hole, total: u32, frontier: u32) -> bool
+    ensures { λ r. ⌜ r ≡ (fair && holeFair total frontier h) ⌝ }
+{
+    if !fair {
+        return false;
+    }
+    if h.pages < 1 {
+        return false;
+    }
+    if total < h.pages {
+        return false;
+    }
+    (h.first as u64) + (h.pages as u64) <= (frontier as u64)
+}
+
+// The first `count` holes that the words hold are stored, the others stay; the answer is whether each of those is in its range.
+pub fn load_holes(meta: &[u32], holes: &mut [Hole], count: u32, total: u32, frontier: u32) -> bool
+    requires { ⌜ (count ≤ length (now holes)) × (word (hole start count) ≤ length (now meta)) ⌝ }
+    ensures { λ r. ⌜ (r ≡ every (holeFair total frontier) (loadHoles (now (meta .entry)) 0 count)) × (take count (now (holes .exit)) ≡ loadHoles (now (meta .entry)) 0 count) × (drop count (now (holes .exit)) ≡ drop count (now (holes .entry))) ⌝ }
+{
+    let mut fair = true;
+    let mut i: u32 = 0;
+    while i < count {
+        let h = hole_from(meta, i);
+        holes[i as usize] = h;
+        fair = fair_too(fair, h, total, frontier);
+        i += 1;
+    }
+    fair
 }

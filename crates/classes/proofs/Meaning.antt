@@ -1,5 +1,5 @@
 -- Pages per span are the fewest that hold 8 blocks, for every size; the class of a size is the first that fits. Assumes nothing.
-use Prim.Native.Nat.{ℕ, zero, suc, _+_, _-_, _*_, _/_, _≤_, _<_, zero-le, suc-le-suc}
+use Prim.Native.Nat.{ℕ, zero, suc, _-_, _*_, _/_, _≤_, _<_, zero-le, suc-le-suc}
 use mathlib.Core.Path.{_≡_, refl}
 use mathlib.Core.Bool.{Bool, true, false, cond}
 use mathlib.Core.List.{List, [], _∷_}
@@ -9,11 +9,11 @@ use native.Mathlib.Decide.{decLe}
 use native.Mathlib.Omega.{arith}
 use lib.Dec.{leb}
 use lib.ListN.{length, getD}
-use borrow.Author.Tests.{leb-true, leb-false, le-leb, lt-leb, lt-ltb, le-ltb}
-use Rattle.classes.specs.Sizes.{smallSizes, mediumSizes, pageBytes, mediumHeader, spanPages, spanCapacity}
+use borrow.Author.Tests.{leb-true, leb-false, le-leb, lt-ltb}
+use Rattle.classes.specs.Sizes.{smallSizes, mediumSizes, maxSmallSize, maxMediumSize, pageBytes, mediumHeader, spanPages, spanCapacity}
 use Rattle.classes.specs.Lookup.{firstFit, classForSize, mediumClassForSize}
 use Rattle.classes.specs.Meaning.{FewestPages, FirstFit}
-use Rattle.classes.proofs.Rounding.{small-above, medium-outside}
+use Rattle.classes.proofs.Rounding.{Medium, small-above, medium-outside}
 
 pub span-pages : (size : ℕ) → FewestPages size (spanPages size)
 span-pages size = record { enough = omega arith; fewest = λ fewer h. omega arith }
@@ -40,22 +40,23 @@ first-fit size [] k l h = absurd (not-suc-le-zero l)
 first-fit size (x ∷ xs) zero l h = found size x xs (leb size x) refl (λ e. absurd (omega (arith, leb-false size x e)))
 first-fit size (x ∷ xs) (suc k) l h = found size x xs (leb size x) refl (λ e. first-fit size xs k (le-of-suc-le-suc l) h)
 
-pub small-first-fit : (size : ℕ) → size ≤ 16384 → FirstFit size smallSizes (classForSize size)
+pub small-first-fit : (size : ℕ) → size ≤ maxSmallSize → FirstFit size smallSizes (classForSize size)
 unfolding classForSize smallSizes
-small-first-fit size h = rw (le-leb size 16384 h) (first-fit size smallSizes 63 (omega arith) h)
+small-first-fit size h = rw (le-leb size maxSmallSize h) (first-fit size smallSizes 63 (omega arith) (omega arith))
 
-pub medium-first-fit : (size : ℕ) → 16384 < size → size ≤ 65472 → FirstFit size mediumSizes (mediumClassForSize size)
+pub medium-first-fit : (size : ℕ) → Medium size → FirstFit size mediumSizes (mediumClassForSize size)
 unfolding mediumClassForSize mediumSizes
-medium-first-fit size l h = rw (lt-ltb 16384 size l, le-leb size 65472 h) (first-fit size mediumSizes 11 (omega arith) h)
+medium-first-fit size h =
+    rw (lt-ltb maxSmallSize size (h .0), le-leb size maxMediumSize (h .1)) (first-fit size mediumSizes 11 (omega arith) (omega arith))
 
 -- every answer is a class
 pub small-class : (size : ℕ) → classForSize size < 64
 unfolding smallSizes
 small-class size =
-    by-cases (decLe size 16384) (λ h. small-first-fit size h .within) (λ n. omega (arith, small-above size (omega arith)))
+    by-cases (decLe size maxSmallSize) (λ h. small-first-fit size h .within) (λ n. omega (arith, small-above size (omega arith)))
 
 pub medium-class : (size : ℕ) → mediumClassForSize size < 12
 unfolding mediumSizes
 medium-class size =
-    by-cases (decLe size 16384) (λ h. omega (arith, medium-outside size (inl h)))
-    (λ n. by-cases (decLe size 65472) (λ h. medium-first-fit size (omega arith) h .within) (λ m. omega (arith, medium-outside size (inr (omega arith)))))
+    by-cases (decLe size maxSmallSize) (λ h. omega (arith, medium-outside size (inl h)))
+    (λ n. by-cases (decLe size maxMediumSize) (λ h. medium-first-fit size (omega arith, h) .within) (λ m. omega (arith, medium-outside size (inr (omega arith)))))

@@ -1,18 +1,18 @@
 -- Sizes of equally many granules have the same class: the lookup tables need an entry for every 16th size only. Assumes nothing.
-use Prim.Native.Nat.{ℕ, suc, _+_, _-_, _*_, _/_, _%_, _≤_, _<_}
-use mathlib.Core.Path.{_≡_, refl, ap}
-use mathlib.Core.Bool.{Bool, true, false, cond, _&&_}
+use Prim.Native.Nat.{ℕ, _+_, _-_, _*_, _/_, _%_, _≤_, _<_}
+use mathlib.Core.Path.{_≡_, refl}
+use mathlib.Core.Bool.{Bool, true, false}
 use mathlib.Core.List.{List, [], _∷_}
 use mathlib.Core.Logic.{_⊎_, inl, inr}
 use native.Mathlib.Omega.{arith}
-use lib.Dec.{leb, ltb, eqb}
+use lib.Dec.{leb, eqb}
 use borrow.Author.Tests.{leb-true, leb-false, le-leb, lt-leb, lt-ltb, le-ltb, eqb-true}
-use Rattle.classes.specs.Sizes.{smallSizes, mediumSizes}
+use Rattle.classes.specs.Sizes.{smallSizes, mediumSizes, maxSmallSize, maxMediumSize}
 use Rattle.classes.specs.Lookup.{firstFit, classForSize, mediumClassForSize}
 use Rattle.classes.proofs.Table.{and-l, and-r, every}
 
 -- granules of a size, rounded up
-abbrev granules : ℕ → ℕ
+abbrev pub granules : ℕ → ℕ
 granules size = (size + 15) / 16
 
 abbrev whole : ℕ → Bool
@@ -32,24 +32,26 @@ same-fit a b (x ∷ xs) e t =
     let w : x % 16 ≡ 0 = eqb-true (x % 16) 0 (and-l (whole x) (every whole xs) t) in
     rw (same-test a b x (leb a x) (leb b x) refl refl e w, same-fit a b xs e (and-r (whole x) (every whole xs) t)) refl
 
-pub small-rounded : (size : ℕ) → size ≤ 16384 → classForSize (0 + 16 * ((size + 15) / 16)) ≡ classForSize size
+pub small-rounded : (near size : ℕ) → near ≤ maxSmallSize → size ≤ maxSmallSize → granules near ≡ granules size → classForSize near ≡ classForSize size
 unfolding classForSize smallSizes
-small-rounded size h =
-    rw (le-leb (0 + 16 * ((size + 15) / 16)) 16384 (omega arith), le-leb size 16384 h)
-    (same-fit (0 + 16 * ((size + 15) / 16)) size smallSizes (omega arith) refl)
+small-rounded near size n h e = rw (le-leb near maxSmallSize n, le-leb size maxSmallSize h) (same-fit near size smallSizes e refl)
 
-pub medium-rounded : (size : ℕ) → 16384 < size → size ≤ 65472 → mediumClassForSize (16385 + 16 * ((size - 16384 - 1) / 16)) ≡ mediumClassForSize size
+-- a size between the small ones and the largest medium one
+abbrev pub Medium : ℕ → Type 0
+Medium size = (maxSmallSize < size) × (size ≤ maxMediumSize)
+
+pub medium-rounded : (near size : ℕ) → Medium near → Medium size → granules near ≡ granules size → mediumClassForSize near ≡ mediumClassForSize size
 unfolding mediumClassForSize mediumSizes
-medium-rounded size l h =
-    rw (lt-ltb 16384 (16385 + 16 * ((size - 16384 - 1) / 16)) (omega arith), le-leb (16385 + 16 * ((size - 16384 - 1) / 16)) 65472 (omega arith), lt-ltb 16384 size l, le-leb size 65472 h)
-    (same-fit (16385 + 16 * ((size - 16384 - 1) / 16)) size mediumSizes (omega arith) refl)
+medium-rounded near size n h e =
+    rw (lt-ltb maxSmallSize near (n .0), le-leb near maxMediumSize (n .1), lt-ltb maxSmallSize size (h .0), le-leb size maxMediumSize (h .1))
+    (same-fit near size mediumSizes e refl)
 
 -- beyond the tables
-pub small-above : (size : ℕ) → 16384 < size → 63 ≡ classForSize size
+pub small-above : (size : ℕ) → maxSmallSize < size → classForSize size ≡ 63
 unfolding classForSize
-small-above size h = rw (lt-leb size 16384 h)
+small-above size h = rw (lt-leb size maxSmallSize h)
 
-pub medium-outside : (size : ℕ) → (size ≤ 16384) ⊎ (65472 < size) → 11 ≡ mediumClassForSize size
+pub medium-outside : (size : ℕ) → (size ≤ maxSmallSize) ⊎ (maxMediumSize < size) → mediumClassForSize size ≡ 11
 unfolding mediumClassForSize
-medium-outside size (inl h) = rw (le-ltb 16384 size h)
-medium-outside size (inr h) = rw (lt-ltb 16384 size (omega arith), lt-leb size 65472 h)
+medium-outside size (inl h) = rw (le-ltb maxSmallSize size h)
+medium-outside size (inr h) = rw (lt-ltb maxSmallSize size (omega arith), lt-leb size maxMediumSize h)

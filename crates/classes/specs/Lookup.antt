@@ -3,7 +3,7 @@ use Prim.Native.Nat.{ℕ, suc, _+_}
 use mathlib.Core.Bool.{Bool, true, cond, _&&_}
 use mathlib.Core.List.{List, [], _∷_}
 use lib.Dec.{leb, ltb, eqb}
-use Rattle.classes.specs.Sizes.{smallSizes, mediumSizes}
+use Rattle.classes.specs.Sizes.{smallSizes, mediumSizes, maxSmallSize, maxMediumSize}
 
 -- the place of the first entry not below a size; the number of entries, if all are below
 unfoldable pub firstFit : ℕ → List ℕ → ℕ
@@ -12,11 +12,11 @@ firstFit size (entry ∷ rest) = cond (leb size entry) 0 (suc (firstFit size res
 
 -- `class_for_size`: first fit; above 16,384 it is 63
 unfoldable pub classForSize : ℕ → ℕ
-classForSize size = cond (leb size 16384) (firstFit size smallSizes) 63
+classForSize size = cond (leb size maxSmallSize) (firstFit size smallSizes) 63
 
 -- `medium_class_for_size`: first fit; at or below 16,384 and above 65,472 it is 11
 unfoldable pub mediumClassForSize : ℕ → ℕ
-mediumClassForSize size = cond (ltb 16384 size && leb size 65472) (firstFit size mediumSizes) 11
+mediumClassForSize size = cond (ltb maxSmallSize size && leb size maxMediumSize) (firstFit size mediumSizes) 11
 
 -- a lookup table has a rule's answer at every 16th size from one on
 unfoldable pub obeys : (ℕ → ℕ) → ℕ → List ℕ → Bool

@@ -1,7 +1,6 @@
 -- The size classes of document 01, "A size gives a class", in bytes. Assumes nothing.
 use Prim.Native.Nat.{ℕ, _+_, _-_, _*_, _/_}
 use mathlib.Core.List.{List, [], _∷_}
-use lib.ListN.{getD}
 
 -- the small class table
 unfoldable pub smallSizes : List ℕ
@@ -12,6 +11,13 @@ smallSizes =
 unfoldable pub mediumSizes : List ℕ
 mediumSizes =
     18432 ∷ 20736 ∷ 23328 ∷ 26256 ∷ 29552 ∷ 33248 ∷ 37408 ∷ 42096 ∷ 47360 ∷ 53280 ∷ 59952 ∷ 65472 ∷ []
+
+-- the largest size with a small class of its own, with a medium one
+abbrev pub maxSmallSize : ℕ
+maxSmallSize = 16384
+
+abbrev pub maxMediumSize : ℕ
+maxMediumSize = 65472
 
 -- bytes of a page, of a granule; bytes before the first block of a small page, of a span
 abbrev pub pageBytes : ℕ

@@ -1,5 +1,5 @@
 -- What the heap's proofs ask of a shape: its runs have room for their blocks, and its numbers are in range. Assumes nothing.
-use Prim.Native.Nat.{ℕ, _+_, _*_, _≤_}
+use Prim.Native.Nat.{_+_, _*_, _≤_}
 use Rattle.classes.specs.declared.Shape.{Shape}
 
 pub record Sound (s : Shape) : Type 0 where

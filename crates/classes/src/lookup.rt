@@ -1,4 +1,5 @@
 // The class of a size, by direct-mapped tables with an entry for every 16th size.
+// Each lookup proves its table's rule at every entry, by the test that `obeys` computes over the whole table.
 ghost use mathlib.Core.Path.{_≡_};
 ghost use mathlib.Core.Bool.{true};
 ghost use Prim.Native.Nat.{_<_, _+_, _*_};
@@ -11,14 +12,16 @@ use super::sizes::NUM_MEDIUM;
 use super::sizes::medium_size;
 use super::sizes::small_size;
 
+// An entry of the small table: the class of this many granules.
 fn class_at(lut: &[u8], place: usize) -> u8
     requires { ⌜ place < length (now lut) ⌝ }
     requires { ⌜ obeys classForSize 0 (now lut) ≡ true ⌝ }
-    ensures { λ r. ⌜ r ≡ classForSize (0 + 16 * place) ⌝ }
+    ensures { λ r. ⌜ r ≡ classForSize (16 * place) ⌝ }
 {
     lut[place]
 }
 
+// An entry of the medium table, which starts past the small sizes.
 fn medium_class_at(lut: &[u8], place: usize) -> u8
     requires { ⌜ place < length (now lut) ⌝ }
     requires { ⌜ obeys mediumClassForSize 16385 (now lut) ≡ true ⌝ }
@@ -27,6 +30,7 @@ fn medium_class_at(lut: &[u8], place: usize) -> u8
     lut[place]
 }
 
+// The first small class whose blocks hold a size; the last one where none does.
 pub fn class_for_size(size: u64) -> u32
     ensures { λ r. ⌜ r ≡ classForSize size ⌝ }
 {
@@ -38,6 +42,7 @@ pub fn class_for_size(size: u64) -> u32
     }
 }
 
+// The first medium class whose blocks hold a size; the last one for small sizes and where none does.
 pub fn medium_class_for_size(size: u64) -> u32
     ensures { λ r. ⌜ r ≡ mediumClassForSize size ⌝ }
 {

@@ -4,6 +4,15 @@ ghost use Prim.Native.Nat.{_<_, _≤_};
 ghost use lib.ListN.{getD};
 ghost use Rattle.classes.specs.Sizes.{smallSizes, mediumSizes, pageBytes, smallCapacity, spanPages, spanCapacity};
 
+const PAGE_SIZE: u32 = 65536;
+
+// Bytes before the first block of a small page, and of a span.
+pub const PAGE_HEADER: u32 = 48;
+
+pub const SPAN_HEADER: u32 = 64;
+
+const TARGET_BLOCKS_PER_SPAN: u32 = 8;
+
 pub const NUM_CLASSES: u32 = 64;
 
 pub const NUM_MEDIUM: u32 = 12;
@@ -111,15 +120,6 @@ pub fn medium_size(class: u32) -> u32
         MEDIUM_CLASSES[11]
     }
 }
-
-const PAGE_SIZE: u32 = 65536;
-
-// Bytes before the first block of a small page, and of a span.
-pub const PAGE_HEADER: u32 = 48;
-
-pub const SPAN_HEADER: u32 = 64;
-
-const TARGET_BLOCKS_PER_SPAN: u32 = 8;
 
 // Blocks of a small page.
 pub fn capacity_for(size: u32) -> u32

@@ -90,16 +90,16 @@ halves x y (inr h) = let l : 16 * y + 16 ≤ 16 * x = omega arith in above l
 outs : (p q i j : ℕ) → i < 4096 → j < 4096 → (eqb i j && eqb p q) ≡ false → Separate (out p i) (out q j)
 unfolding Separate
 outs p q i j hi hj e =
-    elim (ℕ-discrete (40016 + 4112 * p + i / 32) (40016 + 4112 * q + j / 32)) [
-      | yes z ↦ inr (z, singles (i % 32) (j % 32) (apart (i % 32) (j % 32) (λ t. both i j p q e (omega arith) (omega arith))))
+    elim (ℕ-discrete (word (out p i)) (word (out q j))) [
+      | yes z ↦ inr (z, singles _ _ (apart _ _ (λ t. both i j p q e (omega arith) (omega arith))))
       | no z ↦ inl z
     ]
 
 slots : (p q i j : ℕ) → i < 4096 → j < 4096 → (eqb i j && eqb p q) ≡ false → Separate (slot p i) (slot q j)
 unfolding Separate
 slots p q i j hi hj e =
-    elim (ℕ-discrete (40272 + 4112 * p + i / 2) (40272 + 4112 * q + j / 2)) [
-      | yes z ↦ inr (z, halves (i % 2) (j % 2) (apart (i % 2) (j % 2) (λ t. both i j p q e (omega arith) (omega arith))))
+    elim (ℕ-discrete (word (slot p i)) (word (slot q j))) [
+      | yes z ↦ inr (z, halves _ _ (apart _ _ (λ t. both i j p q e (omega arith) (omega arith))))
       | no z ↦ inl z
     ]
 
@@ -172,8 +172,8 @@ get-room b (memory n) = refl
 get-room b (class k c) = refl
 get-room b (hole k i) = refl
 get-room b (page k p) = refl
-get-room b (out p i) = lt-ltb _ _ (read-small (i % 32) 1 (getD b (word (out p i)) 0))
-get-room b (slot p i) = lt-ltb _ _ (read-small (16 * (i % 2)) 16 (getD b (word (slot p i)) 0))
+get-room b (out p i) = lt-ltb _ _ (read-small _ 1 (getD b (word (out p i)) 0))
+get-room b (slot p i) = lt-ltb _ _ (read-small _ 16 (getD b (word (slot p i)) 0))
 
 -- ---- a field of a book of n pages lies in it
 pub within : (n : ℕ) (f : Field) → valid n f ≡ true → word f < words n

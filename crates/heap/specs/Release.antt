@@ -22,7 +22,8 @@ use Rattle.arena.specs.Fair.{giveFair}
 use Rattle.arena.specs.Calls as Arena
 use Rattle.pages.specs.Runs.{whole}
 use Rattle.pages.specs.Stack.{back}
-use Rattle.pages.specs.Links.{link, unlink, stow, Park, emptyPages, coldPages}
+use Rattle.pages.specs.Links.{link, unlink, stow}
+use Rattle.pages.specs.declared.Park.the-variants.{Empty, Cold}
 use Rattle.pages.specs.Carve.{carveAnew}
 
 -- ---- a word's block
@@ -100,11 +101,11 @@ unfoldable pub spotOf : Shape → ℕ → ℕ → ℕ
 spotOf sh e k = cond (keepsEmpty sh e) 0 (cond (ltb k (sh .colds)) 1 2)
 
 abbrev pub parkCold : List ℕ → ℕ → Shape → ℕ → ℕ → List ℕ
-parkCold b c sh h q = stow (carveAnew b sh q (discardZeroed h && not (isMedium sh))) c coldPages q
+parkCold b c sh h q = stow (carveAnew b sh q (discardZeroed h && not (isMedium sh))) c Cold q
 
 -- by the spot: the book, and the fate; a page for the arena stays in no list
 abbrev pub parkAs : List ℕ → ℕ → Shape → ℕ → ℕ → ℕ → Released
-parkAs b c sh h q zero = released (stow b c emptyPages q) 0
+parkAs b c sh h q zero = released (stow b c Empty q) 0
 parkAs b c sh h q (suc zero) = released (parkCold b c sh h q) (coldFate sh)
 parkAs b c sh h q (suc (suc k)) = released b 2
 

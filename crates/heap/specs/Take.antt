@@ -19,7 +19,9 @@ use Rattle.model.specs.Chunks.{hostMax}
 use Rattle.arena.specs.Calls.{Committed, commitFor}
 use Rattle.pages.specs.Runs.{whole}
 use Rattle.pages.specs.Stack.{tops, latest, draw, hasMore}
-use Rattle.pages.specs.Links.{link, unlink, Park, emptyPages, coldPages, top, tally, wake}
+use Rattle.pages.specs.Links.{link, unlink, top, tally, wake}
+use Rattle.pages.specs.declared.Park.{Park}
+use Rattle.pages.specs.declared.Park.the-variants.{Empty, Cold}
 use Rattle.pages.specs.Carve.{newRun}
 
 -- what a take answers: 0 or the refusal's number, the book, the count, the list and virgin
@@ -114,8 +116,8 @@ unfoldable pub takeBlocks : ℕ → List ℕ → ℕ → Shape → ℕ → List 
 takeBlocks n b c sh h l =
     cond (ltb n (get b (arena frontier))) (tookNone b l 13)
     (cond (not (eqb (get b (class partial c)) 0)) (fromPartial n b c sh l)
-    (cond (not (eqb (get b (class empty c)) 0)) (fromPark n b c sh emptyPages l)
-    (cond (not (eqb (get b (class cold c)) 0)) (fromPark n b c sh coldPages l)
+    (cond (not (eqb (get b (class empty c)) 0)) (fromPark n b c sh Empty l)
+    (cond (not (eqb (get b (class cold c)) 0)) (fromPark n b c sh Cold l)
     (takeNew n b c sh h l))))
 
 -- a class's take from number 3 on

@@ -1,9 +1,9 @@
 -- Entries not yet released share no byte, with each other or with a page held by the direct calls. Assumes nothing.
-use Prim.Native.Nat.{ℕ, zero, suc, _+_, _-_, _*_, _/_, _%_, _^_, _≤_, _<_}
+use Prim.Native.Nat.{ℕ, zero, suc, _+_, _-_, _*_, _/_, _≤_, _<_}
 use mathlib.Core.Path.{_≡_, refl, sym, ap, _∙_, subst}
 use mathlib.Core.List.{List, [], _∷_, _++_}
-use mathlib.Core.Logic.{_↔_, _⊎_, inl, inr}
-use mathlib.Core.Bool.{Bool, true, false, cond, not, _&&_}
+use mathlib.Core.Logic.{_⊎_, inl, inr}
+use mathlib.Core.Bool.{Bool}
 use native.Mathlib.Omega.{arith}
 use native.Mathlib.Nat.{zero-add, mul-le-mul-right}
 use lib.Dec.{eqb, leb, ltb}
@@ -14,10 +14,10 @@ use Rattle.classes.specs.Shape.{shapeOf}
 use Rattle.classes.specs.Sizes.{granuleBytes, pageBytes}
 use Rattle.classes.specs.Sound.{Sound}
 use Rattle.classes.proofs.Shapes.{shape-sound}
-use Rattle.model.specs.Lists.{All, total, covers, count}
+use Rattle.model.specs.Lists.{All, total, count}
 use Rattle.model.specs.Calls.{Call}
 use Rattle.model.specs.Page.{Page, wordOf, wordsFrom, pageGranules, carvedWords}
-use Rattle.model.specs.Heap.{Heap, Holder, isDirect, isHeld}
+use Rattle.model.specs.Heap.{Heap}
 use Rattle.model.specs.History.{events, heapAfter}
 use Rattle.model.specs.Entries.{Entry, HasByte, In, Live, firstByte, blockBytes}
 use Rattle.model.specs.Ledger.{heldBy}
@@ -61,7 +61,7 @@ module _ (sh : Shape) (ok : Sound sh) where
 
     granule : granuleOf w ≡ p .first * pageGranules + (sh .header + s .index * sh .block)
     unfolding wordOf
-    granule = let e : w ≡ sh .kind * 2 ^ 30 + (p .first * 4096 + (sh .header + s .index * sh .block)) = s .names in omega (arith, ends, ok .wide)
+    granule = omega (arith, s .names, ends, ok .wide)
 
     on-page : (b : ℕ) → Bytes w b → on sh (b / pageBytes) p ≡ 1
     on-page b h = covers-in (sh .pages) (p .first) (b / pageBytes) (omega (arith, granule, h .from)) (omega (arith, granule, ends, h .to))
@@ -190,7 +190,7 @@ module _ (size n : ℕ) (H : Heap) (es : List Entry) (f : ℕ → Bool) (l : ℕ
       (rw total-append (omega (arith, inv .outs (e .class) (e .word), in-total (is (e .class) (e .word)) e es m, is-self e)))
 
   bytes : (e : Entry) (b : ℕ) → HasByte e b → Bytes (shapeOf (e .class)) (shape-sound (e .class)) (e .word) b
-  bytes e b h = record { from = h .from; to = h .to }
+  bytes e b h = record { from = omega (arith, h .from); to = omega (arith, h .to) }
 
   entry-held : (e : Entry) → In e es → (b : ℕ) → HasByte e b → 1 ≤ heldBy (e .class) (H .holder (b / pageBytes))
   entry-held e m b h =

@@ -3,14 +3,13 @@ use Prim.Native.Nat.{ℕ, _+_, _≤_}
 use mathlib.Core.Path.{_≡_, refl, sym, ap, _∙_, subst}
 use mathlib.Core.List.{List, [], _∷_}
 use mathlib.Core.Option.{Option, none, some}
-use mathlib.Core.Bool.{Bool, cond}
+use mathlib.Core.Bool.{Bool, true, false, cond}
 use native.Mathlib.Omega.{arith}
-use lib.Dec.{eqb, leb}
 use borrow.Author.Tests.{leb-true, eqb-true}
 use Rattle.words.specs.Host.{reservationGranted, commitGranted}
 use Rattle.model.specs.Lists.{covers, coversAll, coversRun}
 use Rattle.model.specs.HoleStore.{HoleStore, choose, accepts, append}
-use Rattle.model.specs.Arena.{Arena, Status, unasked, ready, disabled, withStatus, withFrontier, withStore, give, giveAll, Given, drawFrom, draw, grant, commitReady, commitAs, commit, canGrow, grow}
+use Rattle.model.specs.Arena.{Arena, Status, unasked, ready, disabled, withStatus, withFrontier, withStore, give, giveAll, Given, given, drawFrom, draw, grant, commitReady, commitAs, commit, canGrow, grow}
 use Rattle.model.specs.Ledger.{inHoles, above, abandons, allAbandon, grantAbandons, readyAbandons, commitAbandons, growAbandons}
 use Rattle.model.specs.BestFit.{LeastAt}
 use Rattle.model.proofs.Counts.{by-cases, and-l, and-r, total-append}
@@ -47,15 +46,23 @@ record Drawn (size n : ℕ) (a : Arena) (d : Given) : Type 0 where
   rises : a .frontier ≤ d .arena .frontier
   bound : a .frontier ≤ size → d .arena .frontier ≤ size
 
-drawnFrom : (size n : ℕ) (s : HoleStore) (a : Arena) {o : Option ℕ} → Chosen n s o → s .holes ≡ a .store .holes → Drawn size n a (drawFrom size n a o)
-unfolding drawFrom
-drawnFrom size n s a (at-hole i k w) e =
-    let k′ = subst (λ hs. LeastAt n hs i) e k in
-    record { pages = λ x. omega (arith, take-law n i x (a .store) (k′ .inside) (k′ .enough)); rises = omega arith; bound = λ b. b }
-drawnFrom size n s a (no-hole k) e =
-    by-cases (leb (a .frontier + n) size)
-    (λ e. rw e (record { pages = λ x. omega (arith, above-cut n (a .frontier) x); rises = omega arith; bound = λ b. leb-true (a .frontier + n) size e }))
-    (λ e. rw e (record { pages = λ x. omega arith; rises = omega arith; bound = λ b. b }))
+module _ (size n : ℕ) (a : Arena) where
+  drawn-cond : (b : Bool) (x y : Given) → (b ≡ true → Drawn size n a x) → (b ≡ false → Drawn size n a y) → Drawn size n a (cond b x y)
+  drawn-cond true x y p q = p refl
+  drawn-cond false x y p q = q refl
+
+  drawn-frontier : a .frontier + n ≤ size → Drawn size n a (given (withFrontier (a .frontier + n) a) (some (a .frontier)) true)
+  drawn-frontier l = record { pages = λ x. omega (arith, above-cut n (a .frontier) x); rises = omega arith; bound = λ b. l }
+
+  drawn-none : Drawn size n a (given a none false)
+  drawn-none = record { pages = λ x. omega arith; rises = omega arith; bound = λ b. b }
+
+  drawnFrom : (s : HoleStore) {o : Option ℕ} → Chosen n s o → s .holes ≡ a .store .holes → Drawn size n a (drawFrom size n a o)
+  unfolding drawFrom
+  drawnFrom s (at-hole i k w) e =
+      let k′ = subst (λ hs. LeastAt n hs i) e k in
+      record { pages = λ x. omega (arith, take-law n i x (a .store) (k′ .inside) (k′ .enough)); rises = omega arith; bound = λ b. b }
+  drawnFrom s (no-hole k) e = search (drawn-cond, drawn-frontier, drawn-none, leb-true)
 
 -- the same account from an arena with the same holes and frontier
 same-idle : (x : ℕ) (a b : Arena) → a .store .holes ≡ b .store .holes → a .frontier ≡ b .frontier → idle x a ≡ idle x b
@@ -65,7 +72,7 @@ drawn : (size n : ℕ) (a : Arena) → Drawn size n a (draw size n a)
 unfolding draw
 drawn size n a =
     let c = choose n (a .store) in
-    let d = drawnFrom size n (a .store) (withStore (c .store) a) (chosen n (a .store)) (sym (choose-holes n (a .store))) in
+    let d = drawnFrom size n (withStore (c .store) a) (a .store) (chosen n (a .store)) (sym (choose-holes n (a .store))) in
     record { pages = λ x. d .pages x ∙ same-idle x (withStore (c .store) a) a (choose-holes n (a .store)) refl; rises = d .rises; bound = d .bound }
 
 -- a commit: the run answered and what was abandoned leave the idle pages
@@ -106,7 +113,7 @@ module _ (size h e n : ℕ) (a : Arena) where
   unfolding grow
   grow-law x =
       by-cases (canGrow size e n a)
-      (λ d. let f = eqb-true (a .frontier) e (and-l (eqb (a .frontier) e) (leb (e + n) size) d) in
+      (λ d. let f = eqb-true (a .frontier) e (search and-l) in
       by-cases (commitGranted h)
       (λ c. rw d (rw c (omega (arith, above-cut n e x, ap (λ f. above f x) f))))
       (λ c. rw d (rw c (omega (arith, above-cut n e x, ap (λ f. above f x) f, give-law n e x (withFrontier (e + n) a))))))
@@ -116,7 +123,7 @@ module _ (size h e n : ℕ) (a : Arena) where
   unfolding grow
   grow-rises =
       by-cases (canGrow size e n a)
-      (λ d. let f = eqb-true (a .frontier) e (and-l (eqb (a .frontier) e) (leb (e + n) size) d) in
+      (λ d. let f = eqb-true (a .frontier) e (search and-l) in
       by-cases (commitGranted h)
       (λ c. rw d (rw c (omega arith)))
       (λ c. rw d (rw c (omega (arith, give-frontier n e (withFrontier (e + n) a))))))
@@ -126,7 +133,7 @@ module _ (size h e n : ℕ) (a : Arena) where
   unfolding grow
   grow-bound k =
       by-cases (canGrow size e n a)
-      (λ d. let l = leb-true (e + n) size (and-r (eqb (a .frontier) e) (leb (e + n) size) d) in
+      (λ d. let l = leb-true (e + n) size (search and-r) in
       by-cases (commitGranted h)
       (λ c. rw d (rw c l))
       (λ c. rw d (rw c (omega (arith, give-frontier n e (withFrontier (e + n) a))))))

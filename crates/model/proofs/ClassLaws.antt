@@ -2,7 +2,7 @@
 -- what a take answers goes out, and only what a release names comes in. Assumes nothing.
 use Prim.Native.Nat.{ℕ, _+_, _≤_}
 use mathlib.Core.Path.{_≡_, refl, ap, subst}
-use mathlib.Core.List.{List, [], _∷_, _++_}
+use mathlib.Core.List.{List, [], _∷_}
 use mathlib.Core.Option.{Option, none, some}
 use mathlib.Core.Bool.{Bool, true, false, cond, not, _&&_}
 use native.Mathlib.Omega.{arith}
@@ -11,10 +11,10 @@ use borrow.Author.Tests.{not-false}
 use Rattle.words.specs.Word.{pageOf}
 use Rattle.classes.specs.declared.Shape.{Shape}
 use Rattle.classes.specs.Sound.{Sound}
-use Rattle.model.specs.Lists.{All, count, every, distinct, filter, total, covers, coversAll, coversRun}
-use Rattle.model.specs.Calls.{Request, take, giveBack, giveChunks, Answer, taken, fate, fates, refused, blocksOf, releasedBy}
+use Rattle.model.specs.Lists.{All, count, every, distinct, total, covers, coversAll, coversRun}
+use Rattle.model.specs.Calls.{Request, take, giveBack, giveChunks, fate, fates, refused, blocksOf, releasedBy}
 use Rattle.model.specs.Page.{Page, isMedium, carve, isOut, noneOut, reused, returned, retire}
-use Rattle.model.specs.Class.{Class, lists, Cold, Result, Ask, done, asks, refuse, Filled, fillFromList, served, thawed, onRun, takeFrom}
+use Rattle.model.specs.Class.{Class, lists, Cold, Result, Ask, done, asks, serve, refuse, Filled, fillFromList, served, thawed, onRun, takeFrom}
 use Rattle.model.specs.Release.{Found, find, Site, inPartial, inFull, orElse, mapFound, locate, Settled, park, parkEmpty, parkCold, letGo, markRetired, settle, outHere, onPage, siteOfFirst, releaseList}
 use Rattle.model.specs.Chunks.{startsAt, blocksOn, settleChunk, settleChunks, releaseChunks, answer}
 use Rattle.model.specs.Ledger.{runsWith}
@@ -87,6 +87,10 @@ module _ (sh : Shape) (ok : Sound sh) where
       one-moves (lists [] [] [] fs) (some q) l (sh .batch) (carve sh q true) [] [] fs (carve-empty sh ok (isMedium sh) q true) tt gf
       (λ x. omega (arith, carve-on sh ok (isMedium sh) q x true)) (λ w. omega arith)
 
+  cold-moves : (l : List ℕ) (c : Cold) (cs : List Cold) (fs : List Page) → All (GoodPage sh) fs → Moves sh (lists [] [] (c ∷ cs) fs) none [] (serve (takeFrom sh l [] [] (c ∷ cs) fs) none)
+  unfolding takeFrom
+  cold-moves l c cs fs gf = one-moves (lists [] [] (c ∷ cs) fs) none l (sh .batch) (thawed sh c) [] _ fs (thawed-empty sh ok c) tt gf (λ x. omega (arith, thawed-on sh ok x c)) (λ w. omega arith)
+
   take-lawful : (h : ℕ) (l : List ℕ) (ps es : List Page) (cs : List Cold) (fs : List Page) → GoodClass sh (lists ps es cs fs) → Lawful sh (lists ps es cs fs) (take h l) (takeFrom sh l ps es cs fs)
   unfolding takeFrom served
   take-lawful h l (p ∷ ps) es cs fs good =
@@ -96,8 +100,7 @@ module _ (sh : Shape) (ok : Sound sh) where
       lawful-done (one-moves (lists [] (e ∷ es) cs fs) none l (sh .batch) (reused sh e) es cs fs (reused-empty sh ok e (good .empty .0)) (good .empty .1) (good .full)
       (λ x. omega (arith, reused-on sh ok x e)) (λ w. omega arith))
   take-lawful h l [] [] (c ∷ cs) fs good =
-      lawful-done (one-moves (lists [] [] (c ∷ cs) fs) none l (sh .batch) (thawed sh c) [] cs fs (thawed-empty sh ok c) tt (good .full)
-      (λ x. omega (arith, thawed-on sh ok x c)) (λ w. omega arith))
+      lawful-done (cold-moves l c cs fs (good .full))
   take-lawful h l [] [] [] fs good = lawful-asks (run-moves h l fs (good .full))
 
   -- a site: the class is its page and the rest, and another page may stand in its stead
@@ -172,7 +175,7 @@ module _ (sh : Shape) (ok : Sound sh) where
     to-cold = record { good = record { partial = gs .partial; empty = gs .empty; full = gs .full }; pages = λ z. omega arith; out = λ w. omega arith }
 
     to-arena : ParkLaw s p (letGo s p)
-    to-arena = record { good = gs; pages = λ z. omega arith; out = λ w. omega arith }
+    to-arena = record { good = record { partial = gs .partial; empty = gs .empty; full = gs .full }; pages = λ z. omega arith; out = λ w. omega arith }
 
     parked-cond : (b : Bool) (x y : Settled) → ParkLaw s p x → ParkLaw s p y → ParkLaw s p (cond b x y)
     parked-cond true x y k l = k
@@ -221,13 +224,16 @@ module _ (sh : Shape) (ok : Sound sh) where
   settled-moves : (s : Class) (ws : List ℕ) (b : Settled) → SettleLaw s ws b → Moves sh s none ws (record { class = b .class; answer = fate (b .fate); gives = b .gives })
   settled-moves s ws b k = record { good = k .good; pages = λ z. omega (arith, k .pages z); out = λ w z. omega (arith, k .out w); quiet = λ w z. refl }
 
-  page-lawful : (h : ℕ) (s : Class) (ws : List ℕ) → GoodClass sh s → distinct ws ≡ true → (o : Option Site) → SiteLaws s o → Lawful sh s (giveBack h ws) (onPage sh h s ws o)
-  unfolding onPage
-  page-lawful h s ws good d none law = lawful-refuse sh s good (giveBack h ws) 10
-  page-lawful h s ws good d (some x) law =
-      lawful-cond sh s good (giveBack h ws) (every (λ w. isOut sh w (x .page)) ws) _ _
-      (λ e. lawful-done (settled-moves s ws (settle sh h false ws x) (settle-law h s ws x law (λ w. distinct-count w ws d) (λ w. every-count (λ v. isOut sh v (x .page)) w ws e) false)))
-      (λ e. lawful-refuse sh s good (giveBack h ws) 11)
+  module _ (h : ℕ) (s : Class) (ws : List ℕ) (good : GoodClass sh s) (d : distinct ws ≡ true) where
+    settle-lawful : (x : Site) → SiteLaw s x → every (λ w. isOut sh w (x .page)) ws ≡ true
+        → (let b = settle sh h false ws x in Lawful sh s (giveBack h ws) (done (record { class = b .class; answer = fate (b .fate); gives = b .gives })))
+    settle-lawful x law e =
+        lawful-done (settled-moves s ws (settle sh h false ws x) (settle-law h s ws x law (λ w. distinct-count w ws d) (λ w. every-count (λ v. isOut sh v (x .page)) w ws e) false))
+
+    page-lawful : (o : Option Site) → SiteLaws s o → Lawful sh s (giveBack h ws) (onPage sh h s ws o)
+    unfolding onPage
+    page-lawful none law = lawful-refuse sh s good (giveBack h ws) 10
+    page-lawful (some x) law = search (lawful-cond sh s good, lawful-refuse sh s good, settle-lawful x law)
 
   -- a release by chunks
   record ChunkLaw (s : Class) (ws : List ℕ) (t : Class) (gives : List ℕ) : Type 0 where
@@ -235,13 +241,21 @@ module _ (sh : Shape) (ok : Sound sh) where
     pages : (z : ℕ) → runsWith sh z t + coversAll (sh .pages) gives z ≡ runsWith sh z s
     out : (w : ℕ) → count w ws ≡ 0 → outCount sh w t ≡ outCount sh w s
 
+  -- a chunk's blocks are out on its page, and are the list's
+  blocks-out : (ws : List ℕ) (p : Page) (w : ℕ) → 1 ≤ count w (blocksOn sh ws p) → isOut sh w p ≡ true
+  unfolding blocksOn
+  blocks-out ws p w h = filter-passes _ w ws h
+
+  blocks-le : (ws : List ℕ) (p : Page) (w : ℕ) → count w (blocksOn sh ws p) ≤ count w ws
+  unfolding blocksOn
+  blocks-le ws p w = filter-le _ w ws
+
   chunk-law : (h : ℕ) (s : Class) (ws : List ℕ) → GoodClass sh s → distinct ws ≡ true → (o : Option Site) → SiteLaws s o → ChunkLaw s ws (settleChunk sh h s ws o .class) (settleChunk sh h s ws o .gives)
-  unfolding settleChunk blocksOn
+  unfolding settleChunk
   chunk-law h s ws good d none law = record { good = good; pages = λ z. omega arith; out = λ w z. refl }
   chunk-law h s ws good d (some x) law =
-      let t : ℕ → Bool = λ w. isOut sh w (x .page) in
-      let k = settle-law h s (filter t ws) x law (λ w. omega (arith, filter-le t w ws, distinct-count w ws d)) (λ w. filter-passes t w ws) true in
-      record { good = k .good; pages = k .pages; out = λ w z. omega (arith, k .out w, filter-le t w ws) }
+      let k = settle-law h s (blocksOn sh ws (x .page)) x law (λ w. omega (arith, blocks-le ws (x .page) w, distinct-count w ws d)) (blocks-out ws (x .page)) true in
+      record { good = k .good; pages = k .pages; out = λ w z. omega (arith, k .out w, blocks-le ws (x .page) w) }
 
   chunks-law : (h : ℕ) (ws : List ℕ) → distinct ws ≡ true → (s : Class) (gs : List ℕ) → GoodClass sh s → ChunkLaw s ws (settleChunks sh h ws s gs .class) (settleChunks sh h ws s gs .gives)
   unfolding settleChunks

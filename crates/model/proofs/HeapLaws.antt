@@ -1,23 +1,23 @@
 -- The invariant of the heap, and that every call keeps it. Assumes nothing.
 use Prim.Native.Nat.{ℕ, zero, suc, _+_, _-_, _≤_, _<_}
 use mathlib.Core.Path.{_≡_, refl, sym, ap, _∙_, subst}
-use mathlib.Core.List.{List, [], _∷_, _++_}
+use mathlib.Core.List.{List, [], _∷_}
 use mathlib.Core.Option.{Option, none, some, Option·none-ne-some}
-use mathlib.Core.Bool.{Bool, true, false, cond, not, _&&_, _||_}
+use mathlib.Core.Bool.{Bool, true, false, cond, not}
 use native.Mathlib.Omega.{arith}
 use lib.Dec.{eqb, leb, ltb}
 use borrow.Author.Tests.{leb-true, leb-false, ltb-true, eqb-true, eqb-false, ne-eqb, not-false}
 use Rattle.classes.specs.declared.Shape.{Shape}
 use Rattle.classes.specs.Shape.{shapeOf}
 use Rattle.classes.proofs.Shapes.{shape-sound}
-use Rattle.model.specs.Lists.{total, covers, coversAll, coversRun, inRun, update, count, filter, every, below}
+use Rattle.model.specs.Lists.{total, covers, coversAll, coversRun, inRun, update, count, every, below}
 use Rattle.model.specs.Calls as Calls
 use Rattle.model.specs.Calls.{Call, Answer, Request, Named, names, hostOf, blocksOf, releasedBy, isRefused}
-use Rattle.model.specs.Class.{Class, Result, Ask, done, asks, serve}
+use Rattle.model.specs.Class.{Class, Result, Ask, serve}
 use Rattle.model.specs.Chunks.{answer}
 use Rattle.model.specs.Arena as Arenas
 use Rattle.model.specs.Arena.{Arena, Given, giveAll}
-use Rattle.model.specs.Heap.{Heap, Holder, nobody, Outcome, newHeap, isDirect, isHeld, heldDirect, offer, finish, interact, classCall, asked, step, route, directCall, commitCall, growCall, releaseCall, reportOf, answerRun, unchanged}
+use Rattle.model.specs.Heap.{Heap, Holder, Outcome, newHeap, isDirect, isHeld, heldDirect, offer, finish, interact, classCall, asked, step, route, directCall, commitCall, growCall, releaseCall, reportOf, answerRun, unchanged}
 use Rattle.model.specs.History.{eventsFrom, heapFrom}
 use Rattle.model.specs.Entries.{Entry, entriesFrom, hasWord, directNext, directFrom, runOf}
 use Rattle.model.specs.Ledger.{inHoles, above, runsWith, heldBy, abandons, allAbandon, commitAbandons, growAbandons, offerAbandons, classAbandons, directAbandons, callAbandons, abandonedFrom}

@@ -27,7 +27,8 @@ use Rattle.model.proofs.ArenaLaws.{idle}
 use Rattle.model.proofs.BestFit.{commits}
 use Rattle.model.proofs.Remembers.{Tidy, tidy-remembers}
 use Rattle.model.proofs.ArenaTidy.{tidy-new, tidy-give, tidy-give-all, tidy-commit, tidy-grow}
-use Rattle.model.proofs.IdlePages.{idle-figure}
+use Rattle.model.proofs.IdlePages.{HolesBelow, holes-below, idle-figure}
+use Rattle.model.proofs.HeapLaws.{kept}
 
 -- a request is done, or asks for one of the class's runs
 data AsksRun (sh : Shape) : Ask → Type 0 where
@@ -146,5 +147,12 @@ module _ (size : ℕ) (xs : List Call) where
   pub hole-total : arena .store .total ≡ total (λ h. h .pages) (arena .store .holes)
   hole-total = tidy-after .sum
 
-  pub idle-after : arena .frontier ≤ size → ((x : ℕ) → idle x arena ≤ 1) → idlePages size arena ≡ total (λ x. idle x arena) (below size)
-  idle-after l k = idle-figure size arena tidy-after l k
+  idle-once : (x : ℕ) → idle x arena ≤ 1
+  idle-once x = omega (arith, kept size xs .inv .one x)
+
+  pub idle-after : idlePages size arena ≡ total (λ x. idle x arena) (below size)
+  idle-after = idle-figure size arena tidy-after (kept size xs .inv .bound) idle-once
+
+  -- every hole lies below the frontier
+  pub holes-after : HolesBelow (arena .frontier) (arena .store .holes)
+  holes-after = holes-below arena tidy-after idle-once

@@ -1,20 +1,21 @@
 -- The idle pages: holes lie below the frontier, and the report's figure counts the pages in holes and at or above the frontier. Assumes nothing.
 use Prim.Native.Nat.{ℕ, zero, suc, _+_, _-_, _≤_}
-use mathlib.Core.Path.{_≡_, refl, sym, _∙_}
+use mathlib.Core.Path.{_≡_, refl, sym, ap, _∙_}
 use mathlib.Core.List.{List, [], _∷_}
+use mathlib.Core.Option.{some}
 use native.Mathlib.Omega.{arith}
 use lib.Dec.{ltb}
 use borrow.Author.Tests.{ltb-true, ltb-false}
 use Rattle.model.specs.declared.Hole.{Hole}
-use Rattle.model.specs.Lists.{All, total, below, covers}
-use Rattle.model.specs.Arena.{Arena}
+use Rattle.model.specs.Lists.{All, total, below, covers, coversRun}
+use Rattle.model.specs.Arena.{Arena, commit}
 use Rattle.model.specs.Heap.{idlePages}
 use Rattle.model.specs.Ledger.{inHoles, above}
 use Rattle.model.proofs.Counts.{by-cases}
 use Rattle.model.proofs.Runs.{covers-in, above-at, above-not, above-cut}
 use Rattle.model.proofs.HoleLists.{all-map}
 use Rattle.model.proofs.Remembers.{Tidy}
-use Rattle.model.proofs.ArenaLaws.{idle}
+use Rattle.model.proofs.ArenaLaws.{idle, commit-law}
 
 -- a run with no page at or above the frontier ends there or below
 pub run-below : (n q f : ℕ) → 1 ≤ n → ((x : ℕ) → covers n q x + above f x ≤ 1) → q + n ≤ f
@@ -23,6 +24,10 @@ run-below n q f one k =
     by-cases (ltb x f)
     (λ e. omega (arith, ltb-true x f e))
     (λ e. omega (arith, k x, covers-in n q x (omega arith) (omega arith), above-at f x (ltb-false x f e)))
+
+-- so does a run that a commit answers, where no page was idle twice
+pub commit-below : (size h n : ℕ) (a : Arena) → 1 ≤ n → ((x : ℕ) → idle x a ≤ 1) → (q : ℕ) → commit size h n a .run ≡ some q → q + n ≤ commit size h n a .arena .frontier
+commit-below size h n a one k q e = run-below n q (commit size h n a .arena .frontier) one (λ x. omega (arith, k x, commit-law size h n a .pages x, ap (λ o. coversRun n o x) e))
 
 -- no page is idle twice: so every hole lies below the frontier
 abbrev pub HolesBelow : ℕ → List Hole → Type 0

@@ -36,12 +36,12 @@ module _ (sh : Shape) (ok : Sound sh) where
   newBlocks true q = reverse (take (sh .batch) (wordsFrom sh q 0 (sh .capacity)))
   newBlocks false q = wordsFrom sh q 0 (min (sh .batch) (sh .capacity))
 
-  new-blocks : (b : Bool) (q : ℕ) → fillFromList sh (sh .batch) (carveAs sh b q true ∷ []) .blocks ≡ newBlocks b q
+  new-blocks : (b v : Bool) (q : ℕ) → fillFromList sh (sh .batch) (carveAs sh b q v ∷ []) .blocks ≡ newBlocks b q
   unfolding fillFromList carveAs pop after carvedNow
-  new-blocks true q =
+  new-blocks true v q =
       let none-left : min (sh .batch - length (wordsFrom sh q 0 (sh .capacity))) (sh .capacity - sh .capacity) ≡ 0 = omega arith in
       rw (ne-eqb (sh .batch) 0 (omega (arith, ok .gives))) (rw none-left)
-  new-blocks false q = rw (ne-eqb (sh .batch) 0 (omega (arith, ok .gives))) (simp (sub-zero, take-nil, append-nil))
+  new-blocks false v q = rw (ne-eqb (sh .batch) 0 (omega (arith, ok .gives))) (simp (sub-zero, take-nil, append-nil))
 
   blocks-come : (b : Bool) (q : ℕ) → 1 ≤ length (newBlocks b q)
   blocks-come true q = rw (length-reverse, length-take, length-words) (omega (arith, ok .gives, ok .blocks))
@@ -56,7 +56,7 @@ module _ (sh : Shape) (ok : Sound sh) where
   module _ (l : List ℕ) (fs : List Page) where
     pub run-blocks : (q : ℕ) → blocksOf (onRun sh l fs (some q) .answer) ≡ newBlocks (isMedium sh) q
     unfolding onRun served
-    run-blocks q = take-append-seam _ _ ∙ new-blocks (isMedium sh) q
+    run-blocks q = take-append-seam _ _ ∙ new-blocks (isMedium sh) _ q
 
     pub run-tells : Tells (onRun sh l fs)
     unfolding onRun

@@ -1,17 +1,17 @@
 -- What a page keeps: its blocks out are the carved ones that are not free, and pops and returns move them one by one. Assumes nothing.
-use Prim.Native.Nat.{ℕ, zero, suc, _+_, _-_, _*_, _≤_, _<_, min}
+use Prim.Native.Nat.{ℕ, zero, suc, _+_, _-_, _≤_, _<_}
 use mathlib.Core.Path.{_≡_, refl}
-use mathlib.Core.List.{List, [], _∷_, _++_, reverse}
-use mathlib.Core.Bool.{Bool, true, false, cond, not, _&&_}
+use mathlib.Core.List.{List, [], _∷_, _++_}
+use mathlib.Core.Bool.{Bool, true, false, cond, not}
 use native.Mathlib.Omega.{arith}
 use native.Mathlib.Nat.{add-zero, add-suc, zero-add, mul-le-mul-right}
 use lib.Dec.{eqb, leb}
-use lib.ListN.{length, take, drop}
+use lib.ListN.{length}
 use borrow.Author.Tests.{eqb-true, ne-eqb, not-true, leb-true, leb-false}
 use Rattle.classes.specs.declared.Shape.{Shape}
 use Rattle.classes.specs.Sound.{Sound}
-use Rattle.model.specs.Lists.{All, count, elem, every, total, covers}
-use Rattle.model.specs.Page.{Page, Popped, wordOf, wordsFrom, isMedium, carveAs, carve, carvedWords, isOut, noneOut, hasMore, carvedNow, pop, returned, retire, reused}
+use Rattle.model.specs.Lists.{All, count, elem, total, covers}
+use Rattle.model.specs.Page.{Page, wordOf, wordsFrom, isMedium, carveAs, carve, carvedWords, isOut, noneOut, hasMore, carvedNow, pop, returned, retire, reused}
 use Rattle.model.specs.Class.{Cold, Filled, after, fillFromList, thawed}
 use Rattle.model.proofs.Counts.{by-cases, and-l, and-r, count-append, count-reverse, count-cut, elem-count, count-elem, every-count}
 

@@ -4,7 +4,7 @@ use Prim.Native.Nat.{ℕ, _+_, _-_, _≤_, _<_}
 use mathlib.Core.Path.{_≡_, refl, sym, _∙_}
 use mathlib.Core.List.{List, [], _∷_, _++_}
 use mathlib.Core.Option.{Option, none, some}
-use mathlib.Core.Bool.{true, false, _&&_}
+use mathlib.Core.Bool.{true, false, _&&_, true≢false}
 use native.Mathlib.Omega.{arith}
 use lib.Dec.{eqb, leb, ltb}
 use lib.ListN.{length, length-append}
@@ -14,7 +14,7 @@ use Rattle.model.specs.Lists.{All, isSome, total}
 use Rattle.model.specs.HoleStore.{HoleStore, Memory, store, emptyStore, hole, holeAt, setAt, removeAt, holeSlots, holePagesMax, rememberedMax, lowest, remember, refresh, stillHolds, chooseIn, choose, cutFrom, takeAt, accepts, append}
 use Rattle.model.specs.BestFit.{Remembers}
 use Rattle.model.proofs.Counts.{by-cases, and-l, and-r, total-append}
-use Rattle.model.proofs.HoleLists.{hasLength, set-total, remove-total, set-length, remove-length, all-set, all-remove, all-snoc, set-other, remove-other, snoc-other, set-own, snoc-own, lowest-some, lowest-inside}
+use Rattle.model.proofs.HoleLists.{hasLength, set-total, remove-total, set-length, remove-length, all-set, all-remove, all-snoc, all-at, set-other, remove-other, snoc-other, set-own, snoc-own, lowest-some, lowest-inside}
 
 -- what is remembered of length n: an index exactly if some hole has n pages. The index may be stale, but it is one of a store's.
 pub record IndexFor (n : ℕ) (hs : List Hole) (o : Option ℕ) : Type 0 where
@@ -31,6 +31,21 @@ pub record Tidy (s : HoleStore) : Type 0 where
 
 pub tidy-remembers : (s : HoleStore) → Tidy s → Remembers s
 tidy-remembers s t n l = t .memory n l .exact
+
+-- no length 0 is remembered, and a hole has at most the total's pages
+no-pages : (hs : List Hole) → All (λ h. 1 ≤ h .pages) hs → hasLength 0 hs ≡ false
+no-pages [] k = refl
+no-pages (h ∷ hs) k = rw (ne-eqb (h .pages) 0 (λ e. omega (arith, k .0))) (no-pages hs (k .1))
+
+none-there : (o : Option ℕ) → isSome o ≡ false → o ≡ none
+none-there none e = refl
+none-there (some i) e = absurd (true≢false e)
+
+pub tidy-zero : (s : HoleStore) → Tidy s → s .memory 0 ≡ none
+tidy-zero s t = none-there (s .memory 0) (t .memory 0 (omega arith) .exact ∙ no-pages (s .holes) (t .each))
+
+pub tidy-hole : (s : HoleStore) → Tidy s → (i : ℕ) → i < length (s .holes) → (1 ≤ holeAt i (s .holes) .pages) × (holeAt i (s .holes) .pages ≤ s .total)
+tidy-hole s t i l = (all-at (λ h. 1 ≤ h .pages) i (s .holes) l (t .each), omega (arith, t .sum, remove-total (λ h. h .pages) i (s .holes) l))
 
 -- memory, at one length
 remember-at : (P : Option ℕ → Type 0) (n : ℕ) (o : Option ℕ) (m : Memory) (k : ℕ) → k ≤ rememberedMax → (k ≡ n → P o) → (eqb n k ≡ false → P (m k)) → P (remember n o m k)
@@ -91,11 +106,14 @@ module _ (n i : ℕ) (s : HoleStore) (k : Tidy s) (inside : i < length (s .holes
   abbrev rest : Hole
   rest = hole (x .first + n) (x .pages - n)
 
-  cut-tidy : n < x .pages → (let hs = setAt i rest (s .holes) in Tidy (store hs (s .total - n) (remember (x .pages - n) (some i) (refresh (x .pages) hs (s .memory)))))
-  cut-tidy less =
+  pub tidy-take : Tidy (takeAt n i s)
+  unfolding cutFrom
+  tidy-take =
+      by-cases (ltb n (x .pages))
+      (λ e. let less = ltb-true n (x .pages) e in
       let hs = setAt i rest (s .holes) in
       let len : length hs ≤ holeSlots = omega (arith, set-length i rest (s .holes), k .slots) in
-      record {
+      rw e (record {
         memory = λ j l. remember-at (λ o. IndexFor j hs o) (x .pages - n) (some i) (refresh (x .pages) hs (s .memory)) j l
             (λ e. some-index j hs i (set-own j i rest (s .holes) inside (sym e)) (omega (arith, k .slots)))
             (λ d. refresh-at (x .pages) hs (s .memory) len j l
@@ -105,13 +123,11 @@ module _ (n i : ℕ) (s : HoleStore) (k : Tidy s) (inside : i < length (s .holes
         each = all-set (λ h. 1 ≤ h .pages) i rest (omega arith) (s .holes) (k .each);
         slots = len;
         pages = omega (arith, k .pages);
-      }
-
-  used-tidy : x .pages ≤ n → (let hs = removeAt i (s .holes) in Tidy (store hs (s .total - n) (refresh (x .pages) hs (s .memory))))
-  used-tidy all =
+      }))
+      (λ e. let all = ltb-false n (x .pages) e in
       let hs = removeAt i (s .holes) in
       let len : length hs ≤ holeSlots = omega (arith, remove-length i (s .holes), k .slots) in
-      record {
+      rw e (record {
         memory = λ j l. refresh-at (x .pages) hs (s .memory) len j l
             (λ e. same-index j (s .holes) hs (s .memory j) (remove-other j i (s .holes) inside e) (k .memory j l));
         beyond = λ j l. remember-beyond (x .pages) (lowest (x .pages) hs) (s .memory) j l ∙ k .beyond j l;
@@ -119,20 +135,13 @@ module _ (n i : ℕ) (s : HoleStore) (k : Tidy s) (inside : i < length (s .holes
         each = all-remove (λ h. 1 ≤ h .pages) i (s .holes) (k .each);
         slots = len;
         pages = omega (arith, k .pages);
-      }
-
-  pub tidy-take : Tidy (takeAt n i s)
-  unfolding cutFrom
-  tidy-take =
-      by-cases (ltb n (x .pages))
-      (λ e. rw e (cut-tidy (ltb-true n (x .pages) e)))
-      (λ e. rw e (used-tidy (ltb-false n (x .pages) e)))
+      }))
 
 -- giving
 pub tidy-append : (n q : ℕ) (s : HoleStore) → 1 ≤ n → accepts n s ≡ true → Tidy s → Tidy (append n q s)
 unfolding accepts append
 tidy-append n q s one e k =
-    let few = ltb-true (length (s .holes)) holeSlots (and-l (ltb (length (s .holes)) holeSlots) (leb (s .total + n) holePagesMax) e) in
+    let few = ltb-true (length (s .holes)) holeSlots (search and-l) in
     let hs = s .holes ++ hole q n ∷ [] in
     record {
       memory = λ j l. remember-at (λ o. IndexFor j hs o) n (some (length (s .holes))) (s .memory) j l
@@ -142,5 +151,5 @@ tidy-append n q s one e k =
       sum = rw total-append (omega (arith, k .sum));
       each = all-snoc (λ h. 1 ≤ h .pages) (s .holes) (hole q n) (k .each) one;
       slots = rw length-append (omega arith);
-      pages = leb-true (s .total + n) holePagesMax (and-r (ltb (length (s .holes)) holeSlots) (leb (s .total + n) holePagesMax) e);
+      pages = leb-true (s .total + n) holePagesMax (search and-r);
     }

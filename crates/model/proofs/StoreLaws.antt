@@ -3,11 +3,11 @@ use Prim.Native.Nat.{ℕ, zero, suc, _+_, _-_, _≤_, _<_}
 use mathlib.Core.Path.{_≡_, refl, _∙_}
 use mathlib.Core.List.{List, [], _∷_}
 use mathlib.Core.Option.{Option, none, some}
-use mathlib.Core.Bool.{Bool, true, false, _&&_, false≢true}
+use mathlib.Core.Bool.{Bool, true, false, cond, _&&_, false≢true}
 use native.Mathlib.Omega.{arith}
-use lib.Dec.{eqb, leb, ltb}
+use lib.Dec.{leb, ltb}
 use lib.ListN.{length}
-use borrow.Author.Tests.{leb-true, leb-false, ltb-true, ltb-false, eqb-true}
+use borrow.Author.Tests.{leb-true, leb-false, le-leb, ltb-true, ltb-false, eqb-true}
 use Rattle.model.specs.declared.Hole.{Hole}
 use Rattle.model.specs.Lists.{All, total, covers}
 use Rattle.model.specs.HoleStore.{HoleStore, Memory, store, hole, Fit, nearer, leastFit, indexOf, holeAt, rememberedMax, stillHolds, chooseIn, choose, cutFrom, takeAt}
@@ -24,38 +24,47 @@ pub record IsLeast (n : ℕ) (hs : List Hole) (f : Fit) : Type 0 where
   pub least : All (λ h. n ≤ h .pages → f .pages ≤ h .pages) hs
   pub first : (j : ℕ) → j < f .index → holeAt j hs .pages ≡ f .pages → ⊥
 
-abbrev pub Fits : ℕ → List Hole → Option Fit → Type 0
-Fits n hs none = NoneFits n hs
-Fits n hs (some f) = IsLeast n hs f
+pub data Fits (n : ℕ) (hs : List Hole) : Option Fit → Type 0 where
+  fits : (f : Fit) → IsLeast n hs f → Fits n hs (some f)
+  none-fits : NoneFits n hs → Fits n hs none
 
+fits-cond : (n : ℕ) (hs : List Hole) (b : Bool) (x y : Option Fit) → (b ≡ true → Fits n hs x) → (b ≡ false → Fits n hs y) → Fits n hs (cond b x y)
+fits-cond n hs true x y p q = p refl
+fits-cond n hs false x y p q = q refl
+
+-- one hole more: it is the least, or the fit stays, one place on
 module _ (n : ℕ) (h : Hole) (hs : List Hole) where
-  -- the new hole is the least, or the fit stays, one place on
-  here : n ≤ h .pages → All (λ g. n ≤ g .pages → h .pages ≤ g .pages) hs → IsLeast n (h ∷ hs) (record { index = 0; pages = h .pages })
-  here e k = record { inside = omega arith; there = refl; enough = e; least = (λ _. omega arith, k); first = λ j l _. omega arith }
+  first-least : n ≤ h .pages → All (λ g. n ≤ g .pages → h .pages ≤ g .pages) hs → Fits n (h ∷ hs) (some (record { index = 0; pages = h .pages }))
+  first-least e k = fits (record { index = 0; pages = h .pages }) (record { inside = omega arith; there = refl; enough = e; least = (λ _. omega arith, k); first = λ j l _. omega arith })
 
-  there : (f : Fit) → (n ≤ h .pages → f .pages < h .pages) → IsLeast n hs f → IsLeast n (h ∷ hs) (record { index = suc (f .index); pages = f .pages })
-  there f longer k = record { inside = omega (arith, k .inside); there = k .there; enough = k .enough; least = (λ e. omega (arith, longer e), k .least); first = before }
-    where
-      before : (j : ℕ) → j < suc (f .index) → holeAt j (h ∷ hs) .pages ≡ f .pages → ⊥
-      before zero l e = omega (arith, longer (omega (arith, k .enough)))
-      before (suc j) l e = k .first j (omega arith) e
+  alone-fits : NoneFits n hs → n ≤ h .pages → Fits n (h ∷ hs) (some (record { index = 0; pages = h .pages }))
+  alone-fits k e = first-least e (all-map (λ g. g .pages < n) (λ g. n ≤ g .pages → h .pages ≤ g .pages) (λ g p q. omega arith) hs k)
 
-  nearer-fits : (o : Option Fit) → Fits n hs o → Fits n (h ∷ hs) (nearer n h o)
-  nearer-fits none k =
-      by-cases (leb n (h .pages))
-      (λ e. rw e (here (leb-true n (h .pages) e) (all-map (λ g. g .pages < n) (λ g. n ≤ g .pages → h .pages ≤ g .pages) (λ g p q. omega arith) hs k)))
-      (λ e. rw e (leb-false n (h .pages) e, k))
-  nearer-fits (some f) k =
-      by-cases (leb n (h .pages))
-      (λ e. by-cases (leb (h .pages) (f .pages))
-      (λ d. rw (e, d) (here (leb-true n (h .pages) e) (all-map (λ g. n ≤ g .pages → f .pages ≤ g .pages) (λ g. n ≤ g .pages → h .pages ≤ g .pages) (λ g p q. omega (arith, p q, leb-true (h .pages) (f .pages) d)) hs (k .least))))
-      (λ d. rw (e, d) (there f (λ _. leb-false (h .pages) (f .pages) d) k)))
-      (λ e. rw e (there f (λ l. omega (arith, leb-false n (h .pages) e)) k))
+  still-none : NoneFits n hs → h .pages < n → Fits n (h ∷ hs) none
+  still-none k e = none-fits (e, k)
+
+  module _ (f : Fit) (k : IsLeast n hs f) where
+    closer-fits : n ≤ h .pages → h .pages ≤ f .pages → Fits n (h ∷ hs) (some (record { index = 0; pages = h .pages }))
+    closer-fits e l = first-least e (all-map (λ g. n ≤ g .pages → f .pages ≤ g .pages) (λ g. n ≤ g .pages → h .pages ≤ g .pages) (λ g p q. omega (arith, p q)) hs (k .least))
+
+    stays-fit : (n ≤ h .pages → f .pages < h .pages) → Fits n (h ∷ hs) (some (record { index = suc (f .index); pages = f .pages }))
+    stays-fit longer = fits (record { index = suc (f .index); pages = f .pages }) (record { inside = omega (arith, k .inside); there = k .there; enough = k .enough; least = (λ e. omega (arith, longer e), k .least); first = before })
+      where
+        before : (j : ℕ) → j < suc (f .index) → holeAt j (h ∷ hs) .pages ≡ f .pages → ⊥
+        before zero l e = omega (arith, longer (omega (arith, k .enough)))
+        before (suc j) l e = k .first j (omega arith) e
+
+  longer : (m : ℕ) → (leb n (h .pages) && leb (h .pages) m) ≡ false → n ≤ h .pages → m < h .pages
+  longer m e l = leb-false (h .pages) m (rw (le-leb n (h .pages) l) at e)
+
+  nearer-fits : {o : Option Fit} → Fits n hs o → Fits n (h ∷ hs) (nearer n h o)
+  nearer-fits (none-fits k) = search (fits-cond, alone-fits, still-none, leb-true, leb-false)
+  nearer-fits (fits f k) = search (fits-cond, closer-fits, stays-fit, longer, leb-true, and-l, and-r) depth 9
 
 pub least-fits : (n : ℕ) (hs : List Hole) → Fits n hs (leastFit n hs)
 unfolding leastFit
-least-fits n [] = tt
-least-fits n (h ∷ hs) = nearer-fits n h hs (leastFit n hs) (least-fits n hs)
+least-fits n [] = none-fits tt
+least-fits n (h ∷ hs) = nearer-fits n h hs (least-fits n hs)
 
 -- the choice, with its reason
 pub data Chosen (n : ℕ) (s : HoleStore) : Option ℕ → Type 0 where
@@ -66,9 +75,9 @@ module _ (n : ℕ) (hs : List Hole) (t : ℕ) (m : Memory) where
   abbrev recall : Bool
   recall = leb n rememberedMax && stillHolds n hs (m n)
 
-  from-fit : recall ≡ false → (o : Option Fit) → Fits n hs o → Chosen n (store hs t m) (indexOf o)
-  from-fit r none k = no-hole k
-  from-fit r (some f) k =
+  from-fit : recall ≡ false → {o : Option Fit} → Fits n hs o → Chosen n (store hs t m) (indexOf o)
+  from-fit r (none-fits k) = no-hole k
+  from-fit r (fits f k) =
       at-hole (f .index) (record {
         inside = k .inside;
         enough = omega (arith, k .enough, k .there);
@@ -80,9 +89,9 @@ module _ (n : ℕ) (hs : List Hole) (t : ℕ) (m : Memory) where
   unfolding stillHolds
   from-memory r none q e = absurd (false≢true e)
   from-memory r (some i) q e =
-      let same = eqb-true (holeAt i hs .pages) n (and-r (ltb i (length hs)) (eqb (holeAt i hs .pages) n) e) in
+      let same = eqb-true (holeAt i hs .pages) n (search and-r) in
       at-hole i (record {
-        inside = ltb-true i (length hs) (and-l (ltb i (length hs)) (eqb (holeAt i hs .pages) n) e);
+        inside = ltb-true i (length hs) (search and-l);
         enough = omega arith;
         least = all-of (λ h. n ≤ h .pages → holeAt i hs .pages ≤ h .pages) (λ h p. omega arith) hs;
       }) (remembered r q)
@@ -93,7 +102,7 @@ chosenIn n [] t m = no-hole tt
 chosenIn n (h ∷ hs) t m =
     by-cases (leb n rememberedMax && stillHolds n (h ∷ hs) (m n))
     (λ e. rw e (from-memory n (h ∷ hs) t m e (m n) refl (and-r (leb n rememberedMax) (stillHolds n (h ∷ hs) (m n)) e)))
-    (λ e. rw e (from-fit n (h ∷ hs) t m e (leastFit n (h ∷ hs)) (least-fits n (h ∷ hs))))
+    (λ e. rw e (from-fit n (h ∷ hs) t m e (least-fits n (h ∷ hs))))
 
 pub chosen : (n : ℕ) (s : HoleStore) → Chosen n s (choose n s .index)
 chosen n s = chosenIn n (s .holes) (s .total) (s .memory)

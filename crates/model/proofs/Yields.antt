@@ -101,15 +101,15 @@ module _ (sh : Shape) (ok : Sound sh) where
   unfolding thawed
   thawed-more c = carve-more (isMedium sh) (c .first) _
 
-  new-more : (q : ℕ) → More (carve sh q true)
-  new-more q = carve-more (isMedium sh) q true
+  new-more : (q : ℕ) (v : Bool) → More (carve sh q v)
+  new-more q v = carve-more (isMedium sh) q v
 
   take-yields : (l : List ℕ) (ps es : List Page) (cs : List Cold) (fs : List Page) → Listed sh (lists ps es cs fs) → TakeYields (takeFrom sh l ps es cs fs)
   unfolding takeFrom onRun
   take-yields l (p ∷ ps) es cs fs y = yields (served-yields l p ps es cs fs (y .partial .0))
   take-yields l [] (e ∷ es) cs fs y = yields (served-yields l (reused sh e) [] es cs fs (y .empty .0))
   take-yields l [] [] (c ∷ cs) fs y = yields (served-yields l (thawed sh c) [] [] cs fs (thawed-more c))
-  take-yields l [] [] [] fs y = asks-first (λ q. served-yields l (carve sh q true) [] [] [] fs (new-more q))
+  take-yields l [] [] [] fs y = asks-first (λ q. served-yields l _ [] [] [] fs (new-more q _))
 
   yields-cond : (b : Bool) (x y : Ask) → TakeYields x → TakeYields y → TakeYields (cond b x y)
   yields-cond true x y p q = p
@@ -137,7 +137,7 @@ module _ (sh : Shape) (ok : Sound sh) where
   run-listed : (l : List ℕ) (fs : List Page) (g : Option ℕ) → Listed sh (onRun sh l fs g .class)
   unfolding onRun
   run-listed l fs none = record { partial = tt; empty = tt }
-  run-listed l fs (some q) = served-listed l (carve sh q true) [] [] [] fs (new-more q) tt tt
+  run-listed l fs (some q) = served-listed l _ [] [] [] fs (new-more q _) tt tt
 
   take-keeps : (l : List ℕ) (ps es : List Page) (cs : List Cold) (fs : List Page) → Listed sh (lists ps es cs fs) → KeepsListed (takeFrom sh l ps es cs fs)
   unfolding takeFrom

@@ -3,6 +3,8 @@
 --     stow, unstow     onto the empty or the cold store, and the newest page off it
 use Prim.Native.Nat.{ℕ, zero, suc, _+_, _-_}
 use mathlib.Core.List.{List}
+use Rattle.pages.specs.declared.Park.{Park}
+use Rattle.pages.specs.declared.Park.the-variants.{Empty, Cold}
 use Rattle.fields.specs.Field.{PageField, ClassField, class, page, partial, empty, emptyCount, cold, coldCount, next, prev, listed, get, put}
 
 -- a write where there is a page; a write to what points forward to a place: the page before it, or else the class
@@ -32,20 +34,17 @@ unfoldable pub unlink : List ℕ → ℕ → ℕ → List ℕ
 unlink b c q = put (unlinked b c q) (page listed q) 0
 
 -- the two stores, by one definition: the field of the newest page's code, and that of the count
-pub data Park : Type 0 where
-  emptyPages coldPages : Park
-
 abbrev pub other : Park → Park
-other emptyPages = coldPages
-other coldPages = emptyPages
+other Empty = Cold
+other Cold = Empty
 
 abbrev pub top : Park → ClassField
-top emptyPages = empty
-top coldPages = cold
+top Empty = empty
+top Cold = cold
 
 abbrev pub tally : Park → ClassField
-tally emptyPages = emptyCount
-tally coldPages = coldCount
+tally Empty = emptyCount
+tally Cold = coldCount
 
 unfoldable pub unstow : List ℕ → ℕ → Park → ℕ → List ℕ
 unstow b c k q = put (put b (class (top k) c) (get b (page next q))) (class (tally k) c) (get b (class (tally k) c) - 1)

@@ -9,7 +9,8 @@ use mathlib.Core.Logic.{_⊎_}
 use mathlib.Core.Path.{_≡_}
 use lib.ListN.{length}
 use Rattle.fields.specs.Field.{class, page, partial, next, prev, get}
-use Rattle.pages.specs.Links.{Park, top, tally}
+use Rattle.pages.specs.declared.Park.{Park}
+use Rattle.pages.specs.Links.{top, tally}
 
 abbrev pub In : ℕ → List ℕ → Type 0
 In x [] = ⊥

@@ -19,7 +19,9 @@ use Rattle.model.specs.Heap.{Heap}
 use Rattle.arena.specs.Represents.{ArenaRep}
 use Rattle.pages.specs.Runs.{flag, whole}
 use Rattle.pages.specs.Stack.{marked}
-use Rattle.pages.specs.Links.{Park, emptyPages, other}
+use Rattle.pages.specs.declared.Park.{Park}
+use Rattle.pages.specs.declared.Park.the-variants.{Empty}
+use Rattle.pages.specs.Links.{other}
 use Rattle.refinement.specs.Chain.{Chain, Stack}
 
 -- the stack of the run at q, top first
@@ -70,7 +72,7 @@ pub record ClassRep (n : ℕ) (b : List ℕ) (c : ℕ) (sh : Shape) (k : Park) (
 
 -- the words keep a retired page and a cold one as they come back
 abbrev pub StateRep : ℕ → List ℕ → ℕ → Shape → Class → Type 0
-StateRep n b c sh s = ClassRep n b c sh emptyPages (s .partial) (map (reused sh) (s .empty)) (map (thawed sh) (s .cold)) (s .full)
+StateRep n b c sh s = ClassRep n b c sh Empty (s .partial) (map (reused sh) (s .empty)) (map (thawed sh) (s .cold)) (s .full)
 
 pub record Represents (n : ℕ) (b : List ℕ) (H : Heap) : Type 0 where
   pub arena : ArenaRep n b H

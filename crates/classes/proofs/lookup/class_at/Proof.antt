@@ -1,4 +1,5 @@
 -- `classes::lookup::class_at` meets its contract: the test that its `requires` asks of the table gives the rule at each place. Assumes nothing.
+use native.Mathlib.Nat.{zero-add}
 use Rattle.classes.specs.Lookup.{classForSize}
 use Rattle.classes.proofs.Table.{obeys-at}
 use borrow.Author.Needs.{needs}
@@ -9,7 +10,9 @@ shared-slice-read-result : tie.Need-shared-slice-read-result
 shared-slice-read-result c = search needs
 
 returns : tie.Need-returns
-returns c = obeys-at classForSize 0 (c .before .args .lut .now) (c .before .args .place) (c .before .pre .1) (c .before .pre .0)
+returns c =
+    rw zero-add at
+    (obeys-at classForSize 0 (c .before .args .lut .now) (c .before .args .place) (c .before .pre .1) (c .before .pre .0))
 
 pub class-at-spec : {M : Type 1} → statement M
 class-at-spec = tie.close (tie.spec shared-slice-read-result returns)

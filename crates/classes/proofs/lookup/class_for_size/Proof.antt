@@ -1,5 +1,5 @@
 -- `classes::lookup::class_for_size` meets its contract: `refl` in `class-at-requires` is the test of the rule at every entry of the table. Assumes nothing.
-use mathlib.Core.Path.{refl, _∙_}
+use mathlib.Core.Path.{refl, sym, _∙_}
 use native.Mathlib.Omega.{arith}
 use Rattle.classes.specs.Sizes.{smallSizes}
 use Rattle.classes.specs.Lookup.{firstFit, classForSize, obeys}
@@ -32,11 +32,13 @@ cast-result c = search needs
 
 returns : tie.Need-returns
 unfolding smallSizes
-returns c = c .class-at .ensures ∙ small-rounded (c .before .before .before .before .args .size) (omega arith)
+returns c =
+    let size = c .before .before .before .before .args .size in
+    c .class-at .ensures ∙ small-rounded _ size (omega arith) (omega arith) (omega arith)
 
 returns-2 : tie.Need-returns-2
 unfolding smallSizes
-returns-2 c = small-above (c .before .before .args .size) (omega arith)
+returns-2 c = sym (small-above (c .before .before .args .size) (omega arith))
 
 pub class-for-size-spec : {M : Type 1} → statement M
 class-for-size-spec =

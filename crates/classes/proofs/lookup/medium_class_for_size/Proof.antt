@@ -1,5 +1,5 @@
 -- `classes::lookup::medium_class_for_size` meets its contract: `refl` in `medium-class-at-requires` is the test of the rule at every entry of the table. Assumes nothing.
-use mathlib.Core.Path.{_≡_, refl, _∙_}
+use mathlib.Core.Path.{refl, sym, _∙_}
 use mathlib.Core.Logic.{⊎-elim, inl, inr}
 use native.Mathlib.Omega.{arith}
 use borrow.Author.Tests.{ltb-true, ltb-false}
@@ -30,7 +30,8 @@ cast-if2 c = search needs
 
 returns : tie.Need-returns
 unfolding smallSizes mediumSizes
-returns c = medium-outside (c .before .before .args .size) (⊎-elim (λ w. inl (omega arith)) (λ w. inr (omega (arith, ltb-true))) (c .if1 .came))
+returns c =
+    sym (medium-outside (c .before .before .args .size) (⊎-elim (λ w. inl (omega arith)) (λ w. inr (omega (arith, ltb-true))) (c .if1 .came)))
 
 slice-aggregate-medium-class-at : tie.Need-slice-aggregate-medium-class-at
 slice-aggregate-medium-class-at c = search needs
@@ -54,8 +55,7 @@ returns-2 : tie.Need-returns-2
 unfolding smallSizes mediumSizes
 returns-2 c =
     let size = c .before .before .before .before .before .before .args .size in
-    let small : c .before .before .before .before .before .small-size .result ≡ 16384 = c .before .before .before .before .before .small-size .ensures in
-    (rw small at (c .medium-class-at .ensures)) ∙ medium-rounded size (omega arith) (omega (arith, ltb-false))
+    c .medium-class-at .ensures ∙ medium-rounded _ size (omega (arith, ltb-false)) (omega (arith, ltb-false)) (omega arith)
 
 pub medium-class-for-size-spec : {M : Type 1} → statement M
 medium-class-for-size-spec =

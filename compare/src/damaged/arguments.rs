@@ -1,0 +1,182 @@
+//! Calls with any arguments, many of them made of what earlier calls answered.
+
+use std::collections::{BTreeMap, VecDeque};
+
+use crate::call::{Answer, Call, Kind, Lent};
+use crate::oracle;
+use crate::port;
+use crate::random::Random;
+use crate::words::{block_word, group_word, page_of, Family, HOST_ALL, HOST_COMMIT, MAX_GROUPS, PAGE_BYTES, RUN_LIMIT};
+
+/// Words and runs that are kept to make arguments of.
+const KEPT: usize = 600;
+
+pub struct Pool {
+    pages: u32,
+    classes: Vec<(Family, u32)>,
+    kinds: Vec<Kind>,
+    /// Blocks that were taken, with their class.
+    words: VecDeque<(Family, u32, u32)>,
+    runs: VecDeque<(u64, u64)>,
+}
+
+impl Pool {
+    pub fn new(random: &mut Random, pages: u32) -> Pool {
+        let classes = (0..random.between(1, 3)).map(|_| match random.below(3) {
+            0 => (Family::Medium, random.below(12) as u32),
+            1 => (Family::Small, random.below(64) as u32),
+            _ => (Family::Small, random.between(40, 46) as u32),
+        });
+        let classes = classes.collect();
+        let kinds = Kind::ALL.into_iter().filter(|&kind| port::landed(kind)).collect();
+        Pool { pages, classes, kinds, words: VecDeque::new(), runs: VecDeque::new() }
+    }
+
+    pub fn pages(&self) -> u32 {
+        self.pages
+    }
+
+    pub fn note(&mut self, call: &Call, answer: &Answer) {
+        match (call, answer) {
+            (Call::Take { family, class, .. }, Answer::Taken { words, .. }) => {
+                self.words.extend(words.iter().map(|&word| (*family, *class, word)));
+            }
+            (Call::Commit { pages, .. }, Answer::Run { first, .. }) => self.runs.push_back((u64::from(*first), *pages)),
+            (Call::ReleaseBlocks { list, .. }, Answer::Fate(_))
+            | (Call::ReleaseChunks { list, .. }, Answer::Fates(_)) => {
+                self.words.retain(|(_, _, word)| !list.contains(word));
+            }
+            (Call::Release { first, .. }, Answer::Released) => self.runs.retain(|run| run.0 != *first),
+            _ => {}
+        }
+        self.words.drain(..self.words.len().saturating_sub(KEPT));
+        self.runs.drain(..self.runs.len().saturating_sub(KEPT));
+    }
+
+    pub fn call(&self, random: &mut Random) -> Call {
+        let host = host(random);
+        let (family, class) = random.pick(&self.classes);
+        let class = match random.below(40) {
+            0 => random.word() as u32,
+            1 => random.below(80) as u32,
+            _ => class,
+        };
+        let kind = random.pick(&self.kinds);
+        match kind {
+            Kind::TakeBlocks | Kind::MediumTakeBlocks => {
+                Call::Take { family, class, host, lent: list(random, family, class) }
+            }
+            Kind::ReleaseBlocks | Kind::MediumReleaseBlocks => {
+                Call::ReleaseBlocks { family, class, host, list: self.blocks(random, family, class, true) }
+            }
+            Kind::ReleaseBinChunks => self.chunks(random, class, host),
+            Kind::Commit => Call::Commit { host, pages: self.length(random) },
+            Kind::GrowFrontier => {
+                let (first, old) = self.run(random);
+                let new = match random.below(8) {
+                    0 => self.length(random),
+                    _ => old.wrapping_add(random.between(1, 4)),
+                };
+                Call::Grow { host, first, old, new }
+            }
+            Kind::Release => {
+                let (first, pages) = self.run(random);
+                Call::Release { host, first, pages }
+            }
+            Kind::Contains => {
+                let bytes = u64::from(self.pages) * PAGE_BYTES as u64;
+                Call::Contains { offset: random.word() % (bytes + 2), length: self.length(random).wrapping_mul(65_536) }
+            }
+            Kind::Report => Call::Report,
+        }
+    }
+
+    fn length(&self, random: &mut Random) -> u64 {
+        match random.below(12) {
+            0 => random.word() >> random.below(64),
+            1 => random.pick(&[0, RUN_LIMIT - 1, RUN_LIMIT, u64::MAX, 1 << 32, 262_144, 262_145]),
+            2 => u64::from(self.pages) + random.below(2),
+            _ => random.between(1, 3),
+        }
+    }
+
+    fn run(&self, random: &mut Random) -> (u64, u64) {
+        let known = if self.runs.is_empty() { (0, 1) } else { self.runs[random.index(self.runs.len())] };
+        match random.below(10) {
+            0 => (self.length(random), self.length(random)),
+            1 => (known.0, self.length(random)),
+            2 => (known.0.wrapping_add(random.below(3)), known.1),
+            3 => (u64::MAX - random.below(3), random.between(1, 4)),
+            _ => known,
+        }
+    }
+
+    /// Blocks that were taken: of one page, or of any if they may be mixed; now and then with a wrong one among them.
+    fn blocks(&self, random: &mut Random, family: Family, class: u32, one_page: bool) -> Vec<u32> {
+        let any = random.chance(1, 20);
+        let of_class = |&&(of, number, _): &&(Family, u32, u32)| any || (of == family && number == class);
+        let known: Vec<u32> = self.words.iter().filter(of_class).map(|&(_, _, word)| word).collect();
+        let mut list = match known.is_empty() {
+            true => Vec::new(),
+            false => {
+                let page = page_of(random.pick(&known));
+                let mut list: Vec<u32> = known.into_iter().filter(|&word| !one_page || page_of(word) == page).collect();
+                random.shuffle(&mut list);
+                if random.chance(1, 2) {
+                    list.truncate(random.between(1, list.len() as u64) as usize);
+                }
+                list
+            }
+        };
+        if random.chance(1, 6) {
+            let wrong = match random.below(4) {
+                0 => random.word() as u32,
+                1 => block_word(family, random.below(u64::from(self.pages) * 4_096) as u32),
+                2 => list.first().copied().unwrap_or(0),
+                _ => list.last().copied().unwrap_or(0) ^ (1 << random.below(32)),
+            };
+            list.push(wrong);
+        }
+        list
+    }
+
+    fn chunks(&self, random: &mut Random, class: u32, host: u32) -> Call {
+        let list = self.blocks(random, Family::Small, class, false);
+        let mut counts: BTreeMap<u32, u32> = BTreeMap::new();
+        list.iter().for_each(|&word| *counts.entry(page_of(word)).or_default() += 1);
+        let mut groups: Vec<u32> =
+            counts.into_iter().map(|(page, count)| group_word(count & 0xFFF, page & 0x3_FFFF)).collect();
+        random.shuffle(&mut groups);
+        match random.below(20) {
+            0 => groups.push(random.word() as u32),
+            1 => groups.iter_mut().for_each(|group| *group ^= 1 << random.below(32)),
+            2 => groups.extend(groups.clone()),
+            3 => groups.resize(MAX_GROUPS + random.index(3), group_word(1, 0)),
+            4 => groups.truncate(groups.len() / 2),
+            5 if groups.len() > 1 => {
+                // Two counts that are wrong, though they add up.
+                groups[0] = groups[0].wrapping_add(1 << 18);
+                groups[1] = groups[1].wrapping_sub(1 << 18);
+            }
+            _ => {}
+        }
+        let room = if random.chance(1, 20) { random.index(groups.len() + 1) } else { groups.len() + random.index(3) };
+        Call::ReleaseChunks { class, host, list, groups, lent: Lent { len: room, fill: random.word() as u32 } }
+    }
+}
+
+fn host(random: &mut Random) -> u32 {
+    match random.below(30) {
+        0 => random.word() as u32,
+        1 => 16,
+        2..=4 => HOST_ALL - HOST_COMMIT,
+        5..=8 => random.below(16) as u32,
+        _ => HOST_ALL,
+    }
+}
+
+fn list(random: &mut Random, family: Family, class: u32) -> Lent {
+    let batch = if class < family.classes() { oracle::batch(family, class) } else { 64 };
+    let len = if random.chance(1, 20) { random.index(batch + 1) } else { batch + random.index(2) };
+    Lent { len, fill: random.word() as u32 }
+}

@@ -1,0 +1,158 @@
+//! Damaged books: words of reached books are overwritten, and calls with any arguments follow. Nothing may trap, a
+//! refusal changes nothing, and equal calls on equal books answer equally.
+//!
+//! Only the C boundary is used. Every call is made twice, on two equal books and with equal lists: once all of them end
+//! at an unmapped page, once all begin behind one. The calls are made in a process of their own, so that one that traps
+//! or does not end is told by its history and call.
+
+mod arguments;
+mod book;
+mod damage;
+mod watch;
+
+use std::io::Write;
+
+use self::arguments::Pool;
+use self::book::Twins;
+use self::damage::Damage;
+use crate::arguments::Arguments;
+use crate::call::{Answer, Call, Kind};
+use crate::history;
+use crate::port;
+use crate::random::Random;
+use crate::tally::Tally;
+use crate::words::{book_words, HOST_ALL, MAX_PAGES};
+
+/// Calls of one history.
+const CALLS: u64 = 400;
+/// The line that begins a history, for the process that watches.
+const MARK: char = '@';
+
+pub fn run(words: &[String]) -> Result<bool, String> {
+    let arguments = Arguments::read(words, &["calls", "seed", "only", "worker"])?;
+    let calls: u64 = arguments.number("calls")?.unwrap_or(200_000);
+    let seed: u64 = arguments.number("seed")?.unwrap_or(1);
+    let only: Option<u64> = arguments.number("only")?;
+    if !port::landed(Kind::Commit) {
+        println!("not run: no call on a book is linked (feature arena is off)");
+        return Ok(false);
+    }
+    match arguments.text("worker") {
+        Some(_) => Ok(work(calls, seed, only)),
+        None => watch::run(calls, seed, only),
+    }
+}
+
+/// The histories of a seed, or one of them with every call told before it is made.
+fn work(calls: u64, seed: u64, only: Option<u64>) -> bool {
+    let mut tally = Tally::default();
+    let mut counts = Counts::default();
+    let (first, last) = only.map_or((0, calls.div_ceil(CALLS)), |one| (one, one + 1));
+    for number in first..last {
+        println!("{MARK}{number}");
+        let _ = std::io::stdout().flush();
+        let mut random = Random::new(seed ^ number.wrapping_mul(0xD1B5_4A32_D192_ED03));
+        if let Err(fault) = History::new(&mut random).run(&mut tally, &mut counts, only.is_some()) {
+            println!("history {number}: {fault}");
+            println!("seen again by: damaged --seed {seed} --only {number}");
+            return false;
+        }
+    }
+    println!("{tally}");
+    println!(
+        "{} words overwritten; {} calls on damaged books, {} of them carried out",
+        counts.words, counts.calls, counts.done
+    );
+    for kind in Kind::ALL.into_iter().filter(|&kind| !port::landed(kind)) {
+        println!("not called: {} (its feature is off)", kind.name());
+    }
+    println!("0 faults");
+    true
+}
+
+#[derive(Default)]
+struct Counts {
+    words: u64,
+    calls: u64,
+    done: u64,
+}
+
+struct History<'a> {
+    random: &'a mut Random,
+    twins: Twins,
+    pool: Pool,
+    damage: Damage,
+}
+
+impl History<'_> {
+    fn new(random: &mut Random) -> History<'_> {
+        let pages = random.weighted(&[(1, 3), (6, 12), (6, 24), (2, 60)]).min(1 + random.below(80)) as u32;
+        let spare = random.weighted(&[(4, 0), (1, 1), (1, 1000)]);
+        let content = random.pick(&[0, u32::MAX, 1, random.clone().word() as u32]);
+        let twins = Twins::new(book_words(pages) + spare, content);
+        let pool = Pool::new(random, pages);
+        History { random, twins, pool, damage: Damage::default() }
+    }
+
+    fn run(&mut self, tally: &mut Tally, counts: &mut Counts, trace: bool) -> Result<(), String> {
+        tally.begin("damaged");
+        self.open(trace)?;
+        for _ in 0..CALLS {
+            self.spoil_or_mend(counts);
+            let call = self.pool.call(self.random);
+            if trace {
+                println!("{}", history::line(&call, &Answer::Broken("?".into())));
+                let _ = std::io::stdout().flush();
+            }
+            let answer = self.twins.ask(&call, &mut self.damage)?;
+            if self.damage.is_done() {
+                counts.calls += 1;
+                counts.done += u64::from(!matches!(answer, Answer::Refused(_)));
+            } else if answer == Answer::Refused(13) {
+                return Err(format!("13 on a book without damage: {}", history::line(&call, &answer)));
+            }
+            self.pool.note(&call, &answer);
+            tally.count(&call, &answer);
+        }
+        Ok(())
+    }
+
+    /// Openings that are refused, then one that is not.
+    fn open(&mut self, trace: bool) -> Result<(), String> {
+        let pages = u64::from(self.pool.pages());
+        let beyond = u64::from(MAX_PAGES);
+        let wrong = self.random.pick(&[0, pages + 100, beyond, beyond + 1, u64::MAX, 1 << 32, (1 << 32) + pages]);
+        for pages in [wrong, pages] {
+            if trace {
+                println!("open {pages}");
+            }
+            let due = match pages {
+                0 => 1,
+                pages if pages > beyond => 1,
+                pages if book_words(pages as u32) > self.twins.len() => 2,
+                _ => 0,
+            };
+            self.twins.open(pages, due)?;
+        }
+        self.damage.begin();
+        if self.random.chance(19, 20) {
+            // The reservation, so that what follows has an arena.
+            self.twins.ask(&Call::Commit { host: HOST_ALL, pages: 1 }, &mut self.damage)?;
+        }
+        Ok(())
+    }
+
+    fn spoil_or_mend(&mut self, counts: &mut Counts) {
+        if !self.damage.is_done() {
+            if self.random.chance(1, 6) {
+                counts.words += self.damage.spoil(self.random, &mut self.twins);
+            }
+        } else if self.random.chance(1, 5) {
+            if self.random.chance(3, 4) {
+                self.damage.mend(&mut self.twins);
+            } else {
+                counts.words += self.damage.spoil(self.random, &mut self.twins);
+            }
+        }
+    }
+}

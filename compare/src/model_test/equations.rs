@@ -1,0 +1,122 @@
+//! A history as an equation of the model: the answers that it computes are the original's.
+
+use super::names;
+use crate::call::{Answer, Call, Lent};
+use crate::history::History;
+
+/// The text of a module that states and proves one history.
+pub fn module(own_crate: &str, history: &History) -> String {
+    let calls: Vec<String> = history.calls.iter().map(|(call, _)| call_term(call)).collect();
+    let answers: Vec<String> = history.calls.iter().map(|(call, answer)| answer_term(call, answer)).collect();
+    format!(
+        "-- One history with the original's answers. Assumes nothing.\n\
+         use Prim.Native.Nat.{{ℕ}}\n\
+         use mathlib.Core.Path.{{_≡_, refl}}\n\
+         use mathlib.Core.List.{{List, [], _∷_, _++_}}\n\
+         use mathlib.Core.Bool.{{Bool, true, false}}\n\
+         use lib.ListN.{{replicate}}\n\
+         use Rattle.{model}.specs.{calls_module}.{{{call_type}, {answer_type}}}\n\
+         use Rattle.{own_crate}.proofs.Answers.{{computed}}\n\n\
+         as-answered :\n  computed {pages} (\n    {calls})\n  ≡ {answers}\n\
+         unfolding computed\n\
+         as-answered = refl\n",
+        model = names::CRATE,
+        calls_module = names::CALLS_MODULE,
+        call_type = names::CALL_TYPE,
+        answer_type = names::ANSWER_TYPE,
+        pages = history.pages,
+        calls = list_of(&calls, "\n    "),
+        answers = list_of(&answers, "\n    "),
+    )
+}
+
+/// The module that names the model's answers and what the checker may unfold to compute them.
+pub fn answers_module(unfolded: &[(String, String, Vec<String>)]) -> String {
+    let uses: String = unfolded
+        .iter()
+        .map(|(owner, module, _)| format!("use Rattle.{owner}.specs.{module} as {}\n", alias(owner, module)))
+        .collect();
+    let unfolding: Vec<String> = unfolded
+        .iter()
+        .flat_map(|(owner, module, all)| all.iter().map(move |name| format!("{}.{name}", alias(owner, module))))
+        .collect();
+    format!(
+        "-- The model's answers, with all that the checker unfolds to compute them. Assumes nothing.\n\
+         use Prim.Native.Nat.{{ℕ}}\n\
+         use mathlib.Core.List.{{List}}\n\
+         use Rattle.{model}.specs.{calls}.{{{call_type}, {answer_type}}}\n\
+         use Rattle.{model}.specs.{history} as Histories\n\
+         {uses}\n\
+         unfoldable pub computed : ℕ → List {call_type} → List {answer_type}\n\
+         unfolding {unfolding}\n\
+         computed size calls = Histories.{answers} size calls\n",
+        model = names::CRATE,
+        calls = names::CALLS_MODULE,
+        history = names::HISTORY_MODULE,
+        call_type = names::CALL_TYPE,
+        answer_type = names::ANSWER_TYPE,
+        answers = names::ANSWERS,
+        unfolding = unfolding.join(" "),
+    )
+}
+
+fn alias(owner: &str, module: &str) -> String {
+    format!("{owner}{module}")
+}
+
+fn list_of(terms: &[String], between: &str) -> String {
+    let mut text: String = terms.iter().map(|term| format!("{term} ∷{between}")).collect();
+    text.push_str("[]");
+    text
+}
+
+fn words(list: &[u32]) -> String {
+    let terms: Vec<String> = list.iter().map(u32::to_string).collect();
+    format!("({})", list_of(&terms, " "))
+}
+
+fn lent_list(lent: &Lent) -> String {
+    format!("(replicate {} {})", lent.len, lent.fill)
+}
+
+/// A lent list after the call: what was written, then what it held.
+fn written(list: &[u32], lent: &Lent) -> String {
+    format!("({} ++ replicate {} {})", words(list), lent.len - list.len(), lent.fill)
+}
+
+fn call_term(call: &Call) -> String {
+    let arguments = match call {
+        Call::Take { class, host, lent, .. } => format!("{class} {host} {}", lent_list(lent)),
+        Call::ReleaseBlocks { class, host, list, .. } => format!("{class} {host} {}", words(list)),
+        Call::ReleaseChunks { class, host, list, groups, lent } => {
+            format!("{class} {host} {} {} {}", words(list), words(groups), lent_list(lent))
+        }
+        Call::Commit { host, pages } => format!("{host} {pages}"),
+        Call::Grow { host, first, old, new } => format!("{host} {first} {old} {new}"),
+        Call::Release { host, first, pages } => format!("{host} {first} {pages}"),
+        Call::Contains { offset, length } => format!("{offset} {length}"),
+        Call::Report => String::new(),
+    };
+    format!("{}.{} {arguments}", names::CALL_TYPE, names::call(call.kind())).trim_end().to_string()
+}
+
+fn answer_term(call: &Call, answer: &Answer) -> String {
+    let (name, arguments) = match (call, answer) {
+        (_, Answer::Refused(number)) => (names::REFUSED, number.to_string()),
+        (Call::Take { lent, .. }, Answer::Taken { virgin, words }) => {
+            (names::TAKEN, format!("{} {} {virgin}", words.len(), written(words, lent)))
+        }
+        (_, Answer::Fate(fate)) => (names::FATE, fate.to_string()),
+        (Call::ReleaseChunks { lent, .. }, Answer::Fates(fates)) => (names::FATES, written(fates, lent)),
+        (_, Answer::Run { first, fresh }) => (names::RUN, format!("{first} {fresh}")),
+        (_, Answer::NoRun) => (names::NO_RUN, String::new()),
+        (_, Answer::Grown(grown)) => (names::GROWN, grown.to_string()),
+        (_, Answer::Released) => (names::RELEASED, String::new()),
+        (_, Answer::Contains(yes)) => (names::CONTAINED, yes.to_string()),
+        (_, Answer::Report(figures)) => {
+            (names::REPORTED, figures.iter().map(u64::to_string).collect::<Vec<String>>().join(" "))
+        }
+        (_, Answer::Taken { .. } | Answer::Fates(_) | Answer::Broken(_)) => unreachable!("no answer of this call"),
+    };
+    format!("{}.{name} {arguments}", names::ANSWER_TYPE).trim_end().to_string()
+}

@@ -1,0 +1,123 @@
+//! The model's definitions against the original: histories with the original's answers are written as equations of the
+//! model, and the checker computes them.
+
+mod equations;
+mod names;
+mod repository;
+
+use std::fs;
+use std::path::{Path, PathBuf};
+
+use crate::arguments::Arguments;
+use crate::call::Call;
+use crate::generate;
+use crate::history::{self, History};
+use crate::progress::Progress;
+use crate::random::Random;
+use crate::run;
+use crate::tally::Tally;
+
+/// Scenario, histories of it in one round, and the most steps of one. The checker computes on lists, so that long
+/// histories cost it more than in proportion.
+const ROUND: [(&str, usize, usize); 10] = [
+    ("direct", 8, 150),
+    ("lengths", 3, 120),
+    ("growth", 5, 120),
+    ("refused reservation", 4, 40),
+    ("long holes", 3, 50),
+    ("mixed", 14, 150),
+    ("exhaustion", 10, 120),
+    ("chunks", 3, 200),
+    ("small stores", 1, 700),
+    ("medium stores", 1, 700),
+];
+
+pub fn run(words: &[String]) -> Result<bool, String> {
+    let arguments = Arguments::read(words, &["calls", "seed", "file", "scenario", "longest", "repository"])?;
+    let histories = match arguments.text("file") {
+        Some(file) => {
+            let text = fs::read_to_string(file).map_err(|error| format!("{file}: {error}"))?;
+            history::parse(&text)?
+        }
+        None => generated(&arguments)?,
+    };
+    let mut tally = Tally::default();
+    for history in &histories {
+        tally.begin("equations");
+        history.calls.iter().for_each(|(call, answer)| tally.count(call, answer));
+    }
+    let own = Path::new(env!("CARGO_MANIFEST_DIR")).join("..");
+    let root = arguments.text("repository").map_or(own, PathBuf::from);
+    let progress = Progress::begin();
+    let failure = repository::check(&root, &histories)?;
+    println!("{tally}");
+    println!("{:.0} s for the checker", progress.seconds());
+    println!("not the original's, but the tool's own reading: refusals 3 to 12, the report's pages held");
+    match &failure {
+        None => println!("0 differences: the model computes these answers in every history"),
+        Some(failure) => {
+            println!("the checker refuses it ({} is left):\n{}", failure.folder.display(), failure.said);
+            if let Some(at) = failure.history {
+                print!("# the first history that it refuses:\n{}", histories[at].text());
+            }
+        }
+    }
+    Ok(failure.is_none())
+}
+
+/// Rounds of histories until there are enough calls.
+fn generated(arguments: &Arguments) -> Result<Vec<History>, String> {
+    let calls: usize = arguments.number("calls")?.unwrap_or(3_000);
+    let mut random = Random::new(arguments.number("seed")?.unwrap_or(1));
+    let longest: Option<usize> = arguments.number("longest")?;
+    let only = arguments.text("scenario");
+    let mut histories: Vec<History> = Vec::new();
+    let mut number = 0;
+    while number < calls {
+        let before = number;
+        for (name, times, steps) in ROUND {
+            if only.is_some_and(|only| only != name) {
+                continue;
+            }
+            for _ in 0..times {
+                let mut plan = generate::plan(&mut random, |_| true, Some(name), None);
+                plan.steps.truncate(longest.unwrap_or(steps));
+                let history = affordable(History { pages: plan.pages, calls: run::record(&plan, |_| true) });
+                number += history.calls.len();
+                histories.push(history);
+            }
+        }
+        if number == before {
+            return Err("no such scenario for the model".into());
+        }
+    }
+    Ok(histories)
+}
+
+/// The checker computes at most so many steps for one equation. It looks a page's holder up through every call before,
+/// which is what counts: this many lookups of one call's change are well within it.
+const LOOKUPS: u64 = 1_500_000;
+
+/// The history as far as the checker can compute it. A report, which changes nothing, is left out where it costs much.
+fn affordable(history: History) -> History {
+    let mut left = LOOKUPS;
+    let mut calls = Vec::new();
+    for (call, answer) in history.calls {
+        let looked_up = match call {
+            Call::Report => u64::from(history.pages),
+            Call::Release { pages, .. } | Call::Grow { old: pages, .. } => pages.min(u64::from(history.pages)),
+            _ => 0,
+        };
+        let cost = looked_up * (calls.len() as u64 + 1);
+        match (call, cost <= left) {
+            (Call::Report, false) => {}
+            (_, false) => break,
+            (Call::Report, true) if cost > left / 4 => {}
+            (call, true) => {
+                left -= cost;
+                calls.push((call, answer));
+            }
+        }
+    }
+    History { pages: history.pages, calls }
+}

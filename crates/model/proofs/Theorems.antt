@@ -1,0 +1,49 @@
+-- The demands hold of the model: every statement of specs/Demands, for every arena and every history. Assumes nothing.
+use Prim.Native.Nat.{ℕ, _≤_}
+use mathlib.Core.Path.{_≡_}
+use mathlib.Core.Logic.{_⊎_}
+use mathlib.Core.List.{List}
+use mathlib.Core.Bool.{false}
+use lib.Dec.{eqb}
+use Rattle.classes.specs.Shape.{shapeOf}
+use Rattle.model.specs.Calls.{Call, Request}
+use Rattle.model.specs.Chunks.{answer}
+use Rattle.model.specs.Heap.{Heap}
+use Rattle.model.specs.History.{events}
+use Rattle.model.specs.Demands.{arenaMax, BestFit, Yielding, Conserved, Demand3, IsoDisjoint, Commute, StaysHome}
+use Rattle.model.proofs.HistoryArena as Arenas
+use Rattle.model.proofs.Yields as Yields
+use Rattle.model.proofs.Conserved as Pages
+use Rattle.model.proofs.Alone as Alone
+use Rattle.model.proofs.Apart as Apart
+use Rattle.model.proofs.Commute as Calls
+
+-- Demand 2
+pub best-fit : (size : ℕ) (xs : List Call) → BestFit size xs
+best-fit = Arenas.best-fit
+
+pub yielding : (size : ℕ) (xs : List Call) → Yielding size xs
+yielding = Yields.yielding
+
+-- every page is in exactly one place
+pub conserved : (size : ℕ) (xs : List Call) → Conserved size xs
+conserved size xs = record {
+  one = Pages.one-place size xs;
+  classes = Pages.one-run size xs;
+  direct = Pages.told-direct size xs;
+  holeTotal = Arenas.hole-total size xs;
+  idle = Arenas.idle-after size xs;
+}
+
+-- Demand 3, both halves; a word has room for the granules of no longer arena
+pub demand-3 : (size : ℕ) → size ≤ arenaMax → Demand3 size
+demand-3 size small = record { alone = Alone.alone size size; disjoint = Apart.disjoint size small }
+
+-- the second half in ISO C's words
+pub iso-disjoint : (size : ℕ) → size ≤ arenaMax → (xs : List Call) → IsoDisjoint size (events size xs)
+iso-disjoint = Apart.iso-disjoint
+
+-- calls of two classes, one of which does not reach the arena, on any heap
+pub commute : (size : ℕ) (H : Heap) (c d : ℕ) (x y : Request) → eqb c d ≡ false
+    → StaysHome (answer (shapeOf c) (H .classes c) x) ⊎ StaysHome (answer (shapeOf d) (H .classes d) y) → Commute size H c d x y
+commute = Calls.commute
