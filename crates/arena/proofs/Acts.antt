@@ -5,6 +5,7 @@
 -- Assumes nothing.
 use Prim.Native.Nat.{ℕ, zero, suc, _+_, _-_, _≤_, _<_}
 use native.Mathlib.Omega.{arith}
+use native.Mathlib.Decide.{ℕ-discrete, decLe}
 use native.Mathlib.Numerals.{add-one}
 use mathlib.Core.Bool.{Bool, true, false, cond, not, _&&_, true≢false, false≢true}
 use mathlib.Core.List.{List, [], _∷_, _++_}
@@ -12,7 +13,7 @@ use mathlib.Core.Option.{Option, none, some}
 use mathlib.Core.Path.{_≡_, refl, sym, ap, _∙_, subst}
 use lib.Dec.{eqb, ltb, leb}
 use lib.ListN.{length, length-append}
-use borrow.Author.Tests.{lt-ltb, ltb-true, ltb-false, le-ltb, eq-eqb, ne-eqb, eqb-true, le-leb, leb-true}
+use borrow.Author.Tests.{lt-ltb, ltb-true, ltb-false, le-ltb, eq-eqb, ne-eqb, eqb-true, le-leb, lt-leb, leb-true}
 use Rattle.words.specs.Host.{reservationGranted, commitGranted}
 use Rattle.fields.specs.Field.{arena, memory, state, frontier, holes, holePages, held, get, put, words}
 use Rattle.fields.proofs.Laws.{put-get}
@@ -32,7 +33,8 @@ use Rattle.arena.specs.Fair.{recordFair, memoryFair, holesFair, holeFair
 use Rattle.arena.specs.Owners.{own}
 use Rattle.arena.specs.Plan.{cutHoles, noPlan, planAt, planOf, chosen}
 use Rattle.arena.specs.Calls.{Committed, commitRefused, advance, committed, commitFor, given, grownBy, grownBook}
-use Rattle.arena.specs.Act.{rememberWord, recallWord, withState, withHoles, accepting, appendWords, giveWords, giveRecord, cutWords, usedWords, drawWords, drawRecord, forgetWord, endNone, endRun, endGiven, settle, fromFrontier, commitDrawn, nextState, commitPlanned, planned, commitActs, giveActs, growActs}
+use Rattle.arena.specs.Act.{rememberWord, recallWord, withState, withHoles, accepting, appendWords, giveWords, giveRecord, cutWords, usedWords, drawWords, drawRecord, forgetWord, endNone, endRun, endGiven, settle, fromFrontier, commitDrawn, nextState, commitPlanned, planned, commitActs, givenWith, giveActs, growWith, growActs}
+use Rattle.arena.specs.Answer.{ranYes}
 use Rattle.arena.proofs.StoreLaws.{hole-length, loaded-length, loaded-last, removed-length, set-length, remember-length, remember-twice, store-length, store-loaded, store-remembered, store-set, store-appended, store-removed}
 use Rattle.arena.proofs.Choice.{Choosing, empty, recalled, exact, longer, short, choosing, choice-of}
 use Rattle.arena.proofs.Frames.{isStored, isOwner, arena-changes, own-changes, own-twice}
@@ -422,20 +424,16 @@ unfolding loadArena loadStore
 few-loaded b l = rw (loaded-length b 0 (get b (arena holes))) l
 
 pub give-acts : (n : ℕ) (b : List ℕ) → leb (words n) (length b) ≡ true → FairRecord n b → (q m : ℕ) → given b q m ≡ giveActs b q m
-unfolding given giveActs
+unfolding given giveActs givenWith
 give-acts n b hb k q m =
     let a = give m q (loadArena b) in
     let y : storeArena b a ≡ storeRecord (giveWords b (recordOf b) m q) (giveRecord (recordOf b) m) = stands-stored b a _ _ (stands-give n b hb m q (loadArena b) b (recordOf b) (stands-loaded b (k .state))) in
     rw y
 
 -- ---- growth
-abbrev pub grew : Option ℕ → Bool
-grew none = false
-grew (some q) = true
-
-pub record Grows (n : ℕ) (b : List ℕ) (h e m : ℕ) : Type 0 where
+pub record GrowsAs (n : ℕ) (b : List ℕ) (h e m : ℕ) : Type 0 where
   pub book : grownBook b (Arenas.grow n h e m (loadArena b)) e m ≡ growActs n b h e m 77 .book
-  pub yes : Arenas.grow n h e m (loadArena b) .grew ≡ grew (growActs n b h e m 77 .run)
+  pub yes : Arenas.grow n h e m (loadArena b) .grew ≡ ranYes (growActs n b h e m 77 .run)
 
 -- the growth as a commit's end
 grown-given : (b : List ℕ) (e m : ℕ) (g : Arenas.Grown) → grownBook b g e m ≡ committed b (Arenas.given (g .arena) (grownBy (g .grew) e) (g .grew)) m 77
@@ -450,8 +448,8 @@ module _ (n : ℕ) (b : List ℕ) (hb : leb (words n) (length b) ≡ true) (k : 
   unfolding A loadArena
   stands-A = stands-frontier b (loadArena b) b (recordOf b) (stands-loaded b (k .state)) m
 
-  grows-at : get b (arena frontier) + m ≤ n → Grows n b h (get b (arena frontier)) m
-  unfolding growActs settle Arenas.grow loadArena A
+  grows-at : get b (arena frontier) + m ≤ n → GrowsAs n b h (get b (arena frontier)) m
+  unfolding growActs growWith fromFrontier settle Arenas.grow loadArena A
   grows-at l =
       let f = get b (arena frontier) in
       let few = few-loaded b (k .holes) in
@@ -459,22 +457,36 @@ module _ (n : ℕ) (b : List ℕ) (hb : leb (words n) (length b) ≡ true) (k : 
       (λ t. let z = ends-fresh n b hb m 77 A b (advanced m (recordOf b)) stands-A few refl l in
       record {
         book = rw (eq-eqb f f refl, le-leb (f + m) n l, t) (grown-given b f m _ ∙ ap (λ y. y .book) z);
-        yes = rw (eq-eqb f f refl, le-leb (f + m) n l, t) (ap (λ y. grew (y .run)) z);
+        yes = rw (eq-eqb f f refl, le-leb (f + m) n l, t) (ap (λ y. ranYes (y .run)) z);
       })
       (λ t. let z = ends-fresh-given n b hb m 77 A b (advanced m (recordOf b)) stands-A few refl in
       record {
         book = rw (eq-eqb f f refl, le-leb (f + m) n l, t) (grown-given b f m _ ∙ ap (λ y. y .book) z);
-        yes = rw (eq-eqb f f refl, le-leb (f + m) n l, t) (ap (λ y. grew (y .run)) z);
+        yes = rw (eq-eqb f f refl, le-leb (f + m) n l, t) (ap (λ y. ranYes (y .run)) z);
       })
 
-  grows-not : (e : ℕ) → (eqb (get b (arena frontier)) e && leb (e + m) n) ≡ false → Grows n b h e m
-  unfolding growActs endNone Arenas.grow loadArena
-  grows-not e t =
-      let z = ends-none n b hb m 77 (loadArena b) b (recordOf b) (stands-loaded b (k .state)) (few-loaded b (k .holes)) refl in
-      record { book = rw t (grown-given b e m _ ∙ ap (λ y. y .book) z); yes = rw t refl }
+  unmoved : finish b (Arenas.given (loadArena b) none false) m 77 ≡ endNone b (recordOf b)
+  unfolding loadArena
+  unmoved = ends-none n b hb m 77 (loadArena b) b (recordOf b) (stands-loaded b (k .state)) (few-loaded b (k .holes)) refl
 
-  pub grow-acts : (e : ℕ) → Grows n b h e m
+  grows-full : n < get b (arena frontier) + m → GrowsAs n b h (get b (arena frontier)) m
+  unfolding growActs growWith fromFrontier endNone Arenas.grow loadArena
+  grows-full l =
+      let f = get b (arena frontier) in
+      record { book = rw (eq-eqb f f refl, lt-leb (f + m) n l) (grown-given b f m _ ∙ ap (λ y. y .book) unmoved); yes = rw (eq-eqb f f refl, lt-leb (f + m) n l) refl }
+
+  grows-elsewhere : (e : ℕ) → (get b (arena frontier) ≡ e → ⊥) → GrowsAs n b h e m
+  unfolding growActs growWith endNone Arenas.grow loadArena
+  grows-elsewhere e d =
+      let t = ne-eqb (get b (arena frontier)) e d in
+      record { book = rw t (grown-given b e m _ ∙ ap (λ y. y .book) unmoved); yes = rw t refl }
+
+  pub grow-acts : (e : ℕ) → GrowsAs n b h e m
   grow-acts e =
-      by-cases (eqb (get b (arena frontier)) e && leb (e + m) n)
-      (λ t. subst (λ z. Grows n b h z m) (eqb-true _ e (and-l _ _ t)) (grows-at (let y = leb-true (e + m) n (and-r (eqb (get b (arena frontier)) e) _ t) in let x = eqb-true (get b (arena frontier)) e (and-l _ _ t) in omega arith)))
-      (λ t. grows-not e t)
+      elim (ℕ-discrete (get b (arena frontier)) e) [
+        | yes z ↦ subst (λ y. GrowsAs n b h y m) z (elim (decLe (get b (arena frontier) + m) n) [
+          | yes l ↦ grows-at l
+          | no l ↦ grows-full (omega arith)
+        ])
+        | no d ↦ grows-elsewhere e d
+      ]

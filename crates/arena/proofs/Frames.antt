@@ -8,7 +8,6 @@ use lib.Dec.{eqb, ltb, leb}
 use lib.ListN.{length}
 use borrow.Author.Tests.{lt-ltb, ne-eqb, leb-true, le-leb}
 use Rattle.fields.specs.Field.{Field, arena, memory, class, hole, page, out, slot, ArenaField, state, frontier, holes, holePages, commits, commitsHigh, reuses, reusesHigh, abandoned, abandonedHigh, held, start, pages, owner, arenaOff, pageOff, get, put, ok, words}
-use Rattle.fields.specs.Wide.{putWide}
 use Rattle.fields.proofs.Laws.{put-put-same, put-comm, length-put}
 use Rattle.fields.proofs.Changes.{Changes, changes-none, changes-put}
 use Rattle.model.specs.declared.Hole.{Hole}
@@ -45,7 +44,7 @@ module _ (b : List ℕ) where
   changed k t x v h = changes-put isStored b x (arena k) v refl t h
 
   pub record-changes : (x : List ℕ) (c r a s f k t : ℕ) → Changes isStored b x → Changes isStored b (storeTop (storeCounts x c r a) s f k t)
-  unfolding storeTop storeCounts putWide
+  unfolding storeTop storeCounts
   record-changes x c r a s f k t h =
       changed holePages refl _ _ (changed holes refl _ _ (changed frontier refl _ _ (changed state refl _ _
       (changed abandonedHigh refl _ _ (changed abandoned refl _ _ (changed reusesHigh refl _ _ (changed reuses refl _ _ (changed commitsHigh refl _ _ (changed commits refl _ _ h)))))))))

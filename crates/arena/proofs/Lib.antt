@@ -4,6 +4,8 @@ mod Least
 mod Loading
 mod Ways
 mod ActWays
+mod CallWays
+mod DirectWays
 pub mod StoreLaws
 pub mod Choice
 pub mod Frames

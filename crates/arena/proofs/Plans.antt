@@ -1,5 +1,6 @@
 -- What a plan on words in their ranges says.
 --     plan-fits      a chosen hole is stored, long enough, and within the hole pages and the frontier
+--     clamp-commit, clamp-grow    a run of more pages than any arena has may be counted as one page more than that
 --     commit-long    a commit of more pages than any arena has goes like every other one: no hole, no memory, no room
 -- Assumes nothing.
 use Prim.Native.Nat.{ℕ, zero, suc, _+_, _-_, _≤_, _<_}
@@ -10,7 +11,7 @@ use mathlib.Core.Option.{Option, none, some}
 use mathlib.Core.Path.{_≡_, refl, sym, ap, _∙_, subst}
 use lib.Dec.{eqb, ltb, leb}
 use lib.ListN.{length}
-use borrow.Author.Tests.{eqb-true, eq-eqb, ne-eqb, leb-true, le-leb, lt-leb}
+use borrow.Author.Tests.{eqb-true, eq-eqb, ne-eqb, leb-true, leb-false, le-leb, lt-leb}
 use Rattle.fields.specs.Field.{arena, frontier, holes, holePages, held, get, words}
 use Rattle.model.specs.declared.Hole.{Hole}
 use Rattle.model.specs.Lists.{every}
@@ -23,7 +24,7 @@ use Rattle.arena.specs.Record.{recordOf}
 use Rattle.arena.specs.Fair.{recordFair, memoryFair, holeFair, holesFair}
 use Rattle.arena.specs.Plan.{noPlan, planAt, planOf}
 use Rattle.arena.specs.Calls.{Committed, commitRefused, commitFor}
-use Rattle.arena.specs.Act.{rememberWord, forgetWord, endNone, fromFrontier, commitDrawn, nextState, withState, commitPlanned, planned, commitActs}
+use Rattle.arena.specs.Act.{rememberWord, forgetWord, endNone, fromFrontier, commitDrawn, nextState, withState, commitPlanned, planned, commitActs, growWith, growActs, clamped}
 use Rattle.arena.proofs.StoreLaws.{loaded-length}
 use Rattle.arena.proofs.Choice.{Choosing, empty, recalled, exact, longer, short, choosing}
 use Rattle.arena.proofs.Acts.{planned-fair, planned-at, FairRecord, fair-record, commit-acts}
@@ -129,3 +130,26 @@ module _ (n : ℕ) (b : List ℕ) (h w m : ℕ) (small : n ≤ 262144) (large : 
 pub commit-long : (n : ℕ) (b : List ℕ) → leb (words n) (length b) ≡ true → n ≤ 262144 → (h w m : ℕ) → 262145 ≤ m → commitFor n b h m w ≡ commitFor n b h 262145 w
 commit-long n b hb l h w m k =
     sym (commit-acts n b hb h m w) ∙ long-acts n b h w m l k ∙ sym (long-acts n b h w 262145 l (omega arith)) ∙ commit-acts n b hb h 262145 w
+
+pub clamp-commit : (n : ℕ) (b : List ℕ) → leb (words n) (length b) ≡ true → n ≤ 262144 → (h w m : ℕ) → commitFor n b h (clamped m) w ≡ commitFor n b h m w
+unfolding clamped
+clamp-commit n b hb l h w m =
+    by-cases (leb m 262144)
+    (λ t. rw t)
+    (λ t. rw t (sym (commit-long n b hb l h w m (let z = leb-false m 262144 t in omega arith))))
+
+-- a growth by more pages than any arena has
+grow-long : (n : ℕ) (b : List ℕ) (h e w m : ℕ) → n ≤ 262144 → 262145 ≤ m → growActs n b h e m w ≡ cond (eqb (recordOf b .frontier) e) (endNone b (recordOf b)) (endNone b (recordOf b))
+unfolding growActs growWith fromFrontier
+grow-long n b h e w m l k = rw (lt-leb (recordOf b .frontier + m) n (omega arith))
+
+pub clamp-grow : (n : ℕ) (b : List ℕ) → n ≤ 262144 → (h e w m : ℕ) → growActs n b h e (clamped m) w ≡ growActs n b h e m w
+unfolding clamped
+clamp-grow n b l h e w m =
+    by-cases (leb m 262144)
+    (λ t. rw t)
+    (λ t. rw t (grow-long n b h e w 262145 l (omega arith) ∙ sym (grow-long n b h e w m l (let z = leb-false m 262144 t in omega arith))))
+
+pub clamped-le : (m : ℕ) → clamped m ≤ 262145
+unfolding clamped
+clamped-le m = by-cases (leb m 262144) (λ t. rw t (let z = leb-true m 262144 t in omega arith)) (λ t. rw t (omega arith))

@@ -120,11 +120,19 @@ commitActs n b h m w =
     (commitRefused b 13)
 
 -- ---- the other steps
-unfoldable pub giveActs : List ℕ → ℕ → ℕ → List ℕ
-giveActs b q m =
-    put (own (storeRecord (giveWords b (recordOf b) m q) (giveRecord (recordOf b) m)) q m 0) (arena held) (get b (arena held) - m)
+unfoldable pub givenWith : List ℕ → Arena → ℕ → ℕ → ℕ → List ℕ
+givenWith b a d q m = put (own (storeRecord (giveWords b a m q) (giveRecord a m)) q m 0) (arena held) (d - m)
 
--- the run that ends at page e by m pages: it is settled as a commit of them is
+unfoldable pub giveActs : List ℕ → ℕ → ℕ → List ℕ
+giveActs b q m = givenWith b (recordOf b) (get b (arena held)) q m
+
+-- the run that ends at page e by m pages: they are settled as a commit from the frontier is
+unfoldable pub growWith : ℕ → List ℕ → Arena → ℕ → ℕ → ℕ → ℕ → ℕ → Committed
+growWith n b a h e m w d = cond (eqb (a .frontier) e) (fromFrontier n b a m h w d) (endNone b a)
+
 unfoldable pub growActs : ℕ → List ℕ → ℕ → ℕ → ℕ → ℕ → Committed
-growActs n b h e m w =
-    cond (eqb (recordOf b .frontier) e && leb (e + m) n) (settle b (advanced m (recordOf b)) m e true h w (get b (arena held))) (endNone b (recordOf b))
+growActs n b h e m w = growWith n b (recordOf b) h e m w (get b (arena held))
+
+-- a page more than any arena has stands for every longer run
+unfoldable pub clamped : ℕ → ℕ
+clamped m = cond (leb m 262144) m 262145

@@ -1,12 +1,14 @@
 -- What the steps of a commit ask of the book, the record and the plan. Assumes nothing.
 use Prim.Native.Nat.{ℕ, _+_, _≤_, _<_}
 use mathlib.Core.List.{List}
+use mathlib.Core.Bool.{true}
 use mathlib.Core.Path.{_≡_}
 use lib.ListN.{length}
 use Rattle.fields.specs.Field.{words}
 use Rattle.arena.specs.declared.Arena.{Arena}
 use Rattle.arena.specs.declared.Plan.{Plan}
 use Rattle.arena.specs.declared.Request.{Request}
+use Rattle.arena.specs.Fair.{giveFair}
 
 -- a record in its ranges, in an arena of n pages
 pub record RecordIn (n : ℕ) (a : Arena) : Type 0 where
@@ -39,3 +41,22 @@ pub record RunIn (b : List ℕ) (a : Arena) (first : ℕ) (q : Request) : Type 0
   pub near : first + q .pages ≤ 262144
   pub short : a .total ≤ 65536
   pub owned : q .held ≤ 262144
+
+-- a run that may be given, in an arena of n pages
+pub record GiveIn (b : List ℕ) (n first m : ℕ) : Type 0 where
+  pub long : words n ≤ length b
+  pub small : n ≤ 262144
+  pub inside : first + m ≤ n
+  pub fair : giveFair n b m ≡ true
+
+-- the same with the record and HELD at hand
+pub record LoadedIn (b : List ℕ) (a : Arena) (d first m : ℕ) : Type 0 where
+  pub long : words (first + m) ≤ length b
+  pub near : first + m ≤ 262144
+  pub short : a .total ≤ 65536
+  pub owned : m ≤ d
+
+-- the book of an arena of n pages
+pub record BookIn (b : List ℕ) (n : ℕ) : Type 0 where
+  pub long : words n ≤ length b
+  pub small : n ≤ 262144

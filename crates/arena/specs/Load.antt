@@ -1,11 +1,10 @@
 -- The arena that the words hold. Any words hold one; number 13's tests (Fair) say which of them a step may use. Assumes nothing.
-use Prim.Native.Nat.{ℕ, zero, suc}
+use Prim.Native.Nat.{ℕ, zero, suc, _+_, _*_, _^_}
 use mathlib.Core.List.{List, [], _∷_}
 use mathlib.Core.Option.{Option, none, some}
 use mathlib.Core.Bool.{cond}
 use lib.Dec.{leb}
 use Rattle.fields.specs.Field.{ArenaField, arena, memory, hole, state, frontier, holes, holePages, commits, commitsHigh, reuses, reusesHigh, abandoned, abandonedHigh, start, pages, get}
-use Rattle.fields.specs.Wide.{getWide}
 use Rattle.model.specs.declared.Hole.{Hole}
 use Rattle.model.specs.HoleStore as Model
 use Rattle.model.specs.HoleStore.{HoleStore, rememberedMax}
@@ -33,7 +32,7 @@ indexCode (some i) = suc i
 
 -- a count of 64 bits stands in two words, the low one first
 abbrev pub wide : List ℕ → ArenaField → ArenaField → ℕ
-wide b low high = getWide b low high
+wide b low high = get b (arena low) + get b (arena high) * 2 ^ 32
 
 abbrev pub loadHole : List ℕ → ℕ → Hole
 loadHole b i = Model.hole (get b (hole start i)) (get b (hole pages i))

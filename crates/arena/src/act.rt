@@ -12,7 +12,7 @@ ghost use mathlib.Core.Bool.{false};
 ghost use mathlib.Core.Path.{_≡_};
 ghost use Prim.Native.Nat.{_+_, _≤_, _<_, _^_};
 ghost use lib.ListN.{length};
-ghost use Rattle.arena.specs.Act.{cutWords, usedWords, drawWords, drawRecord, Draws, forgetWord, endRun, endGiven, settle, fromFrontier, commitDrawn, nextState, commitPlanned};
+ghost use Rattle.arena.specs.Act.{cutWords, usedWords, drawWords, drawRecord, Draws, forgetWord, endRun, endGiven, settle, fromFrontier, commitDrawn, nextState, commitPlanned, growWith};
 ghost use Rattle.arena.specs.Asks.{RecordIn, HoleIn, PlanIn, RequestIn, RunIn};
 ghost use Rattle.arena.specs.Answer.{Answers};
 
@@ -146,4 +146,16 @@ pub fn commit_planned(meta: &mut [u32], a: Arena, p: Plan, q: Request) -> Commit
         return Commit::Nothing;
     }
     commit_drawn(meta, b, p, q)
+}
+
+// The run that ends at page `end` grows by the request's pages, if the frontier is there and the arena suffices.
+pub fn grow_run(meta: &mut [u32], a: Arena, end: u32, q: Request) -> Commit
+    requires { ⌜ RequestIn (now meta) q × RecordIn (q .size) a ⌝ }
+    ensures { λ r. ⌜ Answers r (now (meta .exit)) (growWith (q .size) (now (meta .entry)) a (q .host) end (q .pages) (q .owner) (q .held)) ⌝ }
+{
+    if a.frontier != end {
+        store::store_record(meta, a);
+        return Commit::Nothing;
+    }
+    from_frontier(meta, a, q)
 }

@@ -1,11 +1,16 @@
 // A run goes to the holes, or is abandoned.
 use super::Arena;
+use super::load;
+use super::owners;
 use super::record;
 use super::store;
 ghost use mathlib.Core.Path.{_≡_};
 ghost use Prim.Native.Nat.{_+_, _≤_, _<_, _^_};
 ghost use lib.ListN.{length};
-ghost use Rattle.arena.specs.Act.{withHoles, withState, appendWords, Gives};
+ghost use Rattle.arena.specs.Fair.{giveFair};
+ghost use Rattle.arena.specs.Calls.{given};
+ghost use Rattle.arena.specs.Act.{withHoles, withState, appendWords, Gives, givenWith};
+ghost use Rattle.arena.specs.Asks.{GiveIn, LoadedIn};
 
 pub fn with_holes(a: Arena, count: u32, total: u32) -> Arena
     ensures { λ r. ⌜ r ≡ withHoles count total a ⌝ }
@@ -56,4 +61,36 @@ pub fn give_run(meta: &mut [u32], a: Arena, first: u32, pages: u32) -> Arena
     }
     append(meta, a.count, first, pages);
     with_holes(a, a.count + 1, a.total + pages)
+}
+
+// The record is written, the pages are nobody's, and they are no longer held.
+fn give_loaded(meta: &mut [u32], a: Arena, held: u32, first: u32, pages: u32)
+    requires { ⌜ LoadedIn (now meta) a held first pages ⌝ }
+    ensures { λ _. ⌜ now (meta .exit) ≡ givenWith (now (meta .entry)) a held first pages ⌝ }
+{
+    let b = give_run(meta, a, first, pages);
+    store::store_record(meta, b);
+    owners::own(meta, first, pages, 0);
+    fields::arena::set_held(meta, held - pages);
+}
+
+// Number 13's test for giving so many pages.
+pub fn give_fair(meta: &[u32], size: u32, pages: u32) -> bool
+    requires { ⌜ 40000 ≤ length (now meta) ⌝ }
+    ensures { λ r. ⌜ r ≡ giveFair size (now (meta .entry)) pages ⌝ }
+{
+    if load::record_fair(meta, size) {
+        return pages <= fields::arena::held(meta);
+    }
+    false
+}
+
+// A run below the frontier of an arena of `size` pages is given, where that is fair.
+pub fn give(meta: &mut [u32], size: u32, first: u32, pages: u32)
+    requires { ⌜ GiveIn (now meta) size first pages ⌝ }
+    ensures { λ _. ⌜ now (meta .exit) ≡ given (now (meta .entry)) first pages ⌝ }
+{
+    let a = load::load_record(meta);
+    let held = fields::arena::held(meta);
+    give_loaded(meta, a, held, first, pages);
 }

@@ -1,8 +1,10 @@
 // The arena on the words: its record and its holes are read from the book, one step of the arena is done, and both are written back.
 mod act;
+mod direct;
 mod give;
 mod holes;
 mod load;
+mod open;
 mod owners;
 mod record;
 mod store;
@@ -47,4 +49,25 @@ pub enum Commit {
     Refused(u32),
     Run(u32, bool),
     Nothing,
+}
+
+// What a growth answers.
+pub enum Grow {
+    Refused(u32),
+    Yes,
+    No,
+}
+
+// The report's figures.
+pub struct Figures {
+    pub commits: u64,
+    pub reuses: u64,
+    pub abandoned: u64,
+    pub held: u64,
+    pub idle: u64,
+}
+
+pub enum Report {
+    Refused(u32),
+    Told(Figures),
 }

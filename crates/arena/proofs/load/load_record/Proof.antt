@@ -1,4 +1,5 @@
 use borrow.Author.Needs.{needs}
+use Rattle.fields.specs.Wide.{getWide}
 use Rattle.arena.proofs.load.load_record.Statement.{statement}
 use Rattle.arena.proofs.load.load_record.Tie as tie
 
@@ -24,6 +25,7 @@ abandoned-requires : tie.Need-abandoned-requires
 abandoned-requires c κs = search needs
 
 returns : tie.Need-returns
+unfolding getWide
 returns c = cc
 
 pub load-record-spec : {M : Type 1} → statement M

@@ -1,6 +1,7 @@
 use borrow.Author.Needs.{needs}
 use Rattle.arena.proofs.store.store_counts.Statement.{statement}
 use Rattle.arena.proofs.store.store_counts.Tie as tie
+use Rattle.fields.specs.Wide.{putWide}
 use Rattle.arena.specs.Store.{storeCounts}
 
 set-commits-requires : tie.Need-set-commits-requires
@@ -16,7 +17,7 @@ same-length : tie.Need-same-length
 same-length c = search needs
 
 returns : tie.Need-returns
-unfolding storeCounts
+unfolding storeCounts putWide
 returns c = cc
 
 pub store-counts-spec : {M : Type 1} → statement M
