@@ -31,7 +31,7 @@ use Rattle.arena.specs.Act.{endNone, endRun, endGiven, settle, fromFront
 use Rattle.arena.specs.Asks.{RecordIn, RequestIn, GiveIn, BookIn}
 use Rattle.arena.specs.Answer.{Answers, growCommit, growCode, growYes, Grew, Grows, fairGrow, badGrowth, Releases, heldRelease, figuresOf, reportOf}
 use Rattle.arena.proofs.Acts.{fair-record, grow-acts}
-use Rattle.arena.proofs.Plans.{clamp-grow, clamped-le}
+use Rattle.arena.proofs.PlanLaws.{clamp-grow, clamped-le}
 
 -- ---- numbers
 pub bad-none : (m : ℕ) → m ≡ 0 → true ≡ badRun m

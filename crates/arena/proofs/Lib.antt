@@ -1,5 +1,7 @@
 -- What the proofs of several functions use, and the laws of storing that the crates above use.
+mod Again
 mod Big
+mod Choosing
 mod Least
 mod Loading
 mod Ways
@@ -10,4 +12,4 @@ pub mod StoreLaws
 pub mod Choice
 pub mod Frames
 pub mod Acts
-pub mod Plans
+pub mod PlanLaws

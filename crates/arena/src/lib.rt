@@ -1,12 +1,13 @@
 // The arena on the words: its record and its holes are read from the book, one step of the arena is done, and both are written back.
 mod act;
-mod direct;
-mod give;
-mod holes;
+pub mod direct;
+pub mod give;
+pub mod holes;
 mod load;
-mod open;
+pub mod open;
 mod owners;
-mod record;
+pub mod plans;
+pub mod record;
 mod store;
 
 // The arena's state, frontier and three counts, with the number of holes and of the pages in them.

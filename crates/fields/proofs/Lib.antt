@@ -5,3 +5,4 @@ pub mod Changes
 pub mod Wide
 pub mod Outcome
 pub mod Sound
+pub mod Clear

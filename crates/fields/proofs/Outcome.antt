@@ -1,5 +1,6 @@
 -- Outcomes one after another, and the laws of `putAt`: those of `put`, at a stored number. Assumes nothing.
-use Prim.Native.Nat.{ℕ, zero, suc}
+use Prim.Native.Nat.{ℕ, zero, suc, _-_}
+use native.Mathlib.Numerals.{sub-one}
 use mathlib.Core.Bool.{Bool, true, false, _&&_}
 use mathlib.Core.List.{List}
 use mathlib.Core.Path.{_≡_, refl, sym, ap, _∙_}
@@ -26,6 +27,11 @@ then-go r s b b′ o f h t u =
 
 at-page : (k : PageField) (q : ℕ) (g : Field) → sameAt k (suc q) g ≡ false → same (page k q) g ≡ false
 at-page k q g e = rw eqb·suc-suc at e
+
+-- a function that writes only where there is a page does `putAt`
+pub putAt-some : (b b′ : List ℕ) (k : PageField) (code v : ℕ) → (code ≡ 0 → ⊥) → b′ ≡ put b (page k (code - 1)) v → b′ ≡ putAt b k code v
+putAt-some b b′ k zero v h e = absurd (h refl)
+putAt-some b b′ k (suc q) v h e = rw sub-one at e
 
 pub length-putAt : (b : List ℕ) (k : PageField) (code v : ℕ) → length (putAt b k code v) ≡ length b
 length-putAt b k zero v = refl

@@ -1,5 +1,7 @@
 // Whether a block of a page is out: bit i of the page's out words.
 ghost use mathlib.Core.Path.{_≡_};
+ghost use Prim.Native.Nat.{_*_};
+ghost use Rattle.fields.specs.Clear.{clearOut};
 ghost use Rattle.fields.specs.Field.{out, word, Has, get, put};
 use crate::bits::place_bits;
 use crate::bits::read_bits;
@@ -24,4 +26,12 @@ pub fn set_bit(meta: &mut [u32], p: u32, i: u32, v: u32)
 {
     let at = out_word(p, i);
     meta[at] = place_bits(meta[at], i % 32, 1, v);
+}
+
+// Blocks 32 j to 32 j + 31 are not out.
+pub fn clear_word(meta: &mut [u32], p: u32, j: u32)
+    requires { ⌜ Has (now meta) (out p (32 * j)) ⌝ }
+    ensures { λ _. ⌜ now (meta .exit) ≡ clearOut (now (meta .entry)) p (32 * j) 32 ⌝ }
+{
+    meta[page_word(p, 16 + j as usize)] = 0;
 }

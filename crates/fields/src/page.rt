@@ -5,7 +5,7 @@ ghost use Rattle.fields.specs.Field.{page, owner, first, next, prev, fre
 
 // Word k of page p.
 pub fn page_word(p: u32, k: usize) -> usize
-    requires { ⌜ k < 2 ^ 32 ⌝ }
+    requires { ⌜ k < 2 ^ 40 ⌝ }
     ensures { λ r. ⌜ r ≡ 40000 + 4112 * p + k ⌝ }
 {
     40000 + 4112 * (p as usize) + k

@@ -2,3 +2,4 @@ pub mod Runs
 pub mod Stack
 pub mod Links
 pub mod Carve
+pub mod Asks

@@ -5,13 +5,10 @@ use Prim.Native.Nat.{ℕ, zero, suc, _+_, _-_}
 use mathlib.Core.List.{List}
 use Rattle.pages.specs.declared.Park.{Park}
 use Rattle.pages.specs.declared.Park.the-variants.{Empty, Cold}
-use Rattle.fields.specs.Field.{PageField, ClassField, class, page, partial, empty, emptyCount, cold, coldCount, next, prev, listed, get, put}
+use Rattle.fields.specs.Field.{ClassField, class, page, partial, empty, emptyCount, cold, coldCount, next, prev, listed, get, put}
+use Rattle.fields.specs.Outcome.{putAt}
 
--- a write where there is a page; a write to what points forward to a place: the page before it, or else the class
-abbrev pub putAt : List ℕ → PageField → ℕ → ℕ → List ℕ
-putAt b k zero v = b
-putAt b k (suc q) v = put b (page k q) v
-
+-- a write to what points forward to a place: the page before it, or else the class
 abbrev pub pointNext : List ℕ → ℕ → ℕ → ℕ → List ℕ
 pointNext b c zero v = put b (class partial c) v
 pointNext b c (suc q) v = put b (page next q) v

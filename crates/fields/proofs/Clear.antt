@@ -1,0 +1,109 @@
+-- Clearing out bits: a whole word at once, one stretch after another, and what is read afterwards. Assumes nothing.
+use Prim.Native.Nat.{ℕ, zero, suc, _+_, _-_, _*_, _/_, _%_, _^_, _≤_, _<_}
+use native.Mathlib.Omega.{arith}
+use native.Mathlib.Nat.{le-refl, add-zero, zero-add, suc-add, zero-mod, mod-one, mod-eq-of-lt, div-one}
+use native.Mathlib.Numerals.{add-one}
+use native.Mathlib.Decide.{decLe}
+use mathlib.Core.Bool.{Bool, true}
+use mathlib.Core.List.{List}
+use mathlib.Core.Path.{_≡_, refl, sym, ap, _∙_}
+use lib.Dec.{leb, ltb}
+use lib.ListN.{length, getD, set}
+use lib.Pow.{pow-add, shr-shr, mod-pow-add}
+use lib.Seq.{lt-length-set, getD-set-same, set-getD, set-set}
+use borrow.Author.Tests.{lt-ltb, ne-eqb}
+use Rattle.fields.specs.Field.{Field, bits, place, out, words, put, get}
+use Rattle.fields.specs.Clear.{clearOut}
+use Rattle.fields.proofs.Parts.{below, read-place-other}
+use Rattle.fields.proofs.Laws.{length-put, get-put-same, get-put-other}
+use Rattle.fields.proofs.Changes.{Changes, changes-put}
+
+taken : (w x y a c : ℕ) → y ≡ x * 2 → w - a * x + 0 * x - c * y + 0 * y ≡ w - (c * 2 + a) * x + 0 * x
+taken w x y a c e = rw e (omega arith)
+
+-- one bit and the k above it
+join : (s k w : ℕ) → place (bits (s + 1) k) (place (bits s 1) w 0) 0 ≡ place (bits s (k + 1)) w 0
+join s k w =
+    let z : (n : ℕ) → 0 % 2 ^ n ≡ 0 = λ n. zero-mod (2 ^ n) in
+    let e : place (bits s 1) w 0 / 2 ^ (s + 1) % 2 ^ k ≡ w / 2 ^ (s + 1) % 2 ^ k = read-place-other w 0 (below (le-refl (s + 1))) in
+    let d : w / 2 ^ s % 2 ^ (k + 1) ≡ w / 2 ^ (s + 1) % 2 ^ k * 2 ^ 1 + w / 2 ^ s % 2 ^ 1 = mod-pow-add (w / 2 ^ s) k 1 ∙ rw shr-shr in
+    rw (e, d, z 1, z k, z (k + 1)) (taken w (2 ^ s) (2 ^ (s + 1)) (w / 2 ^ s % 2 ^ 1) (w / 2 ^ (s + 1) % 2 ^ k) (pow-add 2 s 1))
+
+none : (s w : ℕ) → place (bits s 0) w 0 ≡ w
+none s w = rw (mod-one (w / 2 ^ s)) (omega arith)
+
+every : (w : ℕ) → w < 2 ^ 32 → place (bits 0 32) w 0 ≡ 0
+every w h = rw (div-one, mod-eq-of-lt h) (omega arith)
+
+-- the out bits of blocks 32 j to 32 j + 31 are one word
+module _ (p j : ℕ) where
+  first-bit : (s i : ℕ) (b : List ℕ) → i ≡ 32 * j + s → s < 32
+      → put b (out p i) 0 ≡ set b (40016 + 4112 * p + j) (place (bits s 1) (getD b (40016 + 4112 * p + j) 0) 0)
+  unfolding put
+  first-bit s i b e h =
+      let d : i / 32 ≡ j = omega arith in
+      let m : i % 32 ≡ s = omega arith in
+      rw (d, m)
+
+  -- k bits of it, from s on
+  stretch : (k s i : ℕ) (b : List ℕ) → i ≡ 32 * j + s → s + k ≤ 32 → 40016 + 4112 * p + j < length b
+      → clearOut b p i k ≡ set b (40016 + 4112 * p + j) (place (bits s k) (getD b (40016 + 4112 * p + j) 0) 0)
+  unfolding clearOut
+  stretch zero s i b e h l = sym (ap (set b (40016 + 4112 * p + j)) (none s _) ∙ set-getD b (40016 + 4112 * p + j) 0)
+  stretch (suc k) s i b e h l =
+      let x = 40016 + 4112 * p + j in
+      let w = getD b x 0 in
+      let v = place (bits s 1) w 0 in
+      ap (λ z. clearOut z p (i + 1) k) (first-bit s i b e (omega arith))
+      ∙ stretch k (s + 1) (i + 1) (set b x v) (omega arith) (omega arith) (lt-length-set b x v l)
+      ∙ set-set b x v _
+      ∙ ap (set b x) (ap (λ z. place (bits (s + 1) k) z 0) (getD-set-same b x v 0 l) ∙ join s k w ∙ ap (λ n. place (bits s n) w 0) (add-one k))
+
+  pub cleared : (b b′ : List ℕ) → 40016 + 4112 * p + j < length b → getD b (40016 + 4112 * p + j) 0 < 2 ^ 32
+      → b′ ≡ set b (40016 + 4112 * p + j) 0 → b′ ≡ clearOut b p (32 * j) 32
+  cleared b b′ l h e =
+      e
+      ∙ ap (set b (40016 + 4112 * p + j)) (sym (every (getD b (40016 + 4112 * p + j) 0) h))
+      ∙ sym (stretch 32 0 (32 * j) b (omega arith) (omega arith) l)
+
+-- one stretch after another
+pub clear-more : (k m p i : ℕ) (b : List ℕ) → clearOut (clearOut b p i k) p (i + k) m ≡ clearOut b p i (k + m)
+unfolding clearOut
+clear-more zero m p i b = rw (add-zero, zero-add)
+clear-more (suc k) m p i b = rw (suc-add) (ap (λ x. clearOut (clearOut (put b (out p i) 0) p (i + 1) k) p x m) (omega arith) ∙ clear-more k m p (i + 1) (put b (out p i) 0))
+
+pub length-clear : (k p i : ℕ) (b : List ℕ) → length (clearOut b p i k) ≡ length b
+unfolding clearOut
+length-clear zero p i b = refl
+length-clear (suc k) p i b = length-clear k p (i + 1) (put b (out p i) 0) ∙ length-put b (out p i) 0
+
+-- what is read afterwards: blocks before the stretch as they were, those of it not out
+pub get-clear-before : (k p i j : ℕ) (b : List ℕ) → i + k ≤ 4096 → j < i → get (clearOut b p i k) (out p j) ≡ get b (out p j)
+unfolding clearOut
+get-clear-before zero p i j b h l = refl
+get-clear-before (suc k) p i j b h l =
+    get-clear-before k p (i + 1) j (put b (out p i) 0) (omega arith) (omega arith)
+    ∙ get-put-other b (out p i) (out p j) 0 (lt-ltb i 4096 (omega arith)) (lt-ltb j 4096 (omega arith)) (rw (ne-eqb i j (λ e. omega arith)))
+
+pub get-clear : (n p : ℕ) → ltb p n ≡ true → (k i j : ℕ) (b : List ℕ) → leb (words n) (length b) ≡ true → i + k ≤ 4096 → i ≤ j → j < i + k
+    → get (clearOut b p i k) (out p j) ≡ 0
+unfolding clearOut
+get-clear n p hp zero i j b hb h l m = absurd (omega arith)
+get-clear n p hp (suc k) i j b hb h l m =
+    elim (decLe (i + 1) j) [
+      | yes z ↦ get-clear n p hp k (i + 1) j (put b (out p i) 0) (rw length-put hb) (omega arith) z (omega arith)
+      | no z ↦
+          let e : j ≡ i = omega arith in
+          rw e
+          (get-clear-before k p (i + 1) i (put b (out p i) 0) (omega arith) (omega arith)
+          ∙ get-put-same n b (out p i) 0 hb (rw (lt-ltb i 4096 (omega arith)) hp) refl)
+    ]
+
+-- and nothing else is changed
+pub changes-clear : (t : Field → Bool) (b : List ℕ) (k p i : ℕ) (b′ : List ℕ) → i + k ≤ 4096 → ((j : ℕ) → i ≤ j → j < i + k → t (out p j) ≡ true)
+    → Changes t b b′ → Changes t b (clearOut b′ p i k)
+unfolding clearOut
+changes-clear t b zero p i b′ h d c = c
+changes-clear t b (suc k) p i b′ h d c =
+    changes-clear t b k p (i + 1) (put b′ (out p i) 0) (omega arith) (λ j l m. d j (omega arith) (omega arith))
+    (changes-put t b b′ (out p i) 0 (lt-ltb i 4096 (omega arith)) (d i (omega arith) (omega arith)) c)

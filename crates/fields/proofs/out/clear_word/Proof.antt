@@ -1,0 +1,35 @@
+use native.Mathlib.Omega.{arith}
+use Prim.Native.Nat.{_+_, _*_}
+use mathlib.Core.Path.{_≡_, ap, _∙_}
+use borrow.Author.Needs.{needs}
+use lib.ListN.{set}
+use Rattle.fields.proofs.Clear.{cleared}
+use Rattle.fields.proofs.out.clear_word.Statement.{statement}
+use Rattle.fields.proofs.out.clear_word.Tie as tie
+
+add-page-word : tie.Need-add-page-word
+add-page-word c = search needs
+
+page-word-requires : tie.Need-page-word-requires
+page-word-requires c κs = search needs
+
+mul-meta : tie.Need-mul-meta
+mul-meta c = search needs
+
+slice-write-meta : tie.Need-slice-write-meta
+slice-write-meta c = search needs
+
+same-length : tie.Need-same-length
+same-length c = search needs
+
+returns : tie.Need-returns
+returns c =
+    let a = c .before .before .args in
+    let x = 40016 + 4112 * a .p + a .j in
+    cleared (a .p) (a .j) (a .meta .now) _ (omega (arith, c .before .before .pre)) (omega (arith, c .before .slice-known .given x))
+    (ap (λ i. set (a .meta .now) i 0) (omega (arith, c .page-word .ensures)))
+
+pub clear-word-spec : {M : Type 1} → statement M
+clear-word-spec =
+    tie.close
+    (tie.spec add-page-word page-word-requires mul-meta slice-write-meta same-length returns)

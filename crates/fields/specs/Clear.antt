@@ -1,0 +1,9 @@
+-- Out bits cleared, as a page that comes from the arena has them. Assumes nothing.
+use Prim.Native.Nat.{ℕ, zero, suc, _+_}
+use mathlib.Core.List.{List}
+use Rattle.fields.specs.Field.{out, put}
+
+-- blocks i to i + k - 1 of page p are not out
+unfoldable pub clearOut : List ℕ → ℕ → ℕ → ℕ → List ℕ
+clearOut b p i zero = b
+clearOut b p i (suc k) = clearOut (put b (out p i) 0) p (i + 1) k

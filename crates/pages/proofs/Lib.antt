@@ -1,0 +1,4 @@
+pub mod Downs
+pub mod ListSteps
+pub mod RunSteps
+pub mod CarveSteps
