@@ -33,7 +33,7 @@ use Rattle.arena.specs.Fair.{recordFair, memoryFair, holesFair, holeFair
 use Rattle.arena.specs.Owners.{own}
 use Rattle.arena.specs.Plan.{cutHoles, noPlan, planAt, planOf, chosen}
 use Rattle.arena.specs.Calls.{Committed, commitRefused, advance, committed, commitFor, given, grownBy, grownBook}
-use Rattle.arena.specs.Act.{rememberWord, recallWord, withState, withHoles, accepting, appendWords, giveWords, giveRecord, cutWords, usedWords, drawWords, drawRecord, forgetWord, endNone, endRun, endGiven, settle, fromFrontier, commitDrawn, nextState, commitPlanned, planned, commitActs, givenWith, giveActs, growWith, growActs}
+use Rattle.arena.specs.Act.{rememberWord, recallWord, withState, withHoles, accepting, appendWords, giveWords, giveRecord, cutWords, usedWords, drawWords, drawRecord, forgetWord, endNone, endRun, endGiven, settle, fromFrontier, commitDrawn, nextState, commitPlanned, planned, commitRead, commitRecalled, commitActs, givenWith, giveActs, growWith, growActs}
 use Rattle.arena.specs.Answer.{ranYes}
 use Rattle.arena.proofs.StoreLaws.{hole-length, loaded-length, loaded-last, removed-length, set-length, remember-length, remember-twice, store-length, store-loaded, store-remembered, store-set, store-appended, store-removed}
 use Rattle.arena.proofs.Choice.{Choosing, empty, recalled, exact, longer, short, choosing, choice-of}
@@ -405,7 +405,7 @@ cond-false true x y e = absurd (true≢false e)
 cond-false false x y e = refl
 
 pub commit-acts : (n : ℕ) (b : List ℕ) → leb (words n) (length b) ≡ true → (h m w : ℕ) → commitActs n b h m w ≡ commitFor n b h m w
-unfolding commitActs commitFor commitFair
+unfolding commitActs commitRecalled commitRead commitFor commitFair
 commit-acts n b hb h m w =
     by-cases (recordFair n b)
     (λ e. let k = fair-record n b e in

@@ -15,6 +15,7 @@ use Rattle.model.specs.Heap.{badRun}
 use Rattle.model.specs.Arena as Model
 use Rattle.model.proofs.Counts.{by-cases, and-l, and-r}
 use Rattle.arena.specs.declared.Arena.{Arena}
+use Rattle.arena.specs.declared.Plan.{Plan}
 use Rattle.arena.specs.declared.Request.{Request}
 use Rattle.arena.specs.declared.Commit.{Commit}
 use Rattle.arena.specs.declared.Commit.the-variants.{Refused, Run, Nothing}
@@ -22,16 +23,17 @@ use Rattle.arena.specs.declared.Grow.{Grow}
 use Rattle.arena.specs.declared.Figures.{Figures}
 use Rattle.arena.specs.declared.Report.{Report}
 use Rattle.arena.specs.declared.Report.the-variants.{Told}
-use Rattle.arena.specs.Load.{statusOf, loadArena}
+use Rattle.arena.specs.Load.{statusOf, loadHoles, loadArena}
 use Rattle.arena.specs.Record.{recordOf, storeRecord}
-use Rattle.arena.specs.Fair.{recordFair, giveFair}
+use Rattle.arena.specs.Fair.{recordFair, memoryFair, commitFair, giveFair}
+use Rattle.arena.specs.Plan.{planOf}
 use Rattle.arena.specs.Open.{cleared, headWords}
-use Rattle.arena.specs.Calls.{Committed, Done, given, everyDirect, heldDirect, releaseCall, growCall, containsCall}
-use Rattle.arena.specs.Act.{endNone, endRun, endGiven, settle, fromFrontier, growWith, growActs, clamped}
-use Rattle.arena.specs.Asks.{RecordIn, RequestIn, GiveIn, BookIn}
+use Rattle.arena.specs.Calls.{Committed, commitRefused, commitFor, commitCall, Done, given, everyDirect, heldDirect, releaseCall, growCall, containsCall}
+use Rattle.arena.specs.Act.{endNone, endRun, endGiven, settle, fromFrontier, recallWord, commitPlanned, planned, commitRead, commitRecalled, commitActs, growWith, growActs, clamped}
+use Rattle.arena.specs.Asks.{RecordIn, HoleIn, PlanIn, RequestIn, GiveIn, BookIn}
 use Rattle.arena.specs.Answer.{Answers, growCommit, growCode, growYes, Grew, Grows, fairGrow, badGrowth, Releases, heldRelease, figuresOf, reportOf}
-use Rattle.arena.proofs.Acts.{fair-record, grow-acts}
-use Rattle.arena.proofs.PlanLaws.{clamp-grow, clamped-le}
+use Rattle.arena.proofs.Acts.{fair-record, commit-acts, grow-acts}
+use Rattle.arena.proofs.PlanLaws.{plan-fits, clamp-commit, clamp-grow, clamped-le}
 
 -- ---- numbers
 pub bad-none : (m : ℕ) → m ≡ 0 → true ≡ badRun m
@@ -199,9 +201,12 @@ loaded-record n b a t f =
     let z = fair-record n b t in
     subst (λ y. RecordIn n y) (sym f) (record { moved = z .frontier; few = z .holes; short = z .holePages })
 
-pub grow-request : (n : ℕ) (b : List ℕ) (h m d w : ℕ) → BookIn b n → recordFair n b ≡ true → m ≤ 262145 → d ≡ get b (arena held)
+pub loaded-few : (n : ℕ) (b : List ℕ) (a : Arena) → recordFair n b ≡ true → a ≡ recordOf b → a .count ≤ 4096
+loaded-few n b a t f = loaded-record n b a t f .few
+
+pub request-in : (n : ℕ) (b : List ℕ) (h m d w : ℕ) → BookIn b n → recordFair n b ≡ true → m ≤ 262145 → d ≡ get b (arena held)
     → RequestIn b (record { size = n; pages = m; host = h; owner = w; held = d })
-grow-request n b h m d w k t l f =
+request-in n b h m d w k t l f =
     let z = fair-record n b t .held in
     let y = k .small in
     record { long = k .long; small = k .small; fits = l; owned = omega arith }
@@ -265,3 +270,65 @@ module _ (n : ℕ) (b : List ℕ) (h q old new : ℕ) where
       rw (le-ltb 15 h l, ← e, v, ← f, w, z) (record { code = i .code ∙ grow-code n b h (q + old) (new - old); yes = i .yes ∙ sym (j .yes); book = i .book ∙ sym (j .book) }))
       (λ z. let i = rw z at y in
       rw (le-ltb 15 h l, ← e, v, ← f, w, z) (record { code = i .code; yes = i .yes; book = i .book }))
+
+-- ---- a commit
+module _ (n : ℕ) (b : List ℕ) (h m w d : ℕ) where
+  plan-is : (a : Arena) (p : Plan) (c : ℕ) → a ≡ recordOf b → c ≡ recallWord b m → p ≡ planOf (loadHoles b 0 (a .count)) (a .total) (a .frontier) m c → p ≡ planned b m
+  unfolding planned
+  plan-is a p c e f g = g ∙ ap (λ y. planOf (loadHoles b 0 (y .count)) (y .total) (y .frontier) m c) e ∙ ap (planOf (loadHoles b 0 (recordOf b .count)) (recordOf b .total) (recordOf b .frontier) m) f
+
+  pub plan-in : (a : Arena) (p : Plan) (c : ℕ) → a ≡ recordOf b → c ≡ recallWord b m → p ≡ planOf (loadHoles b 0 (a .count)) (a .total) (a .frontier) m c → p .fair ≡ true → PlanIn a p m
+  plan-in a p c e f g t z =
+      let k = plan-fits b m p (plan-is a p c e f g) t z in
+      subst (λ y. HoleIn y p m) (sym e) (record { chosen = omega (arith, z); stored = k .stored; enough = k .enough; within = k .within; ends = k .ends })
+
+  pub read-on : (a : Arena) (p : Plan) (c : ℕ) (s : Commit) (x : List ℕ) → a ≡ recordOf b → c ≡ recallWord b m → p ≡ planOf (loadHoles b 0 (a .count)) (a .total) (a .frontier) m c → p .fair ≡ true
+      → Answers s x (commitPlanned n b a p m h w d) → Answers s x (commitRead n b h m w d)
+  unfolding commitRead
+  read-on a p c s x e f g t k = reads (plan-is a p c e f g) (recordOf b) e k
+    where
+      reads : p ≡ planned b m → (r : Arena) → a ≡ r → Answers s x (commitPlanned n b a p m h w d) → Answers s x (cond (planned b m .fair) (commitPlanned n b r (planned b m) m h w d) (commitRefused b 13))
+      reads u r v y = subst (λ z. Answers s x (cond (z .fair) (commitPlanned n b r z m h w d) (commitRefused b 13))) u (subst (λ z. Answers s x (cond z (commitPlanned n b r p m h w d) (commitRefused b 13))) (sym t) (subst (λ z. Answers s x (commitPlanned n b z p m h w d)) v y))
+
+  pub read-off : (a : Arena) (p : Plan) (c : ℕ) → a ≡ recordOf b → c ≡ recallWord b m → p ≡ planOf (loadHoles b 0 (a .count)) (a .total) (a .frontier) m c → p .fair ≡ false → Answers (Refused 13) b (commitRead n b h m w d)
+  unfolding commitRead
+  read-off a p c e f g t =
+      let z : planned b m .fair ≡ false = ap (λ y. y .fair) (sym (plan-is a p c e f g)) ∙ t in
+      subst (λ y. Answers (Refused 13) b (cond y (commitPlanned n b (recordOf b) (planned b m) m h w d) (commitRefused b 13))) (sym z) (record { code = refl; run = refl; fresh = refl; book = refl })
+
+  memory-code : (c : ℕ) → c ≡ recallWord b m → leb c 4096 ≡ memoryFair b m
+  unfolding recallWord
+  memory-code c e = by-cases (leb m 128) (λ t. rw (e, t)) (λ t. rw (e, t))
+
+  pub recalled-on : (c : ℕ) (s : Commit) (x : List ℕ) → c ≡ recallWord b m → c ≤ 4096 → Answers s x (commitRead n b h m w d) → Answers s x (commitRecalled n b h m w d)
+  unfolding commitRecalled
+  recalled-on c s x e l k = rw (← (memory-code c e), le-leb c 4096 l) k
+
+  pub recalled-off : (c : ℕ) → c ≡ recallWord b m → 4096 < c → Answers (Refused 13) b (commitRecalled n b h m w d)
+  unfolding commitRecalled
+  recalled-off c e l = rw (← (memory-code c e), lt-leb c 4096 l) (record { code = refl; run = refl; fresh = refl; book = refl })
+
+module _ (n : ℕ) (b : List ℕ) (h m w : ℕ) where
+  pub commits-on : (t : Bool) (d : ℕ) (s : Commit) (x : List ℕ) → BookIn b n → t ≡ recordFair n b → t ≡ true → d ≡ get b (arena held) → Answers s x (commitRecalled n b h m w d) → Answers s x (commitFor n b h m w)
+  unfolding commitActs
+  commits-on t d s x k e v f a =
+      subst (λ z. Answers s x z) (commit-acts n b (le-leb _ _ (k .long)) h m w) (rw (← e, v, ← f) a)
+
+  pub commits-off : (t : Bool) → t ≡ recordFair n b → t ≡ false → Answers (Refused 13) b (commitFor n b h m w)
+  unfolding commitFor commitFair
+  commits-off t e v = rw (← e, v) (record { code = refl; run = refl; fresh = refl; book = refl })
+
+-- the direct call
+module _ (n : ℕ) (b : List ℕ) (h m : ℕ) where
+  pub commit-host : 15 < h → Answers (Refused 3) b (commitCall n b h m)
+  unfolding commitCall
+  commit-host l = rw (lt-ltb 15 h l) (record { code = refl; run = refl; fresh = refl; book = refl })
+
+  pub commit-bad : (t : Bool) → h ≤ 15 → t ≡ badRun m → t ≡ true → Answers (Refused 6) b (commitCall n b h m)
+  unfolding commitCall
+  commit-bad t l e v = rw (le-ltb 15 h l, ← e, v) (record { code = refl; run = refl; fresh = refl; book = refl })
+
+  pub commit-goes : (t : Bool) (r : ℕ) (s : Commit) (x : List ℕ) → BookIn b n → h ≤ 15 → t ≡ badRun m → t ≡ false → r ≡ clamped m → Answers s x (commitFor n b h r 77) → Answers s x (commitCall n b h m)
+  unfolding commitCall
+  commit-goes t r s x k l e v f a =
+      rw (le-ltb 15 h l, ← e, v) (rw (f, clamp-commit n b (le-leb _ _ (k .long)) (k .small) h 77 m) at a)

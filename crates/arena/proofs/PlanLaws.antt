@@ -24,7 +24,7 @@ use Rattle.arena.specs.Record.{recordOf}
 use Rattle.arena.specs.Fair.{recordFair, memoryFair, holeFair, holesFair}
 use Rattle.arena.specs.Plan.{noPlan, planAt, planOf}
 use Rattle.arena.specs.Calls.{Committed, commitRefused, commitFor}
-use Rattle.arena.specs.Act.{rememberWord, forgetWord, endNone, fromFrontier, commitDrawn, nextState, withState, commitPlanned, planned, commitActs, growWith, growActs, clamped}
+use Rattle.arena.specs.Act.{rememberWord, forgetWord, endNone, fromFrontier, commitDrawn, nextState, withState, commitPlanned, planned, commitRead, commitRecalled, commitActs, growWith, growActs, clamped}
 use Rattle.arena.proofs.StoreLaws.{loaded-length}
 use Rattle.arena.proofs.Choice.{Choosing, empty, recalled, exact, longer, short, choosing}
 use Rattle.arena.proofs.Acts.{planned-fair, planned-at, FairRecord, fair-record, commit-acts}
@@ -113,7 +113,7 @@ module _ (n : ℕ) (b : List ℕ) (h w m : ℕ) (small : n ≤ 262144) (large : 
   long-fair = rw (lt-leb m 128 (omega arith))
 
   long-acts : commitActs n b h m w ≡ cond (recordFair n b) (cond (holesFair b) (endNone b (withState (nextState (recordOf b .state) h) (recordOf b))) (commitRefused b 13)) (commitRefused b 13)
-  unfolding commitActs
+  unfolding commitActs commitRecalled commitRead
   long-acts =
       by-cases (recordFair n b)
       (λ e. let k = fair-record n b e in

@@ -113,11 +113,14 @@ commitPlanned n b a p m h w d =
 unfoldable pub planned : List ℕ → ℕ → Plan
 planned b m = planOf (loadHoles b 0 (recordOf b .count)) (recordOf b .total) (recordOf b .frontier) m (recallWord b m)
 
+unfoldable pub commitRead : ℕ → List ℕ → ℕ → ℕ → ℕ → ℕ → Committed
+commitRead n b h m w d = cond (planned b m .fair) (commitPlanned n b (recordOf b) (planned b m) m h w d) (commitRefused b 13)
+
+unfoldable pub commitRecalled : ℕ → List ℕ → ℕ → ℕ → ℕ → ℕ → Committed
+commitRecalled n b h m w d = cond (memoryFair b m) (commitRead n b h m w d) (commitRefused b 13)
+
 unfoldable pub commitActs : ℕ → List ℕ → ℕ → ℕ → ℕ → Committed
-commitActs n b h m w =
-    cond (recordFair n b && memoryFair b m)
-    (cond (planned b m .fair) (commitPlanned n b (recordOf b) (planned b m) m h w (get b (arena held))) (commitRefused b 13))
-    (commitRefused b 13)
+commitActs n b h m w = cond (recordFair n b) (commitRecalled n b h m w (get b (arena held))) (commitRefused b 13)
 
 -- ---- the other steps
 unfoldable pub givenWith : List ℕ → Arena → ℕ → ℕ → ℕ → List ℕ

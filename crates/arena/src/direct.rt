@@ -8,15 +8,16 @@ use super::act;
 use super::give;
 use super::load;
 use super::owners;
+use super::runs;
 ghost use mathlib.Core.Path.{_≡_};
 ghost use mathlib.Core.Bool.{true};
 ghost use Prim.Native.Nat.{_+_, _-_, _≤_, _<_};
 ghost use Rattle.model.specs.Heap.{badRun};
 ghost use Rattle.arena.specs.Fair.{recordFair};
-ghost use Rattle.arena.specs.Calls.{releaseCall, growCall, containsCall};
+ghost use Rattle.arena.specs.Calls.{commitCall, releaseCall, growCall, containsCall};
 ghost use Rattle.arena.specs.Act.{clamped, growActs};
 ghost use Rattle.arena.specs.Asks.{BookIn};
-ghost use Rattle.arena.specs.Answer.{growCommit, Releases, Grows, Grew, fairGrow, badGrowth, figuresOf, reportOf, heldRelease};
+ghost use Rattle.arena.specs.Answer.{Answers, growCommit, Releases, Grows, Grew, fairGrow, badGrowth, figuresOf, reportOf, heldRelease};
 
 fn bad_run(pages: u64) -> bool
     ensures { λ r. ⌜ r ≡ badRun pages ⌝ }
@@ -35,6 +36,19 @@ fn clamp(pages: u64) -> u32
         return 262_145;
     }
     pages as u32
+}
+
+pub fn commit(meta: &mut [u32], size: u32, host: u32, pages: u64) -> Commit
+    requires { ⌜ BookIn (now meta) size ⌝ }
+    ensures { λ r. ⌜ Answers r (now (meta .exit)) (commitCall size (now (meta .entry)) host pages) ⌝ }
+{
+    if 15 < host {
+        return Commit::Refused(3);
+    }
+    if bad_run(pages) {
+        return Commit::Refused(6);
+    }
+    runs::commit_for(meta, size, host, clamp(pages), 77)
 }
 
 // A run that the direct calls hold.

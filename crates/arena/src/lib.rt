@@ -8,6 +8,7 @@ pub mod open;
 mod owners;
 pub mod plans;
 pub mod record;
+pub mod runs;
 mod store;
 
 // The arena's state, frontier and three counts, with the number of holes and of the pages in them.

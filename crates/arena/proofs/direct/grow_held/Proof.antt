@@ -1,7 +1,7 @@
 use borrow.Author.Needs.{needs}
 use Rattle.arena.proofs.direct.grow_held.Statement.{statement}
 use Rattle.arena.proofs.direct.grow_held.Tie as tie
-use Rattle.arena.proofs.DirectWays.{grow-request, loaded-record, grows-held}
+use Rattle.arena.proofs.DirectWays.{request-in, loaded-record, grows-held}
 
 load-record-requires : tie.Need-load-record-requires
 load-record-requires c κs = search needs
@@ -10,7 +10,7 @@ held-requires : tie.Need-held-requires
 held-requires c κs = search needs
 
 grow-run-requires : tie.Need-grow-run-requires
-grow-run-requires c κs = (search grow-request, search loaded-record)
+grow-run-requires c κs = (search request-in, search loaded-record)
 
 grow-of-requires : tie.Need-grow-of-requires
 grow-of-requires c κs = search needs
