@@ -2,8 +2,11 @@
 mod Again
 mod Big
 mod Choosing
+mod Filled
+mod Laid
 mod Least
 mod Loading
+mod Planning
 mod Ways
 mod ActWays
 mod CallWays
