@@ -1,5 +1,4 @@
 -- What the proofs of several functions use, and the laws of storing that the crates above use.
--- What the proofs of several functions use.
 mod Again
 mod Big
 mod Choosing
@@ -7,9 +6,13 @@ mod Filled
 mod Laid
 mod Least
 mod Loading
+mod Planning
+mod Ways
+mod ActWays
+mod CallWays
+mod DirectWays
 pub mod StoreLaws
 pub mod Choice
 pub mod Frames
 pub mod Acts
 pub mod PlanLaws
-mod Planning
