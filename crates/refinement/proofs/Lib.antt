@@ -9,7 +9,6 @@ pub mod CommitRep
 pub mod GiveRep
 pub mod ArenaRuns
 pub mod OpenRep
-pub mod DirectCalls
 pub mod Basics
 pub mod Lists
 pub mod Frames
@@ -23,3 +22,4 @@ pub mod Fill
 pub mod Plan
 pub mod Take
 pub mod ArenaKeeps
+pub mod DirectCalls
