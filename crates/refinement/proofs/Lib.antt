@@ -21,5 +21,6 @@ pub mod Draw
 pub mod Fill
 pub mod Plan
 pub mod Take
+pub mod CommitRuns
 pub mod ArenaKeeps
 pub mod DirectCalls
