@@ -24,3 +24,4 @@ pub mod Take
 pub mod CommitRuns
 pub mod ArenaKeeps
 pub mod DirectCalls
+pub mod GiveClass
