@@ -22,3 +22,4 @@ pub mod Draw
 pub mod Fill
 pub mod Plan
 pub mod Take
+pub mod Pushes
