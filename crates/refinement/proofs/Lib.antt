@@ -25,3 +25,4 @@ pub mod CommitRuns
 pub mod ArenaKeeps
 pub mod DirectCalls
 pub mod GiveClass
+pub mod Pushes
