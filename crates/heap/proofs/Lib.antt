@@ -1,0 +1,3 @@
+pub mod TakePages
+pub mod TakeDraws
+pub mod Walk

@@ -1,0 +1,112 @@
+-- A page that gives blocks, on any words that passed the plan's tests.
+--     isData         the fields that a draw writes: FREE, CARVED and the out bits of the page
+--     draw-changes   a draw changes nothing else
+--     drawn-free, drawn-carved   the two counts after it
+--     draw-full      a page that still gives blocks gave all that were wanted
+-- Assumes nothing.
+use Prim.Native.Nat.{ℕ, zero, suc, _+_, _-_, _≤_, _<_, min}
+use native.Mathlib.Omega.{arith}
+use mathlib.Core.Bool.{Bool, true, false, cond, not, _&&_, _||_}
+use mathlib.Core.List.{List, [], _∷_, _++_, reverse, reverseAux}
+use mathlib.Core.Path.{_≡_, refl, sym, ap, _∙_}
+use lib.Dec.{eqb, ltb, leb}
+use lib.ListN.{length}
+use borrow.Author.Tests.{lt-ltb, ltb-true, leb-true, eq-eqb, eqb-true, eqb-false}
+use Rattle.classes.specs.declared.Shape.{Shape}
+use Rattle.fields.specs.Field.{Field, arena, memory, class, hole, page, out, slot, free, carved, pageOff, get, put, ok, words}
+use Rattle.fields.proofs.Laws.{get-put-same, get-put-other, length-put}
+use Rattle.fields.proofs.Changes.{Changes, changes-none, changes-put}
+use Rattle.model.specs.Lists.{every}
+use Rattle.model.proofs.Counts.{by-cases, and-l, and-r}
+use Rattle.pages.specs.Stack.{tops, downs, marks, carvedNow, latest, draw, hasMore}
+use Rattle.heap.proofs.TakePages.{Fair, latest-length}
+
+abbrev pub isData : ℕ → Field → Bool
+isData q (arena k) = false
+isData q (memory m) = false
+isData q (class k c) = false
+isData q (hole k i) = false
+isData q (page k p) = (eqb (pageOff k) 4 || eqb (pageOff k) 5) && eqb p q
+isData q (out p i) = eqb p q
+isData q (slot p i) = false
+
+abbrev small : ℕ → Bool
+small i = ltb i 4096
+
+every-append : (s t : List ℕ) → every small s ≡ true → every small t ≡ true → every small (s ++ t) ≡ true
+every-append [] t e f = f
+every-append (x ∷ s) t e f = rw (and-l (small x) (every small s) e) (every-append s t (and-r (small x) (every small s) e) f)
+
+every-reverse : (s t : List ℕ) → every small s ≡ true → every small t ≡ true → every small (reverseAux s t) ≡ true
+every-reverse [] t e f = f
+every-reverse (x ∷ s) t e f = every-reverse s (x ∷ t) (and-r (small x) (every small s) e) (rw (and-l (small x) (every small s) e) f)
+
+every-under : (k : ℕ) (s : List ℕ) → k ≤ 4096 → every (λ i. ltb i k) s ≡ true → every small s ≡ true
+every-under k [] l e = refl
+every-under k (x ∷ s) l e =
+    let h = ltb-true x k (and-l (ltb x k) (every (λ i. ltb i k) s) e) in
+    rw (lt-ltb x 4096 (omega arith)) (every-under k s l (and-r (ltb x k) (every (λ i. ltb i k) s) e))
+
+downs-small : (a k : ℕ) → a + k ≤ 4096 → every small (downs a k) ≡ true
+downs-small a zero l = refl
+downs-small a (suc k) l = rw (lt-ltb (a + k) 4096 (omega arith)) (downs-small a k (omega arith))
+
+module _ (t : Field → Bool) (b : List ℕ) (q v : ℕ) (h : (i : ℕ) → t (out q i) ≡ true) where
+  marks-change : (is : List ℕ) → every small is ≡ true → Changes t b (marks b q v is)
+  marks-change [] s = changes-none t b
+  marks-change (i ∷ is) s = changes-put t b (marks b q v is) (out q i) v (and-l (small i) (every small is) s) (h i) (marks-change is (and-r (small i) (every small is) s))
+
+over : (f m : ℕ) → (f - m ≡ 0 → ⊥) → m < f
+over f m z = omega (arith, z)
+
+full-popped : (m f r : ℕ) → m < f → min (m - f) r + min m f ≡ m
+full-popped m f r l = omega arith
+
+full-carved : (m f k top : ℕ) → f ≤ m → k ≤ top → k + min (m - f) (top - k) < top → min (m - f) (top - k) + min m f ≡ m
+full-carved m f k top l l′ h = omega arith
+
+full-of : (m f k top : ℕ) → k ≤ top → (not (eqb (f - m) 0) || ltb (k + min (m - f) (top - k)) top) ≡ true → min (m - f) (top - k) + min m f ≡ m
+full-of m f k top l e =
+    by-cases (eqb (f - m) 0)
+    (λ u. let v : ltb (k + min (m - f) (top - k)) top ≡ true = rw u at e in full-carved m f k top (le-of f m (eqb-true (f - m) 0 u)) l (ltb-true (k + min (m - f) (top - k)) top v))
+    (λ u. full-popped m f (top - k) (over f m (eqb-false (f - m) 0 u)))
+  where
+    le-of : (f m : ℕ) → f - m ≡ 0 → f ≤ m
+    le-of f m e = omega arith
+
+module _ (n : ℕ) (b : List ℕ) (hb : leb (words n) (length b) ≡ true) (c : ℕ) (sh : Shape) (few : sh .capacity ≤ 4096) (l m q : ℕ) (hq : ltb q n ≡ true)
+    (f : Fair n b c sh l m q) where
+  latest-small : every small (latest b sh q m) ≡ true
+  unfolding latest
+  latest-small =
+      let s = leb-true (get b (page free q)) (get b (page carved q)) (f .stack) in
+      let w = leb-true (get b (page carved q)) (sh .capacity) (f .within) in
+      every-append (downs (get b (page carved q)) (carvedNow b sh q m)) (reverse (tops b q m (get b (page free q)))) (downs-small (get b (page carved q)) (carvedNow b sh q m) (omega arith))
+      (every-reverse (tops b q m (get b (page free q))) [] (every-under (get b (page carved q)) (tops b q m (get b (page free q))) (omega arith) (f .entries)) refl)
+
+  pub draw-changes : Changes (isData q) b (draw b sh q m)
+  unfolding draw
+  draw-changes =
+      let qq = eq-eqb q q refl in
+      changes-put (isData q) b _ (page carved q) _ refl qq
+      (changes-put (isData q) b _ (page free q) _ refl qq (marks-change (isData q) b q 1 (λ i. qq) (latest b sh q m) latest-small))
+
+  pub drawn-free : get (draw b sh q m) (page free q) ≡ get b (page free q) - m
+  unfolding draw
+  drawn-free =
+      let k = marks-change (λ g. true) b q 1 (λ i. refl) (latest b sh q m) latest-small .long in
+      let hb₁ : leb (words n) (length (marks b q 1 (latest b sh q m))) ≡ true = rw k hb in
+      simp (get-put-other, get-put-same n)
+
+  pub drawn-carved : get (draw b sh q m) (page carved q) ≡ get b (page carved q) + carvedNow b sh q m
+  unfolding draw
+  drawn-carved =
+      let k = marks-change (λ g. true) b q 1 (λ i. refl) (latest b sh q m) latest-small .long in
+      let hb₁ : leb (words n) (length (marks b q 1 (latest b sh q m))) ≡ true = rw k hb in
+      simp (get-put-same n, length-put, hb₁)
+
+  pub draw-full : hasMore (draw b sh q m) sh q ≡ true → length (latest b sh q m) ≡ m
+  unfolding hasMore
+  draw-full e =
+      latest-length b sh q m
+      ∙ full-of m (get b (page free q)) (get b (page carved q)) (sh .capacity) (leb-true (get b (page carved q)) (sh .capacity) (f .within)) (rw (drawn-free, drawn-carved) at e)
