@@ -1,3 +1,4 @@
 pub mod TakePages
 pub mod TakeDraws
 pub mod Walk
+pub mod Fill

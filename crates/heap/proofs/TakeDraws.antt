@@ -1,6 +1,5 @@
 -- A page that gives blocks, on any words that passed the plan's tests.
---     isData         the fields that a draw writes: FREE, CARVED and the out bits of the page
---     draw-changes   a draw changes nothing else
+--     draw-changes   a draw changes only FREE, CARVED and out bits of the page
 --     drawn-free, drawn-carved   the two counts after it
 --     draw-full      a page that still gives blocks gave all that were wanted
 -- Assumes nothing.
@@ -20,15 +19,6 @@ use Rattle.model.specs.Lists.{every}
 use Rattle.model.proofs.Counts.{by-cases, and-l, and-r}
 use Rattle.pages.specs.Stack.{tops, downs, marks, carvedNow, latest, draw, hasMore}
 use Rattle.heap.proofs.TakePages.{Fair, latest-length}
-
-abbrev pub isData : ℕ → Field → Bool
-isData q (arena k) = false
-isData q (memory m) = false
-isData q (class k c) = false
-isData q (hole k i) = false
-isData q (page k p) = (eqb (pageOff k) 4 || eqb (pageOff k) 5) && eqb p q
-isData q (out p i) = eqb p q
-isData q (slot p i) = false
 
 abbrev small : ℕ → Bool
 small i = ltb i 4096
@@ -84,12 +74,10 @@ module _ (n : ℕ) (b : List ℕ) (hb : leb (words n) (length b) ≡ true) (c : 
       every-append (downs (get b (page carved q)) (carvedNow b sh q m)) (reverse (tops b q m (get b (page free q)))) (downs-small (get b (page carved q)) (carvedNow b sh q m) (omega arith))
       (every-reverse (tops b q m (get b (page free q))) [] (every-under (get b (page carved q)) (tops b q m (get b (page free q))) (omega arith) (f .entries)) refl)
 
-  pub draw-changes : Changes (isData q) b (draw b sh q m)
+  pub draw-changes : (t : Field → Bool) → t (page free q) ≡ true → t (page carved q) ≡ true → ((i : ℕ) → t (out q i) ≡ true) → Changes t b (draw b sh q m)
   unfolding draw
-  draw-changes =
-      let qq = eq-eqb q q refl in
-      changes-put (isData q) b _ (page carved q) _ refl qq
-      (changes-put (isData q) b _ (page free q) _ refl qq (marks-change (isData q) b q 1 (λ i. qq) (latest b sh q m) latest-small))
+  draw-changes t hf hk ho =
+      changes-put t b _ (page carved q) _ refl hk (changes-put t b _ (page free q) _ refl hf (marks-change t b q 1 ho (latest b sh q m) latest-small))
 
   pub drawn-free : get (draw b sh q m) (page free q) ≡ get b (page free q) - m
   unfolding draw

@@ -38,7 +38,7 @@ thenPlanned v j p = record { count = p .count + j; virgin = v && p .virgin }
 abbrev pub stops : ℕ → ℕ → Bool
 stops m code = eqb m 0 || eqb code 0
 
-pub planned : List ℕ → Shape → ℕ → ℕ → ℕ → Planned
+unfoldable pub planned : List ℕ → Shape → ℕ → ℕ → ℕ → Planned
 planned b sh zero m code = plannedNone
 planned b sh (suc k) m code =
     cond (stops m code) plannedNone
