@@ -2,3 +2,4 @@ pub mod TakePages
 pub mod TakeDraws
 pub mod Walk
 pub mod Fill
+pub mod PlanSteps
