@@ -6,7 +6,7 @@
 use Prim.Native.Nat.{ℕ, zero, suc, _+_, _-_, _≤_, _<_, min}
 use native.Mathlib.Omega.{arith}
 use mathlib.Core.Bool.{Bool, true, false, cond, not, _&&_, _||_}
-use mathlib.Core.List.{List, [], _∷_, _++_, reverse, reverseAux}
+use mathlib.Core.List.{List, [], _∷_, _++_, reverse}
 use mathlib.Core.Path.{_≡_, refl, sym, ap, _∙_}
 use lib.Dec.{eqb, ltb, leb}
 use lib.ListN.{length}
@@ -14,37 +14,13 @@ use borrow.Author.Tests.{lt-ltb, ltb-true, leb-true, eq-eqb, eqb-true, eqb-false
 use Rattle.classes.specs.declared.Shape.{Shape}
 use Rattle.fields.specs.Field.{Field, arena, memory, class, hole, page, out, slot, free, carved, pageOff, get, put, ok, words}
 use Rattle.fields.proofs.Laws.{get-put-same, get-put-other, length-put}
-use Rattle.fields.proofs.Changes.{Changes, changes-none, changes-put}
+use Rattle.fields.proofs.Changes.{Changes, changes-put}
 use Rattle.model.specs.Lists.{every}
 use Rattle.model.proofs.Counts.{by-cases, and-l, and-r}
 use Rattle.pages.specs.Stack.{tops, downs, marks, carvedNow, latest, draw, hasMore}
+use Rattle.pages.proofs.Downs.{small, downs-below, every-append, every-reverse, every-below}
+use Rattle.pages.proofs.Marks.{length-marks, marks-changes}
 use Rattle.heap.proofs.TakePages.{Fair, latest-length}
-
-abbrev small : ℕ → Bool
-small i = ltb i 4096
-
-every-append : (s t : List ℕ) → every small s ≡ true → every small t ≡ true → every small (s ++ t) ≡ true
-every-append [] t e f = f
-every-append (x ∷ s) t e f = rw (and-l (small x) (every small s) e) (every-append s t (and-r (small x) (every small s) e) f)
-
-every-reverse : (s t : List ℕ) → every small s ≡ true → every small t ≡ true → every small (reverseAux s t) ≡ true
-every-reverse [] t e f = f
-every-reverse (x ∷ s) t e f = every-reverse s (x ∷ t) (and-r (small x) (every small s) e) (rw (and-l (small x) (every small s) e) f)
-
-every-under : (k : ℕ) (s : List ℕ) → k ≤ 4096 → every (λ i. ltb i k) s ≡ true → every small s ≡ true
-every-under k [] l e = refl
-every-under k (x ∷ s) l e =
-    let h = ltb-true x k (and-l (ltb x k) (every (λ i. ltb i k) s) e) in
-    rw (lt-ltb x 4096 (omega arith)) (every-under k s l (and-r (ltb x k) (every (λ i. ltb i k) s) e))
-
-downs-small : (a k : ℕ) → a + k ≤ 4096 → every small (downs a k) ≡ true
-downs-small a zero l = refl
-downs-small a (suc k) l = rw (lt-ltb (a + k) 4096 (omega arith)) (downs-small a k (omega arith))
-
-module _ (t : Field → Bool) (b : List ℕ) (q v : ℕ) (h : (i : ℕ) → t (out q i) ≡ true) where
-  marks-change : (is : List ℕ) → every small is ≡ true → Changes t b (marks b q v is)
-  marks-change [] s = changes-none t b
-  marks-change (i ∷ is) s = changes-put t b (marks b q v is) (out q i) v (and-l (small i) (every small is) s) (h i) (marks-change is (and-r (small i) (every small is) s))
 
 over : (f m : ℕ) → (f - m ≡ 0 → ⊥) → m < f
 over f m z = omega (arith, z)
@@ -69,28 +45,26 @@ module _ (n : ℕ) (b : List ℕ) (hb : leb (words n) (length b) ≡ true) (c : 
   latest-small : every small (latest b sh q m) ≡ true
   unfolding latest
   latest-small =
-      let s = leb-true (get b (page free q)) (get b (page carved q)) (f .stack) in
+      let k = get b (page carved q) in
       let w = leb-true (get b (page carved q)) (sh .capacity) (f .within) in
-      every-append (downs (get b (page carved q)) (carvedNow b sh q m)) (reverse (tops b q m (get b (page free q)))) (downs-small (get b (page carved q)) (carvedNow b sh q m) (omega arith))
-      (every-reverse (tops b q m (get b (page free q))) [] (every-under (get b (page carved q)) (tops b q m (get b (page free q))) (omega arith) (f .entries)) refl)
+      every-append small (downs k (carvedNow b sh q m)) (reverse (tops b q m (get b (page free q)))) (downs-below k (carvedNow b sh q m) 4096 (omega arith))
+      (every-reverse small (tops b q m (get b (page free q))) (every-below k 4096 (omega arith) (tops b q m (get b (page free q))) (f .entries)))
 
   pub draw-changes : (t : Field → Bool) → t (page free q) ≡ true → t (page carved q) ≡ true → ((i : ℕ) → t (out q i) ≡ true) → Changes t b (draw b sh q m)
   unfolding draw
   draw-changes t hf hk ho =
-      changes-put t b _ (page carved q) _ refl hk (changes-put t b _ (page free q) _ refl hf (marks-change t b q 1 ho (latest b sh q m) latest-small))
+      changes-put t b _ (page carved q) _ refl hk (changes-put t b _ (page free q) _ refl hf (marks-changes b q 1 t ho (latest b sh q m) latest-small))
 
   pub drawn-free : get (draw b sh q m) (page free q) ≡ get b (page free q) - m
   unfolding draw
   drawn-free =
-      let k = marks-change (λ g. true) b q 1 (λ i. refl) (latest b sh q m) latest-small .long in
-      let hb₁ : leb (words n) (length (marks b q 1 (latest b sh q m))) ≡ true = rw k hb in
+      let hb₁ : leb (words n) (length (marks b q 1 (latest b sh q m))) ≡ true = rw length-marks hb in
       simp (get-put-other, get-put-same n)
 
   pub drawn-carved : get (draw b sh q m) (page carved q) ≡ get b (page carved q) + carvedNow b sh q m
   unfolding draw
   drawn-carved =
-      let k = marks-change (λ g. true) b q 1 (λ i. refl) (latest b sh q m) latest-small .long in
-      let hb₁ : leb (words n) (length (marks b q 1 (latest b sh q m))) ≡ true = rw k hb in
+      let hb₁ : leb (words n) (length (marks b q 1 (latest b sh q m))) ≡ true = rw length-marks hb in
       simp (get-put-same n, length-put, hb₁)
 
   pub draw-full : hasMore (draw b sh q m) sh q ≡ true → length (latest b sh q m) ≡ m

@@ -18,6 +18,8 @@ use Rattle.model.specs.Lists.{every, below}
 use Rattle.model.proofs.Counts.{by-cases, and-l, and-r}
 use Rattle.pages.specs.Runs.{ofRun, whole}
 use Rattle.pages.specs.Stack.{tops, downs, carvedNow, latest, hasMore}
+use Rattle.pages.proofs.Downs.{length-downs}
+use Rattle.pages.proofs.Tops.{length-tops, tops-kept}
 use Rattle.heap.specs.Take.{sound}
 
 pub record Fair (n : ℕ) (b : List ℕ) (c : ℕ) (sh : Shape) (l m q : ℕ) : Type 0 where
@@ -76,9 +78,10 @@ module _ (b b′ : List ℕ) (q : ℕ) (h : Alike b b′ q) where
   whole-alike n c sh = rw (h .frontier, run-alike c (sh .pages))
 
   pub tops-alike : (m t : ℕ) → t ≤ 4096 → tops b′ q m t ≡ tops b q m t
-  tops-alike zero t l = refl
-  tops-alike (suc m) zero l = refl
-  tops-alike (suc m) (suc t) l = rw (h .slots t (lt-ltb t 4096 (omega arith)), tops-alike m t (omega arith))
+  tops-alike m t l = tops-kept b b′ q m t (λ i h. h′ i (lt-ltb i 4096 (omega arith)))
+    where
+      h′ : (i : ℕ) → ltb i 4096 ≡ true → get b′ (slot q i) ≡ get b (slot q i)
+      h′ = h .slots
 
   pub more-alike : (sh : Shape) → hasMore b′ sh q ≡ hasMore b sh q
   unfolding hasMore
@@ -102,15 +105,6 @@ module _ (b b′ : List ℕ) (q : ℕ) (h : Alike b b′ q) where
       }
 
 -- ---- how many blocks a page gives
-pub length-downs : (a k : ℕ) → length (downs a k) ≡ k
-length-downs a zero = refl
-length-downs a (suc k) = ap suc (length-downs a k)
-
-length-tops : (b : List ℕ) (q m t : ℕ) → length (tops b q m t) ≡ min m t
-length-tops b q zero t = omega arith
-length-tops b q (suc m) zero = omega arith
-length-tops b q (suc m) (suc t) = let ih = length-tops b q m t in omega arith
-
 pub latest-length : (b : List ℕ) (sh : Shape) (q m : ℕ) → length (latest b sh q m) ≡ carvedNow b sh q m + min m (get b (page free q))
 unfolding latest
 latest-length b sh q m = rw (length-append, length-downs, length-reverse, length-tops)
