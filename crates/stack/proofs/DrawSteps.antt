@@ -46,11 +46,10 @@ module _ (b : List ℕ) (sh : Shape) (q : ℕ) (l : List ℕ) (at : ℕ) where
       }
 
   pub gave-long : (xs b′ l′ : List ℕ) → length xs ≤ at → at ≤ length l → Gave b sh q l at xs b′ l′ → (length b′ ≡ length b) × (length l′ ≡ length l)
-  gave-long xs b′ l′ h k g =
-      (
-        ap length (g .outs) ∙ length-marks b q 1 xs,
-        ap length (g .list) ∙ length-spliced l (at - length xs) (map (wordOf sh q) xs) (omega (arith, length-map xs (wordOf sh q))),
-      )
+  gave-long xs b′ l′ h k g = (
+    ap length (g .outs) ∙ length-marks b q 1 xs,
+    ap length (g .list) ∙ length-spliced l (at - length xs) (map (wordOf sh q) xs) (omega (arith, length-map xs (wordOf sh q))),
+  )
 
 -- ---- j of k blocks given: the blocks xs
 pub record Giving (b₀ : List ℕ) (sh : Shape) (q : ℕ) (l₀ : List ℕ) (at k : ℕ) (xs b l : List ℕ) (j : ℕ) : Type 0 where
@@ -115,7 +114,7 @@ module _ (b₀ : List ℕ) (sh : Shape) (q : ℕ) (l₀ : List ℕ) (at k : ℕ)
     popping-more b l j i b′ l′ h u v e g =
         let r = giving-more (reverse (tops b₀ q j t)) b l j i b′ l′ (h .room) (h .places) u v g in
         let x : reverse (tops b₀ q (j + 1) t) ≡ i ∷ reverse (tops b₀ q j t) =
-            ap (λ z. reverse (tops b₀ q z t)) (add-one j) ∙ popped-more b₀ q j t (omega (arith, h .enough)) ∙ ap (λ z. z ∷ reverse (tops b₀ q j t)) (sym (entry-is b l j i h u v e)) in
+        ap (λ z. reverse (tops b₀ q z t)) (add-one j) ∙ popped-more b₀ q j t (omega (arith, h .enough)) ∙ ap (λ z. z ∷ reverse (tops b₀ q j t)) (sym (entry-is b l j i h u v e)) in
         rw x r
 
     pub popping-done : (b l : List ℕ) (j : ℕ) → k ≤ j → Popping b l j → Gave b₀ sh q l₀ at (reverse (tops b₀ q k t)) b l

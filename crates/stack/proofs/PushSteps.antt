@@ -26,7 +26,7 @@ module _ (b₀ : List ℕ) (sh : Shape) (q top : ℕ) (ws : List ℕ) where
       let f = indexOf sh q in
       let back : suc (i - 1) ≡ i = omega arith in
       let next : drop (i - 1) ws ≡ getD ws (i - 1) 0 ∷ drop i ws =
-          drop-cons ws (i - 1) 0 (omega (arith, v .within)) ∙ ap (λ z. getD ws (i - 1) 0 ∷ drop z ws) back in
+      drop-cons ws (i - 1) 0 (omega (arith, v .within)) ∙ ap (λ z. getD ws (i - 1) 0 ∷ drop z ws) back in
       let under : t ≡ top + length (map f (drop i ws)) = omega (arith, length-map (drop i ws) f, length-drop i ws, v .within, v .height) in
       record {
         within = omega (arith, v .within);

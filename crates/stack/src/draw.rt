@@ -57,7 +57,17 @@ fn carve_blocks(
 }
 
 // `popped` blocks from a stack of `top`, then `fresh` new ones from block `from` on.
-fn give_blocks(meta: &mut [u32], shape: Shape, q: u32, list: &mut [u32], at: u32, top: u32, popped: u32, from: u32, fresh: u32)
+fn give_blocks(
+    meta: &mut [u32],
+    shape: Shape,
+    q: u32,
+    list: &mut [u32],
+    at: u32,
+    top: u32,
+    popped: u32,
+    from: u32,
+    fresh: u32,
+)
     requires { ⌜ BothAsks (now meta) shape q (now list) at top popped from fresh ⌝ }
     ensures { λ _. ⌜ Gave (now (meta .entry)) shape q (now (list .entry)) at (downs from fresh ++ reverse (tops (now (meta .entry)) q popped top)) (now (meta .exit)) (now (list .exit)) ⌝ }
 {
