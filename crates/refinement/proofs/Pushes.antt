@@ -70,7 +70,7 @@ module _ {n : ℕ} {b : List ℕ} {c : ℕ} {sh : Shape} (s : Setting n b c sh) 
   room : 0 + length (downs 0 (stocked sh)) ≤ 4096
   room = omega (arith, length-downs 0 (stocked sh), stocked-in sh, s .shape .few)
 
-  anew-changes : (t : Field → Bool) → t (page free q) ≡ true → t (page carved q) ≡ true → t (page virgin q) ≡ true → ((i : ℕ) → t (slot q i) ≡ true) → Changes t b (carveAnew b sh q u)
+  pub anew-changes : (t : Field → Bool) → t (page free q) ≡ true → t (page carved q) ≡ true → t (page virgin q) ≡ true → ((i : ℕ) → t (slot q i) ≡ true) → Changes t b (carveAnew b sh q u)
   unfolding carveAnew
   anew-changes t f k v e =
       changes-put t b _ (page free q) _ refl f
