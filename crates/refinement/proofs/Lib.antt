@@ -28,3 +28,4 @@ pub mod GiveClass
 pub mod Pushes
 pub mod Book
 pub mod NewRun
+pub mod Join
