@@ -29,3 +29,4 @@ pub mod Pushes
 pub mod Book
 pub mod NewRun
 pub mod Join
+pub mod TakeWhole
