@@ -2,13 +2,13 @@
 --     setting-of           the standing facts, of a represented book
 --     arena-beside         what is the arena's is as it was
 --     represents-class     the book stands for the heap with that class's new state
-use Prim.Native.Nat.{ℕ, suc, _≤_, _<_}
+use Prim.Native.Nat.{ℕ, _≤_}
 use native.Mathlib.Omega.{arith}
 use native.Mathlib.Decide.{ℕ-discrete}
-use mathlib.Core.Bool.{Bool, true, false, cond, false≢true}
+use mathlib.Core.Bool.{true, false, false≢true}
 use mathlib.Core.List.{List}
-use mathlib.Core.Path.{_≡_, refl, sym, ap, _∙_, subst}
-use lib.Dec.{eqb, ltb, leb, eqb·zero-suc}
+use mathlib.Core.Path.{_≡_, sym, subst}
+use lib.Dec.{ltb, eqb·zero-suc}
 use lib.ListN.{length}
 use borrow.Author.Tests.{eq-eqb, ne-eqb, eqb-true, le-ltb}
 use Rattle.classes.specs.Shape.{shapeOf}

@@ -1,8 +1,7 @@
 -- The classes after a commit for a class: with no run every class is as before; with one, the class has a page more, in no list, and
 -- the others are as before. Assumes nothing.
-use Prim.Native.Nat.{ℕ, zero, suc, _+_, _≤_, _<_}
+use Prim.Native.Nat.{ℕ, suc, _+_, _≤_}
 use native.Mathlib.Omega.{arith}
-use native.Mathlib.Nat.{le-refl}
 use native.Mathlib.Decide.{ℕ-discrete}
 use mathlib.Core.Bool.{Bool, true, false, cond, not, _&&_, _||_, true≢false, false≢true}
 use mathlib.Core.List.{List, [], _∷_}
@@ -13,10 +12,9 @@ use lib.ListN.{length}
 use borrow.Author.Tests.{eq-eqb, ne-eqb, le-leb, leb-true, ltb-true, lt-ltb}
 use Rattle.classes.specs.declared.Shape.{Shape}
 use Rattle.classes.specs.Shape.{shapeOf}
-use Rattle.classes.specs.Sound.{Sound}
 use Rattle.classes.proofs.Shapes.{shape-sound}
 use Rattle.fields.specs.Field as Field
-use Rattle.fields.specs.Field.{Field, arena, memory, hole, page, slot, out, first, next, prev, free, carved, listed, virgin, owner, pageOff, get}
+use Rattle.fields.specs.Field.{Field, arena, memory, hole, page, slot, out, first, next, prev, free, carved, listed, virgin, pageOff, get}
 use Rattle.fields.proofs.Changes.{Changes}
 use Rattle.model.specs.Lists.{inRun, covers, coversRun}
 use Rattle.model.specs.Page.{Page, carve}
@@ -34,7 +32,7 @@ use Rattle.pages.specs.Carve.{newRun}
 use Rattle.arena.specs.Owners.{ownerCode}
 use Rattle.arena.specs.Calls.{committed}
 use Rattle.arena.specs.Represents.{ArenaRep}
-use Rattle.refinement.specs.Represents.{ClassRep, StateRep, Represents}
+use Rattle.refinement.specs.Represents.{ClassRep, Represents}
 use Rattle.refinement.proofs.ArenaReached.{Reached, heapOf, idle-once, idle-nobody}
 use Rattle.refinement.proofs.ArenaFair.{loads-frontier}
 use Rattle.refinement.proofs.ArenaFrames.{isStep, inRunOf, either, passed, step-row, step-page, step-first, step-out, step-slot, committed-changes}
@@ -42,7 +40,7 @@ use Rattle.refinement.proofs.ArenaSteps.{isArenas, rep-kept}
 use Rattle.refinement.proofs.ArenaRuns.{nobody-other, class-other, drawn-whole, claimed-others, claimed-new}
 use Rattle.refinement.proofs.CommitRep.{commit-rep}
 use Rattle.refinement.proofs.Basics.{Setting, setting-kept}
-use Rattle.refinement.proofs.Frames.{Whole, whole-says, whole-owner}
+use Rattle.refinement.proofs.Frames.{whole-says, whole-owner}
 use Rattle.refinement.proofs.Kept.{Keeps, class-now, class-kept, listed-whole}
 use Rattle.refinement.proofs.Pushes.{carve-first}
 use Rattle.refinement.proofs.NewRun.{LetsNew, new-changes, new-names, new-rep}
@@ -144,7 +142,8 @@ covers-yes : (t : Bool) → eqb (cond t 1 0) 0 ≡ false → t ≡ true
 covers-yes true e = refl
 covers-yes false e = absurd (true≢false e)
 
-module _ {n : ℕ} {b b₁ : List ℕ} {H : Heap} (R : Represents n b H) (ok : Reached n H) {c : ℕ} (hc : ltb c 76 ≡ true) {a : Arena} {q : ℕ} (D : Drawn n b b₁ H c a (some q)) where
+module _ {n : ℕ} {b b₁ : List ℕ} {H : Heap} (R : Represents n b H) (ok : Reached n H) {c : ℕ} (hc : ltb c 76 ≡ true) {a : Arena} {q : ℕ}
+    (D : Drawn n b b₁ H c a (some q)) where
   b₂ : List ℕ
   b₂ = newRun b₁ (shapeOf c) q
 
@@ -183,7 +182,8 @@ module _ {n : ℕ} {b b₁ : List ℕ} {H : Heap} (R : Represents n b H) (ok : R
   unfolding b₂
   names y e =
       let i = covers-yes (inRun (shapeOf c .pages) q y) e in
-      new-names s₁ q inside y (leb-true q y (and-l (leb q y) (ltb y (q + shapeOf c .pages)) i)) (ltb-true y (q + shapeOf c .pages) (and-r (leb q y) (ltb y (q + shapeOf c .pages)) i))
+      new-names s₁ q inside y (leb-true q y (and-l (leb q y) (ltb y (q + shapeOf c .pages)) i))
+      (ltb-true y (q + shapeOf c .pages) (and-r (leb q y) (ltb y (q + shapeOf c .pages)) i))
 
   same-other : (d x : ℕ) → (c ≡ d → ⊥) → whole n b₂ (shapeOf d) d x ≡ whole n b (shapeOf d) d x
   same-other d x ne =

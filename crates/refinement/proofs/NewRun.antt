@@ -2,12 +2,12 @@
 --     new-changes     which fields are written
 --     new-names       every page of the run names its first
 --     new-rep         the run is a page with no block out, in no list, carved as the model carves it
-use Prim.Native.Nat.{ℕ, zero, suc, _+_, _*_, _/_, _≤_, _<_}
+use Prim.Native.Nat.{ℕ, zero, suc, _+_, _*_, _≤_, _<_}
 use native.Mathlib.Omega.{arith}
 use native.Mathlib.Decide.{ℕ-discrete}
-use mathlib.Core.Bool.{Bool, true, false, not, _&&_, _||_}
+use mathlib.Core.Bool.{Bool, true, not, _&&_}
 use mathlib.Core.List.{List}
-use mathlib.Core.Path.{_≡_, refl, sym, ap, _∙_}
+use mathlib.Core.Path.{_≡_, refl, _∙_}
 use lib.Dec.{eqb, ltb, leb}
 use lib.ListN.{length}
 use borrow.Author.Tests.{lt-ltb, ltb-true, ne-eqb}
@@ -23,7 +23,8 @@ use Rattle.pages.specs.Runs.{whole, nameRun}
 use Rattle.pages.specs.Stack.{marked}
 use Rattle.pages.specs.Carve.{outWords, newRun}
 use Rattle.refinement.specs.Represents.{PageRep}
-use Rattle.refinement.proofs.Basics.{Setting, setting-kept, long-kept}
+use Rattle.refinement.proofs.ArenaStore.{long-kept}
+use Rattle.refinement.proofs.Basics.{Setting, setting-kept}
 use Rattle.refinement.proofs.Blocks.{in-row}
 use Rattle.refinement.proofs.Pushes.{anew-changes, anew-holds, carve-rep}
 
@@ -78,7 +79,9 @@ module _ {n : ℕ} {b : List ℕ} {c : ℕ} {sh : Shape} (s : Setting n b c sh) 
   module _ (t : Field → Bool) (listing : t (page listed q) ≡ true) (outs : (i : ℕ) → t (out q i) ≡ true) where
     unlisted-changes : Changes t named unlisted
     unfolding unlisted cleared
-    unlisted-changes = changes-put t named cleared (page listed q) 0 refl listing (changes-clear t named (32 * outWords sh) q 0 named few (λ j l u. outs j) (changes-none t named))
+    unlisted-changes =
+        changes-put t named cleared (page listed q) 0 refl listing
+        (changes-clear t named (32 * outWords sh) q 0 named few (λ j l u. outs j) (changes-none t named))
 
     after-changes : t (page free q) ≡ true → t (page carved q) ≡ true → t (page virgin q) ≡ true → ((i : ℕ) → t (slot q i) ≡ true) → Changes t named (newRun b sh q)
     unfolding newRun unlisted cleared named
@@ -89,7 +92,9 @@ module _ {n : ℕ} {b : List ℕ} {c : ℕ} {sh : Shape} (s : Setting n b c sh) 
 
   pub new-changes : (t : Field → Bool) → LetsNew t q (sh .pages) → Changes t b (newRun b sh q)
   unfolding named
-  new-changes t l = changes-trans t b named _ (name-changes t b q q (sh .pages) (l .starts)) (after-changes t (l .listing) (l .outs) (l .free) (l .carved) (l .virgin) (l .slots))
+  new-changes t l =
+      changes-trans t b named _ (name-changes t b q q (sh .pages) (l .starts))
+      (after-changes t (l .listing) (l .outs) (l .free) (l .carved) (l .virgin) (l .slots))
 
   -- everything but FIRST
   pub new-names : q + sh .pages ≤ n → (y : ℕ) → q ≤ y → y < q + sh .pages → get (newRun b sh q) (page first y) ≡ q
@@ -118,7 +123,9 @@ module _ {n : ℕ} {b : List ℕ} {c : ℕ} {sh : Shape} (s : Setting n b c sh) 
 
     listing : get unlisted (page listed q) ≡ 0
     unfolding unlisted cleared
-    listing = get-put-same n cleared (page listed q) 0 (long-kept n named cleared (changes-clear (λ g. true) named (32 * outWords sh) q 0 named few (λ j l u. refl) (changes-none (λ g. true) named) .long) long-named) hq refl
+    listing =
+        let ch : Changes (λ g. true) named cleared = changes-clear (λ g. true) named (32 * outWords sh) q 0 named few (λ j l u. refl) (changes-none (λ g. true) named) in
+        get-put-same n cleared (page listed q) 0 (long-kept n named cleared (ch .long) long-named) hq refl
 
     pub new-rep : whole n (newRun b sh q) sh c q ≡ true → PageRep n sh (newRun b sh q) c 0 (carve sh q true)
     unfolding newRun unlisted cleared named

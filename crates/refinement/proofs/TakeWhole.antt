@@ -3,12 +3,12 @@
 --     take-new       a take that asks the arena, with a run or none
 --     take-whole     every take, refused or not, from any source
 --     take-after     the same after any history
-use Prim.Native.Nat.{ℕ, zero, suc, _+_, _≤_, _<_}
+use Prim.Native.Nat.{ℕ, zero, suc, _+_, _≤_}
 use native.Mathlib.Omega.{arith}
-use mathlib.Core.Bool.{Bool, true, false, cond, not, _||_}
+use mathlib.Core.Bool.{Bool, true, false, not, _||_}
 use mathlib.Core.List.{List, [], _∷_, _++_}
 use mathlib.Core.Option.{Option, none, some}
-use mathlib.Core.Path.{_≡_, refl, sym, ap, _∙_, subst}
+use mathlib.Core.Path.{_≡_, refl, sym, subst}
 use lib.Dec.{eqb, ltb}
 use lib.ListN.{length}
 use borrow.Author.Tests.{lt-ltb}
@@ -17,14 +17,14 @@ use Rattle.classes.specs.Shape.{shapeOf}
 use Rattle.classes.proofs.Shapes.{shape-sound}
 use Rattle.model.specs.Lists.{isNil, covers, update}
 use Rattle.model.specs.Calls as Calls
-use Rattle.model.specs.Calls.{Call, Answer, refused}
+use Rattle.model.specs.Calls.{Call, refused}
 use Rattle.model.specs.Page as Page
 use Rattle.model.specs.Page.{Page, isMedium, wordsFrom, carve, carveAs}
 use Rattle.model.specs.Arena.{Arena, commit}
 use Rattle.model.specs.Class as Model
-use Rattle.model.specs.Class.{Class, lists, Result, Ask, done, asks, refuse, fillFromList, served}
+use Rattle.model.specs.Class.{lists, Result, Ask, done, asks, refuse, fillFromList, served}
 use Rattle.model.specs.Chunks.{answer, hostMax}
-use Rattle.model.specs.Heap.{Heap, Outcome, class, passTo, offer, finish, interact, classCall}
+use Rattle.model.specs.Heap.{Heap, class, passTo, offer, finish, interact, classCall}
 use Rattle.model.specs.History.{heapAfter}
 use Rattle.model.specs.Yields.{Listed}
 use Rattle.model.proofs.Counts.{by-cases}
@@ -33,10 +33,9 @@ use Rattle.fields.proofs.Changes.{changes-none}
 use Rattle.pages.specs.declared.Park.the-variants.{Empty}
 use Rattle.pages.specs.Links.{link}
 use Rattle.pages.specs.Carve.{newRun}
-use Rattle.heap.specs.Take.{Took, tookNone, took, fillFrom, onRun, takeNew, takeBlocks, takeCall}
-use Rattle.refinement.specs.Represents.{ClassRep, StateRep, Represents}
+use Rattle.heap.specs.Take.{Took, tookNone, onRun, takeNew, takeCall}
+use Rattle.refinement.specs.Represents.{ClassRep, Represents}
 use Rattle.refinement.specs.Classes.{takeReply, Follows}
-use Rattle.refinement.specs.Direct.{reply}
 use Rattle.refinement.proofs.ArenaReached.{Reached, heapOf, reached-after}
 use Rattle.refinement.proofs.CommitRep.{commit-for}
 use Rattle.refinement.proofs.Basics.{setting-kept}
