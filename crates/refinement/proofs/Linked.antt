@@ -206,5 +206,5 @@ module _ (n : ℕ) (b : List ℕ) (hb : leb (words n) (length b) ≡ true) (c q 
           (λ x i. others-stowed k x (ne-eqb q x (λ e. f (subst (λ (w : ℕ). In w us) (sym e) i)))) (s .line)),
     );
     number = tally-stowed k ∙ ap suc (s .number);
-    few = l;
+    few = omega arith;
   }
