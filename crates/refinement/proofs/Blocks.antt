@@ -3,7 +3,7 @@
 --     few-counts      a list that has each index below k at most once, and no other, is no longer than k
 --     tops-take       the top entries of a stack that is represented
 --     marks-at        the out bits after some were set or cleared
-use Prim.Native.Nat.{ℕ, zero, suc, _+_, _≤_, _<_}
+use Prim.Native.Nat.{ℕ, zero, suc, _+_, _≤_}
 use native.Mathlib.Omega.{arith}
 use native.Mathlib.Nat.{add-zero, zero-add}
 use mathlib.Core.Bool.{Bool, true, false, cond}
@@ -11,9 +11,9 @@ use mathlib.Core.List.{List, [], _∷_, _++_, map, reverse, reverseAux}
 use mathlib.Core.Path.{_≡_, refl, sym, ap, _∙_}
 use lib.Dec.{eqb, ltb, leb}
 use lib.ListN.{length, take, drop}
-use borrow.Author.Tests.{lt-ltb, le-ltb, ltb-true, ltb-false, eqb-true, eqb-false, ne-eqb}
+use borrow.Author.Tests.{lt-ltb, ltb-true, ltb-false, eqb-true, eqb-false, ne-eqb}
 use Rattle.classes.specs.declared.Shape.{Shape}
-use Rattle.fields.specs.Field.{Field, page, slot, out, get, put, ok, words}
+use Rattle.fields.specs.Field.{Field, out, put, words}
 use Rattle.fields.proofs.Laws.{get-put-same, get-put-other}
 use Rattle.fields.proofs.Changes.{Changes, changes-none, changes-put}
 use Rattle.model.specs.Lists.{every, count, total, below}
@@ -22,7 +22,8 @@ use Rattle.model.proofs.Counts.{by-cases, and-l, and-r}
 use Rattle.pages.specs.Runs.{flag}
 use Rattle.pages.specs.Stack.{marked, tops, downs, marks}
 use Rattle.refinement.specs.Represents.{Slots}
-use Rattle.refinement.proofs.Basics.{Setting, long-kept, flag-true, flag-false, flag-cases, eq-cases}
+use Rattle.refinement.proofs.ArenaStore.{long-kept}
+use Rattle.refinement.proofs.Basics.{Setting, flag-true, flag-false, flag-cases, eq-cases}
 use Rattle.refinement.proofs.Lists.{itself}
 use Rattle.refinement.proofs.Frames.{marked-kept}
 

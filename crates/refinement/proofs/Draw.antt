@@ -2,26 +2,27 @@
 --     draw-holds     the words of the run afterwards
 --     pop-rep        the page afterwards is the model's
 --     pop-blocks     the blocks are the model's
-use Prim.Native.Nat.{ℕ, zero, suc, _+_, _-_, _≤_, _<_, min}
+use Prim.Native.Nat.{ℕ, suc, _+_, _-_, min}
 use native.Mathlib.Omega.{arith}
-use mathlib.Core.Bool.{Bool, true, false, cond, not, _||_}
+use mathlib.Core.Bool.{Bool, true, false, cond}
 use mathlib.Core.List.{List, [], _∷_, _++_, map, reverse}
 use mathlib.Core.Path.{_≡_, refl, sym, ap, _∙_}
-use lib.Dec.{eqb, ltb, leb}
+use lib.Dec.{eqb, ltb}
 use lib.ListN.{length, take, drop, length-append, length-drop, length-take, length-reverse}
 use borrow.Author.Tests.{eq-eqb, ne-eqb, eqb-true, eqb-false}
 use Rattle.classes.specs.declared.Shape.{Shape}
-use Rattle.fields.specs.Field.{Field, page, slot, out, owner, free, carved, listed, virgin, region, get, put, ok, words}
+use Rattle.fields.specs.Field.{Field, page, slot, out, owner, free, carved, listed, virgin, region, get, ok, words}
 use Rattle.fields.proofs.Laws.{get-put-same, get-put-other, length-put}
 use Rattle.fields.proofs.Changes.{Changes, changes-put}
 use Rattle.model.specs.Lists.{every, count, isNil}
 use Rattle.model.specs.Page as Model
 use Rattle.model.specs.Page.{Page, wordOf, pop}
 use Rattle.model.proofs.Counts.{by-cases, count-append, count-reverse, count-cut}
-use Rattle.pages.specs.Runs.{flag, whole}
-use Rattle.pages.specs.Stack.{marked, tops, downs, marks, carvedNow, latest, draw, hasMore}
-use Rattle.refinement.specs.Represents.{Slots, Holds, PageRep}
-use Rattle.refinement.proofs.Basics.{Setting, long-kept, flag-le, flag-false}
+use Rattle.pages.specs.Runs.{flag}
+use Rattle.pages.specs.Stack.{marked, downs, marks, carvedNow, latest, draw, hasMore}
+use Rattle.refinement.specs.Represents.{Holds, PageRep}
+use Rattle.refinement.proofs.ArenaStore.{long-kept}
+use Rattle.refinement.proofs.Basics.{Setting, flag-le, flag-false}
 use Rattle.refinement.proofs.Frames.{isData, ofClass, Only, data-owns, whole-kept, whole-in, whole-owner, marked-kept, slots-kept}
 use Rattle.refinement.proofs.Blocks.{map-append, map-reverse, map-take, map-drop, length-map, words-downs, length-downs, count-downs, fits, in-row, every-counts, tops-take, slots-drop, marks-changes, marks-at}
 

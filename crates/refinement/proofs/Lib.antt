@@ -26,3 +26,7 @@ pub mod ArenaKeeps
 pub mod DirectCalls
 pub mod GiveClass
 pub mod Pushes
+pub mod Book
+pub mod NewRun
+pub mod Join
+pub mod TakeWhole

@@ -1,17 +1,17 @@
 -- The linked lists after a page came in or went out. Assumes nothing.
 --     chain-linked, chain-unlinked     the partial list, with a page at its head, and without one of its pages
 --     stack-stowed, stack-unstowed     a store, with a page on top, and without its newest
-use Prim.Native.Nat.{ℕ, zero, suc, _+_, _-_, _≤_, _<_}
+use Prim.Native.Nat.{ℕ, zero, suc, _+_, _-_, _<_}
 use native.Mathlib.Omega.{arith}
 use native.Mathlib.Numerals.{add-one}
-use mathlib.Core.Bool.{Bool, true, false}
+use mathlib.Core.Bool.{true, false}
 use mathlib.Core.List.{List, [], _∷_, _++_}
 use mathlib.Core.Logic.{_⊎_, inl, inr, ⊎-elim}
 use mathlib.Core.Path.{_≡_, refl, sym, ap, subst, _∙_}
 use lib.Dec.{eqb, ltb, leb}
 use lib.ListN.{length}
 use borrow.Author.Tests.{ltb-true, lt-ltb, ne-eqb}
-use Rattle.fields.specs.Field.{Field, class, page, partial, next, prev, listed, words, get, put}
+use Rattle.fields.specs.Field.{class, page, partial, next, prev, listed, words, get, put}
 use Rattle.fields.proofs.Laws.{get-put-same, get-put-other, length-put}
 use Rattle.fields.proofs.Changes.{Changes}
 use Rattle.fields.proofs.Outcome.{length-putAt, get-putAt-same, get-putAt-other}
@@ -206,5 +206,5 @@ module _ (n : ℕ) (b : List ℕ) (hb : leb (words n) (length b) ≡ true) (c q 
           (λ x i. others-stowed k x (ne-eqb q x (λ e. f (subst (λ (w : ℕ). In w us) (sym e) i)))) (s .line)),
     );
     number = tally-stowed k ∙ ap suc (s .number);
-    few = l;
+    few = omega arith;
   }

@@ -3,11 +3,10 @@
 --                   head of the list, and whether q is listed
 --     isStow        a store's row, and NEXT of q
 --     LetsLink, LetsStow    what a test must let pass for these moves to be changes of that test
-use Prim.Native.Nat.{ℕ, zero, suc, _+_}
-use native.Mathlib.Omega.{arith}
+use Prim.Native.Nat.{ℕ, zero, suc}
 use mathlib.Core.Bool.{Bool, true, false, _&&_, _||_}
 use mathlib.Core.List.{List}
-use mathlib.Core.Path.{_≡_, refl, ap, _∙_}
+use mathlib.Core.Path.{_≡_, refl}
 use lib.Dec.{eqb, ltb}
 use borrow.Author.Tests.{eq-eqb, ne-eqb}
 use Rattle.fields.specs.Field.{Field, arena, memory, class, hole, page, slot, out, partial, owner, first, next, prev, free, carved, listed, virgin, frontier, classOff, pageOff, get, put}

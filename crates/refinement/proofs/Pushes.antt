@@ -1,26 +1,27 @@
 -- Blocks laid on a page's stack, and a run carved anew. Assumes nothing.
 --     push-changes, push-slots     the stack with a list laid on it
 --     carve-holds                  a run that has no block out, carved anew
-use Prim.Native.Nat.{ℕ, zero, suc, _+_, _≤_, _<_}
+use Prim.Native.Nat.{ℕ, suc, _+_, _≤_, _<_}
 use native.Mathlib.Omega.{arith}
 use mathlib.Core.Bool.{Bool, true, false, cond}
-use mathlib.Core.List.{List, [], _∷_, _++_, map, append-nil}
+use mathlib.Core.List.{List, [], _∷_, _++_, append-nil}
 use mathlib.Core.Path.{_≡_, refl, sym, ap, _∙_, subst}
-use lib.Dec.{eqb, ltb, leb}
+use lib.Dec.{eqb, ltb}
 use lib.ListN.{length, length-append}
 use borrow.Author.Tests.{lt-ltb, ltb-true, eq-eqb, ne-eqb}
 use Rattle.classes.specs.declared.Shape.{Shape}
-use Rattle.fields.specs.Field.{Field, page, slot, out, owner, free, carved, listed, virgin, region, get, put, ok, words}
+use Rattle.fields.specs.Field.{Field, page, slot, out, owner, free, carved, listed, virgin, region, get, ok, words}
 use Rattle.fields.proofs.Laws.{get-put-same, get-put-other, length-put}
 use Rattle.fields.proofs.Changes.{Changes, changes-none, changes-put}
-use Rattle.model.specs.Lists.{every, count}
-use Rattle.model.specs.Page.{Page, wordOf, isMedium, carveAs, carve}
-use Rattle.model.proofs.Counts.{by-cases, and-l, and-r}
-use Rattle.pages.specs.Runs.{flag, whole}
+use Rattle.model.specs.Lists.{every}
+use Rattle.model.specs.Page.{isMedium, carveAs, carve}
+use Rattle.model.proofs.Counts.{and-l, and-r}
+use Rattle.pages.specs.Runs.{whole}
 use Rattle.pages.specs.Stack.{marked, downs, push}
 use Rattle.pages.specs.Carve.{stocked, carveAnew}
-use Rattle.refinement.specs.Represents.{Slots, Holds, PageRep, Parked}
-use Rattle.refinement.proofs.Basics.{Setting, long-kept, flag-false}
+use Rattle.refinement.specs.Represents.{Slots, Holds, PageRep}
+use Rattle.refinement.proofs.ArenaStore.{long-kept}
+use Rattle.refinement.proofs.Basics.{Setting, flag-false}
 use Rattle.refinement.proofs.Frames.{isData, ofClass, Only, marked-kept}
 use Rattle.refinement.proofs.Blocks.{fits, in-row, words-downs, length-downs, count-downs-zero, every-counts}
 
@@ -70,7 +71,8 @@ module _ {n : ℕ} {b : List ℕ} {c : ℕ} {sh : Shape} (s : Setting n b c sh) 
   room : 0 + length (downs 0 (stocked sh)) ≤ 4096
   room = omega (arith, length-downs 0 (stocked sh), stocked-in sh, s .shape .few)
 
-  anew-changes : (t : Field → Bool) → t (page free q) ≡ true → t (page carved q) ≡ true → t (page virgin q) ≡ true → ((i : ℕ) → t (slot q i) ≡ true) → Changes t b (carveAnew b sh q u)
+  pub anew-changes : (t : Field → Bool) → t (page free q) ≡ true → t (page carved q) ≡ true → t (page virgin q) ≡ true → ((i : ℕ) → t (slot q i) ≡ true)
+      → Changes t b (carveAnew b sh q u)
   unfolding carveAnew
   anew-changes t f k v e =
       changes-put t b _ (page free q) _ refl f

@@ -1,3 +1,4 @@
 pub mod Chain
 pub mod Represents
 pub mod Direct
+pub mod Classes
