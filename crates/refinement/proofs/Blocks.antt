@@ -16,7 +16,8 @@ use Rattle.model.specs.Page.{wordOf, wordsFrom}
 use Rattle.model.proofs.Counts.{by-cases}
 use Rattle.pages.specs.Runs.{flag}
 use Rattle.pages.specs.Stack.{tops, downs}
-use Rattle.pages.proofs.Downs.{flag-true, flag-false, flag-cases, eq-cases, count-downs}
+use Rattle.pages.proofs.Downs.{flag-true, flag-false, flag-cases, eq-cases}
+pub use Rattle.pages.proofs.Downs.{length-downs, count-downs}
 use Rattle.refinement.specs.Represents.{Slots}
 use Rattle.refinement.proofs.Basics.{Setting}
 use Rattle.refinement.proofs.Lists.{itself}
