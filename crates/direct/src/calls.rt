@@ -4,8 +4,8 @@ use super::Grow;
 use super::Report;
 use runs::Commit;
 use runs::Request;
-use runs::act;
 use runs::give;
+use runs::growth;
 use runs::load;
 use runs::owners;
 ghost use mathlib.Core.Path.{_≡_};
@@ -103,7 +103,7 @@ fn grow_held(meta: &mut [u32], size: u32, host: u32, end: u32, pages: u32) -> Gr
         owner: 77,
         held: fields::arena::held(meta),
     };
-    grow_of(act::grow_run(meta, a, end, q))
+    grow_of(growth::grow_run(meta, a, end, q))
 }
 
 fn grow_fair(meta: &mut [u32], size: u32, host: u32, end: u32, pages: u32) -> Grow

@@ -61,9 +61,10 @@ pub forgets-not : (b : List ℕ) (a : Arena) (m : ℕ) → a .count ≡ 0 → b 
 unfolding forgetWord
 forgets-not b a m e = rw (eq-eqb (a .count) 0 e)
 
-pub frontier-run : (b : List ℕ) (a r : Arena) (q : Request) → RequestIn b q → RecordIn (q .size) a → a .frontier + q .pages ≤ q .size → r ≡ advanced (q .pages) a → RunIn b r (a .frontier) q
-frontier-run b a r q rq ra l e =
+pub frontier-run : (b : List ℕ) (a r : Arena) (q : Request) → RequestIn b q → RecordIn (q .size) a → r ≡ advanced (q .pages) a → r .frontier ≤ q .size → RunIn b r (a .frontier) q
+frontier-run b a r q rq ra e l =
     let t : r .total ≡ a .total = ap (λ z. z .total) e in
+    let u : r .frontier ≡ a .frontier + q .pages = ap (λ z. z .frontier) e in
     let h₁ = rq .long in
     let h₂ = rq .small in
     let h₃ = ra .short in
@@ -98,13 +99,18 @@ module _ (b : List ℕ) (a : Arena) (m q : ℕ) where
 
 -- ---- the whole
 module _ (n : ℕ) (b : List ℕ) (a : Arena) (m h w d : ℕ) where
-  pub no-room : (x : List ℕ) → n < a .frontier + m → x ≡ storeRecord b a → Answers Nothing x (fromFrontier n b a m h w d)
+  pub no-room : (x : List ℕ) (r : Arena) → r ≡ advanced m a → n < r .frontier → x ≡ storeRecord b a → Answers Nothing x (fromFrontier n b a m h w d)
   unfolding fromFrontier endNone
-  no-room x l e = rw (lt-leb (a .frontier + m) n l) (record { answer = refl; book = e })
+  no-room x r f l e =
+      let u : r .frontier ≡ a .frontier + m = ap (λ z. z .frontier) f in
+      rw (lt-leb (a .frontier + m) n (omega arith)) (record { answer = refl; book = e })
 
-  pub from-room : (s : Commit) (x : List ℕ) (r : Arena) → a .frontier + m ≤ n → r ≡ advanced m a → Answers s x (settle b r m (a .frontier) true h w d) → Answers s x (fromFrontier n b a m h w d)
+  pub from-room : (s : Commit) (x : List ℕ) (r : Arena) → r ≡ advanced m a → r .frontier ≤ n → Answers s x (settle b r m (a .frontier) true h w d)
+      → Answers s x (fromFrontier n b a m h w d)
   unfolding fromFrontier
-  from-room s x r l e k = rw (le-leb (a .frontier + m) n l) (rw e at k)
+  from-room s x r e l k =
+      let u : r .frontier ≡ a .frontier + m = ap (λ z. z .frontier) e in
+      rw (le-leb (a .frontier + m) n (omega arith)) (subst (λ z. Answers s x (settle b z m (a .frontier) true h w d)) e k)
 
   module _ (p : Plan) where
     pub from-drawn : (s : Commit) (x y : List ℕ) (r : Arena) → Draws b a m p x r → Answers s y (settle x r m (p .first) false h w d)

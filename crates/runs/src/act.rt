@@ -12,7 +12,7 @@ ghost use mathlib.Core.Bool.{false};
 ghost use mathlib.Core.Path.{_≡_};
 ghost use Prim.Native.Nat.{_+_, _≤_, _<_, _^_};
 ghost use lib.ListN.{length};
-ghost use Rattle.arena.specs.Act.{cutWords, usedWords, drawWords, drawRecord, Draws, forgetWord, endRun, endGiven, settle, fromFrontier, commitDrawn, nextState, commitPlanned, growWith};
+ghost use Rattle.arena.specs.Act.{cutWords, usedWords, drawWords, drawRecord, Draws, forgetWord, endRun, endGiven, settle, fromFrontier, commitDrawn, nextState, commitPlanned};
 ghost use Rattle.runs.specs.Asks.{RecordIn, HoleIn, PlanIn, RequestIn, RunIn};
 ghost use Rattle.runs.specs.Answer.{Answers};
 
@@ -92,15 +92,16 @@ pub fn settle(meta: &mut [u32], a: Arena, first: u32, fresh: bool, q: Request) -
     Commit::Nothing
 }
 
-fn from_frontier(meta: &mut [u32], a: Arena, q: Request) -> Commit
+pub fn from_frontier(meta: &mut [u32], a: Arena, q: Request) -> Commit
     requires { ⌜ RequestIn (now meta) q × RecordIn (q .size) a ⌝ }
     ensures { λ r. ⌜ Answers r (now (meta .exit)) (fromFrontier (q .size) (now (meta .entry)) a (q .pages) (q .host) (q .owner) (q .held)) ⌝ }
 {
-    if q.size < a.frontier + q.pages {
+    let b = record::advanced_by(a, q.pages);
+    if q.size < b.frontier {
         store::store_record(meta, a);
         return Commit::Nothing;
     }
-    settle(meta, record::advanced_by(a, q.pages), a.frontier, true, q)
+    settle(meta, b, a.frontier, true, q)
 }
 
 fn from_hole(meta: &mut [u32], a: Arena, p: Plan, q: Request) -> Commit
@@ -146,16 +147,4 @@ pub fn commit_planned(meta: &mut [u32], a: Arena, p: Plan, q: Request) -> Commit
         return Commit::Nothing;
     }
     commit_drawn(meta, b, p, q)
-}
-
-// The run that ends at page `end` grows by the request's pages, if the frontier is there and the arena suffices.
-pub fn grow_run(meta: &mut [u32], a: Arena, end: u32, q: Request) -> Commit
-    requires { ⌜ RequestIn (now meta) q × RecordIn (q .size) a ⌝ }
-    ensures { λ r. ⌜ Answers r (now (meta .exit)) (growWith (q .size) (now (meta .entry)) a (q .host) end (q .pages) (q .owner) (q .held)) ⌝ }
-{
-    if a.frontier != end {
-        store::store_record(meta, a);
-        return Commit::Nothing;
-    }
-    from_frontier(meta, a, q)
 }

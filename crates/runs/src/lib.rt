@@ -1,6 +1,7 @@
 // Runs of pages on the words: the arena's record and holes are read and tested, one step is done, and what changed is written.
 pub mod act;
 pub mod give;
+pub mod growth;
 pub mod load;
 pub mod owners;
 mod store;

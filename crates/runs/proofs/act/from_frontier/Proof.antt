@@ -3,8 +3,8 @@ use Rattle.runs.proofs.act.from_frontier.Statement.{statement}
 use Rattle.runs.proofs.act.from_frontier.Tie as tie
 use Rattle.runs.proofs.ActWays.{no-room, frontier-run, from-room}
 
-add-if1 : tie.Need-add-if1
-add-if1 c = search needs
+advanced-by-requires : tie.Need-advanced-by-requires
+advanced-by-requires c κs = search needs
 
 store-record-requires : tie.Need-store-record-requires
 store-record-requires c κs = search needs
@@ -14,9 +14,6 @@ same-length c = search needs
 
 returns : tie.Need-returns
 returns c = search no-room
-
-advanced-by-requires : tie.Need-advanced-by-requires
-advanced-by-requires c κs = search needs
 
 settle-requires : tie.Need-settle-requires
 settle-requires c κs = search frontier-run
@@ -31,11 +28,10 @@ pub from-frontier-spec : {M : Type 1} → statement M
 from-frontier-spec =
     tie.close
     (tie.spec
-    add-if1
+    advanced-by-requires
     store-record-requires
     same-length
     returns
-    advanced-by-requires
     settle-requires
     same-length-2
     returns-2)

@@ -1,6 +1,6 @@
 use borrow.Author.Needs.{needs}
-use Rattle.runs.proofs.act.grow_run.Statement.{statement}
-use Rattle.runs.proofs.act.grow_run.Tie as tie
+use Rattle.runs.proofs.growth.grow_run.Statement.{statement}
+use Rattle.runs.proofs.growth.grow_run.Tie as tie
 use Rattle.runs.proofs.CommitWays.{grows-not, grows-there}
 
 store-record-requires : tie.Need-store-record-requires
