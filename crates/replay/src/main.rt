@@ -1,6 +1,6 @@
 // Replays stored histories on the compiled heap, and compares every answer with the original's, stored beside the call. The input has
 // a call a line, as compare/src/history.rs writes them: a name, the arguments, and after `=` what the call returned and wrote.
-mod direct;
+mod arena_calls;
 mod text;
 
 use libc::STDIN_FILENO;
@@ -25,22 +25,22 @@ fn replay_line(text: &[u8], at: usize, meta: &mut [u32]) -> Step
     let end = text::name_end(text, at);
     let long = end - at;
     if letter == b'o' && long == 4 {
-        return direct::open(text, end, meta);
+        return arena_calls::open(text, end, meta);
     }
     if letter == b'c' && long == 6 {
-        return direct::commit(text, end, meta);
+        return arena_calls::commit(text, end, meta);
     }
     if letter == b'c' && long == 8 {
-        return direct::contains(text, end, meta);
+        return arena_calls::contains(text, end, meta);
     }
     if letter == b'g' && long == 13 {
-        return direct::grow(text, end, meta);
+        return arena_calls::grow(text, end, meta);
     }
     if letter == b'r' && long == 7 {
-        return direct::release(text, end, meta);
+        return arena_calls::release(text, end, meta);
     }
     if letter == b'r' && long == 6 {
-        return direct::report(text, end, meta);
+        return arena_calls::report(text, end, meta);
     }
     text::answered(text, end, letter == b'#' || letter == b'\n')
 }

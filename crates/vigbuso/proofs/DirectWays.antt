@@ -1,11 +1,11 @@
 -- The ways out of the exported calls that go straight to the arena. Assumes nothing.
-use Prim.Native.Nat.{ℕ, zero, suc, _+_, _*_, _^_, _≤_, _<_}
+use Prim.Native.Nat.{ℕ, zero, suc, _≤_}
 use native.Mathlib.Omega.{arith}
-use mathlib.Core.Bool.{Bool, true, false, cond, _&&_}
+use mathlib.Core.Bool.{Bool, true, false, cond}
 use mathlib.Core.List.{List, [], _∷_}
 use mathlib.Core.Option.{none}
-use mathlib.Core.Path.{_≡_, refl, sym, ap, _∙_}
-use lib.Dec.{eqb, leb}
+use mathlib.Core.Path.{_≡_, refl, sym, _∙_}
+use lib.Dec.{leb}
 use lib.ListN.{length}
 use mir.Val.{Fits, boolByte}
 use mir.Syntax.{w32}
@@ -13,20 +13,21 @@ use borrow.Author.Tests.{leb-true, eq-eqb, ne-eqb}
 use Rattle.words.specs.Host.{digit}
 use Rattle.fields.specs.Field.{arena, size, get, Has, words}
 use Rattle.fields.specs.Outcome.{Did}
-use Rattle.fields.specs.Ranges.{within, between, maxPages, lengthFault, metaFault, Sound}
+use Rattle.fields.specs.Ranges.{within, between, maxPages, lengthFault, metaFault}
 use Rattle.fields.proofs.Laws.{and-right}
 use Rattle.fields.proofs.Sound.{sound}
-use Rattle.arena.specs.declared.Commit.{Commit}
-use Rattle.arena.specs.declared.Commit.the-variants.{Refused, Run, Nothing}
-use Rattle.arena.specs.declared.Grow.{Grow}
-use Rattle.arena.specs.declared.Grow.the-variants.{Yes, No}
-use Rattle.arena.specs.declared.Figures.{Figures}
-use Rattle.arena.specs.declared.Report.{Report}
-use Rattle.arena.specs.declared.Report.the-variants.{Told}
+use Rattle.runs.specs.declared.Commit.{Commit}
+use Rattle.runs.specs.declared.Commit.the-variants.{Refused, Run, Nothing}
+use Rattle.direct.specs.declared.Grow.{Grow}
+use Rattle.direct.specs.declared.Grow.the-variants.{Yes, No}
+use Rattle.direct.specs.declared.Figures.{Figures}
+use Rattle.direct.specs.declared.Report.{Report}
+use Rattle.direct.specs.declared.Report.the-variants.{Told}
 use Rattle.arena.specs.Calls.{Committed, commitCall, Done, growCall, releaseCall, containsCall}
 use Rattle.arena.specs.Open.{opened}
-use Rattle.arena.specs.Asks.{BookIn}
-use Rattle.arena.specs.Answer.{answerOf, Answers, grownAs, Grew, Releases, reportOf}
+use Rattle.runs.specs.Asks.{BookIn}
+use Rattle.runs.specs.Answer.{answerOf, Answers}
+use Rattle.direct.specs.Answer.{grownAs, Grew, Releases, reportOf}
 use Rattle.vigbuso.specs.Direct.{openOn, commitOn, CommitEnds, growOn, GrowEnds, releaseOn, containsOn, reportOn, ReportEnds}
 
 -- ---- numbers 1 and 2

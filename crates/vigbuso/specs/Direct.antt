@@ -1,9 +1,9 @@
 -- The exported calls that go straight to the arena, on any book and any numbers: the answer, the book and the out-parameters
 -- afterwards, refusals included. Numbers 1 and 2 come first; then the call is one on an arena of the length that the book holds.
 -- Assumes nothing.
-use Prim.Native.Nat.{ℕ, zero, suc}
+use Prim.Native.Nat.{ℕ}
 use mathlib.Core.List.{List, [], _∷_}
-use mathlib.Core.Bool.{Bool, true, false, cond}
+use mathlib.Core.Bool.{Bool, false, cond}
 use mathlib.Core.Path.{_≡_}
 use lib.Dec.{eqb}
 use lib.ListN.{length}
@@ -11,15 +11,16 @@ use Rattle.words.specs.Host.{digit}
 use Rattle.fields.specs.Field.{arena, size, get}
 use Rattle.fields.specs.Outcome.{Outcome, ends}
 use Rattle.fields.specs.Ranges.{lengthFault, metaFault}
-use Rattle.arena.specs.declared.Commit.{Commit}
-use Rattle.arena.specs.declared.Commit.the-variants.{Refused, Run, Nothing}
-use Rattle.arena.specs.declared.Grow.{Grow}
-use Rattle.arena.specs.declared.Grow.the-variants.{Yes, No}
-use Rattle.arena.specs.declared.Report.{Report}
-use Rattle.arena.specs.declared.Report.the-variants.{Told}
+use Rattle.runs.specs.declared.Commit.{Commit}
+use Rattle.runs.specs.declared.Commit.the-variants.{Refused, Run, Nothing}
+use Rattle.direct.specs.declared.Grow.{Grow}
+use Rattle.direct.specs.declared.Grow.the-variants.{Yes, No}
+use Rattle.direct.specs.declared.Report.{Report}
+use Rattle.direct.specs.declared.Report.the-variants.{Told}
 use Rattle.arena.specs.Calls.{Committed, commitRefused, commitCall, Done, doneRefused, growCall, releaseCall, containsCall}
 use Rattle.arena.specs.Open.{opened}
-use Rattle.arena.specs.Answer.{commitAnswer, commitCode, grownAs, growCode, reportOf}
+use Rattle.runs.specs.Answer.{commitAnswer, commitCode}
+use Rattle.direct.specs.Answer.{grownAs, growCode, reportOf}
 
 -- ---- opening
 unfoldable pub openOn : List ℕ → ℕ → Outcome

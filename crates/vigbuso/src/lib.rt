@@ -1,3 +1,3 @@
 // The exported C functions. Numbers and slices only; each is thin over a proved function.
-pub mod direct;
+pub mod arena_calls;
 pub mod lookup;
