@@ -1,11 +1,13 @@
 -- The least fit of a list of holes, as a scan from its end finds it.
 --     least-within    its index is one of the list's
 --     least-enough    its length is enough
---     key-step        the least key from i on is the better of the hole at i and of the least from i + 1 on
---     key-end         the key that a scan of all ends with says the least fit
+--     key-start       the key of none says the least fit of no holes
+--     key-step        the better of the hole at i and of a key that says the least fit from i + 1 on says that from i on
+--     key-end         what a key that says the least fit of all is read as
 --     lowest-least    the lowest index of n pages is the least fit's, where that has n pages
 -- Assumes nothing.
-use mathlib.Core.Path.{_≡_, refl, sym, ap, _∙_}
+use mathlib.Core.Path.{_≡_, refl, sym, ap, subst, _∙_}
+use mathlib.Core.Logic.{_⊎_, inl, inr, ⊎-elim}
 use Prim.Native.Nat.{ℕ, suc, _+_, _-_, _*_, _/_, _%_, _<_, _≤_, _^_}
 use native.Mathlib.Omega.{arith}
 use mathlib.Core.Bool.{Bool, true, false, cond, _&&_}
@@ -19,7 +21,7 @@ use borrow.Author.Tests.{ltb-true, ltb-false, leb-true, leb-false, eqb-true, eqb
 use Rattle.model.specs.declared.Hole.{Hole}
 use Rattle.model.specs.HoleStore.{Fit, nearer, leastFit, lowest, next}
 use Rattle.arena.specs.declared.holes.Best.{Best}
-use Rattle.arena.specs.Scan.{noHole, bestOf, noKey, key, keyFrom, betterOf, bestAt}
+use Rattle.arena.specs.Scan.{noHole, bestOf, noKey, over, key, betterOf, bestAt}
 
 pub by-test : {P : Type 0} (t : Bool) → (t ≡ true → P) → (t ≡ false → P) → P
 by-test true f g = f refl
@@ -61,56 +63,80 @@ least-enough n [] = tt
 least-enough n (h ∷ hs) = nearer-enough n h (leastFit n hs) (least-enough n hs)
 
 -- ---- keys
--- a hole at i, of n pages, before the fits of the holes from i + 1 on, k of them
-nearer-key : (need i k : ℕ) (h : Hole) (o : Option Fit) → Within k o → i + suc k < 2 ^ 32 → h .pages < 2 ^ 32
-    → keyFrom i (nearer need h o) ≡ betterOf need i (h .pages) (keyFrom (i + 1) o)
-nearer-key need i k h none p l fits =
-    by-test (leb need (h .pages))
-    (λ e. simp (e, le-ltb (h .pages) need (leb-true _ _ e), lt-ltb (key i (h .pages)) noKey (omega arith)) (omega arith))
-    (λ e. simp (e, lt-ltb (h .pages) need (leb-false _ _ e)))
-nearer-key need i k h (some f) p l fits =
-    by-test (leb need (h .pages))
-    (λ e. by-test (leb (h .pages) (f .pages))
-    (λ d. let g : h .pages ≤ f .pages = leb-true _ _ d in
-    simp (e, d, le-ltb (h .pages) need (leb-true _ _ e), lt-ltb (key i (h .pages)) (key (i + 1 + f .index) (f .pages)) (omega arith)) (omega arith))
-    (λ d. let g : f .pages < h .pages = leb-false _ _ d in
-    simp (e, d, le-ltb (h .pages) need (leb-true _ _ e), le-ltb (key i (h .pages)) (key (i + 1 + f .index) (f .pages)) (omega arith)) (omega arith)))
-    (λ e. simp (e, lt-ltb (h .pages) need (leb-false _ _ e)) (omega arith))
+-- a key says the least fit of the holes from i on
+abbrev pub Says : ℕ → ℕ → ℕ → Option Fit → Type 0
+Says need i u none = ((2 ^ 32 - need) * 2 ^ 32 ≤ u) ⊎ (u ≡ noKey)
+Says need i u (some f) = (u ≡ (f .pages - need) * 2 ^ 32 + (i + f .index)) × (need ≤ f .pages) × (f .pages < 2 ^ 32)
 
-module _ (ys : List Hole) (count : ℕ) (within : count ≤ length ys) (count-fits : count < 2 ^ 32) (need : ℕ) where
-  pub key-step : (i : ℕ) → i < count → getD ys i noHole .pages < 2 ^ 32
-      → keyFrom i (leastFit need (drop i (take count ys))) ≡ betterOf need i (getD ys i noHole .pages) (keyFrom (i + 1) (leastFit need (drop (i + 1) (take count ys))))
+-- a hole at i, before k holes from i + 1 on
+nearer-says : (need i k u : ℕ) (h : Hole) (o : Option Fit) → Within k o → i + suc k < 2 ^ 32 → h .pages < 2 ^ 32 → need < 2 ^ 32 → u < 2 ^ 64 → Says need (i + 1) u o
+    → Says need i (betterOf need i (h .pages) u) (nearer need h o)
+nearer-says need i k u h none p l fits need-fits u-fits says =
+    by-test (leb need (h .pages))
+    (λ e. let g : need ≤ h .pages = leb-true _ _ e in
+    let beyond : over need (h .pages) ≡ h .pages - need = omega arith in
+    let less : key need i (h .pages) < u = ⊎-elim (λ a. omega arith) (λ b. omega arith) says in
+    simp (e, lt-ltb (key need i (h .pages)) u less) (omega arith, g, fits))
+    (λ e. let g : h .pages < need = leb-false _ _ e in
+    let beyond : over need (h .pages) ≡ h .pages + (2 ^ 32 - need) = omega arith in
+    by-test (ltb (key need i (h .pages)) u) (λ d. simp (e, d) (inl (omega arith))) (λ d. simp (e, d) says))
+nearer-says need i k u h (some f) p l fits need-fits u-fits says =
+    let at-u : u ≡ (f .pages - need) * 2 ^ 32 + (i + 1 + f .index) = says .0 in
+    let enough : need ≤ f .pages = says .1 in
+    let f-fits : f .pages < 2 ^ 32 = says .2 in
+    by-test (leb need (h .pages))
+    (λ e. let g : need ≤ h .pages = leb-true _ _ e in
+    let beyond : over need (h .pages) ≡ h .pages - need = omega arith in
+    by-test (leb (h .pages) (f .pages))
+    (λ d. let m : h .pages ≤ f .pages = leb-true _ _ d in
+    simp (e, d, lt-ltb (key need i (h .pages)) u (omega arith)) (omega arith, g, fits))
+    (λ d. let m : f .pages < h .pages = leb-false _ _ d in
+    simp (e, d, le-ltb (key need i (h .pages)) u (omega arith)) (omega arith, enough, f-fits)))
+    (λ e. let g : h .pages < need = leb-false _ _ e in
+    let beyond : over need (h .pages) ≡ h .pages + (2 ^ 32 - need) = omega arith in
+    simp (e, le-ltb (key need i (h .pages)) u (omega arith)) (omega arith, enough, f-fits))
+
+module _ (ys : List Hole) (count : ℕ) (within : count ≤ length ys) (count-fits : count < 2 ^ 32) (need : ℕ) (need-fits : need < 2 ^ 32) where
+  pub key-step : (i u : ℕ) → i < count → u < 2 ^ 64 → getD ys i noHole .pages < 2 ^ 32 → Says need (i + 1) u (leastFit need (drop (i + 1) (take count ys)))
+      → Says need i (betterOf need i (getD ys i noHole .pages) u) (leastFit need (drop i (take count ys)))
   unfolding leastFit
-  key-step i l fits =
+  key-step i u l u-fits fits says =
       let zs : List Hole = take count ys in
       let e : length zs ≡ count = length-take-le count ys within in
       let h : i < length zs = omega arith in
       let here : getD zs i noHole ≡ getD ys i noHole = getD-take count ys i noHole l in
       let rest : List Hole = drop (suc i) zs in
       let k : length rest ≡ length zs - suc i = length-drop (suc i) zs in
-      let cut : drop i zs ≡ getD zs i noHole ∷ rest = drop-cons zs i noHole h in
-      ap (λ (hs : List Hole). keyFrom i (leastFit need hs)) cut
-      ∙ ap (λ (x : Hole). keyFrom i (nearer need x (leastFit need rest))) here
-      ∙ nearer-key need i (length rest) (getD ys i noHole) (leastFit need rest) (least-within need rest) (omega arith) fits
-      ∙ ap (λ (n : ℕ). betterOf need i (getD ys i noHole .pages) (keyFrom (i + 1) (leastFit need (drop n zs)))) (sym (add-one i))
+      let cut : drop i zs ≡ getD ys i noHole ∷ rest = drop-cons zs i noHole h ∙ ap (λ (x : Hole). x ∷ rest) here in
+      let after : Says need (i + 1) u (leastFit need rest) = subst (λ (n : ℕ). Says need (i + 1) u (leastFit need (drop n zs))) (add-one i) says in
+      subst (λ (hs : List Hole). Says need i (betterOf need i (getD ys i noHole .pages) u) (leastFit need hs)) (sym cut)
+      (nearer-says need i (length rest) u (getD ys i noHole) (leastFit need rest) (least-within need rest) (omega arith) fits need-fits u-fits after)
 
-  pub key-start : noKey ≡ keyFrom count (leastFit need (drop count (take count ys)))
+  pub key-start : Says need count noKey (leastFit need (drop count (take count ys)))
   unfolding leastFit
   key-start =
       let e : length (take count ys) ≡ count = length-take-le count ys within in
       let l : length (take count ys) ≤ count = omega arith in
-      sym (ap (λ (hs : List Hole). keyFrom count (leastFit need hs)) (drop-of-length-le (take count ys) l))
+      subst (λ (hs : List Hole). Says need count noKey (leastFit need hs)) (sym (drop-of-length-le (take count ys) l)) (inr refl)
 
-at-key : (k : ℕ) (o : Option Fit) → k < 2 ^ 32 → Within k o → bestAt (keyFrom 0 o) ≡ bestOf o
-at-key k none l p = refl
-at-key k (some f) l p =
-    let differ : eqb (key (0 + f .index) (f .pages)) noKey ≡ false = ne-eqb _ _ (λ (e : key (0 + f .index) (f .pages) ≡ noKey). omega arith) in
-    let low : (key (0 + f .index) (f .pages) + 1) % 2 ^ 32 ≡ suc (f .index) = omega arith in
-    let high : key (0 + f .index) (f .pages) / 2 ^ 32 ≡ f .pages = omega arith in
-    simp differ (λ t. record { code = low t; pages = high t })
+at-key : (need k u : ℕ) (o : Option Fit) → k < 2 ^ 32 → Within k o → u < 2 ^ 64 → Says need 0 u o → bestAt need u ≡ bestOf o
+at-key need k u none l p u-fits says =
+    ⊎-elim
+    (λ a. simp (le-leb (2 ^ 32) (u / 2 ^ 32 + need) (omega arith)))
+    (λ b. by-test (leb (2 ^ 32) (u / 2 ^ 32 + need)) (λ d. simp d) (λ d. simp (d, eq-eqb u noKey b)))
+    says
+at-key need k u (some f) l p u-fits says =
+    let at-u : u ≡ (f .pages - need) * 2 ^ 32 + (0 + f .index) = says .0 in
+    let enough : need ≤ f .pages = says .1 in
+    let f-fits : f .pages < 2 ^ 32 = says .2 in
+    let high : u / 2 ^ 32 + need ≡ f .pages = omega arith in
+    let found : leb (2 ^ 32) (u / 2 ^ 32 + need) ≡ false = lt-leb (2 ^ 32) (u / 2 ^ 32 + need) (omega arith) in
+    let differ : eqb u noKey ≡ false = ne-eqb _ _ (λ (e : u ≡ noKey). omega arith) in
+    let low : (u + 1) % 2 ^ 32 ≡ suc (f .index) = omega arith in
+    simp (found, differ) (λ t. record { code = low t; pages = high t })
 
-pub key-end : (need : ℕ) (hs : List Hole) → length hs < 2 ^ 32 → bestAt (keyFrom 0 (leastFit need hs)) ≡ bestOf (leastFit need hs)
-key-end need hs l = at-key (length hs) (leastFit need hs) l (least-within need hs)
+pub key-end : (need u : ℕ) (hs : List Hole) → length hs < 2 ^ 32 → u < 2 ^ 64 → Says need 0 u (leastFit need hs) → bestAt need u ≡ bestOf (leastFit need hs)
+key-end need u hs l u-fits says = at-key need (length hs) u (leastFit need hs) l (least-within need hs) u-fits says
 
 -- ---- the lowest index of a length
 abbrev pub exact : ℕ → Option Fit → Option ℕ

@@ -1,16 +1,16 @@
 // The hole store, lent as a slice of holes: read, stored to, and scanned for the least length that is enough.
 use model::Hole;
+use std::num::wrapping_sub_u32;
 ghost use mathlib.Core.Path.{_≡_};
 ghost use Prim.Native.Nat.{_+_, _*_, _<_, _≤_, _^_};
-ghost use mathlib.Core.Bool.{_&&_, cond};
-ghost use lib.Dec.{ltb};
+ghost use mathlib.Core.Bool.{_&&_};
 ghost use lib.ListN.{length, getD, set, take, drop};
 ghost use Rattle.model.specs.HoleStore.{leastFit};
 ghost use Rattle.model.specs.Lists.{every};
 ghost use Rattle.fields.specs.Field.{hole, start, pages, word, Has};
 ghost use Rattle.arena.specs.Load.{loadHole, loadHoles};
 ghost use Rattle.arena.specs.Fair.{holeFair};
-ghost use Rattle.arena.specs.Scan.{noHole, noKey, key, betterOf, bestAt, bestOf};
+ghost use Rattle.arena.specs.Scan.{noHole, key, betterOf, bestAt, bestOf};
 
 pub fn hole_at(holes: &[Hole], i: usize) -> Hole
     requires { ⌜ i < length (now holes) ⌝ }
@@ -32,16 +32,13 @@ pub struct Best {
     pub pages: u32,
 }
 
-// The key of the hole at `i`, of so many pages: the pages in its upper half, the index in its lower one, so that the least key is the
-// lowest index of the least length. Too few pages have the key of none, the greatest number.
+// The key of the hole at `i`, of so many pages: in its upper half the pages beyond the need, which wrap where they are too few and so
+// come after all others, and in its lower half the index. The least key is the lowest index of the least length that is enough.
 fn key_of(need: u32, i: u32, pages: u32) -> u64
-    ensures { λ r. ⌜ r ≡ cond (ltb pages need) noKey (key i pages) ⌝ }
+    ensures { λ r. ⌜ r ≡ key need i pages ⌝ }
 {
-    if pages < need {
-        18_446_744_073_709_551_615
-    } else {
-        (pages as u64) * 4_294_967_296 + (i as u64)
-    }
+    let over = wrapping_sub_u32(pages, need);
+    (over as u64) * 4_294_967_296 + (i as u64)
 }
 
 // The lesser key of that and of the best before.
@@ -52,16 +49,20 @@ fn better(need: u32, i: u32, pages: u32, best: u64) -> u64
     if key < best { key } else { best }
 }
 
-// What a key says; the greatest number is the key of none.
-fn best_at(key: u64) -> Best
-    ensures { λ r. ⌜ r ≡ bestAt key ⌝ }
+// What the least key says; the greatest number is the key of none.
+fn best_at(need: u32, key: u64) -> Best
+    ensures { λ r. ⌜ r ≡ bestAt need key ⌝ }
 {
+    let pages = key / 4_294_967_296 + (need as u64);
+    if 4_294_967_296 <= pages {
+        return Best { code: 0, pages: 0 };
+    }
     if key == 18_446_744_073_709_551_615 {
         return Best { code: 0, pages: 0 };
     }
     Best {
         code: ((key + 1) % 4_294_967_296) as u32,
-        pages: (key / 4_294_967_296) as u32,
+        pages: pages as u32,
     }
 }
 
@@ -85,7 +86,7 @@ pub fn scan(holes: &[Hole], count: u32, need: u32) -> Best
         i -= 1;
         best = weigh(holes, need, i, best);
     }
-    best_at(best)
+    best_at(need, best)
 }
 
 // The hole that the words hold at `i`.

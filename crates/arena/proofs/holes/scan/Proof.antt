@@ -1,4 +1,4 @@
--- `arena::holes::scan` meets its contract: a walk of its MIR, by hand, with a loop. The loop's invariant is over a record `Turn`: the index, the least key from it on, and
+-- `arena::holes::scan` meets its contract: a walk of its MIR, by hand, with a loop. The loop's invariant is over a record `Turn`: the index, the key that says the least fit from it on, and
 -- the facts of them; the variant is the index. The slice is Copy, so a turn hands `weigh` a copy with the lifetime's token, which comes back.
 -- Assumes nothing.
 use mathlib.Core.Path.{_≡_, refl, sym, ap, subst, _∙_}
@@ -46,10 +46,10 @@ use denote.Triple.Table.{entered, cited}
 use denote.Triple.Walked.{says, needs, Stays, stay-none-slice, stay-none, walkOf, goes-none-slice, goes-none, Walks, ends-at, walked, walk-meets}
 use denote.Exit.{yes}
 use Rattle.model.specs.HoleStore.{leastFit}
-use Rattle.arena.specs.Scan.{noHole, bestOf, noKey, keyFrom, betterOf, bestAt}
+use Rattle.arena.specs.Scan.{noHole, bestOf, noKey, betterOf, bestAt}
 use Rattle.model.specs.declared.Hole.{Hole}
 use Rattle.arena.specs.declared.holes.Best.{Best}
-use Rattle.arena.proofs.Least.{key-step, key-start, key-end}
+use Rattle.arena.proofs.Least.{Says, key-step, key-start, key-end}
 use Rattle.model.proofs.Hole as T
 use Rattle.arena.proofs.holes.Best as B
 use Rattle.arena.proofs.holes.Best.Laws as B′
@@ -119,13 +119,13 @@ module _ {M : Type 1} (𝓤 : URA M) (H : Heap 𝓤) (A : Atoms 𝓤) (W : Given
   abbrev Rest : Fml
   Rest = owns (u32 ∷ u32 ∷ []) (count, (need, tt)) (vint w32 count ∷ [], (vint w32 need ∷ [], tt))
 
-  -- what is known where the loop's test is reached: the index i, and the least key u of the holes from i on
+  -- what is known where the loop's test is reached: the index i, and the key u that says the least fit of the holes from i on
   record Turn : Type 0 where
     i : ℕ
     u : ℕ
     u-fits : u < 2 ^ 64
     up-to : i ≤ count
-    same : u ≡ keyFrom i (leastFit need (drop i zs))
+    same : Says need i u (leastFit need (drop i zs))
 
   abbrev Less : Turn → Turn → Type 0
   Less t′ t = t′ .i < t .i
@@ -148,30 +148,30 @@ module _ {M : Type 1} (𝓤 : URA M) (H : Heap 𝓤) (A : Atoms 𝓤) (W : Given
   weigh-said : (t : Turn) (r : ℕ) → ent 𝓤 (ensured 𝓤 H A weigh.ended (weigh.clauses 𝓤 H A mem run) (κ, tt) (s, (need, (t .i - 1, (t .u, tt)))) tt r) (fact 𝓤 (Weighed t r))
   weigh-said t r = exE 𝓤 _ (λ ws. snd∗ 𝓤 (sem 𝓤 H A (lasts weigh.ended (κ, tt) (s, (need, (t .i - 1, (t .u, tt)))) ws)) (fact 𝓤 (Weighed t r)))
 
-  -- so the next turn's key is the least from there on
-  weighed-is : (t : Turn) (r : ℕ) → 0 < t .i → Weighed t r → r ≡ keyFrom (t .i - 1) (leastFit need (drop (t .i - 1) zs))
+  -- so the next turn's key says the least fit from there on
+  weighed-is : (t : Turn) (r : ℕ) → 0 < t .i → Weighed t r → Says need (t .i - 1) r (leastFit need (drop (t .i - 1) zs))
   weighed-is t r l p =
       let h : t .i - 1 < count = omega arith in
       let back : t .i ≡ t .i - 1 + 1 = omega arith in
-      p .0 ∙ ap (λ (k : ℕ). betterOf need (t .i - 1) (getD (now s) (t .i - 1) noHole .pages) k) (t .same ∙ ap (λ (n : ℕ). keyFrom n (leastFit need (drop n zs))) back)
-      ∙ sym (key-step (now s) count within count-fits need (t .i - 1) h (p .1))
+      subst (λ (k : ℕ). Says need (t .i - 1) k (leastFit need (drop (t .i - 1) zs))) (sym (p .0))
+      (key-step (now s) count within count-fits need need-fits (t .i - 1) (t .u) h (t .u-fits) (p .1) (subst (λ (n : ℕ). Says need n (t .u) (leastFit need (drop n zs))) back (t .same)))
 
   -- the call of `best_at`
   abbrev to-best : Turn → BestAt 𝓤 H A mem run .Ghost
-  to-best t = ((tt, tt, tt, (t .u, tt), (vint w64 (t .u) ∷ [], tt)), tt)
+  to-best t = ((tt, tt, tt, (need, (t .u, tt)), (vint w32 need ∷ [], (vint w64 (t .u) ∷ [], tt))), tt)
 
   goes-best : (t : Turn) → ent 𝓤 (emp 𝓤) (BestAt 𝓤 H A mem run .pre (to-best t))
-  goes-best t = qed W [] ∵ nothing ! $ owned ! u64 (Is u64) (uint-makes 𝓤 H A W w64) (t .u) _ (refl, t .u-fits) $ fjoin ! $ nothing ! $ join ! $ nothing ! $ move ! (1 ∷ 0 ∷ []) $ done !
+  goes-best t = qed W [] ∵ nothing ! $ owned ! u64 (Is u64) (uint-makes 𝓤 H A W w64) (t .u) _ (refl, t .u-fits) $ fjoin ! $ owned ! u32 (Is u32) (uint-makes 𝓤 H A W w32) need _ (refl, need-fits) $ fjoin ! $ nothing ! $ join ! $ nothing ! $ move ! (1 ∷ 0 ∷ []) $ done !
 
-  best-said : (t : Turn) (r : Best) → ent 𝓤 (ensured 𝓤 H A best.ended (best.clauses 𝓤 H A mem run) tt (t .u, tt) tt r) (fact 𝓤 (r ≡ bestAt (t .u)))
-  best-said t r = exE 𝓤 _ (λ ws. snd∗ 𝓤 (sem 𝓤 H A (lasts best.ended tt (t .u, tt) ws)) (fact 𝓤 (r ≡ bestAt (t .u))))
+  best-said : (t : Turn) (r : Best) → ent 𝓤 (ensured 𝓤 H A best.ended (best.clauses 𝓤 H A mem run) tt (need, (t .u, tt)) tt r) (fact 𝓤 (r ≡ bestAt need (t .u)))
+  best-said t r = exE 𝓤 _ (λ ws. snd∗ 𝓤 (sem 𝓤 H A (lasts best.ended tt (need, (t .u, tt)) ws)) (fact 𝓤 (r ≡ bestAt need (t .u))))
 
-  best-is : (t : Turn) (r : Best) → t .i ≤ 0 → r ≡ bestAt (t .u) → r ≡ bestOf (leastFit need zs)
+  best-is : (t : Turn) (r : Best) → t .i ≤ 0 → r ≡ bestAt need (t .u) → r ≡ bestOf (leastFit need zs)
   best-is t r l e =
       let none-left : t .i ≡ 0 = omega arith in
       let long : length zs ≡ count = length-take-le count (now s) within in
       let fits : length zs < 2 ^ 32 = omega arith in
-      e ∙ ap bestAt (t .same ∙ ap (λ (n : ℕ). keyFrom n (leastFit need (drop n zs))) none-left) ∙ key-end need zs fits
+      e ∙ key-end need (t .u) zs fits (t .u-fits) (subst (λ (n : ℕ). Says need n (t .u) (leastFit need (drop n zs))) none-left (t .same))
 
   exits : (r : Best) (u : Val) → r ≡ bestOf (leastFit need zs) → ent 𝓤 (⋆ 𝓤 H A (‵ (B.the-row .own r (u ∷ [])) ∷ ‵ Own ∷ (‵ (flft κ q) ⊛ ‵ ftrue) ∷ ‵ Rest ∷ [])) (Post u)
   exits r u e =
@@ -235,9 +235,9 @@ module _ {M : Type 1} (𝓤 : URA M) (H : Heap 𝓤) (A : Atoms 𝓤) (W : Given
           leaves-loop ! (load ! (from ! (stop !)) (look ! 3 refl)) $ exec ! (𝓣 .C) (𝓣 .Λ) En body.t-4 (atRet En Post) $
           use0 W (raw (BestAt 𝓤 H A mem run .pre (to-best t))) (goes-best t) $
           -- [what best_at asks; what s owns; the token; the rest; _6; …; _5; …; _4; …; _3; …; _2; …; _1; …; room for _0; …]
-          calls-at ! (fmOf 𝓤 H (W .laws) 𝓣) (BestAt 𝓤 H A mem run) known-best (to-best t) (and-then ! (load ! (from ! (stop !)) (look ! 8 refl)) (no-more !)) (λ u.
-          use1 W (later (some (λ (r : Best). (‵ ftrue ⊛ ‵ (B.the-row .own r (u ∷ []))) ⊛ raw (ensured 𝓤 H A best.ended (best.clauses 𝓤 H A mem run) tt (t .u, tt) tt r)))) (id⊢ 𝓤 _) $ await ! tt $ pick ! (λ r.
-          split ! $ move ! (1 ∷ []) $ use1 W (raw (fact 𝓤 (r ≡ bestAt (t .u)))) (best-said t r) $ heard ! (r ≡ bestAt (t .u)) (λ e. split ! $ let-go ! $
+          calls-at ! (fmOf 𝓤 H (W .laws) 𝓣) (BestAt 𝓤 H A mem run) known-best (to-best t) (and-then ! (load ! (from ! (stop !)) (look ! 10 refl)) (and-then ! (load ! (from ! (stop !)) (look ! 8 refl)) (no-more !))) (λ u.
+          use1 W (later (some (λ (r : Best). (‵ ftrue ⊛ ‵ (B.the-row .own r (u ∷ []))) ⊛ raw (ensured 𝓤 H A best.ended (best.clauses 𝓤 H A mem run) tt (need, (t .u, tt)) tt r)))) (id⊢ 𝓤 _) $ await ! tt $ pick ! (λ r.
+          split ! $ move ! (1 ∷ []) $ use1 W (raw (fact 𝓤 (r ≡ bestAt need (t .u)))) (best-said t r) $ heard ! (r ≡ bestAt need (t .u)) (λ e. split ! $ let-go ! $
           peeks ! B.the-row (Is B.the-row) (shows 𝓤 H A B.the-row) r (u ∷ []) (λ is.
           land ! (from ! (stop !)) (init ! 16 refl (LL.lawful B.the-type B′.the-laws 𝓤 H A W .typed r _ is .0)) $
           returns ! (look ! 16 refl) $ forget ! 4 refl $ forget ! 6 refl $ forget ! 8 refl $ forget ! 10 refl $ forget ! 12 refl $ forget ! 14 refl $ forget ! 16 refl $
@@ -252,7 +252,7 @@ module _ {M : Type 1} (𝓤 : URA M) (H : Heap 𝓤) (A : Atoms 𝓤) (W : Given
       loop-from t = loops ! 𝓣 Less (InvImage·wf (λ (t : Turn). t .i) (Nat·lt-wfRel .wf)) I turns t
 
       goes-on : Sq W (Ctx count noKey) (runs (𝓣 .C) (𝓣 .Λ) En body.t-3 (atRet En Post))
-      goes-on = first ! $ blocks ! $ loop-from (record { i = count; u = noKey; u-fits = lit< tt; up-to = omega arith; same = key-start (now s) count within count-fits need })
+      goes-on = first ! $ blocks ! $ loop-from (record { i = count; u = noKey; u-fits = lit< tt; up-to = omega arith; same = key-start (now s) count within count-fits need need-fits })
 
     walk : Is (ShrSlice (named 0) κ R) s (v ∷ []) → ent 𝓤 (onEntry 𝓤 H A f.signature (κ, tt) (q, tt) x at) (WpFn 𝓤 H (𝓣 .C) (𝓣 .Λ) code.function (v ∷ vint w32 count ∷ vint w32 need ∷ []) Post)
     walk p =
