@@ -4,6 +4,7 @@ use std::num::wrapping_sub_u32;
 ghost use mathlib.Core.Path.{_≡_};
 ghost use Prim.Native.Nat.{_+_, _*_, _<_, _≤_, _^_};
 ghost use mathlib.Core.Bool.{_&&_};
+ghost use lib.Dec.{leb, ltb};
 ghost use lib.ListN.{length, getD, set, take, drop};
 ghost use Rattle.model.specs.HoleStore.{leastFit};
 ghost use Rattle.model.specs.Lists.{every};
@@ -75,16 +76,23 @@ fn weigh(holes: &[Hole], need: u32, i: u32, best: u64) -> u64
     better(need, i, h.pages, best)
 }
 
-// The lowest index of the least length that is enough, of the first `count` holes. The last hole is weighed first.
+// Whether the hole at `i` is to be weighed: none is once a hole has just the pages needed, which shows as a key below `i`.
+fn going(i: u32, count: u32, best: u64) -> bool
+    ensures { λ r. ⌜ r ≡ (ltb i count && leb i best) ⌝ }
+{
+    if i < count { (i as u64) <= best } else { false }
+}
+
+// The lowest index of the least length that is enough, of the first `count` holes.
 pub fn scan(holes: &[Hole], count: u32, need: u32) -> Best
     requires { ⌜ count ≤ length (now holes) ⌝ }
     ensures { λ r. ⌜ r ≡ bestOf (leastFit need (take count (now (holes .entry)))) ⌝ }
 {
     let mut best: u64 = 18_446_744_073_709_551_615;
-    let mut i = count;
-    while 0 < i {
-        i -= 1;
+    let mut i: u32 = 0;
+    while going(i, count, best) {
         best = weigh(holes, need, i, best);
+        i += 1;
     }
     best_at(need, best)
 }
