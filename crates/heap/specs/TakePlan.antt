@@ -10,9 +10,9 @@ use lib.Dec.{eqb, leb}
 use lib.ListN.{length}
 use Rattle.classes.specs.declared.Shape.{Shape}
 use Rattle.classes.specs.Sound.{Sound}
-use Rattle.fields.specs.Field.{arena, class, page, frontier, partial, free, carved, prev, words, get}
+use Rattle.fields.specs.Field.{arena, class, page, frontier, partial, free, carved, prev, listed, virgin, words, get}
 use Rattle.fields.specs.Ranges.{maxPages}
-use Rattle.pages.specs.Stack.{latest}
+use Rattle.pages.specs.Stack.{latest, hasMore}
 use Rattle.heap.specs.declared.take_plan.Plan.{Plan}
 use Rattle.heap.specs.Take.{sound, walk, Filled, fillFrom}
 
@@ -33,10 +33,26 @@ pub record SupplyAsks (b : List ℕ) (sh : Shape) (q : ℕ) : Type 0 where
   pub carved : get b (page carved q) ≤ sh .capacity
   pub few : sh .capacity ≤ 4096
 
+-- the part of `sound` that reads the page's own words
+unfoldable pub headerFair : List ℕ → Shape → ℕ → ℕ → Bool
+headerFair b sh l q =
+    eqb (get b (page listed q)) l
+    && (leb (get b (page free q)) (get b (page carved q))
+    && (leb (get b (page carved q)) (sh .capacity)
+    && (leb (get b (page virgin q)) 1
+    && hasMore b sh q)))
+
 unfoldable pub share : ℕ → List ℕ → ℕ → Shape → ℕ → ℕ → ℕ → ℕ
 share n b c sh m code y =
     let q = code - 1 in
     cond (leb code (get b (arena frontier)) && (eqb (get b (page prev q)) y && sound n b c sh 1 m q)) (length (latest b sh q m)) 0
+
+-- the walk and the fill of a whole take
+abbrev pub walksFrom : ℕ → List ℕ → ℕ → Shape → Bool
+walksFrom n b c sh = walk n b c sh (sh .batch) (sh .batch) (get b (class partial c)) 0
+
+abbrev pub fills : List ℕ → ℕ → Shape → Filled
+fills b c sh = fillFrom b c sh (sh .batch) (sh .batch)
 
 pub record Foretold (p : Plan) (ok : Bool) (f : Filled) : Type 0 where
   pub fair : p .fair ≡ ok
