@@ -60,7 +60,7 @@ module _ (n : ℕ) (b : List ℕ) (hb : leb (words n) (length b) ≡ true) (c : 
 
 -- ---- one turn
 -- FREE, CARVED and the out bits
-abbrev isCount : Field → Bool
+abbrev pub isCount : Field → Bool
 isCount g = (eqb (region g) 4 && (ltb 3 (off g) && ltb (off g) 6)) || eqb (region g) 5
 
 pub record Turned (n : ℕ) (b b₁ : List ℕ) (c : ℕ) (sh : Shape) (k m x : ℕ) : Type 0 where
@@ -93,7 +93,7 @@ module _ (n : ℕ) (b : List ℕ) (hb : leb (words n) (length b) ≡ true) (c : 
     there = page-there 1 m page₁ (step .fair)
 
     drawn : (t : Field → Bool) → t (page free page₁) ≡ true → t (page carved page₁) ≡ true → ((i : ℕ) → t (out page₁ i) ≡ true) → Changes t b (draw b sh page₁ m)
-    drawn = draw-changes n b hb c sh (sd .few) 1 m page₁ there (step .fair)
+    drawn = draw-changes b sh (sd .few) m page₁ (leb-true _ _ (step .fair .within)) (step .fair .entries)
 
     pub drawn-kept : (g : Field) → ok g ≡ true → isCount g ≡ false → get (draw b sh page₁ m) g ≡ get b g
     drawn-kept g o f = drawn isCount refl refl (λ i. refl) .kept g o f
@@ -149,7 +149,7 @@ module _ (n : ℕ) (b : List ℕ) (hb : leb (words n) (length b) ≡ true) (c : 
 abbrev pub foreseen : Filled → Planned
 foreseen f = record { count = length (f .blocks); virgin = f .virgin }
 
-length-map : (f : ℕ → ℕ) (s : List ℕ) → length (map f s) ≡ length s
+pub length-map : (f : ℕ → ℕ) (s : List ℕ) → length (map f s) ≡ length s
 length-map f [] = refl
 length-map f (x ∷ s) = ap suc (length-map f s)
 

@@ -3,3 +3,4 @@ pub mod TakeDraws
 pub mod Walk
 pub mod Fill
 pub mod PlanSteps
+pub mod FillSteps

@@ -40,21 +40,20 @@ full-of m f k top l e =
     le-of : (f m : ℕ) → f - m ≡ 0 → f ≤ m
     le-of f m e = omega arith
 
-module _ (n : ℕ) (b : List ℕ) (hb : leb (words n) (length b) ≡ true) (c : ℕ) (sh : Shape) (few : sh .capacity ≤ 4096) (l m q : ℕ) (hq : ltb q n ≡ true)
-    (f : Fair n b c sh l m q) where
+module _ (b : List ℕ) (sh : Shape) (few : sh .capacity ≤ 4096) (m q : ℕ) (within : get b (page carved q) ≤ sh .capacity) (entries : every (λ i. ltb i (get b (page carved q))) (tops b q m (get b (page free q))) ≡ true) where
   latest-small : every small (latest b sh q m) ≡ true
   unfolding latest
   latest-small =
       let k = get b (page carved q) in
-      let w = leb-true (get b (page carved q)) (sh .capacity) (f .within) in
       every-append small (downs k (carvedNow b sh q m)) (reverse (tops b q m (get b (page free q)))) (downs-below k (carvedNow b sh q m) 4096 (omega arith))
-      (every-reverse small (tops b q m (get b (page free q))) (every-below k 4096 (omega arith) (tops b q m (get b (page free q))) (f .entries)))
+      (every-reverse small (tops b q m (get b (page free q))) (every-below k 4096 (omega arith) (tops b q m (get b (page free q))) entries))
 
   pub draw-changes : (t : Field → Bool) → t (page free q) ≡ true → t (page carved q) ≡ true → ((i : ℕ) → t (out q i) ≡ true) → Changes t b (draw b sh q m)
   unfolding draw
   draw-changes t hf hk ho =
       changes-put t b _ (page carved q) _ refl hk (changes-put t b _ (page free q) _ refl hf (marks-changes b q 1 t ho (latest b sh q m) latest-small))
 
+module _ (n : ℕ) (b : List ℕ) (hb : leb (words n) (length b) ≡ true) (c : ℕ) (sh : Shape) (few : sh .capacity ≤ 4096) (l m q : ℕ) (hq : ltb q n ≡ true) (f : Fair n b c sh l m q) where
   pub drawn-free : get (draw b sh q m) (page free q) ≡ get b (page free q) - m
   unfolding draw
   drawn-free =

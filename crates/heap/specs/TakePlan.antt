@@ -4,17 +4,19 @@
 --     Foretold     a plan: whether every test passes, and then what the fill will yield
 use Prim.Native.Nat.{ℕ, _+_, _-_, _<_, _≤_}
 use mathlib.Core.Bool.{Bool, true, cond, _&&_}
-use mathlib.Core.List.{List}
+use mathlib.Core.List.{List, _++_, map}
 use mathlib.Core.Path.{_≡_}
 use lib.Dec.{eqb, leb}
-use lib.ListN.{length}
+use lib.ListN.{length, drop}
 use Rattle.classes.specs.declared.Shape.{Shape}
 use Rattle.classes.specs.Sound.{Sound}
-use Rattle.fields.specs.Field.{arena, class, page, frontier, partial, free, carved, prev, listed, virgin, words, get}
+use Rattle.fields.specs.Field.{arena, class, page, frontier, partial, free, carved, next, prev, listed, virgin, words, get}
 use Rattle.fields.specs.Ranges.{maxPages}
-use Rattle.pages.specs.Stack.{latest, hasMore}
+use Rattle.model.specs.Page.{wordOf}
+use Rattle.pages.specs.Stack.{latest, draw, hasMore, spliced}
+use Rattle.pages.specs.Asks.{DrawAsks}
 use Rattle.heap.specs.declared.take_plan.Plan.{Plan}
-use Rattle.heap.specs.Take.{sound, walk, Filled, fillFrom}
+use Rattle.heap.specs.Take.{sound, walk, Filled, relist, fillFrom}
 
 pub record TakeAsks (n : ℕ) (b : List ℕ) (c : ℕ) (sh : Shape) : Type 0 where
   pub known : c < 76
@@ -58,3 +60,29 @@ pub record Foretold (p : Plan) (ok : Bool) (f : Filled) : Type 0 where
   pub fair : p .fair ≡ ok
   pub count : ok ≡ true → p .count ≡ length (f .blocks)
   pub virgin : ok ≡ true → p .virgin ≡ f .virgin
+
+-- ---- the fill: one turn takes up to m blocks of the head page, to the places below `at`
+pub record TurnAsks (b : List ℕ) (c : ℕ) (sh : Shape) (l : List ℕ) (at m : ℕ) : Type 0 where
+  pub known : c < 76
+  pub some : 0 < get b (class partial c)
+  pub draws : DrawAsks b sh (get b (class partial c) - 1) l at m
+  pub behind : words (get b (page next (get b (class partial c) - 1))) ≤ length b
+  pub before : words (get b (page prev (get b (class partial c) - 1))) ≤ length b
+
+-- it answered r, and left the book b′ and the list l′
+pub record GaveTurn (r : ℕ) (b′ l′ b : List ℕ) (c : ℕ) (sh : Shape) (l : List ℕ) (at m : ℕ) : Type 0 where
+  pub count : r ≡ length (latest b sh (get b (class partial c) - 1) m)
+  pub meta : b′ ≡ relist (draw b sh (get b (class partial c) - 1) m) c sh (get b (class partial c) - 1)
+  pub list : l′ ≡ spliced l (at - length (latest b sh (get b (class partial c) - 1) m)) (map (wordOf sh (get b (class partial c) - 1)) (latest b sh (get b (class partial c) - 1) m))
+
+-- the walk passes, whatever the arena's length, and `at` is what the fill yields
+pub record FillAsks (b : List ℕ) (c : ℕ) (sh : Shape) (l : List ℕ) (at : ℕ) : Type 0 where
+  pub pages : ℕ
+  pub asks : TakeAsks pages b c sh
+  pub walks : walksFrom pages b c sh ≡ true
+  pub count : at ≡ length (fills b c sh .blocks)
+  pub places : at ≤ length l
+
+pub record Filling (b′ l′ : List ℕ) (f : Filled) (l : List ℕ) : Type 0 where
+  pub meta : b′ ≡ f .book
+  pub list : l′ ≡ f .blocks ++ drop (length (f .blocks)) l
