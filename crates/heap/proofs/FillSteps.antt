@@ -20,7 +20,7 @@ use Rattle.pages.specs.Asks.{DrawAsks, UnlinkAsks}
 use Rattle.pages.proofs.Spliced.{length-spliced}
 use Rattle.heap.specs.Take.{walk, Filled, filledNone, thenFilled, relist, fillFrom}
 use Rattle.heap.specs.TakePlan.{TakeAsks, fills, TurnAsks, GaveTurn, FillAsks, Filling}
-use Rattle.heap.proofs.TakePages.{Fair, whole-below, latest-some, positive}
+use Rattle.heap.proofs.TakePages.{Fair, whole-below, latest-some, latest-most, positive}
 use Rattle.heap.proofs.TakeDraws.{draw-changes}
 use Rattle.heap.proofs.Walk.{stops, stops-full, some-wanted, some-page, Step, walk-below, walk-step}
 use Rattle.heap.proofs.Fill.{isCount, Turned, turned, fill-stops, length-map}
@@ -69,6 +69,8 @@ module _ (b₀ : List ℕ) (c : ℕ) (sh : Shape) (l₀ : List ℕ) where
     pub places : at ≤ length l
     pub book : fillFrom b c sh fuel m .book ≡ fills b₀ c sh .book
     pub list : fillFrom b c sh fuel m .blocks ++ drop at l ≡ fills b₀ c sh .blocks ++ drop (length (fills b₀ c sh .blocks)) l₀
+    pub long : length b ≡ length b₀
+    pub same : length l ≡ length l₀
 
   pub fill-starts : (at : ℕ) → FillAsks b₀ c sh l₀ at → FillInv b₀ l₀ at (sh .batch)
   fill-starts at a =
@@ -82,6 +84,8 @@ module _ (b₀ : List ℕ) (c : ℕ) (sh : Shape) (l₀ : List ℕ) where
         places = a .places;
         book = refl;
         list = ap (λ z. fills b₀ c sh .blocks ++ drop z l₀) (a .count);
+        long = refl;
+        same = refl;
       }
 
 -- what a turn is of, where something is still to be written
@@ -155,3 +159,80 @@ module _ (b : List ℕ) (c : ℕ) (sh : Shape) (l : List ℕ) (at m : ℕ) where
       go : (k : ℕ) → at ≡ length (fillFrom b c sh k m .blocks) → walk (i .pages) b c sh k m code 0 ≡ true → TurnAsks b c sh l at m
       go zero e w = absurd (writes (i .pages) zero z (i .asks) e w .0 refl)
       go (suc k) e w = asks-of (i .pages) k (i .asks) (i .places) (turning (i .pages) k z (i .asks) e w)
+
+-- words laid right before the place from which the list is as it was
+drop-spliced : (l ws : List ℕ) (at : ℕ) → length ws ≤ at → at ≤ length l → drop (at - length ws) (spliced l (at - length ws) ws) ≡ ws ++ drop at l
+unfolding spliced
+drop-spliced l ws at h p =
+    let e : at - length ws + length ws ≡ at = omega arith in
+    drop-at (take (at - length ws) l) (ws ++ drop (at - length ws + length ws) l) (at - length ws) (length-take-le (at - length ws) l (omega arith))
+    ∙ ap (λ z. ws ++ drop z l) e
+
+module _ (b₀ : List ℕ) (c : ℕ) (sh : Shape) (l₀ : List ℕ) (b b′ l l′ : List ℕ) (at m r : ℕ) where
+  asks-after : (n k : ℕ) → TakeAsks n b c sh → Turning b c sh l at m n k → TakeAsks n (book₁ b c sh l at m) c sh
+  asks-after n k a t = record { known = a .known; shape = a .shape; few = a .few; long = rw (t .turn .long) (a .long); bound = rw (t .turn .frontier) (a .bound) }
+
+  after : (k : ℕ) (i : FillInv b₀ c sh l₀ b l at m) → m ≤ suc k → fillFrom b c sh (suc k) m .book ≡ fills b₀ c sh .book
+      → fillFrom b c sh (suc k) m .blocks ++ drop at l ≡ fills b₀ c sh .blocks ++ drop (length (fills b₀ c sh .blocks)) l₀
+      → Turning b c sh l at m (i .pages) k → GaveTurn r b′ l′ b c sh l at m → FillInv b₀ c sh l₀ b′ l′ (at - r) (m - r)
+  after k i enough bk ls t g =
+      let d = latest b sh (get b (class partial c) - 1) m in
+      let ws = map (wordOf sh (get b (class partial c) - 1)) d in
+      let f₁ = fillFrom (book₁ b c sh l at m) c sh k (m - length d) in
+      let goes = fill-goes b c sh l at m k (t .goes) in
+      let lw : length ws ≡ length d = length-map (wordOf sh (get b (class partial c) - 1)) d in
+      let most : length ws ≤ at = omega (arith, t .count) in
+      let l₁ : l′ ≡ spliced l (at - length ws) ws = g .list ∙ rw lw in
+      let keeps : length (spliced l (at - length ws) ws) ≡ length l = length-spliced l (at - length ws) ws (omega (arith, i .places)) in
+      let drops : drop (at - length d) l′ ≡ ws ++ drop at l = ap (λ z. drop (at - length d) z) l₁ ∙ ap (λ z. drop (at - z) (spliced l (at - length ws) ws)) (sym lw) ∙ drop-spliced l ws at most (i .places) in
+      rw (g .meta, g .count) (record {
+        pages = i .pages;
+        fuel = k;
+        asks = asks-after (i .pages) k (i .asks) t;
+        enough = omega (arith, t .some);
+        walks = t .turn .walks;
+        count = omega (arith, t .count);
+        places = rw (ap length l₁ ∙ keeps) (omega (arith, i .places));
+        book = sym (ap (λ z. z .book) goes) ∙ bk;
+        list = ap (λ z. f₁ .blocks ++ z) drops ∙ sym (append-assoc (f₁ .blocks) ws (drop at l)) ∙ ap (λ z. z .blocks ++ drop at l) (sym goes) ∙ ls;
+        long = t .turn .long ∙ i .long;
+        same = ap length l₁ ∙ keeps ∙ i .same;
+      })
+
+  pub fill-again : (at ≡ 0 → ⊥) → FillInv b₀ c sh l₀ b l at m → GaveTurn r b′ l′ b c sh l at m → FillInv b₀ c sh l₀ b′ l′ (at - r) (m - r)
+  fill-again z i g = go (i .fuel) (i .enough) (i .count) (i .walks) (i .book) (i .list)
+    where
+      go : (k : ℕ) → m ≤ k → at ≡ length (fillFrom b c sh k m .blocks) → walk (i .pages) b c sh k m (get b (class partial c)) 0 ≡ true → fillFrom b c sh k m .book ≡ fills b₀ c sh .book
+          → fillFrom b c sh k m .blocks ++ drop at l ≡ fills b₀ c sh .blocks ++ drop (length (fills b₀ c sh .blocks)) l₀ → FillInv b₀ c sh l₀ b′ l′ (at - r) (m - r)
+      go zero n e w bk ls = absurd (writes b c sh l at m (i .pages) zero z (i .asks) e w .0 refl)
+      go (suc k) n e w bk ls = after k i n bk ls (turning b c sh l at m (i .pages) k z (i .asks) e w) g
+
+-- nothing is left to write: the fill yields nothing more
+module _ (b₀ : List ℕ) (c : ℕ) (sh : Shape) (l₀ : List ℕ) (b l : List ℕ) (at m : ℕ) where
+  ended : (n k : ℕ) → m ≤ k → walk n b c sh k m (get b (class partial c)) 0 ≡ true → 0 ≡ length (fillFrom b c sh k m .blocks) → fillFrom b c sh k m ≡ filledNone b
+  ended n k h w e = by-cases (stops m (get b (class partial c))) (fill-stops b c sh k m) (λ s. absurd (go k h w e s))
+    where
+      go : (k : ℕ) → m ≤ k → walk n b c sh k m (get b (class partial c)) 0 ≡ true → 0 ≡ length (fillFrom b c sh k m .blocks) → stops m (get b (class partial c)) ≡ false → ⊥
+      go zero h w e s = some-wanted m (get b (class partial c)) s (omega arith)
+      go (suc k) h w e s =
+          let st = walk-step n b c sh k m (get b (class partial c)) 0 s w in
+          omega (arith, fill-length b c sh l at m k s, latest-some b sh (get b (class partial c) - 1) m (some-wanted m (get b (class partial c)) s) (st .fair .more))
+
+  pub fill-done : at ≡ 0 → FillInv b₀ c sh l₀ b l at m → Filling b l (fills b₀ c sh) l₀
+  fill-done z i =
+      let f = ended (i .pages) (i .fuel) (i .enough) (i .walks) (sym z ∙ i .count) in
+      let ls : fillFrom b c sh (i .fuel) m .blocks ++ drop 0 l ≡ fills b₀ c sh .blocks ++ drop (length (fills b₀ c sh .blocks)) l₀ = rw z at (i .list) in
+      record { meta = sym (ap (λ t. t .book) f) ∙ i .book; list = sym (ap (λ t. t .blocks ++ drop 0 l) f) ∙ ls }
+
+  pub turn-written : (r : ℕ) (b′ l′ : List ℕ) → (at ≡ 0 → ⊥) → FillInv b₀ c sh l₀ b l at m → GaveTurn r b′ l′ b c sh l at m → r ≤ at
+  turn-written r b′ l′ z i g = omega (arith, g .count, turn-asks b c sh l at m b₀ l₀ z i .draws .room)
+
+  pub turn-wanted : (r : ℕ) (b′ l′ : List ℕ) → GaveTurn r b′ l′ b c sh l at m → r ≤ m
+  turn-wanted r b′ l′ g = omega (arith, g .count, latest-most b sh (get b (class partial c) - 1) m)
+
+  pub turn-some : (r : ℕ) (b′ l′ : List ℕ) → (at ≡ 0 → ⊥) → FillInv b₀ c sh l₀ b l at m → GaveTurn r b′ l′ b c sh l at m → at - r < at
+  turn-some r b′ l′ z i g = go (i .fuel) (i .count) (i .walks)
+    where
+      go : (k : ℕ) → at ≡ length (fillFrom b c sh k m .blocks) → walk (i .pages) b c sh k m (get b (class partial c)) 0 ≡ true → at - r < at
+      go zero e w = absurd (writes b c sh l at m (i .pages) zero z (i .asks) e w .0 refl)
+      go (suc k) e w = let t = turning b c sh l at m (i .pages) k z (i .asks) e w in omega (arith, g .count, t .some, z)

@@ -17,7 +17,7 @@ use Rattle.pages.specs.Stack.{tops, latest, hasMore}
 use Rattle.heap.specs.Take.{sound, walk}
 use Rattle.heap.specs.declared.take_plan.Plan.{Plan}
 use Rattle.heap.specs.TakePlan.{TakeAsks, TopsAsks, SupplyAsks, headerFair, share, walksFrom, fills, Foretold}
-use Rattle.heap.proofs.TakePages.{Fair, sound-fair, fair-sound, whole-below, latest-length, latest-some, positive}
+use Rattle.heap.proofs.TakePages.{Fair, sound-fair, fair-sound, whole-below, latest-length, latest-some, latest-most, positive}
 use Rattle.heap.proofs.Walk.{Planned, planned, planned-stops, planned-goes, stops, stops-full, stops-none, walk-stops, walk-step}
 use Rattle.heap.proofs.Fill.{foreseen, fill-planned}
 
@@ -200,17 +200,11 @@ module _ (n : ℕ) (b : List ℕ) (c : ℕ) (sh : Shape) where
       })
       (λ t. absurd (h (rw t at e)))
 
-  latest-most : (q m : ℕ) → length (latest b sh q m) ≤ m
-  latest-most q m = rw (latest-length b sh q m) (most m (get b (page free q)) (sh .capacity - get b (page carved q)))
-    where
-      most : (m f r : ℕ) → min (m - f) r + min m f ≤ m
-      most m f r = omega arith
-
   pub turn-most : (j m code y : ℕ) → j ≡ share n b c sh m code y → j ≤ m
   unfolding share
   turn-most j m code y e =
       by-cases (leb code (get b (arena frontier)) && (eqb (get b (page prev (code - 1))) y && sound n b c sh 1 m (code - 1)))
-      (λ t. let z : j ≡ length (latest b sh (code - 1) m) = rw t at e in omega (arith, latest-most (code - 1) m))
+      (λ t. let z : j ≡ length (latest b sh (code - 1) m) = rw t at e in omega (arith, latest-most b sh (code - 1) m))
       (λ t. let z : j ≡ 0 = rw t at e in omega arith)
 
   goes : (m code : ℕ) → (m ≡ 0 → ⊥) → (code ≡ 0 → ⊥) → stops m code ≡ false
@@ -232,7 +226,7 @@ module _ (n : ℕ) (b : List ℕ) (c : ℕ) (sh : Shape) where
   again k j code y left x v v′ h z l l′ w p u f o ev ex =
       let e = goes left code h z in
       let g = planned-goes b sh k left code e in
-      let most = latest-most (code - 1) left in
+      let most = latest-most b sh (code - 1) left in
       let bl = f .blocks in
       record {
         fuel = k;

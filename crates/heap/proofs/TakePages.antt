@@ -127,3 +127,9 @@ gives m f k top l e =
 pub latest-some : (b : List ℕ) (sh : Shape) (q m : ℕ) → (m ≡ 0 → ⊥) → hasMore b sh q ≡ true → 1 ≤ length (latest b sh q m)
 unfolding hasMore
 latest-some b sh q m z e = rw (latest-length b sh q m) (gives m (get b (page free q)) (get b (page carved q)) (sh .capacity) (positive m z) e)
+
+pub latest-most : (b : List ℕ) (sh : Shape) (q m : ℕ) → length (latest b sh q m) ≤ m
+latest-most b sh q m = rw (latest-length b sh q m) (most m (get b (page free q)) (sh .capacity - get b (page carved q)))
+  where
+    most : (m f r : ℕ) → min (m - f) r + min m f ≤ m
+    most m f r = omega arith

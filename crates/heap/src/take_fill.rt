@@ -25,3 +25,17 @@ fn fill_page(meta: &mut [u32], c: u32, shape: Shape, list: &mut [u32], at: u32, 
     relist(meta, c, shape, q);
     j
 }
+
+// The list's first `count` places, where the partial list gives just that many.
+pub fn fill(meta: &mut [u32], c: u32, shape: Shape, list: &mut [u32], count: u32)
+    requires { ⌜ FillAsks (now meta) c shape (now list) count ⌝ }
+    ensures { λ _. ⌜ Filling (now (meta .exit)) (now (list .exit)) (fills (now (meta .entry)) c shape) (now (list .entry)) ⌝ }
+{
+    let mut at = count;
+    let mut m = shape.batch;
+    while at != 0 {
+        let j = fill_page(meta, c, shape, list, at, m);
+        at -= j;
+        m -= j;
+    }
+}
