@@ -168,6 +168,9 @@ drop-spliced l ws at h p =
     drop-at (take (at - length ws) l) (ws ++ drop (at - length ws + length ws) l) (at - length ws) (length-take-le (at - length ws) l (omega arith))
     ∙ ap (λ z. ws ++ drop z l) e
 
+relaid : (xs ys ws t u whole : List ℕ) → u ≡ ws ++ t → ys ≡ xs ++ ws → ys ++ t ≡ whole → xs ++ u ≡ whole
+relaid xs ys ws t u whole e f g = rw e (sym (append-assoc xs ws t) ∙ ap (λ z. z ++ t) (sym f) ∙ g)
+
 module _ (b₀ : List ℕ) (c : ℕ) (sh : Shape) (l₀ : List ℕ) (b b′ l l′ : List ℕ) (at m r : ℕ) where
   asks-after : (n k : ℕ) → TakeAsks n b c sh → Turning b c sh l at m n k → TakeAsks n (book₁ b c sh l at m) c sh
   asks-after n k a t = record { known = a .known; shape = a .shape; few = a .few; long = rw (t .turn .long) (a .long); bound = rw (t .turn .frontier) (a .bound) }
@@ -194,7 +197,7 @@ module _ (b₀ : List ℕ) (c : ℕ) (sh : Shape) (l₀ : List ℕ) (b b′ l l�
         count = omega (arith, t .count);
         places = rw (ap length l₁ ∙ keeps) (omega (arith, i .places));
         book = sym (ap (λ z. z .book) goes) ∙ bk;
-        list = ap (λ z. f₁ .blocks ++ z) drops ∙ sym (append-assoc (f₁ .blocks) ws (drop at l)) ∙ ap (λ z. z .blocks ++ drop at l) (sym goes) ∙ ls;
+        list = relaid (f₁ .blocks) (fillFrom b c sh (suc k) m .blocks) ws (drop at l) (drop (at - length d) l′) _ drops (ap (λ z. z .blocks) goes) ls;
         long = t .turn .long ∙ i .long;
         same = ap length l₁ ∙ keeps ∙ i .same;
       })

@@ -4,3 +4,5 @@ pub mod Walk
 pub mod Fill
 pub mod PlanSteps
 pub mod FillSteps
+pub mod TakeAlone
+pub mod TakeParked

@@ -14,6 +14,8 @@ use Rattle.fields.specs.Field.{arena, class, page, frontier, partial, free, car
 use Rattle.fields.specs.Ranges.{maxPages}
 use Rattle.model.specs.Page.{wordOf}
 use Rattle.pages.specs.Stack.{latest, draw, hasMore, spliced}
+use Rattle.pages.specs.Links.{top, wake}
+use Rattle.pages.specs.declared.Park.{Park}
 use Rattle.pages.specs.Asks.{DrawAsks}
 use Rattle.heap.specs.declared.take_plan.Plan.{Plan}
 use Rattle.heap.specs.Take.{sound, walk, Filled, relist, fillFrom}
@@ -60,6 +62,16 @@ pub record Foretold (p : Plan) (ok : Bool) (f : Filled) : Type 0 where
   pub fair : p .fair ≡ ok
   pub count : ok ≡ true → p .count ≡ length (f .blocks)
   pub virgin : ok ≡ true → p .virgin ≡ f .virgin
+
+-- ---- a store: the class has no partial page, and the store has one
+pub record ParkedAsks (n : ℕ) (b : List ℕ) (c : ℕ) (sh : Shape) (k : Park) : Type 0 where
+  pub asks : TakeAsks n b c sh
+  pub alone : get b (class partial c) ≡ 0
+  pub some : 0 < get b (class (top k) c)
+
+-- its newest page heads the partial list
+abbrev pub woken : List ℕ → ℕ → Park → List ℕ
+woken b c k = wake b c k (get b (class (top k) c) - 1)
 
 -- ---- the fill: one turn takes up to m blocks of the head page, to the places below `at`
 pub record TurnAsks (b : List ℕ) (c : ℕ) (sh : Shape) (l : List ℕ) (at m : ℕ) : Type 0 where

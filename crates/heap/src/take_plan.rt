@@ -7,9 +7,13 @@ ghost use lib.ListN.{length};
 ghost use Rattle.fields.specs.Field.{page, virgin, words, get};
 ghost use Rattle.model.specs.Lists.{every};
 ghost use Rattle.pages.specs.Stack.{tops, latest};
-ghost use Rattle.heap.specs.Take.{sound};
-ghost use Rattle.heap.specs.TakePlan.{TakeAsks, TopsAsks, SupplyAsks, headerFair, share, walksFrom, fills, Foretold};
+ghost use Rattle.heap.specs.Take.{sound, parkFair};
+ghost use Rattle.heap.specs.TakePlan.{TakeAsks, TopsAsks, SupplyAsks, headerFair, share, walksFrom, fills, Foretold, ParkedAsks, woken};
 use classes::Shape;
+use pages::Park;
+
+// No store has more pages.
+const MAX_PARKED: u32 = 256;
 
 // Whether every test passed; then how many blocks the fill will give, and whether all are virgin.
 pub struct Plan {
@@ -142,5 +146,49 @@ pub fn plan_partial(meta: &[u32], n: u32, c: u32, shape: Shape) -> Plan
         fair: code <= fields::arena::frontier(meta),
         count: shape.batch,
         virgin,
+    }
+}
+
+// The newest page of a store is one that a take can use.
+fn park_fair(meta: &[u32], n: u32, c: u32, shape: Shape, park: Park) -> bool
+    requires { ⌜ ParkedAsks n (now meta) c shape park ⌝ }
+    ensures { λ r. ⌜ r ≡ parkFair n (now (meta .entry)) c shape park ⌝ }
+{
+    let code = pages::store_top(meta, c, park);
+    let frontier = fields::arena::frontier(meta);
+    if code > frontier {
+        return false;
+    }
+    let count = pages::store_count(meta, c, park);
+    if count == 0 {
+        return false;
+    }
+    if count > MAX_PARKED {
+        return false;
+    }
+    if !page_sound(meta, n, c, shape, 0, shape.batch, code - 1) {
+        return false;
+    }
+    fields::page::next(meta, code - 1) <= frontier
+}
+
+// The newest page of a store, as the partial list's only one.
+pub fn plan_parked(meta: &[u32], n: u32, c: u32, shape: Shape, park: Park) -> Plan
+    requires { ⌜ ParkedAsks n (now meta) c shape park ⌝ }
+    ensures { λ r. ⌜ Foretold r (parkFair n (now (meta .entry)) c shape park) (fills (woken (now (meta .entry)) c park) c shape) ⌝ }
+{
+    if !park_fair(meta, n, c, shape, park) {
+        return Plan {
+            fair: false,
+            count: 0,
+            virgin: false,
+        };
+    }
+    let q = pages::store_top(meta, c, park) - 1;
+    let count = supply(meta, shape, q, shape.batch);
+    Plan {
+        fair: true,
+        count,
+        virgin: fields::page::virgin(meta, q) == 1,
     }
 }
