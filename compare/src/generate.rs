@@ -1,6 +1,7 @@
 //! Random plans, by scenario: each reaches some corner of document 01's rules that a plain mix would seldom reach.
 
 use crate::call::Kind;
+use crate::oracle;
 use crate::plan::{Intent, Piece, Place, Plan, Portion, Step};
 use crate::random::Random;
 use crate::words::{Family, HOST_ALL, HOST_COMMIT, HOST_RESERVE, MAX_PAGES};
@@ -13,19 +14,20 @@ pub struct Scenario {
     make: fn(&mut Maker),
 }
 
-pub const SCENARIOS: [Scenario; 12] = [
+pub const SCENARIOS: [Scenario; 13] = [
     Scenario { name: "direct", weight: 300, needs: &[Kind::Commit], make: direct },
     Scenario { name: "lengths", weight: 120, needs: &[Kind::Commit], make: lengths },
     Scenario { name: "growth", weight: 120, needs: &[Kind::GrowFrontier], make: growth },
     Scenario { name: "refused reservation", weight: 20, needs: &[Kind::Commit], make: refused_reservation },
     Scenario { name: "long holes", weight: 40, needs: &[Kind::Commit], make: long_holes },
+    Scenario { name: "page limit", weight: 20, needs: &[Kind::Commit], make: page_limit },
     Scenario { name: "many holes", weight: 6, needs: &[Kind::Commit], make: many_holes },
     Scenario { name: "mixed", weight: 300, needs: &[Kind::TakeBlocks], make: mixed },
     Scenario { name: "exhaustion", weight: 100, needs: &[Kind::TakeBlocks], make: exhaustion },
     Scenario { name: "small stores", weight: 12, needs: &[Kind::TakeBlocks], make: small_stores },
     Scenario { name: "medium stores", weight: 8, needs: &[Kind::MediumTakeBlocks], make: medium_stores },
     Scenario { name: "chunks", weight: 60, needs: &[Kind::ReleaseBinChunks], make: chunks },
-    Scenario { name: "chunk limit", weight: 1, needs: &[Kind::ReleaseBinChunks], make: chunk_limit },
+    Scenario { name: "chunk limit", weight: 2, needs: &[Kind::ReleaseBinChunks], make: chunk_limit },
 ];
 
 /// A plan of the named scenario, or of one of those whose calls are asked. `pages` sets the arena's length.
@@ -238,7 +240,7 @@ fn refused_reservation(maker: &mut Maker) {
 fn long_holes(maker: &mut Maker) {
     maker.arena(140_000, MAX_PAGES);
     maker.reserve();
-    let limit = 65_536;
+    let limit = HOLE_PAGES_LIMIT;
     for _ in 0..maker.random.between(20, 80) {
         let pages = match maker.random.below(8) {
             0 => limit + maker.random.below(3),
@@ -259,26 +261,68 @@ fn long_holes(maker: &mut Maker) {
     }
 }
 
+/// Just 65,536 pages in holes, one page less and one more, in a few calls.
+fn page_limit(maker: &mut Maker) {
+    maker.arena(65_560, 66_000);
+    let long = HOLE_PAGES_LIMIT - maker.random.below(3);
+    maker.push(HOST_ALL, Intent::Commit { pages: long });
+    maker.push(HOST_ALL, Intent::Commit { pages: 6 });
+    maker.push(HOST_ALL, Intent::ReleaseAt { first: 0, pages: long });
+    for page in 0..4 {
+        maker.add(Intent::ReleaseAt { first: long + page, pages: 1 });
+    }
+    let pages = maker.random.between(1, 3);
+    maker.add(Intent::Commit { pages });
+    maker.add(Intent::ReleaseAt { first: long + 4, pages: 2 });
+}
+
+/// The most pages in holes together.
+const HOLE_PAGES_LIMIT: u64 = 65_536;
+
+/// The most holes that are stored.
+pub const HOLE_LIMIT: u64 = 4_096;
+
 /// Up to 4,096 holes and on: single pages of one long run are given back, every other one, then all goes on there.
 fn many_holes(maker: &mut Maker) {
     maker.arena(9_000, 12_000);
     maker.push(HOST_ALL, Intent::Commit { pages: u64::from(maker.length.saturating_sub(200).max(1)) });
-    let last = maker.random.between(4_090, 4_110);
+    let last = maker.random.between(HOLE_LIMIT - 6, HOLE_LIMIT + 14);
     for hole in 0..last {
         let pages = if maker.random.chance(1, 40) { 2 } else { 1 };
         maker.push(HOST_ALL, Intent::ReleaseAt { first: 1 + 2 * hole, pages });
     }
     for _ in 0..maker.random.between(300, 900) {
-        match maker.random.below(12) {
-            0..=2 => maker.add(Intent::Commit { pages: 1 }),
-            3 => maker.add(Intent::Commit { pages: 2 }),
-            4 => maker.push(HOST_ALL - HOST_COMMIT, Intent::Commit { pages: 1 }),
-            5..=8 => maker.add(Intent::Release { piece: Piece::Front(1) }),
-            9 => maker.add(Intent::Release { piece: Piece::Front(3) }),
-            10 => maker.direct_step(),
-            _ => maker.look(),
-        }
+        hole_limit_step(maker);
     }
+}
+
+fn hole_limit_step(maker: &mut Maker) {
+    match maker.random.below(12) {
+        0..=2 => maker.add(Intent::Commit { pages: 1 }),
+        3 => maker.add(Intent::Commit { pages: 2 }),
+        4 => maker.push(HOST_ALL - HOST_COMMIT, Intent::Commit { pages: 1 }),
+        5..=8 => maker.add(Intent::Release { piece: Piece::Front(1) }),
+        9 => maker.add(Intent::Release { piece: Piece::Front(3) }),
+        10 => maker.direct_step(),
+        _ => maker.look(),
+    }
+}
+
+/// Steps where nearly 4,096 holes of one page are stored and the direct calls hold the pages from `first` on: longer
+/// holes up to the limit, one that is cut and given back there, then others.
+pub fn at_hole_limit(random: &mut Random, first: u64, steps: usize) -> Vec<Step> {
+    let random = Random::new(random.word());
+    let mut maker = Maker { random, pages: None, length: 40, steps: Vec::new(), asked: |_| true };
+    for hole in 0..6 {
+        maker.push(HOST_ALL, Intent::ReleaseAt { first: first + 5 * hole, pages: if hole < 2 { 3 } else { 1 } });
+    }
+    maker.push(HOST_ALL - HOST_COMMIT, Intent::Commit { pages: 2 });
+    maker.push(HOST_ALL - HOST_COMMIT, Intent::Commit { pages: 1 });
+    maker.push(HOST_ALL, Intent::Report);
+    while maker.steps.len() < steps {
+        hole_limit_step(&mut maker);
+    }
+    maker.steps
 }
 
 fn mixed(maker: &mut Maker) {
@@ -325,7 +369,7 @@ fn stores(maker: &mut Maker, family: Family, class: u32, runs: u64) {
 /// 4 empty pages, 256 cold ones, and more that go to the arena.
 fn small_stores(maker: &mut Maker) {
     let class = maker.random.pick(&[36, 40, 42, 44, 45, 50, 63]);
-    let runs = maker.random.between(255, 300);
+    let runs = maker.random.between(258, 268);
     maker.arena(310, 700);
     stores(maker, Family::Small, class, runs);
 }
@@ -333,7 +377,8 @@ fn small_stores(maker: &mut Maker) {
 /// 32 empty spans or 8 MiB of them, 256 cold ones, and more that go to the arena.
 fn medium_stores(maker: &mut Maker) {
     let class = maker.random.below(12) as u32;
-    let runs = maker.random.between(285, 310);
+    let empty = (128 / u64::from(oracle::run_pages(Family::Medium, class))).min(32);
+    let runs = empty + 256 + maker.random.between(1, 6);
     maker.arena(900, 2_600);
     stores(maker, Family::Medium, class, runs);
 }

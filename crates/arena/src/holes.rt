@@ -2,14 +2,15 @@
 use model::Hole;
 ghost use mathlib.Core.Path.{_≡_};
 ghost use Prim.Native.Nat.{_+_, _*_, _<_, _≤_, _^_};
-ghost use mathlib.Core.Bool.{_&&_};
+ghost use mathlib.Core.Bool.{_&&_, cond};
+ghost use lib.Dec.{ltb};
 ghost use lib.ListN.{length, getD, set, take, drop};
 ghost use Rattle.model.specs.HoleStore.{leastFit};
 ghost use Rattle.model.specs.Lists.{every};
-ghost use Rattle.fields.specs.Field.{hole, start, pages, word};
+ghost use Rattle.fields.specs.Field.{hole, start, pages, word, Has};
 ghost use Rattle.arena.specs.Load.{loadHole, loadHoles};
 ghost use Rattle.arena.specs.Fair.{holeFair};
-ghost use Rattle.arena.specs.Scan.{noHole, betterOf, bestAt, bestOf};
+ghost use Rattle.arena.specs.Scan.{noHole, noKey, key, betterOf, bestAt, bestOf};
 
 pub fn hole_at(holes: &[Hole], i: usize) -> Hole
     requires { ⌜ i < length (now holes) ⌝ }
@@ -31,15 +32,23 @@ pub struct Best {
     pub pages: u32,
 }
 
-// The key of the hole at `i`, of so many pages, where that is enough and the key is less; else the best key before it.
-// A key has the pages in its upper half and the index in its lower one, so the least key is the lowest index of the least length.
+// The key of the hole at `i`, of so many pages: the pages in its upper half, the index in its lower one, so that the least key is the
+// lowest index of the least length. Too few pages have the key of none, the greatest number.
+fn key_of(need: u32, i: u32, pages: u32) -> u64
+    ensures { λ r. ⌜ r ≡ cond (ltb pages need) noKey (key i pages) ⌝ }
+{
+    if pages < need {
+        18_446_744_073_709_551_615
+    } else {
+        (pages as u64) * 4_294_967_296 + (i as u64)
+    }
+}
+
+// The lesser key of that and of the best before.
 fn better(need: u32, i: u32, pages: u32, best: u64) -> u64
     ensures { λ r. ⌜ r ≡ betterOf need i pages best ⌝ }
 {
-    if pages < need {
-        return best;
-    }
-    let key = (pages as u64) * 4_294_967_296 + (i as u64);
+    let key = key_of(need, i, pages);
     if key < best { key } else { best }
 }
 
@@ -81,13 +90,12 @@ pub fn scan(holes: &[Hole], count: u32, need: u32) -> Best
 
 // The hole that the words hold at `i`.
 fn hole_from(meta: &[u32], i: u32) -> Hole
-    requires { ⌜ word (hole pages i) < length (now meta) ⌝ }
+    requires { ⌜ Has (now meta) (hole pages i) ⌝ }
     ensures { λ r. ⌜ r ≡ loadHole (now (meta .entry)) i ⌝ }
 {
-    let at = 1024 + 2 * (i as usize);
     Hole {
-        first: meta[at],
-        pages: meta[at + 1],
+        first: fields::hole::start(meta, i),
+        pages: fields::hole::pages(meta, i),
     }
 }
 
@@ -95,16 +103,10 @@ fn hole_from(meta: &[u32], i: u32) -> Hole
 fn fair_too(fair: bool, h: Hole, total: u32, frontier: u32) -> bool
     ensures { λ r. ⌜ r ≡ (fair && holeFair total frontier h) ⌝ }
 {
-    if !fair {
-        return false;
-    }
-    if h.pages < 1 {
-        return false;
-    }
-    if total < h.pages {
-        return false;
-    }
-    (h.first as u64) + (h.pages as u64) <= (frontier as u64)
+    let some = 1 <= h.pages;
+    let few = h.pages <= total;
+    let below = (h.first as u64) + (h.pages as u64) <= (frontier as u64);
+    fair & some & few & below
 }
 
 // The first `count` holes that the words hold are stored, the others stay; the answer is whether each of those is in its range.

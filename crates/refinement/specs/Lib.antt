@@ -1,2 +1,4 @@
 pub mod Chain
 pub mod Represents
+pub mod Direct
+pub mod Classes
