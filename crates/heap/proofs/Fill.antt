@@ -22,31 +22,24 @@ use Rattle.model.specs.Page.{wordOf}
 use Rattle.model.proofs.Counts.{by-cases, and-l, and-r}
 use Rattle.pages.specs.Stack.{latest, draw, hasMore}
 use Rattle.pages.specs.Links.{pointNext, cutOut, unlink}
+use Rattle.pages.proofs.Draws.{draw-changes}
+use Rattle.pages.proofs.Frames.{changes-unlink}
 use Rattle.heap.specs.Take.{walk, Filled, filledNone, thenFilled, relist, fillFrom}
 use Rattle.heap.proofs.TakePages.{Fair, whole-below}
-use Rattle.heap.proofs.TakeDraws.{draw-changes, draw-full}
+use Rattle.heap.proofs.TakeDraws.{latest-small, draw-full}
 use Rattle.heap.proofs.Walk.{Planned, plannedNone, thenPlanned, planned, planned-stops, planned-goes, stops, stops-full, some-wanted, some-page, Step, walk-below, walk-stops, walk-step, isTurned, head-kept}
 
 -- ---- the head of the list is cut out
 module _ (n : ℕ) (b : List ℕ) (hb : leb (words n) (length b) ≡ true) (c : ℕ) (hc : ltb c 76 ≡ true) (q x : ℕ) (hq : ltb q n ≡ true) (first : get b (page prev q) ≡ 0) (after : get b (page next q) ≡ x) where
-  turned-own : (b₁ : List ℕ) (v : ℕ) → Changes (isTurned c q x) b b₁ → Changes (isTurned c q x) b (put (put (put b₁ (page next q) v) (page prev q) v) (page listed q) v)
-  turned-own b₁ v h =
-      let qq = eq-eqb q q refl in
-      changes-put (isTurned c q x) b _ (page listed q) v refl (rw qq)
-      (changes-put (isTurned c q x) b _ (page prev q) v refl (rw qq)
-      (changes-put (isTurned c q x) b _ (page next q) v refl (rw qq) h))
-
   or-right : (s t : Bool) → t ≡ true → (s || t) ≡ true
   or-right true t e = refl
   or-right false t e = e
 
   pub unlink-changes : Changes (isTurned c q x) b (unlink b c q)
-  unfolding unlink cutOut
   unlink-changes =
-      rw (first, after)
-      (turned-own (putAt (put b (class partial c) x) prev x 0) 0
-      (changes-putAt (isTurned c q x) b (put b (class partial c) x) prev x 0 (λ r e. or-right (eqb r q) (eqb (suc r) x) (eq-eqb (suc r) x (sym e)))
-      (changes-put (isTurned c q x) b b (class partial c) x hc (eq-eqb c c refl) (changes-none (isTurned c q x) b))))
+      let qq = eq-eqb q q refl in
+      changes-unlink (isTurned c q x) b c q hc (λ z. eq-eqb c c refl) (λ z e. absurd (let u : 0 ≡ suc z = sym first ∙ e in omega arith))
+      (λ z e. or-right (eqb z q) (eqb (suc z) x) (eq-eqb (suc z) x (sym e ∙ after))) (rw qq) (rw qq) (rw qq)
 
   pub unlink-head : get (unlink b c q) (class partial c) ≡ x
   unfolding unlink cutOut
@@ -93,7 +86,7 @@ module _ (n : ℕ) (b : List ℕ) (hb : leb (words n) (length b) ≡ true) (c : 
     there = page-there 1 m page₁ (step .fair)
 
     drawn : (t : Field → Bool) → t (page free page₁) ≡ true → t (page carved page₁) ≡ true → ((i : ℕ) → t (out page₁ i) ≡ true) → Changes t b (draw b sh page₁ m)
-    drawn = draw-changes b sh (sd .few) m page₁ (leb-true _ _ (step .fair .within)) (step .fair .entries)
+    drawn = draw-changes b sh page₁ m (latest-small b sh m page₁ (sd .few) (leb-true _ _ (step .fair .within)) (step .fair .entries))
 
     pub drawn-kept : (g : Field) → ok g ≡ true → isCount g ≡ false → get (draw b sh page₁ m) g ≡ get b g
     drawn-kept g o f = drawn isCount refl refl (λ i. refl) .kept g o f
@@ -110,7 +103,7 @@ module _ (n : ℕ) (b : List ℕ) (hb : leb (words n) (length b) ≡ true) (c : 
     -- the page gave all that was wanted
     turned-full : hasMore (draw b sh page₁ m) sh page₁ ≡ true → Turned n b (draw b sh page₁ m) c sh k left after
     turned-full g =
-        let j : length (latest b sh page₁ m) ≡ m = draw-full n b hb c sh (sd .few) 1 m page₁ there (step .fair) g in
+        let j : length (latest b sh page₁ m) ≡ m = draw-full n b hb c sh 1 m page₁ there (step .fair) g in
         let z : (x : ℕ) → stops left x ≡ true = λ x. stops-full left x (omega arith) in
         let hd = drawn-kept (class partial c) hc refl in
         let fr = drawn-kept (arena frontier) refl refl in

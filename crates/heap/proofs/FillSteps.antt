@@ -17,11 +17,12 @@ use Rattle.model.proofs.Counts.{by-cases}
 use Rattle.pages.specs.Stack.{latest, draw, hasMore, spliced, Drawn}
 use Rattle.pages.specs.Links.{unlink}
 use Rattle.pages.specs.Asks.{DrawAsks, UnlinkAsks}
+use Rattle.pages.proofs.Draws.{draw-changes}
 use Rattle.pages.proofs.Spliced.{length-spliced}
 use Rattle.heap.specs.Take.{walk, Filled, filledNone, thenFilled, relist, fillFrom}
 use Rattle.heap.specs.TakePlan.{TakeAsks, fills, TurnAsks, GaveTurn, FillAsks, Filling}
 use Rattle.heap.proofs.TakePages.{Fair, whole-below, latest-some, latest-most, positive}
-use Rattle.heap.proofs.TakeDraws.{draw-changes}
+use Rattle.heap.proofs.TakeDraws.{latest-small}
 use Rattle.heap.proofs.Walk.{stops, stops-full, some-wanted, some-page, Step, walk-below, walk-step}
 use Rattle.heap.proofs.Fill.{isCount, Turned, turned, fill-stops, length-map}
 
@@ -41,7 +42,7 @@ module _ (b : List ℕ) (c : ℕ) (sh : Shape) (l : List ℕ) (at m : ℕ) where
   turn-unlinks h r b₁ l₁ a e d =
       let f = a .draws in
       let q = get b (class partial c) - 1 in
-      let ch = draw-changes b sh (f .sound .few) m q (f .carved) (f .entries) isCount refl refl (λ i. refl) in
+      let ch = draw-changes b sh q m (latest-small b sh m q (f .sound .few) (f .carved) (f .entries)) isCount refl refl (λ i. refl) in
       rw (e, d .meta, e) (record {
         known = a .known;
         there = rw (ch .long) (f .there);

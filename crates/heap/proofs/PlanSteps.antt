@@ -14,10 +14,11 @@ use Rattle.model.specs.Lists.{every}
 use Rattle.model.proofs.Counts.{by-cases, and-l, and-r}
 use Rattle.pages.specs.Runs.{whole}
 use Rattle.pages.specs.Stack.{tops, latest, hasMore}
+use Rattle.pages.proofs.Draws.{latest-length}
 use Rattle.heap.specs.Take.{sound, walk}
 use Rattle.heap.specs.declared.take_plan.Plan.{Plan}
 use Rattle.heap.specs.TakePlan.{TakeAsks, TopsAsks, SupplyAsks, headerFair, share, walksFrom, fills, Foretold}
-use Rattle.heap.proofs.TakePages.{Fair, sound-fair, fair-sound, whole-below, latest-length, latest-some, latest-most, positive}
+use Rattle.heap.proofs.TakePages.{Fair, sound-fair, fair-sound, whole-below, latest-some, latest-most, positive}
 use Rattle.heap.proofs.Walk.{Planned, planned, planned-stops, planned-goes, stops, stops-full, stops-none, walk-stops, walk-step}
 use Rattle.heap.proofs.Fill.{foreseen, fill-planned}
 
@@ -53,10 +54,10 @@ module _ (b : List ℕ) (q m top k : ℕ) where
 
 -- ---- how many blocks a page gives
 module _ (b : List ℕ) (sh : Shape) (q m : ℕ) where
-  all-of : (m f k top : ℕ) → k ≤ top → f + (top - k) < m → f + (top - k) ≡ min (m - f) (top - k) + min m f
+  all-of : (m f k top : ℕ) → k ≤ top → f + (top - k) < m → f + (top - k) ≡ min m f + min (m - f) (top - k)
   all-of m f k top l h = omega arith
 
-  wanted-of : (m f r : ℕ) → m ≤ f + r → m ≡ min (m - f) r + min m f
+  wanted-of : (m f r : ℕ) → m ≤ f + r → m ≡ min m f + min (m - f) r
   wanted-of m f r h = omega arith
 
   pub supply-all : (f k : ℕ) → get b (page carved q) ≤ sh .capacity → f ≡ get b (page free q) → k ≡ get b (page carved q) → f + (sh .capacity - k) < m → f + (sh .capacity - k) ≡ length (latest b sh q m)

@@ -16,10 +16,11 @@ use Rattle.classes.specs.declared.Shape.{Shape}
 use Rattle.fields.specs.Field.{Field, arena, memory, class, hole, page, out, slot, frontier, partial, owner, first, next, prev, free, carved, listed, virgin, classOff, pageOff, get, put, ok, words}
 use Rattle.fields.specs.Outcome.{putAt}
 use Rattle.fields.proofs.Laws.{get-put-same, get-put-other, length-put}
-use Rattle.fields.proofs.Changes.{Changes, changes-none, changes-put}
+use Rattle.fields.proofs.Changes.{Changes}
 use Rattle.model.proofs.Counts.{by-cases}
 use Rattle.pages.specs.Stack.{latest}
 use Rattle.pages.specs.Links.{linked, link}
+use Rattle.pages.proofs.Frames.{changes-link}
 use Rattle.heap.specs.Take.{walk}
 use Rattle.heap.proofs.TakePages.{Fair, fair-sound, Alike, fair-alike, latest-alike}
 use Rattle.heap.proofs.Walk.{Planned, plannedNone, thenPlanned, planned, planned-stops, planned-goes, stops, stops-none, Step, walk-stops, step-walk}
@@ -41,11 +42,7 @@ module _ (n : ℕ) (b : List ℕ) (hb : leb (words n) (length b) ≡ true) (c : 
   pub link-changes : Changes (isLinked c q) b (link b c q)
   link-changes =
       let qq = eq-eqb q q refl in
-      rw link-is
-      (changes-put (isLinked c q) b _ (page listed q) 1 refl qq
-      (changes-put (isLinked c q) b _ (class partial c) (q + 1) hc (eq-eqb c c refl)
-      (changes-put (isLinked c q) b _ (page prev q) 0 refl qq
-      (changes-put (isLinked c q) b _ (page next q) 0 refl qq (changes-none (isLinked c q) b)))))
+      changes-link (isLinked c q) b c q hc (eq-eqb c c refl) qq qq qq (λ x e. absurd (let u : 0 ≡ suc x = sym none ∙ e in omega arith))
 
   pub link-head : get (link b c q) (class partial c) ≡ suc q
   link-head = rw (link-is, ← (add-one q)) (simp (get-put-other, get-put-same n, length-put, hb))

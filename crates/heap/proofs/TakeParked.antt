@@ -10,13 +10,14 @@ use borrow.Author.Tests.{lt-ltb, le-leb, lt-leb, leb-true, eq-eqb, ne-eqb, eqb-t
 use Rattle.classes.specs.declared.Shape.{Shape}
 use Rattle.fields.specs.Field.{Field, arena, class, page, slot, frontier, partial, owner, first, next, free, carved, listed, virgin, region, get, put, words, Has}
 use Rattle.fields.proofs.Laws.{get-put-other}
-use Rattle.fields.proofs.Changes.{Changes, changes-none, changes-put}
+use Rattle.fields.proofs.Changes.{Changes}
 use Rattle.model.proofs.Counts.{by-cases, and-l, and-r}
 use Rattle.pages.specs.Stack.{latest}
 use Rattle.pages.specs.Links.{link, top, tally, unstow, wake}
 use Rattle.pages.specs.declared.Park.{Park}
 use Rattle.pages.specs.declared.Park.the-variants.{Empty, Cold}
 use Rattle.pages.specs.Asks.{WakeAsks}
+use Rattle.pages.proofs.Frames.{changes-unstow}
 use Rattle.heap.specs.Take.{sound, walk, parkFair}
 use Rattle.heap.specs.declared.take_plan.Plan.{Plan}
 use Rattle.heap.specs.TakePlan.{TakeAsks, SupplyAsks, walksFrom, fills, Foretold, ParkedAsks, woken}
@@ -56,8 +57,7 @@ isRow g = eqb (region g) 2
 
 module _ (b : List ℕ) (c : ℕ) (hc : ltb c 76 ≡ true) (q : ℕ) where
   unstow-changes : (k : Park) → Changes isRow b (unstow b c k q)
-  unfolding unstow
-  unstow-changes k = changes-put isRow b _ (class (tally k) c) _ hc refl (changes-put isRow b b (class (top k) c) _ hc refl (changes-none isRow b))
+  unstow-changes k = changes-unstow isRow b c q hc k refl refl
 
   unstow-partial : (k : Park) → get (unstow b c k q) (class partial c) ≡ get b (class partial c)
   unfolding unstow
