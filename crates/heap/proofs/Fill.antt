@@ -25,7 +25,7 @@ use Rattle.pages.specs.Links.{pointNext, cutOut, unlink}
 use Rattle.pages.proofs.Draws.{draw-changes}
 use Rattle.pages.proofs.Frames.{changes-unlink}
 use Rattle.heap.specs.Take.{walk, Filled, filledNone, thenFilled, relist, fillFrom}
-use Rattle.heap.proofs.TakePages.{Fair, whole-below}
+use Rattle.heap.proofs.TakePages.{Fair, whole-below, latest-most}
 use Rattle.heap.proofs.TakeDraws.{latest-small, draw-full}
 use Rattle.heap.proofs.Walk.{Planned, plannedNone, thenPlanned, planned, planned-stops, planned-goes, stops, stops-full, some-wanted, some-page, Step, walk-below, walk-stops, walk-step, isTurned, head-kept}
 
@@ -166,3 +166,12 @@ module _ (n c : ℕ) (hc : ltb c 76 ≡ true) (sh : Shape) (sd : Sound sh) where
       let b₁ = relist (draw b sh q m) c sh q in
       let ih = fill-planned k (m - length ws) b₁ (rw (t .long) hb) (rw (t .frontier) bound) (t .walks) ∙ t .finds in
       rw (e, ← ih, length-append, length-map))
+
+-- no more than was wanted
+pub fill-most : (c : ℕ) (sh : Shape) (k m : ℕ) (b : List ℕ) → length (fillFrom b c sh k m .blocks) ≤ m
+unfolding fillFrom
+fill-most c sh zero m b = omega arith
+fill-most c sh (suc k) m b =
+    let q = get b (class partial c) - 1 in
+    let ih = fill-most c sh k (m - length (latest b sh q m)) (relist (draw b sh q m) c sh q) in
+    by-cases (stops m (get b (class partial c))) (λ e. rw e (omega arith)) (λ e. rw (e, length-append, length-map) (omega (arith, ih, latest-most b sh q m)))

@@ -6,3 +6,4 @@ pub mod PlanSteps
 pub mod FillSteps
 pub mod TakeAlone
 pub mod TakeParked
+pub mod TakeSteps
