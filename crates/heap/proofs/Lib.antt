@@ -6,4 +6,6 @@ pub mod PlanSteps
 pub mod FillSteps
 pub mod TakeAlone
 pub mod TakeParked
+pub mod TakeGranted
+pub mod TakeNew
 pub mod TakeSteps
