@@ -2,7 +2,7 @@
 --     TakeAsks     a book of n pages, its frontier in range, and a class with its shape
 --     share        the blocks that the walk finds on the page with a code, 0 where a test fails
 --     Foretold     a plan: whether every test passes, and then what the fill will yield
-use Prim.Native.Nat.{ℕ, _+_, _-_, _<_, _≤_}
+use Prim.Native.Nat.{ℕ, suc, _+_, _-_, _<_, _≤_}
 use mathlib.Core.Bool.{Bool, true, cond, _&&_}
 use mathlib.Core.List.{List, _++_, map}
 use mathlib.Core.Path.{_≡_}
@@ -10,7 +10,7 @@ use lib.Dec.{eqb, leb}
 use lib.ListN.{length, drop}
 use Rattle.classes.specs.declared.Shape.{Shape}
 use Rattle.classes.specs.Sound.{Sound}
-use Rattle.fields.specs.Field.{arena, class, page, frontier, partial, free, carved, next, prev, listed, virgin, words, get}
+use Rattle.fields.specs.Field.{arena, class, page, frontier, partial, owner, free, carved, next, prev, listed, virgin, words, get}
 use Rattle.fields.specs.Ranges.{maxPages}
 use Rattle.model.specs.Page.{wordOf}
 use Rattle.pages.specs.Stack.{latest, draw, hasMore, spliced}
@@ -72,6 +72,34 @@ pub record ParkedAsks (n : ℕ) (b : List ℕ) (c : ℕ) (sh : Shape) (k : Park)
 -- its newest page heads the partial list
 abbrev pub woken : List ℕ → ℕ → Park → List ℕ
 woken b c k = wake b c k (get b (class (top k) c) - 1)
+
+-- ---- a run that the arena gave, where the class has no page
+pub record TakeRunAsks (b : List ℕ) (c : ℕ) (sh : Shape) (l : List ℕ) (q : ℕ) : Type 0 where
+  pub pages : ℕ
+  pub asks : TakeAsks pages b c sh
+  pub alone : get b (class partial c) ≡ 0
+  pub ends : q + sh .pages ≤ pages
+  pub under : q + sh .pages ≤ get b (arena frontier)
+  pub owners : (i : ℕ) → i < sh .pages → get b (page owner (q + i)) ≡ suc c
+  pub places : sh .batch ≤ length l
+
+-- a take from the arena, and from whatever source
+pub record TakeNewAsks (n : ℕ) (b : List ℕ) (c : ℕ) (sh : Shape) (l : List ℕ) : Type 0 where
+  pub asks : TakeAsks n b c sh
+  pub alone : get b (class partial c) ≡ 0
+  pub places : sh .batch ≤ length l
+
+pub record BlocksAsks (n : ℕ) (b : List ℕ) (c : ℕ) (sh : Shape) (l : List ℕ) : Type 0 where
+  pub known : c < 76
+  pub shape : Sound sh
+  pub few : n ≤ maxPages
+  pub long : words n ≤ length b
+  pub places : sh .batch ≤ length l
+
+pub record CallAsks (n : ℕ) (b : List ℕ) (c : ℕ) : Type 0 where
+  pub known : c < 76
+  pub few : n ≤ maxPages
+  pub long : words n ≤ length b
 
 -- ---- the fill: one turn takes up to m blocks of the head page, to the places below `at`
 pub record TurnAsks (b : List ℕ) (c : ℕ) (sh : Shape) (l : List ℕ) (at m : ℕ) : Type 0 where

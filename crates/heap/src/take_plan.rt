@@ -43,7 +43,7 @@ fn tops_below(meta: &[u32], q: u32, m: u32, top: u32, carved: u32) -> bool
 }
 
 // How many blocks a page gives when m are wanted.
-fn supply(meta: &[u32], shape: Shape, q: u32, m: u32) -> u32
+pub fn supply(meta: &[u32], shape: Shape, q: u32, m: u32) -> u32
     requires { ⌜ SupplyAsks (now meta) shape q ⌝ }
     ensures { λ r. ⌜ r ≡ length (latest (now (meta .entry)) shape q m) ⌝ }
 {
