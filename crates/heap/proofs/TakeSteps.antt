@@ -12,13 +12,13 @@ use borrow.Author.Tests.{lt-ltb, le-leb, leb-true, ne-eqb, not-true, not-false}
 use Rattle.classes.specs.declared.Shape.{Shape}
 use Rattle.fields.specs.Field.{arena, class, page, frontier, partial, free, carved, words, get}
 use Rattle.fields.proofs.Changes.{Changes}
-use Rattle.arena.specs.declared.Commit as Commit
-use Rattle.arena.specs.declared.Commit.the-variants as Made
+use Rattle.runs.specs.declared.Commit as Commit
+use Rattle.runs.specs.declared.Commit.the-variants as Made
 use Rattle.arena.specs.Load.{loadArena}
 use Rattle.arena.specs.Fair.{commitFair}
 use Rattle.arena.specs.Calls.{Committed, commitRefused, committed, commitFor}
-use Rattle.arena.specs.Answer as Arena
-use Rattle.arena.specs.Answer.{Answers}
+use Rattle.runs.specs.Answer as Arena
+use Rattle.runs.specs.Answer.{Answers}
 use Rattle.model.specs.Arena as Model
 use Rattle.pages.specs.Stack.{latest}
 use Rattle.pages.specs.Links.{link, top, wake}

@@ -9,9 +9,9 @@ use crate::take_fill::fill;
 use crate::take_plan::plan_parked;
 use crate::take_plan::plan_partial;
 use crate::take_plan::supply;
-use arena::Commit;
 use classes::Shape;
 use pages::Park;
+use runs::Commit;
 
 // A refusal's number, or how many blocks stand in the list, and whether all are virgin.
 pub enum Take {
@@ -66,7 +66,7 @@ fn take_new(meta: &mut [u32], n: u32, c: u32, shape: Shape, host: u32, list: &mu
     requires { ⌜ TakeNewAsks n (now meta) c shape (now list) ⌝ }
     ensures { λ r. ⌜ Takes r (now (meta .exit)) (now (list .exit)) (takeNew n (now (meta .entry)) c shape host (now (list .entry))) ⌝ }
 {
-    let commit = arena::runs::commit_for(meta, n, host, shape.pages, c + 1);
+    let commit = runs::commit_for(meta, n, host, shape.pages, c + 1);
     match commit {
         Commit::Refused(k) => Take::Refused(k),
         Commit::Nothing => Take::Took(0, false),
