@@ -119,7 +119,7 @@ module _ (b : List ℕ) (r : ℕ) (e : r ≡ metaFault b) where
   report-goes n s z f g = rw (← e, eq-eqb r 0 z) (rw f at g)
 
 -- ---- the out-parameters
-byte-digit : (g : Bool) → boolByte g ≡ digit g
+pub byte-digit : (g : Bool) → boolByte g ≡ digit g
 byte-digit true = refl
 byte-digit false = refl
 

@@ -1,1 +1,2 @@
 mod DirectWays
+mod TakeWays
