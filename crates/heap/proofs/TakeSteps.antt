@@ -8,9 +8,11 @@ use mathlib.Core.Option.{Option, none, some}
 use mathlib.Core.Path.{_≡_, refl, sym, ap, _∙_}
 use lib.Dec.{eqb, ltb, leb}
 use lib.ListN.{length, drop}
-use borrow.Author.Tests.{lt-ltb, le-leb, leb-true, ne-eqb, not-true, not-false}
+use borrow.Author.Tests.{lt-ltb, le-ltb, le-leb, leb-true, ne-eqb, not-true, not-false}
 use Rattle.classes.specs.declared.Shape.{Shape}
-use Rattle.fields.specs.Field.{arena, class, page, frontier, partial, free, carved, words, get}
+use Rattle.classes.specs.Shape.{shapeOf}
+use Rattle.classes.proofs.Shapes.{shape-sound}
+use Rattle.fields.specs.Field.{arena, class, page, frontier, partial, empty, cold, free, carved, words, get}
 use Rattle.fields.proofs.Changes.{Changes}
 use Rattle.runs.specs.declared.Commit as Commit
 use Rattle.runs.specs.declared.Commit.the-variants as Made
@@ -24,12 +26,13 @@ use Rattle.pages.specs.Stack.{latest}
 use Rattle.pages.specs.Links.{link, top, wake}
 use Rattle.pages.specs.Carve.{newRun}
 use Rattle.pages.specs.declared.Park.{Park}
+use Rattle.pages.specs.declared.Park.the-variants.{Empty, Cold}
 use Rattle.pages.specs.Asks.{WakeAsks, LinkAsks, NewAsks}
 use Rattle.heap.specs.declared.take.Take as Taken
 use Rattle.heap.specs.declared.take.Take.the-variants as Answer
 use Rattle.heap.specs.declared.take_plan.Plan.{Plan}
-use Rattle.heap.specs.Take.{walk, Filled, fillFrom, parkFair, Took, filled, fromPartial, fromPark, onRun, takeNew}
-use Rattle.heap.specs.TakePlan.{TakeAsks, SupplyAsks, TakeRunAsks, TakeNewAsks, walksFrom, fills, Foretold, ParkedAsks, woken, FillAsks, Filling}
+use Rattle.heap.specs.Take.{walk, Filled, fillFrom, parkFair, Took, filled, fromPartial, fromPark, onRun, takeNew, takeBlocks, takeCall}
+use Rattle.heap.specs.TakePlan.{TakeAsks, SupplyAsks, TakeRunAsks, TakeNewAsks, BlocksAsks, CallAsks, walksFrom, fills, Foretold, ParkedAsks, woken, FillAsks, Filling}
 use Rattle.heap.specs.TakeAnswer.{answerOf, Takes}
 use Rattle.heap.proofs.TakePages.{Fair}
 use Rattle.heap.proofs.Fill.{fill-most, foreseen, fill-planned}
@@ -239,3 +242,46 @@ module _ (n : ℕ) (b : List ℕ) (c : ℕ) (sh : Shape) (h : ℕ) (l : List ℕ
       let a′ : Answers r b₁ commits = rw add-one at a in
       let u = answer-run (commits .code) (commits .run) (commits .fresh) q f (sym (a′ .answer) ∙ e) in
       rw (u .0, u .1) (rw (a′ .book) at t)
+
+-- ---- the sources in their order
+module _ (n : ℕ) (b : List ℕ) (c : ℕ) (sh : Shape) (h : ℕ) (l : List ℕ) where
+  pub blocks-unfair : (f : ℕ) → f ≡ get b (arena frontier) → n < f → Takes (Answer.Refused 13) b l (takeBlocks n b c sh h l)
+  unfolding takeBlocks
+  blocks-unfair f e u = rw (← e, lt-ltb n f u) (record { answer = refl; meta = refl; list = refl })
+
+  pub blocks-partial : (f x : ℕ) (s : Taken.Take) (b′ l′ : List ℕ) → f ≡ get b (arena frontier) → f ≤ n → x ≡ get b (class partial c) → (x ≡ 0 → ⊥)
+      → Takes s b′ l′ (fromPartial n b c sh l) → Takes s b′ l′ (takeBlocks n b c sh h l)
+  unfolding takeBlocks
+  blocks-partial f x s b′ l′ e u ex d t = rw (← e, le-ltb n f u, ← ex, ne-eqb x 0 d) t
+
+  pub blocks-empty : (f x y : ℕ) (s : Taken.Take) (b′ l′ : List ℕ) → f ≡ get b (arena frontier) → f ≤ n → x ≡ get b (class partial c) → x ≡ 0 → y ≡ get b (class empty c) → (y ≡ 0 → ⊥)
+      → Takes s b′ l′ (fromPark n b c sh Empty l) → Takes s b′ l′ (takeBlocks n b c sh h l)
+  unfolding takeBlocks
+  blocks-empty f x y s b′ l′ e u ex z ey d t = rw (← e, le-ltb n f u, ← ex, z, ← ey, ne-eqb y 0 d) t
+
+  pub blocks-cold : (f x y z : ℕ) (s : Taken.Take) (b′ l′ : List ℕ) → f ≡ get b (arena frontier) → f ≤ n → x ≡ get b (class partial c) → x ≡ 0 → y ≡ get b (class empty c) → y ≡ 0
+      → z ≡ get b (class cold c) → (z ≡ 0 → ⊥) → Takes s b′ l′ (fromPark n b c sh Cold l) → Takes s b′ l′ (takeBlocks n b c sh h l)
+  unfolding takeBlocks
+  blocks-cold f x y z s b′ l′ e u ex o ey o′ ez d t = rw (← e, le-ltb n f u, ← ex, o, ← ey, o′, ← ez, ne-eqb z 0 d) t
+
+  pub blocks-new : (f x y z : ℕ) (s : Taken.Take) (b′ l′ : List ℕ) → f ≡ get b (arena frontier) → f ≤ n → x ≡ get b (class partial c) → x ≡ 0 → y ≡ get b (class empty c) → y ≡ 0
+      → z ≡ get b (class cold c) → z ≡ 0 → Takes s b′ l′ (takeNew n b c sh h l) → Takes s b′ l′ (takeBlocks n b c sh h l)
+  unfolding takeBlocks
+  blocks-new f x y z s b′ l′ e u ex o ey o′ ez o″ t = rw (← e, le-ltb n f u, ← ex, o, ← ey, o′, ← ez, o″) t
+
+-- ---- the call
+module _ (n : ℕ) (b : List ℕ) (c h : ℕ) (l : List ℕ) where
+  pub call-host : 15 < h → Takes (Answer.Refused 3) b l (takeCall n b c (shapeOf c) h l)
+  unfolding takeCall
+  call-host u = rw (lt-ltb 15 h u) (record { answer = refl; meta = refl; list = refl })
+
+  pub call-short : (sh : Shape) → h ≤ 15 → sh ≡ shapeOf c → length l < sh .batch → Takes (Answer.Refused 5) b l (takeCall n b c (shapeOf c) h l)
+  unfolding takeCall
+  call-short sh u e s = rw (le-ltb 15 h u, ← e, lt-ltb (length l) (sh .batch) s) (record { answer = refl; meta = refl; list = refl })
+
+  pub call-asks : (sh : Shape) → CallAsks n b c → sh ≡ shapeOf c → sh .batch ≤ length l → BlocksAsks n b c sh l
+  call-asks sh a e s = record { known = a .known; shape = rw e (shape-sound c); few = a .few; long = a .long; places = s }
+
+  pub call-done : (sh : Shape) (r : Taken.Take) (b′ l′ : List ℕ) → h ≤ 15 → sh ≡ shapeOf c → sh .batch ≤ length l → Takes r b′ l′ (takeBlocks n b c sh h l) → Takes r b′ l′ (takeCall n b c (shapeOf c) h l)
+  unfolding takeCall
+  call-done sh r b′ l′ u e s t = rw (le-ltb 15 h u, ← e, le-ltb (length l) (sh .batch) s) t

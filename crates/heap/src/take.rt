@@ -2,8 +2,9 @@
 ghost use mathlib.Core.Option.{some};
 ghost use Prim.Native.Nat.{_≤_};
 ghost use lib.ListN.{length};
-ghost use Rattle.heap.specs.Take.{fromPartial, fromPark, onRun, takeNew};
-ghost use Rattle.heap.specs.TakePlan.{TakeAsks, ParkedAsks, TakeRunAsks, TakeNewAsks};
+ghost use Rattle.classes.specs.Shape.{shapeOf};
+ghost use Rattle.heap.specs.Take.{fromPartial, fromPark, onRun, takeNew, takeBlocks, takeCall};
+ghost use Rattle.heap.specs.TakePlan.{TakeAsks, ParkedAsks, TakeRunAsks, TakeNewAsks, BlocksAsks, CallAsks};
 ghost use Rattle.heap.specs.TakeAnswer.{Takes};
 use crate::take_fill::fill;
 use crate::take_plan::plan_parked;
@@ -12,6 +13,9 @@ use crate::take_plan::supply;
 use classes::Shape;
 use pages::Park;
 use runs::Commit;
+
+// The largest host word.
+const MAX_HOST: u32 = 15;
 
 // A refusal's number, or how many blocks stand in the list, and whether all are virgin.
 pub enum Take {
@@ -72,4 +76,39 @@ fn take_new(meta: &mut [u32], n: u32, c: u32, shape: Shape, host: u32, list: &mu
         Commit::Nothing => Take::Took(0, false),
         Commit::Run(q, _) => take_run(meta, c, shape, list, q),
     }
+}
+
+// The first source that has a page.
+fn take_blocks(meta: &mut [u32], n: u32, c: u32, shape: Shape, host: u32, list: &mut [u32]) -> Take
+    requires { ⌜ BlocksAsks n (now meta) c shape (now list) ⌝ }
+    ensures { λ r. ⌜ Takes r (now (meta .exit)) (now (list .exit)) (takeBlocks n (now (meta .entry)) c shape host (now (list .entry))) ⌝ }
+{
+    if n < fields::arena::frontier(meta) {
+        return Take::Refused(13);
+    }
+    if fields::class::partial(meta, c) != 0 {
+        return take_partial(meta, n, c, shape, list);
+    }
+    if fields::class::empty(meta, c) != 0 {
+        return take_parked(meta, n, c, shape, Park::Empty, list);
+    }
+    if fields::class::cold(meta, c) != 0 {
+        return take_parked(meta, n, c, shape, Park::Cold, list);
+    }
+    take_new(meta, n, c, shape, host, list)
+}
+
+// A class's take from number 3 on, on the book of an arena of n pages.
+pub fn take_call(meta: &mut [u32], n: u32, c: u32, host: u32, list: &mut [u32]) -> Take
+    requires { ⌜ CallAsks n (now meta) c ⌝ }
+    ensures { λ r. ⌜ Takes r (now (meta .exit)) (now (list .exit)) (takeCall n (now (meta .entry)) c (shapeOf c) host (now (list .entry))) ⌝ }
+{
+    if MAX_HOST < host {
+        return Take::Refused(3);
+    }
+    let shape = classes::shape_of(c);
+    if list.len() < shape.batch as usize {
+        return Take::Refused(5);
+    }
+    take_blocks(meta, n, c, shape, host, list)
 }
