@@ -1,0 +1,8 @@
+// Releases by list: the tests in their order, each over the whole list, and then the act.
+mod strike;
+
+// A page or a block, or none.
+pub enum Found {
+    At(u32),
+    Nothing,
+}

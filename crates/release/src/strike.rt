@@ -1,0 +1,82 @@
+// Number 10 in one pass: each listed block's out bit is cleared, up to the first that is not out; and the bits are set again.
+ghost use mathlib.Core.Path.{_≡_};
+ghost use mathlib.Core.Bool.{cond};
+ghost use Prim.Native.Nat.{_≤_, _<_};
+ghost use lib.ListN.{length};
+ghost use Rattle.classes.specs.Sound.{Sound};
+ghost use Rattle.fields.specs.Field.{put};
+ghost use Rattle.fields.specs.Ranges.{maxPages};
+ghost use Rattle.words.specs.Word.{granuleOf};
+ghost use Rattle.heap.specs.Release.{pageAt};
+ghost use Rattle.release.specs.Strike.{blockAt};
+ghost use Rattle.release.specs.Asks.{InAsks, StruckOne, StruckIn};
+use super::Found;
+use classes::Shape;
+use words::Word;
+
+// A word's granule, and the page that has it.
+fn granule_of(w: u32) -> u32
+    ensures { λ r. ⌜ r ≡ granuleOf w ⌝ }
+{
+    Word::of(w).granule()
+}
+
+fn page_at(w: u32) -> u32
+    ensures { λ r. ⌜ r ≡ pageAt w ⌝ }
+{
+    granule_of(w) / 4096
+}
+
+// The index of the block of the run at q that the word is.
+fn block_at(shape: Shape, q: u32, w: u32) -> Found
+    requires { ⌜ Sound shape ⌝ }
+    requires { ⌜ q < maxPages ⌝ }
+    ensures { λ r. ⌜ r ≡ blockAt shape q w ⌝ }
+{
+    let granule = granule_of(w);
+    let start = q * 4096 + shape.header;
+    if granule < start {
+        return Found::Nothing;
+    }
+    let i = (granule - start) / shape.block;
+    if i * shape.block != granule - start {
+        return Found::Nothing;
+    }
+    if i >= shape.capacity {
+        return Found::Nothing;
+    }
+    Found::At(i)
+}
+
+// Whether the word is a block of the run at q that is out; it then no longer is.
+fn strike_one(meta: &mut [u32], shape: Shape, q: u32, w: u32) -> bool
+    requires { ⌜ InAsks (now meta) shape q ⌝ }
+    ensures { λ r. ⌜ StruckOne r (now (meta .exit)) (now (meta .entry)) shape q w ⌝ }
+{
+    let block = block_at(shape, q, w);
+    let Found::At(i) = block else {
+        return false;
+    };
+    if fields::out::bit(meta, q, i) != 1 {
+        return false;
+    }
+    fields::out::set_bit(meta, q, i, 0);
+    true
+}
+
+// The listed words from place i on are struck, up to the first that is not out in the run at q: its place.
+fn strike_run(meta: &mut [u32], shape: Shape, q: u32, list: &[u32], from: usize) -> usize
+    requires { ⌜ InAsks (now meta) shape q ⌝ }
+    requires { ⌜ from ≤ length (now list) ⌝ }
+    ensures { λ r. ⌜ StruckIn r (now (meta .exit)) (now (meta .entry)) shape q (now (list .entry)) from ⌝ }
+{
+    let mut i = from;
+    while i < list.len() {
+        if strike_one(meta, shape, q, list[i]) {
+            i += 1;
+        } else {
+            return i;
+        }
+    }
+    i
+}
