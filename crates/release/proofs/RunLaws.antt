@@ -80,8 +80,14 @@ module _ (n c : ℕ) (sh : Shape) (s : Sound sh) (q : ℕ) where
     block-in-run : (w : ℕ) → isBlock sh q w ≡ true → inRunOf n b sh c w ≡ true
     unfolding inRunOf
     block-in-run w e =
-        rw (block-start w e, lt-ltb (pageAt w) n (omega (arith, within-arena, not-behind w e)), lt-ltb (pageAt w) (get b (arena frontier)) (omega (arith, within-frontier, not-behind w e)),
-        le-leb q (pageAt w) (not-before w e), lt-ltb (pageAt w) (q + sh .pages) (not-behind w e), h)
+        rw (
+          block-start w e,
+          lt-ltb (pageAt w) n (omega (arith, within-arena, not-behind w e)),
+          lt-ltb (pageAt w) (get b (arena frontier)) (omega (arith, within-frontier, not-behind w e)),
+          le-leb q (pageAt w) (not-before w e),
+          lt-ltb (pageAt w) (q + sh .pages) (not-behind w e),
+          h,
+        )
 
     is-block : (w : ℕ) → outIn b sh q w ≡ true → isBlock sh q w ≡ true
     is-block w o = and-left (isBlock sh q w) _ (sym (out-in b sh q w) ∙ o)
@@ -103,8 +109,87 @@ module _ (n c : ℕ) (sh : Shape) (s : Sound sh) (q : ℕ) where
   pub run-struck : (b : List ℕ) (ws : List ℕ) → whole n b sh c q ≡ true → struck n b c sh ws ≡ struck n (struckIn b sh q ws) c sh (drop (countIn b sh q ws) ws)
   unfolding struck struckIn countIn
   run-struck b [] h = refl
-  run-struck b (w ∷ ws) h = by (outIn b sh q w) refl
+  run-struck b (w ∷ ws) h = by (outIn b sh q w) refl (λ o. run-struck (put b (bitIn sh q w) 0) ws (whole-after b h w o))
     where
-    by : (t : Bool) → outIn b sh q w ≡ t → struck n b c sh (w ∷ ws) ≡ struck n (struckIn b sh q (w ∷ ws)) c sh (drop (countIn b sh q (w ∷ ws)) (w ∷ ws))
-    by true o = rw (o, run-out b h w o, run-start b h w o) (run-struck (put b (bitIn sh q w) 0) ws (whole-after b h w o))
-    by false o = rw o
+      by : (t : Bool) → outIn b sh q w ≡ t
+          → (outIn b sh q w ≡ true → struck n (put b (bitIn sh q w) 0) c sh ws ≡ struck n (struckIn (put b (bitIn sh q w) 0) sh q ws) c sh (drop (countIn (put b (bitIn sh q w) 0) sh q ws) ws))
+          → struck n b c sh (w ∷ ws) ≡ struck n (struckIn b sh q (w ∷ ws)) c sh (drop (countIn b sh q (w ∷ ws)) (w ∷ ws))
+      by true o z = rw (o, run-out b h w o, run-start b h w o) (z o)
+      by false o z = rw o
+
+  pub run-count : (b : List ℕ) (ws : List ℕ) → whole n b sh c q ≡ true → struckCount n b c sh ws ≡ countIn b sh q ws + struckCount n (struckIn b sh q ws) c sh (drop (countIn b sh q ws) ws)
+  unfolding struckCount struckIn countIn
+  run-count b [] h = refl
+  run-count b (w ∷ ws) h = by (outIn b sh q w) refl (λ o. run-count (put b (bitIn sh q w) 0) ws (whole-after b h w o))
+    where
+      by : (t : Bool) → outIn b sh q w ≡ t
+          → (outIn b sh q w ≡ true → struckCount n (put b (bitIn sh q w) 0) c sh ws ≡ countIn (put b (bitIn sh q w) 0) sh q ws + struckCount n (struckIn (put b (bitIn sh q w) 0) sh q ws) c sh (drop (countIn (put b (bitIn sh q w) 0) sh q ws) ws))
+          → struckCount n b c sh (w ∷ ws) ≡ countIn b sh q (w ∷ ws) + struckCount n (struckIn b sh q (w ∷ ws)) c sh (drop (countIn b sh q (w ∷ ws)) (w ∷ ws))
+      by true o z = rw (o, run-out b h w o, run-start b h w o) (ap suc (z o) ∙ omega arith)
+      by false o z = rw o (omega arith)
+
+  -- ---- number 11
+  abbrev starts : List ℕ → List ℕ → Bool
+  starts b ws = every (λ w. eqb (startOf b w) q) ws
+
+  out-elsewhere : (b : List ℕ) (w : ℕ) → startOf b w ≡ q → outIn b sh q w ≡ false → outAt n b c sh w ≡ false
+  unfolding outAt
+  out-elsewhere b w e o = rw (e, o) (and-false (inRunOf n b sh c w))
+
+  starts-after : (b b′ : List ℕ) (ws : List ℕ) → Changes isBit b b′ → starts b′ ws ≡ starts b ws
+  starts-after b b′ ws k = every-same _ _ ws (λ v. rw (start-kept b b′ k v))
+
+  pub one-run : (b : List ℕ) (ws : List ℕ) → whole n b sh c q ≡ true → starts b ws ≡ true → struckCount n b c sh ws ≡ countIn b sh q ws
+  unfolding struckCount countIn
+  one-run b [] h l = refl
+  one-run b (w ∷ ws) h l =
+      by (outIn b sh q w) refl (λ o. one-run (put b (bitIn sh q w) 0) ws (whole-after b h w o) (starts-after b (put b (bitIn sh q w) 0) ws (run-changes b h w o) ∙ and-right (eqb (startOf b w) q) _ l))
+    where
+      by : (t : Bool) → outIn b sh q w ≡ t → (outIn b sh q w ≡ true → struckCount n (put b (bitIn sh q w) 0) c sh ws ≡ countIn (put b (bitIn sh q w) 0) sh q ws)
+          → struckCount n b c sh (w ∷ ws) ≡ countIn b sh q (w ∷ ws)
+      by true o z = rw (o, run-out b h w o, run-start b h w o) (ap suc (z o))
+      by false o z = rw (o, out-elsewhere b w (eqb-true (startOf b w) q (and-left _ _ l)) o)
+
+  pub all-in-run : (b : List ℕ) (ws : List ℕ) → whole n b sh c q ≡ true → countIn b sh q ws ≡ length ws → starts b ws ≡ true
+  unfolding countIn
+  all-in-run b [] h l = refl
+  all-in-run b (w ∷ ws) h l = by (outIn b sh q w) refl (λ o k. all-in-run (put b (bitIn sh q w) 0) ws (whole-after b h w o) k)
+    where
+      by : (t : Bool) → outIn b sh q w ≡ t → (outIn b sh q w ≡ true → countIn (put b (bitIn sh q w) 0) sh q ws ≡ length ws → starts (put b (bitIn sh q w) 0) ws ≡ true) → starts b (w ∷ ws) ≡ true
+      by true o z =
+          rw (run-start b h w o, eq-eqb q q refl) (sym (starts-after b (put b (bitIn sh q w) 0) ws (run-changes b h w o)) ∙ z o (omega (arith, rw o at l)))
+      by false o z = absurd (omega (arith, rw o at l))
+
+-- ---- all of one run struck
+low-marks : (b : List ℕ) (q v i : ℕ) (is : List ℕ) → i < 4096 → every (λ j. ltb j 4096) is ≡ true → marks (put b (out q i) v) q v is ≡ put (marks b q v is) (out q i) v
+low-marks b q v i [] h l = refl
+low-marks b q v i (j ∷ js) h l =
+    rw (low-marks b q v i js h (and-right (ltb j 4096) _ l)) (bits-comm (marks b q v js) q i j v h (ltb-true j 4096 (and-left _ _ l)))
+
+module _ (sh : Shape) (s : Sound sh) (q : ℕ) where
+  in-low : (b : List ℕ) (w : ℕ) → outIn b sh q w ≡ true → indexOf sh q w < 4096
+  in-low b w o = omega (arith, below-capacity sh q w (and-left (isBlock sh q w) _ (sym (out-in b sh q w) ∙ o)), s .few)
+
+  pub indices-low : (b : List ℕ) (ws : List ℕ) → countIn b sh q ws ≡ length ws → every (λ j. ltb j 4096) (map (indexOf sh q) ws) ≡ true
+  unfolding countIn
+  indices-low b [] l = refl
+  indices-low b (w ∷ ws) l = by (outIn b sh q w) refl (indices-low (put b (bitIn sh q w) 0) ws)
+    where
+      by : (t : Bool) → outIn b sh q w ≡ t → (countIn (put b (bitIn sh q w) 0) sh q ws ≡ length ws → every (λ j. ltb j 4096) (map (indexOf sh q) ws) ≡ true)
+          → every (λ j. ltb j 4096) (map (indexOf sh q) (w ∷ ws)) ≡ true
+      by true o z = rw (lt-ltb _ 4096 (in-low b w o), z (omega (arith, rw o at l)))
+      by false o z = absurd (omega (arith, rw o at l))
+
+  pub run-marks : (b : List ℕ) (ws : List ℕ) → countIn b sh q ws ≡ length ws → struckIn b sh q ws ≡ marks b q 0 (map (indexOf sh q) ws)
+  unfolding countIn struckIn
+  run-marks b [] l = refl
+  run-marks b (w ∷ ws) l = by (outIn b sh q w) refl (run-marks (put b (bitIn sh q w) 0) ws) (indices-low (put b (bitIn sh q w) 0) ws)
+    where
+      by : (t : Bool) → outIn b sh q w ≡ t
+          → (countIn (put b (bitIn sh q w) 0) sh q ws ≡ length ws → struckIn (put b (bitIn sh q w) 0) sh q ws ≡ marks (put b (bitIn sh q w) 0) q 0 (map (indexOf sh q) ws))
+          → (countIn (put b (bitIn sh q w) 0) sh q ws ≡ length ws → every (λ j. ltb j 4096) (map (indexOf sh q) ws) ≡ true)
+          → struckIn b sh q (w ∷ ws) ≡ marks b q 0 (map (indexOf sh q) (w ∷ ws))
+      by true o z y =
+          let k : countIn (put b (bitIn sh q w) 0) sh q ws ≡ length ws = omega (arith, rw o at l) in
+          rw o (z k ∙ low-marks b q 0 (indexOf sh q w) (map (indexOf sh q) ws) (in-low b w o) (y k))
+      by false o z y = absurd (omega (arith, rw o at l))
