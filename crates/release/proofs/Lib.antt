@@ -1,5 +1,6 @@
 pub mod Bits
 pub mod Decode
-pub mod Steps
+pub mod Ways
 pub mod StrikeLaws
 pub mod RunLaws
+pub mod Steps

@@ -8,10 +8,11 @@ ghost use Rattle.fields.specs.Field.{put};
 ghost use Rattle.fields.specs.Ranges.{maxPages};
 ghost use Rattle.words.specs.Word.{granuleOf};
 ghost use Rattle.heap.specs.Release.{pageAt};
-ghost use Rattle.release.specs.Strike.{blockAt};
-ghost use Rattle.release.specs.Asks.{InAsks, StruckOne, StruckIn};
+ghost use Rattle.release.specs.Strike.{blockAt, runAt};
+ghost use Rattle.release.specs.Asks.{InAsks, ClassAsks, StruckOne, StruckIn, Struck};
 use super::Found;
 use classes::Shape;
+use pages::whole;
 use words::Word;
 
 // A word's granule, and the page that has it.
@@ -77,6 +78,53 @@ fn strike_run(meta: &mut [u32], shape: Shape, q: u32, list: &[u32], from: usize)
         } else {
             return i;
         }
+    }
+    i
+}
+
+// The first page of the class's run that has the word's granule.
+fn run_of(meta: &[u32], n: u32, c: u32, shape: Shape, w: u32) -> Found
+    requires { ⌜ ClassAsks n (now meta) c shape ⌝ }
+    ensures { λ r. ⌜ r ≡ runAt n (now (meta .entry)) shape c w ⌝ }
+{
+    let p = page_at(w);
+    if p >= n {
+        return Found::Nothing;
+    }
+    if p >= fields::arena::frontier(meta) {
+        return Found::Nothing;
+    }
+    let q = fields::page::first(meta, p);
+    if q > p {
+        return Found::Nothing;
+    }
+    if p - q >= shape.pages {
+        return Found::Nothing;
+    }
+    if whole(meta, n, c, shape, q) {
+        Found::At(q)
+    } else {
+        Found::Nothing
+    }
+}
+
+// As `strike_run`, in the class's runs: the place of the first word that is not out in the class.
+fn strike(meta: &mut [u32], n: u32, c: u32, shape: Shape, list: &[u32], from: usize) -> usize
+    requires { ⌜ ClassAsks n (now meta) c shape ⌝ }
+    requires { ⌜ from ≤ length (now list) ⌝ }
+    ensures { λ r. ⌜ Struck r (now (meta .exit)) n (now (meta .entry)) c shape (now (list .entry)) from ⌝ }
+{
+    let mut i = from;
+    while i < list.len() {
+        let run = run_of(meta, n, c, shape, list[i]);
+        let Found::At(q) = run else {
+            return i;
+        };
+        let next = strike_run(meta, shape, q, list, i);
+        if next == i {
+            return i;
+        }
+        i = next;
     }
     i
 }
