@@ -25,7 +25,7 @@ pub const SCENARIOS: [Scenario; 12] = [
     Scenario { name: "small stores", weight: 12, needs: &[Kind::TakeBlocks], make: small_stores },
     Scenario { name: "medium stores", weight: 8, needs: &[Kind::MediumTakeBlocks], make: medium_stores },
     Scenario { name: "chunks", weight: 60, needs: &[Kind::ReleaseBinChunks], make: chunks },
-    Scenario { name: "chunk limit", weight: 1, needs: &[Kind::ReleaseBinChunks], make: chunk_limit },
+    Scenario { name: "chunk limit", weight: 2, needs: &[Kind::ReleaseBinChunks], make: chunk_limit },
 ];
 
 /// A plan of the named scenario, or of one of those whose calls are asked. `pages` sets the arena's length.
@@ -259,26 +259,50 @@ fn long_holes(maker: &mut Maker) {
     }
 }
 
+/// The most holes that are stored.
+pub const HOLE_LIMIT: u64 = 4_096;
+
 /// Up to 4,096 holes and on: single pages of one long run are given back, every other one, then all goes on there.
 fn many_holes(maker: &mut Maker) {
     maker.arena(9_000, 12_000);
     maker.push(HOST_ALL, Intent::Commit { pages: u64::from(maker.length.saturating_sub(200).max(1)) });
-    let last = maker.random.between(4_090, 4_110);
+    let last = maker.random.between(HOLE_LIMIT - 6, HOLE_LIMIT + 14);
     for hole in 0..last {
         let pages = if maker.random.chance(1, 40) { 2 } else { 1 };
         maker.push(HOST_ALL, Intent::ReleaseAt { first: 1 + 2 * hole, pages });
     }
     for _ in 0..maker.random.between(300, 900) {
-        match maker.random.below(12) {
-            0..=2 => maker.add(Intent::Commit { pages: 1 }),
-            3 => maker.add(Intent::Commit { pages: 2 }),
-            4 => maker.push(HOST_ALL - HOST_COMMIT, Intent::Commit { pages: 1 }),
-            5..=8 => maker.add(Intent::Release { piece: Piece::Front(1) }),
-            9 => maker.add(Intent::Release { piece: Piece::Front(3) }),
-            10 => maker.direct_step(),
-            _ => maker.look(),
-        }
+        hole_limit_step(maker);
     }
+}
+
+fn hole_limit_step(maker: &mut Maker) {
+    match maker.random.below(12) {
+        0..=2 => maker.add(Intent::Commit { pages: 1 }),
+        3 => maker.add(Intent::Commit { pages: 2 }),
+        4 => maker.push(HOST_ALL - HOST_COMMIT, Intent::Commit { pages: 1 }),
+        5..=8 => maker.add(Intent::Release { piece: Piece::Front(1) }),
+        9 => maker.add(Intent::Release { piece: Piece::Front(3) }),
+        10 => maker.direct_step(),
+        _ => maker.look(),
+    }
+}
+
+/// Steps where nearly 4,096 holes of one page are stored and the direct calls hold the pages from `first` on: longer
+/// holes up to the limit, one that is cut and given back there, then others.
+pub fn at_hole_limit(random: &mut Random, first: u64, steps: usize) -> Vec<Step> {
+    let random = Random::new(random.word());
+    let mut maker = Maker { random, pages: None, length: 40, steps: Vec::new(), asked: |_| true };
+    for hole in 0..6 {
+        maker.push(HOST_ALL, Intent::ReleaseAt { first: first + 5 * hole, pages: if hole < 2 { 3 } else { 1 } });
+    }
+    maker.push(HOST_ALL - HOST_COMMIT, Intent::Commit { pages: 2 });
+    maker.push(HOST_ALL - HOST_COMMIT, Intent::Commit { pages: 1 });
+    maker.push(HOST_ALL, Intent::Report);
+    while maker.steps.len() < steps {
+        hole_limit_step(&mut maker);
+    }
+    maker.steps
 }
 
 fn mixed(maker: &mut Maker) {

@@ -154,7 +154,8 @@ fn chunks(random: &mut Random, ledger: &Ledger, class: u32, host: u32, most: usi
         return None;
     }
     random.shuffle(&mut runs);
-    runs.truncate(random.between(1, most.min(MAX_GROUPS) as u64) as usize);
+    let most = most.min(MAX_GROUPS);
+    runs.truncate(if random.chance(1, 3) { most } else { 1 + random.index(most) });
     let (mut list, mut groups) = (Vec::new(), Vec::new());
     for run in runs {
         let portion = if random.chance(1, 4) { Portion::All } else { portion };

@@ -4,10 +4,21 @@ use super::names;
 use crate::call::{Answer, Call, Lent};
 use crate::history::History;
 
-/// The text of a module that states and proves one history.
+/// The text of a module that states and proves one history from an opening.
 pub fn module(own_crate: &str, history: &History) -> String {
-    let calls: Vec<String> = history.calls.iter().map(|(call, _)| call_term(call)).collect();
+    stated(own_crate, history, "Answers.{computed}", "computed")
+}
+
+/// The same from a heap that the module `Combed` writes down.
+pub fn module_from(own_crate: &str, history: &History, start: &str) -> String {
+    let uses = format!("Answers.{{computedFrom}}\nuse Rattle.{own_crate}.proofs.Combed.{{combed}}");
+    stated(own_crate, history, &uses, &format!("computedFrom {start}"))
+}
+
+fn stated(own_crate: &str, history: &History, used: &str, computed: &str) -> String {
+    let calls: Vec<Call> = history.calls.iter().map(|(call, _)| call.clone()).collect();
     let answers: Vec<String> = history.calls.iter().map(|(call, answer)| answer_term(call, answer)).collect();
+    let unfolding = computed.replace(|other: char| !other.is_alphabetic(), " ");
     format!(
         "-- One history with the original's answers. Assumes nothing.\n\
          use Prim.Native.Nat.{{ℕ}}\n\
@@ -16,18 +27,23 @@ pub fn module(own_crate: &str, history: &History) -> String {
          use mathlib.Core.Bool.{{Bool, true, false}}\n\
          use lib.ListN.{{replicate}}\n\
          use Rattle.{model}.specs.{calls_module}.{{{call_type}, {answer_type}}}\n\
-         use Rattle.{own_crate}.proofs.Answers.{{computed}}\n\n\
-         as-answered :\n  computed {pages} (\n    {calls})\n  ≡ {answers}\n\
-         unfolding computed\n\
+         use Rattle.{own_crate}.proofs.{used}\n\n\
+         as-answered :\n  {computed} {pages} (\n    {calls})\n  ≡ {answers}\n\
+         unfolding {unfolding}\n\
          as-answered = refl\n",
         model = names::CRATE,
         calls_module = names::CALLS_MODULE,
         call_type = names::CALL_TYPE,
         answer_type = names::ANSWER_TYPE,
         pages = history.pages,
-        calls = list_of(&calls, "\n    "),
+        calls = calls_term(&calls),
         answers = list_of(&answers, "\n    "),
     )
+}
+
+pub fn calls_term(calls: &[Call]) -> String {
+    let terms: Vec<String> = calls.iter().map(call_term).collect();
+    list_of(&terms, "\n    ")
 }
 
 /// The module that names the model's answers and what the checker may unfold to compute them.
@@ -43,19 +59,25 @@ pub fn answers_module(unfolded: &[(String, String, Vec<String>)]) -> String {
     format!(
         "-- The model's answers, with all that the checker unfolds to compute them. Assumes nothing.\n\
          use Prim.Native.Nat.{{ℕ}}\n\
-         use mathlib.Core.List.{{List}}\n\
+         use mathlib.Core.List.{{List, map}}\n\
+         use Rattle.{model}.specs.{heap_module}.{{Heap}}\n\
          use Rattle.{model}.specs.{calls}.{{{call_type}, {answer_type}}}\n\
          use Rattle.{model}.specs.{history} as Histories\n\
          {uses}\n\
          unfoldable pub computed : ℕ → List {call_type} → List {answer_type}\n\
          unfolding {unfolding}\n\
-         computed size calls = Histories.{answers} size calls\n",
+         computed size calls = Histories.{answers} size calls\n\n\
+         unfoldable pub computedFrom : Heap → ℕ → List {call_type} → List {answer_type}\n\
+         unfolding computed\n\
+         computedFrom heap size calls = map (λ (e : Histories.Event). e .answer) (Histories.{events_from} size heap calls)\n",
         model = names::CRATE,
         calls = names::CALLS_MODULE,
         history = names::HISTORY_MODULE,
         call_type = names::CALL_TYPE,
         answer_type = names::ANSWER_TYPE,
         answers = names::ANSWERS,
+        heap_module = names::HEAP_MODULE,
+        events_from = names::EVENTS_FROM,
         unfolding = unfolding.join(" "),
     )
 }
@@ -64,7 +86,7 @@ fn alias(owner: &str, module: &str) -> String {
     format!("{owner}{module}")
 }
 
-fn list_of(terms: &[String], between: &str) -> String {
+pub fn list_of(terms: &[String], between: &str) -> String {
     let mut text: String = terms.iter().map(|term| format!("{term} ∷{between}")).collect();
     text.push_str("[]");
     text

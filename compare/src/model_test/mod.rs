@@ -1,6 +1,7 @@
 //! The model's definitions against the original: histories with the original's answers are written as equations of the
 //! model, and the checker computes them.
 
+mod combed;
 mod equations;
 mod names;
 mod repository;
@@ -8,6 +9,7 @@ mod repository;
 use std::fs;
 use std::path::{Path, PathBuf};
 
+use self::combed::Comb;
 use crate::arguments::Arguments;
 use crate::call::Call;
 use crate::generate;
@@ -32,24 +34,33 @@ const ROUND: [(&str, usize, usize); 10] = [
     ("medium stores", 1, 700),
 ];
 
+/// The scenario whose histories start where nearly 4,096 holes are stored.
+const HOLE_LIMIT: (&str, usize, usize) = ("hole limit", 1, 30);
+
+/// A history from an opening, or from a comb.
+pub struct Case {
+    start: Option<Comb>,
+    history: History,
+}
+
 pub fn run(words: &[String]) -> Result<bool, String> {
     let arguments = Arguments::read(words, &["calls", "seed", "file", "scenario", "longest", "repository"])?;
-    let histories = match arguments.text("file") {
+    let cases = match arguments.text("file") {
         Some(file) => {
             let text = fs::read_to_string(file).map_err(|error| format!("{file}: {error}"))?;
-            history::parse(&text)?
+            history::parse(&text)?.into_iter().map(|history| Case { start: None, history }).collect()
         }
         None => generated(&arguments)?,
     };
     let mut tally = Tally::default();
-    for history in &histories {
-        tally.begin("equations");
-        history.calls.iter().for_each(|(call, answer)| tally.count(call, answer));
+    for case in &cases {
+        tally.begin(if case.start.is_some() { "from a heap with many holes" } else { "from an opening" });
+        case.history.calls.iter().for_each(|(call, answer)| tally.count(call, answer));
     }
     let own = Path::new(env!("CARGO_MANIFEST_DIR")).join("..");
     let root = arguments.text("repository").map_or(own, PathBuf::from);
     let progress = Progress::begin();
-    let failure = repository::check(&root, &histories)?;
+    let failure = repository::check(&root, &cases)?;
     println!("{tally}");
     println!("{:.0} s for the checker", progress.seconds());
     println!("not the original's, but the tool's own reading: refusals 3 to 12, the report's pages held");
@@ -58,7 +69,7 @@ pub fn run(words: &[String]) -> Result<bool, String> {
         Some(failure) => {
             println!("the checker refuses it ({} is left):\n{}", failure.folder.display(), failure.said);
             if let Some(at) = failure.history {
-                print!("# the first history that it refuses:\n{}", histories[at].text());
+                print!("# the first history that it refuses:\n{}", cases[at].history.text());
             }
         }
     }
@@ -66,32 +77,39 @@ pub fn run(words: &[String]) -> Result<bool, String> {
 }
 
 /// Rounds of histories until there are enough calls.
-fn generated(arguments: &Arguments) -> Result<Vec<History>, String> {
+fn generated(arguments: &Arguments) -> Result<Vec<Case>, String> {
     let calls: usize = arguments.number("calls")?.unwrap_or(3_000);
     let mut random = Random::new(arguments.number("seed")?.unwrap_or(1));
     let longest: Option<usize> = arguments.number("longest")?;
-    let only = arguments.text("scenario");
-    let mut histories: Vec<History> = Vec::new();
-    let mut number = 0;
-    while number < calls {
-        let before = number;
-        for (name, times, steps) in ROUND {
-            if only.is_some_and(|only| only != name) {
-                continue;
-            }
+    let round: Vec<(&str, usize, usize)> = ROUND
+        .into_iter()
+        .chain([HOLE_LIMIT])
+        .filter(|(name, ..)| arguments.text("scenario").is_none_or(|only| only == *name))
+        .collect();
+    if round.is_empty() {
+        return Err("no such scenario for the model".into());
+    }
+    let mut cases: Vec<Case> = Vec::new();
+    while cases.iter().map(|case| case.history.calls.len()).sum::<usize>() < calls {
+        for &(name, times, steps) in &round {
+            let steps = longest.unwrap_or(steps);
             for _ in 0..times {
-                let mut plan = generate::plan(&mut random, |_| true, Some(name), None);
-                plan.steps.truncate(longest.unwrap_or(steps));
-                let history = affordable(History { pages: plan.pages, calls: run::record(&plan, |_| true) });
-                number += history.calls.len();
-                histories.push(history);
+                if name == HOLE_LIMIT.0 {
+                    cases.extend(combed::cases(&mut random, steps));
+                } else {
+                    cases.push(case(&mut random, name, steps));
+                }
             }
-        }
-        if number == before {
-            return Err("no such scenario for the model".into());
         }
     }
-    Ok(histories)
+    Ok(cases)
+}
+
+fn case(random: &mut Random, name: &str, steps: usize) -> Case {
+    let mut plan = generate::plan(random, |_| true, Some(name), None);
+    plan.steps.truncate(steps);
+    let history = affordable(History { pages: plan.pages, calls: run::record(&plan, |_| true) });
+    Case { start: None, history }
 }
 
 /// The checker computes at most so many steps for one equation. It looks a page's holder up through every call before,

@@ -40,3 +40,48 @@ pub const GROWN: &str = "grown";
 pub const RELEASED: &str = "released";
 pub const CONTAINED: &str = "contained";
 pub const REPORTED: &str = "reported";
+
+/// The events of a history from a heap, and the heap after it, in the module of histories; the heap after an opening.
+pub const EVENTS_FROM: &str = "eventsFrom";
+pub const HEAP_FROM: &str = "heapFrom";
+pub const HEAP_MODULE: &str = "Heap";
+pub const NEW_HEAP: &str = "newHeap";
+
+/// A heap written down: the direct calls hold the pages below the frontier, but for `holes` holes of one page, at every
+/// odd page from the first on, that were given in this order.
+pub const COMBED_USES: &str = "use Rattle.model.specs.HoleStore.{hole, store}
+use Rattle.model.specs.Arena.{ready}
+use Rattle.model.specs.Heap.{Heap, direct, nobody, newHeap}
+use Rattle.model.specs.declared.Hole.{Hole}
+";
+pub const COMBED: &str = "comb : ℕ → ℕ → List Hole
+comb zero first = []
+comb (suc k) first = hole first 1 ∷ comb k (first + 2)
+
+unfoldable pub combed : ℕ → ℕ → Heap
+unfolding newHeap comb
+combed frontier holes = record {
+  arena = record {
+    status = ready;
+    frontier = frontier;
+    store = store (comb holes 1) holes (λ n. cond (eqb n 1) (some (holes - 1)) none);
+    commits = 1;
+    reuses = 0;
+    abandoned = 0;
+  };
+  holder = λ x. cond (ltb x frontier && not (eqb (x % 2) 1 && ltb x (2 * holes))) direct nobody;
+  classes = newHeap .classes;
+}
+";
+/// What of two heaps is compared: `{}` stands for a heap, and the list of pages is `pages`. The memory is not: the
+/// answers of later commits show it.
+pub const COMPARED: [&str; 8] = [
+    "{} .arena .status",
+    "{} .arena .frontier",
+    "{} .arena .store .holes",
+    "{} .arena .store .total",
+    "{} .arena .commits",
+    "{} .arena .reuses",
+    "{} .arena .abandoned",
+    "map ({} .holder) pages",
+];

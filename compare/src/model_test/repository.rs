@@ -5,8 +5,7 @@ use std::io;
 use std::path::{Path, PathBuf};
 use std::process::Command;
 
-use super::{equations, names};
-use crate::history::History;
+use super::{combed, equations, names, Case};
 
 /// The crate of equations.
 const OWN: &str = "as_answered";
@@ -21,9 +20,9 @@ pub struct Failure {
 }
 
 /// Copies the model out of the repository at `root`, and has the checker compute the histories.
-pub fn check(root: &Path, histories: &[History]) -> Result<Option<Failure>, String> {
+pub fn check(root: &Path, cases: &[Case]) -> Result<Option<Failure>, String> {
     let folder = std::env::temp_dir().join(format!("vigbuso-model-test-{}", std::process::id()));
-    let built = build(root, &folder, histories).map_err(|error| format!("{}: {error}", folder.display()));
+    let built = build(root, &folder, cases).map_err(|error| format!("{}: {error}", folder.display()));
     built?;
     let output = Command::new("rt")
         .args(["check", OWN])
@@ -36,14 +35,13 @@ pub fn check(root: &Path, histories: &[History]) -> Result<Option<Failure>, Stri
         return Ok(None);
     }
     let errors: Vec<&str> = said.lines().filter(|line| line.contains("error")).collect();
-    let at =
-        |line: &&str| histories.iter().enumerate().find(|(at, _)| line.contains(&file_name(*at))).map(|(at, _)| at);
+    let at = |line: &&str| (0..cases.len()).find(|&at| line.contains(&file_name(at)));
     let history = errors.iter().find_map(at);
     let said = if errors.is_empty() { said } else { errors.join("\n") };
     Ok(Some(Failure { history, said, folder }))
 }
 
-fn build(root: &Path, folder: &Path, histories: &[History]) -> io::Result<()> {
+fn build(root: &Path, folder: &Path, cases: &[Case]) -> io::Result<()> {
     let list = fs::read_to_string(root.join("crates.txt"))?;
     let needed = closure(&list, names::CRATE);
     let mut crates = String::new();
@@ -63,9 +61,17 @@ fn build(root: &Path, folder: &Path, histories: &[History]) -> io::Result<()> {
     fs::write(own.join("src/lib.rt"), "// The equations are in proofs/.\npub fn keep(x: u32) -> u32 {\n    x\n}\n")?;
     let mut modules = String::from("pub mod Answers\n");
     fs::write(own.join("proofs/Answers.antt"), equations::answers_module(&unfoldable(root, &all)?))?;
-    for (at, history) in histories.iter().enumerate() {
+    if cases.iter().any(|case| case.start.is_some()) {
+        modules += "pub mod Combed\n";
+        fs::write(own.join("proofs/Combed.antt"), combed::module(OWN))?;
+    }
+    for (at, case) in cases.iter().enumerate() {
+        let text = match case.start {
+            None => equations::module(OWN, &case.history),
+            Some(comb) => equations::module_from(OWN, &case.history, &comb.term()),
+        };
         modules += &format!("pub mod {}\n", module_name(at));
-        fs::write(own.join("proofs").join(file_name(at)), equations::module(OWN, history))?;
+        fs::write(own.join("proofs").join(file_name(at)), text)?;
     }
     fs::write(own.join("proofs/Lib.antt"), modules)
 }

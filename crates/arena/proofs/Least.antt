@@ -21,12 +21,12 @@ use Rattle.model.specs.HoleStore.{Fit, nearer, leastFit, lowest, next}
 use Rattle.arena.specs.declared.holes.Best.{Best}
 use Rattle.arena.specs.Scan.{noHole, bestOf, noKey, key, keyFrom, betterOf, bestAt}
 
-by-test : {P : Type 0} (t : Bool) → (t ≡ true → P) → (t ≡ false → P) → P
+pub by-test : {P : Type 0} (t : Bool) → (t ≡ true → P) → (t ≡ false → P) → P
 by-test true f g = f refl
 by-test false f g = g refl
 
 -- ---- the index and the length of a least fit
-abbrev Within : ℕ → Option Fit → Type 0
+abbrev pub Within : ℕ → Option Fit → Type 0
 Within k none = Unit {0}
 Within k (some f) = f .index < k
 

@@ -6,7 +6,7 @@ ghost use mathlib.Core.Bool.{_&&_};
 ghost use lib.ListN.{length, getD, set, take, drop};
 ghost use Rattle.model.specs.HoleStore.{leastFit};
 ghost use Rattle.model.specs.Lists.{every};
-ghost use Rattle.fields.specs.Field.{hole, start, pages, word};
+ghost use Rattle.fields.specs.Field.{hole, start, pages, word, Has};
 ghost use Rattle.arena.specs.Load.{loadHole, loadHoles};
 ghost use Rattle.arena.specs.Fair.{holeFair};
 ghost use Rattle.arena.specs.Scan.{noHole, betterOf, bestAt, bestOf};
@@ -81,13 +81,12 @@ pub fn scan(holes: &[Hole], count: u32, need: u32) -> Best
 
 // The hole that the words hold at `i`.
 fn hole_from(meta: &[u32], i: u32) -> Hole
-    requires { ⌜ word (hole pages i) < length (now meta) ⌝ }
+    requires { ⌜ Has (now meta) (hole pages i) ⌝ }
     ensures { λ r. ⌜ r ≡ loadHole (now (meta .entry)) i ⌝ }
 {
-    let at = 1024 + 2 * (i as usize);
     Hole {
-        first: meta[at],
-        pages: meta[at + 1],
+        first: fields::hole::start(meta, i),
+        pages: fields::hole::pages(meta, i),
     }
 }
 

@@ -1,7 +1,8 @@
 // The arena on the words: its record and its holes are read from the book, one step of the arena is done, and both are written back.
 
-mod holes;
-mod record;
+pub mod holes;
+pub mod plans;
+pub mod record;
 
 // The arena's state, frontier and three counts, with the number of holes and of the pages in them.
 pub struct Arena {

@@ -1,0 +1,123 @@
+-- Number 13's tests for the arena's steps pass on a book that stands for a reached heap.
+--     record-passes, memory-passes, holes-passes    the record, the memory of a length, the holes
+--     commit-passes                                 all that a commit tests
+--     give-passes                                   all that a give of held pages tests
+-- Assumes nothing.
+use Prim.Native.Nat.{ℕ, zero, suc, _+_, _≤_, _<_}
+use native.Mathlib.Omega.{arith}
+use mathlib.Core.Bool.{Bool, true, false, cond, _&&_}
+use mathlib.Core.List.{List, [], _∷_}
+use mathlib.Core.Option.{Option, none, some}
+use mathlib.Core.Path.{_≡_, refl, sym, ap, _∙_}
+use lib.Dec.{ltb, leb}
+use lib.ListN.{length}
+use borrow.Author.Tests.{le-leb, leb-true}
+use Rattle.fields.specs.Field.{arena, memory, state, frontier, holes, holePages, commits, commitsHigh, reuses, reusesHigh, abandoned, abandonedHigh, held, get}
+use Rattle.model.specs.HoleStore.{holeSlots}
+use Rattle.model.specs.declared.Hole.{Hole}
+use Rattle.model.specs.Lists.{All, every, total}
+use Rattle.model.specs.Arena.{Arena, Status, unasked, ready, disabled}
+use Rattle.model.specs.Heap.{Heap, heldPages}
+use Rattle.model.proofs.Counts.{by-cases}
+use Rattle.model.proofs.Remembers.{Tidy}
+use Rattle.model.proofs.IdlePages.{HolesBelow}
+use Rattle.arena.specs.Load.{statusCode, indexOf, wide, recall, loadHoles, loadStore, loadArena}
+use Rattle.arena.specs.Fair.{holeFair, recordFair, holesFair, memoryFair, commitFair, giveFair}
+use Rattle.arena.specs.Represents.{ArenaRep}
+use Rattle.refinement.proofs.ArenaReached.{Reached, reached-holes, held-le}
+
+-- ---- what the words of an arena that is loaded are
+module _ (b : List ℕ) (a : Arena) (loads : loadArena b ≡ a) where
+  pub loads-frontier : get b (arena frontier) ≡ a .frontier
+  unfolding loadArena
+  loads-frontier = ap (λ x. x .frontier) loads
+
+  pub loads-total : get b (arena holePages) ≡ a .store .total
+  unfolding loadArena loadStore
+  loads-total = ap (λ x. x .store .total) loads
+
+  pub loads-holes : loadHoles b 0 (get b (arena holes)) ≡ a .store .holes
+  unfolding loadArena loadStore
+  loads-holes = ap (λ x. x .store .holes) loads
+
+  pub loads-commits : wide b commits commitsHigh ≡ a .commits
+  unfolding loadArena
+  loads-commits = ap (λ x. x .commits) loads
+
+  pub loads-reuses : wide b reuses reusesHigh ≡ a .reuses
+  unfolding loadArena
+  loads-reuses = ap (λ x. x .reuses) loads
+
+  pub loads-abandoned : wide b abandoned abandonedHigh ≡ a .abandoned
+  unfolding loadArena
+  loads-abandoned = ap (λ x. x .abandoned) loads
+
+  loaded-length : (i k : ℕ) → length (loadHoles b i k) ≡ k
+  unfolding loadHoles
+  loaded-length i zero = refl
+  loaded-length i (suc k) = ap suc (loaded-length (suc i) k)
+
+  pub loads-number : get b (arena holes) ≡ length (a .store .holes)
+  loads-number = sym (loaded-length 0 (get b (arena holes))) ∙ ap length loads-holes
+
+  pub loads-memory : (m : ℕ) → recall b m ≡ a .store .memory m
+  unfolding loadArena loadStore
+  loads-memory m = ap (λ x. x .store .memory m) loads
+
+-- ---- the tests
+status-range : (s : Status) → leb (statusCode s) 2 ≡ true
+status-range unasked = refl
+status-range ready = refl
+status-range disabled = refl
+
+-- the code of an index below the limit
+code-range : (v : ℕ) (o : Option ℕ) → indexOf v ≡ o → ((i : ℕ) → o ≡ some i → i < holeSlots) → leb v holeSlots ≡ true
+code-range zero o e k = le-leb 0 holeSlots (omega arith)
+code-range (suc i) o e k = le-leb (suc i) holeSlots (omega (arith, k i (sym e)))
+
+-- a hole has at most the total's pages
+holes-range : (t f : ℕ) (hs : List Hole) → All (λ h. 1 ≤ h .pages) hs → HolesBelow f hs → total (λ h. h .pages) hs ≤ t → every (holeFair t f) hs ≡ true
+holes-range t f [] each low l = refl
+holes-range t f (h ∷ hs) each low l =
+    rw (le-leb 1 (h .pages) (each .0), le-leb (h .pages) t (omega arith), le-leb (h .first + h .pages) f (low .0)) (holes-range t f hs (each .1) (low .1) (omega arith))
+
+module _ (n : ℕ) (b : List ℕ) (H : Heap) (rep : ArenaRep n b H) (r : Reached n H) where
+  pub record-passes : recordFair n b ≡ true
+  unfolding recordFair
+  record-passes =
+      let a = H .arena in
+      let f = loads-frontier b (H .arena) (rep .loads) in
+      let k = loads-number b (H .arena) (rep .loads) in
+      let t = loads-total b (H .arena) (rep .loads) in
+      rw (
+        rep .state,
+        status-range (H .arena .status),
+        f,
+        le-leb (a .frontier) n (r .bound),
+        k,
+        le-leb (length (a .store .holes)) 4096 (r .tidy .slots),
+        t,
+        le-leb (a .store .total) 65536 (r .tidy .pages),
+        rep .held,
+        le-leb (heldPages n H) n (held-le n H r),
+      )
+
+  pub memory-passes : (m : ℕ) → memoryFair b m ≡ true
+  memory-passes m =
+      by-cases (leb m 128)
+      (λ e. rw e (code-range (get b (memory m)) (H .arena .store .memory m) (rw e at (loads-memory b (H .arena) (rep .loads) m)) (r .tidy .memory m (leb-true m 128 e) .slot)))
+      (λ e. rw e)
+
+  pub holes-passes : holesFair b ≡ true
+  unfolding holesFair
+  holes-passes =
+      rw (loads-total b (H .arena) (rep .loads), loads-frontier b (H .arena) (rep .loads), loads-holes b (H .arena) (rep .loads))
+      (holes-range (H .arena .store .total) (H .arena .frontier) (H .arena .store .holes) (r .tidy .each) (reached-holes n H r) (omega (arith, r .tidy .sum)))
+
+  pub commit-passes : (m : ℕ) → commitFair n b m ≡ true
+  unfolding commitFair
+  commit-passes m = rw (record-passes, memory-passes m, holes-passes)
+
+  pub give-passes : (m : ℕ) → m ≤ heldPages n H → giveFair n b m ≡ true
+  unfolding giveFair
+  give-passes m l = rw (record-passes, rep .held, le-leb m (heldPages n H) l)

@@ -1,0 +1,276 @@
+-- What the arena's steps leave alone, for the class part of the representation.
+--     isStep t             the arena's words but LENGTH, and OWNER of the pages of t: no row, no other word of a page
+--     step-row, step-page  so a class's row and a page's other words are as they were
+--     names b d x y        page y says that it is of class d's run at x
+--     whole-same           a run is whole as before if below the old frontier its pages are named as before, and no page above it names it
+-- Assumes nothing.
+use Prim.Native.Nat.{ℕ, zero, suc, _+_, _-_, _≤_, _<_}
+use native.Mathlib.Omega.{arith}
+use mathlib.Core.Bool.{Bool, true, false, _&&_, _||_, true≢false, false≢true}
+use mathlib.Core.List.{List}
+use mathlib.Core.Option.{Option, none, some}
+use mathlib.Core.Path.{_≡_, refl, sym, ap, _∙_}
+use lib.Dec.{eqb, ltb, leb, eqb·zero-suc}
+use lib.ListN.{length}
+use borrow.Author.Tests.{lt-ltb, ltb-true, ltb-false, ne-eqb, eqb-true, eqb-false, le-leb, leb-true, leb-false}
+use Rattle.classes.specs.declared.Shape.{Shape}
+use Rattle.fields.specs.Field.{Field, arena, memory, class, hole, page, out, slot, ClassField, PageField, owner, first, frontier, held, size, arenaOff, pageOff, get, put, ok, words}
+use Rattle.fields.proofs.Laws.{get-put-same, get-put-other, length-put}
+use Rattle.fields.proofs.Changes.{Changes, changes-none, changes-put, changes-trans, changes-mono}
+use Rattle.model.specs.Lists.{every, below, inRun}
+use Rattle.model.specs.Arena.{Arena, Given, Grown}
+use Rattle.model.specs.Arena as Model
+use Rattle.model.proofs.Counts.{by-cases, and-l, and-r}
+use Rattle.pages.specs.Runs.{ofRun, whole}
+use Rattle.arena.specs.Load.{loadArena}
+use Rattle.arena.specs.Store.{storeArena}
+use Rattle.arena.specs.Owners.{own, ownRun, heldWith}
+use Rattle.arena.specs.Calls.{advance, committed, given, grownBy, grownBook}
+use Rattle.refinement.proofs.ArenaStore.{isStored, long-kept, store-changes}
+
+-- ---- which words
+abbrev pub isOwner : (ℕ → Bool) → Field → Bool
+isOwner t (arena k) = false
+isOwner t (memory m) = false
+isOwner t (class k c) = false
+isOwner t (hole k i) = false
+isOwner t (page k p) = eqb (pageOff k) 0 && t p
+isOwner t (out p i) = false
+isOwner t (slot p i) = false
+
+abbrev pub isStep : (ℕ → Bool) → Field → Bool
+isStep t (arena k) = ltb 0 (arenaOff k)
+isStep t (memory m) = true
+isStep t (class k c) = false
+isStep t (hole k i) = true
+isStep t (page k p) = eqb (pageOff k) 0 && t p
+isStep t (out p i) = false
+isStep t (slot p i) = false
+
+-- the pages of a run, or of none
+abbrev pub inRunOf : ℕ → Option ℕ → ℕ → Bool
+inRunOf m none x = false
+inRunOf m (some q) x = inRun m q x
+
+module _ (t : ℕ → Bool) (b b′ : List ℕ) (h : Changes (isStep t) b b′) where
+  pub step-row : (k : ClassField) (c : ℕ) → ltb c 76 ≡ true → get b′ (class k c) ≡ get b (class k c)
+  step-row k c o = h .kept (class k c) o refl
+
+  pub step-page : (k : PageField) (p : ℕ) → eqb (pageOff k) 0 ≡ false → get b′ (page k p) ≡ get b (page k p)
+  step-page k p e = h .kept (page k p) refl (rw e)
+
+  pub step-owner : (x : ℕ) → t x ≡ false → get b′ (page owner x) ≡ get b (page owner x)
+  step-owner x e = h .kept (page owner x) refl e
+
+  pub step-first : (x : ℕ) → get b′ (page first x) ≡ get b (page first x)
+  step-first x = h .kept (page first x) refl refl
+
+  pub step-out : (p i : ℕ) → ltb i 4096 ≡ true → get b′ (out p i) ≡ get b (out p i)
+  step-out p i o = h .kept (out p i) o refl
+
+  pub step-slot : (p i : ℕ) → ltb i 4096 ≡ true → get b′ (slot p i) ≡ get b (slot p i)
+  step-slot p i o = h .kept (slot p i) o refl
+
+-- ---- owners
+and-mono : (s t u : Bool) → (t ≡ true → u ≡ true) → (s && t) ≡ true → (s && u) ≡ true
+and-mono true t u h e = h e
+and-mono false t u h e = e
+
+owner-mono : (t u : ℕ → Bool) → ((x : ℕ) → t x ≡ true → u x ≡ true) → (g : Field) → isOwner t g ≡ true → isOwner u g ≡ true
+owner-mono t u h (arena k) e = e
+owner-mono t u h (memory m) e = e
+owner-mono t u h (class k c) e = e
+owner-mono t u h (hole k i) e = e
+owner-mono t u h (page k p) e = and-mono (eqb (pageOff k) 0) (t p) (u p) (h p) e
+owner-mono t u h (out p i) e = e
+owner-mono t u h (slot p i) e = e
+
+owner-step : (t u : ℕ → Bool) → ((x : ℕ) → t x ≡ true → u x ≡ true) → (g : Field) → isOwner t g ≡ true → isStep u g ≡ true
+owner-step t u h (arena k) e = absurd (false≢true e)
+owner-step t u h (memory m) e = refl
+owner-step t u h (class k c) e = e
+owner-step t u h (hole k i) e = refl
+owner-step t u h (page k p) e = and-mono (eqb (pageOff k) 0) (t p) (u p) (h p) e
+owner-step t u h (out p i) e = e
+owner-step t u h (slot p i) e = e
+
+stored-step : (u : ℕ → Bool) (g : Field) → isStored g ≡ true → isStep u g ≡ true
+stored-step u (arena k) e = and-l (ltb 0 (arenaOff k)) (ltb (arenaOff k) 11) e
+stored-step u (memory m) e = refl
+stored-step u (class k c) e = absurd (false≢true e)
+stored-step u (hole k i) e = refl
+stored-step u (page k p) e = absurd (false≢true e)
+stored-step u (out p i) e = absurd (false≢true e)
+stored-step u (slot p i) e = absurd (false≢true e)
+
+in-rest : (m q x : ℕ) → inRun m (suc q) x ≡ true → inRun (suc m) q x ≡ true
+in-rest m q x e =
+    let l = leb-true (suc q) x (and-l (leb (suc q) x) (ltb x (suc q + m)) e) in
+    let u = ltb-true x (suc q + m) (and-r (leb (suc q) x) (ltb x (suc q + m)) e) in
+    rw (le-leb q x (omega arith), lt-ltb x (q + suc m) (omega arith))
+
+in-first : (m q : ℕ) → inRun (suc m) q q ≡ true
+in-first m q = rw (le-leb q q (omega arith), lt-ltb q (q + suc m) (omega arith))
+
+pub own-changes : (b : List ℕ) (q m w : ℕ) → Changes (isOwner (inRun m q)) b (own b q m w)
+unfolding own
+own-changes b q zero w = changes-none (isOwner (inRun 0 q)) b
+own-changes b q (suc m) w =
+    let t = isOwner (inRun (suc m) q) in
+    let c = put b (page owner q) w in
+    changes-trans t b c (own c (suc q) m w)
+    (changes-put t b b (page owner q) w refl (in-first m q) (changes-none t b))
+    (changes-mono (isOwner (inRun m (suc q))) t c (own c (suc q) m w) (owner-mono (inRun m (suc q)) (inRun (suc m) q) (in-rest m q)) (own-changes c (suc q) m w))
+
+pub own-in : (n : ℕ) (b : List ℕ) (q m w x : ℕ) → leb (words n) (length b) ≡ true → q + m ≤ n → inRun m q x ≡ true → get (own b q m w) (page owner x) ≡ w
+unfolding own
+own-in n b q zero w x hb l e =
+    absurd (let u = leb-true q x (and-l (leb q x) (ltb x (q + 0)) e) in let v = ltb-true x (q + 0) (and-r (leb q x) (ltb x (q + 0)) e) in omega arith)
+own-in n b q (suc m) w x hb l e =
+    let c = put b (page owner q) w in
+    let hc : leb (words n) (length c) ≡ true = rw length-put hb in
+    by-cases (inRun m (suc q) x)
+    (λ d. own-in n c (suc q) m w x hc (omega arith) d)
+    (λ d. own-changes c (suc q) m w .kept (page owner x) refl d ∙ rw (sym (only-first m q x e d)) (get-put-same n b (page owner q) w hb (lt-ltb q n (omega arith)) refl))
+  where
+    only-first : (m q x : ℕ) → inRun (suc m) q x ≡ true → inRun m (suc q) x ≡ false → q ≡ x
+    only-first m q x e d =
+        let l = leb-true q x (and-l (leb q x) (ltb x (q + suc m)) e) in
+        let u = ltb-true x (q + suc m) (and-r (leb q x) (ltb x (q + suc m)) e) in
+        by-cases (leb (suc q) x)
+        (λ k. absurd (let v : ltb x (suc q + m) ≡ false = rw k at d in let y = ltb-false x (suc q + m) v in omega arith))
+        (λ k. let v = leb-false (suc q) x k in omega arith)
+
+-- a run of an owner, or none
+pub run-changes : (b : List ℕ) (o : Option ℕ) (m w : ℕ) → Changes (isOwner (inRunOf m o)) b (ownRun b o m w)
+run-changes b none m w = changes-none (isOwner (λ x. false)) b
+run-changes b (some q) m w = own-changes b q m w
+
+-- ---- the steps
+abbrev pub either : (ℕ → Bool) → (ℕ → Bool) → ℕ → Bool
+either t u x = t x || u x
+
+or-left : (s t : Bool) → s ≡ true → (s || t) ≡ true
+or-left true t e = refl
+or-left false t e = absurd (false≢true e)
+
+or-right : (s t : Bool) → t ≡ true → (s || t) ≡ true
+or-right true t e = refl
+or-right false t e = e
+
+-- the pages that a frontier passed
+abbrev pub passed : List ℕ → Arena → ℕ → Bool
+passed b a = inRun (a .frontier - get b (arena frontier)) (get b (arena frontier))
+
+pub advance-changes : (b : List ℕ) (a : Arena) → length (a .store .holes) ≤ 4096 → Changes (isStep (passed b a)) b (advance b a)
+unfolding advance
+advance-changes b a l =
+    let t = passed b a in
+    let f = get b (arena frontier) in
+    let c = storeArena b a in
+    changes-trans (isStep t) b c (own c f (a .frontier - f) 0)
+    (changes-mono isStored (isStep t) b c (stored-step t) (store-changes b a l))
+    (changes-mono (isOwner t) (isStep t) c (own c f (a .frontier - f) 0) (owner-step t t (λ x e. e)) (own-changes c f (a .frontier - f) 0))
+
+-- what a commit or a growth writes: the frontier passed pages, a run got an owner, HELD changed
+passed-changes : (b : List ℕ) (a : Arena) (o : Option ℕ) (m w k : ℕ) → length (a .store .holes) ≤ 4096
+    → Changes (isStep (either (passed b a) (inRunOf m o))) b (put (ownRun (advance b a) o m w) (arena held) k)
+passed-changes b a o m w k l =
+    let t = passed b a in
+    let u = inRunOf m o in
+    let v = either t u in
+    let c = advance b a in
+    changes-put (isStep v) b (ownRun c o m w) (arena held) k refl refl
+    (changes-trans (isStep v) b c (ownRun c o m w)
+    (changes-mono (isStep t) (isStep v) b c (step-mono t v (λ x e. or-left (t x) (u x) e)) (advance-changes b a l))
+    (changes-mono (isOwner u) (isStep v) c (ownRun c o m w) (owner-step u v (λ x e. or-right (t x) (u x) e)) (run-changes c o m w)))
+  where
+    step-mono : (t u : ℕ → Bool) → ((x : ℕ) → t x ≡ true → u x ≡ true) → (g : Field) → isStep t g ≡ true → isStep u g ≡ true
+    step-mono t u h (arena k) e = e
+    step-mono t u h (memory m) e = e
+    step-mono t u h (class k c) e = e
+    step-mono t u h (hole k i) e = e
+    step-mono t u h (page k p) e = and-mono (eqb (pageOff k) 0) (t p) (u p) (h p) e
+    step-mono t u h (out p i) e = e
+    step-mono t u h (slot p i) e = e
+
+pub committed-changes : (b : List ℕ) (g : Given) (m w : ℕ) → length (g .arena .store .holes) ≤ 4096
+    → Changes (isStep (either (passed b (g .arena)) (inRunOf m (g .run)))) b (committed b g m w)
+unfolding committed
+committed-changes b g m w l = passed-changes b (g .arena) (g .run) m w (heldWith (get b (arena held)) (g .run) m) l
+
+pub grown-changes : (b : List ℕ) (g : Grown) (e m : ℕ) → length (g .arena .store .holes) ≤ 4096
+    → Changes (isStep (either (passed b (g .arena)) (inRunOf m (grownBy (g .grew) e)))) b (grownBook b g e m)
+unfolding grownBook
+grown-changes b g e m l = passed-changes b (g .arena) (grownBy (g .grew) e) m 77 (heldWith (get b (arena held)) (grownBy (g .grew) e) m) l
+
+pub given-changes : (b : List ℕ) (q m : ℕ) → length (Model.give m q (loadArena b) .store .holes) ≤ 4096 → Changes (isStep (inRun m q)) b (given b q m)
+unfolding given
+given-changes b q m l =
+    let t = inRun m q in
+    let c = storeArena b (Model.give m q (loadArena b)) in
+    changes-put (isStep t) b (own c q m 0) (arena held) (get b (arena held) - m) refl refl
+    (changes-trans (isStep t) b c (own c q m 0)
+    (changes-mono isStored (isStep t) b c (stored-step t) (store-changes b (Model.give m q (loadArena b)) l))
+    (changes-mono (isOwner t) (isStep t) c (own c q m 0) (owner-step t t (λ x e. e)) (own-changes c q m 0)))
+
+-- ---- runs
+abbrev pub names : List ℕ → ℕ → ℕ → ℕ → Bool
+names b d x y = eqb (get b (page owner y)) (suc d) && eqb (get b (page first y)) x
+
+every-cong : (s t : ℕ → Bool) (m : ℕ) → ((k : ℕ) → k < m → s k ≡ t k) → every s (below m) ≡ every t (below m)
+every-cong s t zero h = refl
+every-cong s t (suc m) h = rw (h m (omega arith), every-cong s t m (λ k l. h k (omega arith)))
+
+pub every-at : (t : ℕ → Bool) (m k : ℕ) → every t (below m) ≡ true → k < m → t k ≡ true
+every-at t zero k e h = absurd (omega arith)
+every-at t (suc m) k e h =
+    by-cases (eqb k m)
+    (λ d. rw (eqb-true k m d) (and-l (t m) (every t (below m)) e))
+    (λ d. let z : k ≡ m → ⊥ = eqb-false k m d in every-at t m k (and-r (t m) (every t (below m)) e) (omega (arith, z)))
+
+-- every page of a run that is whole names it
+pub whole-names : (n : ℕ) (b : List ℕ) (sh : Shape) (d x y : ℕ) → whole n b sh d x ≡ true → inRun (sh .pages) x y ≡ true → names b d x y ≡ true
+unfolding whole
+whole-names n b sh d x y e r =
+    let l = leb-true x y (and-l (leb x y) (ltb y (x + sh .pages)) r) in
+    let u = ltb-true y (x + sh .pages) (and-r (leb x y) (ltb y (x + sh .pages)) r) in
+    let all = and-r (leb (x + sh .pages) (get b (arena frontier))) (every (ofRun b d x) (below (sh .pages))) (and-r (leb (x + sh .pages) n) (leb (x + sh .pages) (get b (arena frontier)) && every (ofRun b d x) (below (sh .pages))) e) in
+    let z : x + (y - x) ≡ y = omega arith in
+    rw z at (every-at (ofRun b d x) (sh .pages) (y - x) all (omega arith))
+
+pub named-whole : (n : ℕ) (b : List ℕ) (sh : Shape) (d x : ℕ) → x + sh .pages ≤ n → x + sh .pages ≤ get b (arena frontier)
+    → ((y : ℕ) → inRun (sh .pages) x y ≡ true → names b d x y ≡ true) → whole n b sh d x ≡ true
+unfolding whole
+named-whole n b sh d x l u h = rw (le-leb (x + sh .pages) n l, le-leb (x + sh .pages) (get b (arena frontier)) u) (all (sh .pages) (omega arith))
+  where
+    all : (j : ℕ) → j ≤ sh .pages → every (ofRun b d x) (below j) ≡ true
+    all zero v = refl
+    all (suc j) v = rw (h (x + j) (rw (le-leb x (x + j) (omega arith), lt-ltb (x + j) (x + sh .pages) (omega arith)))) (all j (omega arith))
+
+pub whole-ends : (n : ℕ) (b : List ℕ) (sh : Shape) (d x : ℕ) → whole n b sh d x ≡ true → (x + sh .pages ≤ n) × (x + sh .pages ≤ get b (arena frontier))
+unfolding whole
+whole-ends n b sh d x e =
+    let f = get b (arena frontier) in
+    let r = and-r (leb (x + sh .pages) n) (leb (x + sh .pages) f && every (ofRun b d x) (below (sh .pages))) e in
+    (leb-true (x + sh .pages) n (and-l (leb (x + sh .pages) n) (leb (x + sh .pages) f && every (ofRun b d x) (below (sh .pages))) e), leb-true (x + sh .pages) f (and-l (leb (x + sh .pages) f) (every (ofRun b d x) (below (sh .pages))) r))
+
+module _ (n : ℕ) (b b′ : List ℕ) (sh : Shape) (d x : ℕ) (some-page : 1 ≤ sh .pages) (rises : get b (arena frontier) ≤ get b′ (arena frontier))
+    (under : (y : ℕ) → y < get b (arena frontier) → names b′ d x y ≡ names b d x y)
+    (over : (y : ℕ) → get b (arena frontier) ≤ y → y < get b′ (arena frontier) → names b′ d x y ≡ false) where
+  not-over : get b (arena frontier) < x + sh .pages → x + sh .pages ≤ get b′ (arena frontier) → every (ofRun b′ d x) (below (sh .pages)) ≡ false
+  not-over z y =
+      by-cases (every (ofRun b′ d x) (below (sh .pages)))
+      (λ t. absurd (true≢false (sym (every-at (ofRun b′ d x) (sh .pages) (sh .pages - 1) t (omega arith)) ∙ over (x + (sh .pages - 1)) (omega arith) (omega arith))))
+      (λ t. t)
+
+  pub whole-same : whole n b′ sh d x ≡ whole n b sh d x
+  unfolding whole
+  whole-same =
+      ap (λ t. leb (x + sh .pages) n && t)
+      (by-cases (leb (x + sh .pages) (get b (arena frontier)))
+      (λ u. let z = leb-true (x + sh .pages) (get b (arena frontier)) u in
+      rw (u, le-leb (x + sh .pages) (get b′ (arena frontier)) (omega arith)) (every-cong (ofRun b′ d x) (ofRun b d x) (sh .pages) (λ k h. under (x + k) (omega arith))))
+      (λ u. let z = leb-false (x + sh .pages) (get b (arena frontier)) u in
+      rw u
+      (by-cases (leb (x + sh .pages) (get b′ (arena frontier))) (λ v. rw v (not-over z (leb-true (x + sh .pages) (get b′ (arena frontier)) v))) (λ v. rw v))))

@@ -1,0 +1,119 @@
+-- After every history a page is held by nobody, by the direct calls, or by one of the 76 classes. Assumes nothing.
+use Prim.Native.Nat.{ℕ, suc, _+_, _-_, _≤_, _<_}
+use native.Mathlib.Omega.{arith}
+use mathlib.Core.Bool.{Bool, true, false, cond}
+use mathlib.Core.List.{List, [], _∷_}
+use mathlib.Core.Option.{Option, none, some, Option·none-ne-some}
+use mathlib.Core.Path.{_≡_, refl, sym, ap, _∙_}
+use lib.Dec.{eqb, ltb}
+use borrow.Author.Tests.{ltb-true, lt-ltb}
+use Rattle.classes.specs.Shape.{shapeOf}
+use Rattle.model.specs.Lists.{covers, coversAll, coversRun}
+use Rattle.model.specs.Calls as Calls
+use Rattle.model.specs.Calls.{Call, Request, Named, named, names, hostOf}
+use Rattle.model.specs.Arena.{commit, grow}
+use Rattle.model.specs.Class.{serve}
+use Rattle.model.specs.Chunks.{answer}
+use Rattle.model.specs.Heap.{Heap, Holder, Outcome, nobody, direct, class, passTo, newHeap, offer, finish, interact, classCall, commitCall, growCall, releaseCall, unchanged, directCall, route, step}
+use Rattle.model.specs.History.{heapFrom, heapAfter}
+use Rattle.model.proofs.Counts.{by-cases}
+
+abbrev pub isKnown : Holder → Bool
+isKnown nobody = true
+isKnown direct = true
+isKnown (class c) = ltb c 76
+
+pub record Known (w : ℕ → Holder) : Type 0 where
+  pub at : (y : ℕ) → isKnown (w y) ≡ true
+
+pub known-passed : (who : Holder) (g : ℕ → ℕ) (w : ℕ → Holder) → isKnown who ≡ true → Known w → Known (passTo who g w)
+known-passed who g w e k = record { at = λ y. by-cases (eqb (g y) 0) (λ d. rw d (k .at y)) (λ d. rw d e) }
+
+-- ---- a call that names a class names one of ours
+named-below : (t : Bool) (c : ℕ) (r : Request) (d : Named) → (t ≡ true → ltb c 76 ≡ true) → named t c r ≡ some d → ltb (d .class) 76 ≡ true
+named-below true c r d h e = rw (sym (at c r d e)) (h refl)
+  where
+    at : (c : ℕ) (r : Request) (d : Named) → some (record { class = c; request = r }) ≡ some d → c ≡ d .class
+    at c r d e = let z : record { class = c; request = r } ≡ d = cc in ap (λ x. x .class) z
+named-below false c r d h e = absurd (Option·none-ne-some d e)
+
+small : (c : ℕ) → ltb c 64 ≡ true → ltb c 76 ≡ true
+small c e = lt-ltb c 76 (let z = ltb-true c 64 e in omega arith)
+
+medium : (c : ℕ) → ltb c 12 ≡ true → ltb (64 + c) 76 ≡ true
+medium c e = lt-ltb (64 + c) 76 (let z = ltb-true c 12 e in omega arith)
+
+pub names-below : (x : Call) (d : Named) → names x ≡ some d → ltb (d .class) 76 ≡ true
+names-below (Calls.takeBlocks c h l) d e = named-below (ltb c 64) c _ d (small c) e
+names-below (Calls.mediumTakeBlocks c h l) d e = named-below (ltb c 12) (64 + c) _ d (medium c) e
+names-below (Calls.releaseBlocks c h ws) d e = named-below (ltb c 64) c _ d (small c) e
+names-below (Calls.mediumReleaseBlocks c h ws) d e = named-below (ltb c 12) (64 + c) _ d (medium c) e
+names-below (Calls.releaseBinChunks c h ws gs fs) d e = named-below (ltb c 64) c _ d (small c) e
+names-below (Calls.commit h m) d e = absurd (Option·none-ne-some d e)
+names-below (Calls.growFrontier h q old new) d e = absurd (Option·none-ne-some d e)
+names-below (Calls.release h q m) d e = absurd (Option·none-ne-some d e)
+names-below (Calls.contains o m) d e = absurd (Option·none-ne-some d e)
+names-below Calls.report d e = absurd (Option·none-ne-some d e)
+
+-- ---- along a call
+record KnownAfter (o : Outcome) : Type 0 where
+  known : Known (o .heap .holder)
+
+after-cond : (b : Bool) (o p : Outcome) → KnownAfter o → KnownAfter p → KnownAfter (cond b o p)
+after-cond true o p h k = h
+after-cond false o p h k = k
+
+module _ (n : ℕ) (H : Heap) (k : Known (H .holder)) where
+  same : (x : Calls.Answer) → KnownAfter (unchanged H x)
+  same x = record { known = k }
+
+  commit-known : (h m : ℕ) → KnownAfter (commitCall n H h m)
+  unfolding commitCall
+  commit-known h m = record { known = known-passed direct (coversRun m (commit n h m (H .arena) .run)) (H .holder) refl k }
+
+  grow-known : (h q old new : ℕ) → KnownAfter (growCall n H h q old new)
+  unfolding growCall
+  grow-known h q old new =
+      record { known = known-passed direct (λ x. cond (grow n h (q + old) (new - old) (H .arena) .grew) (covers (new - old) (q + old) x) 0) (H .holder) refl k }
+
+  release-known : (q m : ℕ) → KnownAfter (releaseCall H q m)
+  unfolding releaseCall
+  release-known q m = record { known = known-passed nobody (covers m q) (H .holder) refl k }
+
+  direct-known : (x : Call) → KnownAfter (directCall n H x)
+  unfolding directCall
+  direct-known (Calls.takeBlocks c h l) = same _
+  direct-known (Calls.mediumTakeBlocks c h l) = same _
+  direct-known (Calls.releaseBlocks c h ws) = same _
+  direct-known (Calls.mediumReleaseBlocks c h ws) = same _
+  direct-known (Calls.releaseBinChunks c h ws gs fs) = same _
+  direct-known (Calls.commit h m) = search (after-cond, same, commit-known) depth 9
+  direct-known (Calls.growFrontier h q old new) = search (after-cond, same, grow-known) depth 9
+  direct-known (Calls.release h q m) = search (after-cond, same, release-known) depth 9
+  direct-known (Calls.contains o b) = same _
+  direct-known Calls.report = same _
+
+  class-known : (c : ℕ) (r : Request) → ltb c 76 ≡ true → KnownAfter (classCall n H c r)
+  unfolding classCall interact finish
+  class-known c r e =
+      let sh = shapeOf c in
+      let q = answer sh (H .classes c) r in
+      let g = offer n (hostOf r) (H .arena) q in
+      let w = passTo (class c) (coversRun (sh .pages) (g .run)) (H .holder) in
+      record { known = known-passed nobody (coversAll (sh .pages) (serve q (g .run) .gives)) w refl (known-passed (class c) (coversRun (sh .pages) (g .run)) (H .holder) e k) }
+
+  route-known : (x : Call) (d : Option Named) → names x ≡ d → KnownAfter (route n H x d)
+  route-known x none e = direct-known x
+  route-known x (some d) e = class-known (d .class) (d .request) (names-below x d e)
+
+  pub known-step : (x : Call) → Known (step n H x .heap .holder)
+  unfolding step
+  known-step x = route-known x (names x) refl .known
+
+known-from : (n : ℕ) (H : Heap) (xs : List Call) → Known (H .holder) → Known (heapFrom n H xs .holder)
+known-from n H [] k = k
+known-from n H (x ∷ xs) k = known-from n (step n H x .heap) xs (known-step n H k x)
+
+pub known-after : (n : ℕ) (xs : List Call) → Known (heapAfter n xs .holder)
+unfolding newHeap
+known-after n xs = known-from n newHeap xs (record { at = λ y. refl })

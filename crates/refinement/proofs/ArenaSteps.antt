@@ -1,0 +1,149 @@
+-- The arena's part of the representation along the writes of a step: storing an arena, giving pages an owner, counting them as held.
+--     rep-kept              a book with the same words of the arena and OWNERs stands for the same
+--     Stands n b a w f k    the words stand for the arena a and for the holders w of the pages below f, and HELD is k
+-- Assumes nothing.
+use Prim.Native.Nat.{ℕ, zero, suc, _+_, _-_, _≤_, _<_}
+use native.Mathlib.Omega.{arith}
+use mathlib.Core.Bool.{Bool, true, false, cond, not, _&&_, false≢true}
+use mathlib.Core.List.{List}
+use mathlib.Core.Path.{_≡_, refl, sym, ap, _∙_}
+use lib.Dec.{eqb, ltb, leb}
+use lib.ListN.{length}
+use borrow.Author.Tests.{ltb-true, ltb-false, le-leb, lt-ltb, lt-leb}
+use Rattle.fields.specs.Field.{Field, arena, memory, class, hole, page, out, slot, owner, size, state, held, holes, pageOff, get, put, ok, words}
+use Rattle.fields.proofs.Laws.{get-put-same, get-put-other, length-put}
+use Rattle.fields.proofs.Changes.{Changes, differ}
+use Rattle.model.specs.Lists.{inRun, covers}
+use Rattle.model.specs.Arena.{Arena}
+use Rattle.model.specs.Heap.{Heap, Holder, nobody, passTo, heldPages}
+use Rattle.model.specs.Class.{Class}
+use Rattle.model.proofs.Counts.{by-cases}
+use Rattle.model.proofs.Remembers.{Tidy}
+use Rattle.arena.specs.Load.{statusCode, loadArena}
+use Rattle.arena.specs.Store.{storeArena}
+use Rattle.arena.specs.Owners.{ownerCode, own}
+use Rattle.arena.specs.Represents.{ArenaRep}
+use Rattle.refinement.proofs.ArenaStore.{isStored, long-kept, load-kept, store-changes, store-written, load-store}
+use Rattle.refinement.proofs.ArenaFrames.{isOwner, own-changes, own-in}
+use Rattle.refinement.proofs.ArenaReached.{heapOf}
+use Rattle.refinement.proofs.ArenaFair.{loads-number}
+use Rattle.refinement.proofs.ArenaHeld.{heldOf}
+
+pub record Stands (n : ℕ) (b : List ℕ) (a : Arena) (w : ℕ → Holder) (f k : ℕ) : Type 0 where
+  pub long : leb (words n) (length b) ≡ true
+  pub length : get b (arena size) ≡ n
+  pub loads : loadArena b ≡ a
+  pub state : get b (arena state) ≡ statusCode (a .status)
+  pub held : get b (arena held) ≡ k
+  pub owners : (x : ℕ) → x < f → get b (page owner x) ≡ ownerCode (w x)
+
+-- the representation is such, and does not look at the classes
+pub rep-stands : (n : ℕ) (b : List ℕ) (H : Heap) → ArenaRep n b H → Stands n b (H .arena) (H .holder) (H .arena .frontier) (heldPages n H)
+rep-stands n b H r = record { long = r .long; length = r .length; loads = r .loads; state = r .state; held = r .held; owners = r .owners }
+
+pub stands-rep : (n : ℕ) (b : List ℕ) (a : Arena) (w : ℕ → Holder) (k : ℕ) (cs : ℕ → Class) → k ≡ heldOf n w → Stands n b a w (a .frontier) k → ArenaRep n b (heapOf a w cs)
+stands-rep n b a w k cs e s = record { long = s .long; length = s .length; loads = s .loads; state = s .state; held = s .held ∙ e; owners = s .owners }
+
+pub rep-classes : (n : ℕ) (b : List ℕ) (H : Heap) (cs : ℕ → Class) → ArenaRep n b H → ArenaRep n b (heapOf (H .arena) (H .holder) cs)
+rep-classes n b H cs r = stands-rep n b (H .arena) (H .holder) (heldPages n H) cs refl (rep-stands n b H r)
+
+-- the words that the arena's part reads: what keeps them keeps it
+abbrev pub isArenas : Field → Bool
+isArenas (arena k) = true
+isArenas (memory m) = true
+isArenas (class k c) = false
+isArenas (hole k i) = true
+isArenas (page k p) = eqb (pageOff k) 0
+isArenas (out p i) = false
+isArenas (slot p i) = false
+
+stored-arenas : (g : Field) → isStored g ≡ true → isArenas g ≡ true
+stored-arenas (arena k) e = refl
+stored-arenas (memory m) e = refl
+stored-arenas (class k c) e = e
+stored-arenas (hole k i) e = refl
+stored-arenas (page k p) e = absurd (false≢true e)
+stored-arenas (out p i) e = e
+stored-arenas (slot p i) e = e
+
+pub rep-kept : (n : ℕ) (b b′ : List ℕ) (H : Heap) → length (H .arena .store .holes) ≤ 4096 → length b′ ≡ length b → ((g : Field) → ok g ≡ true → isArenas g ≡ true → get b′ g ≡ get b g)
+    → ArenaRep n b H → ArenaRep n b′ H
+rep-kept n b b′ H few long k r = record {
+  long = long-kept n b b′ long (r .long);
+  length = k (arena size) refl refl ∙ r .length;
+  loads = load-kept b b′ (rw (loads-number b (H .arena) (r .loads)) few) (λ g o e. k g o (stored-arenas g e)) ∙ r .loads;
+  state = k (arena state) refl refl ∙ r .state;
+  held = k (arena held) refl refl ∙ r .held;
+  owners = λ x l. k (page owner x) refl refl ∙ r .owners x l;
+}
+
+owner-apart : (t : ℕ → Bool) (g : Field) → isStored g ≡ true → isOwner t g ≡ false
+owner-apart t (arena k) e = refl
+owner-apart t (memory m) e = refl
+owner-apart t (class k c) e = refl
+owner-apart t (hole k i) e = refl
+owner-apart t (page k p) e = absurd (false≢true e)
+owner-apart t (out p i) e = refl
+owner-apart t (slot p i) e = refl
+
+module _ (n : ℕ) (b : List ℕ) (a : Arena) (w : ℕ → Holder) (f k : ℕ) (s : Stands n b a w f k) where
+  -- another arena is stored
+  pub store-stands : (a′ : Arena) → Tidy (a′ .store) → Stands n (storeArena b a′) a′ w f k
+  store-stands a′ t =
+      let h = store-changes b a′ (t .slots) in
+      record {
+        long = long-kept n b (storeArena b a′) (h .long) (s .long);
+        length = h .kept (arena size) refl refl ∙ s .length;
+        loads = load-store n b a′ (s .long) t;
+        state = store-written n b a′ (s .long) (t .slots) .status;
+        held = h .kept (arena held) refl refl ∙ s .held;
+        owners = λ x l. h .kept (page owner x) refl refl ∙ s .owners x l;
+      }
+
+  module _ (few : length (a .store .holes) ≤ 4096) where
+    few-words : get b (arena holes) ≤ 4096
+    few-words = rw (loads-number b a (s .loads)) few
+
+    -- m pages from q on pass to a holder
+    pub own-stands : (q m : ℕ) → q + m ≤ n → (who : Holder) → Stands n (own b q m (ownerCode who)) a (passTo who (covers m q) w) f k
+    own-stands q m l who =
+        let v = ownerCode who in
+        let h = own-changes b q m v in
+        record {
+          long = long-kept n b (own b q m v) (h .long) (s .long);
+          length = h .kept (arena size) refl refl ∙ s .length;
+          loads = load-kept b (own b q m v) few-words (λ g o e. h .kept g o (owner-apart (inRun m q) g e)) ∙ s .loads;
+          state = h .kept (arena state) refl refl ∙ s .state;
+          held = h .kept (arena held) refl refl ∙ s .held;
+          owners = λ x u. by-cases (inRun m q x)
+              (λ e. rw e (own-in n b q m v x (s .long) l e))
+              (λ e. rw e (h .kept (page owner x) refl e ∙ s .owners x u));
+        }
+
+    -- the frontier moves on from f, over pages that are nobody's
+    pub fresh-stands : (f′ : ℕ) → f ≤ f′ → f′ ≤ n → ((x : ℕ) → f ≤ x → w x ≡ nobody) → Stands n (own b f (f′ - f) 0) a w f′ k
+    fresh-stands f′ l u h =
+        let t = own-stands f (f′ - f) (omega arith) nobody in
+        record {
+          long = t .long;
+          length = t .length;
+          loads = t .loads;
+          state = t .state;
+          held = t .held;
+          owners = λ x v. by-cases (ltb x f)
+              (λ e. let z = ltb-true x f e in rw (lt-leb f x z) at (t .owners x z))
+              (λ e. let z = ltb-false x f e in
+              own-in n b f (f′ - f) 0 x (s .long) (omega arith) (rw (le-leb f x z, lt-ltb x (f + (f′ - f)) (omega arith))) ∙ sym (ap ownerCode (h x z)));
+        }
+
+    pub held-stands : (j : ℕ) → Stands n (put b (arena held) j) a w f j
+    held-stands j =
+        let c = put b (arena held) j in
+        record {
+          long = rw length-put (s .long);
+          length = get-put-other b (arena held) (arena size) j refl refl refl ∙ s .length;
+          loads = load-kept b c few-words (λ g o e. get-put-other b (arena held) g j refl o (differ (λ y. not (isStored y)) (arena held) g refl (rw e))) ∙ s .loads;
+          state = get-put-other b (arena held) (arena state) j refl refl refl ∙ s .state;
+          held = get-put-same n b (arena held) j (s .long) refl refl;
+          owners = λ x l. get-put-other b (arena held) (page owner x) j refl refl refl ∙ s .owners x l;
+        }

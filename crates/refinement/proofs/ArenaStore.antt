@@ -1,0 +1,248 @@
+-- The arena's words: what storing an arena changes, and that what was stored is loaded again.
+--     isStored         the words of the record, the memory and the holes: neither LENGTH nor HELD
+--     store-changes    storing an arena changes no other word
+--     load-kept        a book with the same such words holds the same arena
+--     load-store       an arena that was stored is loaded again
+-- Assumes nothing.
+use Prim.Native.Nat.{ℕ, zero, suc, _+_, _*_, _/_, _%_, _^_, _≤_, _<_}
+use native.Mathlib.Omega.{arith}
+use mathlib.Core.Bool.{Bool, true, false, cond, _&&_}
+use mathlib.Core.List.{List, [], _∷_}
+use mathlib.Core.Option.{Option, none, some}
+use mathlib.Core.Path.{_≡_, refl, sym, ap, _∙_, subst, fun-ext}
+use lib.Dec.{eqb, ltb, leb}
+use lib.ListN.{length}
+use borrow.Author.Tests.{lt-ltb, ltb-true, ne-eqb, eqb-true, eqb-false, leb-true, leb-false}
+use Rattle.fields.specs.Field.{Field, arena, memory, class, hole, page, out, slot, HoleField, start, pages, state, frontier, holes, holePages, commits, commitsHigh, reuses, reusesHigh, abandoned, abandonedHigh, arenaOff, holeOff, get, put, ok, words}
+use Rattle.fields.proofs.Laws.{get-put-same, get-put-other, length-put}
+use Rattle.fields.proofs.Changes.{Changes, changes-none, changes-put, changes-trans}
+use Rattle.model.specs.declared.Hole.{Hole}
+use Rattle.model.specs.HoleStore as Model
+use Rattle.model.specs.HoleStore.{HoleStore, Memory}
+use Rattle.model.specs.Arena.{Arena, Status, unasked, ready, disabled}
+use Rattle.model.proofs.Counts.{by-cases}
+use Rattle.model.proofs.Remembers.{Tidy}
+use Rattle.arena.specs.Load.{statusOf, statusCode, indexOf, indexCode, wide, loadHole, loadHoles, recall, loadStore, loadArena}
+use Rattle.arena.specs.Store.{storeHole, storeHoles, storeMemory, memoryWords, storeCounts, storeTop, storeStore, storeArena}
+
+abbrev pub isStored : Field → Bool
+isStored (arena k) = ltb 0 (arenaOff k) && ltb (arenaOff k) 11
+isStored (memory m) = true
+isStored (class k c) = false
+isStored (hole k i) = true
+isStored (page k p) = false
+isStored (out p i) = false
+isStored (slot p i) = false
+
+pub long-kept : (n : ℕ) (b b′ : List ℕ) → length b′ ≡ length b → leb (words n) (length b) ≡ true → leb (words n) (length b′) ≡ true
+long-kept n b b′ e h = rw e h
+
+-- ---- loading
+status-of : (s : Status) → statusOf (statusCode s) ≡ s
+status-of unasked = refl
+status-of ready = refl
+status-of disabled = refl
+
+index-of : (o : Option ℕ) → indexOf (indexCode o) ≡ o
+index-of none = refl
+index-of (some i) = refl
+
+-- the words are those of an arena: then they load it
+pub record Written (b : List ℕ) (a : Arena) : Type 0 where
+  pub status : get b (arena state) ≡ statusCode (a .status)
+  pub frontier : get b (arena frontier) ≡ a .frontier
+  pub number : get b (arena holes) ≡ length (a .store .holes)
+  pub total : get b (arena holePages) ≡ a .store .total
+  pub holes : loadHoles b 0 (length (a .store .holes)) ≡ a .store .holes
+  pub memory : (m : ℕ) → ltb m 129 ≡ true → get b (memory m) ≡ indexCode (a .store .memory m)
+  pub commits : wide b commits commitsHigh ≡ a .commits
+  pub reuses : wide b reuses reusesHigh ≡ a .reuses
+  pub abandoned : wide b abandoned abandonedHigh ≡ a .abandoned
+
+below-129 : (m : ℕ) → leb m 128 ≡ true → ltb m 129 ≡ true
+below-129 m e = lt-ltb m 129 (let z = leb-true m 128 e in omega arith)
+
+pub load-written : (b : List ℕ) (a : Arena) → Tidy (a .store) → Written b a → loadArena b ≡ a
+unfolding loadArena loadStore
+load-written b a t w =
+    let recalls : recall b ≡ a .store .memory = fun-ext (λ m. by-cases (leb m 128)
+    (λ e. rw (e, w .memory m (below-129 m e)) (index-of (a .store .memory m)))
+    (λ e. rw e (sym (t .beyond m (leb-false m 128 e))))) in
+    rw (w .status, status-of (a .status), w .frontier, w .number, w .holes, w .total, recalls, w .commits, w .reuses, w .abandoned) refl
+
+-- ---- a book whose arena's words are as they were
+holes-same : (b b′ : List ℕ) (i k : ℕ) → i + k ≤ 4096 → ((f : HoleField) (j : ℕ) → ltb j 4096 ≡ true → i ≤ j → get b′ (hole f j) ≡ get b (hole f j)) → loadHoles b′ i k ≡ loadHoles b i k
+unfolding loadHoles
+holes-same b b′ i zero l h = refl
+holes-same b b′ i (suc k) l h =
+    let o : ltb i 4096 ≡ true = lt-ltb i 4096 (omega arith) in
+    rw (h start i o (omega arith), h pages i o (omega arith), holes-same b b′ (suc i) k (omega arith) (λ f j u v. h f j u (omega arith)))
+
+pub load-kept : (b b′ : List ℕ) → get b (arena holes) ≤ 4096 → ((g : Field) → ok g ≡ true → isStored g ≡ true → get b′ g ≡ get b g) → loadArena b′ ≡ loadArena b
+unfolding loadArena loadStore
+load-kept b b′ l h =
+    let recalls : recall b′ ≡ recall b = fun-ext (λ m. by-cases (leb m 128) (λ e. rw (e, h (memory m) (below-129 m e) refl)) (λ e. rw e)) in
+    rw (
+      h (arena state) refl refl,
+      h (arena frontier) refl refl,
+      h (arena holes) refl refl,
+      holes-same b b′ 0 (get b (arena holes)) (omega arith) (λ f j o u. h (hole f j) o refl),
+      h (arena holePages) refl refl,
+      recalls,
+      h (arena commits) refl refl,
+      h (arena commitsHigh) refl refl,
+      h (arena reuses) refl refl,
+      h (arena reusesHigh) refl refl,
+      h (arena abandoned) refl refl,
+      h (arena abandonedHigh) refl refl,
+    ) refl
+
+-- ---- storing
+hole-changes : (b b′ : List ℕ) (i : ℕ) (h : Hole) → ltb i 4096 ≡ true → Changes isStored b b′ → Changes isStored b (storeHole b′ i h)
+hole-changes b b′ i h o k =
+    changes-put isStored b (put b′ (hole start i) (h .first)) (hole pages i) (h .pages) o refl (changes-put isStored b b′ (hole start i) (h .first) o refl k)
+
+holes-changes : (b : List ℕ) (i : ℕ) (hs : List Hole) → i + length hs ≤ 4096 → Changes isStored b (storeHoles b i hs)
+unfolding storeHoles
+holes-changes b i [] l = changes-none isStored b
+holes-changes b i (h ∷ hs) l = hole-changes b (storeHoles b (suc i) hs) i h (lt-ltb i 4096 (omega arith)) (holes-changes b (suc i) hs (omega arith))
+
+memory-changes : (b : List ℕ) (f : Memory) (m : ℕ) → m ≤ 129 → Changes isStored b (storeMemory b f m)
+unfolding storeMemory
+memory-changes b f zero l = changes-none isStored b
+memory-changes b f (suc m) l =
+    changes-put isStored b (storeMemory b f m) (memory m) (indexCode (f m)) (lt-ltb m 129 (omega arith)) refl (memory-changes b f m (omega arith))
+
+store-store-changes : (b : List ℕ) (s : HoleStore) → length (s .holes) ≤ 4096 → Changes isStored b (storeStore b s)
+unfolding storeStore memoryWords
+store-store-changes b s l =
+    let c = storeHoles b 0 (s .holes) in
+    changes-trans isStored b c (storeMemory c (s .memory) 129) (holes-changes b 0 (s .holes) (omega arith)) (memory-changes c (s .memory) 129 (omega arith))
+
+counts-changes : (b : List ℕ) (c r a : ℕ) → Changes isStored b (storeCounts b c r a)
+unfolding storeCounts
+counts-changes b c r a =
+    changes-put isStored b _ (arena abandonedHigh) _ refl refl (changes-put isStored b _ (arena abandoned) _ refl refl
+    (changes-put isStored b _ (arena reusesHigh) _ refl refl (changes-put isStored b _ (arena reuses) _ refl refl
+    (changes-put isStored b _ (arena commitsHigh) _ refl refl (changes-put isStored b _ (arena commits) _ refl refl (changes-none isStored b))))))
+
+top-changes : (b : List ℕ) (s f k t : ℕ) → Changes isStored b (storeTop b s f k t)
+unfolding storeTop
+top-changes b s f k t =
+    changes-put isStored b _ (arena holePages) _ refl refl (changes-put isStored b _ (arena holes) _ refl refl
+    (changes-put isStored b _ (arena frontier) _ refl refl (changes-put isStored b _ (arena state) _ refl refl (changes-none isStored b))))
+
+pub store-changes : (b : List ℕ) (a : Arena) → length (a .store .holes) ≤ 4096 → Changes isStored b (storeArena b a)
+unfolding storeArena
+store-changes b a l =
+    let c = storeStore b (a .store) in
+    let d = storeCounts c (a .commits) (a .reuses) (a .abandoned) in
+    changes-trans isStored b d _
+    (changes-trans isStored b c d (store-store-changes b (a .store) l) (counts-changes c (a .commits) (a .reuses) (a .abandoned)))
+    (top-changes d (statusCode (a .status)) (a .frontier) (length (a .store .holes)) (a .store .total))
+
+-- ---- what was stored
+module _ (n : ℕ) where
+  hole-there : (b : List ℕ) (i : ℕ) (h : Hole) → leb (words n) (length b) ≡ true → ltb i 4096 ≡ true → loadHole (storeHole b i h) i ≡ h
+  hole-there b i h hb o =
+      let hb′ : leb (words n) (length (put b (hole start i) (h .first))) ≡ true = rw length-put hb in
+      let e : get (storeHole b i h) (hole start i) ≡ h .first
+      = get-put-other (put b (hole start i) (h .first)) (hole pages i) (hole start i) (h .pages) o o refl ∙ get-put-same n b (hole start i) (h .first) hb o refl in
+      let f : get (storeHole b i h) (hole pages i) ≡ h .pages = get-put-same n (put b (hole start i) (h .first)) (hole pages i) (h .pages) hb′ o refl in
+      rw (e, f)
+
+  and-no : (t : Bool) → (t && false) ≡ false
+  and-no true = refl
+  and-no false = refl
+
+  hole-other : (b : List ℕ) (i j : ℕ) (f : HoleField) (h : Hole) → ltb i 4096 ≡ true → ltb j 4096 ≡ true → eqb i j ≡ false → get (storeHole b i h) (hole f j) ≡ get b (hole f j)
+  hole-other b i j f h o v d =
+      get-put-other (put b (hole start i) (h .first)) (hole pages i) (hole f j) (h .pages) o v (rw (d, and-no (eqb (holeOff pages) (holeOff f))))
+      ∙ get-put-other b (hole start i) (hole f j) (h .first) o v (rw (d, and-no (eqb (holeOff start) (holeOff f))))
+
+  holes-there : (b : List ℕ) (i : ℕ) (hs : List Hole) → leb (words n) (length b) ≡ true → i + length hs ≤ 4096 → loadHoles (storeHoles b i hs) i (length hs) ≡ hs
+  unfolding loadHoles storeHoles
+  holes-there b i [] hb l = refl
+  holes-there b i (h ∷ hs) hb l =
+      let c = storeHoles b (suc i) hs in
+      let o : ltb i 4096 ≡ true = lt-ltb i 4096 (omega arith) in
+      let hc = long-kept n b c (holes-changes b (suc i) hs (omega arith) .long) hb in
+      rw (hole-there c i h hc o)
+      (ap (λ l. h ∷ l) (holes-same c (storeHole c i h) (suc i) (length hs) (omega arith) (λ f j v u. hole-other c i j f h o v (ne-eqb i j (λ e. omega arith)))
+      ∙ holes-there b (suc i) hs hb (omega arith)))
+
+  memory-there : (b : List ℕ) (f : Memory) (m : ℕ) → leb (words n) (length b) ≡ true → m ≤ 129 → (j : ℕ) → j < m → get (storeMemory b f m) (memory j) ≡ indexCode (f j)
+  unfolding storeMemory
+  memory-there b f zero hb l j h = absurd (omega arith)
+  memory-there b f (suc m) hb l j h =
+      let c = storeMemory b f m in
+      let o : ltb m 129 ≡ true = lt-ltb m 129 (omega arith) in
+      let hc = long-kept n b c (memory-changes b f m (omega arith) .long) hb in
+      by-cases (eqb m j)
+      (λ e. let z = eqb-true m j e in subst (λ x. get (put c (memory m) (indexCode (f m))) (memory x) ≡ indexCode (f x)) z (get-put-same n c (memory m) (indexCode (f m)) hc o refl))
+      (λ e. let z : m ≡ j → ⊥ = eqb-false m j e in
+      get-put-other c (memory m) (memory j) (indexCode (f m)) o (lt-ltb j 129 (omega arith)) e ∙ memory-there b f m hb (omega arith) j (omega (arith, z)))
+
+  memory-holes : (b : List ℕ) (f : Memory) (m : ℕ) → m ≤ 129 → (k : HoleField) (j : ℕ) → ltb j 4096 ≡ true → get (storeMemory b f m) (hole k j) ≡ get b (hole k j)
+  unfolding storeMemory
+  memory-holes b f zero l k j o = refl
+  memory-holes b f (suc m) l k j o =
+      get-put-other (storeMemory b f m) (memory m) (hole k j) (indexCode (f m)) (lt-ltb m 129 (omega arith)) o refl ∙ memory-holes b f m (omega arith) k j o
+
+  store-there : (b : List ℕ) (s : HoleStore) → leb (words n) (length b) ≡ true → length (s .holes) ≤ 4096
+      → (loadHoles (storeStore b s) 0 (length (s .holes)) ≡ s .holes) × ((m : ℕ) → ltb m 129 ≡ true → get (storeStore b s) (memory m) ≡ indexCode (s .memory m))
+  unfolding storeStore memoryWords
+  store-there b s hb l =
+      let c = storeHoles b 0 (s .holes) in
+      let hc = long-kept n b c (holes-changes b 0 (s .holes) (omega arith) .long) hb in (
+        holes-same c (storeMemory c (s .memory) 129) 0 (length (s .holes)) (omega arith) (λ f j o u. memory-holes c (s .memory) 129 (omega arith) f j o) ∙ holes-there b 0 (s .holes) hb (omega arith),
+        λ m o. memory-there c (s .memory) 129 hc (omega arith) m (ltb-true m 129 o),
+      )
+
+  -- the record over any book
+  record Top (x y : List ℕ) (s f k t c r a : ℕ) : Type 0 where
+    state : get y (arena state) ≡ s
+    frontier : get y (arena frontier) ≡ f
+    number : get y (arena holes) ≡ k
+    total : get y (arena holePages) ≡ t
+    holes : (f : HoleField) (j : ℕ) → ltb j 4096 ≡ true → get y (hole f j) ≡ get x (hole f j)
+    memory : (m : ℕ) → ltb m 129 ≡ true → get y (memory m) ≡ get x (memory m)
+    commits : wide y commits commitsHigh ≡ c
+    reuses : wide y reuses reusesHigh ≡ r
+    abandoned : wide y abandoned abandonedHigh ≡ a
+
+  top-there : (x : List ℕ) → leb (words n) (length x) ≡ true → (s f k t c r a : ℕ) → Top x (storeTop (storeCounts x c r a) s f k t) s f k t c r a
+  unfolding storeTop storeCounts
+  top-there x hx s f k t c r a = record {
+    state = simp (get-put-other, get-put-same n, length-put, hx);
+    frontier = simp (get-put-other, get-put-same n, length-put, hx);
+    number = simp (get-put-other, get-put-same n, length-put, hx);
+    total = simp (get-put-same n, length-put, hx);
+    holes = λ f j o. simp get-put-other;
+    memory = λ m o. simp get-put-other;
+    commits = simp (get-put-other, get-put-same n, length-put, hx) (omega arith);
+    reuses = simp (get-put-other, get-put-same n, length-put, hx) (omega arith);
+    abandoned = simp (get-put-other, get-put-same n, length-put, hx) (omega arith);
+  }
+
+  pub store-written : (b : List ℕ) (a : Arena) → leb (words n) (length b) ≡ true → length (a .store .holes) ≤ 4096 → Written (storeArena b a) a
+  unfolding storeArena
+  store-written b a hb l =
+      let x = storeStore b (a .store) in
+      let s = store-there b (a .store) hb l in
+      let t = top-there x (long-kept n b x (store-store-changes b (a .store) l .long) hb) (statusCode (a .status)) (a .frontier) (length (a .store .holes)) (a .store .total) (a .commits) (a .reuses) (a .abandoned) in
+      record {
+        status = t .state;
+        frontier = t .frontier;
+        number = t .number;
+        total = t .total;
+        holes = holes-same x _ 0 (length (a .store .holes)) (omega arith) (λ f j o u. t .holes f j o) ∙ s .0;
+        memory = λ m o. t .memory m o ∙ s .1 m o;
+        commits = t .commits;
+        reuses = t .reuses;
+        abandoned = t .abandoned;
+      }
+
+  -- an arena with a tidy store, in a book that is long enough
+  pub load-store : (b : List ℕ) (a : Arena) → leb (words n) (length b) ≡ true → Tidy (a .store) → loadArena (storeArena b a) ≡ a
+  load-store b a hb t = load-written (storeArena b a) a t (store-written b a hb (t .slots))

@@ -1,0 +1,148 @@
+-- A page that gives blocks: the words do what the model's `pop` says. Assumes nothing.
+--     draw-holds     the words of the run afterwards
+--     pop-rep        the page afterwards is the model's
+--     pop-blocks     the blocks are the model's
+use Prim.Native.Nat.{ℕ, zero, suc, _+_, _-_, _≤_, _<_, min}
+use native.Mathlib.Omega.{arith}
+use mathlib.Core.Bool.{Bool, true, false, cond, not, _||_}
+use mathlib.Core.List.{List, [], _∷_, _++_, map, reverse}
+use mathlib.Core.Path.{_≡_, refl, sym, ap, _∙_}
+use lib.Dec.{eqb, ltb, leb}
+use lib.ListN.{length, take, drop, length-append, length-drop, length-take, length-reverse}
+use borrow.Author.Tests.{eq-eqb, ne-eqb, eqb-true, eqb-false}
+use Rattle.classes.specs.declared.Shape.{Shape}
+use Rattle.fields.specs.Field.{Field, page, slot, out, owner, free, carved, listed, virgin, region, get, put, ok, words}
+use Rattle.fields.proofs.Laws.{get-put-same, get-put-other, length-put}
+use Rattle.fields.proofs.Changes.{Changes, changes-put}
+use Rattle.model.specs.Lists.{every, count, isNil}
+use Rattle.model.specs.Page as Model
+use Rattle.model.specs.Page.{Page, wordOf, pop}
+use Rattle.model.proofs.Counts.{by-cases, count-append, count-reverse, count-cut}
+use Rattle.pages.specs.Runs.{flag, whole}
+use Rattle.pages.specs.Stack.{marked, tops, downs, marks, carvedNow, latest, draw, hasMore}
+use Rattle.refinement.specs.Represents.{Slots, Holds, PageRep}
+use Rattle.refinement.proofs.Basics.{Setting, long-kept, flag-le, flag-false}
+use Rattle.refinement.proofs.Frames.{isData, ofClass, Only, data-owns, whole-kept, whole-in, whole-owner, marked-kept, slots-kept}
+use Rattle.refinement.proofs.Blocks.{map-append, map-reverse, map-take, map-drop, length-map, words-downs, length-downs, count-downs, fits, in-row, every-counts, tops-take, slots-drop, marks-changes, marks-at}
+
+-- ---- the words
+module _ {n : ℕ} {b : List ℕ} {c : ℕ} {sh : Shape} (s : Setting n b c sh) {l q : ℕ} {xs : List ℕ} {k : ℕ} {v : Bool} (h : Holds n sh b c l q xs k v) (m : ℕ) where
+  pub latest-is : latest b sh q m ≡ downs k (min (m - length xs) (sh .capacity - k)) ++ reverse (take m xs)
+  unfolding latest
+  latest-is = rw (h .ready, h .height, tops-take b q m xs (h .slots))
+
+  latest-count : (j : ℕ) → count j (latest b sh q m) ≡ count j (downs k (min (m - length xs) (sh .capacity - k))) + count j (take m xs)
+  latest-count j = rw (latest-is, count-append, count-reverse)
+
+  pub latest-length : length (latest b sh q m) ≡ min (m - length xs) (sh .capacity - k) + min m (length xs)
+  latest-length = rw (latest-is, length-append, length-downs, length-reverse, length-take)
+
+  latest-fit : every (fits sh) (latest b sh q m) ≡ true
+  latest-fit =
+      every-counts (sh .capacity) (latest b sh q m) (λ j z.
+      omega (
+        arith,
+        latest-count j,
+        count-cut j m xs,
+        h .outs j,
+        count-downs j k (min (m - length xs) (sh .capacity - k)),
+        flag-false j (k + min (m - length xs) (sh .capacity - k)) (omega (arith, h .within)),
+        flag-false j k (omega (arith, h .within)),
+      ))
+
+  draw-changes : (t : Field → Bool) → t (page free q) ≡ true → t (page carved q) ≡ true → ((i : ℕ) → t (out q i) ≡ true) → Changes t b (draw b sh q m)
+  unfolding draw
+  draw-changes t f k o =
+      changes-put t b _ (page carved q) _ refl k (changes-put t b _ (page free q) _ refl f (marks-changes s q 1 t o (latest b sh q m) latest-fit))
+
+  pub draw-data : Changes (isData q) b (draw b sh q m)
+  draw-data = let e = eq-eqb q q refl in draw-changes (isData q) e e (λ i. e)
+
+  pub draw-only : Only c b (draw b sh q m)
+  draw-only =
+      let o : eqb (get b (page owner q)) (suc c) ≡ true = eq-eqb _ _ (whole-owner n b (s .shape) c q (h .run)) in
+      draw-changes (ofClass b c) o o (λ i. o)
+
+  hq : ltb q n ≡ true
+  hq = whole-in n b (s .shape) c q (h .run)
+
+  draw-marked : (j : ℕ) → _≡_ {A = ℕ} (marked (draw b sh q m) sh q j) (cond (eqb (count j (latest b sh q m)) 0) (marked b sh q j) 1)
+  unfolding draw
+  draw-marked j =
+      marked-kept (marks b q 1 (latest b sh q m)) _ sh q j (λ e. let o = in-row s j e in simp get-put-other)
+      ∙ marks-at s q 1 hq refl (latest b sh q m) latest-fit j
+
+  -- setting out bits leaves every other field alone
+  kept : (g : Field) → ok g ≡ true → eqb (region g) 5 ≡ false → get (marks b q 1 (latest b sh q m)) g ≡ get b g
+  kept g o d = marks-changes s q 1 (λ g. eqb (region g) 5) (λ i. refl) (latest b sh q m) latest-fit .kept g o d
+
+  draw-outs : (j : ℕ) → marked (draw b sh q m) sh q j + count j (drop m xs) ≡ flag (ltb j (k + min (m - length xs) (sh .capacity - k)))
+  draw-outs j =
+      let o = h .outs j in
+      let d = count-downs j k (min (m - length xs) (sh .capacity - k)) in
+      let u = count-cut j m xs in
+      let w = latest-count j in
+      let f = flag-le (ltb j (k + min (m - length xs) (sh .capacity - k))) in
+      by-cases (eqb (count j (latest b sh q m)) 0)
+      (λ e. let z = eqb-true (count j (latest b sh q m)) 0 e in rw (draw-marked j, e) (omega arith))
+      (λ e. let z = eqb-false (count j (latest b sh q m)) 0 e in rw (draw-marked j, e) (omega (arith, z)))
+
+  pub draw-holds : Holds n sh (draw b sh q m) c l q (drop m xs) (k + min (m - length xs) (sh .capacity - k)) v
+  unfolding draw
+  draw-holds =
+      let ch = draw-data in
+      let mc : Changes (λ g. true) b (marks b q 1 (latest b sh q m)) = marks-changes s q 1 (λ g. true) (λ i. refl) (latest b sh q m) latest-fit in
+      let hb₁ = long-kept n b (marks b q 1 (latest b sh q m)) (mc .long) (s .long) in
+      let here = hq in
+      record {
+        run = whole-kept (data-owns q ch) n sh c q ∙ h .run;
+        listing = ch .kept (page listed q) refl refl ∙ h .listing;
+        height = simp (get-put-other, get-put-same n) (rw (h .height) (sym (length-drop m xs)));
+        slots = slots-kept b _ q (drop m xs) (λ i e. simp get-put-other (kept (slot q i) e refl)) (slots-drop b q m xs (h .slots));
+        ready = simp (get-put-same n, length-put, hb₁, h .ready, h .height);
+        clean = simp get-put-other (kept (page virgin q) refl refl ∙ h .clean);
+        within = omega (arith, h .within);
+        outs = draw-outs;
+      }
+
+-- ---- the page
+is-nil : (xs : List ℕ) → isNil xs ≡ eqb (length xs) 0
+is-nil [] = refl
+is-nil (x ∷ xs) = sym (ne-eqb (suc (length xs)) 0 (λ e. omega arith))
+
+module _ {n : ℕ} {b : List ℕ} {c : ℕ} {sh : Shape} {l : ℕ} {p : Page} (r : PageRep n sh b c l p) where
+  pub free-length : length (p .free) ≡ length (r .stack)
+  free-length = ap length (r .names) ∙ length-map (wordOf sh (p .first)) (r .stack)
+
+  pub more-is : hasMore b sh (p .first) ≡ Model.hasMore sh p
+  unfolding hasMore Model.hasMore
+  more-is = rw (is-nil (p .free), free-length, r .holds .height, r .holds .ready)
+
+  now-is : (m : ℕ) → Model.carvedNow sh m p ≡ min (m - length (r .stack)) (sh .capacity - p .carved)
+  unfolding Model.carvedNow
+  now-is m = rw free-length
+
+module _ {n : ℕ} {b : List ℕ} {c : ℕ} {sh : Shape} (s : Setting n b c sh) {l : ℕ} {p : Page} (r : PageRep n sh b c l p) (m : ℕ) where
+  pub pop-rep : PageRep n sh (draw b sh (p .first) m) c l (pop sh m p .page)
+  unfolding pop
+  pop-rep = record {
+    stack = drop m (r .stack);
+    names = ap (drop m) (r .names) ∙ sym (map-drop (wordOf sh (p .first)) m (r .stack));
+    holds = rw (now-is r m) (draw-holds s (r .holds) m);
+  }
+
+  pub pop-blocks : map (wordOf sh (p .first)) (latest b sh (p .first) m) ≡ pop sh m p .blocks
+  unfolding pop
+  pop-blocks =
+      let f = wordOf sh (p .first) in
+      let new = downs (p .carved) (min (m - length (r .stack)) (sh .capacity - p .carved)) in
+      ap (map f) (latest-is s (r .holds) m)
+      ∙ map-append f new (reverse (take m (r .stack)))
+      ∙ rw (now-is r m, words-downs)
+      (ap (λ z. map f new ++ z) (map-reverse f (take m (r .stack)) ∙ ap reverse (map-take f m (r .stack) ∙ ap (take m) (sym (r .names)))))
+
+  pub pop-length : length (latest b sh (p .first) m) ≡ length (pop sh m p .blocks)
+  pop-length = sym (length-map (wordOf sh (p .first)) (latest b sh (p .first) m)) ∙ ap length pop-blocks
+
+  pub latest-size : length (latest b sh (p .first) m) ≡ min (m - length (p .free)) (sh .capacity - p .carved) + min m (length (p .free))
+  latest-size = latest-length s (r .holds) m ∙ rw (free-length r)

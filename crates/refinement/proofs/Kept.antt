@@ -1,0 +1,159 @@
+-- What of the representation a change leaves alone. Assumes nothing.
+--     Body, Ties      the words of a page's blocks are as they were; so are its links
+--     Keeps           a page of a class is as it was, and the class's
+--     class-now       a class whose row and listed pages are as they were, with other pages in no list
+--     class-kept      a class that is as it was
+--     class-beside    what changes only words of class d leaves every other class alone
+use Prim.Native.Nat.{ℕ, zero, suc, _+_, _≤_, _<_}
+use native.Mathlib.Omega.{arith}
+use mathlib.Core.Bool.{Bool, true, false, cond}
+use mathlib.Core.List.{List, [], _∷_, _++_}
+use mathlib.Core.Logic.{_⊎_, inl, inr}
+use mathlib.Core.Path.{_≡_, refl, sym, ap, _∙_}
+use lib.Dec.{eqb, ltb, leb, eqb·zero-suc}
+use lib.ListN.{length}
+use borrow.Author.Tests.{ne-eqb, lt-ltb, ltb-true}
+use Rattle.classes.specs.declared.Shape.{Shape}
+use Rattle.classes.specs.Sound.{Sound}
+use Rattle.fields.specs.Field.{Field, ClassField, PageField, class, page, slot, out, partial, owner, next, prev, free, carved, listed, virgin, get, ok, pageOff}
+use Rattle.fields.proofs.Changes.{Changes}
+use Rattle.model.specs.Lists.{All, count}
+use Rattle.model.specs.Page.{Page}
+use Rattle.model.proofs.Pages.{all-append}
+use Rattle.pages.specs.Runs.{flag, whole}
+use Rattle.pages.specs.Stack.{marked}
+use Rattle.pages.specs.declared.Park.{Park}
+use Rattle.pages.specs.Links.{other, top, tally}
+use Rattle.refinement.specs.Chain.{In, Chain, Line, Stack}
+use Rattle.refinement.specs.Represents.{Holds, PageRep, Parked, firsts, heads, ClassRep}
+use Rattle.refinement.proofs.Basics.{flag-le}
+use Rattle.refinement.proofs.Lists.{segment-kept, in-count, all-along}
+use Rattle.refinement.proofs.Frames.{ofClass, Only, Owns, only-owns, whole-kept, whole-owner, marked-kept, slots-kept}
+
+pub record Body (q : ℕ) (b b′ : List ℕ) : Type 0 where
+  pub free : get b′ (page free q) ≡ get b (page free q)
+  pub carved : get b′ (page carved q) ≡ get b (page carved q)
+  pub virgin : get b′ (page virgin q) ≡ get b (page virgin q)
+  pub slots : (i : ℕ) → ltb i 4096 ≡ true → get b′ (slot q i) ≡ get b (slot q i)
+  pub outs : (i : ℕ) → ltb i 4096 ≡ true → get b′ (out q i) ≡ get b (out q i)
+
+pub record Ties (q : ℕ) (b b′ : List ℕ) : Type 0 where
+  pub fore : get b′ (page next q) ≡ get b (page next q)
+  pub back : get b′ (page prev q) ≡ get b (page prev q)
+
+pub record Keeps (n : ℕ) (sh : Shape) (c : ℕ) (b b′ : List ℕ) (q : ℕ) : Type 0 where
+  pub body : Body q b b′
+  pub listing : get b′ (page listed q) ≡ get b (page listed q)
+  pub ties : Ties q b b′
+  pub run : whole n b′ sh c q ≡ true
+
+-- ---- one page
+pub marked-same : {sh : Shape} → Sound sh → {b b′ : List ℕ} {q : ℕ} → Body q b b′ → (i : ℕ) → marked b′ sh q i ≡ marked b sh q i
+marked-same {sh} sound {b} {b′} {q} y i = marked-kept b b′ sh q i (λ e. y .outs i (lt-ltb i 4096 (omega (arith, ltb-true i (sh .capacity) e, sound .few))))
+
+module _ {n : ℕ} {sh : Shape} (sound : Sound sh) {c : ℕ} {b b′ : List ℕ} where
+  -- as it was, but for the list that it is in
+  pub holds-moved : {l l′ q : ℕ} {xs : List ℕ} {k : ℕ} {v : Bool} → Body q b b′ → get b′ (page listed q) ≡ l′ → whole n b′ sh c q ≡ true
+      → Holds n sh b c l q xs k v → Holds n sh b′ c l′ q xs k v
+  holds-moved {q = q} {xs = xs} y e w h = record {
+    run = w;
+    listing = e;
+    height = y .free ∙ h .height;
+    slots = slots-kept b b′ q xs (y .slots) (h .slots);
+    ready = y .carved ∙ h .ready;
+    clean = y .virgin ∙ h .clean;
+    within = h .within;
+    outs = λ i. ap (λ z. z + count i xs) (marked-same sound y i) ∙ h .outs i;
+  }
+
+  pub rep-moved : {l l′ : ℕ} {p : Page} → Body (p .first) b b′ → get b′ (page listed (p .first)) ≡ l′ → whole n b′ sh c (p .first) ≡ true
+      → PageRep n sh b c l p → PageRep n sh b′ c l′ p
+  rep-moved y e w r = record { stack = r .stack; names = r .names; holds = holds-moved y e w (r .holds) }
+
+  pub rep-kept : {l : ℕ} {p : Page} → Body (p .first) b b′ → get b′ (page listed (p .first)) ≡ get b (page listed (p .first)) → whole n b′ sh c (p .first) ≡ true
+      → PageRep n sh b c l p → PageRep n sh b′ c l p
+  rep-kept y e w r = rep-moved y (e ∙ r .holds .listing) w r
+
+  pub parked-kept : {p : Page} → Body (p .first) b b′ → get b′ (page listed (p .first)) ≡ get b (page listed (p .first)) → whole n b′ sh c (p .first) ≡ true
+      → Parked n sh b c p → Parked n sh b′ c p
+  parked-kept y e w r = record { rep = rep-kept y e w (r .rep); idle = λ i. marked-same sound y i ∙ r .idle i }
+
+-- ---- linked lists
+pub line-kept : (b b′ : List ℕ) (h : ℕ) (xs : List ℕ) → ((x : ℕ) → In x xs → get b′ (page next x) ≡ get b (page next x)) → Line b h xs → Line b′ h xs
+line-kept b b′ h [] k s = s
+line-kept b b′ h (x ∷ xs) k s = (s .0, rw (k x (inl refl)) (line-kept b b′ (get b (page next x)) xs (λ z i. k z (inr i)) (s .1)))
+
+module _ {b b′ : List ℕ} {c : ℕ} {xs : List ℕ} where
+  pub stack-kept : {k : Park} → get b′ (class (top k) c) ≡ get b (class (top k) c) → get b′ (class (tally k) c) ≡ get b (class (tally k) c)
+      → ((x : ℕ) → In x xs → get b′ (page next x) ≡ get b (page next x)) → Stack b c k xs → Stack b′ c k xs
+  stack-kept {k = k} e f g s = record { line = rw e (line-kept b b′ (get b (class (top k) c)) xs g (s .line)); number = f ∙ s .number; few = s .few }
+
+  pub chain-kept : {n : ℕ} → get b′ (class partial c) ≡ get b (class partial c) → ((x : ℕ) → In x xs → Ties x b b′) → Chain n b c xs → Chain n b′ c xs
+  chain-kept e k s = record {
+    links = rw e (segment-kept b b′ 0 (get b (class partial c)) xs 0 (λ x i. (k x i .back, k x i .fore)) (s .links));
+    distinct = s .distinct;
+    below = s .below;
+  }
+
+-- ---- a class
+module _ {n : ℕ} {b : List ℕ} {c : ℕ} {sh : Shape} (sound : Sound sh) {k : Park} {ps xs ys gs : List Page} (r : ClassRep n b c sh k ps xs ys gs) where
+  -- its row is as it was, and so are the pages of its lists, and those pages fs that are in none; to these come others
+  pub class-now : {b′ : List ℕ} (fs new : List Page) → ((f : ClassField) → get b′ (class f c) ≡ get b (class f c))
+      → ((x : ℕ) → 1 ≤ heads x ps + heads x xs + heads x ys + heads x fs → Keeps n sh c b b′ x)
+      → All (PageRep n sh b c 0) fs → All (PageRep n sh b′ c 0) new
+      → ((x : ℕ) → heads x ps + heads x xs + heads x ys + heads x (new ++ fs) ≡ flag (whole n b′ sh c x)) → ClassRep n b′ c sh k ps xs ys (new ++ fs)
+  class-now {b′} fs new row keep old come runs =
+      let kp : (x : ℕ) → In x (firsts ps) → Keeps n sh c b b′ x = λ x i. keep x (omega (arith, in-count x (firsts ps) i)) in
+      let kx : (x : ℕ) → In x (firsts xs) → Keeps n sh c b b′ x = λ x i. keep x (omega (arith, in-count x (firsts xs) i)) in
+      let ky : (x : ℕ) → In x (firsts ys) → Keeps n sh c b b′ x = λ x i. keep x (omega (arith, in-count x (firsts ys) i)) in
+      let kf : (x : ℕ) → In x (firsts fs) → Keeps n sh c b b′ x = λ x i. keep x (omega (arith, in-count x (firsts fs) i)) in
+      record {
+        chain = chain-kept (row partial) (λ x i. kp x i .ties) (r .chain);
+        store = stack-kept (row (top k)) (row (tally k)) (λ x i. kx x i .ties .fore) (r .store);
+        beside = stack-kept (row (top (other k))) (row (tally (other k))) (λ x i. ky x i .ties .fore) (r .beside);
+        partials = all-along _ _ ps (λ p i. let z = kp (p .first) i in rep-kept sound (z .body) (z .listing) (z .run)) (r .partials);
+        parked = all-along _ _ xs (λ p i. let z = kx (p .first) i in parked-kept sound (z .body) (z .listing) (z .run)) (r .parked);
+        parkeds = all-along _ _ ys (λ p i. let z = ky (p .first) i in parked-kept sound (z .body) (z .listing) (z .run)) (r .parkeds);
+        fulls = all-append (PageRep n sh b′ c 0) new fs come
+            (all-along _ _ fs (λ p i. let z = kf (p .first) i in rep-kept sound (z .body) (z .listing) (z .run)) old);
+        runs = runs;
+      }
+
+  -- a page of a list is the class's
+  pub listed-whole : (x : ℕ) → 1 ≤ heads x ps + heads x xs + heads x ys + heads x gs → whole n b sh c x ≡ true
+  listed-whole x h = go (whole n b sh c x) (omega (arith, r .runs x))
+    where
+      go : (t : Bool) → 1 ≤ flag t → t ≡ true
+      go true l = refl
+      go false l = absurd (omega arith)
+
+  pub class-kept : {b′ : List ℕ} → ((f : ClassField) → get b′ (class f c) ≡ get b (class f c)) → ((x : ℕ) → whole n b′ sh c x ≡ whole n b sh c x)
+      → ((x : ℕ) → whole n b sh c x ≡ true → Keeps n sh c b b′ x) → ClassRep n b′ c sh k ps xs ys gs
+  class-kept row same keep = class-now gs [] row (λ x h. keep x (listed-whole x h)) (r .fulls) tt (λ x. rw (same x) (r .runs x))
+
+-- ---- two classes
+-- a page of class c stays as it is under a change of words of class d only
+module _ (c d : ℕ) (ne : c ≡ d → ⊥) {b b′ : List ℕ} (h : Only d b b′) (q : ℕ) (o : get b (page owner q) ≡ suc c) where
+  far : eqb (get b (page owner q)) (suc d) ≡ false
+  far = rw o (ne-eqb (suc c) (suc d) (λ z. ne (omega arith)))
+
+  pub keeps-far : {n : ℕ} {sh : Shape} → whole n b′ sh c q ≡ true → Keeps n sh c b b′ q
+  keeps-far w = record {
+    body = record {
+      free = h .kept (page free q) refl far;
+      carved = h .kept (page carved q) refl far;
+      virgin = h .kept (page virgin q) refl far;
+      slots = λ i e. h .kept (slot q i) e far;
+      outs = λ i e. h .kept (out q i) e far;
+    };
+    listing = h .kept (page listed q) refl far;
+    ties = record { fore = h .kept (page next q) refl far; back = h .kept (page prev q) refl far };
+    run = w;
+  }
+
+pub class-beside : {n : ℕ} {b b′ : List ℕ} (c d : ℕ) {sh : Shape} {k : Park} {ps xs ys fs : List Page} → Sound sh → ltb c 76 ≡ true → (c ≡ d → ⊥)
+    → Only d b b′ → ClassRep n b c sh k ps xs ys fs → ClassRep n b′ c sh k ps xs ys fs
+class-beside {n} {b} c d {sh} sound row ne h r =
+    let own = only-owns d h in
+    class-kept sound r (λ f. h .kept (class f c) row (ne-eqb (suc c) (suc d) (λ z. ne (omega arith)))) (whole-kept own n sh c)
+    (λ x e. keeps-far c d ne h x (whole-owner n b sound c x e) (whole-kept own n sh c x ∙ e))

@@ -1,0 +1,195 @@
+-- Which fields a page's move into a list and out of it writes. Assumes nothing.
+--     isLink        linking q and unlinking it between pages of the codes x behind it and y before it: their links, its own, the
+--                   head of the list, and whether q is listed
+--     isStow        a store's row, and NEXT of q
+--     LetsLink, LetsStow    what a test must let pass for these moves to be changes of that test
+use Prim.Native.Nat.{ℕ, zero, suc, _+_}
+use native.Mathlib.Omega.{arith}
+use mathlib.Core.Bool.{Bool, true, false, _&&_, _||_}
+use mathlib.Core.List.{List}
+use mathlib.Core.Path.{_≡_, refl, ap, _∙_}
+use lib.Dec.{eqb, ltb}
+use borrow.Author.Tests.{eq-eqb, ne-eqb}
+use Rattle.fields.specs.Field.{Field, arena, memory, class, hole, page, slot, out, partial, owner, first, next, prev, free, carved, listed, virgin, frontier, classOff, pageOff, get, put}
+use Rattle.fields.proofs.Changes.{Changes, changes-none, changes-put}
+use Rattle.fields.proofs.Outcome.{changes-putAt}
+use Rattle.pages.specs.declared.Park.{Park}
+use Rattle.pages.specs.declared.Park.the-variants.{Empty, Cold}
+use Rattle.pages.specs.Links.{pointNext, linked, cutOut, link, unlink, top, tally, other, stow, unstow}
+use Rattle.refinement.proofs.Basics.{or-right}
+use Rattle.refinement.proofs.Frames.{ofClass, Owns}
+use Rattle.refinement.proofs.Kept.{Body, Ties}
+
+-- ---- the partial list
+abbrev pub isLink : ℕ → ℕ → ℕ → ℕ → Field → Bool
+isLink c q x y (arena k) = false
+isLink c q x y (memory m) = false
+isLink c q x y (class k d) = eqb (classOff k) 0 && (eqb y 0 && eqb d c)
+isLink c q x y (hole k i) = false
+isLink c q x y (page k z) =
+    (eqb (pageOff k) 2 && (eqb z q || eqb y (suc z))) || ((eqb (pageOff k) 3 && (eqb z q || eqb x (suc z))) || (eqb (pageOff k) 6 && eqb z q))
+isLink c q x y (slot p i) = false
+isLink c q x y (out p i) = false
+
+pub record LetsLink (t : Field → Bool) (c q x y : ℕ) : Type 0 where
+  pub head : y ≡ 0 → t (class partial c) ≡ true
+  pub before : (z : ℕ) → y ≡ suc z → t (page next z) ≡ true
+  pub behind : (z : ℕ) → x ≡ suc z → t (page prev z) ≡ true
+  pub fore : t (page next q) ≡ true
+  pub back : t (page prev q) ≡ true
+  pub listing : t (page listed q) ≡ true
+
+pub link-lets : (c q x y : ℕ) → LetsLink (isLink c q x y) c q x y
+link-lets c q x y = record {
+  head = λ e. rw (e, eq-eqb c c refl);
+  before = λ z e. rw (e, eq-eqb (suc z) (suc z) refl, or-right (eqb z q) true refl);
+  behind = λ z e. rw (e, eq-eqb (suc z) (suc z) refl, or-right (eqb z q) true refl);
+  fore = rw (eq-eqb q q refl);
+  back = rw (eq-eqb q q refl);
+  listing = eq-eqb q q refl;
+}
+
+-- every page that is written is class c's
+pub class-lets : (b : List ℕ) (c q x y : ℕ) → get b (page owner q) ≡ suc c → ((z : ℕ) → x ≡ suc z → get b (page owner z) ≡ suc c)
+    → ((z : ℕ) → y ≡ suc z → get b (page owner z) ≡ suc c) → LetsLink (ofClass b c) c q x y
+class-lets b c q x y o behind before =
+    let mine : ofClass b c (page next q) ≡ true = eq-eqb _ _ o in
+    record {
+      head = λ e. eq-eqb (suc c) (suc c) refl;
+      before = λ z e. eq-eqb _ _ (before z e);
+      behind = λ z e. eq-eqb _ _ (behind z e);
+      fore = mine;
+      back = mine;
+      listing = mine;
+    }
+
+module _ (t : Field → Bool) (b : List ℕ) (c q : ℕ) (row : ltb c 76 ≡ true) where
+  changes-point : (code v : ℕ) → (code ≡ 0 → t (class partial c) ≡ true) → ((z : ℕ) → code ≡ suc z → t (page next z) ≡ true) → Changes t b (pointNext b c code v)
+  changes-point zero v u d = changes-put t b b (class partial c) v row (u refl) (changes-none t b)
+  changes-point (suc z) v u d = changes-put t b b (page next z) v refl (d z refl) (changes-none t b)
+
+  pub link-changes : LetsLink t c q (get b (class partial c)) 0 → Changes t b (link b c q)
+  unfolding link linked
+  link-changes l =
+      changes-put t b _ (page listed q) 1 refl (l .listing)
+      (changes-put t b _ (class partial c) _ row (l .head refl)
+      (changes-putAt t b _ prev (get b (class partial c)) _ (l .behind)
+      (changes-put t b _ (page prev q) _ refl (l .back)
+      (changes-put t b _ (page next q) _ refl (l .fore) (changes-none t b)))))
+
+  pub cut-changes : (x y : ℕ) → LetsLink t c q x y → Changes t b (put (cutOut b c q x y) (page listed q) 0)
+  unfolding cutOut
+  cut-changes x y l =
+      changes-put t b _ (page listed q) 0 refl (l .listing)
+      (changes-put t b _ (page prev q) 0 refl (l .back)
+      (changes-put t b _ (page next q) 0 refl (l .fore)
+      (changes-putAt t b _ prev x _ (l .behind) (changes-point y x (l .head) (l .before)))))
+
+  pub unlink-changes : LetsLink t c q (get b (page next q)) (get b (page prev q)) → Changes t b (unlink b c q)
+  unfolding unlink
+  unlink-changes l = cut-changes (get b (page next q)) (get b (page prev q)) l
+
+-- what linking leaves alone
+module _ {b b′ : List ℕ} (c q x y : ℕ) (h : Changes (isLink c q x y) b b′) where
+  pub link-owns : Owns b b′
+  link-owns = record { owners = λ z. h .kept (page owner z) refl refl; starts = λ z. h .kept (page first z) refl refl; bound = h .kept (arena frontier) refl refl }
+
+  pub link-body : (z : ℕ) → Body z b b′
+  link-body z = record {
+    free = h .kept (page free z) refl refl;
+    carved = h .kept (page carved z) refl refl;
+    virgin = h .kept (page virgin z) refl refl;
+    slots = λ i o. h .kept (slot z i) o refl;
+    outs = λ i o. h .kept (out z i) o refl;
+  }
+
+  pub link-listing : (z : ℕ) → (z ≡ q → ⊥) → get b′ (page listed z) ≡ get b (page listed z)
+  link-listing z d = h .kept (page listed z) refl (ne-eqb z q d)
+
+  pub link-next : (z : ℕ) → (z ≡ q → ⊥) → (y ≡ suc z → ⊥) → get b′ (page next z) ≡ get b (page next z)
+  link-next z d e = h .kept (page next z) refl (rw (ne-eqb z q d, ne-eqb y (suc z) e))
+
+  pub link-prev : (z : ℕ) → (z ≡ q → ⊥) → (x ≡ suc z → ⊥) → get b′ (page prev z) ≡ get b (page prev z)
+  link-prev z d e = h .kept (page prev z) refl (rw (ne-eqb z q d, ne-eqb x (suc z) e))
+
+  pub link-top : ltb c 76 ≡ true → (k : Park) → get b′ (class (top k) c) ≡ get b (class (top k) c)
+  link-top row Empty = h .kept (class (top Empty) c) row refl
+  link-top row Cold = h .kept (class (top Cold) c) row refl
+
+  pub link-tally : ltb c 76 ≡ true → (k : Park) → get b′ (class (tally k) c) ≡ get b (class (tally k) c)
+  link-tally row Empty = h .kept (class (tally Empty) c) row refl
+  link-tally row Cold = h .kept (class (tally Cold) c) row refl
+
+-- ---- the stores
+abbrev pub isStow : Park → ℕ → ℕ → Field → Bool
+isStow k c q (arena l) = false
+isStow k c q (memory m) = false
+isStow k c q (class l d) = (eqb (classOff l) (classOff (top k)) || eqb (classOff l) (classOff (tally k))) && eqb d c
+isStow k c q (hole l i) = false
+isStow k c q (page l p) = eqb (pageOff l) 2 && eqb p q
+isStow k c q (slot p i) = false
+isStow k c q (out p i) = false
+
+pub record LetsStow (t : Field → Bool) (k : Park) (c q : ℕ) : Type 0 where
+  pub newest : t (class (top k) c) ≡ true
+  pub number : t (class (tally k) c) ≡ true
+  pub fore : t (page next q) ≡ true
+
+pub stow-lets : (k : Park) (c q : ℕ) → LetsStow (isStow k c q) k c q
+stow-lets Empty c q = record { newest = eq-eqb c c refl; number = eq-eqb c c refl; fore = eq-eqb q q refl }
+stow-lets Cold c q = record { newest = eq-eqb c c refl; number = eq-eqb c c refl; fore = eq-eqb q q refl }
+
+pub class-lets-stow : (b : List ℕ) (k : Park) (c q : ℕ) → get b (page owner q) ≡ suc c → LetsStow (ofClass b c) k c q
+class-lets-stow b k c q o = record { newest = eq-eqb (suc c) (suc c) refl; number = eq-eqb (suc c) (suc c) refl; fore = eq-eqb _ _ o }
+
+module _ (t : Field → Bool) (b : List ℕ) (c q : ℕ) (row : ltb c 76 ≡ true) (k : Park) (l : LetsStow t k c q) where
+  pub stow-changes : Changes t b (stow b c k q)
+  unfolding stow
+  stow-changes =
+      changes-put t b _ (class (tally k) c) _ row (l .number)
+      (changes-put t b _ (class (top k) c) _ row (l .newest) (changes-put t b _ (page next q) _ refl (l .fore) (changes-none t b)))
+
+  pub unstow-changes : Changes t b (unstow b c k q)
+  unfolding unstow
+  unstow-changes = changes-put t b _ (class (tally k) c) _ row (l .number) (changes-put t b _ (class (top k) c) _ row (l .newest) (changes-none t b))
+
+module _ {b b′ : List ℕ} (k : Park) (c q : ℕ) (h : Changes (isStow k c q) b b′) where
+  pub stow-owns : Owns b b′
+  stow-owns = record { owners = λ z. h .kept (page owner z) refl refl; starts = λ z. h .kept (page first z) refl refl; bound = h .kept (arena frontier) refl refl }
+
+  pub stow-body : (z : ℕ) → Body z b b′
+  stow-body z = record {
+    free = h .kept (page free z) refl refl;
+    carved = h .kept (page carved z) refl refl;
+    virgin = h .kept (page virgin z) refl refl;
+    slots = λ i o. h .kept (slot z i) o refl;
+    outs = λ i o. h .kept (out z i) o refl;
+  }
+
+  pub stow-listing : (z : ℕ) → get b′ (page listed z) ≡ get b (page listed z)
+  stow-listing z = h .kept (page listed z) refl refl
+
+  pub stow-ties : (z : ℕ) → (z ≡ q → ⊥) → Ties z b b′
+  stow-ties z d = record { fore = h .kept (page next z) refl (ne-eqb z q d); back = h .kept (page prev z) refl refl }
+
+  partial-row : (k : Park) → isStow k c q (class partial c) ≡ false
+  partial-row Empty = refl
+  partial-row Cold = refl
+
+  top-row : (k : Park) → isStow k c q (class (top (other k)) c) ≡ false
+  top-row Empty = refl
+  top-row Cold = refl
+
+  tally-row : (k : Park) → isStow k c q (class (tally (other k)) c) ≡ false
+  tally-row Empty = refl
+  tally-row Cold = refl
+
+  module _ (row : ltb c 76 ≡ true) where
+    pub stow-partial : get b′ (class partial c) ≡ get b (class partial c)
+    stow-partial = h .kept (class partial c) row (partial-row k)
+
+    pub stow-top : get b′ (class (top (other k)) c) ≡ get b (class (top (other k)) c)
+    stow-top = h .kept (class (top (other k)) c) row (top-row k)
+
+    pub stow-tally : get b′ (class (tally (other k)) c) ≡ get b (class (tally (other k)) c)
+    stow-tally = h .kept (class (tally (other k)) c) row (tally-row k)

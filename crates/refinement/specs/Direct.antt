@@ -1,0 +1,57 @@
+-- The calls that reach no class, on the words as calls of the model: what is answered, and the book that is left. n is the arena's
+-- length. Assumes nothing.
+--     directReply    the reply to a call that names no class; where it names one that is not ours it is number 3 or 4
+--     Agrees         a reply is the model's: the same answer, never number 13, and the arena's part of the representation afterwards
+use Prim.Native.Nat.{ℕ}
+use mathlib.Core.Bool.{cond}
+use mathlib.Core.List.{List}
+use mathlib.Core.Path.{_≡_}
+use lib.Dec.{eqb, ltb}
+use lib.ListN.{getD}
+use Rattle.model.specs.Calls as Calls
+use Rattle.model.specs.Calls.{Call, Answer, refused, released, contained, reported}
+use Rattle.model.specs.Chunks.{hostMax}
+use Rattle.model.specs.Heap.{Outcome, answerRun}
+use Rattle.arena.specs.Calls.{Committed, commitCall, Done, growCall, releaseCall, containsCall, figures, reportCode}
+use Rattle.arena.specs.Represents.{ArenaRep}
+
+-- the number is 0 where nothing was refused
+pub record Reply : Type 0 where
+  pub code : ℕ
+  pub answer : Answer
+  pub book : List ℕ
+
+abbrev pub reply : ℕ → Answer → List ℕ → Reply
+reply k x b = record { code = k; answer = cond (eqb k 0) x (refused k); book = b }
+
+abbrev pub commitReply : Committed → Reply
+commitReply w = reply (w .code) (answerRun (w .run) (w .fresh)) (w .book)
+
+abbrev pub growReply : Done → Reply
+growReply w = reply (w .code) (Calls.grown (w .yes)) (w .book)
+
+abbrev pub releaseReply : Done → Reply
+releaseReply w = reply (w .code) released (w .book)
+
+abbrev pub reportedOf : List ℕ → Answer
+reportedOf fs = reported (getD fs 0 0) (getD fs 1 0) (getD fs 2 0) (getD fs 3 0) (getD fs 4 0)
+
+abbrev pub noClassReply : List ℕ → ℕ → Reply
+noClassReply b h = reply (cond (ltb hostMax h) 3 4) released b
+
+unfoldable pub directReply : ℕ → List ℕ → Call → Reply
+directReply n b (Calls.takeBlocks c h l) = noClassReply b h
+directReply n b (Calls.mediumTakeBlocks c h l) = noClassReply b h
+directReply n b (Calls.releaseBlocks c h ws) = noClassReply b h
+directReply n b (Calls.mediumReleaseBlocks c h ws) = noClassReply b h
+directReply n b (Calls.releaseBinChunks c h ws gs fs) = noClassReply b h
+directReply n b (Calls.commit h m) = commitReply (commitCall n b h m)
+directReply n b (Calls.growFrontier h q old new) = growReply (growCall n b h q old new)
+directReply n b (Calls.release h q m) = releaseReply (releaseCall n b h q m)
+directReply n b (Calls.contains o k) = reply 0 (contained (containsCall n b o k)) b
+directReply n b Calls.report = reply (reportCode n b) (reportedOf (figures n b)) b
+
+pub record Agrees (n : ℕ) (w : Reply) (o : Outcome) : Type 0 where
+  pub answer : w .answer ≡ o .answer
+  pub fair : w .code ≡ 13 → ⊥
+  pub heap : ArenaRep n (w .book) (o .heap)
