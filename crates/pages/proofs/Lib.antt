@@ -1,4 +1,8 @@
 pub mod Downs
+pub mod Tops
+pub mod Marks
+pub mod Pushes
+pub mod Spliced
 pub mod ListSteps
 pub mod RunSteps
 pub mod CarveSteps

@@ -1,14 +1,20 @@
 -- What the functions ask of the words: those that they read and write are there, and no sum leaves 32 bits.
 -- A page is there where the book has its words; a stored code is one of a page that is there, or 0. Assumes nothing.
 use Prim.Native.Nat.{ℕ, _+_, _^_, _<_, _≤_}
+use mathlib.Core.Bool.{true}
 use mathlib.Core.List.{List}
+use mathlib.Core.Path.{_≡_}
+use lib.Dec.{ltb}
 use lib.ListN.{length}
 use Rattle.classes.specs.declared.Shape.{Shape}
 use Rattle.classes.specs.Sound.{Sound}
+use Rattle.fields.specs.Field as Field
 use Rattle.fields.specs.Field.{class, page, partial, next, prev, words, get}
 use Rattle.fields.specs.Ranges.{maxPages, maxParked}
+use Rattle.model.specs.Lists.{every}
 use Rattle.pages.specs.declared.Park.{Park}
 use Rattle.pages.specs.Links.{tally}
+use Rattle.pages.specs.Stack.{tops, latest}
 
 -- ---- the class's lists
 pub record RowAsks (b : List ℕ) (c : ℕ) : Type 0 where
@@ -84,3 +90,65 @@ pub record NewAsks (b : List ℕ) (sh : Shape) (q : ℕ) : Type 0 where
   pub sound : Sound sh
   pub below : q + sh .pages ≤ maxPages
   pub there : words (q + sh .pages) ≤ length b
+
+-- ---- blocks and their words
+pub record WordAsks (sh : Shape) (q i : ℕ) : Type 0 where
+  pub sound : Sound sh
+  pub below : q + sh .pages ≤ maxPages
+  pub block : i < sh .capacity
+
+pub record IndexAsks (sh : Shape) (q : ℕ) : Type 0 where
+  pub sound : Sound sh
+  pub below : q < maxPages
+
+-- block i of page q is given, to the list's place below `at`
+pub record GiveAsks (b : List ℕ) (sh : Shape) (q : ℕ) (l : List ℕ) (at i : ℕ) : Type 0 where
+  pub sound : Sound sh
+  pub below : q + sh .pages ≤ maxPages
+  pub there : words (q + 1) ≤ length b
+  pub block : i < sh .capacity
+  pub room : 1 ≤ at
+  pub places : at ≤ length l
+
+-- k blocks from a stack whose top stands below t, given to the places below `at`
+pub record PopAsks (b : List ℕ) (sh : Shape) (q : ℕ) (l : List ℕ) (at t k : ℕ) : Type 0 where
+  pub sound : Sound sh
+  pub below : q + sh .pages ≤ maxPages
+  pub there : words (q + 1) ≤ length b
+  pub slots : t ≤ 4096
+  pub enough : k ≤ t
+  pub entries : every (λ i. ltb i (sh .capacity)) (tops b q k t) ≡ true
+  pub room : k ≤ at
+  pub places : at ≤ length l
+
+-- k new blocks from block a on
+pub record FreshAsks (b : List ℕ) (sh : Shape) (q : ℕ) (l : List ℕ) (at a k : ℕ) : Type 0 where
+  pub sound : Sound sh
+  pub below : q + sh .pages ≤ maxPages
+  pub there : words (q + 1) ≤ length b
+  pub blocks : a + k ≤ sh .capacity
+  pub room : k ≤ at
+  pub places : at ≤ length l
+
+pub record DrawAsks (b : List ℕ) (sh : Shape) (q : ℕ) (l : List ℕ) (at m : ℕ) : Type 0 where
+  pub sound : Sound sh
+  pub below : q + sh .pages ≤ maxPages
+  pub there : words (q + 1) ≤ length b
+  pub free : get b (page Field.free q) ≤ get b (page Field.carved q)
+  pub carved : get b (page Field.carved q) ≤ sh .capacity
+  pub entries : every (λ i. ltb i (get b (page Field.carved q))) (tops b q m (get b (page Field.free q))) ≡ true
+  pub room : length (latest b sh q m) ≤ at
+  pub places : at ≤ length l
+
+pub record PushAsks (b : List ℕ) (sh : Shape) (q : ℕ) (ws : List ℕ) : Type 0 where
+  pub sound : Sound sh
+  pub below : q < maxPages
+  pub there : words (q + 1) ≤ length b
+  pub slots : get b (page Field.free q) + length ws ≤ 4096
+
+-- the words ws laid on a stack whose top stands below t
+pub record LayAsks (b : List ℕ) (sh : Shape) (q t : ℕ) (ws : List ℕ) : Type 0 where
+  pub sound : Sound sh
+  pub below : q < maxPages
+  pub there : words (q + 1) ≤ length b
+  pub slots : t + length ws ≤ 4096

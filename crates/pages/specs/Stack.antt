@@ -5,14 +5,20 @@
 --     latest    the blocks that a page gives when n are wanted, the latest first: free ones first, then new ones, lowest first
 --     draw      the page after it gave them
 --     push      blocks laid on a stack whose top stands below t, the list's first on top
+--     pushed    the page with listed blocks back on its stack
 --     back      the page after the listed blocks came back
-use Prim.Native.Nat.{ℕ, zero, suc, _+_, _-_, min}
+--     indexOf   the block that a word names in the run at q; a word below the run's first block names block 0
+--     spliced   a list with words over its own from place a on
+use Prim.Native.Nat.{ℕ, zero, suc, _+_, _-_, _*_, _/_, min}
 use mathlib.Core.Bool.{Bool, true, false, cond, not, _||_}
-use mathlib.Core.List.{List, [], _∷_, _++_, reverse}
+use mathlib.Core.List.{List, [], _∷_, _++_, map, reverse}
+use mathlib.Core.Path.{_≡_}
 use lib.Dec.{eqb, ltb}
-use lib.ListN.{length}
+use lib.ListN.{length, take, drop}
+use Rattle.words.specs.Word.{granuleOf}
 use Rattle.classes.specs.declared.Shape.{Shape}
 use Rattle.fields.specs.Field.{page, slot, out, free, carved, virgin, get, put}
+use Rattle.model.specs.Page.{pageGranules, wordOf}
 
 unfoldable pub marked : List ℕ → Shape → ℕ → ℕ → ℕ
 marked b sh q i = cond (ltb i (sh .capacity)) (get b (out q i)) 0
@@ -50,6 +56,29 @@ abbrev pub push : List ℕ → ℕ → ℕ → List ℕ → List ℕ
 push b q t [] = b
 push b q t (i ∷ is) = put (push b q t is) (slot q (t + length is)) i
 
+unfoldable pub pushed : List ℕ → ℕ → List ℕ → List ℕ
+pushed b q is = put (put (push b q (get b (page free q)) is) (page virgin q) 0) (page free q) (get b (page free q) + length is)
+
 unfoldable pub back : List ℕ → ℕ → List ℕ → List ℕ
 back b q is =
     put (put (push (marks b q 0 is) q (get b (page free q)) is) (page virgin q) 0) (page free q) (get b (page free q) + length is)
+
+-- ---- words of blocks
+abbrev pub blocksFrom : Shape → ℕ → ℕ
+blocksFrom sh q = q * pageGranules + sh .header
+
+unfoldable pub indexOf : Shape → ℕ → ℕ → ℕ
+indexOf sh q w = (granuleOf w - blocksFrom sh q) / sh .block
+
+unfoldable pub spliced : List ℕ → ℕ → List ℕ → List ℕ
+spliced l a ws = take a l ++ (ws ++ drop (a + length ws) l)
+
+-- blocks xs of the page, the latest first, were given: they are out, and the list has their words below `at`
+pub record Gave (b : List ℕ) (sh : Shape) (q : ℕ) (l : List ℕ) (at : ℕ) (xs b′ l′ : List ℕ) : Type 0 where
+  pub outs : b′ ≡ marks b q 1 xs
+  pub list : l′ ≡ spliced l (at - length xs) (map (wordOf sh q) xs)
+
+pub record Drawn (r : ℕ) (b′ l′ b : List ℕ) (sh : Shape) (q : ℕ) (l : List ℕ) (at m : ℕ) : Type 0 where
+  pub count : r ≡ length (latest b sh q m)
+  pub meta : b′ ≡ draw b sh q m
+  pub list : l′ ≡ spliced l (at - length (latest b sh q m)) (map (wordOf sh q) (latest b sh q m))

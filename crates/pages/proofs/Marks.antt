@@ -1,0 +1,71 @@
+-- Out bits of listed blocks set or cleared. Assumes nothing.
+--     length-marks, marks-append
+--     marks-changes, marks-kept    nothing else is changed
+--     marks-get, marks-at          what is read of a block's bit
+use Prim.Native.Nat.{ℕ, zero, suc, _+_, _≤_, _<_}
+use native.Mathlib.Omega.{arith}
+use native.Mathlib.Nat.{zero-add}
+use mathlib.Core.Bool.{Bool, true, false, cond, _&&_}
+use mathlib.Core.List.{List, [], _∷_, _++_}
+use mathlib.Core.Path.{_≡_, refl, sym, ap, _∙_}
+use lib.Dec.{eqb, ltb, leb}
+use lib.ListN.{length}
+use borrow.Author.Tests.{lt-ltb, ltb-true, eq-eqb, ne-eqb, eqb-true, eqb-false}
+use Rattle.classes.specs.declared.Shape.{Shape}
+use Rattle.fields.specs.Field.{Field, region, page, out, slot, get, put, ok, words}
+use Rattle.fields.proofs.Laws.{get-put-same, get-put-other, length-put}
+use Rattle.fields.proofs.Changes.{Changes, changes-none, changes-put}
+use Rattle.model.specs.Lists.{every, count}
+use Rattle.model.proofs.Counts.{by-cases, and-l, and-r, every-count}
+use Rattle.pages.specs.Stack.{marked, marks}
+use Rattle.pages.proofs.Downs.{small, every-below}
+
+abbrev pub isMark : Field → Bool
+isMark f = eqb (region f) 5
+
+pub length-marks : (b : List ℕ) (q v : ℕ) (is : List ℕ) → length (marks b q v is) ≡ length b
+length-marks b q v [] = refl
+length-marks b q v (i ∷ is) = length-put (marks b q v is) (out q i) v ∙ length-marks b q v is
+
+pub marks-append : (b : List ℕ) (q v : ℕ) (is js : List ℕ) → marks (marks b q v js) q v is ≡ marks b q v (is ++ js)
+marks-append b q v [] js = refl
+marks-append b q v (i ∷ is) js = ap (λ z. put z (out q i) v) (marks-append b q v is js)
+
+module _ (b : List ℕ) (q v : ℕ) where
+  pub marks-changes : (t : Field → Bool) → ((i : ℕ) → t (out q i) ≡ true) → (is : List ℕ) → every small is ≡ true → Changes t b (marks b q v is)
+  marks-changes t h [] s = changes-none t b
+  marks-changes t h (i ∷ is) s =
+      changes-put t b (marks b q v is) (out q i) v (and-l (small i) (every small is) s) (h i)
+      (marks-changes t h is (and-r (small i) (every small is) s))
+
+  pub marks-kept : (is : List ℕ) → every small is ≡ true → (g : Field) → ok g ≡ true → isMark g ≡ false → get (marks b q v is) g ≡ get b g
+  marks-kept is s g o d = marks-changes isMark (λ i. refl) is s .kept g o d
+
+module _ (n : ℕ) (b : List ℕ) (hb : leb (words n) (length b) ≡ true) (q : ℕ) (hq : ltb q n ≡ true) (v : ℕ) (hv : ltb v 2 ≡ true) where
+  pub marks-get : (is : List ℕ) → every small is ≡ true → (j : ℕ) → ltb j 4096 ≡ true → get (marks b q v is) (out q j) ≡ cond (eqb (count j is) 0) (get b (out q j)) v
+  marks-get [] s j l = refl
+  marks-get (i ∷ is) s j l =
+      let si = and-l (small i) (every small is) s in
+      let sis = and-r (small i) (every small is) s in
+      let hb′ : leb (words n) (length (marks b q v is)) ≡ true = rw length-marks hb in
+      by-cases (eqb j i)
+      (λ e.
+      let j-i : j ≡ i = eqb-true j i e in
+      rw (e, ne-eqb (1 + count j is) 0 (λ z. omega arith), j-i) (get-put-same n (marks b q v is) (out q i) v hb′ (rw si hq) hv))
+      (λ e. rw (e, zero-add) (get-put-other (marks b q v is) (out q i) (out q j) v si l (rw (ne-eqb i j (λ z. eqb-false j i e (sym z)))) ∙ marks-get is sis j l))
+
+  -- blocks of the class: the bit is 0 at and above the capacity
+  pub marks-at : (sh : Shape) → sh .capacity ≤ 4096 → (is : List ℕ) → every (λ i. ltb i (sh .capacity)) is ≡ true → (j : ℕ)
+      → marked (marks b q v is) sh q j ≡ cond (eqb (count j is) 0) (marked b sh q j) v
+  unfolding marked
+  marks-at sh h is s j =
+      by-cases (ltb j (sh .capacity))
+      (λ e. rw e (marks-get is (every-below (sh .capacity) 4096 h is s) j (lt-ltb j 4096 (omega (arith, ltb-true j (sh .capacity) e)))))
+      (λ e. rw e (by-cases (eqb (count j is) 0) (λ z. rw z) (λ z. absurd (none e z))))
+    where
+      none : ltb j (sh .capacity) ≡ false → eqb (count j is) 0 ≡ false → ⊥
+      none e z =
+          let w : ltb j (sh .capacity) ≡ true = every-count (λ i. ltb i (sh .capacity)) j is s (omega (arith, eqb-false (count j is) 0 z)) in
+          let x : _≡_ {A = Bool} true false = sym w ∙ e in
+          let y : _≡_ {A = ℕ} 0 1 = cc in
+          omega arith

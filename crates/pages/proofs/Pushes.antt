@@ -1,0 +1,66 @@
+-- Blocks laid on a page's stack. Assumes nothing.
+--     length-push, push-changes, push-kept
+--     push-under     entries below the old top are as they were
+--     tops-push      what was laid on is on top
+use Prim.Native.Nat.{ℕ, zero, suc, _+_, _-_, _≤_, _<_}
+use native.Mathlib.Omega.{arith}
+use mathlib.Core.Bool.{Bool, true, false, _&&_}
+use mathlib.Core.List.{List, [], _∷_, _++_}
+use mathlib.Core.Path.{_≡_, refl, sym, ap, _∙_}
+use lib.Dec.{eqb, ltb, leb}
+use lib.ListN.{length}
+use borrow.Author.Tests.{lt-ltb, ltb-true, ne-eqb}
+use Rattle.fields.specs.Field.{Field, region, slot, get, put, ok, words}
+use Rattle.fields.proofs.Laws.{get-put-same, get-put-other, length-put}
+use Rattle.fields.proofs.Changes.{Changes, changes-none, changes-put}
+use Rattle.model.specs.Lists.{every}
+use Rattle.model.proofs.Counts.{and-l, and-r}
+use Rattle.pages.specs.Stack.{tops, push}
+use Rattle.pages.proofs.Downs.{small}
+use Rattle.pages.proofs.Tops.{tops-kept}
+
+abbrev pub isSlot : Field → Bool
+isSlot f = eqb (region f) 6
+
+module _ (b : List ℕ) (q t₀ : ℕ) where
+  pub length-push : (is : List ℕ) → length (push b q t₀ is) ≡ length b
+  length-push [] = refl
+  length-push (i ∷ is) = length-put (push b q t₀ is) (slot q (t₀ + length is)) i ∙ length-push is
+
+  pub push-changes : (t : Field → Bool) → ((i : ℕ) → t (slot q i) ≡ true) → (is : List ℕ) → t₀ + length is ≤ 4096 → Changes t b (push b q t₀ is)
+  push-changes t h [] l = changes-none t b
+  push-changes t h (i ∷ is) l =
+      changes-put t b (push b q t₀ is) (slot q (t₀ + length is)) i (lt-ltb (t₀ + length is) 4096 (omega arith)) (h (t₀ + length is)) (push-changes t h is (omega arith))
+
+  pub push-kept : (is : List ℕ) → t₀ + length is ≤ 4096 → (g : Field) → ok g ≡ true → isSlot g ≡ false → get (push b q t₀ is) g ≡ get b g
+  push-kept is l g o d = push-changes isSlot (λ i. refl) is l .kept g o d
+
+  pub push-under : (is : List ℕ) → t₀ + length is ≤ 4096 → (j : ℕ) → j < t₀ → get (push b q t₀ is) (slot q j) ≡ get b (slot q j)
+  push-under [] l j h = refl
+  push-under (i ∷ is) l j h =
+      get-put-other (push b q t₀ is) (slot q (t₀ + length is)) (slot q j) i (lt-ltb (t₀ + length is) 4096 (omega arith)) (lt-ltb j 4096 (omega arith)) (rw (ne-eqb (t₀ + length is) j (λ z. omega arith)))
+      ∙ push-under is (omega arith) j h
+
+-- all of the stack: what was laid on it, then what it had
+module _ (n : ℕ) (b : List ℕ) (hb : leb (words n) (length b) ≡ true) (q : ℕ) (hq : ltb q n ≡ true) (t₀ : ℕ) where
+  pub tops-push : (is : List ℕ) → t₀ + length is ≤ 4096 → every small is ≡ true → tops (push b q t₀ is) q (length is + t₀) (length is + t₀) ≡ is ++ tops b q t₀ t₀
+  tops-push [] l s = same (0 + t₀) t₀ (omega arith)
+    where
+      same : (x y : ℕ) → x ≡ y → tops b q x x ≡ tops b q y y
+      same x y e = rw e
+  tops-push (i ∷ is) l s =
+      let b′ = push b q t₀ is in
+      let top = t₀ + length is in
+      let m = length is + t₀ in
+      let ok′ : ltb top 4096 ≡ true = lt-ltb top 4096 (omega arith) in
+      let si = ltb-true i 4096 (and-l (small i) (every small is) s) in
+      let hb′ : leb (words n) (length b′) ≡ true = rw length-push hb in
+      let here : get (put b′ (slot q top) i) (slot q m) ≡ i = ap (λ z. get (put b′ (slot q top) i) (slot q z)) (omega arith) ∙ get-put-same n b′ (slot q top) i hb′ (rw ok′ hq) (lt-ltb i 65536 (omega arith)) in
+      let rest : tops (put b′ (slot q top) i) q m m ≡ tops b′ q m m =
+      tops-kept b′ (put b′ (slot q top) i) q m m (λ j h. get-put-other b′ (slot q top) (slot q j) i ok′ (lt-ltb j 4096 (omega arith)) (rw (ne-eqb top j (λ z. omega arith)))) in
+      shifted m (suc (length is) + t₀) (omega arith)
+      ∙ ap (λ x. x ∷ tops (put b′ (slot q top) i) q m m) here
+      ∙ ap (λ l. i ∷ l) (rest ∙ tops-push is (omega arith) (and-r (small i) (every small is) s))
+    where
+      shifted : (m x : ℕ) → suc m ≡ x → tops (push b q t₀ (i ∷ is)) q x x ≡ get (push b q t₀ (i ∷ is)) (slot q m) ∷ tops (push b q t₀ (i ∷ is)) q m m
+      shifted m x e = rw (← e)
