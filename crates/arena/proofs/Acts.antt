@@ -5,6 +5,7 @@
 -- Assumes nothing.
 use Prim.Native.Nat.{ℕ, zero, suc, _+_, _-_, _≤_, _<_}
 use native.Mathlib.Omega.{arith}
+use native.Mathlib.Decide.{ℕ-discrete, decLe}
 use native.Mathlib.Numerals.{add-one}
 use mathlib.Core.Bool.{Bool, true, false, cond, not, _&&_, true≢false, false≢true}
 use mathlib.Core.List.{List, [], _∷_, _++_}
@@ -12,7 +13,7 @@ use mathlib.Core.Option.{Option, none, some}
 use mathlib.Core.Path.{_≡_, refl, sym, ap, _∙_, subst}
 use lib.Dec.{eqb, ltb, leb}
 use lib.ListN.{length, length-append}
-use borrow.Author.Tests.{lt-ltb, ltb-true, ltb-false, le-ltb, eq-eqb, ne-eqb, eqb-true, le-leb, leb-true}
+use borrow.Author.Tests.{lt-ltb, ltb-true, ltb-false, le-ltb, eq-eqb, ne-eqb, eqb-true, le-leb, lt-leb, leb-true}
 use Rattle.words.specs.Host.{reservationGranted, commitGranted}
 use Rattle.fields.specs.Field.{arena, memory, state, frontier, holes, holePages, held, get, put, words}
 use Rattle.fields.proofs.Laws.{put-get}
@@ -32,7 +33,8 @@ use Rattle.arena.specs.Fair.{recordFair, memoryFair, holesFair, holeFair
 use Rattle.arena.specs.Owners.{own}
 use Rattle.arena.specs.Plan.{cutHoles, noPlan, planAt, planOf, chosen}
 use Rattle.arena.specs.Calls.{Committed, commitRefused, advance, committed, commitFor, given, grownBy, grownBook}
-use Rattle.arena.specs.Act.{rememberWord, recallWord, withState, withHoles, accepting, giveWords, giveRecord, cutWords, usedWords, drawWords, drawRecord, forgetWord, endNone, endRun, endGiven, settle, fromFrontier, commitDrawn, nextState, commitPlanned, planned, commitActs, giveActs, growActs}
+use Rattle.arena.specs.Act.{rememberWord, recallWord, withState, withHoles, accepting, appendWords, giveWords, giveRecord, cutWords, usedWords, drawWords, drawRecord, forgetWord, endNone, endRun, endGiven, settle, fromFrontier, commitDrawn, nextState, commitPlanned, planned, commitRead, commitRecalled, commitActs, givenWith, giveActs, growWith, growActs}
+use Rattle.arena.specs.Answer.{ranYes}
 use Rattle.arena.proofs.StoreLaws.{hole-length, loaded-length, loaded-last, removed-length, set-length, remember-length, remember-twice, store-length, store-loaded, store-remembered, store-set, store-appended, store-removed}
 use Rattle.arena.proofs.Choice.{Choosing, empty, recalled, exact, longer, short, choosing, choice-of}
 use Rattle.arena.proofs.Frames.{isStored, isOwner, arena-changes, own-changes, own-twice}
@@ -76,7 +78,7 @@ unfolding append
 append-top m q a = rw length-append
 
 give-own : (n : ℕ) (b : List ℕ) → leb (words n) (length b) ≡ true → (m q : ℕ) (a : Arena) → Stands b (give m q a) (giveWords (storeStore b (a .store)) (summary a) m q) (giveRecord (summary a) m)
-unfolding give accepts giveWords giveRecord
+unfolding give accepts giveWords appendWords giveRecord
 give-own n b hb m q a =
     by-cases (ltb (length (a .store .holes)) 4096 && leb (a .store .total + m) 65536)
     (λ e. rw e (record {
@@ -137,12 +139,12 @@ module _ (n : ℕ) (b : List ℕ) (hb : leb (words n) (length b) ≡ true) (m w 
 
   -- of a hole
   pub ends-reuse : (a : Arena) (x : List ℕ) (r : Record) (q : ℕ) → Stands b a x r → length (a .store .holes) ≤ 4096 → a .frontier ≡ get b (arena frontier)
-      → finish b (Arenas.given (Arenas.counted false a) (some q) false) m w ≡ endRun x r m q false w
+      → finish b (Arenas.given (Arenas.counted false a) (some q) false) m w ≡ endRun x r m q false w (get b (arena held))
   unfolding committed endRun
   ends-reuse a x r q k few e =
       let z = stands-stored b (Arenas.counted false a) x (counted false r) (stands-counted b a x r k false) in
       ap (λ y. record { code = 0; book = y; run = some q; fresh = false })
-      (rw (advance-still b (Arenas.counted false a) e, ← (held-owned b (Arenas.counted false a) q m w few)) (rw z))
+      (rw (advance-still b (Arenas.counted false a) e, z))
 
   pub ends-reuse-given : (a : Arena) (x : List ℕ) (r : Record) (q : ℕ) → Stands b a x r → length (a .store .holes) ≤ 4096 → a .frontier ≡ get b (arena frontier)
       → finish b (Arenas.given (give m q a) none false) m w ≡ endGiven x r m q false
@@ -155,7 +157,7 @@ module _ (n : ℕ) (b : List ℕ) (hb : leb (words n) (length b) ≡ true) (m w 
 
   -- of the frontier
   pub ends-fresh : (a : Arena) (x : List ℕ) (r : Record) → Stands b a x r → length (a .store .holes) ≤ 4096 → a .frontier ≡ get b (arena frontier) + m → a .frontier ≤ n
-      → finish b (Arenas.given (Arenas.counted true a) (some (get b (arena frontier))) true) m w ≡ endRun x r m (get b (arena frontier)) true w
+      → finish b (Arenas.given (Arenas.counted true a) (some (get b (arena frontier))) true) m w ≡ endRun x r m (get b (arena frontier)) true w (get b (arena held))
   unfolding committed endRun
   ends-fresh a x r k few e l =
       let z = stands-stored b (Arenas.counted true a) x (counted true r) (stands-counted b a x r k true) in
@@ -179,16 +181,16 @@ module _ (n : ℕ) (b : List ℕ) (hb : leb (words n) (length b) ≡ true) (m w 
 
 -- granted or not
 module _ (n : ℕ) (b : List ℕ) (hb : leb (words n) (length b) ≡ true) (m h w : ℕ) (a : Arena) (x : List ℕ) (r : Record) (k : Stands b a x r) (few : length (a .store .holes) ≤ 4096) where
-  settles-reuse : (q : ℕ) → a .frontier ≡ get b (arena frontier) → finish b (grant h m a (some q) false) m w ≡ settle x r m q false h w
+  settles-reuse : (q : ℕ) → a .frontier ≡ get b (arena frontier) → finish b (grant h m a (some q) false) m w ≡ settle x r m q false h w (get b (arena held))
   unfolding grant settle
   settles-reuse q e = by-cases (commitGranted h) (λ t. rw t (ends-reuse n b hb m w a x r q k few e)) (λ t. rw t (ends-reuse-given n b hb m w a x r q k few e))
 
   settles-fresh : a .frontier ≡ get b (arena frontier) + m → a .frontier ≤ n
-      → finish b (grant h m a (some (get b (arena frontier))) true) m w ≡ settle x r m (get b (arena frontier)) true h w
+      → finish b (grant h m a (some (get b (arena frontier))) true) m w ≡ settle x r m (get b (arena frontier)) true h w (get b (arena held))
   unfolding grant settle
   settles-fresh e l = by-cases (commitGranted h) (λ t. rw t (ends-fresh n b hb m w a x r k few e l)) (λ t. rw t (ends-fresh-given n b hb m w a x r k few e))
 
-  settles-at : (q : ℕ) → q ≡ get b (arena frontier) → a .frontier ≡ q + m → a .frontier ≤ n → finish b (grant h m a (some q) true) m w ≡ settle x r m q true h w
+  settles-at : (q : ℕ) → q ≡ get b (arena frontier) → a .frontier ≡ q + m → a .frontier ≤ n → finish b (grant h m a (some q) true) m w ≡ settle x r m q true h w (get b (arena held))
   settles-at q e f l = rw e (settles-fresh (rw e at f) l)
 
 -- ---- a run from the holes
@@ -291,7 +293,7 @@ module _ (n : ℕ) (b : List ℕ) (hb : leb (words n) (length b) ≡ true) (few 
     settled : Given → Committed
     settled d = finish b (grant h m (d .arena) (d .run) (d .fresh)) m w
 
-    by-frontier : (g : Memory) (x : List ℕ) → storeStore b (Model.store HS T g) ≡ x → settled (drawFrom n m (Arenas.withStore (Model.store HS T g) a) none) ≡ fromFrontier n x r m h w
+    by-frontier : (g : Memory) (x : List ℕ) → storeStore b (Model.store HS T g) ≡ x → settled (drawFrom n m (Arenas.withStore (Model.store HS T g) a) none) ≡ fromFrontier n x r m h w (get b (arena held))
     unfolding settled drawFrom fromFrontier grant
     by-frontier g x k =
         let s : Stands b (Arenas.withStore (Model.store HS T g) a) x (summary (Arenas.withStore (Model.store HS T g) a)) = record { words = k; top = refl } in
@@ -299,17 +301,17 @@ module _ (n : ℕ) (b : List ℕ) (hb : leb (words n) (length b) ≡ true) (few 
         by-cases (leb (a .frontier + m) n)
         (λ t. rw t (settles-at n b hb m h w _ x _ (stands-frontier b _ x _ s m) lf (a .frontier) fr refl (leb-true _ n t)))
         (λ t. rw t (ends-none n b hb m w _ x _ s lf fr))
-        ∙ ap (λ z. fromFrontier n x z m h w) top
+        ∙ ap (λ z. fromFrontier n x z m h w (get b (arena held))) top
 
     by-hole : (i : ℕ) (g : Memory) → i < length HS → storeStore b (takeAt m i (Model.store HS T g)) ≡ drawWords b m (plan i)
         → summary (Arenas.withStore (takeAt m i (Model.store HS T g)) a) ≡ drawRecord (summary (Arenas.withStore (Model.store HS T g) a)) m (plan i)
-        → settled (drawFrom n m (Arenas.withStore (Model.store HS T g) a) (some i)) ≡ commitDrawn n b r (plan i) m h w
+        → settled (drawFrom n m (Arenas.withStore (Model.store HS T g) a) (some i)) ≡ commitDrawn n b r (plan i) m h w (get b (arena held))
     unfolding settled drawFrom commitDrawn plan planAt
     by-hole i g l ws tp =
         rw (ne-eqb (suc i) 0 (λ e. omega arith))
         (settles-reuse n b hb m h w _ (drawWords b m (plan i)) (drawRecord r m (plan i)) (record { words = ws; top = tp ∙ ap (λ z. drawRecord z m (plan i)) top }) (few-drawn i g l) (holeAt i HS .first) fr)
 
-    drawn : (c : Choice) → Choosing m HS T F c → settled (drawFrom n m (Arenas.withStore (c .store) a) (c .index)) ≡ commitDrawn n b r (planAt HS m (c .index)) m h w
+    drawn : (c : Choice) → Choosing m HS T F c → settled (drawFrom n m (Arenas.withStore (c .store) a) (c .index)) ≡ commitDrawn n b r (planAt HS m (c .index)) m h w (get b (arena held))
     unfolding commitDrawn planAt noPlan forgetWord plan
     drawn c (empty e) =
         let z : r .count ≡ 0 = sym (ap (λ y. y .count) top) ∙ ap length e in
@@ -325,7 +327,7 @@ module _ (n : ℕ) (b : List ℕ) (hb : leb (words n) (length b) ≡ true) (few 
 
   module _ (h w : ℕ) where
     by-ready : (s : Status) (r : Record) → summary (Arenas.withStatus s (loadArena b)) ≡ r
-        → finish b (commitReady n h m (Arenas.withStatus s (loadArena b))) m w ≡ commitDrawn n b r (planAt HS m (chooseIn m HS T F .index)) m h w
+        → finish b (commitReady n h m (Arenas.withStatus s (loadArena b))) m w ≡ commitDrawn n b r (planAt HS m (chooseIn m HS T F .index)) m h w (get b (arena held))
     unfolding commitReady draw loadArena loadStore HS T F settled
     by-ready s r top = drawn h w (Arenas.withStatus s (loadArena b)) r top refl (chooseIn m HS T F) (choosing m HS T F)
 
@@ -338,7 +340,7 @@ module _ (n : ℕ) (b : List ℕ) (hb : leb (words n) (length b) ≡ true) (few 
     off s r top = ends-none n b hb m w (Arenas.withStatus s (loadArena b)) b r (record { words = store-loaded b; top = top }) (rw length-HS few) refl
 
     by-state : (s : ℕ) → s ≤ 2 → get b (arena state) ≡ s
-        → finish b (commitAs n h m (loadArena b) (statusOf s)) m w ≡ commitPlanned n b (recordOf b) (planAt HS m (chooseIn m HS T F .index)) m h w
+        → finish b (commitAs n h m (loadArena b) (statusOf s)) m w ≡ commitPlanned n b (recordOf b) (planAt HS m (chooseIn m HS T F .index)) m h w (get b (arena held))
     unfolding commitAs commitPlanned
     by-state zero l e =
         by-cases (reservationGranted h)
@@ -349,7 +351,7 @@ module _ (n : ℕ) (b : List ℕ) (hb : leb (words n) (length b) ≡ true) (few 
     by-state (suc (suc (suc s))) l e = absurd (omega arith)
 
     commit-fair : get b (arena state) ≤ 2
-        → finish b (commit n h m (loadArena b)) m w ≡ commitPlanned n b (recordOf b) (planAt (loadHoles b 0 (get b (arena holes))) m (chooseIn m (loadHoles b 0 (get b (arena holes))) (get b (arena holePages)) (recall b) .index)) m h w
+        → finish b (commit n h m (loadArena b)) m w ≡ commitPlanned n b (recordOf b) (planAt (loadHoles b 0 (get b (arena holes))) m (chooseIn m (loadHoles b 0 (get b (arena holes))) (get b (arena holePages)) (recall b) .index)) m h w (get b (arena held))
     unfolding commit loadArena HS T F
     commit-fair l = by-state (get b (arena state)) l refl
 
@@ -403,14 +405,14 @@ cond-false true x y e = absurd (true≢false e)
 cond-false false x y e = refl
 
 pub commit-acts : (n : ℕ) (b : List ℕ) → leb (words n) (length b) ≡ true → (h m w : ℕ) → commitActs n b h m w ≡ commitFor n b h m w
-unfolding commitActs commitFor commitFair
+unfolding commitActs commitRecalled commitRead commitFor commitFair
 commit-acts n b hb h m w =
     by-cases (recordFair n b)
     (λ e. let k = fair-record n b e in
     by-cases (memoryFair b m)
     (λ u. by-cases (holesFair b)
     (λ v. rw (e, u, v) (cond-true (planned b m .fair) _ _ (planned-fair b m ∙ v)
-    ∙ ap (λ p. commitPlanned n b (recordOf b) p m h w) (planned-at b m v)
+    ∙ ap (λ p. commitPlanned n b (recordOf b) p m h w (get b (arena held))) (planned-at b m v)
     ∙ sym (commit-fair n b hb (k .holes) m h w (k .state))))
     (λ v. rw (e, u, v) (cond-false (planned b m .fair) _ _ (planned-fair b m ∙ v))))
     (λ u. rw (e, u)))
@@ -422,21 +424,16 @@ unfolding loadArena loadStore
 few-loaded b l = rw (loaded-length b 0 (get b (arena holes))) l
 
 pub give-acts : (n : ℕ) (b : List ℕ) → leb (words n) (length b) ≡ true → FairRecord n b → (q m : ℕ) → given b q m ≡ giveActs b q m
-unfolding given giveActs
+unfolding given giveActs givenWith
 give-acts n b hb k q m =
     let a = give m q (loadArena b) in
-    let few = give-few m q (loadArena b) (few-loaded b (k .holes)) in
     let y : storeArena b a ≡ storeRecord (giveWords b (recordOf b) m q) (giveRecord (recordOf b) m) = stands-stored b a _ _ (stands-give n b hb m q (loadArena b) b (recordOf b) (stands-loaded b (k .state))) in
-    rw (← (held-owned b a q m 0 few)) (rw y)
+    rw y
 
 -- ---- growth
-abbrev pub grew : Option ℕ → Bool
-grew none = false
-grew (some q) = true
-
-pub record Grows (n : ℕ) (b : List ℕ) (h e m : ℕ) : Type 0 where
+pub record GrowsAs (n : ℕ) (b : List ℕ) (h e m : ℕ) : Type 0 where
   pub book : grownBook b (Arenas.grow n h e m (loadArena b)) e m ≡ growActs n b h e m 77 .book
-  pub yes : Arenas.grow n h e m (loadArena b) .grew ≡ grew (growActs n b h e m 77 .run)
+  pub yes : Arenas.grow n h e m (loadArena b) .grew ≡ ranYes (growActs n b h e m 77 .run)
 
 -- the growth as a commit's end
 grown-given : (b : List ℕ) (e m : ℕ) (g : Arenas.Grown) → grownBook b g e m ≡ committed b (Arenas.given (g .arena) (grownBy (g .grew) e) (g .grew)) m 77
@@ -451,8 +448,8 @@ module _ (n : ℕ) (b : List ℕ) (hb : leb (words n) (length b) ≡ true) (k : 
   unfolding A loadArena
   stands-A = stands-frontier b (loadArena b) b (recordOf b) (stands-loaded b (k .state)) m
 
-  grows-at : get b (arena frontier) + m ≤ n → Grows n b h (get b (arena frontier)) m
-  unfolding growActs settle Arenas.grow loadArena A
+  grows-at : get b (arena frontier) + m ≤ n → GrowsAs n b h (get b (arena frontier)) m
+  unfolding growActs growWith fromFrontier settle Arenas.grow loadArena A
   grows-at l =
       let f = get b (arena frontier) in
       let few = few-loaded b (k .holes) in
@@ -460,22 +457,36 @@ module _ (n : ℕ) (b : List ℕ) (hb : leb (words n) (length b) ≡ true) (k : 
       (λ t. let z = ends-fresh n b hb m 77 A b (advanced m (recordOf b)) stands-A few refl l in
       record {
         book = rw (eq-eqb f f refl, le-leb (f + m) n l, t) (grown-given b f m _ ∙ ap (λ y. y .book) z);
-        yes = rw (eq-eqb f f refl, le-leb (f + m) n l, t) (ap (λ y. grew (y .run)) z);
+        yes = rw (eq-eqb f f refl, le-leb (f + m) n l, t) (ap (λ y. ranYes (y .run)) z);
       })
       (λ t. let z = ends-fresh-given n b hb m 77 A b (advanced m (recordOf b)) stands-A few refl in
       record {
         book = rw (eq-eqb f f refl, le-leb (f + m) n l, t) (grown-given b f m _ ∙ ap (λ y. y .book) z);
-        yes = rw (eq-eqb f f refl, le-leb (f + m) n l, t) (ap (λ y. grew (y .run)) z);
+        yes = rw (eq-eqb f f refl, le-leb (f + m) n l, t) (ap (λ y. ranYes (y .run)) z);
       })
 
-  grows-not : (e : ℕ) → (eqb (get b (arena frontier)) e && leb (e + m) n) ≡ false → Grows n b h e m
-  unfolding growActs endNone Arenas.grow loadArena
-  grows-not e t =
-      let z = ends-none n b hb m 77 (loadArena b) b (recordOf b) (stands-loaded b (k .state)) (few-loaded b (k .holes)) refl in
-      record { book = rw t (grown-given b e m _ ∙ ap (λ y. y .book) z); yes = rw t refl }
+  unmoved : finish b (Arenas.given (loadArena b) none false) m 77 ≡ endNone b (recordOf b)
+  unfolding loadArena
+  unmoved = ends-none n b hb m 77 (loadArena b) b (recordOf b) (stands-loaded b (k .state)) (few-loaded b (k .holes)) refl
 
-  pub grow-acts : (e : ℕ) → Grows n b h e m
+  grows-full : n < get b (arena frontier) + m → GrowsAs n b h (get b (arena frontier)) m
+  unfolding growActs growWith fromFrontier endNone Arenas.grow loadArena
+  grows-full l =
+      let f = get b (arena frontier) in
+      record { book = rw (eq-eqb f f refl, lt-leb (f + m) n l) (grown-given b f m _ ∙ ap (λ y. y .book) unmoved); yes = rw (eq-eqb f f refl, lt-leb (f + m) n l) refl }
+
+  grows-elsewhere : (e : ℕ) → (get b (arena frontier) ≡ e → ⊥) → GrowsAs n b h e m
+  unfolding growActs growWith endNone Arenas.grow loadArena
+  grows-elsewhere e d =
+      let t = ne-eqb (get b (arena frontier)) e d in
+      record { book = rw t (grown-given b e m _ ∙ ap (λ y. y .book) unmoved); yes = rw t refl }
+
+  pub grow-acts : (e : ℕ) → GrowsAs n b h e m
   grow-acts e =
-      by-cases (eqb (get b (arena frontier)) e && leb (e + m) n)
-      (λ t. subst (λ z. Grows n b h z m) (eqb-true _ e (and-l _ _ t)) (grows-at (let y = leb-true (e + m) n (and-r (eqb (get b (arena frontier)) e) _ t) in let x = eqb-true (get b (arena frontier)) e (and-l _ _ t) in omega arith)))
-      (λ t. grows-not e t)
+      elim (ℕ-discrete (get b (arena frontier)) e) [
+        | yes z ↦ subst (λ y. GrowsAs n b h y m) z (elim (decLe (get b (arena frontier) + m) n) [
+          | yes l ↦ grows-at l
+          | no l ↦ grows-full (omega arith)
+        ])
+        | no d ↦ grows-elsewhere e d
+      ]

@@ -16,10 +16,11 @@ use borrow.Author.Tests.{ltb-true, leb-true, leb-false, lt-ltb, le-ltb, le-leb}
 use Rattle.model.specs.declared.Hole.{Hole}
 use Rattle.model.specs.HoleStore as Model
 use Rattle.model.specs.HoleStore.{Fit, holeAt, setAt, leastFit, stillHolds, Choice, chooseIn, rememberedMax}
+use Rattle.arena.specs.declared.Plan.{Plan}
 use Rattle.arena.specs.declared.holes.Best.{Best}
 use Rattle.arena.specs.Load.{indexOf, indexCode}
 use Rattle.arena.specs.Plan.{chosen}
-use Rattle.arena.specs.Scan.{noHole, bestOf, holeOf, recalledOf, remembered, searchedOf, settledOf, storedOf}
+use Rattle.arena.specs.Scan.{noHole, bestOf, holeOf, recalledOf, remembered, searchedOf, settledOf, storedOf, leftOf}
 use Rattle.arena.proofs.Least.{Within, by-test, least-within}
 
 pub hole-at-get : (i : ℕ) (hs : List Hole) → holeAt i hs ≡ getD hs i noHole
@@ -117,7 +118,7 @@ unfolding stillHolds
 still-stored m hs zero e = omega arith
 still-stored m hs (suc i) e = omega (arith, ltb-true i (length hs) (both-true (ltb i (length hs)) (eqb (holeAt i hs .pages) m) e .0))
 
-choice-within : (t : Bool) (k a b : ℕ) → (t ≡ true → a ≤ k) → b ≤ k → cond t a b ≤ k
+pub choice-within : (t : Bool) (k a b : ℕ) → (t ≡ true → a ≤ k) → b ≤ k → cond t a b ≤ k
 choice-within true k a b p q = p refl
 choice-within false k a b p q = q
 
@@ -131,3 +132,6 @@ chosen-within hs m code =
 pub stored-within : (fair : Bool) {count k : ℕ} → count ≤ k → storedOf fair count ≤ k
 stored-within true l = l
 stored-within false l = omega arith
+
+pub left-within : (p : Plan) (count n : ℕ) → leftOf p count n ≤ count
+left-within p count n = choice-within (eqb (p .code) 0) count 0 _ (λ _. omega arith) (choice-within (ltb n (p .pages)) count count (count - 1) (λ _. omega arith) (omega arith))

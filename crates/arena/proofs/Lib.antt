@@ -1,10 +1,16 @@
 -- What the proofs of several functions use, and the laws of storing that the crates above use.
--- What the proofs of several functions use.
 mod Again
 mod Big
 mod Choosing
+mod Filled
+mod Laid
 mod Least
 mod Loading
+mod Planning
+mod Ways
+mod ActWays
+mod CallWays
+mod DirectWays
 pub mod StoreLaws
 pub mod Choice
 pub mod Frames

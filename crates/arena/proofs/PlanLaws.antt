@@ -1,5 +1,6 @@
 -- What a plan on words in their ranges says.
 --     plan-fits      a chosen hole is stored, long enough, and within the hole pages and the frontier
+--     clamp-commit, clamp-grow    a run of more pages than any arena has may be counted as one page more than that
 --     commit-long    a commit of more pages than any arena has goes like every other one: no hole, no memory, no room
 -- Assumes nothing.
 use Prim.Native.Nat.{ℕ, zero, suc, _+_, _-_, _≤_, _<_}
@@ -10,8 +11,8 @@ use mathlib.Core.Option.{Option, none, some}
 use mathlib.Core.Path.{_≡_, refl, sym, ap, _∙_, subst}
 use lib.Dec.{eqb, ltb, leb}
 use lib.ListN.{length}
-use borrow.Author.Tests.{eqb-true, eq-eqb, ne-eqb, leb-true, le-leb, lt-leb}
-use Rattle.fields.specs.Field.{arena, frontier, holes, holePages, get, words}
+use borrow.Author.Tests.{eqb-true, eq-eqb, ne-eqb, leb-true, leb-false, le-leb, lt-leb}
+use Rattle.fields.specs.Field.{arena, frontier, holes, holePages, held, get, words}
 use Rattle.model.specs.declared.Hole.{Hole}
 use Rattle.model.specs.Lists.{every}
 use Rattle.model.specs.HoleStore.{Memory, holeAt, Choice, chooseIn}
@@ -23,7 +24,7 @@ use Rattle.arena.specs.Record.{recordOf}
 use Rattle.arena.specs.Fair.{recordFair, memoryFair, holeFair, holesFair}
 use Rattle.arena.specs.Plan.{noPlan, planAt, planOf}
 use Rattle.arena.specs.Calls.{Committed, commitRefused, commitFor}
-use Rattle.arena.specs.Act.{rememberWord, forgetWord, endNone, fromFrontier, commitDrawn, nextState, withState, commitPlanned, planned, commitActs}
+use Rattle.arena.specs.Act.{rememberWord, forgetWord, endNone, fromFrontier, commitDrawn, nextState, withState, commitPlanned, planned, commitRead, commitRecalled, commitActs, growWith, growActs, clamped}
 use Rattle.arena.proofs.StoreLaws.{loaded-length}
 use Rattle.arena.proofs.Choice.{Choosing, empty, recalled, exact, longer, short, choosing}
 use Rattle.arena.proofs.Acts.{planned-fair, planned-at, FairRecord, fair-record, commit-acts}
@@ -89,7 +90,7 @@ plan-fits b m p e f d =
 
 -- ---- a commit of more pages than any arena has
 module _ (n : ℕ) (b : List ℕ) (h w m : ℕ) (small : n ≤ 262144) (large : 262145 ≤ m) where
-  no-room : (a : Arena) → fromFrontier n (forgetWord b a m) a m h w ≡ endNone b a
+  no-room : (a : Arena) → fromFrontier n (forgetWord b a m) a m h w (get b (arena held)) ≡ endNone b a
   unfolding fromFrontier forgetWord rememberWord
   no-room a = rw (lt-leb (a .frontier + m) n (omega arith), lt-leb m 128 (omega arith)) (same-of (eqb (a .count) 0))
     where
@@ -97,14 +98,14 @@ module _ (n : ℕ) (b : List ℕ) (h w m : ℕ) (small : n ≤ 262144) (large : 
       same-of true = refl
       same-of false = refl
 
-  long-planned : (a : Arena) → commitPlanned n b a (noPlan true) m h w ≡ endNone b (withState (nextState (a .state) h) a)
+  long-planned : (a : Arena) → commitPlanned n b a (noPlan true) m h w (get b (arena held)) ≡ endNone b (withState (nextState (a .state) h) a)
   unfolding commitPlanned commitDrawn noPlan
   long-planned a =
       by-cases (eqb (nextState (a .state) h) 2)
       (λ t. rw t)
       (λ t. rw t (no-room (withState (nextState (a .state) h) a)))
 
-  fair-none : cond (noPlan true .fair) (commitPlanned n b (recordOf b) (noPlan true) m h w) (commitRefused b 13) ≡ endNone b (withState (nextState (recordOf b .state) h) (recordOf b))
+  fair-none : cond (noPlan true .fair) (commitPlanned n b (recordOf b) (noPlan true) m h w (get b (arena held))) (commitRefused b 13) ≡ endNone b (withState (nextState (recordOf b .state) h) (recordOf b))
   unfolding noPlan
   fair-none = long-planned (recordOf b)
 
@@ -112,20 +113,43 @@ module _ (n : ℕ) (b : List ℕ) (h w m : ℕ) (small : n ≤ 262144) (large : 
   long-fair = rw (lt-leb m 128 (omega arith))
 
   long-acts : commitActs n b h m w ≡ cond (recordFair n b) (cond (holesFair b) (endNone b (withState (nextState (recordOf b .state) h) (recordOf b))) (commitRefused b 13)) (commitRefused b 13)
-  unfolding commitActs
+  unfolding commitActs commitRecalled commitRead
   long-acts =
       by-cases (recordFair n b)
       (λ e. let k = fair-record n b e in
       rw (e, long-fair)
       (by-cases (holesFair b)
-      (λ v. rw v (ap (λ p. cond (p .fair) (commitPlanned n b (recordOf b) p m h w) (commitRefused b 13)) (none-planned b m v (let z = k .holePages in omega arith)) ∙ fair-none))
+      (λ v. rw v (ap (λ p. cond (p .fair) (commitPlanned n b (recordOf b) p m h w (get b (arena held))) (commitRefused b 13)) (none-planned b m v (let z = k .holePages in omega arith)) ∙ fair-none))
       (λ v. rw v (unfair (planned b m .fair) (planned-fair b m ∙ v)))))
       (λ e. rw e)
     where
-      unfair : (t : Bool) → t ≡ false → cond t (commitPlanned n b (recordOf b) (planned b m) m h w) (commitRefused b 13) ≡ commitRefused b 13
+      unfair : (t : Bool) → t ≡ false → cond t (commitPlanned n b (recordOf b) (planned b m) m h w (get b (arena held))) (commitRefused b 13) ≡ commitRefused b 13
       unfair true e = absurd (false≢true (sym e))
       unfair false e = refl
 
 pub commit-long : (n : ℕ) (b : List ℕ) → leb (words n) (length b) ≡ true → n ≤ 262144 → (h w m : ℕ) → 262145 ≤ m → commitFor n b h m w ≡ commitFor n b h 262145 w
 commit-long n b hb l h w m k =
     sym (commit-acts n b hb h m w) ∙ long-acts n b h w m l k ∙ sym (long-acts n b h w 262145 l (omega arith)) ∙ commit-acts n b hb h 262145 w
+
+pub clamp-commit : (n : ℕ) (b : List ℕ) → leb (words n) (length b) ≡ true → n ≤ 262144 → (h w m : ℕ) → commitFor n b h (clamped m) w ≡ commitFor n b h m w
+unfolding clamped
+clamp-commit n b hb l h w m =
+    by-cases (leb m 262144)
+    (λ t. rw t)
+    (λ t. rw t (sym (commit-long n b hb l h w m (let z = leb-false m 262144 t in omega arith))))
+
+-- a growth by more pages than any arena has
+grow-long : (n : ℕ) (b : List ℕ) (h e w m : ℕ) → n ≤ 262144 → 262145 ≤ m → growActs n b h e m w ≡ cond (eqb (recordOf b .frontier) e) (endNone b (recordOf b)) (endNone b (recordOf b))
+unfolding growActs growWith fromFrontier
+grow-long n b h e w m l k = rw (lt-leb (recordOf b .frontier + m) n (omega arith))
+
+pub clamp-grow : (n : ℕ) (b : List ℕ) → n ≤ 262144 → (h e w m : ℕ) → growActs n b h e (clamped m) w ≡ growActs n b h e m w
+unfolding clamped
+clamp-grow n b l h e w m =
+    by-cases (leb m 262144)
+    (λ t. rw t)
+    (λ t. rw t (grow-long n b h e w 262145 l (omega arith) ∙ sym (grow-long n b h e w m l (let z = leb-false m 262144 t in omega arith))))
+
+pub clamped-le : (m : ℕ) → clamped m ≤ 262145
+unfolding clamped
+clamped-le m = by-cases (leb m 262144) (λ t. rw t (let z = leb-true m 262144 t in omega arith)) (λ t. rw t (omega arith))

@@ -49,8 +49,11 @@ unfoldable pub commitCall : ℕ → List ℕ → ℕ → ℕ → Committed
 commitCall n b h m = cond (ltb hostMax h) (commitRefused b 3) (cond (badRun m) (commitRefused b 6) (commitFor n b h m (ownerCode direct)))
 
 -- number 12: the run lies below LENGTH and FRONTIER, and each page of it says that the direct calls hold it
+unfoldable pub everyDirect : List ℕ → ℕ → ℕ → Bool
+everyDirect b q m = every (λ k. eqb (get b (page owner (q + k))) (ownerCode direct)) (below m)
+
 unfoldable pub heldDirect : ℕ → List ℕ → ℕ → ℕ → Bool
-heldDirect n b q m = leb (q + m) n && (leb (q + m) (get b (arena frontier)) && every (λ k. eqb (get b (page owner (q + k))) (ownerCode direct)) (below m))
+heldDirect n b q m = leb (q + m) n && (leb (q + m) (get b (arena frontier)) && everyDirect b q m)
 
 pub record Done : Type 0 where
   pub code : ℕ

@@ -11,6 +11,7 @@ ghost use mathlib.Core.Path.{_≡_};
 ghost use Prim.Native.Nat.{_+_, _-_, _<_, _≤_};
 ghost use lib.ListN.{length, getD, set, take};
 ghost use Rattle.fields.specs.Field.{hole, start, word};
+ghost use Rattle.model.specs.HoleStore.{holeSlots};
 ghost use Rattle.arena.specs.Load.{indexCode, loadHoles};
 ghost use Rattle.arena.specs.Plan.{chosen, planOf};
 ghost use Rattle.arena.specs.Scan.{noHole, holeOf, recalledOf, searchedOf, settledOf, storedOf, drawnOf, pickedOf, plannedOf, cutOf, leftOf, cutBest};
@@ -187,4 +188,24 @@ fn plan_few(meta: &[u32], a: Arena, pages: u32, code: u32) -> Plan
 {
     let mut holes = [Hole { first: 0, pages: 0 }; 64];
     plan_in(meta, &mut holes, a, pages, code)
+}
+
+fn plan_many(meta: &[u32], a: Arena, pages: u32, code: u32) -> Plan
+    requires { ⌜ (a .count ≤ 4096) × (word (hole start (a .count)) ≤ length (now meta)) ⌝ }
+    ensures { λ r. ⌜ r ≡ planOf (loadHoles (now (meta .entry)) 0 (a .count)) (a .total) (a .frontier) pages code ⌝ }
+{
+    let mut holes = [Hole { first: 0, pages: 0 }; 4096];
+    plan_in(meta, &mut holes, a, pages, code)
+}
+
+// What a commit of `pages` finds, where its length's memory has this code. A small array is enough for few holes.
+pub fn plan(meta: &[u32], a: Arena, pages: u32, code: u32) -> Plan
+    requires { ⌜ (a .count ≤ holeSlots) × (40000 ≤ length (now meta)) ⌝ }
+    ensures { λ r. ⌜ r ≡ planOf (loadHoles (now (meta .entry)) 0 (a .count)) (a .total) (a .frontier) pages code ⌝ }
+{
+    if a.count <= 64 {
+        plan_few(meta, a, pages, code)
+    } else {
+        plan_many(meta, a, pages, code)
+    }
 }

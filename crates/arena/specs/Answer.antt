@@ -1,0 +1,104 @@
+-- The answers of the code, as document 01's numbers and values.
+--     Answers, Grew, Releases    a commit, a growth, a release answered r and left the book b, as the definition says
+--     reportOf                   what a report answers
+-- Assumes nothing.
+use Prim.Native.Nat.{ℕ, _+_, _-_}
+use mathlib.Core.List.{List}
+use mathlib.Core.Option.{Option, none, some}
+use mathlib.Core.Bool.{Bool, true, false, cond, not, _||_}
+use mathlib.Core.Path.{_≡_}
+use lib.Dec.{leb}
+use Rattle.fields.specs.Field.{arena, frontier, holePages, held, commits, commitsHigh, reuses, reusesHigh, abandoned, abandonedHigh, get}
+use Rattle.model.specs.Heap.{badRun}
+use Rattle.arena.specs.declared.Commit.{Commit}
+use Rattle.arena.specs.declared.Commit.the-variants.{Refused, Run, Nothing}
+use Rattle.arena.specs.declared.Grow.{Grow}
+use Rattle.arena.specs.declared.Grow.the-variants.{Yes, No}
+use Rattle.arena.specs.declared.Figures.{Figures}
+use Rattle.arena.specs.declared.Report.{Report}
+use Rattle.arena.specs.declared.Report.the-variants.{Told}
+use Rattle.arena.specs.Load.{wide}
+use Rattle.arena.specs.Fair.{recordFair, giveFair}
+use Rattle.arena.specs.Calls.{Committed, commitRefused, Done, doneRefused, given}
+use Rattle.arena.specs.Act.{growActs}
+
+abbrev pub commitCode : Commit → ℕ
+commitCode (Refused k) = k
+commitCode (Run q f) = 0
+commitCode Nothing = 0
+
+abbrev pub commitRun : Commit → Option ℕ
+commitRun (Refused k) = none
+commitRun (Run q f) = some q
+commitRun Nothing = none
+
+abbrev pub commitFresh : Commit → Bool
+commitFresh (Refused k) = false
+commitFresh (Run q f) = f
+commitFresh Nothing = false
+
+pub record Answers (r : Commit) (b : List ℕ) (o : Committed) : Type 0 where
+  pub code : commitCode r ≡ o .code
+  pub run : commitRun r ≡ o .run
+  pub fresh : commitFresh r ≡ o .fresh
+  pub book : b ≡ o .book
+
+-- a growth
+abbrev pub growCode : Grow → ℕ
+growCode (Grow.Refused k) = k
+growCode Yes = 0
+growCode No = 0
+
+abbrev pub growYes : Grow → Bool
+growYes (Grow.Refused k) = false
+growYes Yes = true
+growYes No = false
+
+pub record Grew (r : Grow) (b : List ℕ) (o : Done) : Type 0 where
+  pub code : growCode r ≡ o .code
+  pub yes : growYes r ≡ o .yes
+  pub book : b ≡ o .book
+
+-- the same against what a commit of the added pages answers
+abbrev pub growCommit : Commit → Grow
+growCommit (Refused k) = Grow.Refused k
+growCommit (Run q f) = Yes
+growCommit Nothing = No
+
+abbrev pub ranYes : Option ℕ → Bool
+ranYes none = false
+ranYes (some q) = true
+
+pub record Grows (r : Grow) (b : List ℕ) (o : Committed) : Type 0 where
+  pub code : growCode r ≡ o .code
+  pub yes : growYes r ≡ ranYes (o .run)
+  pub book : b ≡ o .book
+
+unfoldable pub fairGrow : ℕ → List ℕ → ℕ → ℕ → ℕ → Committed
+fairGrow n b h e m = cond (recordFair n b) (growActs n b h e m 77) (commitRefused b 13)
+
+-- number 6 for a growth
+abbrev pub badGrowth : ℕ → ℕ → Bool
+badGrowth old new = badRun old || (badRun new || leb new old)
+
+-- a release
+pub record Releases (r : ℕ) (b : List ℕ) (o : Done) : Type 0 where
+  pub code : r ≡ o .code
+  pub book : b ≡ o .book
+
+-- from number 13 on
+unfoldable pub heldRelease : ℕ → List ℕ → ℕ → ℕ → Done
+heldRelease n b q m = cond (not (giveFair n b m)) (doneRefused b 13) (record { code = 0; book = given b q m; yes = true })
+
+-- a report: the figures in document 01's order
+abbrev pub figuresOf : ℕ → List ℕ → Figures
+figuresOf n b = record {
+  commits = wide b commits commitsHigh;
+  reuses = wide b reuses reusesHigh;
+  abandoned = wide b abandoned abandonedHigh;
+  held = get b (arena held);
+  idle = get b (arena holePages) + (n - get b (arena frontier));
+}
+
+unfoldable pub reportOf : ℕ → List ℕ → Report
+reportOf n b = cond (recordFair n b) (Told (figuresOf n b)) (Report.Refused 13)
