@@ -18,7 +18,8 @@ use Rattle.fields.proofs.Changes.{Changes, changes-none, changes-put, changes-t
 use Rattle.model.specs.Lists.{every, below}
 use Rattle.model.specs.Page.{pageGranules}
 use Rattle.pages.specs.Runs.{ofRun, whole}
-use Rattle.heap.specs.Release.{pageAt, startOf, blocksFrom, indexOf, outIn, inRunOf, outAt}
+use Rattle.pages.specs.Stack.{blocksFrom, indexOf}
+use Rattle.heap.specs.Release.{pageAt, startOf, outIn, inRunOf, outAt}
 use Rattle.release.specs.Strike.{isBlock, bitIn, bitOf}
 
 -- ---- a change of out bits

@@ -14,7 +14,8 @@ use Rattle.words.specs.Word.{granuleOf}
 use Rattle.classes.specs.declared.Shape.{Shape}
 use Rattle.classes.specs.Sound.{Sound}
 use Rattle.fields.specs.Field.{out, get, put, words, Has}
-use Rattle.heap.specs.Release.{blocksFrom, indexOf, outIn}
+use Rattle.pages.specs.Stack.{blocksFrom, indexOf}
+use Rattle.heap.specs.Release.{outIn}
 use Rattle.release.specs.declared.Found.{Found}
 use Rattle.release.specs.declared.Found.the-variants.{At, Nothing}
 use Rattle.release.specs.Strike.{isBlock, found, blockAt, bitIn}

@@ -23,8 +23,8 @@ use Rattle.fields.proofs.Laws.{and-left, and-right, put-comm}
 use Rattle.fields.proofs.Changes.{Changes, changes-none, changes-trans, same-eq}
 use Rattle.model.specs.Lists.{every, below}
 use Rattle.pages.specs.Runs.{ofRun, whole}
-use Rattle.pages.specs.Stack.{marks}
-use Rattle.heap.specs.Release.{pageAt, startOf, blocksFrom, indexOf, outIn, inRunOf, outAt}
+use Rattle.pages.specs.Stack.{marks, blocksFrom, indexOf}
+use Rattle.heap.specs.Release.{pageAt, startOf, outIn, inRunOf, outAt}
 use Rattle.release.specs.Strike.{isBlock, bitIn, bitOf, countIn, struckIn, struckCount, struck}
 use Rattle.release.proofs.Bits.{isBit, put-bit, every-same, start-kept, whole-kept, out-in, from-block, at-block, below-capacity}
 

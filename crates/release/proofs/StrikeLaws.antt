@@ -20,7 +20,8 @@ use Rattle.fields.proofs.Changes.{Changes, changes-none, changes-trans, same-eq
 use Rattle.model.specs.Lists.{every, elem, distinct}
 use Rattle.model.specs.Release.{ofKind}
 use Rattle.pages.specs.Runs.{whole}
-use Rattle.heap.specs.Release.{pageAt, startOf, indexOf, outIn, inRunOf, outAt}
+use Rattle.pages.specs.Stack.{indexOf}
+use Rattle.heap.specs.Release.{pageAt, startOf, outIn, inRunOf, outAt}
 use Rattle.release.specs.Strike.{isBlock, bitIn, bitOf, struckCount, struck, restored, unstruck}
 use Rattle.release.specs.Asks.{hasBit}
 use Rattle.release.proofs.Bits.{isBit, put-bit, every-same, start-kept, in-run-kept, out-in, below-capacity, one-word}

@@ -10,7 +10,8 @@ use Rattle.classes.specs.Sound.{Sound}
 use Rattle.fields.specs.Field.{words, put}
 use Rattle.fields.specs.Ranges.{maxPages}
 use Rattle.model.specs.Lists.{every}
-use Rattle.heap.specs.Release.{pageAt, startOf, indexOf, outIn}
+use Rattle.pages.specs.Stack.{indexOf}
+use Rattle.heap.specs.Release.{pageAt, startOf, outIn}
 use Rattle.release.specs.Strike.{bitIn, countIn, struckIn, struckCount, struck}
 
 -- the run at q

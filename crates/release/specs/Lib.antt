@@ -1,2 +1,3 @@
 pub mod Strike
 pub mod Asks
+pub mod Fair

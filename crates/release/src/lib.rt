@@ -1,4 +1,5 @@
 // Releases by list: the tests in their order, each over the whole list, and then the act.
+mod fair;
 mod kinds;
 mod strike;
 
