@@ -7,7 +7,7 @@ ghost use Rattle.classes.specs.Sound.{Sound};
 ghost use Rattle.fields.specs.Field.{words};
 ghost use Rattle.fields.specs.Ranges.{maxParked};
 ghost use Rattle.pages.specs.Asks.{RowAsks};
-ghost use Rattle.heap.specs.Release.{pageFair, rowFair, spotOf, spotAt, spotFair, releaseFair};
+ghost use Rattle.heap.specs.Release.{pageFair, rowFair, keepsEmpty, spotOf, spotAt, spotFair, releaseFair};
 ghost use Rattle.release.specs.Fair.{blocksFair, flagsFair, linksFair, storeFair, PageAsks, SpotAsks, RunAsks};
 use classes::Shape;
 use pages::Park;
@@ -88,16 +88,26 @@ pub fn row_fair(meta: &[u32], c: u32) -> bool
     false
 }
 
+// The empty store has room for one more run.
+fn keeps_empty(shape: Shape, empties: u32) -> bool
+    requires { ⌜ Sound shape ⌝ }
+    requires { ⌜ empties ≤ maxParked ⌝ }
+    ensures { λ r. ⌜ r ≡ keepsEmpty shape empties ⌝ }
+{
+    if empties >= shape.empties {
+        return false;
+    }
+    (empties + 1) * shape.pages <= shape.emptypages
+}
+
 // Where a page with none out goes, by the counts of the two stores: 0 empty, 1 cold, 2 to the arena.
 pub fn spot_of(shape: Shape, empties: u32, colds: u32) -> u32
     requires { ⌜ Sound shape ⌝ }
     requires { ⌜ empties ≤ maxParked ⌝ }
     ensures { λ r. ⌜ r ≡ spotOf shape empties colds ⌝ }
 {
-    if empties < shape.empties {
-        if (empties + 1) * shape.pages <= shape.emptypages {
-            return 0;
-        }
+    if keeps_empty(shape, empties) {
+        return 0;
     }
     if colds < shape.colds { 1 } else { 2 }
 }

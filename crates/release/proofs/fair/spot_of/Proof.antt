@@ -2,11 +2,8 @@ use borrow.Author.Needs.{needs}
 use Rattle.release.proofs.fair.spot_of.Statement.{statement}
 use Rattle.release.proofs.fair.spot_of.Tie as tie
 
-add-if2 : tie.Need-add-if2
-add-if2 c = search needs
-
-mul-if2 : tie.Need-mul-if2
-mul-if2 c = ?
+keeps-empty-requires : tie.Need-keeps-empty-requires
+keeps-empty-requires c κs = search needs
 
 returns : tie.Need-returns
 returns c = ?
@@ -18,4 +15,4 @@ returns-3 : tie.Need-returns-3
 returns-3 c = ?
 
 pub spot-of-spec : {M : Type 1} → statement M
-spot-of-spec = tie.close (tie.spec add-if2 mul-if2 returns returns-2 returns-3)
+spot-of-spec = tie.close (tie.spec keeps-empty-requires returns returns-2 returns-3)
