@@ -1,6 +1,7 @@
 //! Random plans, by scenario: each reaches some corner of document 01's rules that a plain mix would seldom reach.
 
 use crate::call::Kind;
+use crate::oracle;
 use crate::plan::{Intent, Piece, Place, Plan, Portion, Step};
 use crate::random::Random;
 use crate::words::{Family, HOST_ALL, HOST_COMMIT, HOST_RESERVE, MAX_PAGES};
@@ -13,12 +14,13 @@ pub struct Scenario {
     make: fn(&mut Maker),
 }
 
-pub const SCENARIOS: [Scenario; 12] = [
+pub const SCENARIOS: [Scenario; 13] = [
     Scenario { name: "direct", weight: 300, needs: &[Kind::Commit], make: direct },
     Scenario { name: "lengths", weight: 120, needs: &[Kind::Commit], make: lengths },
     Scenario { name: "growth", weight: 120, needs: &[Kind::GrowFrontier], make: growth },
     Scenario { name: "refused reservation", weight: 20, needs: &[Kind::Commit], make: refused_reservation },
     Scenario { name: "long holes", weight: 40, needs: &[Kind::Commit], make: long_holes },
+    Scenario { name: "page limit", weight: 20, needs: &[Kind::Commit], make: page_limit },
     Scenario { name: "many holes", weight: 6, needs: &[Kind::Commit], make: many_holes },
     Scenario { name: "mixed", weight: 300, needs: &[Kind::TakeBlocks], make: mixed },
     Scenario { name: "exhaustion", weight: 100, needs: &[Kind::TakeBlocks], make: exhaustion },
@@ -238,7 +240,7 @@ fn refused_reservation(maker: &mut Maker) {
 fn long_holes(maker: &mut Maker) {
     maker.arena(140_000, MAX_PAGES);
     maker.reserve();
-    let limit = 65_536;
+    let limit = HOLE_PAGES_LIMIT;
     for _ in 0..maker.random.between(20, 80) {
         let pages = match maker.random.below(8) {
             0 => limit + maker.random.below(3),
@@ -258,6 +260,24 @@ fn long_holes(maker: &mut Maker) {
         }
     }
 }
+
+/// Just 65,536 pages in holes, one page less and one more, in a few calls.
+fn page_limit(maker: &mut Maker) {
+    maker.arena(65_560, 66_000);
+    let long = HOLE_PAGES_LIMIT - maker.random.below(3);
+    maker.push(HOST_ALL, Intent::Commit { pages: long });
+    maker.push(HOST_ALL, Intent::Commit { pages: 6 });
+    maker.push(HOST_ALL, Intent::ReleaseAt { first: 0, pages: long });
+    for page in 0..4 {
+        maker.add(Intent::ReleaseAt { first: long + page, pages: 1 });
+    }
+    let pages = maker.random.between(1, 3);
+    maker.add(Intent::Commit { pages });
+    maker.add(Intent::ReleaseAt { first: long + 4, pages: 2 });
+}
+
+/// The most pages in holes together.
+const HOLE_PAGES_LIMIT: u64 = 65_536;
 
 /// The most holes that are stored.
 pub const HOLE_LIMIT: u64 = 4_096;
@@ -357,7 +377,8 @@ fn small_stores(maker: &mut Maker) {
 /// 32 empty spans or 8 MiB of them, 256 cold ones, and more that go to the arena.
 fn medium_stores(maker: &mut Maker) {
     let class = maker.random.below(12) as u32;
-    let runs = maker.random.between(285, 310);
+    let empty = (128 / u64::from(oracle::run_pages(Family::Medium, class))).min(32);
+    let runs = empty + 256 + maker.random.between(1, 6);
     maker.arena(900, 2_600);
     stores(maker, Family::Medium, class, runs);
 }

@@ -61,9 +61,9 @@ pub fn histories(words: &[String]) -> Result<bool, String> {
     while tally.calls() < calls && difference.is_none() {
         let plan = source.plan();
         tally.begin(plan.scenario);
-        let found = run::compare(&plan, &mut book, |call, due, session| {
+        let found = run::compare(&plan, &mut book, |call, due, reference| {
             tally.count(call, due);
-            tally.count_holes(session);
+            tally.count_holes(reference);
         });
         difference = found.map(|difference| (plan, difference));
         progress.show(tally.calls(), calls, "calls");

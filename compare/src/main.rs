@@ -15,10 +15,12 @@ mod plan;
 mod port;
 mod progress;
 mod random;
+mod reference;
 mod run;
-mod session;
 mod shrink;
 mod tally;
+#[cfg(test)]
+mod tests;
 mod words;
 
 use std::process::ExitCode;

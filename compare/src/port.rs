@@ -9,7 +9,7 @@ use crate::words::{Family, NO_PAGE};
 /// Declares exported functions of a part; where its feature is off, names that nobody may call.
 macro_rules! exported {
     ($part:ident, $feature:literal, $(fn $name:ident($($argument:ident: $type:ty),*);)*) => {
-        #[allow(dead_code)]
+        #[allow(dead_code, clippy::too_many_arguments)]
         mod $part {
             #[cfg(feature = $feature)]
             extern "C" {

@@ -4,7 +4,7 @@ use crate::call::{Answer, Call, Kind};
 use crate::memory::{Fence, Reserved};
 use crate::plan::Plan;
 use crate::port::{self, Room};
-use crate::session::Session;
+use crate::reference::Reference;
 use crate::words::{book_words, MAX_PAGES};
 
 /// A call with the answer that is due.
@@ -54,34 +54,34 @@ fn soil(plan: &Plan) -> u32 {
 }
 
 /// Runs a plan on both; tells `seen` each call that was compared.
-pub fn compare(plan: &Plan, book: &mut Book, mut seen: impl FnMut(&Call, &Answer, &Session)) -> Option<Difference> {
-    let mut session = Session::open(plan.pages);
+pub fn compare(plan: &Plan, book: &mut Book, mut seen: impl FnMut(&Call, &Answer, &Reference)) -> Option<Difference> {
+    let mut reference = Reference::open(plan.pages);
     let (book, room) = book.soiled(plan.pages, soil(plan));
     let opened = port::open(book, u64::from(plan.pages));
     assert!(opened == 0, "an opening of {} pages is refused as {opened}", plan.pages);
     for (step, wanted) in plan.steps.iter().enumerate() {
-        let Some(call) = wanted.call(&session.ledger, session.frontier()) else { continue };
+        let Some(call) = wanted.call(&reference.ledger, reference.frontier()) else { continue };
         if !port::landed(call.kind()) {
             continue;
         }
-        let due = session.answer(&call);
+        let due = reference.answer(&call);
         let got = port::ask(book, room, &call);
         if got != due {
             return Some(Difference { step, call, due, got });
         }
-        seen(&call, &due, &session);
+        seen(&call, &due, &reference);
     }
     None
 }
 
 /// Runs a plan on the original alone, leaving out what is not asked.
 pub fn record(plan: &Plan, asked: impl Fn(Kind) -> bool) -> Vec<Due> {
-    let mut session = Session::open(plan.pages);
+    let mut reference = Reference::open(plan.pages);
     let mut history = Vec::new();
     for wanted in &plan.steps {
-        let Some(call) = wanted.call(&session.ledger, session.frontier()) else { continue };
+        let Some(call) = wanted.call(&reference.ledger, reference.frontier()) else { continue };
         if asked(call.kind()) {
-            let due = session.answer(&call);
+            let due = reference.answer(&call);
             history.push((call, due));
         }
     }

@@ -4,7 +4,7 @@ use std::collections::BTreeMap;
 use std::fmt;
 
 use crate::call::{Answer, Call, Kind};
-use crate::session::Session;
+use crate::reference::Reference;
 
 #[derive(Default)]
 pub struct Tally {
@@ -37,8 +37,8 @@ impl Tally {
         self.count_events(call, answer);
     }
 
-    pub fn count_holes(&mut self, session: &Session) {
-        let (holes, pages) = session.holes();
+    pub fn count_holes(&mut self, reference: &Reference) {
+        let (holes, pages) = reference.holes();
         self.most_holes = self.most_holes.max(holes);
         self.most_hole_pages = self.most_hole_pages.max(pages);
     }

@@ -21,17 +21,18 @@ use crate::tally::Tally;
 
 /// Scenario, histories of it in one round, and the most steps of one. The checker computes on lists, so that long
 /// histories cost it more than in proportion.
-const ROUND: [(&str, usize, usize); 10] = [
+const ROUND: [(&str, usize, usize); 11] = [
     ("direct", 8, 150),
-    ("lengths", 3, 120),
+    ("lengths", 2, 120),
     ("growth", 5, 120),
     ("refused reservation", 4, 40),
-    ("long holes", 3, 50),
+    ("long holes", 1, 30),
+    ("page limit", 2, 20),
     ("mixed", 14, 150),
     ("exhaustion", 10, 120),
-    ("chunks", 3, 200),
+    ("chunks", 3, 120),
     ("small stores", 1, 700),
-    ("medium stores", 1, 700),
+    ("medium stores", 1, 570),
 ];
 
 /// The scenario whose histories start where nearly 4,096 holes are stored.
@@ -52,28 +53,35 @@ pub fn run(words: &[String]) -> Result<bool, String> {
         }
         None => generated(&arguments)?,
     };
-    let mut tally = Tally::default();
-    for case in &cases {
-        tally.begin(if case.start.is_some() { "from a heap with many holes" } else { "from an opening" });
-        case.history.calls.iter().for_each(|(call, answer)| tally.count(call, answer));
-    }
     let own = Path::new(env!("CARGO_MANIFEST_DIR")).join("..");
     let root = arguments.text("repository").map_or(own, PathBuf::from);
     let progress = Progress::begin();
-    let failure = repository::check(&root, &cases)?;
-    println!("{tally}");
+    let verdict = repository::check(&root, &cases)?;
+    let computed = cases.iter().enumerate().filter(|(at, _)| !verdict.too_long.contains(at));
+    println!("{}", counted(computed.map(|(_, case)| case)));
     println!("{:.0} s for the checker", progress.seconds());
     println!("not the original's, but the tool's own reading: refusals 3 to 12, the report's pages held");
-    match &failure {
+    let lost: usize = verdict.too_long.iter().map(|&at| cases[at].history.calls.len()).sum();
+    println!("not computed, for the checker's limit of steps: {} histories of {lost} calls", verdict.too_long.len());
+    match &verdict.refused {
         None => println!("0 differences: the model computes these answers in every history"),
-        Some(failure) => {
-            println!("the checker refuses it ({} is left):\n{}", failure.folder.display(), failure.said);
-            if let Some(at) = failure.history {
+        Some(refused) => {
+            println!("the checker refuses it ({} is left):\n{}", refused.folder.display(), refused.said);
+            if let Some(at) = refused.history {
                 print!("# the first history that it refuses:\n{}", cases[at].history.text());
             }
         }
     }
-    Ok(failure.is_none())
+    Ok(verdict.refused.is_none())
+}
+
+fn counted<'a>(cases: impl Iterator<Item = &'a Case>) -> Tally {
+    let mut tally = Tally::default();
+    for case in cases {
+        tally.begin(if case.start.is_some() { "from a heap with many holes" } else { "from an opening" });
+        case.history.calls.iter().for_each(|(call, answer)| tally.count(call, answer));
+    }
+    tally
 }
 
 /// Rounds of histories until there are enough calls.
@@ -121,12 +129,16 @@ fn affordable(history: History) -> History {
     let mut left = LOOKUPS;
     let mut calls = Vec::new();
     for (call, answer) in history.calls {
-        let looked_up = match call {
-            Call::Report => u64::from(history.pages),
-            Call::Release { pages, .. } | Call::Grow { old: pages, .. } => pages.min(u64::from(history.pages)),
+        let before = calls.len() as u64 + 1;
+        let cost = match &call {
+            Call::Report => u64::from(history.pages) * before,
+            Call::Release { pages, .. } | Call::Grow { old: pages, .. } => {
+                pages.min(&u64::from(history.pages)) * before
+            }
+            // Each word is looked for on each page of the class.
+            Call::ReleaseChunks { list, groups, .. } => 4 * list.len() as u64 * (groups.len() as u64 + 40),
             _ => 0,
         };
-        let cost = looked_up * (calls.len() as u64 + 1);
         match (call, cost <= left) {
             (Call::Report, false) => {}
             (_, false) => break,

@@ -12,36 +12,62 @@ const OWN: &str = "as_answered";
 /// What each crate of the repository may have.
 const PARTS: [&str; 3] = ["src", "specs", "proofs"];
 
-/// A history that the checker refuses, or whose turn did not come, and what it said.
-pub struct Failure {
+/// What the checker says of the histories.
+pub struct Verdict {
+    /// Those whose computation passes its limit of steps, so that it cannot tell.
+    pub too_long: Vec<usize>,
+    pub refused: Option<Refused>,
+}
+
+/// What the checker refuses, and where it can be seen again.
+pub struct Refused {
     pub history: Option<usize>,
     pub said: String,
     pub folder: PathBuf,
 }
 
-/// Copies the model out of the repository at `root`, and has the checker compute the histories.
-pub fn check(root: &Path, cases: &[Case]) -> Result<Option<Failure>, String> {
+/// Copies the model out of the repository at `root`, and has the checker compute the histories. Those that are too long
+/// for it are left out, and the others computed again, so that the verdict is on all the others at once.
+pub fn check(root: &Path, cases: &[Case]) -> Result<Verdict, String> {
     let folder = std::env::temp_dir().join(format!("vigbuso-model-test-{}", std::process::id()));
-    let built = build(root, &folder, cases).map_err(|error| format!("{}: {error}", folder.display()));
-    built?;
+    let mut too_long: Vec<usize> = Vec::new();
+    loop {
+        let asked: Vec<usize> = (0..cases.len()).filter(|at| !too_long.contains(at)).collect();
+        let built = build(root, &folder, &asked, cases);
+        built.map_err(|error| format!("{}: {error}", folder.display()))?;
+        let (good, said) = run_checker(&folder)?;
+        if good {
+            let _ = fs::remove_dir_all(&folder);
+            return Ok(Verdict { too_long, refused: None });
+        }
+        let errors: Vec<&str> = said.lines().filter(|line| line.contains(": error: ")).collect();
+        let named = |line: &str| asked.iter().copied().find(|&at| line.contains(&file_name(at)));
+        let passed: Vec<usize> =
+            errors.iter().filter(|line| line.contains(STEP_LIMIT)).filter_map(|line| named(line)).collect();
+        if passed.is_empty() || passed.len() < errors.len() {
+            let others = errors.iter().filter(|line| !line.contains(STEP_LIMIT));
+            let history = others.clone().find_map(|line| named(line));
+            let said = if errors.is_empty() { said } else { errors.join("\n") };
+            return Ok(Verdict { too_long, refused: Some(Refused { history, said, folder }) });
+        }
+        too_long.extend(passed);
+    }
+}
+
+/// In the checker's words: one declaration took too many steps.
+const STEP_LIMIT: &str = "stopped at the step limit";
+
+fn run_checker(folder: &Path) -> Result<(bool, String), String> {
     let output = Command::new("rt")
         .args(["check", OWN])
-        .current_dir(&folder)
+        .current_dir(folder)
         .output()
         .map_err(|error| format!("`rt check` cannot be run: {error}"))?;
     let said = String::from_utf8_lossy(&output.stdout).into_owned() + &String::from_utf8_lossy(&output.stderr);
-    if output.status.success() {
-        let _ = fs::remove_dir_all(&folder);
-        return Ok(None);
-    }
-    let errors: Vec<&str> = said.lines().filter(|line| line.contains("error")).collect();
-    let at = |line: &&str| (0..cases.len()).find(|&at| line.contains(&file_name(at)));
-    let history = errors.iter().find_map(at);
-    let said = if errors.is_empty() { said } else { errors.join("\n") };
-    Ok(Some(Failure { history, said, folder }))
+    Ok((output.status.success(), said))
 }
 
-fn build(root: &Path, folder: &Path, cases: &[Case]) -> io::Result<()> {
+fn build(root: &Path, folder: &Path, asked: &[usize], cases: &[Case]) -> io::Result<()> {
     let list = fs::read_to_string(root.join("crates.txt"))?;
     let needed = closure(&list, names::CRATE);
     let mut crates = String::new();
@@ -56,19 +82,20 @@ fn build(root: &Path, folder: &Path, cases: &[Case]) -> io::Result<()> {
     fs::write(folder.join("crates.txt"), crates)?;
 
     let own = folder.join("crates").join(OWN);
+    let _ = fs::remove_dir_all(&own);
     fs::create_dir_all(own.join("src"))?;
     fs::create_dir_all(own.join("proofs"))?;
     fs::write(own.join("src/lib.rt"), "// The equations are in proofs/.\npub fn keep(x: u32) -> u32 {\n    x\n}\n")?;
     let mut modules = String::from("pub mod Answers\n");
     fs::write(own.join("proofs/Answers.antt"), equations::answers_module(&unfoldable(root, &all)?))?;
-    if cases.iter().any(|case| case.start.is_some()) {
+    if asked.iter().any(|&at| cases[at].start.is_some()) {
         modules += "pub mod Combed\n";
         fs::write(own.join("proofs/Combed.antt"), combed::module(OWN))?;
     }
-    for (at, case) in cases.iter().enumerate() {
-        let text = match case.start {
-            None => equations::module(OWN, &case.history),
-            Some(comb) => equations::module_from(OWN, &case.history, &comb.term()),
+    for &at in asked {
+        let text = match &cases[at] {
+            Case { start: None, history } => equations::module(OWN, history),
+            Case { start: Some(comb), history } => equations::module_from(OWN, history, &comb.term()),
         };
         modules += &format!("pub mod {}\n", module_name(at));
         fs::write(own.join("proofs").join(file_name(at)), text)?;

@@ -88,19 +88,19 @@ module _ (b : List ℕ) (a : Arena) (m q : ℕ) where
     unfolding settle endRun
     settles-run t k x e u v o =
         let z : commitGranted h ≡ true = ap commitGranted (sym e) ∙ sym u ∙ v in
-        rw z (record { code = refl; run = refl; fresh = refl; book = o })
+        rw z (record { answer = refl; book = o })
 
     pub settles-given : (t : Bool) (k : ℕ) (x : List ℕ) → k ≡ h → t ≡ commitGranted k → t ≡ false → x ≡ endGiven b a m q f .book → Answers Nothing x (settle b a m q f h w d)
     unfolding settle endGiven
     settles-given t k x e u v o =
         let z : commitGranted h ≡ false = ap commitGranted (sym e) ∙ sym u ∙ v in
-        rw z (record { code = refl; run = refl; fresh = refl; book = o })
+        rw z (record { answer = refl; book = o })
 
 -- ---- the whole
 module _ (n : ℕ) (b : List ℕ) (a : Arena) (m h w d : ℕ) where
   pub no-room : (x : List ℕ) → n < a .frontier + m → x ≡ storeRecord b a → Answers Nothing x (fromFrontier n b a m h w d)
   unfolding fromFrontier endNone
-  no-room x l e = rw (lt-leb (a .frontier + m) n l) (record { code = refl; run = refl; fresh = refl; book = e })
+  no-room x l e = rw (lt-leb (a .frontier + m) n l) (record { answer = refl; book = e })
 
   pub from-room : (s : Commit) (x : List ℕ) (r : Arena) → a .frontier + m ≤ n → r ≡ advanced m a → Answers s x (settle b r m (a .frontier) true h w d) → Answers s x (fromFrontier n b a m h w d)
   unfolding fromFrontier
@@ -122,7 +122,7 @@ module _ (n : ℕ) (b : List ℕ) (a : Arena) (m h w d : ℕ) where
     pub planned-off : (s : ℕ) (x : List ℕ) (r : Arena) → s ≡ nextState (a .state) h → r ≡ withState s a → s ≡ 2 → x ≡ storeRecord b r → Answers Nothing x (commitPlanned n b a p m h w d)
     unfolding commitPlanned endNone
     planned-off s x r e f t o =
-        rw (← e, eq-eqb s 2 t) (record { code = refl; run = refl; fresh = refl; book = o ∙ ap (storeRecord b) f })
+        rw (← e, eq-eqb s 2 t) (record { answer = refl; book = o ∙ ap (storeRecord b) f })
 
     pub planned-on : (s : ℕ) (y : Commit) (x : List ℕ) (r : Arena) → s ≡ nextState (a .state) h → r ≡ withState s a → (s ≡ 2 → ⊥) → Answers y x (commitDrawn n b r p m h w d) → Answers y x (commitPlanned n b a p m h w d)
     unfolding commitPlanned

@@ -3,6 +3,7 @@ use Prim.Native.Nat.{ℕ, zero, suc, _+_, _-_, _*_, _^_, _≤_, _<_}
 use native.Mathlib.Omega.{arith}
 use mathlib.Core.Bool.{Bool, true, false, cond, not, _&&_, _||_}
 use mathlib.Core.List.{List, [], _∷_}
+use mathlib.Core.Option.{Option, none, some}
 use mathlib.Core.Path.{_≡_, refl, sym, ap, _∙_, subst}
 use lib.Dec.{eqb, ltb, leb}
 use lib.ListN.{length, set, length-set}
@@ -31,7 +32,7 @@ use Rattle.arena.specs.Open.{cleared, headWords}
 use Rattle.arena.specs.Calls.{Committed, commitRefused, commitFor, commitCall, Done, given, everyDirect, heldDirect, releaseCall, growCall, containsCall}
 use Rattle.arena.specs.Act.{endNone, endRun, endGiven, settle, fromFrontier, recallWord, commitPlanned, planned, commitRead, commitRecalled, commitActs, growWith, growActs, clamped}
 use Rattle.arena.specs.Asks.{RecordIn, HoleIn, PlanIn, RequestIn, GiveIn, BookIn}
-use Rattle.arena.specs.Answer.{Answers, growCommit, growCode, growYes, Grew, Grows, fairGrow, badGrowth, Releases, heldRelease, figuresOf, reportOf}
+use Rattle.arena.specs.Answer.{answerOf, Answers, grownAs, growCommit, ranYes, Grew, Grows, fairGrow, badGrowth, Releases, heldRelease, figuresOf, reportOf}
 use Rattle.arena.proofs.Acts.{fair-record, commit-acts, grow-acts}
 use Rattle.arena.proofs.PlanLaws.{plan-fits, clamp-commit, clamp-grow, clamped-le}
 
@@ -214,21 +215,23 @@ request-in n b h m d w k t l f =
 module _ (n : ℕ) (b : List ℕ) (a : Arena) (h e m w d : ℕ) where
   pub grows-not : (x : List ℕ) → (a .frontier ≡ e → ⊥) → x ≡ storeRecord b a → Answers Nothing x (growWith n b a h e m w d)
   unfolding growWith endNone
-  grows-not x z f = rw (ne-eqb (a .frontier) e z) (record { code = refl; run = refl; fresh = refl; book = f })
+  grows-not x z f = rw (ne-eqb (a .frontier) e z) (record { answer = refl; book = f })
 
   pub grows-there : (s : Commit) (x : List ℕ) → a .frontier ≡ e → Answers s x (fromFrontier n b a m h w d) → Answers s x (growWith n b a h e m w d)
   unfolding growWith
   grows-there s x z k = rw (eq-eqb (a .frontier) e z) k
 
 module _ (n : ℕ) (b : List ℕ) (h e m : ℕ) where
-  grow-as : (c : Commit) (x : List ℕ) (o : Committed) → Answers c x o → Grows (growCommit c) x o
-  grow-as (Refused k) x o z = record { code = z .code; yes = rw (← (z .run)); book = z .book }
-  grow-as (Run q f) x o z = record { code = z .code; yes = rw (← (z .run)); book = z .book }
-  grow-as Nothing x o z = record { code = z .code; yes = rw (← (z .run)); book = z .book }
+  grow-as : (c : ℕ) (r : Option ℕ) (f : Bool) → growCommit (answerOf c r f) ≡ grownAs c (ranYes r)
+  grow-as zero none f = refl
+  grow-as zero (some q) f = refl
+  grow-as (suc c) r f = refl
 
   pub grows-held : (a : Arena) (d : ℕ) (c : Commit) (r : Grow) (x : List ℕ) → a ≡ recordOf b → d ≡ get b (arena held) → Answers c x (growWith n b a h e m 77 d) → r ≡ growCommit c → Grows r x (growActs n b h e m 77)
   unfolding growActs
-  grows-held a d c r x f g k s = rw (s, ← f, ← g) (grow-as c x _ k)
+  grows-held a d c r x f g k s =
+      let o = growWith n b a h e m 77 d in
+      rw (← f, ← g) (record { answer = s ∙ ap growCommit (k .answer) ∙ grow-as (o .code) (o .run) (o .fresh); book = k .book })
 
   pub grows-fair : (t : Bool) (r : Grow) (x : List ℕ) → t ≡ recordFair n b → t ≡ true → Grows r x (growActs n b h e m 77) → Grows r x (fairGrow n b h e m)
   unfolding fairGrow
@@ -236,7 +239,7 @@ module _ (n : ℕ) (b : List ℕ) (h e m : ℕ) where
 
   pub grows-unfair : (t : Bool) → t ≡ recordFair n b → t ≡ false → Grows (Grow.Refused 13) b (fairGrow n b h e m)
   unfolding fairGrow
-  grows-unfair t f v = rw (← f, v) (record { code = refl; yes = refl; book = refl })
+  grows-unfair t f v = rw (← f, v) (record { answer = refl; book = refl })
 
   grow-code : growActs n b h e m 77 .code ≡ 0
   unfolding growActs growWith fromFrontier endNone settle endRun endGiven
@@ -250,15 +253,15 @@ module _ (n : ℕ) (b : List ℕ) (h e m : ℕ) where
 module _ (n : ℕ) (b : List ℕ) (h q old new : ℕ) where
   pub grow-host : 15 < h → Grew (Grow.Refused 3) b (growCall n b h q old new)
   unfolding growCall
-  grow-host l = rw (lt-ltb 15 h l) (record { code = refl; yes = refl; book = refl })
+  grow-host l = rw (lt-ltb 15 h l) (record { answer = refl; book = refl })
 
   pub grow-bad : (t : Bool) → h ≤ 15 → t ≡ badGrowth old new → t ≡ true → Grew (Grow.Refused 6) b (growCall n b h q old new)
   unfolding growCall
-  grow-bad t l e v = rw (le-ltb 15 h l, ← e, v) (record { code = refl; yes = refl; book = refl })
+  grow-bad t l e v = rw (le-ltb 15 h l, ← e, v) (record { answer = refl; book = refl })
 
   pub grow-not : (t u : Bool) → h ≤ 15 → t ≡ badGrowth old new → t ≡ false → u ≡ heldDirect n b q old → u ≡ false → Grew (Grow.Refused 12) b (growCall n b h q old new)
   unfolding growCall
-  grow-not t u l e v f w = rw (le-ltb 15 h l, ← e, v, ← f, w) (record { code = refl; yes = refl; book = refl })
+  grow-not t u l e v f w = rw (le-ltb 15 h l, ← e, v, ← f, w) (record { answer = refl; book = refl })
 
   pub grow-held : (t u : Bool) (m : ℕ) (r : Grow) (x : List ℕ) → BookIn b n → h ≤ 15 → t ≡ badGrowth old new → t ≡ false → u ≡ heldDirect n b q old → u ≡ true → m ≡ clamped (new - old)
       → Grows r x (fairGrow n b h (q + old) m) → Grew r x (growCall n b h q old new)
@@ -267,9 +270,9 @@ module _ (n : ℕ) (b : List ℕ) (h q old new : ℕ) where
       by-cases (recordFair n b)
       (λ z. let i = rw (z, g, clamp-grow n b (k .small) h (q + old) 77 (new - old)) at y in
       let j = grow-acts n b (le-leb _ _ (k .long)) (fair-record n b z) h (new - old) (q + old) in
-      rw (le-ltb 15 h l, ← e, v, ← f, w, z) (record { code = i .code ∙ grow-code n b h (q + old) (new - old); yes = i .yes ∙ sym (j .yes); book = i .book ∙ sym (j .book) }))
+      rw (le-ltb 15 h l, ← e, v, ← f, w, z) (record { answer = i .answer ∙ rw (grow-code n b h (q + old) (new - old), j .yes); book = i .book ∙ sym (j .book) }))
       (λ z. let i = rw z at y in
-      rw (le-ltb 15 h l, ← e, v, ← f, w, z) (record { code = i .code; yes = i .yes; book = i .book }))
+      rw (le-ltb 15 h l, ← e, v, ← f, w, z) (record { answer = i .answer; book = i .book }))
 
 -- ---- a commit
 module _ (n : ℕ) (b : List ℕ) (h m w d : ℕ) where
@@ -294,7 +297,7 @@ module _ (n : ℕ) (b : List ℕ) (h m w d : ℕ) where
   unfolding commitRead
   read-off a p c e f g t =
       let z : planned b m .fair ≡ false = ap (λ y. y .fair) (sym (plan-is a p c e f g)) ∙ t in
-      subst (λ y. Answers (Refused 13) b (cond y (commitPlanned n b (recordOf b) (planned b m) m h w d) (commitRefused b 13))) (sym z) (record { code = refl; run = refl; fresh = refl; book = refl })
+      subst (λ y. Answers (Refused 13) b (cond y (commitPlanned n b (recordOf b) (planned b m) m h w d) (commitRefused b 13))) (sym z) (record { answer = refl; book = refl })
 
   memory-code : (c : ℕ) → c ≡ recallWord b m → leb c 4096 ≡ memoryFair b m
   unfolding recallWord
@@ -306,7 +309,7 @@ module _ (n : ℕ) (b : List ℕ) (h m w d : ℕ) where
 
   pub recalled-off : (c : ℕ) → c ≡ recallWord b m → 4096 < c → Answers (Refused 13) b (commitRecalled n b h m w d)
   unfolding commitRecalled
-  recalled-off c e l = rw (← (memory-code c e), lt-leb c 4096 l) (record { code = refl; run = refl; fresh = refl; book = refl })
+  recalled-off c e l = rw (← (memory-code c e), lt-leb c 4096 l) (record { answer = refl; book = refl })
 
 module _ (n : ℕ) (b : List ℕ) (h m w : ℕ) where
   pub commits-on : (t : Bool) (d : ℕ) (s : Commit) (x : List ℕ) → BookIn b n → t ≡ recordFair n b → t ≡ true → d ≡ get b (arena held) → Answers s x (commitRecalled n b h m w d) → Answers s x (commitFor n b h m w)
@@ -316,17 +319,17 @@ module _ (n : ℕ) (b : List ℕ) (h m w : ℕ) where
 
   pub commits-off : (t : Bool) → t ≡ recordFair n b → t ≡ false → Answers (Refused 13) b (commitFor n b h m w)
   unfolding commitFor commitFair
-  commits-off t e v = rw (← e, v) (record { code = refl; run = refl; fresh = refl; book = refl })
+  commits-off t e v = rw (← e, v) (record { answer = refl; book = refl })
 
 -- the direct call
 module _ (n : ℕ) (b : List ℕ) (h m : ℕ) where
   pub commit-host : 15 < h → Answers (Refused 3) b (commitCall n b h m)
   unfolding commitCall
-  commit-host l = rw (lt-ltb 15 h l) (record { code = refl; run = refl; fresh = refl; book = refl })
+  commit-host l = rw (lt-ltb 15 h l) (record { answer = refl; book = refl })
 
   pub commit-bad : (t : Bool) → h ≤ 15 → t ≡ badRun m → t ≡ true → Answers (Refused 6) b (commitCall n b h m)
   unfolding commitCall
-  commit-bad t l e v = rw (le-ltb 15 h l, ← e, v) (record { code = refl; run = refl; fresh = refl; book = refl })
+  commit-bad t l e v = rw (le-ltb 15 h l, ← e, v) (record { answer = refl; book = refl })
 
   pub commit-goes : (t : Bool) (r : ℕ) (s : Commit) (x : List ℕ) → BookIn b n → h ≤ 15 → t ≡ badRun m → t ≡ false → r ≡ clamped m → Answers s x (commitFor n b h r 77) → Answers s x (commitCall n b h m)
   unfolding commitCall

@@ -2,7 +2,7 @@
 --     Answers, Grew, Releases    a commit, a growth, a release answered r and left the book b, as the definition says
 --     reportOf                   what a report answers
 -- Assumes nothing.
-use Prim.Native.Nat.{ℕ, _+_, _-_}
+use Prim.Native.Nat.{ℕ, zero, suc, _+_, _-_}
 use mathlib.Core.List.{List}
 use mathlib.Core.Option.{Option, none, some}
 use mathlib.Core.Bool.{Bool, true, false, cond, not, _||_}
@@ -22,42 +22,39 @@ use Rattle.arena.specs.Fair.{recordFair, giveFair}
 use Rattle.arena.specs.Calls.{Committed, commitRefused, Done, doneRefused, given}
 use Rattle.arena.specs.Act.{growActs}
 
+-- a commit: a refusal's number, a run, or none
+abbrev pub answerOf : ℕ → Option ℕ → Bool → Commit
+answerOf zero none f = Nothing
+answerOf zero (some q) f = Run q f
+answerOf (suc k) r f = Refused (suc k)
+
+abbrev pub commitAnswer : Committed → Commit
+commitAnswer o = answerOf (o .code) (o .run) (o .fresh)
+
+pub record Answers (r : Commit) (b : List ℕ) (o : Committed) : Type 0 where
+  pub answer : r ≡ commitAnswer o
+  pub book : b ≡ o .book
+
+-- the number of each case
 abbrev pub commitCode : Commit → ℕ
 commitCode (Refused k) = k
 commitCode (Run q f) = 0
 commitCode Nothing = 0
 
-abbrev pub commitRun : Commit → Option ℕ
-commitRun (Refused k) = none
-commitRun (Run q f) = some q
-commitRun Nothing = none
+-- a growth: a refusal's number, yes or no
+abbrev pub grownAs : ℕ → Bool → Grow
+grownAs zero true = Yes
+grownAs zero false = No
+grownAs (suc k) y = Grow.Refused (suc k)
 
-abbrev pub commitFresh : Commit → Bool
-commitFresh (Refused k) = false
-commitFresh (Run q f) = f
-commitFresh Nothing = false
-
-pub record Answers (r : Commit) (b : List ℕ) (o : Committed) : Type 0 where
-  pub code : commitCode r ≡ o .code
-  pub run : commitRun r ≡ o .run
-  pub fresh : commitFresh r ≡ o .fresh
+pub record Grew (r : Grow) (b : List ℕ) (o : Done) : Type 0 where
+  pub answer : r ≡ grownAs (o .code) (o .yes)
   pub book : b ≡ o .book
 
--- a growth
 abbrev pub growCode : Grow → ℕ
 growCode (Grow.Refused k) = k
 growCode Yes = 0
 growCode No = 0
-
-abbrev pub growYes : Grow → Bool
-growYes (Grow.Refused k) = false
-growYes Yes = true
-growYes No = false
-
-pub record Grew (r : Grow) (b : List ℕ) (o : Done) : Type 0 where
-  pub code : growCode r ≡ o .code
-  pub yes : growYes r ≡ o .yes
-  pub book : b ≡ o .book
 
 -- the same against what a commit of the added pages answers
 abbrev pub growCommit : Commit → Grow
@@ -70,8 +67,7 @@ ranYes none = false
 ranYes (some q) = true
 
 pub record Grows (r : Grow) (b : List ℕ) (o : Committed) : Type 0 where
-  pub code : growCode r ≡ o .code
-  pub yes : growYes r ≡ ranYes (o .run)
+  pub answer : r ≡ grownAs (o .code) (ranYes (o .run))
   pub book : b ≡ o .book
 
 unfoldable pub fairGrow : ℕ → List ℕ → ℕ → ℕ → ℕ → Committed

@@ -1,3 +1,4 @@
 pub mod Take
+pub mod TakePlan
 pub mod Release
 pub mod Chunks

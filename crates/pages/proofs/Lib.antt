@@ -3,6 +3,8 @@ pub mod Tops
 pub mod Marks
 pub mod Pushes
 pub mod Spliced
+pub mod Draws
 pub mod ListSteps
 pub mod RunSteps
 pub mod CarveSteps
+pub mod Frames

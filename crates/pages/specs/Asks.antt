@@ -130,6 +130,18 @@ pub record FreshAsks (b : List ℕ) (sh : Shape) (q : ℕ) (l : List ℕ) (at a 
   pub room : k ≤ at
   pub places : at ≤ length l
 
+-- p blocks from the stack, then r new ones
+pub record BothAsks (b : List ℕ) (sh : Shape) (q : ℕ) (l : List ℕ) (at t p a r : ℕ) : Type 0 where
+  pub sound : Sound sh
+  pub below : q + sh .pages ≤ maxPages
+  pub there : words (q + 1) ≤ length b
+  pub slots : t ≤ 4096
+  pub enough : p ≤ t
+  pub entries : every (λ i. ltb i (sh .capacity)) (tops b q p t) ≡ true
+  pub blocks : a + r ≤ sh .capacity
+  pub room : p + r ≤ at
+  pub places : at ≤ length l
+
 pub record DrawAsks (b : List ℕ) (sh : Shape) (q : ℕ) (l : List ℕ) (at m : ℕ) : Type 0 where
   pub sound : Sound sh
   pub below : q + sh .pages ≤ maxPages

@@ -6,7 +6,7 @@
 use Prim.Native.Nat.{ℕ, zero, suc, _+_, _-_, _≤_, _<_}
 use native.Mathlib.Omega.{arith}
 use mathlib.Core.Bool.{Bool, true, false, cond, _&&_}
-use mathlib.Core.List.{List, [], _∷_}
+use mathlib.Core.List.{List, [], _∷_, _++_}
 use mathlib.Core.Option.{Option, none, some}
 use mathlib.Core.Path.{_≡_, refl, sym, ap, _∙_}
 use lib.Dec.{eqb, ltb, leb}
@@ -15,8 +15,8 @@ use Rattle.model.specs.Lists.{total, below, inRun, covers, coversRun}
 use Rattle.model.specs.Calls.{Call}
 use Rattle.model.specs.Arena.{Arena, commit, grow, give}
 use Rattle.model.specs.Class.{Class}
-use Rattle.model.specs.Heap.{Heap, Holder, nobody, direct, class, isHeld, passTo, heldPages}
-use Rattle.model.specs.History.{heapAfter}
+use Rattle.model.specs.Heap.{Heap, Holder, nobody, direct, class, isHeld, passTo, heldPages, step}
+use Rattle.model.specs.History.{heapFrom, heapAfter}
 use Rattle.model.specs.Ledger.{above, abandons}
 use Rattle.model.proofs.Counts.{by-cases}
 use Rattle.model.proofs.Runs.{covers-in, covers-before, covers-after, covers-le, above-at}
@@ -43,6 +43,11 @@ reached-after n xs = record {
   apart = λ x. omega (arith, kept n xs .inv .one x);
   known = known-after n xs;
 }
+
+-- one call more
+pub heap-next : (n : ℕ) (H : Heap) (xs : List Call) (x : Call) → heapFrom n H (xs ++ x ∷ []) ≡ step n (heapFrom n H xs) x .heap
+heap-next n H [] x = refl
+heap-next n H (y ∷ xs) x = heap-next n (step n H y .heap) xs x
 
 -- the arena's part does not look at the classes, so they may be any
 abbrev pub heapOf : Arena → (ℕ → Holder) → (ℕ → Class) → Heap

@@ -130,7 +130,7 @@ module _ (n : ℕ) (b b′ : List ℕ) (H : Heap) (r : Reached n H) (rep : Arena
 
 -- ---- a run that is held is given
 module _ (n : ℕ) (b : List ℕ) (H : Heap) (rep : ArenaRep n b H) (r : Reached n H) (q m : ℕ) (one : 1 ≤ m) (holds : (x : ℕ) → covers m q x ≤ isHeld (H .holder x)) where
-  given-step : Changes (isStep (inRun m q)) b (given b q m)
+  pub given-step : Changes (isStep (inRun m q)) b (given b q m)
   given-step = given-changes b q m (rw (rep .loads) (tidy-give m one q (H .arena) (r .tidy) .slots))
 
   given-rep : ArenaRep n (given b q m) (heapOf (give m q (H .arena)) (passTo nobody (covers m q) (H .holder)) (H .classes))

@@ -1,8 +1,8 @@
 -- Every direct call on the words answers what the model answers, number by number, is never refused by number 13, and leaves a book that
 -- stands for the model's arena and holders.
 --     held-direct       number 12's test on the words is the model's
---     direct-agrees     every call that names no class
---     direct-reached    the heap afterwards is reached again
+--     direct-agrees     every call that names no class, in the arena's part
+--     direct-represents    the same for the whole book
 -- Assumes nothing.
 use Prim.Native.Nat.{ℕ, zero, suc, _+_, _-_, _*_, _^_, _≤_, _<_}
 use native.Mathlib.Omega.{arith}
@@ -13,7 +13,11 @@ use mathlib.Core.Path.{_≡_, refl, sym, ap, _∙_}
 use lib.Dec.{eqb, ltb, leb}
 use lib.ListN.{length}
 use borrow.Author.Tests.{leb-true, leb-false, le-leb, lt-leb, ltb-true, ltb-false, eqb-false, eqb-true, ne-eqb, not-false}
-use Rattle.fields.specs.Field.{arena, page, owner, frontier, held, holePages, commits, commitsHigh, reuses, reusesHigh, abandoned, abandonedHigh, get}
+use Rattle.classes.specs.declared.Shape.{Shape}
+use Rattle.classes.specs.Shape.{shapeOf}
+use Rattle.classes.proofs.Shapes.{shape-sound}
+use Rattle.fields.specs.Field.{arena, page, owner, get}
+use Rattle.fields.proofs.Changes.{Changes, changes-none}
 use Rattle.model.specs.Lists.{every, below, covers, coversRun, inRun}
 use Rattle.model.specs.Calls as Calls
 use Rattle.model.specs.Calls.{Call, Answer, refused, released}
@@ -23,18 +27,27 @@ use Rattle.model.specs.Arena.{Arena}
 use Rattle.model.specs.Heap as Heaps
 use Rattle.model.specs.Heap.{Heap, Holder, Outcome, nobody, direct, class, isDirect, isHeld, badRun, unchanged, directCall, reportOf}
 use Rattle.model.proofs.Counts.{by-cases, and-l, and-r}
-use Rattle.arena.specs.Load.{wide, loadArena}
+use Rattle.model.proofs.ArenaTidy.{tidy-commit, tidy-grow}
+use Rattle.pages.specs.Runs.{whole}
 use Rattle.arena.specs.Owners.{ownerCode}
-use Rattle.arena.specs.Fair.{recordFair, giveFair}
-use Rattle.arena.specs.Calls.{commitFor, commitCall, commitRefused, heldDirect, Done, doneRefused, growCall, grownBook, releaseCall, given, containsCall, figures, reportCode}
+use Rattle.arena.specs.Calls.{commitCall, heldDirect, growCall, grownBy, releaseCall, containsCall, figures, reportCode}
 use Rattle.arena.specs.Represents.{ArenaRep}
+use Rattle.refinement.specs.Represents.{Represents}
 use Rattle.refinement.specs.Direct.{Reply, reply, commitReply, growReply, releaseReply, reportedOf, directReply, Agrees}
 use Rattle.refinement.proofs.ArenaHolders.{isKnown}
 use Rattle.refinement.proofs.ArenaReached.{Reached, held-below}
 use Rattle.refinement.proofs.ArenaFair.{loads-frontier, loads-total, loads-commits, loads-reuses, loads-abandoned, record-passes}
-use Rattle.refinement.proofs.ArenaFrames.{every-at}
+use Rattle.refinement.proofs.ArenaFrames.{isStep, inRunOf, either, passed, committed-changes, grown-changes, every-at}
 use Rattle.refinement.proofs.CommitRep.{commit-for, commit-rep, grow-rep}
 use Rattle.refinement.proofs.GiveRep.{give-fair, give-rep}
+use Rattle.refinement.proofs.ArenaRuns.{isOf, direct-other, commit-whole, grow-whole, given-step, give-whole}
+use Rattle.refinement.proofs.ArenaKeeps.{step-class}
+
+-- what a call leaves alone of the classes: their rows, their pages' words but OWNER, and their runs
+record Beside (n : ℕ) (b b′ : List ℕ) : Type 0 where
+  pages : ℕ → Bool
+  changes : Changes (isStep pages) b b′
+  runs : (sh : Shape) (d x : ℕ) → 1 ≤ sh .pages → ltb d 76 ≡ true → whole n b′ sh d x ≡ whole n b sh d x
 
 -- ---- number 6
 pub good-run : (m : ℕ) → badRun m ≡ false → 1 ≤ m
@@ -71,14 +84,17 @@ module _ (n : ℕ) (b : List ℕ) (H : Heap) (rep : ArenaRep n b H) (r : Reached
     unfolding Heaps.heldDirect
     all-direct e k l = every-at (λ j. isDirect (H .holder (q + j))) m k (and-r (leb (q + m) n) (every (λ j. isDirect (H .holder (q + j))) (below m)) e) l
 
+    pub run-direct : Heaps.heldDirect n H q m ≡ true → (x : ℕ) → inRun m q x ≡ true → isDirect (H .holder x) ≡ true
+    run-direct e x t =
+        let l = leb-true q x (and-l (leb q x) (ltb x (q + m)) t) in
+        let u = ltb-true x (q + m) (and-r (leb q x) (ltb x (q + m)) t) in
+        let z : q + (x - q) ≡ x = omega arith in
+        rw z at (all-direct e (x - q) (omega arith))
+
     pub direct-holds : Heaps.heldDirect n H q m ≡ true → (x : ℕ) → covers m q x ≤ isHeld (H .holder x)
     direct-holds e x =
         by-cases (inRun m q x)
-        (λ t. let l = leb-true q x (and-l (leb q x) (ltb x (q + m)) t) in
-        let u = ltb-true x (q + m) (and-r (leb q x) (ltb x (q + m)) t) in
-        let z : q + (x - q) ≡ x = omega arith in
-        let d : isDirect (H .holder x) ≡ true = rw z at (all-direct e (x - q) (omega arith)) in
-        rw t (direct-held (H .holder x) d))
+        (λ t. rw t (direct-held (H .holder x) (run-direct e x t)))
         (λ t. rw t (omega arith))
 
     low : (k : ℕ) → k < m → q + m ≤ H .arena .frontier → eqb (get b (page owner (q + k))) 77 ≡ isDirect (H .holder (q + k))
@@ -100,81 +116,149 @@ module _ (n : ℕ) (b : List ℕ) (H : Heap) (rep : ArenaRep n b H) (r : Reached
             omega (arith, held-below n H r (q + (m - 1)) (direct-held (H .holder (q + (m - 1))) d))))
             (λ e. e)
 
-  -- ---- tests before a call, on both sides
-  agree-cond : {W : Type 0} (f : W → Reply) (t : Bool) (w w′ : W) (o o′ : Outcome) → (t ≡ true → Agrees n (f w) o) → (t ≡ false → Agrees n (f w′) o′) → Agrees n (f (cond t w w′)) (cond t o o′)
-  agree-cond f true w w′ o o′ h k = h refl
-  agree-cond f false w w′ o o′ h k = k refl
+  -- ---- a call's reply is the model's, and it leaves every class alone
+  record Settled (w : Reply) (o : Outcome) : Type 0 where
+    agrees : Agrees (ArenaRep n) w o
+    beside : Beside n b (w .book)
+    classes : o .heap .classes ≡ H .classes
 
-  agree-refused : (k : ℕ) → (k ≡ 13 → ⊥) → Agrees n (record { code = k; answer = refused k; book = b }) (unchanged H (refused k))
-  agree-refused k ne = record { answer = refl; fair = ne; heap = rep }
+  -- tests before a call, on both sides
+  settle-cond : {W : Type 0} (f : W → Reply) (t : Bool) (w w′ : W) (o o′ : Outcome) → (t ≡ true → Settled (f w) o) → (t ≡ false → Settled (f w′) o′) → Settled (f (cond t w w′)) (cond t o o′)
+  settle-cond f true w w′ o o′ h k = h refl
+  settle-cond f false w w′ o o′ h k = k refl
+
+  -- a call that changes nothing
+  settle-same : (k : ℕ) → (k ≡ 13 → ⊥) → (x : Answer) → Settled (record { code = k; answer = x; book = b }) (unchanged H x)
+  settle-same k ne x = record {
+    agrees = record { answer = refl; fair = ne; heap = rep };
+    beside = record { pages = λ x. false; changes = changes-none (isStep (λ x. false)) b; runs = λ sh d x l hd. refl };
+    classes = refl;
+  }
+
+  settle-refused : (k : ℕ) → (k ≡ 13 → ⊥) → Settled (record { code = k; answer = refused k; book = b }) (unchanged H (refused k))
+  settle-refused k ne = settle-same k ne (refused k)
 
   -- ---- the calls
-  commit-agrees : (h m : ℕ) → Agrees n (commitReply (commitCall n b h m)) (directCall n H (Calls.commit h m))
+  settle-commit : (h m : ℕ) → Settled (commitReply (commitCall n b h m)) (directCall n H (Calls.commit h m))
   unfolding commitCall directCall Heaps.commitCall
-  commit-agrees h m =
-      agree-cond commitReply (ltb hostMax h) _ _ _ _ (λ e. agree-refused 3 (λ z. omega arith))
-      (λ e. agree-cond commitReply (badRun m) _ _ _ _ (λ d. agree-refused 6 (λ z. omega arith))
-      (λ d. rw (commit-for n b H rep r h m 77) (record { answer = refl; fair = λ z. omega arith; heap = commit-rep n b H rep r h m (good-run m d) direct refl (H .classes) })))
+  settle-commit h m =
+      settle-cond commitReply (ltb hostMax h) _ _ _ _ (λ e. settle-refused 3 (λ z. omega arith))
+      (λ e. settle-cond commitReply (badRun m) _ _ _ _ (λ d. settle-refused 6 (λ z. omega arith))
+      (λ d. let one = good-run m d in
+      let g = Model.commit n h m (H .arena) in
+      rw (commit-for n b H rep r h m 77)
+      (record {
+        agrees = record { answer = refl; fair = λ z. omega arith; heap = commit-rep n b H rep r h m one direct refl (H .classes) };
+        beside = record {
+          pages = either (passed b (g .arena)) (inRunOf m (g .run));
+          changes = committed-changes b g m 77 (tidy-commit n h m one (H .arena) (r .tidy) .slots);
+          runs = λ sh d x l hd. commit-whole n b H rep r h m one direct refl sh d x l (direct-other d hd);
+        };
+        classes = refl;
+      })))
 
   longer : (old new : ℕ) → (badRun old || (badRun new || leb new old)) ≡ false → 1 ≤ new - old
   longer old new e = omega (arith, leb-false new old (or-right (badRun new) (leb new old) (or-right (badRun old) (badRun new || leb new old) e)))
 
-  grow-agrees : (h q old new : ℕ) → Agrees n (growReply (growCall n b h q old new)) (directCall n H (Calls.growFrontier h q old new))
+  settle-grow : (h q old new : ℕ) → Settled (growReply (growCall n b h q old new)) (directCall n H (Calls.growFrontier h q old new))
   unfolding growCall directCall Heaps.growCall
-  grow-agrees h q old new =
-      agree-cond growReply (ltb hostMax h) _ _ _ _ (λ e. agree-refused 3 (λ z. omega arith))
-      (λ e. agree-cond growReply (badRun old || (badRun new || leb new old)) _ _ _ _ (λ d. agree-refused 6 (λ z. omega arith))
+  settle-grow h q old new =
+      settle-cond growReply (ltb hostMax h) _ _ _ _ (λ e. settle-refused 3 (λ z. omega arith))
+      (λ e. settle-cond growReply (badRun old || (badRun new || leb new old)) _ _ _ _ (λ d. settle-refused 6 (λ z. omega arith))
       (λ d. rw (held-direct q old (good-run old (or-left (badRun old) (badRun new || leb new old) d)))
-      (agree-cond growReply (not (Heaps.heldDirect n H q old)) _ _ _ _ (λ c. agree-refused 12 (λ z. omega arith))
-      (λ c. rw (record-passes n b H rep r, rep .loads) (record { answer = refl; fair = λ z. omega arith; heap = grow-rep n b H rep r h (new - old) (longer old new d) (q + old) (H .classes) })))))
+      (settle-cond growReply (not (Heaps.heldDirect n H q old)) _ _ _ _ (λ c. settle-refused 12 (λ z. omega arith))
+      (λ c. let one = longer old new d in
+      let g = Model.grow n h (q + old) (new - old) (H .arena) in
+      rw (record-passes n b H rep r, rep .loads)
+      (record {
+        agrees = record { answer = refl; fair = λ z. omega arith; heap = grow-rep n b H rep r h (new - old) one (q + old) (H .classes) };
+        beside = record {
+          pages = either (passed b (g .arena)) (inRunOf (new - old) (grownBy (g .grew) (q + old)));
+          changes = grown-changes b g (q + old) (new - old) (tidy-grow n h (new - old) one (q + old) (H .arena) (r .tidy) .slots);
+          runs = λ sh d x l hd. grow-whole n b H rep r h (new - old) one (q + old) sh d x l hd;
+        };
+        classes = refl;
+      })))))
 
-  release-agrees : (h q m : ℕ) → Agrees n (releaseReply (releaseCall n b h q m)) (directCall n H (Calls.release h q m))
+  direct-not : (d : ℕ) (w : Holder) → ltb d 76 ≡ true → isDirect w ≡ true → isOf d w ≡ false
+  direct-not d nobody hd e = absurd (false≢true e)
+  direct-not d direct hd e = direct-other d hd
+  direct-not d (class c) hd e = absurd (false≢true e)
+
+  settle-release : (h q m : ℕ) → Settled (releaseReply (releaseCall n b h q m)) (directCall n H (Calls.release h q m))
   unfolding releaseCall directCall Heaps.releaseCall
-  release-agrees h q m =
-      agree-cond releaseReply (ltb hostMax h) _ _ _ _ (λ e. agree-refused 3 (λ z. omega arith))
-      (λ e. agree-cond releaseReply (badRun m) _ _ _ _ (λ d. agree-refused 6 (λ z. omega arith))
+  settle-release h q m =
+      settle-cond releaseReply (ltb hostMax h) _ _ _ _ (λ e. settle-refused 3 (λ z. omega arith))
+      (λ e. settle-cond releaseReply (badRun m) _ _ _ _ (λ d. settle-refused 6 (λ z. omega arith))
       (λ d. let one = good-run m d in
       rw (held-direct q m one)
-      (agree-cond releaseReply (not (Heaps.heldDirect n H q m)) _ _ _ _ (λ c. agree-refused 12 (λ z. omega arith))
-      (λ c. let k = direct-holds q m one (not-false (Heaps.heldDirect n H q m) c) in
-      rw (give-fair n b H rep r q m one k) (record { answer = refl; fair = λ z. omega arith; heap = give-rep n b H rep r q m one k (H .classes) })))))
-
-  contains-agrees : (o k : ℕ) → Agrees n (reply 0 (Calls.contained (containsCall n b o k)) b) (directCall n H (Calls.contains o k))
-  unfolding containsCall directCall
-  contains-agrees o k = rw (rep .loads) (record { answer = refl; fair = λ z. omega arith; heap = rep })
-
-  report-agrees : Agrees n (reply (reportCode n b) (reportedOf (figures n b)) b) (directCall n H Calls.report)
-  unfolding reportCode directCall reportOf
-  report-agrees =
-      rw (record-passes n b H rep r)
+      (settle-cond releaseReply (not (Heaps.heldDirect n H q m)) _ _ _ _ (λ c. settle-refused 12 (λ z. omega arith))
+      (λ c. let t = not-false (Heaps.heldDirect n H q m) c in
+      let k = direct-holds q m one t in
+      rw (give-fair n b H rep r q m one k)
       (record {
-        answer = rw (
-          loads-commits b (H .arena) (rep .loads),
-          loads-reuses b (H .arena) (rep .loads),
-          loads-abandoned b (H .arena) (rep .loads),
-          rep .held,
-          loads-total b (H .arena) (rep .loads),
-          loads-frontier b (H .arena) (rep .loads),
-        ) refl;
-        fair = λ z. omega arith;
-        heap = rep;
-      })
+        agrees = record { answer = refl; fair = λ z. omega arith; heap = give-rep n b H rep r q m one k (H .classes) };
+        beside = record {
+          pages = inRun m q;
+          changes = given-step n b H rep r q m one k;
+          runs = λ sh d x l hd. give-whole n b H rep r q m one k sh d x l (λ y e. direct-not d (H .holder y) hd (run-direct q m one t y e));
+        };
+        classes = refl;
+      })))))
 
-  no-class : (h : ℕ) → Agrees n (reply (cond (ltb hostMax h) 3 4) released b) (Heaps.noClass H h)
-  no-class h =
+  settle-contains : (o k : ℕ) → Settled (reply 0 (Calls.contained (containsCall n b o k)) b) (directCall n H (Calls.contains o k))
+  unfolding containsCall directCall
+  settle-contains o k = rw (rep .loads) (settle-same 0 (λ z. omega arith) (Calls.contained (Model.contains n o k (H .arena))))
+
+  settle-report : Settled (reply (reportCode n b) (reportedOf (figures n b)) b) (directCall n H Calls.report)
+  unfolding reportCode directCall reportOf
+  settle-report =
+      let a = H .arena in
+      rw (
+        record-passes n b H rep r,
+        loads-commits b (H .arena) (rep .loads),
+        loads-reuses b (H .arena) (rep .loads),
+        loads-abandoned b (H .arena) (rep .loads),
+        rep .held,
+        loads-total b (H .arena) (rep .loads),
+        loads-frontier b (H .arena) (rep .loads),
+      )
+      (settle-same 0 (λ z. omega arith) (Calls.reported (a .commits) (a .reuses) (a .abandoned) (Heaps.heldPages n H) (Heaps.idlePages n a)))
+
+  settle-noclass : (h : ℕ) → Settled (reply (cond (ltb hostMax h) 3 4) released b) (Heaps.noClass H h)
+  settle-noclass h =
       by-cases (ltb hostMax h)
-      (λ e. rw e (agree-refused 3 (λ z. omega arith)))
-      (λ e. rw e (agree-refused 4 (λ z. omega arith)))
+      (λ e. rw e (settle-refused 3 (λ z. omega arith)))
+      (λ e. rw e (settle-refused 4 (λ z. omega arith)))
 
-  pub direct-agrees : (x : Call) → Agrees n (directReply n b x) (directCall n H x)
+  settle-direct : (x : Call) → Settled (directReply n b x) (directCall n H x)
   unfolding directReply directCall
-  direct-agrees (Calls.takeBlocks c h l) = no-class h
-  direct-agrees (Calls.mediumTakeBlocks c h l) = no-class h
-  direct-agrees (Calls.releaseBlocks c h ws) = no-class h
-  direct-agrees (Calls.mediumReleaseBlocks c h ws) = no-class h
-  direct-agrees (Calls.releaseBinChunks c h ws gs fs) = no-class h
-  direct-agrees (Calls.commit h m) = commit-agrees h m
-  direct-agrees (Calls.growFrontier h q old new) = grow-agrees h q old new
-  direct-agrees (Calls.release h q m) = release-agrees h q m
-  direct-agrees (Calls.contains o k) = contains-agrees o k
-  direct-agrees Calls.report = report-agrees
+  settle-direct (Calls.takeBlocks c h l) = settle-noclass h
+  settle-direct (Calls.mediumTakeBlocks c h l) = settle-noclass h
+  settle-direct (Calls.releaseBlocks c h ws) = settle-noclass h
+  settle-direct (Calls.mediumReleaseBlocks c h ws) = settle-noclass h
+  settle-direct (Calls.releaseBinChunks c h ws gs fs) = settle-noclass h
+  settle-direct (Calls.commit h m) = settle-commit h m
+  settle-direct (Calls.growFrontier h q old new) = settle-grow h q old new
+  settle-direct (Calls.release h q m) = settle-release h q m
+  settle-direct (Calls.contains o k) = settle-contains o k
+  settle-direct Calls.report = settle-report
+
+  pub direct-agrees : (x : Call) → Agrees (ArenaRep n) (directReply n b x) (directCall n H x)
+  direct-agrees x = settle-direct x .agrees
+
+-- the whole book
+pub direct-represents : (n : ℕ) (b : List ℕ) (H : Heap) → Represents n b H → Reached n H → (x : Call) → Agrees (Represents n) (directReply n b x) (directCall n H x)
+direct-represents n b H rep r x =
+    let s = settle-direct n b H (rep .arena) r x in
+    let e = s .beside in
+    let c = directReply n b x .book in
+    record {
+      answer = s .agrees .answer;
+      fair = s .agrees .fair;
+      heap = record {
+        arena = s .agrees .heap;
+        classes = λ d hd. rw (s .classes)
+            (step-class (e .pages) b c (e .changes) (shape-sound d) hd (λ y. e .runs (shapeOf d) d y (shape-sound d .paged) hd) (rep .classes d hd));
+      };
+    }

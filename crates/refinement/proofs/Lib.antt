@@ -9,7 +9,6 @@ pub mod CommitRep
 pub mod GiveRep
 pub mod ArenaRuns
 pub mod OpenRep
-pub mod DirectCalls
 pub mod Basics
 pub mod Lists
 pub mod Frames
@@ -22,3 +21,8 @@ pub mod Draw
 pub mod Fill
 pub mod Plan
 pub mod Take
+pub mod CommitRuns
+pub mod ArenaKeeps
+pub mod DirectCalls
+pub mod GiveClass
+pub mod Pushes

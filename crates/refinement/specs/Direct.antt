@@ -1,7 +1,7 @@
 -- The calls that reach no class, on the words as calls of the model: what is answered, and the book that is left. n is the arena's
 -- length. Assumes nothing.
 --     directReply    the reply to a call that names no class; where it names one that is not ours it is number 3 or 4
---     Agrees         a reply is the model's: the same answer, never number 13, and the arena's part of the representation afterwards
+--     Agrees         a reply is the model's: the same answer, never number 13, and a book that stands for the model's heap
 use Prim.Native.Nat.{ℕ}
 use mathlib.Core.Bool.{cond}
 use mathlib.Core.List.{List}
@@ -11,9 +11,8 @@ use lib.ListN.{getD}
 use Rattle.model.specs.Calls as Calls
 use Rattle.model.specs.Calls.{Call, Answer, refused, released, contained, reported}
 use Rattle.model.specs.Chunks.{hostMax}
-use Rattle.model.specs.Heap.{Outcome, answerRun}
+use Rattle.model.specs.Heap.{Heap, Outcome, answerRun}
 use Rattle.arena.specs.Calls.{Committed, commitCall, Done, growCall, releaseCall, containsCall, figures, reportCode}
-use Rattle.arena.specs.Represents.{ArenaRep}
 
 -- the number is 0 where nothing was refused
 pub record Reply : Type 0 where
@@ -51,7 +50,8 @@ directReply n b (Calls.release h q m) = releaseReply (releaseCall n b h q m)
 directReply n b (Calls.contains o k) = reply 0 (contained (containsCall n b o k)) b
 directReply n b Calls.report = reply (reportCode n b) (reportedOf (figures n b)) b
 
-pub record Agrees (n : ℕ) (w : Reply) (o : Outcome) : Type 0 where
+-- Stands b H: the book b stands for the heap H, wholly (Represents n) or in the arena's part (ArenaRep n)
+pub record Agrees (Stands : List ℕ → Heap → Type 0) (w : Reply) (o : Outcome) : Type 0 where
   pub answer : w .answer ≡ o .answer
   pub fair : w .code ≡ 13 → ⊥
-  pub heap : ArenaRep n (w .book) (o .heap)
+  pub heap : Stands (w .book) (o .heap)

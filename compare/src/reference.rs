@@ -4,14 +4,14 @@ use crate::call::{Answer, Call};
 use crate::ledger::Ledger;
 use crate::oracle::Original;
 
-pub struct Session {
+pub struct Reference {
     original: Original,
     pub ledger: Ledger,
 }
 
-impl Session {
-    pub fn open(pages: u32) -> Session {
-        Session { original: Original::open(pages), ledger: Ledger::new(pages) }
+impl Reference {
+    pub fn open(pages: u32) -> Reference {
+        Reference { original: Original::open(pages), ledger: Ledger::new(pages) }
     }
 
     /// Pages below the frontier.

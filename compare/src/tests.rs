@@ -1,0 +1,131 @@
+//! Document 01's examples on the patched original, and the tool's own parts.
+
+use std::sync::Mutex;
+
+use crate::call::{Answer, Call, Lent};
+use crate::generate::{self, SCENARIOS};
+use crate::history::{self, History};
+use crate::oracle;
+use crate::plan::{Intent, Place, Plan, Step};
+use crate::random::Random;
+use crate::reference::Reference;
+use crate::run;
+use crate::shrink::shrink;
+use crate::words::{block_word, group_word, Family, HOST_ALL};
+
+/// The original has one arena for the process.
+static ORIGINAL: Mutex<()> = Mutex::new(());
+
+fn answers(calls: &[Call]) -> Vec<Answer> {
+    let _alone = ORIGINAL.lock().unwrap_or_else(|poisoned| poisoned.into_inner());
+    let mut reference = Reference::open(64);
+    calls.iter().map(|call| reference.answer(call)).collect()
+}
+
+fn take(family: Family, class: u32) -> Call {
+    Call::Take { family, class, host: HOST_ALL, lent: Lent { len: 64, fill: 0 } }
+}
+
+fn release(class: u32, granules: &[u32]) -> Call {
+    Call::ReleaseBlocks { family: Family::Small, class, host: HOST_ALL, list: small(granules) }
+}
+
+fn small(granules: &[u32]) -> Vec<u32> {
+    granules.iter().map(|&granule| block_word(Family::Small, granule)).collect()
+}
+
+fn taken(words: Vec<u32>, virgin: bool) -> Answer {
+    Answer::Taken { virgin, words }
+}
+
+fn commit(host: u32, pages: u64) -> Call {
+    Call::Commit { host, pages }
+}
+
+fn give(first: u64, pages: u64) -> Call {
+    Call::Release { host: HOST_ALL, first, pages }
+}
+
+fn run_at(first: u32, fresh: bool) -> Answer {
+    Answer::Run { first, fresh }
+}
+
+#[test]
+fn sizes_p1_to_p5() {
+    assert_eq!([0, 16_384, 16_385].map(oracle::class_for_size), [0, 45, 63]);
+    assert_eq!([18_432, 18_433, 65_472, 65_473].map(oracle::medium_class_for_size), [0, 1, 11, 11]);
+}
+
+#[test]
+fn blocks_p6_to_p10() {
+    let down = |from: u32, to: u32| (to..=from).rev().collect::<Vec<u32>>();
+    let p7 = [down(129, 67), vec![10]].concat();
+    assert_eq!(small(&[66]), [1_073_741_890]);
+    assert_eq!(
+        answers(&[take(Family::Small, 0), release(0, &[10]), take(Family::Small, 0)]),
+        [taken(small(&down(66, 3)), true), Answer::Fate(0), taken(small(&p7), false)]
+    );
+    let (three, back) = (small(&[2051, 1027, 3]), small(&[3, 1027, 2051]));
+    assert_eq!(
+        answers(&[take(Family::Small, 45), release(45, &[2051, 1027, 3]), take(Family::Small, 45)]),
+        [taken(three.clone(), true), Answer::Fate(0), taken(back, false)]
+    );
+    let groups = Call::ReleaseChunks {
+        class: 45,
+        host: HOST_ALL,
+        list: three.clone(),
+        groups: vec![group_word(3, 0)],
+        lent: Lent { len: 1, fill: 9 },
+    };
+    assert_eq!(
+        answers(&[take(Family::Small, 45), groups, take(Family::Small, 45)]),
+        [taken(three.clone(), true), Answer::Fates(vec![4]), taken(three, false)]
+    );
+    let spans = (0..10).map(|block| block_word(Family::Medium, 4 + block * 1_152)).collect();
+    assert_eq!(answers(&[take(Family::Medium, 0)]), [taken(spans, true)]);
+}
+
+#[test]
+fn runs_p11_and_p12() {
+    let (grants, refuses) = (HOST_ALL, 13);
+    let calls = [commit(grants, 10), give(0, 2), give(4, 2), give(8, 2)];
+    let again = [commit(grants, 2), commit(grants, 2), commit(grants, 2)];
+    assert_eq!(answers(&[&calls[..], &again].concat())[4..], [run_at(8, false), run_at(0, false), run_at(4, false)]);
+    let calls = [commit(grants, 4), give(0, 4), commit(refuses, 2), commit(grants, 2), commit(grants, 2)];
+    assert_eq!(answers(&calls)[2..], [Answer::NoRun, run_at(0, false), run_at(2, false)]);
+}
+
+/// A history of every scenario, read back from its text.
+#[test]
+fn text_is_read_back() {
+    let _alone = ORIGINAL.lock().unwrap_or_else(|poisoned| poisoned.into_inner());
+    let mut random = Random::new(5);
+    for scenario in &SCENARIOS {
+        let plan = generate::plan(&mut random, |_| true, Some(scenario.name), None);
+        let history = History { pages: plan.pages, calls: run::record(&plan, |_| true) };
+        assert!(!history.calls.is_empty(), "{} makes no call", scenario.name);
+        assert_eq!(history::parse(&history.text()), Ok(vec![history]));
+    }
+    assert!(history::parse("open 4\ncommit 15 = 0 0 1\n").is_err());
+    assert!(history::parse("open 4\ncommit 15 1 = 0 0 1 7\n").is_err());
+}
+
+/// Of many steps just the two that matter are left, with the plain host word.
+#[test]
+fn shrinks_to_what_fails() {
+    let step = |intent| Step { intent, host: 7, chance: 1 };
+    let (needed, last) = (Intent::Commit { pages: 3 }, Intent::Grow { place: Place::Frontier, by: 1 });
+    let mut steps: Vec<Step> = (0..100).map(|_| step(Intent::Report)).collect();
+    steps[40] = step(needed.clone());
+    steps[90] = step(last.clone());
+    let fails = |plan: &Plan| {
+        let at = plan.steps.iter().position(|step| step.intent == needed)?;
+        let after = plan.steps[at..].iter().position(|step| step.intent == last)?;
+        Some(at + after)
+    };
+    let small = shrink(&Plan { scenario: "", pages: 9, steps }, fails);
+    assert_eq!(
+        small.steps.iter().map(|step| (&step.intent, step.host)).collect::<Vec<_>>(),
+        [(&needed, HOST_ALL), (&last, HOST_ALL)]
+    );
+}

@@ -1,0 +1,5 @@
+pub mod TakePages
+pub mod TakeDraws
+pub mod Walk
+pub mod Fill
+pub mod PlanSteps

@@ -1,0 +1,109 @@
+-- What each step on a class's pages may change: everything but the fields at which a test fails is as it was. Assumes nothing.
+--     changes-linked .. changes-unstow, changes-name, changes-carve, changes-new, changes-pushed
+--     back-pushed      blocks that come back: their out bits, then the stack
+use Prim.Native.Nat.{ℕ, zero, suc, _+_, _-_, _*_, _/_, _≤_, _<_}
+use native.Mathlib.Omega.{arith}
+use mathlib.Core.Bool.{Bool, true, false}
+use mathlib.Core.List.{List}
+use mathlib.Core.Path.{_≡_, refl, sym, ap, _∙_}
+use lib.Dec.{ltb}
+use lib.ListN.{length}
+use borrow.Author.Tests.{lt-ltb}
+use Rattle.classes.specs.declared.Shape.{Shape}
+use Rattle.fields.specs.Field.{Field, class, page, slot, out, partial, next, prev, first, free, carved, listed, virgin, get, put}
+use Rattle.fields.specs.Outcome.{putAt}
+use Rattle.fields.specs.Clear.{clearOut}
+use Rattle.fields.proofs.Changes.{Changes, changes-none, changes-put, changes-trans}
+use Rattle.fields.proofs.Outcome.{changes-putAt}
+use Rattle.fields.proofs.Clear.{changes-clear}
+use Rattle.model.specs.Lists.{every}
+use Rattle.pages.specs.declared.Park.{Park}
+use Rattle.pages.specs.Runs.{flag, nameRun}
+use Rattle.pages.specs.Stack.{downs, marks, push, pushed, back}
+use Rattle.pages.specs.Links.{pointNext, linked, cutOut, link, unlink, top, tally, stow, unstow}
+use Rattle.pages.specs.Carve.{stocked, carveAnew, outWords, newRun}
+use Rattle.pages.proofs.Downs.{small, length-downs}
+use Rattle.pages.proofs.Marks.{marks-kept}
+use Rattle.pages.proofs.Pushes.{push-changes}
+use Rattle.pages.proofs.CarveSteps.{stocked-le}
+
+module _ (t : Field → Bool) (b : List ℕ) (c q : ℕ) (hc : ltb c 76 ≡ true) where
+  -- ---- the partial list
+  pub changes-link : t (class partial c) ≡ true → t (page next q) ≡ true → t (page prev q) ≡ true → t (page listed q) ≡ true
+      → ((x : ℕ) → get b (class partial c) ≡ suc x → t (page prev x) ≡ true) → Changes t b (link b c q)
+  unfolding link linked
+  changes-link hh hn hp hl ho =
+      let h = get b (class partial c) in
+      changes-put t b _ (page listed q) 1 refl hl
+      (changes-put t b _ (class partial c) (q + 1) hc hh
+      (changes-putAt t b _ prev h (q + 1) ho
+      (changes-put t b _ (page prev q) 0 refl hp
+      (changes-put t b b (page next q) h refl hn (changes-none t b)))))
+
+  point-changes : (y x : ℕ) → (y ≡ 0 → t (class partial c) ≡ true) → ((z : ℕ) → y ≡ suc z → t (page next z) ≡ true) → Changes t b (pointNext b c y x)
+  point-changes zero x h k = changes-put t b b (class partial c) x hc (h refl) (changes-none t b)
+  point-changes (suc y) x h k = changes-put t b b (page next y) x refl (k y refl) (changes-none t b)
+
+  pub changes-unlink : (get b (page prev q) ≡ 0 → t (class partial c) ≡ true) → ((z : ℕ) → get b (page prev q) ≡ suc z → t (page next z) ≡ true)
+      → ((z : ℕ) → get b (page next q) ≡ suc z → t (page prev z) ≡ true) → t (page next q) ≡ true → t (page prev q) ≡ true → t (page listed q) ≡ true
+      → Changes t b (unlink b c q)
+  unfolding unlink cutOut
+  changes-unlink hh hy hx hn hp hl =
+      let x = get b (page next q) in
+      let y = get b (page prev q) in
+      changes-put t b _ (page listed q) 0 refl hl
+      (changes-put t b _ (page prev q) 0 refl hp
+      (changes-put t b _ (page next q) 0 refl hn
+      (changes-putAt t b _ prev x y hx (point-changes y x hh hy))))
+
+  -- ---- the stores
+  module _ (k : Park) (ht : t (class (top k) c) ≡ true) (hk : t (class (tally k) c) ≡ true) where
+    pub changes-unstow : Changes t b (unstow b c k q)
+    unfolding unstow
+    changes-unstow = changes-put t b _ (class (tally k) c) _ hc hk (changes-put t b b (class (top k) c) _ hc ht (changes-none t b))
+
+    pub changes-stow : t (page next q) ≡ true → Changes t b (stow b c k q)
+    unfolding stow
+    changes-stow hn =
+        changes-put t b _ (class (tally k) c) _ hc hk
+        (changes-put t b _ (class (top k) c) _ hc ht (changes-put t b b (page next q) _ refl hn (changes-none t b)))
+
+-- ---- runs and carving
+pub changes-name : (t : Field → Bool) (b b′ : List ℕ) (f x m : ℕ) → ((y : ℕ) → x ≤ y → y < x + m → t (page first y) ≡ true) → Changes t b b′ → Changes t b (nameRun b′ f x m)
+unfolding nameRun
+changes-name t b b′ f x zero h c = c
+changes-name t b b′ f x (suc m) h c =
+    changes-name t b (put b′ (page first x) f) f (suc x) m (λ y l u. h y (omega arith) (omega arith)) (changes-put t b b′ (page first x) f refl (h x (omega arith) (omega arith)) c)
+
+module _ (t : Field → Bool) (b : List ℕ) (q : ℕ) (hf : t (page free q) ≡ true) (hv : t (page virgin q) ≡ true) (hs : (i : ℕ) → t (slot q i) ≡ true) where
+  pub changes-pushed : (is : List ℕ) → get b (page free q) + length is ≤ 4096 → Changes t b (pushed b q is)
+  unfolding pushed
+  changes-pushed is l =
+      changes-put t b _ (page free q) _ refl hf
+      (changes-put t b _ (page virgin q) 0 refl hv (push-changes b q (get b (page free q)) t hs is l))
+
+  pub changes-carve : (sh : Shape) (v : Bool) → t (page carved q) ≡ true → sh .capacity ≤ 4096 → Changes t b (carveAnew b sh q v)
+  unfolding carveAnew
+  changes-carve sh v hk h =
+      let k = stocked sh in
+      let l : 0 + length (downs 0 k) ≤ 4096 = omega (arith, length-downs 0 k, stocked-le sh k refl h) in
+      changes-put t b _ (page free q) k refl hf
+      (changes-put t b _ (page carved q) k refl hk
+      (changes-put t b _ (page virgin q) (flag v) refl hv (push-changes b q 0 t hs (downs 0 k) l)))
+
+pub changes-new : (t : Field → Bool) (b : List ℕ) (sh : Shape) (q : ℕ) → sh .capacity ≤ 4096
+    → t (page free q) ≡ true → t (page virgin q) ≡ true → ((i : ℕ) → t (slot q i) ≡ true) → t (page carved q) ≡ true → t (page listed q) ≡ true
+    → ((i : ℕ) → t (out q i) ≡ true) → ((y : ℕ) → q ≤ y → y < q + sh .pages → t (page first y) ≡ true) → Changes t b (newRun b sh q)
+unfolding newRun
+changes-new t b sh q h hf hv hs hk hl ho hn =
+    let b₁ = nameRun b q q (sh .pages) in
+    let b₂ = clearOut b₁ q 0 (32 * outWords sh) in
+    let few : 0 + 32 * ((sh .capacity + 31) / 32) ≤ 4096 = omega arith in
+    changes-trans t b (put b₂ (page listed q) 0) _
+    (changes-put t b b₂ (page listed q) 0 refl hl (changes-clear t b (32 * outWords sh) q 0 b₁ few (λ j l m. ho j) (changes-name t b b q q (sh .pages) hn (changes-none t b))))
+    (changes-carve t (put b₂ (page listed q) 0) q hf hv hs sh true hk h)
+
+-- ---- blocks that come back
+pub back-pushed : (b : List ℕ) (q : ℕ) (is : List ℕ) → every small is ≡ true → back b q is ≡ pushed (marks b q 0 is) q is
+unfolding back pushed
+back-pushed b q is s = let e : get (marks b q 0 is) (page free q) ≡ get b (page free q) = marks-kept b q 0 is s (page free q) refl refl in rw e

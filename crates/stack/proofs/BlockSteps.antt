@@ -1,0 +1,47 @@
+-- A block's word and index: sums that stay within 32 bits, and the ways out. Assumes nothing.
+use Prim.Native.Nat.{ℕ, zero, suc, _+_, _-_, _*_, _/_, _%_, _^_, _≤_, _<_}
+use native.Mathlib.Omega.{arith}
+use native.Mathlib.Nat.{mul-le-mul-right, mod-eq-of-lt, zero-div}
+use mathlib.Core.Bool.{Bool, true, false, not, _||_}
+use mathlib.Core.List.{List}
+use mathlib.Core.Path.{_≡_, refl, sym, ap, _∙_}
+use lib.Dec.{eqb, ltb}
+use borrow.Author.Tests.{eq-eqb, ne-eqb}
+use Rattle.words.specs.Word.{blockWord, packBlock, granuleOf}
+use Rattle.classes.specs.declared.Shape.{Shape}
+use Rattle.fields.specs.Field.{page, free, carved, get}
+use Rattle.model.specs.Page.{wordOf}
+use Rattle.pages.specs.Stack.{hasMore, blocksFrom, indexOf}
+use Rattle.pages.specs.Asks.{WordAsks}
+
+-- a block lies within its run
+pub inside : (sh : Shape) (q i : ℕ) → WordAsks sh q i → q * 4096 + (sh .header + i * sh .block) < 2 ^ 30
+inside sh q i h =
+    let l : (i + 1) * sh .block ≤ sh .capacity * sh .block = mul-le-mul-right (sh .block) (omega (arith, h .block)) in
+    omega (arith, l, h .below, h .sound .fits, h .sound .wide)
+
+pub word-done : (sh : Shape) (q i w : ℕ) → WordAsks sh q i → w ≡ packBlock (sh .kind) (q * 4096 + (sh .header + i * sh .block)) → w ≡ wordOf sh q i
+unfolding wordOf
+word-done sh q i w h e =
+    let k : sh .kind % 2 ^ 2 ≡ sh .kind = mod-eq-of-lt (omega (arith, h .sound .known)) in
+    let g : (q * 4096 + (sh .header + i * sh .block)) % 2 ^ 30 ≡ q * 4096 + (sh .header + i * sh .block) = mod-eq-of-lt (inside sh q i h) in
+    e ∙ ap (λ z. blockWord z ((q * 4096 + (sh .header + i * sh .block)) % 2 ^ 30)) k ∙ ap (blockWord (sh .kind)) g
+
+pub index-none : (sh : Shape) (q w x g : ℕ) → x ≡ w → g ≡ granuleOf x → g < q * 4096 + sh .header → 0 ≡ indexOf sh q w
+unfolding indexOf
+index-none sh q w x g e e′ h =
+    let z : granuleOf w - blocksFrom sh q ≡ 0 = omega (arith, ap granuleOf e) in
+    sym (ap (λ x. x / sh .block) z ∙ zero-div (sh .block))
+
+pub index-done : (sh : Shape) (q w x g : ℕ) → x ≡ w → g ≡ granuleOf x → (g - (q * 4096 + sh .header)) / sh .block ≡ indexOf sh q w
+unfolding indexOf
+index-done sh q w x g e e′ = ap (λ z. (z - blocksFrom sh q) / sh .block) (e′ ∙ ap granuleOf e)
+
+module _ (b : List ℕ) (sh : Shape) (q : ℕ) where
+  pub more-free : (f : ℕ) → f ≡ get b (page free q) → (f ≡ 0 → ⊥) → true ≡ hasMore b sh q
+  unfolding hasMore
+  more-free f e h = rw (← e, ne-eqb f 0 h)
+
+  pub more-fresh : (f k : ℕ) → f ≡ get b (page free q) → f ≡ 0 → k ≡ get b (page carved q) → ltb k (sh .capacity) ≡ hasMore b sh q
+  unfolding hasMore
+  more-fresh f k e h e′ = rw (← e, eq-eqb f 0 h, ← e′)

@@ -1,0 +1,211 @@
+-- Blocks given one after another, and the ways out of the functions that give them. Assumes nothing.
+use Prim.Native.Nat.{ℕ, zero, suc, _+_, _-_, _*_, _≤_, _<_, min}
+use native.Mathlib.Omega.{arith}
+use native.Mathlib.Numerals.{add-one}
+use mathlib.Core.Bool.{Bool, true, false, _&&_}
+use mathlib.Core.List.{List, [], _∷_, _++_, map, map-append, reverse}
+use mathlib.Core.Path.{_≡_, refl, sym, ap, _∙_}
+use lib.Dec.{eqb, ltb, leb}
+use lib.ListN.{length, set, length-map, length-append, length-reverse}
+use borrow.Author.Tests.{lt-ltb, ltb-true}
+use Rattle.classes.specs.declared.Shape.{Shape}
+use Rattle.fields.specs.Field.{page, slot, out, free, carved, get, put}
+use Rattle.model.specs.Lists.{every}
+use Rattle.model.specs.Page.{wordOf}
+use Rattle.pages.specs.Stack.{tops, downs, marks, carvedNow, latest, draw, spliced, Gave, Drawn}
+use Rattle.pages.specs.Asks.{GiveAsks, PopAsks, FreshAsks, BothAsks, DrawAsks}
+use Rattle.pages.proofs.Downs.{small, length-downs, every-reverse, every-below}
+use Rattle.pages.proofs.Tops.{length-tops, tops-cut, tops-fewer, popped-more, every-tops}
+use Rattle.pages.proofs.Marks.{length-marks, marks-append, marks-kept}
+use Rattle.pages.proofs.Spliced.{length-spliced, spliced-none, spliced-one, spliced-twice}
+
+-- ---- what was given, and more
+module _ (b : List ℕ) (sh : Shape) (q : ℕ) (l : List ℕ) (at : ℕ) where
+  pub gave-none : Gave b sh q l at [] b l
+  gave-none = record { outs = refl; list = sym (spliced-none l (at - 0)) }
+
+  pub gave-one : (i w : ℕ) (b′ l′ : List ℕ) → GiveAsks b sh q l at i → w ≡ wordOf sh q i → l′ ≡ set l (at - 1) w → b′ ≡ put b (out q i) 1 → Gave b sh q l at (i ∷ []) b′ l′
+  gave-one i w b′ l′ h e e₁ e₂ =
+      record { outs = e₂; list = e₁ ∙ ap (set l (at - 1)) e ∙ sym (spliced-one l (at - 1) (wordOf sh q i) (omega (arith, h .room, h .places))) }
+
+  pub gave-more : (xs ys b₁ l₁ b₂ l₂ : List ℕ) → length ys + length xs ≤ at → at ≤ length l
+      → Gave b sh q l at xs b₁ l₁ → Gave b₁ sh q l₁ (at - length xs) ys b₂ l₂ → Gave b sh q l at (ys ++ xs) b₂ l₂
+  gave-more xs ys b₁ l₁ b₂ l₂ h k g₁ g₂ =
+      let w = wordOf sh q in
+      let place : at - length xs - length ys + length (map w ys) ≡ at - length xs = omega (arith, length-map ys w) in
+      let long : at - length xs + length (map w xs) ≤ length l = omega (arith, length-map xs w) in
+      let from : at - length xs - length ys ≡ at - length (ys ++ xs) = omega (arith, length-append ys xs) in
+      record {
+        outs = g₂ .outs ∙ ap (λ z. marks z q 1 ys) (g₁ .outs) ∙ marks-append b q 1 ys xs;
+        list =
+            g₂ .list
+            ∙ ap (λ z. spliced z (at - length xs - length ys) (map w ys)) (g₁ .list)
+            ∙ spliced-twice l (at - length xs) (at - length xs - length ys) (map w ys) (map w xs) place long
+            ∙ ap (spliced l (at - length xs - length ys)) (sym (map-append w ys xs))
+            ∙ ap (λ z. spliced l z (map w (ys ++ xs))) from;
+      }
+
+  pub gave-long : (xs b′ l′ : List ℕ) → length xs ≤ at → at ≤ length l → Gave b sh q l at xs b′ l′ → (length b′ ≡ length b) × (length l′ ≡ length l)
+  gave-long xs b′ l′ h k g = (
+    ap length (g .outs) ∙ length-marks b q 1 xs,
+    ap length (g .list) ∙ length-spliced l (at - length xs) (map (wordOf sh q) xs) (omega (arith, length-map xs (wordOf sh q))),
+  )
+
+-- ---- j of k blocks given: the blocks xs
+pub record Giving (b₀ : List ℕ) (sh : Shape) (q : ℕ) (l₀ : List ℕ) (at k : ℕ) (xs b l : List ℕ) (j : ℕ) : Type 0 where
+  pub within : j ≤ k
+  pub many : length xs ≡ j
+  pub long : length b ≡ length b₀
+  pub list : length l ≡ length l₀
+  pub gave : Gave b₀ sh q l₀ at xs b l
+
+module _ (b₀ : List ℕ) (sh : Shape) (q : ℕ) (l₀ : List ℕ) (at k : ℕ) where
+  giving-none : Giving b₀ sh q l₀ at k [] b₀ l₀ 0
+  giving-none = record { within = omega arith; many = refl; long = refl; list = refl; gave = gave-none b₀ sh q l₀ at }
+
+  giving-more : (xs b l : List ℕ) (j i : ℕ) (b′ l′ : List ℕ) → k ≤ at → at ≤ length l₀ → j < k
+      → Giving b₀ sh q l₀ at k xs b l j → Gave b sh q l (at - j) (i ∷ []) b′ l′ → Giving b₀ sh q l₀ at k (i ∷ xs) b′ l′ (j + 1)
+  giving-more xs b l j i b′ l′ h p t v g =
+      let n = v .many in
+      let longs = gave-long b sh q l (at - j) (i ∷ []) b′ l′ (omega arith) (omega (arith, v .list)) g in
+      record {
+        within = omega arith;
+        many = omega arith;
+        long = longs .0 ∙ v .long;
+        list = longs .1 ∙ v .list;
+        gave = gave-more b₀ sh q l₀ at xs (i ∷ []) b l b′ l′ (omega arith) p (v .gave) (rw n g);
+      }
+
+  -- ---- from the stack
+  module _ (t : ℕ) where
+    abbrev pub Popping : List ℕ → List ℕ → ℕ → Type 0
+    Popping b l j = Giving b₀ sh q l₀ at k (reverse (tops b₀ q j t)) b l j
+
+    pub popping-none : Popping b₀ l₀ 0
+    popping-none = giving-none
+
+    popped-small : (j : ℕ) → PopAsks b₀ sh q l₀ at t k → j ≤ k → every small (reverse (tops b₀ q j t)) ≡ true
+    popped-small j h l =
+        every-reverse small (tops b₀ q j t)
+        (every-below (sh .capacity) 4096 (h .sound .few) (tops b₀ q j t) (tops-fewer b₀ q (λ i. ltb i (sh .capacity)) j k t l (h .entries)))
+
+    entry-is : (b l : List ℕ) (j i : ℕ) → PopAsks b₀ sh q l₀ at t k → j < k → Popping b l j → i ≡ get b (slot q (t - 1 - j)) → i ≡ get b₀ (slot q (t - suc j))
+    entry-is b l j i h u v e =
+        let s : t - 1 - j ≡ t - suc j = omega arith in
+        e
+        ∙ ap (λ z. get b (slot q z)) s
+        ∙ ap (λ z. get z (slot q (t - suc j))) (v .gave .outs)
+        ∙ marks-kept b₀ q 1 (reverse (tops b₀ q j t)) (popped-small j h (omega arith)) (slot q (t - suc j)) (lt-ltb (t - suc j) 4096 (omega (arith, h .slots, h .enough))) refl
+
+    pub popping-asks : (b l : List ℕ) (j i : ℕ) → PopAsks b₀ sh q l₀ at t k → j < k → Popping b l j → i ≡ get b (slot q (t - 1 - j)) → GiveAsks b sh q l (at - j) i
+    popping-asks b l j i h u v e =
+        let o : ltb (get b₀ (slot q (t - suc j))) (sh .capacity) ≡ true = every-tops b₀ q (λ i. ltb i (sh .capacity)) k t j (h .entries) u (omega (arith, h .enough)) in
+        record {
+          sound = h .sound;
+          below = h .below;
+          there = rw (v .long) (h .there);
+          block = omega (arith, entry-is b l j i h u v e, ltb-true (get b₀ (slot q (t - suc j))) (sh .capacity) o);
+          room = omega (arith, h .room);
+          places = omega (arith, v .list, h .places);
+        }
+
+    pub popping-more : (b l : List ℕ) (j i : ℕ) (b′ l′ : List ℕ) → PopAsks b₀ sh q l₀ at t k → j < k → Popping b l j → i ≡ get b (slot q (t - 1 - j))
+        → Gave b sh q l (at - j) (i ∷ []) b′ l′ → Popping b′ l′ (j + 1)
+    popping-more b l j i b′ l′ h u v e g =
+        let r = giving-more (reverse (tops b₀ q j t)) b l j i b′ l′ (h .room) (h .places) u v g in
+        let x : reverse (tops b₀ q (j + 1) t) ≡ i ∷ reverse (tops b₀ q j t) =
+        ap (λ z. reverse (tops b₀ q z t)) (add-one j) ∙ popped-more b₀ q j t (omega (arith, h .enough)) ∙ ap (λ z. z ∷ reverse (tops b₀ q j t)) (sym (entry-is b l j i h u v e)) in
+        rw x r
+
+    pub popping-done : (b l : List ℕ) (j : ℕ) → k ≤ j → Popping b l j → Gave b₀ sh q l₀ at (reverse (tops b₀ q k t)) b l
+    popping-done b l j h v =
+        let e : j ≡ k = omega (arith, v .within) in
+        rw e at (v .gave)
+
+  -- ---- new ones
+  module _ (a : ℕ) where
+    abbrev pub Carving : List ℕ → List ℕ → ℕ → Type 0
+    Carving b l j = Giving b₀ sh q l₀ at k (downs a j) b l j
+
+    pub carving-none : Carving b₀ l₀ 0
+    carving-none = giving-none
+
+    pub carving-asks : (b l : List ℕ) (j : ℕ) → FreshAsks b₀ sh q l₀ at a k → j < k → Carving b l j → GiveAsks b sh q l (at - j) (a + j)
+    carving-asks b l j h u v =
+        record {
+          sound = h .sound;
+          below = h .below;
+          there = rw (v .long) (h .there);
+          block = omega (arith, h .blocks);
+          room = omega (arith, h .room);
+          places = omega (arith, v .list, h .places);
+        }
+
+    pub carving-more : (b l : List ℕ) (j : ℕ) (b′ l′ : List ℕ) → FreshAsks b₀ sh q l₀ at a k → j < k → Carving b l j
+        → Gave b sh q l (at - j) ((a + j) ∷ []) b′ l′ → Carving b′ l′ (j + 1)
+    carving-more b l j b′ l′ h u v g =
+        let r = giving-more (downs a j) b l j (a + j) b′ l′ (h .room) (h .places) u v g in
+        let x : downs a (j + 1) ≡ (a + j) ∷ downs a j = ap (downs a) (add-one j) in
+        rw x r
+
+    pub carving-done : (b l : List ℕ) (j : ℕ) → k ≤ j → Carving b l j → Gave b₀ sh q l₀ at (downs a k) b l
+    carving-done b l j h v =
+        let e : j ≡ k = omega (arith, v .within) in
+        rw e at (v .gave)
+
+-- ---- both
+module _ (b : List ℕ) (sh : Shape) (q : ℕ) (l : List ℕ) (at t p a r : ℕ) where
+  length-popped : p ≤ t → length (reverse (tops b q p t)) ≡ p
+  length-popped h = omega (arith, length-reverse (tops b q p t), length-tops b q p t)
+
+  pub both-done : (b₁ l₁ b₂ l₂ : List ℕ) → BothAsks b sh q l at t p a r → Gave b sh q l at (reverse (tops b q p t)) b₁ l₁ → Gave b₁ sh q l₁ (at - p) (downs a r) b₂ l₂
+      → Gave b sh q l at (downs a r ++ reverse (tops b q p t)) b₂ l₂
+  both-done b₁ l₁ b₂ l₂ h g₁ g₂ =
+      let e = length-popped (h .enough) in
+      gave-more b sh q l at (reverse (tops b q p t)) (downs a r) b₁ l₁ b₂ l₂ (omega (arith, length-downs a r, h .room)) (h .places) g₁ (rw e g₂)
+
+-- ---- as many as are wanted
+wanted : (m f p : ℕ) → p ≡ min m f → m - p ≡ m - f
+wanted m f p e = omega arith
+
+left-over : (m f p : ℕ) → p ≡ min m f → f - p ≡ f - m
+left-over m f p e = omega arith
+
+module _ (b : List ℕ) (sh : Shape) (q : ℕ) (l : List ℕ) (at m f k p r : ℕ) (ef : f ≡ get b (page free q)) (ek : k ≡ get b (page carved q)) (ep : p ≡ min m f) (er : r ≡ min (m - p) (sh .capacity - k)) where
+  now-is : r ≡ min (m - f) (sh .capacity - k)
+  now-is = er ∙ ap (λ z. min z (sh .capacity - k)) (wanted m f p ep)
+
+  latest-is : latest b sh q m ≡ downs k r ++ reverse (tops b q p f)
+  unfolding latest
+  latest-is = rw (← ef, ← ek) (ap (λ z. downs k z ++ reverse (tops b q m f)) (sym now-is) ∙ ap (λ z. downs k r ++ reverse z) (sym (tops-cut b q p m f ep)))
+
+  latest-length : length (latest b sh q m) ≡ p + r
+  latest-length = ap length latest-is ∙ omega (arith, length-append (downs k r) (reverse (tops b q p f)), length-downs k r, length-reverse (tops b q p f), length-tops b q p f)
+
+  pub draw-asks : DrawAsks b sh q l at m → BothAsks b sh q l at f p k r
+  draw-asks h =
+      record {
+        sound = h .sound;
+        below = h .below;
+        there = h .there;
+        slots = omega (arith, h .free, h .carved, h .sound .few);
+        enough = omega arith;
+        entries = every-below k (sh .capacity) (omega (arith, h .carved)) (tops b q p f) (tops-fewer b q (λ i. ltb i k) p m f (omega arith) (rw (ef, ek) (h .entries)));
+        blocks = omega (arith, h .carved);
+        room = omega (arith, h .room, latest-length);
+        places = h .places;
+      }
+
+  pub draw-done : (b₁ l₁ b₂ b₃ : List ℕ) → DrawAsks b sh q l at m → Gave b sh q l at (downs k r ++ reverse (tops b q p f)) b₁ l₁ → b₂ ≡ put b₁ (page free q) (f - p) → b₃ ≡ put b₂ (page carved q) (k + r)
+      → Drawn (p + r) b₃ l₁ b sh q l at m
+  unfolding draw
+  draw-done b₁ l₁ b₂ b₃ h g e₂ e₃ =
+      let xs = latest b sh q m in
+      let outs : b₁ ≡ marks b q 1 xs = g .outs ∙ ap (marks b q 1) (sym latest-is) in
+      let left : f - p ≡ get b (page free q) - m = left-over m f p ep ∙ ap (λ z. z - m) ef in
+      let more : k + r ≡ get b (page carved q) + carvedNow b sh q m = rw (← ef, ← ek) (ap (λ z. k + z) now-is) in
+      record {
+        count = sym latest-length;
+        meta = e₃ ∙ ap (λ z. put z (page carved q) (k + r)) (e₂ ∙ ap (λ z. put z (page free q) (f - p)) outs ∙ ap (put (marks b q 1 xs) (page free q)) left) ∙ ap (put (put (marks b q 1 xs) (page free q) (get b (page free q) - m)) (page carved q)) more;
+        list = g .list ∙ ap (λ z. spliced l (at - length z) (map (wordOf sh q) z)) (sym latest-is);
+      }

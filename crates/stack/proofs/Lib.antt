@@ -1,0 +1,3 @@
+pub mod BlockSteps
+pub mod DrawSteps
+pub mod PushSteps

@@ -1,0 +1,49 @@
+// A block's word and index, and whether a page has one to give.
+ghost use mathlib.Core.Path.{_≡_};
+ghost use Prim.Native.Nat.{_+_, _≤_};
+ghost use lib.ListN.{length};
+ghost use Rattle.fields.specs.Field.{words};
+ghost use Rattle.model.specs.Page.{wordOf};
+ghost use Rattle.pages.specs.Stack.{hasMore, indexOf};
+ghost use Rattle.pages.specs.Asks.{WordAsks, IndexAsks};
+use classes::Shape;
+use words::Word;
+
+// Granules of a page.
+const PAGE_GRANULES: u32 = 4096;
+
+// The word of block i of the run at q.
+pub fn word_of(shape: Shape, q: u32, i: u32) -> u32
+    requires { ⌜ WordAsks shape q i ⌝ }
+    ensures { λ r. ⌜ r ≡ wordOf shape q i ⌝ }
+{
+    let word = Word::block(
+        shape.kind,
+        q * PAGE_GRANULES + (shape.header + i * shape.block),
+    );
+    word.bits
+}
+
+// The block of the run at q that a word names; 0 for a word below the run's blocks.
+pub fn index_of(shape: Shape, q: u32, w: u32) -> u32
+    requires { ⌜ IndexAsks shape q ⌝ }
+    ensures { λ r. ⌜ r ≡ indexOf shape q w ⌝ }
+{
+    let start = q * PAGE_GRANULES + shape.header;
+    let word = Word::of(w);
+    let granule = word.granule();
+    if granule < start {
+        return 0;
+    }
+    (granule - start) / shape.block
+}
+
+pub fn has_more(meta: &[u32], shape: Shape, q: u32) -> bool
+    requires { ⌜ words (q + 1) ≤ length (now meta) ⌝ }
+    ensures { λ r. ⌜ r ≡ hasMore (now (meta .entry)) shape q ⌝ }
+{
+    if fields::page::free(meta, q) != 0 {
+        return true;
+    }
+    fields::page::carved(meta, q) < shape.capacity
+}

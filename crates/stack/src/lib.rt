@@ -1,0 +1,10 @@
+// A page's blocks: their words, the stack of the free ones, and those given out and taken back.
+mod blocks;
+mod draw;
+mod push;
+
+pub use blocks::has_more;
+pub use blocks::index_of;
+pub use blocks::word_of;
+pub use draw::draw_blocks;
+pub use push::push_list;
