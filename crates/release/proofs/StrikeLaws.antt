@@ -15,6 +15,7 @@ use Rattle.words.specs.Word.{kindOf}
 use Rattle.classes.specs.declared.Shape.{Shape}
 use Rattle.classes.specs.Sound.{Sound}
 use Rattle.fields.specs.Field.{Field, arena, page, out, frontier, owner, first, get, put, ok, same, words}
+use Rattle.fields.specs.Ranges.{maxPages}
 use Rattle.fields.proofs.Laws.{and-left, and-right, get-put-same, get-put-other, put-put-same, put-get, length-put}
 use Rattle.fields.proofs.Changes.{Changes, changes-none, changes-trans, same-eq}
 use Rattle.model.specs.Lists.{every, elem, distinct}
@@ -167,27 +168,32 @@ module _ (n c : ℕ) (sh : Shape) (s : Sound sh) where
   struck-changes b [] = changes-none isBit b
   struck-changes b (w ∷ ws) = changes-from b w ws (struck-changes (put b (bitOf b sh w) 0) ws) (outAt n b c sh w) refl
 
-  bit-kept : (b b′ : List ℕ) → Changes isBit b b′ → (w : ℕ) → hasBit n b′ sh w ≡ hasBit n b sh w
+  pub bit-kept : (b b′ : List ℕ) → Changes isBit b b′ → (w : ℕ) → hasBit b′ sh w ≡ hasBit b sh w
   unfolding hasBit
-  bit-kept b b′ h w = rw (start-kept b b′ h w)
+  bit-kept b b′ h w = rw (start-kept b b′ h w, h .long)
 
-  has-of-out : (b : List ℕ) (w : ℕ) → outAt n b c sh w ≡ true → hasBit n b sh w ≡ true
+  has-of-out : (b : List ℕ) (w : ℕ) → n ≤ maxPages → leb (words n) (length b) ≡ true → outAt n b c sh w ≡ true → hasBit b sh w ≡ true
   unfolding hasBit
-  has-of-out b w o = rw (lt-ltb _ _ (page-of-out b w o), lt-ltb _ _ (start-of-out b w o), lt-ltb _ _ (index-of-out b w o))
+  has-of-out b w hn hb o =
+      let l = leb-true (words n) (length b) hb in
+      let p : words (pageAt w + 1) ≤ length b = omega (arith, page-of-out b w o) in
+      let q : startOf b w < maxPages = omega (arith, start-of-out b w o) in
+      let r : words (startOf b w + 1) ≤ length b = omega (arith, start-of-out b w o) in
+      rw (le-leb _ _ p, lt-ltb _ _ q, le-leb _ _ r, lt-ltb _ _ (index-of-out b w o))
 
-  bits-from : (b : List ℕ) (w : ℕ) (ws : List ℕ)
-      → every (hasBit n (put b (bitOf b sh w) 0) sh) (take (struckCount n (put b (bitOf b sh w) 0) c sh ws) ws) ≡ true
-      → (t : Bool) → outAt n b c sh w ≡ t → every (hasBit n b sh) (take (struckCount n b c sh (w ∷ ws)) (w ∷ ws)) ≡ true
+  bits-from : (b : List ℕ) (w : ℕ) (ws : List ℕ) → n ≤ maxPages → leb (words n) (length b) ≡ true
+      → every (hasBit (put b (bitOf b sh w) 0) sh) (take (struckCount n (put b (bitOf b sh w) 0) c sh ws) ws) ≡ true
+      → (t : Bool) → outAt n b c sh w ≡ t → every (hasBit b sh) (take (struckCount n b c sh (w ∷ ws)) (w ∷ ws)) ≡ true
   unfolding struckCount
-  bits-from b w ws z false o = rw o
-  bits-from b w ws z true o =
-      rw (o, has-of-out b w o)
+  bits-from b w ws hn hb z false o = rw o
+  bits-from b w ws hn hb z true o =
+      rw (o, has-of-out b w hn hb o)
       (sym (every-same _ _ (take (struckCount n (put b (bitOf b sh w) 0) c sh ws) ws) (bit-kept b (put b (bitOf b sh w) 0) (strike-changes b w o))) ∙ z)
 
-  has-bits : (b : List ℕ) (ws : List ℕ) → every (hasBit n b sh) (take (struckCount n b c sh ws) ws) ≡ true
+  has-bits : (b : List ℕ) (ws : List ℕ) → n ≤ maxPages → leb (words n) (length b) ≡ true → every (hasBit b sh) (take (struckCount n b c sh ws) ws) ≡ true
   unfolding struckCount
-  has-bits b [] = refl
-  has-bits b (w ∷ ws) = bits-from b w ws (has-bits (put b (bitOf b sh w) 0) ws) (outAt n b c sh w) refl
+  has-bits b [] hn hb = refl
+  has-bits b (w ∷ ws) hn hb = bits-from b w ws hn hb (has-bits (put b (bitOf b sh w) 0) ws hn (rw length-put hb)) (outAt n b c sh w) refl
 
-  pub restorable : (b : List ℕ) (ws : List ℕ) → every (hasBit n (struck n b c sh ws) sh) (take (struckCount n b c sh ws) ws) ≡ true
-  restorable b ws = every-same _ _ (take (struckCount n b c sh ws) ws) (bit-kept b (struck n b c sh ws) (struck-changes b ws)) ∙ has-bits b ws
+  pub restorable : (b : List ℕ) (ws : List ℕ) → n ≤ maxPages → leb (words n) (length b) ≡ true → every (hasBit (struck n b c sh ws) sh) (take (struckCount n b c sh ws) ws) ≡ true
+  restorable b ws hn hb = every-same _ _ (take (struckCount n b c sh ws) ws) (bit-kept b (struck n b c sh ws) (struck-changes b ws)) ∙ has-bits b ws hn hb

@@ -37,17 +37,13 @@ pub record SpotAsks (b : List ℕ) (c : ℕ) (sh : Shape) : Type 0 where
   pub sound : Sound sh
   pub row : rowFair b c ≡ true
 
--- a run of the class, q its first page
-pub record RunAsks (n : ℕ) (b : List ℕ) (c : ℕ) (sh : Shape) (q : ℕ) : Type 0 where
+pub record FairAsks (b : List ℕ) (c : ℕ) (sh : Shape) (q : ℕ) : Type 0 where
   pub known : c < 76
   pub sound : Sound sh
-  pub few : n ≤ maxPages
-  pub long : words n ≤ length b
-  pub inside : q + sh .pages ≤ n
+  pub there : words (q + 1) ≤ length b
 
--- that run, once the words that parking reads are in their ranges
-pub record ParkingAsks (n : ℕ) (b : List ℕ) (c : ℕ) (sh : Shape) (q : ℕ) : Type 0 where
-  pub run : RunAsks n b c sh q
-  pub low : get b (arena frontier) ≤ n
-  pub links : linksFair b q ≡ true
+-- once the page's words and the row's have passed
+pub record SpotFairAsks (b : List ℕ) (c : ℕ) (sh : Shape) (m q : ℕ) : Type 0 where
+  pub run : FairAsks b c sh q
+  pub page : pageFair b sh m q ≡ true
   pub row : rowFair b c ≡ true

@@ -8,7 +8,7 @@ ghost use Rattle.fields.specs.Field.{words};
 ghost use Rattle.fields.specs.Ranges.{maxParked};
 ghost use Rattle.pages.specs.Asks.{RowAsks};
 ghost use Rattle.heap.specs.Release.{pageFair, rowFair, keepsEmpty, spotOf, spotAt, spotFair, releaseFair};
-ghost use Rattle.release.specs.Fair.{blocksFair, flagsFair, linksFair, storeFair, PageAsks, SpotAsks, RunAsks};
+ghost use Rattle.release.specs.Fair.{blocksFair, flagsFair, linksFair, storeFair, PageAsks, SpotAsks, FairAsks, SpotFairAsks};
 use classes::Shape;
 use pages::Park;
 
@@ -121,4 +121,34 @@ pub fn spot_at(meta: &[u32], c: u32, shape: Shape) -> u32
         pages::store_count(meta, c, Park::Empty),
         pages::store_count(meta, c, Park::Cold),
     )
+}
+
+// Where the page would go to the arena, the words that giving reads.
+fn spot_fair(meta: &[u32], n: u32, c: u32, shape: Shape, m: usize, q: u32) -> bool
+    requires { ⌜ SpotFairAsks (now meta) c shape m q ⌝ }
+    ensures { λ r. ⌜ r ≡ spotFair n (now (meta .entry)) c shape m q ⌝ }
+{
+    let out = fields::page::carved(meta, q) - fields::page::free(meta, q);
+    if out as usize != m {
+        return true;
+    }
+    if spot_at(meta, c, shape) != 2 {
+        return true;
+    }
+    arena::give::give_fair(meta, n, shape.pages)
+}
+
+pub fn release_fair(meta: &[u32], n: u32, c: u32, shape: Shape, m: usize, q: u32) -> bool
+    requires { ⌜ FairAsks (now meta) c shape q ⌝ }
+    ensures { λ r. ⌜ r ≡ releaseFair n (now (meta .entry)) c shape m q ⌝ }
+{
+    if fields::arena::frontier(meta) > n {
+        return false;
+    }
+    if page_fair(meta, shape, m, q) {
+        if row_fair(meta, c) {
+            return spot_fair(meta, n, c, shape, m, q);
+        }
+    }
+    false
 }

@@ -1,18 +1,19 @@
 // Number 10 in one pass: each listed block's out bit is cleared, up to the first that is not out; and the bits are set again.
 ghost use mathlib.Core.Path.{_≡_};
-ghost use mathlib.Core.Bool.{cond};
+ghost use mathlib.Core.Bool.{true, cond};
 ghost use Prim.Native.Nat.{_≤_, _<_};
-ghost use lib.ListN.{length};
+ghost use lib.ListN.{length, take};
 ghost use Rattle.classes.specs.Sound.{Sound};
 ghost use Rattle.fields.specs.Field.{put};
 ghost use Rattle.fields.specs.Ranges.{maxPages};
 ghost use Rattle.words.specs.Word.{granuleOf};
 ghost use Rattle.heap.specs.Release.{pageAt};
-ghost use Rattle.release.specs.Strike.{blockAt, runAt};
-ghost use Rattle.release.specs.Asks.{InAsks, ClassAsks, StruckOne, StruckIn, Struck};
+ghost use Rattle.release.specs.Strike.{blockAt, runAt, restored, unstruck};
+ghost use Rattle.release.specs.Asks.{InAsks, ClassAsks, StruckOne, StruckIn, Struck, hasBit, RestoreAsks, RestAsks, Rest};
 use super::Found;
 use classes::Shape;
 use pages::whole;
+use stack::index_of;
 use words::Word;
 
 // A word's granule, and the page that has it.
@@ -66,7 +67,7 @@ fn strike_one(meta: &mut [u32], shape: Shape, q: u32, w: u32) -> bool
 }
 
 // The listed words from place i on are struck, up to the first that is not out in the run at q: its place.
-fn strike_run(meta: &mut [u32], shape: Shape, q: u32, list: &[u32], from: usize) -> usize
+pub fn strike_run(meta: &mut [u32], shape: Shape, q: u32, list: &[u32], from: usize) -> usize
     requires { ⌜ InAsks (now meta) shape q ⌝ }
     requires { ⌜ from ≤ length (now list) ⌝ }
     ensures { λ r. ⌜ StruckIn r (now (meta .exit)) (now (meta .entry)) shape q (now (list .entry)) from ⌝ }
@@ -83,7 +84,7 @@ fn strike_run(meta: &mut [u32], shape: Shape, q: u32, list: &[u32], from: usize)
 }
 
 // The first page of the class's run that has the word's granule.
-fn run_of(meta: &[u32], n: u32, c: u32, shape: Shape, w: u32) -> Found
+pub fn run_of(meta: &[u32], n: u32, c: u32, shape: Shape, w: u32) -> Found
     requires { ⌜ ClassAsks n (now meta) c shape ⌝ }
     ensures { λ r. ⌜ r ≡ runAt n (now (meta .entry)) shape c w ⌝ }
 {
@@ -109,7 +110,7 @@ fn run_of(meta: &[u32], n: u32, c: u32, shape: Shape, w: u32) -> Found
 }
 
 // As `strike_run`, in the class's runs: the place of the first word that is not out in the class.
-fn strike(meta: &mut [u32], n: u32, c: u32, shape: Shape, list: &[u32], from: usize) -> usize
+pub fn strike(meta: &mut [u32], n: u32, c: u32, shape: Shape, list: &[u32], from: usize) -> usize
     requires { ⌜ ClassAsks n (now meta) c shape ⌝ }
     requires { ⌜ from ≤ length (now list) ⌝ }
     ensures { λ r. ⌜ Struck r (now (meta .exit)) n (now (meta .entry)) c shape (now (list .entry)) from ⌝ }
@@ -127,4 +128,37 @@ fn strike(meta: &mut [u32], n: u32, c: u32, shape: Shape, list: &[u32], from: us
         i = next;
     }
     i
+}
+
+// The out bit of a struck block is set again.
+fn restore(meta: &mut [u32], shape: Shape, w: u32)
+    requires { ⌜ Sound shape ⌝ }
+    requires { ⌜ hasBit (now meta) shape w ≡ true ⌝ }
+    ensures { λ _. ⌜ now (meta .exit) ≡ restored (now (meta .entry)) shape w ⌝ }
+{
+    let q = fields::page::first(meta, page_at(w));
+    fields::out::set_bit(meta, q, index_of(shape, q, w), 1);
+}
+
+// The first `count` listed blocks, which were struck, are out again.
+pub fn unstrike(meta: &mut [u32], shape: Shape, list: &[u32], count: usize)
+    requires { ⌜ count ≤ length (now list) ⌝ }
+    requires { ⌜ RestoreAsks (now meta) shape (take count (now list)) ⌝ }
+    ensures { λ _. ⌜ now (meta .exit) ≡ unstruck (now (meta .entry)) shape (take count (now (list .entry))) ⌝ }
+{
+    let mut i = count;
+    while i != 0 {
+        i -= 1;
+        restore(meta, shape, list[i]);
+    }
+}
+
+// The blocks before place i are struck: whether those from there on are out too (11) or not (10). All are out again.
+pub fn refuse_rest(meta: &mut [u32], n: u32, c: u32, shape: Shape, list: &[u32], from: usize) -> u32
+    requires { ⌜ RestAsks n (now meta) c shape (now list) from ⌝ }
+    ensures { λ r. ⌜ Rest r (now (meta .exit)) n (now (meta .entry)) c shape (now (list .entry)) from ⌝ }
+{
+    let count = strike(meta, n, c, shape, list, from);
+    unstrike(meta, shape, list, count);
+    if count == list.len() { 11 } else { 10 }
 }
