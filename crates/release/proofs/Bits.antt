@@ -21,6 +21,7 @@ use Rattle.pages.specs.Runs.{ofRun, whole}
 use Rattle.pages.specs.Stack.{blocksFrom, indexOf}
 use Rattle.heap.specs.Release.{pageAt, startOf, outIn, inRunOf, outAt}
 use Rattle.release.specs.Strike.{isBlock, bitIn, bitOf}
+use Rattle.release.specs.Asks.{hasBit}
 
 -- ---- a change of out bits
 abbrev pub isBit : Field → Bool
@@ -48,6 +49,10 @@ module _ (b b′ : List ℕ) (h : Changes isBit b b′) where
   pub in-run-kept : (n : ℕ) (sh : Shape) (c w : ℕ) → inRunOf n b′ sh c w ≡ inRunOf n b sh c w
   unfolding inRunOf
   in-run-kept n sh c w = rw (start-kept w, h .kept (arena frontier) refl refl, whole-kept n sh c (startOf b w))
+
+  pub bit-kept : (sh : Shape) (w : ℕ) → hasBit b′ sh w ≡ hasBit b sh w
+  unfolding hasBit
+  bit-kept sh w = rw (start-kept w, h .long)
 
 -- ---- a word's block, and its bit
 pub out-in : (b : List ℕ) (sh : Shape) (q w : ℕ) → outIn b sh q w ≡ (isBlock sh q w && eqb (get b (bitIn sh q w)) 1)

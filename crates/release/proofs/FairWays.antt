@@ -16,11 +16,12 @@ use Rattle.classes.specs.Sound.{Sound}
 use Rattle.fields.specs.Field.{arena, class, page, frontier, partial, next, prev, free, carved, listed, virgin, get}
 use Rattle.fields.specs.Ranges.{maxParked}
 use Rattle.fields.proofs.Laws.{and-left, and-right}
+use Rattle.arena.specs.Fair.{giveFair}
 use Rattle.pages.specs.declared.Park.{Park}
 use Rattle.pages.specs.declared.Park.the-variants.{Empty, Cold}
 use Rattle.pages.specs.Links.{top, tally}
-use Rattle.heap.specs.Release.{pageFair, rowFair, keepsEmpty, spotOf, spotAt}
-use Rattle.release.specs.Fair.{blocksFair, flagsFair, linksFair, storeFair}
+use Rattle.heap.specs.Release.{pageFair, rowFair, keepsEmpty, spotOf, spotAt, spotFair, releaseFair}
+use Rattle.release.specs.Fair.{blocksFair, flagsFair, linksFair, storeFair, FairAsks, SpotFairAsks}
 
 leb-sub : (m x y : ℕ) → y ≤ x → leb m (x - y) ≡ leb (y + m) x
 leb-sub m x y h =
@@ -64,6 +65,19 @@ module _ (b : List ℕ) (sh : Shape) (m q : ℕ) where
   page-parts =
       sym (and-assoc (leb (get b (page carved q)) (sh .capacity)) (leb (get b (page free q) + m) (get b (page carved q))) (flagsFair b q && linksFair b q)
       ∙ ap (λ t. leb (get b (page carved q)) (sh .capacity) && (leb (get b (page free q) + m) (get b (page carved q)) && t)) (and-assoc (leb (get b (page listed q)) 1) (leb (get b (page virgin q)) 1) (linksFair b q)))
+
+  module _ (e : pageFair b sh m q ≡ true) where
+    parts : (blocksFair b sh m q && (flagsFair b q && linksFair b q)) ≡ true
+    parts = sym page-parts ∙ e
+
+    pub room-left : get b (page free q) + m ≤ get b (page carved q)
+    room-left = leb-true (get b (page free q) + m) (get b (page carved q)) (and-right (leb (get b (page carved q)) (sh .capacity)) _ (and-left (blocksFair b sh m q) _ parts))
+
+    pub carved-low : get b (page carved q) ≤ sh .capacity
+    carved-low = leb-true (get b (page carved q)) (sh .capacity) (and-left _ _ (and-left (blocksFair b sh m q) _ parts))
+
+    pub links-fair : linksFair b q ≡ true
+    links-fair = and-right (flagsFair b q) _ (and-right (blocksFair b sh m q) _ parts)
 
   pub no-blocks : (r : Bool) → r ≡ blocksFair b sh m q → r ≡ false → false ≡ pageFair b sh m q
   no-blocks r e h = rw page-parts (rw (← e, h))
@@ -140,3 +154,46 @@ spot-there b c sh x y e k r h = h ∙ rw (e, k)
 
 pub empties-low : (b : List ℕ) (c x : ℕ) → x ≡ get b (class (tally Empty) c) → rowFair b c ≡ true → x ≤ maxParked
 empties-low b c x e h = rw e (count-low b c Empty h)
+
+-- ---- the give, and all tests
+module _ (n : ℕ) (b : List ℕ) (c : ℕ) (sh : Shape) (m q : ℕ) where
+  module _ (a : SpotFairAsks b c sh m q) (x y : ℕ) (j : x ≡ get b (page carved q)) (k : y ≡ get b (page free q)) where
+    room : y + m ≤ x
+    room = rw (j, k) (room-left b sh m q (a .page))
+
+    pub out-fits : y ≤ x
+    out-fits = omega (arith, room)
+
+    pub not-last : (x - y ≡ m → ⊥) → true ≡ spotFair n b c sh m q
+    unfolding spotFair
+    not-last d = rw (← j, ← k, ne-eqb (y + m) x (λ z. d (omega arith)))
+
+    pub give-last : (r : ℕ) (t : Bool) → x - y ≡ m → r ≡ spotAt b c sh → r ≡ 2 → t ≡ giveFair n b (sh .pages) → t ≡ spotFair n b c sh m q
+    unfolding spotFair
+    give-last r t d e h g = rw (← j, ← k, eq-eqb (y + m) x (omega (arith, room)), ← e, eq-eqb r 2 h) g
+
+  pub not-given : (r : ℕ) → r ≡ spotAt b c sh → (r ≡ 2 → ⊥) → true ≡ spotFair n b c sh m q
+  unfolding spotFair
+  not-given r e h = rw (← e, ne-eqb r 2 h) (simp and-false)
+
+  module _ (f : ℕ) (e : f ≡ get b (arena frontier)) where
+    pub above-arena : n < f → false ≡ releaseFair n b c sh m q
+    unfolding releaseFair
+    above-arena h = rw (← e, lt-leb f n h)
+
+    module _ (p : Bool) (j : p ≡ pageFair b sh m q) where
+      pub no-page : p ≡ false → false ≡ releaseFair n b c sh m q
+      unfolding releaseFair
+      no-page h = rw (← j, h) (simp and-false)
+
+      module _ (r : Bool) (h : p ≡ true) (k : r ≡ rowFair b c) where
+        pub no-row : r ≡ false → false ≡ releaseFair n b c sh m q
+        unfolding releaseFair
+        no-row l = rw (← k, l) (simp and-false)
+
+        pub spot-last : (t : Bool) → f ≤ n → r ≡ true → t ≡ spotFair n b c sh m q → t ≡ releaseFair n b c sh m q
+        unfolding releaseFair
+        spot-last t i l g = rw (← e, le-leb f n i, ← j, h, ← k, l) g
+
+pub spot-asks : (b : List ℕ) (c : ℕ) (sh : Shape) (m q : ℕ) → FairAsks b c sh q → (p r : Bool) → p ≡ pageFair b sh m q → p ≡ true → r ≡ rowFair b c → r ≡ true → SpotFairAsks b c sh m q
+spot-asks b c sh m q a p r j h k l = record { run = a; page = sym j ∙ h; row = sym k ∙ l }

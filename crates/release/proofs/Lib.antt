@@ -5,3 +5,7 @@ pub mod FairWays
 pub mod StrikeLaws
 pub mod RunLaws
 pub mod Steps
+pub mod Restoring
+pub mod Parking
+pub mod Backing
+pub mod Releasing

@@ -56,7 +56,7 @@ module _ (n c : ℕ) (sh : Shape) (s : Sound sh) (q : ℕ) where
         omega (arith, suc-mul (indexOf sh q w) (sh .block), from-block sh q w e, at-block sh q w e, s .fits, s .wide)
 
   module _ (b : List ℕ) (h : whole n b sh c q ≡ true) where
-    within-arena : q + sh .pages ≤ n
+    pub within-arena : q + sh .pages ≤ n
     unfolding whole
     within-arena = leb-true (q + sh .pages) n (and-left _ _ h)
 
@@ -99,7 +99,7 @@ module _ (n c : ℕ) (sh : Shape) (s : Sound sh) (q : ℕ) where
     unfolding outAt
     run-out w o = rw (run-start w o, block-in-run w (is-block w o), o)
 
-    run-changes : (w : ℕ) → outIn b sh q w ≡ true → Changes isBit b (put b (bitIn sh q w) 0)
+    pub run-changes : (w : ℕ) → outIn b sh q w ≡ true → Changes isBit b (put b (bitIn sh q w) 0)
     run-changes w o = put-bit b q (indexOf sh q w) 0 (omega (arith, below-capacity sh q w (is-block w o), s .few))
 
     whole-after : (w : ℕ) → outIn b sh q w ≡ true → whole n (put b (bitIn sh q w) 0) sh c q ≡ true

@@ -80,7 +80,7 @@ pub record ClassInv (n : ℕ) (b : List ℕ) (c : ℕ) (sh : Shape) (ws : List �
   pub answer : i + struckCount n b′ c sh (drop i ws) ≡ from + struckCount n b c sh (drop from ws)
   pub left : struck n b′ c sh (drop i ws) ≡ struck n b c sh (drop from ws)
 
-count-within : (b : List ℕ) (sh : Shape) (q : ℕ) (ws : List ℕ) → countIn b sh q ws ≤ length ws
+pub count-within : (b : List ℕ) (sh : Shape) (q : ℕ) (ws : List ℕ) → countIn b sh q ws ≤ length ws
 unfolding countIn
 count-within b sh q [] = omega arith
 count-within b sh q (w ∷ ws) = by (outIn b sh q w) (count-within (put b (bitIn sh q w) 0) sh q ws)
@@ -99,7 +99,7 @@ none-out b sh q w ws e = by (outIn b sh q w) refl
     by false o = o
 
 module _ (n : ℕ) (b : List ℕ) (c : ℕ) (sh : Shape) where
-  run-whole : (w : ℕ) → inRunOf n b sh c w ≡ true → whole n b sh c (startOf b w) ≡ true
+  pub run-whole : (w : ℕ) → inRunOf n b sh c w ≡ true → whole n b sh c (startOf b w) ≡ true
   unfolding inRunOf
   run-whole w e = and-right (ltb (pageAt w) (startOf b w + sh .pages)) _ (and-right (leb (startOf b w) (pageAt w)) _ (and-right (ltb (pageAt w) (get b (arena frontier))) _ (and-right (ltb (pageAt w) n) _ e)))
 

@@ -25,7 +25,7 @@ use Rattle.pages.specs.Stack.{indexOf}
 use Rattle.heap.specs.Release.{pageAt, startOf, outIn, inRunOf, outAt}
 use Rattle.release.specs.Strike.{isBlock, bitIn, bitOf, struckCount, struck, restored, unstruck}
 use Rattle.release.specs.Asks.{hasBit}
-use Rattle.release.proofs.Bits.{isBit, put-bit, every-same, start-kept, in-run-kept, out-in, below-capacity, one-word}
+use Rattle.release.proofs.Bits.{isBit, put-bit, every-same, start-kept, in-run-kept, out-in, below-capacity, one-word, bit-kept}
 
 -- ---- tautologies
 and-swap : (a x y : Bool) → (a && (x && y)) ≡ (x && (a && y))
@@ -168,10 +168,6 @@ module _ (n c : ℕ) (sh : Shape) (s : Sound sh) where
   struck-changes b [] = changes-none isBit b
   struck-changes b (w ∷ ws) = changes-from b w ws (struck-changes (put b (bitOf b sh w) 0) ws) (outAt n b c sh w) refl
 
-  pub bit-kept : (b b′ : List ℕ) → Changes isBit b b′ → (w : ℕ) → hasBit b′ sh w ≡ hasBit b sh w
-  unfolding hasBit
-  bit-kept b b′ h w = rw (start-kept b b′ h w, h .long)
-
   has-of-out : (b : List ℕ) (w : ℕ) → n ≤ maxPages → leb (words n) (length b) ≡ true → outAt n b c sh w ≡ true → hasBit b sh w ≡ true
   unfolding hasBit
   has-of-out b w hn hb o =
@@ -188,12 +184,12 @@ module _ (n c : ℕ) (sh : Shape) (s : Sound sh) where
   bits-from b w ws hn hb z false o = rw o
   bits-from b w ws hn hb z true o =
       rw (o, has-of-out b w hn hb o)
-      (sym (every-same _ _ (take (struckCount n (put b (bitOf b sh w) 0) c sh ws) ws) (bit-kept b (put b (bitOf b sh w) 0) (strike-changes b w o))) ∙ z)
+      (sym (every-same _ _ (take (struckCount n (put b (bitOf b sh w) 0) c sh ws) ws) (bit-kept b (put b (bitOf b sh w) 0) (strike-changes b w o) sh)) ∙ z)
 
-  has-bits : (b : List ℕ) (ws : List ℕ) → n ≤ maxPages → leb (words n) (length b) ≡ true → every (hasBit b sh) (take (struckCount n b c sh ws) ws) ≡ true
+  pub has-bits : (b : List ℕ) (ws : List ℕ) → n ≤ maxPages → leb (words n) (length b) ≡ true → every (hasBit b sh) (take (struckCount n b c sh ws) ws) ≡ true
   unfolding struckCount
   has-bits b [] hn hb = refl
   has-bits b (w ∷ ws) hn hb = bits-from b w ws hn hb (has-bits (put b (bitOf b sh w) 0) ws hn (rw length-put hb)) (outAt n b c sh w) refl
 
   pub restorable : (b : List ℕ) (ws : List ℕ) → n ≤ maxPages → leb (words n) (length b) ≡ true → every (hasBit (struck n b c sh ws) sh) (take (struckCount n b c sh ws) ws) ≡ true
-  restorable b ws hn hb = every-same _ _ (take (struckCount n b c sh ws) ws) (bit-kept b (struck n b c sh ws) (struck-changes b ws)) ∙ has-bits b ws hn hb
+  restorable b ws hn hb = every-same _ _ (take (struckCount n b c sh ws) ws) (bit-kept b (struck n b c sh ws) (struck-changes b ws) sh) ∙ has-bits b ws hn hb

@@ -11,8 +11,8 @@ use lib.ListN.{length}
 use Rattle.words.specs.Host.{discardZeroed}
 use Rattle.classes.specs.declared.Shape.{Shape}
 use Rattle.classes.specs.Sound.{Sound}
-use Rattle.fields.specs.Field.{arena, page, frontier, free, carved, words, get}
-use Rattle.fields.specs.Ranges.{maxPages}
+use Rattle.fields.specs.Field.{arena, class, page, frontier, coldCount, free, carved, words, get}
+use Rattle.fields.specs.Ranges.{maxPages, maxParked}
 use Rattle.model.specs.Lists.{every, isNil}
 use Rattle.model.specs.Page.{isMedium}
 use Rattle.model.specs.Release.{ofKind}
@@ -43,6 +43,13 @@ pub record ParkingAsks (b : List ℕ) (c : ℕ) (sh : Shape) (q : ℕ) : Type 0 
   pub low : words (get b (arena frontier)) ≤ length b
   pub links : linksFair b q ≡ true
   pub row : rowFair b c ≡ true
+
+pub record ColdAsks (b : List ℕ) (c : ℕ) (sh : Shape) (q : ℕ) : Type 0 where
+  pub known : c < 76
+  pub sound : Sound sh
+  pub below : q < maxPages
+  pub there : words (q + 1) ≤ length b
+  pub few : get b (class coldCount c) ≤ maxParked
 
 pub record BackAsks (b : List ℕ) (c : ℕ) (sh : Shape) (q : ℕ) (ws : List ℕ) : Type 0 where
   pub known : c < 76

@@ -5,12 +5,12 @@ ghost use Rattle.model.specs.Release.{coldFate};
 ghost use Rattle.pages.specs.Asks.{LinkAsks};
 ghost use Rattle.pages.specs.Stack.{indexOf};
 ghost use Rattle.heap.specs.Release.{unlisted, relisted, parkCold, parkAt, lastStep};
-ghost use Rattle.release.specs.Act.{coldVirgin, settleAt, ParkingAsks, BackAsks, SettleAsks, Parked};
+ghost use Rattle.release.specs.Act.{coldVirgin, settleAt, ParkingAsks, ColdAsks, BackAsks, SettleAsks, Parked};
+use super::fair::spot_at;
 use classes::Shape;
 use pages::Park;
 use words::Host;
 use words::Word;
-use super::fair::spot_at;
 
 // A page with none out leaves the partial list.
 fn unlist(meta: &mut [u32], c: u32, shape: Shape, q: u32)
@@ -50,7 +50,7 @@ fn cold_fate(shape: Shape) -> u32
 
 // A parked cold page is kept as it will come back: carved anew.
 fn park_cold(meta: &mut [u32], c: u32, shape: Shape, host: u32, q: u32)
-    requires { ⌜ ParkingAsks (now meta) c shape q ⌝ }
+    requires { ⌜ ColdAsks (now meta) c shape q ⌝ }
     ensures { λ _. ⌜ now (meta .exit) ≡ parkCold (now (meta .entry)) c shape host q ⌝ }
 {
     pages::carve_anew(meta, shape, q, cold_virgin(shape, host));
@@ -89,7 +89,15 @@ fn give_back(meta: &mut [u32], c: u32, shape: Shape, host: u32, q: u32, list: &[
 }
 
 // The arena is the last step.
-pub fn settle(meta: &mut [u32], n: u32, c: u32, shape: Shape, host: u32, q: u32, list: &[u32]) -> u32
+pub fn settle(
+    meta: &mut [u32],
+    n: u32,
+    c: u32,
+    shape: Shape,
+    host: u32,
+    q: u32,
+    list: &[u32],
+) -> u32
     requires { ⌜ SettleAsks n (now meta) c shape q (now list) ⌝ }
     ensures { λ r. ⌜ Parked r (now (meta .exit)) (lastStep shape q (settleAt (now (meta .entry)) c shape host q (map (indexOf shape q) (now (list .entry))))) ⌝ }
 {

@@ -3,7 +3,6 @@ ghost use mathlib.Core.Path.{_≡_};
 ghost use Rattle.heap.specs.Release.{releaseBlocks, releaseCall};
 ghost use Rattle.release.specs.Asks.{ClassAsks};
 ghost use Rattle.release.specs.Act.{RunAsks, Answered};
-use classes::Shape;
 use super::Found;
 use super::Released;
 use super::fair::release_fair;
@@ -13,9 +12,18 @@ use super::strike::refuse_rest;
 use super::strike::run_of;
 use super::strike::strike_run;
 use super::strike::unstrike;
+use classes::Shape;
 
 // Numbers 10, 11 and 13, for the run at q of the list's first word.
-fn release_run(meta: &mut [u32], n: u32, c: u32, shape: Shape, host: u32, q: u32, list: &[u32]) -> Released
+fn release_run(
+    meta: &mut [u32],
+    n: u32,
+    c: u32,
+    shape: Shape,
+    host: u32,
+    q: u32,
+    list: &[u32],
+) -> Released
     requires { ⌜ RunAsks n (now meta) c shape q (now list) ⌝ }
     ensures { λ r. ⌜ Answered r (now (meta .exit)) (releaseBlocks n (now (meta .entry)) c shape host (now (list .entry))) ⌝ }
 {
@@ -31,7 +39,14 @@ fn release_run(meta: &mut [u32], n: u32, c: u32, shape: Shape, host: u32, q: u32
 }
 
 // From number 7 on.
-pub fn release_blocks(meta: &mut [u32], n: u32, c: u32, shape: Shape, host: u32, list: &[u32]) -> Released
+pub fn release_blocks(
+    meta: &mut [u32],
+    n: u32,
+    c: u32,
+    shape: Shape,
+    host: u32,
+    list: &[u32],
+) -> Released
     requires { ⌜ ClassAsks n (now meta) c shape ⌝ }
     ensures { λ r. ⌜ Answered r (now (meta .exit)) (releaseBlocks n (now (meta .entry)) c shape host (now (list .entry))) ⌝ }
 {
@@ -49,7 +64,14 @@ pub fn release_blocks(meta: &mut [u32], n: u32, c: u32, shape: Shape, host: u32,
 }
 
 // From number 3 on.
-pub fn release_call(meta: &mut [u32], n: u32, c: u32, shape: Shape, host: u32, list: &[u32]) -> Released
+pub fn release_call(
+    meta: &mut [u32],
+    n: u32,
+    c: u32,
+    shape: Shape,
+    host: u32,
+    list: &[u32],
+) -> Released
     requires { ⌜ ClassAsks n (now meta) c shape ⌝ }
     ensures { λ r. ⌜ Answered r (now (meta .exit)) (releaseCall n (now (meta .entry)) c shape host (now (list .entry))) ⌝ }
 {
