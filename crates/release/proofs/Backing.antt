@@ -1,8 +1,8 @@
 -- The listed blocks come back to their page, and the arena is the last step. Assumes nothing.
-use Prim.Native.Nat.{ℕ, zero, suc, _+_, _-_, _*_, _≤_, _<_}
+use Prim.Native.Nat.{ℕ, zero, suc, _+_, _≤_, _<_}
 use native.Mathlib.Omega.{arith}
 use mathlib.Core.Bool.{Bool, true, false, cond, not, _&&_, _||_}
-use mathlib.Core.List.{List, [], _∷_, map}
+use mathlib.Core.List.{List, map}
 use mathlib.Core.Path.{_≡_, refl, sym, ap, _∙_}
 use lib.Dec.{eqb, ltb, leb}
 use lib.ListN.{length, length-map}
@@ -10,9 +10,8 @@ use borrow.Author.Tests.{leb-true, eqb-true, le-leb, lt-ltb, eq-eqb, ne-eqb}
 use Rattle.classes.specs.declared.Shape.{Shape}
 use Rattle.classes.specs.Sound.{Sound}
 use Rattle.fields.specs.Field.{Field, ArenaField, arena, class, page, region, off, frontier, state, holes, holePages, held, partial, empty, emptyCount, cold, coldCount, next, prev, free, carved, listed, virgin, get, put, words}
-use Rattle.fields.specs.Ranges.{maxPages, maxParked}
 use Rattle.fields.proofs.Laws.{and-left, and-right, get-put-same, length-put}
-use Rattle.fields.proofs.Changes.{Changes, changes-none, changes-trans, changes-mono}
+use Rattle.fields.proofs.Changes.{Changes}
 use Rattle.model.specs.Page.{isMedium}
 use Rattle.model.specs.Release.{coldFate}
 use Rattle.arena.specs.Fair.{recordFair, giveFair}
@@ -20,16 +19,16 @@ use Rattle.arena.specs.Calls.{given}
 use Rattle.arena.specs.Asks.{GiveIn}
 use Rattle.pages.specs.declared.Park.the-variants.{Empty, Cold}
 use Rattle.pages.specs.Asks.{LinkAsks, PushAsks}
-use Rattle.pages.specs.Links.{stow, top, tally}
+use Rattle.pages.specs.Links.{stow}
 use Rattle.pages.specs.Stack.{push, pushed, indexOf}
 use Rattle.pages.specs.Carve.{carveAnew}
 use Rattle.pages.proofs.Pushes.{length-push}
 use Rattle.pages.proofs.Frames.{changes-stow, changes-pushed}
-use Rattle.heap.specs.Release.{Released, pageFair, rowFair, relisted, released, unlisted, parkCold, parkAs, spotOf, spotAt, parkAt, spotFair, releaseFair, lastStep, keepsEmpty}
-use Rattle.release.specs.Fair.{blocksFair, flagsFair, linksFair}
+use Rattle.heap.specs.Release.{pageFair, rowFair, relisted, released, unlisted, parkCold, parkAs, spotOf, spotAt, parkAt, spotFair, releaseFair, lastStep, keepsEmpty}
+use Rattle.release.specs.Fair.{linksFair}
 use Rattle.release.specs.Act.{settleAt, coldVirgin, ParkingAsks, BackAsks, SettleAsks, Parked}
 use Rattle.release.proofs.FairWays.{room-left, carved-low, links-fair, head-low}
-use Rattle.release.proofs.Parking.{moves, unlisted-changes, relisted-changes, carve-changes}
+use Rattle.release.proofs.Parking.{unlisted-changes, relisted-changes, carve-changes}
 
 -- ---- the page with its blocks back: of the words that are tested, only FREE and VIRGIN are other ones
 abbrev onStack : Field → Bool

@@ -1,26 +1,22 @@
 -- What a change of out bits alone keeps, and what a struck block's bit tells of another word. Assumes nothing.
 --     start-kept, in-run-kept, out-in-kept, out-at-kept    the tests of number 10, on a book whose out bits may differ
-use Prim.Native.Nat.{ℕ, zero, suc, _+_, _-_, _*_, _/_, _%_, _^_, _≤_, _<_}
+use Prim.Native.Nat.{ℕ, _+_, _-_, _*_, _≤_, _<_}
 use native.Mathlib.Omega.{arith}
-use native.Mathlib.Nat.{div-add-mod'}
-use mathlib.Core.Bool.{Bool, true, false, cond, not, _&&_, and-assoc, true≢false}
+use mathlib.Core.Bool.{Bool, true, _&&_, and-assoc}
 use mathlib.Core.List.{List, [], _∷_}
 use mathlib.Core.Path.{_≡_, refl, sym, ap, _∙_}
-use lib.Dec.{eqb, ltb, leb}
-use lib.ListN.{length}
-use borrow.Author.Tests.{leb-true, ltb-true, eqb-true, eqb-false, lt-ltb, eq-eqb, ne-eqb, le-leb}
+use lib.Dec.{eqb, leb}
+use borrow.Author.Tests.{leb-true, ltb-true, eqb-true, lt-ltb}
 use Rattle.words.specs.Word.{kindOf, granuleOf}
 use Rattle.classes.specs.declared.Shape.{Shape}
-use Rattle.classes.specs.Sound.{Sound}
-use Rattle.fields.specs.Field.{Field, arena, page, out, frontier, owner, first, region, get, put, ok, same, words}
-use Rattle.fields.proofs.Laws.{and-left, and-right, get-put-same, get-put-other, length-put}
-use Rattle.fields.proofs.Changes.{Changes, changes-none, changes-put, changes-trans, same-eq}
+use Rattle.fields.specs.Field.{Field, arena, page, out, frontier, owner, first, region, get, put}
+use Rattle.fields.proofs.Laws.{and-left, and-right}
+use Rattle.fields.proofs.Changes.{Changes, changes-none, changes-put}
 use Rattle.model.specs.Lists.{every, below}
-use Rattle.model.specs.Page.{pageGranules}
 use Rattle.pages.specs.Runs.{ofRun, whole}
 use Rattle.pages.specs.Stack.{blocksFrom, indexOf}
-use Rattle.heap.specs.Release.{pageAt, startOf, outIn, inRunOf, outAt}
-use Rattle.release.specs.Strike.{isBlock, bitIn, bitOf}
+use Rattle.heap.specs.Release.{pageAt, startOf, outIn, inRunOf}
+use Rattle.release.specs.Strike.{isBlock, bitIn}
 use Rattle.release.specs.Asks.{hasBit}
 
 -- ---- a change of out bits

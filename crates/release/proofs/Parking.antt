@@ -1,36 +1,30 @@
--- What parking and giving back ask, keep and answer. Assumes nothing.
+-- What parking a page asks, keeps and answers. Assumes nothing.
 --     moves         the fields that the act changes before a store takes the page: no count of a store, nothing of the arena
---     push-keeps    the tests of number 13, on the page with its blocks back
-use Prim.Native.Nat.{ℕ, zero, suc, _+_, _-_, _*_, _≤_, _<_}
+use Prim.Native.Nat.{ℕ, zero, suc, _≤_, _<_}
 use native.Mathlib.Omega.{arith}
-use mathlib.Core.Bool.{Bool, true, false, cond, not, _&&_, _||_, and-false, and-true}
-use mathlib.Core.List.{List, [], _∷_, map}
-use mathlib.Core.Path.{_≡_, refl, sym, ap, _∙_}
-use lib.Dec.{eqb, ltb, leb}
+use mathlib.Core.Bool.{Bool, true, false, cond, _&&_, _||_, and-false, and-true}
+use mathlib.Core.List.{List}
+use mathlib.Core.Path.{_≡_, refl, sym, _∙_}
+use lib.Dec.{eqb, leb}
 use lib.ListN.{length}
-use borrow.Author.Tests.{leb-true, ltb-true, eqb-true, le-leb, lt-ltb, eq-eqb, ne-eqb}
-use Rattle.words.specs.Word.{mediumKind}
+use borrow.Author.Tests.{leb-true, lt-ltb, eq-eqb, ne-eqb}
 use Rattle.words.specs.Host.{discardZeroed}
 use Rattle.classes.specs.declared.Shape.{Shape}
 use Rattle.classes.specs.Sound.{Sound}
-use Rattle.fields.specs.Field.{Field, ArenaField, arena, class, page, out, slot, region, off, frontier, state, holes, holePages, held, partial, empty, emptyCount, cold, coldCount, next, prev, free, carved, listed, virgin, get, put, words}
-use Rattle.fields.specs.Ranges.{maxPages, maxParked}
+use Rattle.fields.specs.Field.{Field, arena, class, page, region, off, frontier, emptyCount, coldCount, next, prev, listed, get}
+use Rattle.fields.specs.Ranges.{maxParked}
 use Rattle.fields.proofs.Laws.{and-left, and-right}
 use Rattle.fields.proofs.Changes.{Changes, changes-none}
-use Rattle.model.specs.Page.{isMedium}
 use Rattle.model.specs.Release.{coldFate}
-use Rattle.arena.specs.Fair.{recordFair, giveFair}
 use Rattle.pages.specs.declared.Park.{Park}
 use Rattle.pages.specs.declared.Park.the-variants.{Empty, Cold}
-use Rattle.pages.specs.Asks.{LinkAsks, UnlinkAsks, ParkAsks, PushAsks, CarveAsks}
-use Rattle.pages.specs.Links.{link, unlink, stow, top, tally}
-use Rattle.pages.specs.Stack.{pushed, indexOf}
+use Rattle.pages.specs.Asks.{UnlinkAsks, ParkAsks}
+use Rattle.pages.specs.Links.{link, unlink, stow, tally}
 use Rattle.pages.specs.Carve.{carveAnew}
-use Rattle.pages.proofs.Frames.{changes-link, changes-unlink, changes-stow, changes-pushed, changes-carve}
-use Rattle.heap.specs.Release.{pageFair, rowFair, unlisted, relisted, parkCold, parkAs, spotOf, spotAt, parkAt}
-use Rattle.release.specs.Fair.{blocksFair, flagsFair, linksFair, storeFair, SpotAsks}
-use Rattle.release.specs.Act.{coldVirgin, ParkingAsks, ColdAsks, BackAsks, Parked}
-use Rattle.release.proofs.FairWays.{page-parts, row-parts, count-low, head-low}
+use Rattle.pages.proofs.Frames.{changes-link, changes-unlink, changes-carve}
+use Rattle.heap.specs.Release.{unlisted, relisted, parkCold, parkAs, spotAt, parkAt}
+use Rattle.release.specs.Act.{coldVirgin, ParkingAsks, ColdAsks, Parked}
+use Rattle.release.proofs.FairWays.{count-low}
 
 abbrev pub moves : Field → Bool
 moves f = leb 4 (region f) || (eqb (region f) 2 && eqb (off f) 0)

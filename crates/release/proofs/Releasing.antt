@@ -1,22 +1,20 @@
 -- The ways out of a release. Assumes nothing.
-use Prim.Native.Nat.{ℕ, zero, suc, _+_, _-_, _*_, _≤_, _<_}
+use Prim.Native.Nat.{ℕ, zero, suc, _+_, _≤_, _<_}
 use native.Mathlib.Omega.{arith}
-use mathlib.Core.Bool.{Bool, true, false, cond, not, _&&_, true≢false}
+use mathlib.Core.Bool.{Bool, true, false, cond, _&&_}
 use mathlib.Core.List.{List, [], _∷_, _++_, map}
 use mathlib.Core.Path.{_≡_, refl, sym, ap, _∙_}
-use lib.Dec.{eqb, ltb, leb}
-use lib.ListN.{length, getD, take, drop, length-drop}
+use lib.Dec.{eqb, leb}
+use lib.ListN.{length, getD, take, drop}
 use lib.Seq.{take-add, drop-length}
-use borrow.Author.Tests.{leb-true, eqb-true, eqb-false, le-leb, lt-ltb, le-ltb, eq-eqb, ne-eqb}
+use borrow.Author.Tests.{eqb-true, le-leb, lt-ltb, le-ltb, eq-eqb}
 use Rattle.classes.specs.declared.Shape.{Shape}
 use Rattle.classes.specs.Sound.{Sound}
-use Rattle.fields.specs.Field.{Field, arena, class, page, frontier, state, holes, holePages, held, partial, empty, emptyCount, cold, coldCount, next, prev, free, carved, listed, virgin, get, put, words}
-use Rattle.fields.specs.Ranges.{maxPages}
-use Rattle.fields.proofs.Laws.{and-left, and-right}
+use Rattle.fields.specs.Field.{arena, class, page, frontier, state, holes, holePages, held, partial, empty, emptyCount, cold, coldCount, next, prev, free, carved, listed, virgin, get, put, words}
+use Rattle.fields.proofs.Laws.{and-left}
 use Rattle.fields.proofs.Changes.{Changes, changes-none, changes-trans}
 use Rattle.model.specs.Lists.{every, distinct, isNil}
 use Rattle.model.specs.Release.{ofKind}
-use Rattle.model.specs.Chunks.{hostMax}
 use Rattle.arena.specs.Fair.{recordFair, giveFair}
 use Rattle.arena.specs.Calls.{given}
 use Rattle.pages.specs.Runs.{whole}
@@ -32,7 +30,7 @@ use Rattle.release.specs.declared.Released.the-variants.{Refused, Fate}
 use Rattle.release.specs.Strike.{bitIn, runAt, countIn, struckIn, struckCount, struck, unstruck}
 use Rattle.release.specs.Asks.{InAsks, ClassAsks, hasBit, RestoreAsks, RestAsks, Rest, StruckIn}
 use Rattle.release.specs.Fair.{FairAsks}
-use Rattle.release.specs.Act.{settleAt, SettleAsks, RunAsks, Parked, Answered, answerAs}
+use Rattle.release.specs.Act.{settleAt, SettleAsks, RunAsks, Parked, Answered}
 use Rattle.release.proofs.Bits.{isBit, every-same, bit-kept, whole-kept}
 use Rattle.release.proofs.Decode.{none-found, found-at}
 use Rattle.release.proofs.StrikeLaws.{strikes-all, restores, has-bits}

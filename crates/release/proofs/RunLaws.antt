@@ -4,28 +4,26 @@
 --     one-run, all-in-run      number 11: all words are in the run exactly if striking in it strikes all
 --     run-marks       all struck: the out bits of the listed blocks are 0
 -- Assumes nothing.
-use Prim.Native.Nat.{ℕ, zero, suc, _+_, _-_, _*_, _/_, _≤_, _<_}
+use Prim.Native.Nat.{ℕ, zero, suc, _+_, _-_, _*_, _≤_, _<_}
 use native.Mathlib.Omega.{arith}
 use native.Mathlib.Decide.{ℕ-discrete}
 use native.Mathlib.Nat.{mul-le-mul-right, suc-mul}
-use mathlib.Core.Bool.{Bool, true, false, cond, not, _&&_, and-false, true≢false}
+use mathlib.Core.Bool.{Bool, true, false, and-false}
 use mathlib.Core.List.{List, [], _∷_, map}
-use mathlib.Core.Logic.{_⊎_, inl, inr}
 use mathlib.Core.Path.{_≡_, refl, sym, ap, _∙_}
 use lib.Dec.{eqb, ltb, leb}
-use lib.ListN.{length, take, drop}
+use lib.ListN.{length, drop}
 use borrow.Author.Tests.{leb-true, ltb-true, eqb-true, lt-ltb, eq-eqb, le-leb}
-use Rattle.words.specs.Word.{granuleOf}
 use Rattle.classes.specs.declared.Shape.{Shape}
 use Rattle.classes.specs.Sound.{Sound}
-use Rattle.fields.specs.Field.{Field, arena, page, out, frontier, owner, first, get, put, same, words}
+use Rattle.fields.specs.Field.{arena, page, out, frontier, owner, first, get, put, same}
 use Rattle.fields.proofs.Laws.{and-left, and-right, put-comm}
-use Rattle.fields.proofs.Changes.{Changes, changes-none, changes-trans, same-eq}
+use Rattle.fields.proofs.Changes.{Changes, same-eq}
 use Rattle.model.specs.Lists.{every, below}
 use Rattle.pages.specs.Runs.{ofRun, whole}
-use Rattle.pages.specs.Stack.{marks, blocksFrom, indexOf}
+use Rattle.pages.specs.Stack.{marks, indexOf}
 use Rattle.heap.specs.Release.{pageAt, startOf, outIn, inRunOf, outAt}
-use Rattle.release.specs.Strike.{isBlock, bitIn, bitOf, countIn, struckIn, struckCount, struck}
+use Rattle.release.specs.Strike.{isBlock, bitIn, countIn, struckIn, struckCount, struck}
 use Rattle.release.proofs.Bits.{isBit, put-bit, every-same, start-kept, whole-kept, out-in, from-block, at-block, below-capacity}
 
 every-below : (t : ℕ → Bool) (m k : ℕ) → every t (below m) ≡ true → k < m → t k ≡ true

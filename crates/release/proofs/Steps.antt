@@ -1,13 +1,13 @@
 -- The loops of `strike_run`, `strike` and `unstrike`: what is known at the head, how a turn goes on, and the ways out.
 -- Assumes nothing.
-use Prim.Native.Nat.{ℕ, zero, suc, _+_, _-_, _*_, _≤_, _<_}
+use Prim.Native.Nat.{ℕ, suc, _+_, _≤_, _<_}
 use native.Mathlib.Omega.{arith}
 use native.Mathlib.Numerals.{add-one}
-use mathlib.Core.Bool.{Bool, true, false, cond, _&&_, and-false}
+use mathlib.Core.Bool.{Bool, true, false, cond, and-false}
 use mathlib.Core.List.{List, [], _∷_}
 use mathlib.Core.Path.{_≡_, refl, sym, ap, _∙_}
-use lib.Dec.{eqb, ltb, leb}
-use lib.ListN.{length, getD, take, drop, length-drop}
+use lib.Dec.{ltb, leb}
+use lib.ListN.{length, getD, drop, length-drop}
 use borrow.Author.Tests.{leb-true}
 use lib.Seq.{drop-cons, drop-drop}
 use Rattle.classes.specs.declared.Shape.{Shape}
@@ -19,7 +19,7 @@ use Rattle.pages.specs.Runs.{whole}
 use Rattle.heap.specs.Release.{pageAt, startOf, outIn, inRunOf, outAt}
 use Rattle.release.specs.declared.Found.{Found}
 use Rattle.release.specs.declared.Found.the-variants.{At, Nothing}
-use Rattle.release.specs.Strike.{bitIn, bitOf, runAt, countIn, struckIn, struckCount, struck}
+use Rattle.release.specs.Strike.{bitIn, runAt, countIn, struckIn, struckCount, struck}
 use Rattle.release.specs.Asks.{InAsks, ClassAsks, StruckOne, StruckIn, Struck}
 use Rattle.release.proofs.Decode.{none-found, found-at}
 use Rattle.release.proofs.Ways.{drop-past}

@@ -3,18 +3,18 @@
 --     restores        the struck words set again: the book at entry
 --     restorable      their bits are there
 -- Assumes nothing.
-use Prim.Native.Nat.{ℕ, zero, suc, _+_, _-_, _*_, _≤_, _<_}
+use Prim.Native.Nat.{ℕ, suc, _+_, _≤_, _<_}
 use native.Mathlib.Omega.{arith}
-use mathlib.Core.Bool.{Bool, true, false, cond, not, _&&_, _||_, and-false, true≢false}
+use mathlib.Core.Bool.{Bool, true, false, not, _&&_, _||_, and-false, true≢false}
 use mathlib.Core.List.{List, [], _∷_}
 use mathlib.Core.Path.{_≡_, refl, sym, ap, _∙_}
 use lib.Dec.{eqb, ltb, leb, eqb·zero-suc, eqb·suc-suc}
-use lib.ListN.{length, take, drop}
-use borrow.Author.Tests.{leb-true, ltb-true, eqb-true, eqb-false, lt-ltb, eq-eqb, ne-eqb, le-leb}
+use lib.ListN.{length, take}
+use borrow.Author.Tests.{leb-true, ltb-true, eqb-true, lt-ltb, eq-eqb, ne-eqb, le-leb}
 use Rattle.words.specs.Word.{kindOf}
 use Rattle.classes.specs.declared.Shape.{Shape}
 use Rattle.classes.specs.Sound.{Sound}
-use Rattle.fields.specs.Field.{Field, arena, page, out, frontier, owner, first, get, put, ok, same, words}
+use Rattle.fields.specs.Field.{arena, out, frontier, get, put, same, words}
 use Rattle.fields.specs.Ranges.{maxPages}
 use Rattle.fields.proofs.Laws.{and-left, and-right, get-put-same, get-put-other, put-put-same, put-get, length-put}
 use Rattle.fields.proofs.Changes.{Changes, changes-none, changes-trans, same-eq}
@@ -22,8 +22,8 @@ use Rattle.model.specs.Lists.{every, elem, distinct}
 use Rattle.model.specs.Release.{ofKind}
 use Rattle.pages.specs.Runs.{whole}
 use Rattle.pages.specs.Stack.{indexOf}
-use Rattle.heap.specs.Release.{pageAt, startOf, outIn, inRunOf, outAt}
-use Rattle.release.specs.Strike.{isBlock, bitIn, bitOf, struckCount, struck, restored, unstruck}
+use Rattle.heap.specs.Release.{pageAt, startOf, inRunOf, outAt}
+use Rattle.release.specs.Strike.{isBlock, bitOf, struckCount, struck, restored, unstruck}
 use Rattle.release.specs.Asks.{hasBit}
 use Rattle.release.proofs.Bits.{isBit, put-bit, every-same, start-kept, in-run-kept, out-in, below-capacity, one-word, bit-kept}
 

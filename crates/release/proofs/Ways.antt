@@ -2,10 +2,10 @@
 use Prim.Native.Nat.{ℕ, zero, suc, _+_, _-_, _≤_, _<_}
 use native.Mathlib.Omega.{arith}
 use native.Mathlib.Numerals.{add-one}
-use mathlib.Core.Bool.{Bool, true, false, _&&_, and-false}
+use mathlib.Core.Bool.{Bool, true, false, and-false}
 use mathlib.Core.List.{List, [], _∷_}
-use mathlib.Core.Path.{_≡_, refl, sym, ap, _∙_}
-use lib.Dec.{eqb, ltb, leb}
+use mathlib.Core.Path.{_≡_, refl, sym}
+use lib.Dec.{eqb}
 use lib.ListN.{length, getD, drop}
 use lib.Seq.{drop-cons, drop-nil}
 use borrow.Author.Tests.{le-leb, lt-leb, lt-ltb, le-ltb}
@@ -16,9 +16,8 @@ use Rattle.model.specs.Lists.{every}
 use Rattle.model.specs.Release.{ofKind}
 use Rattle.pages.specs.Runs.{whole}
 use Rattle.heap.specs.Release.{pageAt, startOf, inRunOf}
-use Rattle.release.specs.declared.Found.{Found}
 use Rattle.release.specs.declared.Found.the-variants.{At, Nothing}
-use Rattle.release.specs.Strike.{found, runAt}
+use Rattle.release.specs.Strike.{runAt}
 
 module _ (n : ℕ) (b : List ℕ) (c : ℕ) (sh : Shape) (w p : ℕ) (e : p ≡ pageAt w) where
   none-in : inRunOf n b sh c w ≡ false → Nothing ≡ runAt n b sh c w

@@ -10,10 +10,10 @@ use lib.ListN.{length}
 use Rattle.classes.specs.declared.Shape.{Shape}
 use Rattle.classes.specs.Sound.{Sound}
 use Rattle.fields.specs.Field.{arena, class, page, frontier, next, prev, free, carved, listed, virgin, words, get}
-use Rattle.fields.specs.Ranges.{maxPages, maxParked}
+use Rattle.fields.specs.Ranges.{maxParked}
 use Rattle.pages.specs.declared.Park.{Park}
 use Rattle.pages.specs.Links.{top, tally}
-use Rattle.heap.specs.Release.{pageFair, rowFair, spotAt, releaseFair}
+use Rattle.heap.specs.Release.{pageFair, rowFair}
 
 abbrev pub blocksFair : List ℕ → Shape → ℕ → ℕ → Bool
 blocksFair b sh m q = leb (get b (page carved q)) (sh .capacity) && leb (get b (page free q) + m) (get b (page carved q))

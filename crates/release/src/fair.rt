@@ -2,9 +2,7 @@
 ghost use mathlib.Core.Path.{_≡_};
 ghost use mathlib.Core.Bool.{true};
 ghost use Prim.Native.Nat.{_≤_, _<_};
-ghost use lib.ListN.{length};
 ghost use Rattle.classes.specs.Sound.{Sound};
-ghost use Rattle.fields.specs.Field.{words};
 ghost use Rattle.fields.specs.Ranges.{maxParked};
 ghost use Rattle.pages.specs.Asks.{RowAsks};
 ghost use Rattle.heap.specs.Release.{pageFair, rowFair, keepsEmpty, spotOf, spotAt, spotFair, releaseFair};

@@ -3,8 +3,13 @@ mod fair;
 mod kinds;
 mod park;
 mod release;
-mod strike;
+pub mod strike;
 
+pub use fair::page_fair;
+pub use fair::row_fair;
+pub use fair::spot_of;
+pub use kinds::all_of_kind;
+pub use park::park_empty_page;
 pub use release::release_blocks;
 pub use release::release_call;
 

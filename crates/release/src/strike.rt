@@ -1,10 +1,9 @@
 // Number 10 in one pass: each listed block's out bit is cleared, up to the first that is not out; and the bits are set again.
 ghost use mathlib.Core.Path.{_≡_};
-ghost use mathlib.Core.Bool.{true, cond};
+ghost use mathlib.Core.Bool.{true};
 ghost use Prim.Native.Nat.{_≤_, _<_};
 ghost use lib.ListN.{length, take};
 ghost use Rattle.classes.specs.Sound.{Sound};
-ghost use Rattle.fields.specs.Field.{put};
 ghost use Rattle.fields.specs.Ranges.{maxPages};
 ghost use Rattle.words.specs.Word.{granuleOf};
 ghost use Rattle.heap.specs.Release.{pageAt};

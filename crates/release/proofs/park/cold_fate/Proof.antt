@@ -1,4 +1,3 @@
-use borrow.Author.Needs.{needs}
 use Rattle.release.proofs.Parking.{span-kept, page-cold}
 use Rattle.release.proofs.park.cold_fate.Statement.{statement}
 use Rattle.release.proofs.park.cold_fate.Tie as tie
