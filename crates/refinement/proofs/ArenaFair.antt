@@ -5,11 +5,11 @@
 -- Assumes nothing.
 use Prim.Native.Nat.{ℕ, zero, suc, _+_, _≤_, _<_}
 use native.Mathlib.Omega.{arith}
-use mathlib.Core.Bool.{Bool, true, false, cond, _&&_}
+use mathlib.Core.Bool.{true}
 use mathlib.Core.List.{List, [], _∷_}
-use mathlib.Core.Option.{Option, none, some}
+use mathlib.Core.Option.{Option, some}
 use mathlib.Core.Path.{_≡_, refl, sym, ap, _∙_}
-use lib.Dec.{ltb, leb}
+use lib.Dec.{leb}
 use lib.ListN.{length}
 use borrow.Author.Tests.{le-leb, leb-true}
 use Rattle.fields.specs.Field.{arena, memory, state, frontier, holes, holePages, commits, commitsHigh, reuses, reusesHigh, abandoned, abandonedHigh, held, get}
@@ -19,7 +19,6 @@ use Rattle.model.specs.Lists.{All, every, total}
 use Rattle.model.specs.Arena.{Arena, Status, unasked, ready, disabled}
 use Rattle.model.specs.Heap.{Heap, heldPages}
 use Rattle.model.proofs.Counts.{by-cases}
-use Rattle.model.proofs.Remembers.{Tidy}
 use Rattle.model.proofs.IdlePages.{HolesBelow}
 use Rattle.arena.specs.Load.{statusCode, indexOf, wide, recall, loadHoles, loadStore, loadArena}
 use Rattle.arena.specs.Fair.{holeFair, recordFair, holesFair, memoryFair, commitFair, giveFair}
