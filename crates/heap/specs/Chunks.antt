@@ -15,8 +15,8 @@ use Rattle.model.specs.Chunks.{chunksMax, hostMax}
 use Rattle.arena.specs.Fair.{giveFair}
 use Rattle.arena.specs.Calls as Arena
 use Rattle.pages.specs.Runs.{flag}
-use Rattle.pages.specs.Stack.{back}
-use Rattle.heap.specs.Release.{startOf, indexOf, outAt, pageFair, rowFair, spotOf, Released, released, relisted, parkAt}
+use Rattle.pages.specs.Stack.{back, indexOf}
+use Rattle.heap.specs.Release.{startOf, outAt, pageFair, rowFair, spotOf, Released, released, relisted, parkAt}
 
 -- a chunk's blocks: those of the list on its page, in the list's order
 unfoldable pub blocksOn : List ℕ → List ℕ → ℕ → List ℕ

@@ -21,7 +21,7 @@ use Rattle.model.specs.Chunks.{hostMax}
 use Rattle.arena.specs.Fair.{giveFair}
 use Rattle.arena.specs.Calls as Arena
 use Rattle.pages.specs.Runs.{whole}
-use Rattle.pages.specs.Stack.{back}
+use Rattle.pages.specs.Stack.{back, blocksFrom, indexOf}
 use Rattle.pages.specs.Links.{link, unlink, stow}
 use Rattle.pages.specs.declared.Park.the-variants.{Empty, Cold}
 use Rattle.pages.specs.Carve.{carveAnew}
@@ -32,12 +32,6 @@ pageAt w = granuleOf w / pageGranules
 
 unfoldable pub startOf : List ℕ → ℕ → ℕ
 startOf b w = get b (page first (pageAt w))
-
-abbrev pub blocksFrom : Shape → ℕ → ℕ
-blocksFrom sh q = q * pageGranules + sh .header
-
-unfoldable pub indexOf : Shape → ℕ → ℕ → ℕ
-indexOf sh q w = (granuleOf w - blocksFrom sh q) / sh .block
 
 unfoldable pub outIn : List ℕ → Shape → ℕ → ℕ → Bool
 outIn b sh q w =

@@ -30,3 +30,4 @@ pub mod Book
 pub mod NewRun
 pub mod Join
 pub mod TakeWhole
+pub mod Decode
