@@ -31,3 +31,4 @@ pub mod NewRun
 pub mod Join
 pub mod TakeWhole
 pub mod Decode
+pub mod Found
