@@ -144,14 +144,15 @@ pub record Spot (q : ℕ) (zs : List Page) : Type 0 where
   pub is : zs ≡ before ++ page ∷ behind
   pub here : page .first ≡ q
 
+spot-behind : (q : ℕ) (z : Page) (zs : List Page) → Spot q zs → Spot q (z ∷ zs)
+spot-behind q z zs r = record { before = z ∷ r .before; page = r .page; behind = r .behind; is = ap (λ l. z ∷ l) (r .is); here = r .here }
+
 spot : (q : ℕ) (zs : List Page) → 1 ≤ heads q zs → Spot q zs
 spot q [] h = absurd (omega arith)
 spot q (z ∷ zs) h =
     by-cases (eqb q (z .first))
     (λ e. record { before = []; page = z; behind = zs; is = refl; here = sym (eqb-true q (z .first) e) })
-    (λ e. let y : 1 ≤ 0 + heads q zs = rw e at h in
-    let r = spot q zs (omega arith) in
-    record { before = z ∷ r .before; page = r .page; behind = r .behind; is = ap (λ l. z ∷ l) (r .is); here = r .here })
+    (λ e. let y : 1 ≤ 0 + heads q zs = rw e at h in spot-behind q z zs (spot q zs (omega arith)))
 
 all-spot : (P : Page → Type 0) {q : ℕ} {zs : List Page} (t : Spot q zs) → All P zs → P (t .page)
 all-spot P t a = all-at P (t .before) (t .page) (t .behind) .0 (subst (All P) (t .is) a) .0

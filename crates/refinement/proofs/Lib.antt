@@ -32,3 +32,4 @@ pub mod Join
 pub mod TakeWhole
 pub mod Decode
 pub mod Found
+pub mod Returned
