@@ -33,3 +33,4 @@ pub mod TakeWhole
 pub mod Decode
 pub mod Found
 pub mod Returned
+pub mod Release
