@@ -34,3 +34,6 @@ pub mod Decode
 pub mod Found
 pub mod Returned
 pub mod Release
+pub mod ReleaseFair
+pub mod ReleaseGives
+pub mod ReleaseWhole
