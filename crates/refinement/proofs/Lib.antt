@@ -37,3 +37,6 @@ pub mod Release
 pub mod ReleaseFair
 pub mod ReleaseGives
 pub mod ReleaseWhole
+pub mod ChunkTests
+pub mod Chunks
+pub mod ChunkWhole

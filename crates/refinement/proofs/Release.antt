@@ -71,7 +71,7 @@ retired-settled (goes p e r o) = goes p e r o
 not-given : _≡_ {A = ℕ} 0 2 → ⊥
 not-given z = omega arith
 
-length-firsts : {A : Type 0} (f : A → Page) (l : List A) → length (firsts (map f l)) ≡ length l
+pub length-firsts : {A : Type 0} (f : A → Page) (l : List A) → length (firsts (map f l)) ≡ length l
 length-firsts f [] = refl
 length-firsts f (x ∷ l) = ap suc (length-firsts f l)
 
