@@ -2,18 +2,16 @@
 --     same-blocks      a chunk's blocks are the model's
 --     chunks-same      number 11
 use Prim.Native.Nat.{ℕ, _≤_}
-use native.Mathlib.Omega.{arith}
 use mathlib.Core.Bool.{Bool, true, false, cond, not, _&&_, false≢true}
 use mathlib.Core.List.{List, [], _∷_, map}
 use mathlib.Core.Option.{Option, none, some}
 use mathlib.Core.Path.{_≡_, refl, sym, ap, _∙_}
 use lib.Dec.{eqb}
-use lib.ListN.{length}
 use borrow.Author.Tests.{eqb-true}
 use Rattle.words.specs.Word.{countOf, pageOf}
 use Rattle.classes.specs.declared.Shape.{Shape}
 use Rattle.fields.specs.Ranges.{maxPages}
-use Rattle.model.specs.Lists.{All, every, elem, filter, distinct, isSome}
+use Rattle.model.specs.Lists.{All, every, elem, distinct, isSome}
 use Rattle.model.specs.Page.{Page, isOut}
 use Rattle.model.specs.Class.{Class}
 use Rattle.model.specs.Release.{Site, inPartial, inFull, locate, ofKind, outHere}

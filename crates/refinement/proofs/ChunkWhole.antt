@@ -3,35 +3,33 @@
 --     chunks-fair      number 13's tests pass
 --     chunks-whole     every group release, refused or not, of any fates, the gives included
 --     chunks-after     the same after any history
-use Prim.Native.Nat.{ℕ, _+_, _*_, _≤_}
+use Prim.Native.Nat.{ℕ, _+_, _≤_}
 use native.Mathlib.Omega.{arith}
 use mathlib.Core.Bool.{Bool, true, false, cond, not, _&&_, _||_, false≢true}
 use mathlib.Core.List.{List, [], _∷_, _++_, map}
 use mathlib.Core.Option.{Option, none, some}
 use mathlib.Core.Path.{_≡_, refl, sym, ap, _∙_, subst}
-use lib.Dec.{eqb, ltb, leb}
+use lib.Dec.{eqb, ltb}
 use lib.ListN.{length, drop, length-append}
 use borrow.Author.Tests.{eqb-true, eq-eqb, ltb-true, lt-ltb, not-false}
 use Rattle.words.specs.Word.{chunkKind, countOf, pageOf}
-use Rattle.classes.specs.Shape.{smallShape, mediumShape, shapeOf}
-use Rattle.fields.specs.Field.{arena, class, page, frontier, emptyCount, coldCount, free, carved, get}
+use Rattle.classes.specs.Shape.{smallShape, shapeOf}
+use Rattle.fields.specs.Field.{arena, class, page, free, carved, get}
 use Rattle.fields.specs.Ranges.{maxPages}
 use Rattle.fields.proofs.Changes.{changes-none}
 use Rattle.model.specs.Lists.{All, every, distinct, isNil}
 use Rattle.model.specs.Calls as Calls
 use Rattle.model.specs.Calls.{Call, fates}
-use Rattle.model.specs.Page.{Page, isMedium, noneOut, reused, returned}
+use Rattle.model.specs.Page.{isMedium, noneOut, reused, returned}
 use Rattle.model.specs.Class.{Ask, done, refuse, thawed}
-use Rattle.model.specs.Release.{Site, locate, ofKind, outHere}
+use Rattle.model.specs.Release.{Site, locate, ofKind}
 use Rattle.model.specs.Chunks as Model
 use Rattle.model.specs.Chunks.{startsAt, fitsOn, chunked, chunksMax, answer, hostMax}
 use Rattle.model.specs.Heap.{Heap, offer, finish, interact, classCall, heldPages}
 use Rattle.model.specs.History.{heapAfter}
 use Rattle.model.proofs.Counts.{by-cases, and-l, and-r}
 use Rattle.model.proofs.Find.{pageIn, located-first}
-use Rattle.pages.specs.Stack.{back, indexOf}
-use Rattle.arena.specs.Fair.{giveFair}
-use Rattle.heap.specs.Release.{outAt, pageFair, rowFair}
+use Rattle.heap.specs.Release.{outAt, pageFair}
 use Rattle.heap.specs.Chunks.{blocksOn, chunksMatch, returnsAll, runsGiven, pagesGiven, chunksFair, settleChunks, giveRuns, ChunksReleased, chunksNone, releaseChunks, chunksCall}
 use Rattle.refinement.specs.Represents.{Represents}
 use Rattle.refinement.specs.Classes.{Follows}
@@ -42,7 +40,7 @@ use Rattle.refinement.proofs.ArenaReached.{Reached, reached-after}
 use Rattle.refinement.proofs.ArenaFair.{give-passes}
 use Rattle.refinement.proofs.Draw.{free-length}
 use Rattle.refinement.proofs.Book.{setting-of, represents-class}
-use Rattle.refinement.proofs.Found.{Located, located, located-passes, Placed, At, found-at, placed-rep, outs-here}
+use Rattle.refinement.proofs.Found.{Located, located, located-passes, At, found-at, placed-rep, outs-here}
 use Rattle.refinement.proofs.Returned.{none-count, return-only, return-rep, return-room}
 use Rattle.refinement.proofs.Release.{shape-limits, length-firsts}
 use Rattle.refinement.proofs.ReleaseFair.{row-fair, page-fair, frontier-fair}

@@ -3,10 +3,9 @@
 --     settle-counts    what it adds to the stores and to the runs for the arena
 --     Waits            a chunk whose page has its blocks out, whatever the chunks before it did
 --     chunks-rep       all chunks
-use Prim.Native.Nat.{ℕ, suc, _+_, _≤_}
+use Prim.Native.Nat.{ℕ, _+_, _≤_}
 use native.Mathlib.Omega.{arith}
-use native.Mathlib.Nat.{add-zero}
-use mathlib.Core.Bool.{Bool, true, false, cond, not, _&&_, _||_, true≢false}
+use mathlib.Core.Bool.{Bool, true, false, cond, not, true≢false}
 use mathlib.Core.List.{List, [], _∷_, _++_, map, append-assoc, append-nil}
 use mathlib.Core.Option.{Option, none, some, Option·none-ne-some, Option·some-injective}
 use mathlib.Core.Path.{_≡_, refl, sym, ap, _∙_, subst}
@@ -34,7 +33,7 @@ use Rattle.refinement.specs.Represents.{firsts}
 use Rattle.refinement.proofs.Basics.{Setting, setting-kept}
 use Rattle.refinement.proofs.Frames.{Only, only-owns, only-trans}
 use Rattle.refinement.proofs.Moves.{full-in}
-use Rattle.refinement.proofs.Found.{Located, inList, inNone, located, located-passes, Away, At, found-at}
+use Rattle.refinement.proofs.Found.{Located, inList, inNone, located, located-passes, Away, found-at}
 use Rattle.refinement.proofs.Release.{Limits, SettledRep, stays, goes, settle-chunk}
 
 -- what settling a page adds, where e empty and k cold pages were: a page to the store that the spot names, or a run for the arena

@@ -8,7 +8,7 @@ use Prim.Native.Nat.{ℕ, zero, suc, _+_, _-_, _*_, _/_, _^_, _≤_, _<_}
 use native.Mathlib.Omega.{arith}
 use native.Mathlib.Nat.{zero-add, mul-le-mul-right, mul-div-cancel}
 use native.Mathlib.Decide.{ℕ-discrete, decLe}
-use mathlib.Core.Bool.{Bool, true, false, not, _&&_, true≢false}
+use mathlib.Core.Bool.{Bool, true, false, not, _&&_}
 use mathlib.Core.List.{List, [], _∷_, map}
 use mathlib.Core.Path.{_≡_, refl, sym, ap, _∙_}
 use lib.Dec.{eqb, ltb, leb}
@@ -23,7 +23,7 @@ use Rattle.model.specs.Page.{Page, wordOf, wordsFrom, isOut, carvedWords}
 use Rattle.model.specs.Release.{ofKind}
 use Rattle.model.proofs.Counts.{by-cases, and-l, and-r, elem-count, count-elem}
 use Rattle.model.proofs.Pages.{word-rises}
-use Rattle.pages.specs.Runs.{flag, whole}
+use Rattle.pages.specs.Runs.{flag}
 use Rattle.pages.specs.Stack.{marked, blocksFrom, indexOf}
 use Rattle.heap.specs.Release.{pageAt, startOf, outIn, inRunOf, outAt}
 use Rattle.refinement.specs.Represents.{PageRep}

@@ -13,7 +13,7 @@ use lib.Dec.{eqb, leb}
 use borrow.Author.Tests.{eq-eqb, eqb-true, leb-true, leb-false}
 use Rattle.classes.specs.declared.Shape.{Shape}
 use Rattle.fields.specs.Ranges.{maxPages}
-use Rattle.fields.specs.Field.{class, page, emptyCount, coldCount, listed, get}
+use Rattle.fields.specs.Field.{page}
 use Rattle.fields.proofs.Changes.{Changes, changes-none}
 use Rattle.model.specs.Lists.{All, every, isSome}
 use Rattle.model.specs.Page.{Page, isOut, reused}
@@ -28,7 +28,7 @@ use Rattle.refinement.specs.Represents.{PageRep, Parked, heads, ClassRep
 use Rattle.refinement.proofs.Basics.{Setting, bool-eq}
 use Rattle.refinement.proofs.Frames.{isData, ofClass, Only}
 use Rattle.refinement.proofs.Moves.{full-out, at-partial, at-full, from-partial, to-partial, unlink-only, link-only}
-use Rattle.refinement.proofs.Decode.{Sits, out-sits, sits-out, in-sits, sits-start, sits-at}
+use Rattle.refinement.proofs.Decode.{out-sits, sits-out, in-sits, sits-start, sits-at}
 
 -- ---- what the model finds
 abbrev Finds : (Page → Bool) → List Page → Option Found → Type 0

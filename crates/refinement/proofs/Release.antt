@@ -14,7 +14,7 @@ use borrow.Author.Tests.{ltb-true}
 use Rattle.words.specs.Host.{discardZeroed}
 use Rattle.classes.specs.declared.Shape.{Shape}
 use Rattle.classes.specs.Shape.{smallShape, mediumShape, shapeOf}
-use Rattle.fields.specs.Field.{class, page, emptyCount, coldCount, owner, free, carved, get}
+use Rattle.fields.specs.Field.{class, page, emptyCount, coldCount, free, carved, get}
 use Rattle.fields.specs.Ranges.{maxPages}
 use Rattle.fields.proofs.Changes.{changes-none}
 use Rattle.model.specs.Lists.{every, count}
@@ -27,15 +27,15 @@ use Rattle.pages.specs.Stack.{marked, back, indexOf}
 use Rattle.pages.specs.declared.Park.the-variants.{Empty, Cold}
 use Rattle.pages.specs.Links.{stow}
 use Rattle.pages.specs.Carve.{carveAnew}
-use Rattle.heap.specs.Release.{Released, released, unlisted, relisted, keepsEmpty, spotOf, spotAt, parkCold, parkAs, parkAt, giveBackAt}
+use Rattle.heap.specs.Release.{Released, released, unlisted, relisted, keepsEmpty, spotOf, parkCold, parkAs, parkAt, giveBackAt}
 use Rattle.heap.specs.Chunks.{emptied, markRetired, chunkBackAt}
-use Rattle.refinement.specs.Represents.{PageRep, Parked, firsts, ClassRep}
+use Rattle.refinement.specs.Represents.{PageRep, firsts, ClassRep}
 use Rattle.refinement.proofs.Basics.{Setting, setting-kept}
 use Rattle.refinement.proofs.Frames.{ofClass, Only, only-trans, data-owns, whole-kept, whole-in, whole-owner}
 use Rattle.refinement.proofs.Moves.{swap, at-full, to-store, stow-only}
 use Rattle.refinement.proofs.Pushes.{anew-data, anew-only, anew-marked, anew-holds, carve-first, carve-rep}
 use Rattle.refinement.proofs.Found.{Away, Placed, among, aside, placed-rep, placed-data, placed-out, out-only, placed-in, in-only}
-use Rattle.refinement.proofs.Returned.{none-is, none-idle, return-data, return-only, return-rep, blank, emptied-data, emptied-only, emptied-idle, emptied-rep}
+use Rattle.refinement.proofs.Returned.{none-is, none-idle, return-data, return-only, return-rep, blank, emptied-data, emptied-only, emptied-rep}
 
 -- the stores' limits fit their counts
 pub record Limits (sh : Shape) : Type 0 where

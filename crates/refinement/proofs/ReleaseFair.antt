@@ -5,10 +5,10 @@
 use Prim.Native.Nat.{ℕ, zero, suc, _+_, _≤_}
 use native.Mathlib.Omega.{arith}
 use mathlib.Core.Bool.{Bool, true, false, cond, _&&_}
-use mathlib.Core.List.{List, [], _∷_, _++_, map}
+use mathlib.Core.List.{List, [], _∷_, _++_}
 use mathlib.Core.Logic.{inl, inr}
-use mathlib.Core.Path.{_≡_, refl, sym, ap, _∙_, subst}
-use lib.Dec.{eqb, ltb, leb}
+use mathlib.Core.Path.{_≡_, refl, sym, _∙_, subst}
+use lib.Dec.{eqb, leb}
 use lib.ListN.{length}
 use borrow.Author.Tests.{le-leb}
 use Rattle.classes.specs.declared.Shape.{Shape}
@@ -23,7 +23,7 @@ use Rattle.pages.specs.declared.Park.the-variants.{Empty}
 use Rattle.arena.specs.Fair.{giveFair}
 use Rattle.heap.specs.Release.{pageFair, rowFair, spotAt, spotFair, releaseFair}
 use Rattle.refinement.specs.Chain.{In, Chain, Line}
-use Rattle.refinement.specs.Represents.{PageRep, firsts, heads, ClassRep, Represents}
+use Rattle.refinement.specs.Represents.{firsts, heads, ClassRep, Represents}
 use Rattle.refinement.proofs.Basics.{Setting, flag-small}
 use Rattle.refinement.proofs.Lists.{in-left, in-right, first-page, last-page, firsts-append, part, in-count}
 use Rattle.refinement.proofs.Frames.{whole-below}

@@ -1,11 +1,11 @@
 -- Runs that wait in no list go to the arena one after the other: the whole book stands for the model's heap. Assumes nothing.
 --     all-given     the book after the gives
 --     all-held      so many pages are held before them
-use Prim.Native.Nat.{ℕ, suc, _+_, _*_, _≤_}
+use Prim.Native.Nat.{ℕ, _+_, _*_, _≤_}
 use native.Mathlib.Omega.{arith}
 use mathlib.Core.Bool.{true, cond}
 use mathlib.Core.List.{List, [], _∷_, _++_}
-use mathlib.Core.Path.{_≡_, refl, sym, subst, fun-ext}
+use mathlib.Core.Path.{_≡_, refl, subst, fun-ext}
 use lib.Dec.{eqb, ltb}
 use lib.ListN.{length}
 use borrow.Author.Tests.{eq-eqb, eqb-true, eqb-false, ne-eqb}
@@ -15,7 +15,7 @@ use Rattle.fields.proofs.Changes.{changes-none}
 use Rattle.model.specs.Lists.{covers, coversAll, update}
 use Rattle.model.specs.Page.{Page}
 use Rattle.model.specs.Class.{Class, lists}
-use Rattle.model.specs.Arena.{Arena, give, giveAll}
+use Rattle.model.specs.Arena.{give, giveAll}
 use Rattle.model.specs.Heap.{Heap, Holder, nobody, isHeld, passTo, heldPages}
 use Rattle.model.proofs.Counts.{by-cases}
 use Rattle.arena.specs.Calls.{given}
@@ -23,7 +23,7 @@ use Rattle.heap.specs.Chunks.{giveRuns}
 use Rattle.refinement.specs.Represents.{firsts, StateRep, Represents}
 use Rattle.refinement.proofs.Frames.{ofClass, Only}
 use Rattle.refinement.proofs.ArenaReached.{Reached, heapOf, reached-classes, reached-give}
-use Rattle.refinement.proofs.ArenaHeld.{heldOf, held-less}
+use Rattle.refinement.proofs.ArenaHeld.{held-less}
 use Rattle.refinement.proofs.ArenaSteps.{rep-classes}
 use Rattle.refinement.proofs.Book.{classes-with, represents-class}
 use Rattle.refinement.proofs.GiveRep.{run-ends}

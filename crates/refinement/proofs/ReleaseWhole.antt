@@ -3,32 +3,31 @@
 --     release-rep       refused by both with one number, or settled alike
 --     release-whole     every release by list, refused or not, of any fate, the give included
 --     release-after     the same after any history
-use Prim.Native.Nat.{ℕ, _+_, _≤_}
+use Prim.Native.Nat.{ℕ, _≤_}
 use native.Mathlib.Omega.{arith}
-use native.Mathlib.Nat.{add-comm}
-use mathlib.Core.Bool.{Bool, true, false, cond, not, _&&_, false≢true}
+use mathlib.Core.Bool.{true, false, cond, not, _&&_, false≢true}
 use mathlib.Core.List.{List, [], _∷_, map}
 use mathlib.Core.Option.{Option, none, some}
-use mathlib.Core.Path.{_≡_, refl, sym, ap, _∙_, subst}
-use lib.Dec.{eqb, ltb, leb}
+use mathlib.Core.Path.{_≡_, refl, sym, ap, _∙_}
+use lib.Dec.{eqb, ltb}
 use lib.ListN.{length}
 use borrow.Author.Tests.{eqb-true, ne-eqb}
 use Rattle.classes.specs.Shape.{shapeOf}
 use Rattle.fields.specs.Ranges.{maxPages}
 use Rattle.fields.proofs.Changes.{changes-none}
-use Rattle.model.specs.Lists.{every, distinct, count, isSome, update}
+use Rattle.model.specs.Lists.{every, distinct, count, isSome}
 use Rattle.model.specs.Calls as Calls
 use Rattle.model.specs.Calls.{Call, fate}
 use Rattle.model.specs.Page.{isOut}
-use Rattle.model.specs.Class.{Class, Ask, done, refuse}
-use Rattle.model.specs.Release.{Site, Settled, locate, ofKind, outHere, settle, onPage, releaseList}
+use Rattle.model.specs.Class.{Ask, done, refuse}
+use Rattle.model.specs.Release.{Site, Settled, locate, ofKind, outHere, onPage, releaseList}
 use Rattle.model.specs.Chunks.{answer, hostMax}
 use Rattle.model.specs.Heap.{Heap, offer, finish, interact, classCall}
 use Rattle.model.specs.History.{heapAfter}
 use Rattle.model.proofs.Counts.{by-cases, and-l, and-r, distinct-count}
 use Rattle.pages.specs.Stack.{indexOf}
 use Rattle.heap.specs.Release.{startOf, outAt, Released, releasedNone, lastStep, giveBackAt, releaseFair, releaseBlocks, releaseCall}
-use Rattle.refinement.specs.Represents.{firsts, Represents}
+use Rattle.refinement.specs.Represents.{Represents}
 use Rattle.refinement.specs.Classes.{Follows}
 use Rattle.refinement.specs.Releases.{listReply}
 use Rattle.refinement.proofs.Basics.{Setting}
