@@ -30,3 +30,13 @@ pub mod Book
 pub mod NewRun
 pub mod Join
 pub mod TakeWhole
+pub mod Decode
+pub mod Found
+pub mod Returned
+pub mod Release
+pub mod ReleaseFair
+pub mod ReleaseGives
+pub mod ReleaseWhole
+pub mod ChunkTests
+pub mod Chunks
+pub mod ChunkWhole

@@ -2,3 +2,4 @@ pub mod Chain
 pub mod Represents
 pub mod Direct
 pub mod Classes
+pub mod Releases
