@@ -1,2 +1,3 @@
 mod DirectWays
 mod TakeWays
+mod ReleaseWays
