@@ -39,6 +39,13 @@ module _ (b : List ℕ) (r : ℕ) (e : r ≡ metaFault b) (low many c h : ℕ) (
   unfolding releaseOn
   release-no-class z k j = rw (← e, eq-eqb r 0 z, le-ltb 15 h k, le-ltb c many j) (record { answer = refl; left = refl })
 
+  pub release-asks : (n i : ℕ) (sh : Shape) → r ≡ 0 → c < many → low + many ≤ 76 → n ≡ get b (arena size) → i ≡ low + c → sh ≡ shapeOf i → ClassAsks n b i sh
+  release-asks n i sh z j u f g w =
+      let k = sound b r e z in
+      let q = leb-true (words (get b (arena size))) (length b) (k .long) in
+      let m = leb-true (get b (arena size)) 262144 (and-right (leb 1 (get b (arena size))) _ (k .sized)) in
+      record { known = omega arith; sound = rw w (shape-sound i); few = omega arith; long = omega arith }
+
   pub release-goes : (n i : ℕ) (sh : Shape) (s : Released) (x : List ℕ) → r ≡ 0 → h ≤ 15 → c < many → n ≡ get b (arena size) → i ≡ low + c → sh ≡ shapeOf i
       → Answered s x (releaseCall n b i sh h l) → Answered s x (releaseOn low many b c h l)
   unfolding releaseOn
