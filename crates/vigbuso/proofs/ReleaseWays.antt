@@ -26,6 +26,13 @@ refusal : (k : ℕ) → (k ≡ 0 → ⊥) → (f : ℕ) → Refused k ≡ answer
 refusal zero d f = absurd (d refl)
 refusal (suc k) d f = refl
 
+pub release-asks : (b : List ℕ) (r low many c n : ℕ) (sh : Shape) → low + many ≤ 76 → r ≡ metaFault b → r ≡ 0 → c < many → n ≡ get b (arena size) → sh ≡ shapeOf (low + c) → ClassAsks n b (low + c) sh
+release-asks b r low many c n sh u e z j f w =
+    let k = sound b r e z in
+    let q = leb-true (words (get b (arena size))) (length b) (k .long) in
+    let m = leb-true (get b (arena size)) 262144 (and-right (leb 1 (get b (arena size))) _ (k .sized)) in
+    record { known = omega arith; sound = rw w (shape-sound (low + c)); few = omega arith; long = omega arith }
+
 module _ (b : List ℕ) (r : ℕ) (e : r ≡ metaFault b) (low many c h : ℕ) (l : List ℕ) where
   pub release-unfit : (r ≡ 0 → ⊥) → Answered (Refused r) b (releaseOn low many b c h l)
   unfolding releaseOn
@@ -39,17 +46,10 @@ module _ (b : List ℕ) (r : ℕ) (e : r ≡ metaFault b) (low many c h : ℕ) (
   unfolding releaseOn
   release-no-class z k j = rw (← e, eq-eqb r 0 z, le-ltb 15 h k, le-ltb c many j) (record { answer = refl; left = refl })
 
-  pub release-asks : (n i : ℕ) (sh : Shape) → r ≡ 0 → c < many → low + many ≤ 76 → n ≡ get b (arena size) → i ≡ low + c → sh ≡ shapeOf i → ClassAsks n b i sh
-  release-asks n i sh z j u f g w =
-      let k = sound b r e z in
-      let q = leb-true (words (get b (arena size))) (length b) (k .long) in
-      let m = leb-true (get b (arena size)) 262144 (and-right (leb 1 (get b (arena size))) _ (k .sized)) in
-      record { known = omega arith; sound = rw w (shape-sound i); few = omega arith; long = omega arith }
-
-  pub release-goes : (n i : ℕ) (sh : Shape) (s : Released) (x : List ℕ) → r ≡ 0 → h ≤ 15 → c < many → n ≡ get b (arena size) → i ≡ low + c → sh ≡ shapeOf i
-      → Answered s x (releaseCall n b i sh h l) → Answered s x (releaseOn low many b c h l)
+  pub release-goes : (n : ℕ) (sh : Shape) (s : Released) (x : List ℕ) → r ≡ 0 → h ≤ 15 → c < many → n ≡ get b (arena size) → sh ≡ shapeOf (low + c)
+      → Answered s x (releaseCall n b (low + c) sh h l) → Answered s x (releaseOn low many b c h l)
   unfolding releaseOn
-  release-goes n i sh s x z k j f g w t = rw (← e, eq-eqb r 0 z, le-ltb 15 h k, lt-ltb c many j) (rw g at (rw w at (rw f at t)))
+  release-goes n sh s x z k j f w t = rw (← e, eq-eqb r 0 z, le-ltb 15 h k, lt-ltb c many j) (rw w at (rw f at t))
 
 module _ (o : Back.Released) (x : List ℕ) (s : Released) (k : Answered s x o) where
   pub release-ends-refused : (c f : ℕ) → s ≡ Refused c → ReleaseEnds o c x f f

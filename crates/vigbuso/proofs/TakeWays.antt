@@ -26,6 +26,13 @@ refusal : (k : ℕ) → (k ≡ 0 → ⊥) → (m : ℕ) (v : Bool) → Refused k
 refusal zero d m v = absurd (d refl)
 refusal (suc k) d m v = refl
 
+pub take-asks : (b : List ℕ) (r low many c n : ℕ) → low + many ≤ 76 → r ≡ metaFault b → r ≡ 0 → c < many → n ≡ get b (arena size) → CallAsks n b (low + c)
+take-asks b r low many c n u e z j f =
+    let k = sound b r e z in
+    let g = leb-true (words (get b (arena size))) (length b) (k .long) in
+    let m = leb-true (get b (arena size)) 262144 (and-right (leb 1 (get b (arena size))) _ (k .sized)) in
+    record { known = omega arith; few = omega arith; long = omega arith }
+
 module _ (b : List ℕ) (r : ℕ) (e : r ≡ metaFault b) (low many c h : ℕ) (l : List ℕ) where
   pub take-unfit : (r ≡ 0 → ⊥) → Takes (Refused r) b l (takeOn low many b c h l)
   unfolding takeOn
@@ -38,13 +45,6 @@ module _ (b : List ℕ) (r : ℕ) (e : r ≡ metaFault b) (low many c h : ℕ) (
   pub take-no-class : r ≡ 0 → h ≤ 15 → many ≤ c → Takes (Refused 4) b l (takeOn low many b c h l)
   unfolding takeOn
   take-no-class z k j = rw (← e, eq-eqb r 0 z, le-ltb 15 h k, le-ltb c many j) (record { answer = refl; meta = refl; list = refl })
-
-  pub take-asks : (n : ℕ) → r ≡ 0 → n ≡ get b (arena size) → c < many → low + many ≤ 76 → CallAsks n b (low + c)
-  take-asks n z f j u =
-      let k = sound b r e z in
-      let g = leb-true (words (get b (arena size))) (length b) (k .long) in
-      let m = leb-true (get b (arena size)) 262144 (and-right (leb 1 (get b (arena size))) _ (k .sized)) in
-      record { known = omega arith; few = omega arith; long = omega arith }
 
   pub take-goes : (n : ℕ) (s : Take) (x y : List ℕ) → r ≡ 0 → h ≤ 15 → c < many → n ≡ get b (arena size)
       → Takes s x y (takeCall n b (low + c) (shapeOf (low + c)) h l) → Takes s x y (takeOn low many b c h l)

@@ -46,12 +46,12 @@ virginOut (Took m v) old = digit v
 abbrev pub answered : Heap.Took → Take
 answered t = answerOf (t .code) (t .count) (t .virgin)
 
-pub record TakeEnds (t : Heap.Took) (r : ℕ) (b l : List ℕ) (count₀ count virgin₀ virgin : ℕ) : Type 0 where
+pub record TakeEnds (t : Heap.Took) (r : ℕ) (b l : List ℕ) (count₀ count′ virgin₀ virgin′ : ℕ) : Type 0 where
   pub code : r ≡ codeOut (answered t)
   pub book : b ≡ t .book
   pub list : l ≡ t .list
-  pub count : count ≡ countOut (answered t) count₀
-  pub virgin : virgin ≡ virginOut (answered t) virgin₀
+  pub count : count′ ≡ countOut (answered t) count₀
+  pub virgin : virgin′ ≡ virginOut (answered t) virgin₀
 
 -- ---- releases by list
 unfoldable pub releaseOn : ℕ → ℕ → List ℕ → ℕ → ℕ → List ℕ → Back.Released
@@ -69,7 +69,7 @@ abbrev pub fateOut : Released → ℕ → ℕ
 fateOut (Released.Refused k) old = old
 fateOut (Fate f) old = f
 
-pub record ReleaseEnds (o : Back.Released) (r : ℕ) (b : List ℕ) (fate₀ fate : ℕ) : Type 0 where
+pub record ReleaseEnds (o : Back.Released) (r : ℕ) (b : List ℕ) (fate₀ fate′ : ℕ) : Type 0 where
   pub code : r ≡ releaseCode (answerAs (o .code) (o .fate))
   pub book : b ≡ o .book
-  pub fate : fate ≡ fateOut (answerAs (o .code) (o .fate)) fate₀
+  pub fate : fate′ ≡ fateOut (answerAs (o .code) (o .fate)) fate₀
