@@ -164,13 +164,13 @@ module _ (n : ℕ) (hn : n ≤ maxPages) (b : List ℕ) (H : Heap) (R : Represen
       unfolding interact offer finish
       settled-follows fs =
           let w = all-settled in
-          rw (w .fates, w .gives)
-          (record {
-            answer = refl;
+          record {
+            answer = ap (λ l. fates (l ++ drop (length gs) fs)) (w .fates);
             fair = λ e. omega arith;
-            heap = all-given n b H R ok c hc (settleChunks b c (shapeOf c) h ws gs .book) (w .only) (Model.settleChunks (shapeOf c) h ws (H .classes c) gs .class) (w .pages) (w .rep)
-                (Model.settleChunks (shapeOf c) h ws (H .classes c) gs .gives) (w .named);
-          })
+            heap = rw (w .gives)
+                (all-given n b H R ok c hc (settleChunks b c (shapeOf c) h ws gs .book) (w .only) (Model.settleChunks (shapeOf c) h ws (H .classes c) gs .class) (w .pages) (w .rep)
+                (Model.settleChunks (shapeOf c) h ws (H .classes c) gs .gives) (w .named));
+          }
 
   -- ---- the whole call
   module _ (h : ℕ) (ws gs fs : List ℕ) where
