@@ -52,7 +52,7 @@ pub small-shape : (c : ℕ) → ltb c 64 ≡ true → isMedium (shapeOf c) ≡ f
 unfolding shapeOf smallShape
 small-shape c e = rw e
 
-small-class : (c : ℕ) → ltb c 64 ≡ true → ltb c 76 ≡ true
+pub small-class : (c : ℕ) → ltb c 64 ≡ true → ltb c 76 ≡ true
 small-class c e = lt-ltb c 76 (omega (arith, ltb-true c 64 e))
 
 module _ (n : ℕ) (hn : n ≤ maxPages) (b : List ℕ) (H : Heap) (R : Represents n b H) (ok : Reached n H) (c : ℕ) (hs : ltb c 64 ≡ true) where
