@@ -52,7 +52,7 @@ pub small-shape : (c : ℕ) → ltb c 64 ≡ true → isMedium (shapeOf c) ≡ f
 unfolding shapeOf smallShape
 small-shape c e = rw e
 
-small-class : (c : ℕ) → ltb c 64 ≡ true → ltb c 76 ≡ true
+pub small-class : (c : ℕ) → ltb c 64 ≡ true → ltb c 76 ≡ true
 small-class c e = lt-ltb c 76 (omega (arith, ltb-true c 64 e))
 
 module _ (n : ℕ) (hn : n ≤ maxPages) (b : List ℕ) (H : Heap) (R : Represents n b H) (ok : Reached n H) (c : ℕ) (hs : ltb c 64 ≡ true) where
@@ -164,13 +164,13 @@ module _ (n : ℕ) (hn : n ≤ maxPages) (b : List ℕ) (H : Heap) (R : Represen
       unfolding interact offer finish
       settled-follows fs =
           let w = all-settled in
-          rw (w .fates, w .gives)
-          (record {
-            answer = refl;
+          record {
+            answer = ap (λ l. fates (l ++ drop (length gs) fs)) (w .fates);
             fair = λ e. omega arith;
-            heap = all-given n b H R ok c hc (settleChunks b c (shapeOf c) h ws gs .book) (w .only) (Model.settleChunks (shapeOf c) h ws (H .classes c) gs .class) (w .pages) (w .rep)
-                (Model.settleChunks (shapeOf c) h ws (H .classes c) gs .gives) (w .named);
-          })
+            heap = rw (w .gives)
+                (all-given n b H R ok c hc (settleChunks b c (shapeOf c) h ws gs .book) (w .only) (Model.settleChunks (shapeOf c) h ws (H .classes c) gs .class) (w .pages) (w .rep)
+                (Model.settleChunks (shapeOf c) h ws (H .classes c) gs .gives) (w .named));
+          }
 
   -- ---- the whole call
   module _ (h : ℕ) (ws gs fs : List ℕ) where

@@ -40,3 +40,4 @@ pub mod ReleaseWhole
 pub mod ChunkTests
 pub mod Chunks
 pub mod ChunkWhole
+pub mod Whole

@@ -3,3 +3,4 @@ pub mod Represents
 pub mod Direct
 pub mod Classes
 pub mod Releases
+pub mod Run

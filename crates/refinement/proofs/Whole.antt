@@ -1,0 +1,92 @@
+-- Every call and every history on the words is the model's. n is at most the longest arena. Assumes nothing.
+--     call-whole         any call on a book that stands for a heap after a history
+--     run-answers        a history's answers are the model's, from an opening on any book that is long enough
+--     run-represents     the book after it stands for the model's heap
+--     run-fair           number 13 is never answered
+use Prim.Native.Nat.{ℕ, _+_, _≤_}
+use native.Mathlib.Omega.{arith}
+use mathlib.Core.Bool.{true}
+use mathlib.Core.List.{List, [], _∷_, _++_, map}
+use mathlib.Core.Path.{_≡_, refl, sym, subst}
+use lib.Dec.{ltb, leb}
+use lib.ListN.{length}
+use borrow.Author.Tests.{ltb-true, lt-ltb}
+use Rattle.fields.specs.Field.{words}
+use Rattle.fields.specs.Ranges.{maxPages}
+use Rattle.model.specs.Lists.{All}
+use Rattle.model.specs.Calls as Calls
+use Rattle.model.specs.Calls.{Call}
+use Rattle.model.specs.Heap.{Heap, directCall, step, newHeap}
+use Rattle.model.specs.History.{Event, eventsFrom, heapFrom, heapAfter, answers}
+use Rattle.arena.specs.Open.{opened}
+use Rattle.refinement.specs.Represents.{Represents}
+use Rattle.refinement.specs.Direct.{Reply, directReply}
+use Rattle.refinement.specs.Classes.{Follows}
+use Rattle.refinement.specs.Run.{callReply, repliesFrom, bookFrom, answersIn, run, bookAfter}
+use Rattle.model.proofs.Counts.{by-cases}
+use Rattle.refinement.proofs.ArenaReached.{reached-after, heap-next}
+use Rattle.refinement.proofs.DirectCalls.{direct-represents}
+use Rattle.refinement.proofs.OpenRep.{opened-represents}
+use Rattle.refinement.proofs.TakeWhole.{take-after}
+use Rattle.refinement.proofs.ReleaseWhole.{release-after}
+use Rattle.refinement.proofs.ChunkWhole.{small-class, chunks-after}
+
+medium-class : (c : ℕ) → ltb c 12 ≡ true → ltb (64 + c) 76 ≡ true
+medium-class c e = lt-ltb (64 + c) 76 (omega (arith, ltb-true c 12 e))
+
+-- the calls ys on a book that stands for the heap H
+record RunRep (n : ℕ) (H : Heap) (b : List ℕ) (ys : List Call) : Type 0 where
+  answers : answersIn (repliesFrom n b ys) ≡ map (λ (e : Event). e .answer) (eventsFrom n H ys)
+  fair : All (λ (r : Reply). r .code ≡ 13 → ⊥) (repliesFrom n b ys)
+  heap : Represents n (bookFrom n b ys) (heapFrom n H ys)
+
+module _ (n : ℕ) (hn : n ≤ maxPages) where
+  -- ---- one call, after the history xs
+  module _ (xs : List Call) (b : List ℕ) (R : Represents n b (heapAfter n xs)) where
+    directly : (x : Call) → Follows n (directReply n b x) (directCall n (heapAfter n xs) x)
+    directly x = let a = direct-represents n b (heapAfter n xs) R (reached-after n xs) x in record { answer = a .answer; fair = a .fair; heap = a .heap }
+
+    pub call-whole : (x : Call) → Follows n (callReply n b x) (step n (heapAfter n xs) x)
+    unfolding callReply step
+    call-whole (Calls.takeBlocks c h l) =
+        by-cases (ltb c 64) (λ e. rw e (take-after n xs b R c (small-class c e) h l)) (λ e. rw e (directly (Calls.takeBlocks c h l)))
+    call-whole (Calls.mediumTakeBlocks c h l) =
+        by-cases (ltb c 12) (λ e. rw e (take-after n xs b R (64 + c) (medium-class c e) h l)) (λ e. rw e (directly (Calls.mediumTakeBlocks c h l)))
+    call-whole (Calls.releaseBlocks c h ws) =
+        by-cases (ltb c 64) (λ e. rw e (release-after n hn xs b R c (small-class c e) h ws)) (λ e. rw e (directly (Calls.releaseBlocks c h ws)))
+    call-whole (Calls.mediumReleaseBlocks c h ws) =
+        by-cases (ltb c 12) (λ e. rw e (release-after n hn xs b R (64 + c) (medium-class c e) h ws)) (λ e. rw e (directly (Calls.mediumReleaseBlocks c h ws)))
+    call-whole (Calls.releaseBinChunks c h ws gs fs) =
+        by-cases (ltb c 64) (λ e. rw e (chunks-after n hn xs b R c e h ws gs fs)) (λ e. rw e (directly (Calls.releaseBinChunks c h ws gs fs)))
+    call-whole (Calls.commit h m) = directly (Calls.commit h m)
+    call-whole (Calls.growFrontier h q old new) = directly (Calls.growFrontier h q old new)
+    call-whole (Calls.release h q m) = directly (Calls.release h q m)
+    call-whole (Calls.contains o k) = directly (Calls.contains o k)
+    call-whole Calls.report = directly Calls.report
+
+  -- ---- the calls ys after the history xs
+  runs : (ys xs : List Call) (b : List ℕ) → Represents n b (heapAfter n xs) → RunRep n (heapAfter n xs) b ys
+  runs [] xs b R = record { answers = refl; fair = tt; heap = R }
+  runs (y ∷ ys) xs b R =
+      let f = call-whole xs b R y in
+      let e : heapAfter n (xs ++ y ∷ []) ≡ step n (heapAfter n xs) y .heap = heap-next n newHeap xs y in
+      let b₁ = callReply n b y .book in
+      let ih = subst (λ (H : Heap). RunRep n H (callReply n b y .book) ys) e (runs ys (xs ++ y ∷ []) b₁ (subst (λ (H : Heap). Represents n b₁ H) (sym e) (f .heap))) in
+      record { answers = cons (f .answer) (ih .answers); fair = (f .fair, ih .fair); heap = ih .heap }
+    where
+      cons : {x y : Calls.Answer} {xs ys : List Calls.Answer} → x ≡ y → xs ≡ ys → x ∷ xs ≡ y ∷ ys
+      cons e f = cc
+
+  -- ---- from an opening on a book that is long enough
+  module _ (b : List ℕ) (long : leb (words n) (length b) ≡ true) (xs : List Call) where
+    whole : RunRep n newHeap (opened n b) xs
+    whole = runs xs [] (opened n b) (opened-represents n b long)
+
+    pub run-answers : run n b xs ≡ answers n xs
+    run-answers = whole .answers
+
+    pub run-represents : Represents n (bookAfter n b xs) (heapAfter n xs)
+    run-represents = whole .heap
+
+    pub run-fair : All (λ (r : Reply). r .code ≡ 13 → ⊥) (repliesFrom n (opened n b) xs)
+    run-fair = whole .fair

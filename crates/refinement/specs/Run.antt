@@ -1,0 +1,50 @@
+-- Every call on the words, and a history of calls from an opening (document 01, "The histories of demand 3"). n is the arena's
+-- length; each call is made on the book as the last one left it. Assumes nothing.
+--     callReply     the reply to any call
+--     run           the answers of a history, from an opening on a book
+use Prim.Native.Nat.{ℕ}
+use mathlib.Core.List.{List, [], _∷_}
+use mathlib.Core.Option.{Option, none, some}
+use Rattle.classes.specs.Shape.{shapeOf}
+use Rattle.model.specs.Calls as Calls
+use Rattle.model.specs.Calls.{Call, Answer, Named, names, Request}
+use Rattle.arena.specs.Open.{opened}
+use Rattle.heap.specs.Take.{takeCall}
+use Rattle.heap.specs.Release.{releaseCall}
+use Rattle.heap.specs.Chunks.{chunksCall}
+use Rattle.refinement.specs.Direct.{Reply, directReply}
+use Rattle.refinement.specs.Classes.{takeReply}
+use Rattle.refinement.specs.Releases.{listReply, chunksReply}
+
+abbrev pub classReply : ℕ → List ℕ → ℕ → Request → Reply
+classReply n b c (Calls.take h l) = takeReply (takeCall n b c (shapeOf c) h l)
+classReply n b c (Calls.giveBack h ws) = listReply (releaseCall n b c (shapeOf c) h ws)
+classReply n b c (Calls.giveChunks h ws gs fs) = chunksReply (chunksCall n b c (shapeOf c) h ws gs fs)
+
+-- by the class that the call names, if it names one
+abbrev pub replyAs : ℕ → List ℕ → Call → Option Named → Reply
+replyAs n b x none = directReply n b x
+replyAs n b x (some d) = classReply n b (d .class) (d .request)
+
+unfoldable pub callReply : ℕ → List ℕ → Call → Reply
+callReply n b x = replyAs n b x (names x)
+
+-- the replies of a history, and the book after it
+abbrev pub repliesFrom : ℕ → List ℕ → List Call → List Reply
+repliesFrom n b [] = []
+repliesFrom n b (x ∷ xs) = callReply n b x ∷ repliesFrom n (callReply n b x .book) xs
+
+abbrev pub bookFrom : ℕ → List ℕ → List Call → List ℕ
+bookFrom n b [] = b
+bookFrom n b (x ∷ xs) = bookFrom n (callReply n b x .book) xs
+
+abbrev pub answersIn : List Reply → List Answer
+answersIn [] = []
+answersIn (r ∷ rs) = r .answer ∷ answersIn rs
+
+-- from an opening
+abbrev pub run : ℕ → List ℕ → List Call → List Answer
+run n b xs = answersIn (repliesFrom n (opened n b) xs)
+
+abbrev pub bookAfter : ℕ → List ℕ → List Call → List ℕ
+bookAfter n b xs = bookFrom n (opened n b) xs
