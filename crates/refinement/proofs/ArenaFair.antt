@@ -23,6 +23,7 @@ use Rattle.model.proofs.IdlePages.{HolesBelow}
 use Rattle.arena.specs.Load.{statusCode, indexOf, wide, recall, loadHoles, loadStore, loadArena}
 use Rattle.arena.specs.Fair.{holeFair, recordFair, holesFair, memoryFair, commitFair, giveFair}
 use Rattle.arena.specs.Represents.{ArenaRep}
+use Rattle.arena.proofs.StoreLaws.{loaded-length}
 use Rattle.refinement.proofs.ArenaReached.{Reached, reached-holes, held-le}
 
 -- ---- what the words of an arena that is loaded are
@@ -51,13 +52,8 @@ module _ (b : List ℕ) (a : Arena) (loads : loadArena b ≡ a) where
   unfolding loadArena
   loads-abandoned = ap (λ x. x .abandoned) loads
 
-  loaded-length : (i k : ℕ) → length (loadHoles b i k) ≡ k
-  unfolding loadHoles
-  loaded-length i zero = refl
-  loaded-length i (suc k) = ap suc (loaded-length (suc i) k)
-
   pub loads-number : get b (arena holes) ≡ length (a .store .holes)
-  loads-number = sym (loaded-length 0 (get b (arena holes))) ∙ ap length loads-holes
+  loads-number = sym (loaded-length b 0 (get b (arena holes))) ∙ ap length loads-holes
 
   pub loads-memory : (m : ℕ) → recall b m ≡ a .store .memory m
   unfolding loadArena loadStore

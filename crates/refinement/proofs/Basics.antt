@@ -1,19 +1,18 @@
 -- The standing facts of a class's proofs, and tests as numbers. Assumes nothing.
 --     Setting     the book is long enough, the class is one, its shape is sound
-use Prim.Native.Nat.{ℕ, zero, suc, _≤_, _<_}
+use Prim.Native.Nat.{ℕ, zero, suc, _<_}
 use native.Mathlib.Omega.{arith}
-use mathlib.Core.Bool.{Bool, true, false, cond, _||_, true≢false}
+use mathlib.Core.Bool.{Bool, true, false, _||_, true≢false}
 use mathlib.Core.List.{List}
 use mathlib.Core.Path.{_≡_, refl, sym}
 use lib.Dec.{eqb, ltb, leb}
 use lib.ListN.{length}
-use borrow.Author.Tests.{eqb-true, eqb-false, ltb-true, ltb-false, lt-ltb, le-ltb}
 use Rattle.classes.specs.declared.Shape.{Shape}
 use Rattle.classes.specs.Sound.{Sound}
 use Rattle.fields.specs.Field.{words}
 use Rattle.model.specs.Lists.{every, below}
-use Rattle.model.proofs.Counts.{by-cases}
 use Rattle.pages.specs.Runs.{flag}
+pub use Rattle.pages.proofs.Downs.{flag-true, flag-false, flag-le, flag-cases, eq-cases}
 
 pub record Setting (n : ℕ) (b : List ℕ) (c : ℕ) (sh : Shape) : Type 0 where
   pub long : leb (words n) (length b) ≡ true
@@ -37,16 +36,6 @@ pub or-left : (s t : Bool) → s ≡ true → (s || t) ≡ true
 or-left true t e = refl
 or-left false t e = absurd (true≢false (sym e))
 
-pub flag-true : (a b : ℕ) → a < b → flag (ltb a b) ≡ 1
-flag-true a b h = rw (lt-ltb a b h)
-
-pub flag-false : (a b : ℕ) → b ≤ a → flag (ltb a b) ≡ 0
-flag-false a b h = rw (le-ltb a b h)
-
-pub flag-le : (t : Bool) → flag t ≤ 1
-flag-le true = omega arith
-flag-le false = omega arith
-
 pub flag-eqb : (v : Bool) → eqb (flag v) 1 ≡ v
 flag-eqb true = refl
 flag-eqb false = refl
@@ -54,13 +43,6 @@ flag-eqb false = refl
 pub flag-small : (t : Bool) → leb (flag t) 1 ≡ true
 flag-small true = refl
 flag-small false = refl
-
--- by cases on an order, and on an equation, with the test's value as a number
-pub flag-cases {ℓ} : {P : Type ℓ} (a b : ℕ) → (a < b → flag (ltb a b) ≡ 1 → P) → (b ≤ a → flag (ltb a b) ≡ 0 → P) → P
-flag-cases a b f g = by-cases (ltb a b) (λ e. f (ltb-true a b e) (rw e)) (λ e. g (ltb-false a b e) (rw e))
-
-pub eq-cases {ℓ} : {P : Type ℓ} (a b : ℕ) → (a ≡ b → _≡_ {A = ℕ} (cond (eqb a b) 1 0) 1 → P) → ((a ≡ b → ⊥) → _≡_ {A = ℕ} (cond (eqb a b) 1 0) 0 → P) → P
-eq-cases a b f g = by-cases (eqb a b) (λ e. f (eqb-true a b e) (rw e)) (λ e. g (eqb-false a b e) (rw e))
 
 -- ---- a test of every number below a bound (`every-at` says the converse)
 pub every-of : (t : ℕ → Bool) (m : ℕ) → ((k : ℕ) → k < m → t k ≡ true) → every t (below m) ≡ true

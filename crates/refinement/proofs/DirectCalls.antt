@@ -27,7 +27,7 @@ use Rattle.model.proofs.Counts.{by-cases, and-l, and-r}
 use Rattle.model.proofs.ArenaTidy.{tidy-commit, tidy-grow}
 use Rattle.pages.specs.Runs.{whole}
 use Rattle.arena.specs.Owners.{ownerCode}
-use Rattle.arena.specs.Calls.{commitCall, heldDirect, growCall, grownBy, releaseCall, containsCall, figures, reportCode}
+use Rattle.arena.specs.Calls.{commitCall, everyDirect, heldDirect, growCall, grownBy, releaseCall, containsCall, figures, reportCode}
 use Rattle.arena.specs.Represents.{ArenaRep}
 use Rattle.refinement.specs.Represents.{Represents}
 use Rattle.refinement.specs.Direct.{Reply, reply, commitReply, growReply, releaseReply, reportedOf, directReply, Agrees}
@@ -94,7 +94,7 @@ module _ (n : ℕ) (b : List ℕ) (H : Heap) (rep : ArenaRep n b H) (r : Reached
     low k l u = rw (rep .owners (q + k) (omega arith)) (is-direct (H .holder (q + k)) (r .known .at (q + k)))
 
     pub held-direct : heldDirect n b q m ≡ Heaps.heldDirect n H q m
-    unfolding heldDirect Heaps.heldDirect
+    unfolding heldDirect everyDirect Heaps.heldDirect
     held-direct =
         rw (loads-frontier b (H .arena) (rep .loads))
         (ap (λ t. leb (q + m) n && t)

@@ -3,7 +3,7 @@
 use Prim.Native.Nat.{ℕ, suc, _+_, _≤_}
 use native.Mathlib.Omega.{arith}
 use native.Mathlib.Decide.{ℕ-discrete}
-use mathlib.Core.Bool.{Bool, true, false, cond, not, _&&_, _||_, true≢false, false≢true}
+use mathlib.Core.Bool.{Bool, true, false, cond, not, _&&_, _||_, true≢false}
 use mathlib.Core.List.{List, [], _∷_}
 use mathlib.Core.Option.{Option, none, some}
 use mathlib.Core.Path.{_≡_, refl, sym, ap, _∙_, subst}
@@ -18,91 +18,32 @@ use Rattle.fields.specs.Field.{Field, arena, memory, hole, page, slot, out, fir
 use Rattle.fields.proofs.Changes.{Changes}
 use Rattle.model.specs.Lists.{inRun, covers, coversRun}
 use Rattle.model.specs.Page.{Page, carve}
-use Rattle.model.specs.Arena.{Arena, commit}
+use Rattle.model.specs.Arena.{commit, Given}
 use Rattle.model.specs.Class.{Class}
 use Rattle.model.specs.Heap.{Heap, nobody, class, passTo}
-use Rattle.model.proofs.Counts.{by-cases, and-l, and-r}
-use Rattle.model.proofs.Runs.{covers-in}
+use Rattle.model.proofs.Counts.{and-l, and-r}
 use Rattle.model.proofs.ArenaTidy.{tidy-commit}
-use Rattle.model.proofs.ArenaLaws.{idle, commit-law}
+use Rattle.model.proofs.ArenaLaws.{commit-law}
 use Rattle.model.proofs.IdlePages.{commit-below}
 use Rattle.pages.specs.Runs.{flag, whole}
 use Rattle.pages.specs.declared.Park.{Park}
 use Rattle.pages.specs.Carve.{newRun}
-use Rattle.arena.specs.Owners.{ownerCode}
 use Rattle.arena.specs.Calls.{committed}
 use Rattle.arena.specs.Represents.{ArenaRep}
+use Rattle.refinement.proofs.ArenaKeeps.{step-class}
+use Rattle.refinement.proofs.CommitRuns.{claim-none, claim-others, claim-new}
 use Rattle.refinement.specs.Represents.{ClassRep, Represents}
-use Rattle.refinement.proofs.ArenaReached.{Reached, heapOf, idle-once, idle-nobody}
-use Rattle.refinement.proofs.ArenaFair.{loads-frontier}
+use Rattle.refinement.proofs.ArenaReached.{Reached, heapOf, idle-once, reached-commit}
 use Rattle.refinement.proofs.ArenaFrames.{isStep, inRunOf, either, passed, step-row, step-page, step-first, step-out, step-slot, committed-changes}
 use Rattle.refinement.proofs.ArenaSteps.{isArenas, rep-kept}
-use Rattle.refinement.proofs.ArenaRuns.{nobody-other, class-other, drawn-whole, claimed-others, claimed-new}
+use Rattle.refinement.proofs.ArenaRuns.{nobody-other, drawn-whole}
 use Rattle.refinement.proofs.CommitRep.{commit-rep}
 use Rattle.refinement.proofs.Basics.{Setting, setting-kept}
-use Rattle.refinement.proofs.Frames.{whole-says, whole-owner}
 use Rattle.refinement.proofs.Kept.{Keeps, class-now, class-kept, listed-whole}
 use Rattle.refinement.proofs.Pushes.{carve-first}
 use Rattle.refinement.proofs.NewRun.{LetsNew, new-changes, new-names, new-rep}
 
--- ---- what a commit for class c leaves: the book b₁, the arena a, and the run o or none
-pub record Drawn (n : ℕ) (b b₁ : List ℕ) (H : Heap) (c : ℕ) (a : Arena) (o : Option ℕ) : Type 0 where
-  pub owned : ℕ → Bool
-  pub changes : Changes (isStep owned) b b₁
-  pub rep : (cs : ℕ → Class) → ArenaRep n b₁ (heapOf a (passTo (class c) (coversRun (shapeOf c .pages) o) (H .holder)) cs)
-  pub rises : H .arena .frontier ≤ a .frontier
-  pub bound : a .frontier ≤ n
-  pub few : length (a .store .holes) ≤ 4096
-  pub drawn : (x : ℕ) → idle x a + coversRun (shapeOf c .pages) o x ≤ idle x (H .arena)
-  pub low : (q : ℕ) → o ≡ some q → q + shapeOf c .pages ≤ a .frontier
-
-pub commit-drawn : (n : ℕ) (b : List ℕ) (H : Heap) → ArenaRep n b H → Reached n H → (c h : ℕ)
-    → (let g = commit n h (shapeOf c .pages) (H .arena) in Drawn n b (committed b g (shapeOf c .pages) (suc c)) H c (g .arena) (g .run))
-commit-drawn n b H rep ok c h =
-    let m = shapeOf c .pages in
-    let one = shape-sound c .paged in
-    let g = commit n h m (H .arena) in
-    let law = commit-law n h m (H .arena) in
-    let slots = tidy-commit n h m one (H .arena) (ok .tidy) .slots in
-    record {
-      owned = either (passed b (g .arena)) (inRunOf m (g .run));
-      changes = committed-changes b g m (suc c) slots;
-      rep = λ cs. commit-rep n b H rep ok h m one (class c) refl cs;
-      rises = law .rises;
-      bound = law .bound (ok .bound);
-      few = slots;
-      drawn = λ x. omega (arith, law .pages x);
-      low = λ q e. commit-below n h m (H .arena) one (idle-once n H ok) q e;
-    }
-
--- a commit writes no word of a page but OWNER
-module _ {n : ℕ} {b b₁ : List ℕ} {H : Heap} {c : ℕ} {a : Arena} {o : Option ℕ} (D : Drawn n b b₁ H c a o) where
-  commit-keeps : {sh : Shape} {d : ℕ} (x : ℕ) → whole n b₁ sh d x ≡ true → Keeps n sh d b b₁ x
-  commit-keeps x w =
-      let p : (k : Field.PageField) → eqb (pageOff k) 0 ≡ false → get b₁ (page k x) ≡ get b (page k x) = λ k e. step-page (D .owned) b b₁ (D .changes) k x e in
-      record {
-        body = record {
-          free = p free refl;
-          carved = p carved refl;
-          virgin = p virgin refl;
-          slots = λ i e. step-slot (D .owned) b b₁ (D .changes) x i e;
-          outs = λ i e. step-out (D .owned) b b₁ (D .changes) x i e;
-        };
-        listing = p listed refl;
-        ties = record { fore = p next refl; back = p prev refl };
-        run = w;
-      }
-
--- ---- no run
-module _ {n : ℕ} {b b₁ : List ℕ} {H : Heap} (R : Represents n b H) (ok : Reached n H) {c : ℕ} {a : Arena} (D : Drawn n b b₁ H c a none) where
-  pub none-stays : (d : ℕ) → ltb d 76 ≡ true → {k : Park} {ps xs ys fs : List Page} → ClassRep n b d (shapeOf d) k ps xs ys fs → ClassRep n b₁ d (shapeOf d) k ps xs ys fs
-  none-stays d hd r =
-      let same : (x : ℕ) → whole n b₁ (shapeOf d) d x ≡ whole n b (shapeOf d) d x
-      = λ x. drawn-whole n b b₁ H ok (R .arena) a (λ y. 0) nobody (H .classes) (D .rep (H .classes)) (D .rises) (D .drawn)
-      (λ y e. step-first (D .owned) b b₁ (D .changes) y) (shapeOf d) d x (shape-sound d .paged) (nobody-other d) in
-      class-kept (shape-sound d) r (λ f. step-row (D .owned) b b₁ (D .changes) f d hd) same (λ x e. commit-keeps D x (same x ∙ e))
-
--- ---- a run of m pages at q
+-- ---- what a new run of m pages at q writes
 -- the words of page q but OWNER, and FIRST of the run's pages
 abbrev isNew : ℕ → ℕ → Field → Bool
 isNew q m (arena k) = false
@@ -133,135 +74,130 @@ new-lets q m =
 arena-lets : (q m : ℕ) → LetsNew (λ g. not (isArenas g)) q m
 arena-lets q m = record { starts = λ y l u. refl; listing = refl; free = refl; carved = refl; virgin = refl; slots = λ i. refl; outs = λ i. refl }
 
--- a number that is 1 or 0 by a test
-covers-out : (t : Bool) → eqb (cond t 1 0) 0 ≡ true → t ≡ false
-covers-out true e = absurd (false≢true e)
-covers-out false e = refl
+module _ (n : ℕ) (b : List ℕ) (H : Heap) (R : Represents n b H) (ok : Reached n H) (c : ℕ) (hc : ltb c 76 ≡ true) (h : ℕ) where
+  abbrev pages : ℕ
+  pages = shapeOf c .pages
 
-covers-yes : (t : Bool) → eqb (cond t 1 0) 0 ≡ false → t ≡ true
-covers-yes true e = refl
-covers-yes false e = absurd (true≢false e)
+  abbrev grant : Given
+  grant = commit n h pages (H .arena)
 
-module _ {n : ℕ} {b b₁ : List ℕ} {H : Heap} (R : Represents n b H) (ok : Reached n H) {c : ℕ} (hc : ltb c 76 ≡ true) {a : Arena} {q : ℕ}
-    (D : Drawn n b b₁ H c a (some q)) where
-  b₂ : List ℕ
-  b₂ = newRun b₁ (shapeOf c) q
+  -- the book after the commit, and the pages that got an owner
+  abbrev after : List ℕ
+  after = committed b grant pages (suc c)
+
+  abbrev owned : ℕ → Bool
+  owned = either (passed b (grant .arena)) (inRunOf pages (grant .run))
 
   one : 1 ≤ shapeOf c .pages
   one = shape-sound c .paged
 
-  under : q + shapeOf c .pages ≤ a .frontier
-  under = D .low q refl
+  few : length (commit n h (shapeOf c .pages) (H .arena) .arena .store .holes) ≤ 4096
+  few = tidy-commit n h pages one (H .arena) (ok .tidy) .slots
 
-  inside : q + shapeOf c .pages ≤ n
-  inside = omega (arith, under, D .bound)
+  changes : Changes (isStep owned) b after
+  changes = committed-changes b grant pages (suc c) few
 
-  s₁ : Setting n b₁ c (shapeOf c)
-  s₁ = record { long = D .rep (H .classes) .long; row = hc; shape = shape-sound c }
+  rep₁ : (cs : ℕ → Class) → ArenaRep n after (heapOf (grant .arena) (passTo (class c) (coversRun pages (grant .run)) (H .holder)) cs)
+  rep₁ cs = commit-rep n b H (R .arena) ok h pages one (class c) refl cs
 
-  new : Changes (isNew q (shapeOf c .pages)) b₁ b₂
-  unfolding b₂
-  new = new-changes s₁ q (isNew q (shapeOf c .pages)) (new-lets q (shapeOf c .pages))
+  -- ---- no run
+  module _ (e : commit n h (shapeOf c .pages) (H .arena) .run ≡ none) where
+    pub none-arena : (cs : ℕ → Class) → ArenaRep n after (heapOf (grant .arena) (H .holder) cs)
+    none-arena cs = subst (λ (o : Option ℕ). ArenaRep n after (heapOf (grant .arena) (passTo (class c) (coversRun pages o) (H .holder)) cs)) e (rep₁ cs)
 
-  pub new-arena : (cs : ℕ → Class) → ArenaRep n (newRun b₁ (shapeOf c) q) (heapOf a (passTo (class c) (covers (shapeOf c .pages) q) (H .holder)) cs)
-  new-arena cs =
-      let ch = new-changes s₁ q (λ g. not (isArenas g)) (arena-lets q (shapeOf c .pages)) in
-      rep-kept n b₁ (newRun b₁ (shapeOf c) q) (heapOf a (passTo (class c) (covers (shapeOf c .pages) q) (H .holder)) cs) (D .few) (ch .long)
-      (λ g o e. ch .kept g o (rw e)) (D .rep cs)
+    pub none-stays : (d : ℕ) → ltb d 76 ≡ true → {k : Park} {ps xs ys fs : List Page} → ClassRep n b d (shapeOf d) k ps xs ys fs → ClassRep n after d (shapeOf d) k ps xs ys fs
+    none-stays d hd r =
+        let law = commit-law n h pages (H .arena) in
+        step-class owned b after changes (shape-sound d) hd
+        (λ x. drawn-whole n b after H ok (R .arena) (grant .arena) (λ y. 0) nobody (H .classes) (none-arena (H .classes)) (law .rises) (λ y. omega (arith, law .pages y))
+        (λ y t. step-first owned b after changes y) (shapeOf d) d x (shape-sound d .paged) (nobody-other d)) r
 
-  rep₂ : ArenaRep n b₂ (heapOf a (passTo (class c) (covers (shapeOf c .pages) q) (H .holder)) (H .classes))
-  unfolding b₂
-  rep₂ = new-arena (H .classes)
+  -- ---- a run at q
+  module _ (q : ℕ) (e : commit n h (shapeOf c .pages) (H .arena) .run ≡ some q) where
+    abbrev new : List ℕ
+    new = newRun after (shapeOf c) q
 
-  starts : (y : ℕ) → eqb (covers (shapeOf c .pages) q y) 0 ≡ true → get b₂ (page first y) ≡ get b (page first y)
-  starts y e =
-      new .kept (page first y) refl (or-none (inRun (shapeOf c .pages) q y) ∙ covers-out (inRun (shapeOf c .pages) q y) e)
-      ∙ step-first (D .owned) b b₁ (D .changes) y
+    within : q + shapeOf c .pages ≤ n
+    within = omega (arith, commit-below n h pages (H .arena) one (idle-once n H ok) q e, commit-law n h pages (H .arena) .bound (ok .bound))
 
-  names : (y : ℕ) → eqb (covers (shapeOf c .pages) q y) 0 ≡ false → get b₂ (page first y) ≡ q
-  unfolding b₂
-  names y e =
-      let i = covers-yes (inRun (shapeOf c .pages) q y) e in
-      new-names s₁ q inside y (leb-true q y (and-l (leb q y) (ltb y (q + shapeOf c .pages)) i))
-      (ltb-true y (q + shapeOf c .pages) (and-r (leb q y) (ltb y (q + shapeOf c .pages)) i))
+    s₁ : Setting n after c (shapeOf c)
+    s₁ = record { long = rep₁ (H .classes) .long; row = hc; shape = shape-sound c }
 
-  same-other : (d x : ℕ) → (c ≡ d → ⊥) → whole n b₂ (shapeOf d) d x ≡ whole n b (shapeOf d) d x
-  same-other d x ne =
-      drawn-whole n b b₂ H ok (R .arena) a (covers (shapeOf c .pages) q) (class c) (H .classes) rep₂ (D .rises) (D .drawn) starts
-      (shapeOf d) d x (shape-sound d .paged) (class-other c d ne)
+    written : Changes (isNew q pages) after new
+    written = new-changes s₁ q (isNew q pages) (new-lets q pages)
 
-  same-mine : (x : ℕ) → (x ≡ q → ⊥) → whole n b₂ (shapeOf c) c x ≡ whole n b (shapeOf c) c x
-  same-mine x ne =
-      claimed-others n b b₂ H ok (R .arena) a (covers (shapeOf c .pages) q) (class c) (H .classes) rep₂ (D .rises) (D .drawn) starts
-      q names (shapeOf c) c x one ne
+    pub new-setting : Setting n new c (shapeOf c)
+    new-setting = setting-kept new (written .long) s₁
 
-  whole-now : whole n b₂ (shapeOf c) c q ≡ true
-  whole-now =
-      claimed-new n b b₂ H ok (R .arena) a (covers (shapeOf c .pages) q) (class c) (H .classes) rep₂ (D .rises) (D .drawn) starts
-      c q refl (shapeOf c) (λ y e. rw e) names under (D .bound)
+    rep₂ : (cs : ℕ → Class) → ArenaRep n new (heapOf (grant .arena) (passTo (class c) (coversRun pages (grant .run)) (H .holder)) cs)
+    rep₂ cs =
+        let ch = new-changes s₁ q (λ g. not (isArenas g)) (arena-lets q pages) in
+        rep-kept n after new (heapOf (grant .arena) (passTo (class c) (coversRun pages (grant .run)) (H .holder)) cs) few (ch .long) (λ g o t. ch .kept g o (rw t)) (rep₁ cs)
 
-  -- the run was nobody's, so no class's page stood at q
-  not-before : (d : ℕ) → whole n b (shapeOf d) d q ≡ true → ⊥
-  not-before d e =
-      let low = whole-says n b (shapeOf d) d q e .below in
-      let free : H .holder q ≡ nobody = idle-nobody n H ok q (omega (arith, D .drawn q, covers-in (shapeOf c .pages) q q (omega arith) (omega (arith, one)))) in
-      let mine = whole-owner n b (shape-sound d) d q e in
-      nothing d (R .arena .owners q (omega (arith, low, loads-frontier b (H .arena) (R .arena .loads), shape-sound d .paged))) (ap ownerCode free) mine
-    where
-      nothing : (d : ℕ) {w z : ℕ} → w ≡ z → z ≡ 0 → w ≡ suc d → ⊥
-      nothing d e f g = omega arith
+    pub new-arena : (cs : ℕ → Class) → ArenaRep n new (heapOf (grant .arena) (passTo (class c) (covers pages q) (H .holder)) cs)
+    new-arena cs = subst (λ (o : Option ℕ). ArenaRep n new (heapOf (grant .arena) (passTo (class c) (coversRun pages o) (H .holder)) cs)) e (rep₂ cs)
 
-  new-keeps : {sh : Shape} {d : ℕ} (x : ℕ) → (x ≡ q → ⊥) → whole n b₂ sh d x ≡ true → Keeps n sh d b b₂ x
-  new-keeps x ne w =
-      let p : (k : Field.PageField) → eqb (pageOff k) 0 ≡ false → isNew q (shapeOf c .pages) (page k x) ≡ false → get b₂ (page k x) ≡ get b (page k x)
-      = λ k e f. new .kept (page k x) refl f ∙ step-page (D .owned) b b₁ (D .changes) k x e in
-      let off = ne-eqb x q ne in
-      record {
-        body = record {
-          free = p free refl off;
-          carved = p carved refl off;
-          virgin = p virgin refl off;
-          slots = λ i e. new .kept (slot x i) e off ∙ step-slot (D .owned) b b₁ (D .changes) x i e;
-          outs = λ i e. new .kept (out x i) e off ∙ step-out (D .owned) b b₁ (D .changes) x i e;
-        };
-        listing = p listed refl off;
-        ties = record { fore = p next refl off; back = p prev refl off };
-        run = w;
-      }
+    pub new-reached : (cs : ℕ → Class) → Reached n (heapOf (grant .arena) (passTo (class c) (covers pages q) (H .holder)) cs)
+    new-reached cs = subst (λ (o : Option ℕ). Reached n (heapOf (grant .arena) (passTo (class c) (coversRun pages o) (H .holder)) cs)) e (reached-commit n H ok h pages one (class c) hc cs)
 
-  row : (f : Field.ClassField) (d : ℕ) → ltb d 76 ≡ true → get b₂ (Field.class f d) ≡ get b (Field.class f d)
-  row f d hd = new .kept (Field.class f d) hd refl ∙ step-row (D .owned) b b₁ (D .changes) f d hd
+    inside : (y : ℕ) → inRun (shapeOf c .pages) q y ≡ true → get new (page first y) ≡ q
+    inside y i =
+        new-names s₁ q within y (leb-true q y (and-l (leb q y) (ltb y (q + pages)) i)) (ltb-true y (q + pages) (and-r (leb q y) (ltb y (q + pages)) i))
 
-  apart : (d x : ℕ) → whole n b (shapeOf d) d x ≡ true → x ≡ q → ⊥
-  apart d x e z = not-before d (subst (λ (w : ℕ). whole n b (shapeOf d) d w ≡ true) z e)
+    outside : (y : ℕ) → inRun (shapeOf c .pages) q y ≡ false → get new (page first y) ≡ get b (page first y)
+    outside y i = written .kept (page first y) refl (or-none (inRun pages q y) ∙ i) ∙ step-first owned b after changes y
 
-  pub others-stay : (d : ℕ) → ltb d 76 ≡ true → (c ≡ d → ⊥) → {k : Park} {ps xs ys fs : List Page} → ClassRep n b d (shapeOf d) k ps xs ys fs
-      → ClassRep n (newRun b₁ (shapeOf c) q) d (shapeOf d) k ps xs ys fs
-  unfolding b₂
-  others-stay d hd ne r =
-      class-kept (shape-sound d) r (λ f. row f d hd) (λ x. same-other d x ne) (λ x e. new-keeps x (apart d x e) (same-other d x ne ∙ e))
+    -- which runs are whole: the new one, and the others as before; none was there
+    same : (d x : ℕ) → (d ≡ c → x ≡ q → ⊥) → whole n new (shapeOf d) d x ≡ whole n b (shapeOf d) d x
+    same d x ne = claim-others n b H (R .arena) ok h pages one q e c (H .classes) new (rep₂ (H .classes)) inside outside (shapeOf d) d x (shape-sound d .paged) ne
 
-  -- the class itself: one more page, in no list
-  pub class-joins : {k : Park} {ps xs ys fs : List Page} → ClassRep n b c (shapeOf c) k ps xs ys fs
-      → ClassRep n (newRun b₁ (shapeOf c) q) c (shapeOf c) k ps xs ys (carve (shapeOf c) q true ∷ fs)
-  unfolding b₂
-  class-joins {k} {ps} {xs} {ys} {fs} r =
-      let first = carve-first (shapeOf c) q true in
-      class-now (shape-sound c) r fs (carve (shapeOf c) q true ∷ []) (λ f. row f c hc)
-      (λ x h. let e = listed-whole (shape-sound c) r x h in new-keeps x (apart c x e) (same-mine x (apart c x e) ∙ e))
-      (r .fulls) (new-rep s₁ q (lt-ltb q n (omega (arith, inside, one))) whole-now, tt)
-      (λ x. elim (ℕ-discrete x q) [
-        | yes z ↦ (let now : flag (whole n (newRun b₁ (shapeOf c) q) (shapeOf c) c x) ≡ 1 = ap flag (ap (whole n (newRun b₁ (shapeOf c) q) (shapeOf c) c) z ∙ whole-now) in
-            let old : flag (whole n b (shapeOf c) c x) ≡ 0 = ap flag (by-cases (whole n b (shapeOf c) c x) (λ v. absurd (apart c x v z)) (λ v. v)) in
-            let here : _≡_ {A = ℕ} (cond (eqb x (carve (shapeOf c) q true .first)) 1 0) 1 = rw (eq-eqb x (carve (shapeOf c) q true .first) (z ∙ sym first)) in
-            omega (arith, r .runs x))
-        | no z ↦ (let there : _≡_ {A = ℕ} (cond (eqb x (carve (shapeOf c) q true .first)) 1 0) 0 = rw (ne-eqb x (carve (shapeOf c) q true .first) (λ e. z (e ∙ first))) in
-            rw (same-mine x z) (omega (arith, r .runs x)))
-      ])
+    whole-now : whole n new (shapeOf c) c q ≡ true
+    whole-now = claim-new n b H (R .arena) ok h pages one q e c (H .classes) new (rep₂ (H .classes)) inside outside (shapeOf c) refl
 
-  pub new-long : length (newRun b₁ (shapeOf c) q) ≡ length b₁
-  unfolding b₂
-  new-long = new .long
+    not-before : (d : ℕ) → whole n b (shapeOf d) d q ≡ false
+    not-before d = claim-none n b H (R .arena) ok h pages one q e (shapeOf d) d (shape-sound d .paged)
 
-  pub new-setting : Setting n (newRun b₁ (shapeOf c) q) c (shapeOf c)
-  new-setting = setting-kept (newRun b₁ (shapeOf c) q) new-long s₁
+    apart : (d x : ℕ) → whole n b (shapeOf d) d x ≡ true → x ≡ q → ⊥
+    apart d x w z = true≢false (sym w ∙ ap (whole n b (shapeOf d) d) z ∙ not-before d)
+
+    new-keeps : {sh : Shape} {d : ℕ} (x : ℕ) → (x ≡ q → ⊥) → whole n new sh d x ≡ true → Keeps n sh d b new x
+    new-keeps x ne w =
+        let p : (k : Field.PageField) → eqb (pageOff k) 0 ≡ false → isNew q (shapeOf c .pages) (page k x) ≡ false → get new (page k x) ≡ get b (page k x)
+        = λ k t f. written .kept (page k x) refl f ∙ step-page owned b after changes k x t in
+        let off = ne-eqb x q ne in
+        record {
+          body = record {
+            free = p free refl off;
+            carved = p carved refl off;
+            virgin = p virgin refl off;
+            slots = λ i t. written .kept (slot x i) t off ∙ step-slot owned b after changes x i t;
+            outs = λ i t. written .kept (out x i) t off ∙ step-out owned b after changes x i t;
+          };
+          listing = p listed refl off;
+          ties = record { fore = p next refl off; back = p prev refl off };
+          run = w;
+        }
+
+    row : (f : Field.ClassField) (d : ℕ) → ltb d 76 ≡ true → get new (Field.class f d) ≡ get b (Field.class f d)
+    row f d hd = written .kept (Field.class f d) hd refl ∙ step-row owned b after changes f d hd
+
+    pub others-stay : (d : ℕ) → ltb d 76 ≡ true → (d ≡ c → ⊥) → {k : Park} {ps xs ys fs : List Page} → ClassRep n b d (shapeOf d) k ps xs ys fs
+        → ClassRep n new d (shapeOf d) k ps xs ys fs
+    others-stay d hd ne r =
+        class-kept (shape-sound d) r (λ f. row f d hd) (λ x. same d x (λ z. absurd (ne z))) (λ x w. new-keeps x (apart d x w) (same d x (λ z. absurd (ne z)) ∙ w))
+
+    -- the class itself: one more page, in no list
+    pub class-joins : {k : Park} {ps xs ys fs : List Page} → ClassRep n b c (shapeOf c) k ps xs ys fs → ClassRep n new c (shapeOf c) k ps xs ys (carve (shapeOf c) q true ∷ fs)
+    class-joins {k} {ps} {xs} {ys} {fs} r =
+        let start = carve-first (shapeOf c) q true in
+        class-now (shape-sound c) r fs (carve (shapeOf c) q true ∷ []) (λ f. row f c hc)
+        (λ x l. let w = listed-whole (shape-sound c) r x l in new-keeps x (apart c x w) (same c x (λ z. apart c x w) ∙ w))
+        (r .fulls) (new-rep s₁ q (lt-ltb q n (omega (arith, within, one))) whole-now, tt)
+        (λ x. elim (ℕ-discrete x q) [
+          | yes z ↦ (let now : flag (whole n new (shapeOf c) c x) ≡ 1 = ap flag (ap (whole n new (shapeOf c) c) z ∙ whole-now) in
+              let old : flag (whole n b (shapeOf c) c x) ≡ 0 = ap flag (ap (whole n b (shapeOf c) c) z ∙ not-before c) in
+              let here : _≡_ {A = ℕ} (cond (eqb x (carve (shapeOf c) q true .first)) 1 0) 1 = rw (eq-eqb x (carve (shapeOf c) q true .first) (z ∙ sym start)) in
+              omega (arith, r .runs x))
+          | no z ↦ (let there : _≡_ {A = ℕ} (cond (eqb x (carve (shapeOf c) q true .first)) 1 0) 0 = rw (ne-eqb x (carve (shapeOf c) q true .first) (λ t. z (t ∙ start))) in
+              rw (same c x (λ w. z)) (omega (arith, r .runs x)))
+        ])

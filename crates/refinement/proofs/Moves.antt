@@ -25,10 +25,11 @@ use Rattle.pages.specs.Runs.{whole}
 use Rattle.pages.specs.declared.Park.{Park}
 use Rattle.pages.specs.declared.Park.the-variants.{Empty, Cold}
 use Rattle.pages.specs.Links.{linked, unlinked, link, unlink, other, top, tally, stow, unstow}
+use Rattle.pages.proofs.Downs.{flag-le}
 use Rattle.refinement.specs.Chain.{In, Chain}
 use Rattle.refinement.specs.Represents.{PageRep, Parked, firsts, heads, ClassRep}
 use Rattle.refinement.proofs.ArenaStore.{long-kept}
-use Rattle.refinement.proofs.Basics.{Setting, flag-le}
+use Rattle.refinement.proofs.Basics.{Setting}
 use Rattle.refinement.proofs.Lists.{in-left, in-count, itself, off, not-in, firsts-append, firsts-at, heads-at, all-along, first-page, last-page, part}
 use Rattle.refinement.proofs.Frames.{isData, ofClass, Only, data-owns, whole-kept, whole-owner, whole-in}
 use Rattle.refinement.proofs.Kept.{Body, Ties, rep-kept, rep-moved, parked-kept, stack-kept, chain-kept, class-now, listed-whole}

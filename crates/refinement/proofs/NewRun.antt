@@ -15,28 +15,21 @@ use Rattle.classes.specs.declared.Shape.{Shape}
 use Rattle.fields.specs.Field.{Field, page, slot, out, first, free, carved, listed, virgin, region, off, get, put, words}
 use Rattle.fields.specs.Clear.{clearOut}
 use Rattle.fields.proofs.Laws.{get-put-same, get-put-other, length-put}
-use Rattle.fields.proofs.Changes.{Changes, changes-none, changes-put, changes-trans}
-use Rattle.fields.proofs.Clear.{get-clear, changes-clear}
+use Rattle.fields.proofs.Changes.{Changes, changes-none}
+use Rattle.fields.proofs.Clear.{get-clear, changes-clear, length-clear}
 use Rattle.model.specs.Page.{carve}
 use Rattle.model.proofs.Counts.{by-cases}
 use Rattle.pages.specs.Runs.{whole, nameRun}
 use Rattle.pages.specs.Stack.{marked}
 use Rattle.pages.specs.Carve.{outWords, newRun}
+use Rattle.pages.proofs.Frames.{changes-name, changes-carve, changes-new}
 use Rattle.refinement.specs.Represents.{PageRep}
 use Rattle.refinement.proofs.ArenaStore.{long-kept}
 use Rattle.refinement.proofs.Basics.{Setting, setting-kept}
 use Rattle.refinement.proofs.Blocks.{in-row}
-use Rattle.refinement.proofs.Pushes.{anew-changes, anew-holds, carve-rep}
+use Rattle.refinement.proofs.Pushes.{anew-holds, carve-rep}
 
 -- ---- the run's pages name its first
-name-changes : (t : Field → Bool) (b : List ℕ) (f x m : ℕ) → ((y : ℕ) → x ≤ y → y < x + m → t (page first y) ≡ true) → Changes t b (nameRun b f x m)
-unfolding nameRun
-name-changes t b f x zero h = changes-none t b
-name-changes t b f x (suc m) h =
-    changes-trans t b (put b (page first x) f) _
-    (changes-put t b b (page first x) f refl (h x (omega arith) (omega arith)) (changes-none t b))
-    (name-changes t (put b (page first x) f) f (suc x) m (λ y l u. h y (omega arith) (omega arith)))
-
 name-before : (b : List ℕ) (f x m y : ℕ) → y < x → get (nameRun b f x m) (page first y) ≡ get b (page first y)
 unfolding nameRun
 name-before b f x zero y l = refl
@@ -63,6 +56,9 @@ pub record LetsNew (t : Field → Bool) (q m : ℕ) : Type 0 where
   pub outs : (i : ℕ) → t (out q i) ≡ true
 
 module _ {n : ℕ} {b : List ℕ} {c : ℕ} {sh : Shape} (s : Setting n b c sh) (q : ℕ) where
+  pub new-changes : (t : Field → Bool) → LetsNew t q (sh .pages) → Changes t b (newRun b sh q)
+  new-changes t l = changes-new t b sh q (s .shape .few) (l .free) (l .virgin) (l .slots) (l .carved) (l .listing) (l .outs) (l .starts)
+
   named : List ℕ
   named = nameRun b q q (sh .pages)
 
@@ -75,42 +71,34 @@ module _ {n : ℕ} {b : List ℕ} {c : ℕ} {sh : Shape} (s : Setting n b c sh) 
   few : 0 + 32 * outWords sh ≤ 4096
   few = omega (arith, s .shape .few)
 
-  -- after the pages were named
-  module _ (t : Field → Bool) (listing : t (page listed q) ≡ true) (outs : (i : ℕ) → t (out q i) ≡ true) where
-    unlisted-changes : Changes t named unlisted
-    unfolding unlisted cleared
-    unlisted-changes =
-        changes-put t named cleared (page listed q) 0 refl listing
-        (changes-clear t named (32 * outWords sh) q 0 named few (λ j l u. outs j) (changes-none t named))
-
-    after-changes : t (page free q) ≡ true → t (page carved q) ≡ true → t (page virgin q) ≡ true → ((i : ℕ) → t (slot q i) ≡ true) → Changes t named (newRun b sh q)
-    unfolding newRun unlisted cleared named
-    after-changes f k v e = changes-trans t named unlisted _ unlisted-changes (anew-changes unlisted-setting q true t f k v e)
-      where
-        unlisted-setting : Setting n unlisted c sh
-        unlisted-setting = setting-kept unlisted (unlisted-changes .long ∙ name-changes (λ g. true) b q q (sh .pages) (λ y l u. refl) .long) s
-
-  pub new-changes : (t : Field → Bool) → LetsNew t q (sh .pages) → Changes t b (newRun b sh q)
+  named-long : length named ≡ length b
   unfolding named
-  new-changes t l =
-      changes-trans t b named _ (name-changes t b q q (sh .pages) (l .starts))
-      (after-changes t (l .listing) (l .outs) (l .free) (l .carved) (l .virgin) (l .slots))
+  named-long = changes-name (λ g. true) b b q q (sh .pages) (λ y l u. refl) (changes-none (λ g. true) b) .long
 
-  -- everything but FIRST
+  cleared-long : length cleared ≡ length named
+  unfolding cleared
+  cleared-long = length-clear (32 * outWords sh) q 0 named
+
+  unlisted-long : length unlisted ≡ length b
+  unfolding unlisted
+  unlisted-long = length-put cleared (page listed q) 0 ∙ cleared-long ∙ named-long
+
+  s₁ : Setting n unlisted c sh
+  s₁ = setting-kept unlisted unlisted-long s
+
+  -- what comes after the naming leaves FIRST alone
   pub new-names : q + sh .pages ≤ n → (y : ℕ) → q ≤ y → y < q + sh .pages → get (newRun b sh q) (page first y) ≡ q
-  unfolding named
+  unfolding newRun unlisted cleared named
   new-names inside y l u =
-      after-changes (λ g. not (eqb (region g) 4 && eqb (off g) 1)) refl (λ i. refl) refl refl refl (λ i. refl) .kept (page first y) refl refl
+      let t : Field → Bool = λ g. not (eqb (region g) 4 && eqb (off g) 1) in
+      changes-carve t unlisted q refl refl (λ i. refl) sh true refl (s .shape .few) .kept (page first y) refl refl
+      ∙ get-put-other cleared (page listed q) (page first y) 0 refl refl refl
+      ∙ changes-clear t named (32 * outWords sh) q 0 named few (λ j v w. refl) (changes-none t named) .kept (page first y) refl refl
       ∙ name-in n b (s .long) q q (sh .pages) y inside l u
 
   module _ (hq : ltb q n ≡ true) where
-    s₁ : Setting n unlisted c sh
-    unfolding named
-    s₁ = setting-kept unlisted (unlisted-changes (λ g. true) refl (λ i. refl) .long ∙ name-changes (λ g. true) b q q (sh .pages) (λ y l u. refl) .long) s
-
     long-named : leb (words n) (length named) ≡ true
-    unfolding named
-    long-named = long-kept n b named (name-changes (λ g. true) b q q (sh .pages) (λ y l u. refl) .long) (s .long)
+    long-named = long-kept n b named named-long (s .long)
 
     idle : (i : ℕ) → marked unlisted sh q i ≡ 0
     unfolding marked unlisted cleared
@@ -122,10 +110,8 @@ module _ {n : ℕ} {b : List ℕ} {c : ℕ} {sh : Shape} (s : Setting n b c sh) 
         (λ e. rw e)
 
     listing : get unlisted (page listed q) ≡ 0
-    unfolding unlisted cleared
-    listing =
-        let ch : Changes (λ g. true) named cleared = changes-clear (λ g. true) named (32 * outWords sh) q 0 named few (λ j l u. refl) (changes-none (λ g. true) named) in
-        get-put-same n cleared (page listed q) 0 (long-kept n named cleared (ch .long) long-named) hq refl
+    unfolding unlisted
+    listing = get-put-same n cleared (page listed q) 0 (long-kept n named cleared cleared-long long-named) hq refl
 
     pub new-rep : whole n (newRun b sh q) sh c q ≡ true → PageRep n sh (newRun b sh q) c 0 (carve sh q true)
     unfolding newRun unlisted cleared named

@@ -22,9 +22,10 @@ use Rattle.pages.specs.Stack.{latest, hasMore}
 use Rattle.pages.specs.declared.Park.{Park}
 use Rattle.pages.specs.Links.{top}
 use Rattle.heap.specs.Take.{sound, walk, parkFair}
+use Rattle.pages.proofs.Downs.{flag-cases}
 use Rattle.refinement.specs.Chain.{Segment, Line, Stack}
 use Rattle.refinement.specs.Represents.{Holds, PageRep, Parked, firsts}
-use Rattle.refinement.proofs.Basics.{or-left, or-right, flag-small, flag-cases}
+use Rattle.refinement.proofs.Basics.{or-left, or-right, flag-small}
 use Rattle.refinement.proofs.Frames.{whole-below}
 use Rattle.refinement.proofs.Blocks.{few-counts, every-counts, tops-take}
 use Rattle.refinement.proofs.Draw.{more-is}

@@ -1,0 +1,76 @@
+-- What a change of out bits alone keeps, and what a struck block's bit tells of another word. Assumes nothing.
+--     start-kept, in-run-kept, out-in-kept, out-at-kept    the tests of number 10, on a book whose out bits may differ
+use Prim.Native.Nat.{ℕ, _+_, _-_, _*_, _≤_, _<_}
+use native.Mathlib.Omega.{arith}
+use mathlib.Core.Bool.{Bool, true, _&&_, and-assoc}
+use mathlib.Core.List.{List, [], _∷_}
+use mathlib.Core.Path.{_≡_, refl, sym, ap, _∙_}
+use lib.Dec.{eqb, leb}
+use borrow.Author.Tests.{leb-true, ltb-true, eqb-true, lt-ltb}
+use Rattle.words.specs.Word.{kindOf, granuleOf}
+use Rattle.classes.specs.declared.Shape.{Shape}
+use Rattle.fields.specs.Field.{Field, arena, page, out, frontier, owner, first, region, get, put}
+use Rattle.fields.proofs.Laws.{and-left, and-right}
+use Rattle.fields.proofs.Changes.{Changes, changes-none, changes-put}
+use Rattle.model.specs.Lists.{every, below}
+use Rattle.pages.specs.Runs.{ofRun, whole}
+use Rattle.pages.specs.Stack.{blocksFrom, indexOf}
+use Rattle.heap.specs.Release.{pageAt, startOf, outIn, inRunOf}
+use Rattle.release.specs.Strike.{isBlock, bitIn}
+use Rattle.release.specs.Asks.{hasBit}
+
+-- ---- a change of out bits
+abbrev pub isBit : Field → Bool
+isBit f = eqb (region f) 5
+
+pub put-bit : (b : List ℕ) (q i v : ℕ) → i < 4096 → Changes isBit b (put b (out q i) v)
+put-bit b q i v h = changes-put isBit b b (out q i) v (lt-ltb i 4096 h) refl (changes-none isBit b)
+
+pub every-same : {A : Type 0} (t u : A → Bool) (xs : List A) → ((x : A) → t x ≡ u x) → every t xs ≡ every u xs
+every-same t u [] e = refl
+every-same t u (x ∷ xs) e = rw (e x, every-same t u xs e)
+
+module _ (b b′ : List ℕ) (h : Changes isBit b b′) where
+  pub start-kept : (w : ℕ) → startOf b′ w ≡ startOf b w
+  unfolding startOf
+  start-kept w = h .kept (page first (pageAt w)) refl refl
+
+  of-run-kept : (c q k : ℕ) → ofRun b′ c q k ≡ ofRun b c q k
+  of-run-kept c q k = rw (h .kept (page owner (q + k)) refl refl, h .kept (page first (q + k)) refl refl)
+
+  pub whole-kept : (n : ℕ) (sh : Shape) (c q : ℕ) → whole n b′ sh c q ≡ whole n b sh c q
+  unfolding whole
+  whole-kept n sh c q = rw (h .kept (arena frontier) refl refl, every-same (ofRun b′ c q) (ofRun b c q) (below (sh .pages)) (of-run-kept c q))
+
+  pub in-run-kept : (n : ℕ) (sh : Shape) (c w : ℕ) → inRunOf n b′ sh c w ≡ inRunOf n b sh c w
+  unfolding inRunOf
+  in-run-kept n sh c w = rw (start-kept w, h .kept (arena frontier) refl refl, whole-kept n sh c (startOf b w))
+
+  pub bit-kept : (sh : Shape) (w : ℕ) → hasBit b′ sh w ≡ hasBit b sh w
+  unfolding hasBit
+  bit-kept sh w = rw (start-kept w, h .long)
+
+-- ---- a word's block, and its bit
+pub out-in : (b : List ℕ) (sh : Shape) (q w : ℕ) → outIn b sh q w ≡ (isBlock sh q w && eqb (get b (bitIn sh q w)) 1)
+unfolding outIn isBlock
+out-in b sh q w = sym (and-assoc (leb (blocksFrom sh q) (granuleOf w)) _ _ ∙ ap (λ t. leb (blocksFrom sh q) (granuleOf w) && t) (and-assoc (eqb (indexOf sh q w * sh .block) (granuleOf w - blocksFrom sh q)) _ _))
+
+module _ (sh : Shape) (q w : ℕ) (e : isBlock sh q w ≡ true) where
+  pub from-block : blocksFrom sh q ≤ granuleOf w
+  unfolding isBlock
+  from-block = leb-true (blocksFrom sh q) (granuleOf w) (and-left _ _ e)
+
+  pub at-block : indexOf sh q w * sh .block ≡ granuleOf w - blocksFrom sh q
+  unfolding isBlock
+  at-block = eqb-true (indexOf sh q w * sh .block) (granuleOf w - blocksFrom sh q) (and-left _ _ (and-right (leb (blocksFrom sh q) (granuleOf w)) _ e))
+
+  pub below-capacity : indexOf sh q w < sh .capacity
+  unfolding isBlock
+  below-capacity = ltb-true (indexOf sh q w) (sh .capacity) (and-right (eqb (indexOf sh q w * sh .block) (granuleOf w - blocksFrom sh q)) _ (and-right (leb (blocksFrom sh q) (granuleOf w)) _ e))
+
+-- words of one kind that are the same block of one run are the same word
+pub one-word : (sh : Shape) (q v w : ℕ) → isBlock sh q v ≡ true → isBlock sh q w ≡ true → kindOf v ≡ kindOf w → indexOf sh q v ≡ indexOf sh q w → v ≡ w
+one-word sh q v w e f k i =
+    let g : indexOf sh q v * sh .block ≡ indexOf sh q w * sh .block = ap (λ j. j * sh .block) i in
+    let x : granuleOf v ≡ granuleOf w = omega (arith, from-block sh q v e, from-block sh q w f, at-block sh q v e, at-block sh q w f) in
+    omega arith

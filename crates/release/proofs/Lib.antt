@@ -1,0 +1,11 @@
+pub mod Bits
+pub mod Decode
+pub mod Ways
+pub mod FairWays
+pub mod StrikeLaws
+pub mod RunLaws
+pub mod Steps
+pub mod Restoring
+pub mod Parking
+pub mod Backing
+pub mod Releasing

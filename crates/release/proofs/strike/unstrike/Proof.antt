@@ -1,0 +1,53 @@
+use borrow.Author.Needs.{needs}
+use Rattle.release.proofs.Restoring.{RestoreInv, restore-starts, last-bit, restore-goes-on, restore-ends}
+use Rattle.release.proofs.strike.unstrike.Statement.{statement}
+use Rattle.release.proofs.strike.unstrike.Tie as tie
+
+abbrev Inv-loop : tie.InvT-loop
+Inv-loop meta₀ shape list count i₀ meta i = RestoreInv meta₀ shape list count meta i
+
+abbrev μ-loop : tie.MeasureT-loop
+μ-loop meta₀ shape list count i₀ meta i = i
+
+loop-holds : tie.Need-loop-holds Inv-loop μ-loop
+loop-holds c = search restore-starts
+
+sub-i : tie.Need-sub-i Inv-loop μ-loop
+sub-i c = search needs
+
+mul-restore : tie.Need-mul-restore Inv-loop μ-loop
+mul-restore c = search needs
+
+shared-slice-read-restore : tie.Need-shared-slice-read-restore Inv-loop μ-loop
+shared-slice-read-restore c = search needs
+
+restore-requires : tie.Need-restore-requires Inv-loop μ-loop
+restore-requires c κs = (search needs, search last-bit)
+
+loop-less : tie.Need-loop-less Inv-loop μ-loop
+loop-less c = search needs
+
+loop-again : tie.Need-loop-again Inv-loop μ-loop
+loop-again c = search restore-goes-on
+
+same-length : tie.Need-same-length Inv-loop μ-loop
+same-length c = search needs
+
+returns : tie.Need-returns Inv-loop μ-loop
+returns c = search restore-ends
+
+pub unstrike-spec : {M : Type 1} → statement M
+unstrike-spec =
+    tie.close
+    (tie.spec
+    Inv-loop
+    μ-loop
+    loop-holds
+    sub-i
+    mul-restore
+    shared-slice-read-restore
+    restore-requires
+    loop-less
+    loop-again
+    same-length
+    returns)

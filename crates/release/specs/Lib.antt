@@ -1,0 +1,4 @@
+pub mod Strike
+pub mod Asks
+pub mod Fair
+pub mod Act

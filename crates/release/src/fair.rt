@@ -1,0 +1,152 @@
+// Number 13 for a release of m blocks of the run at q: the words that the act reads.
+ghost use mathlib.Core.Path.{_≡_};
+ghost use mathlib.Core.Bool.{true};
+ghost use Prim.Native.Nat.{_≤_, _<_};
+ghost use Rattle.classes.specs.Sound.{Sound};
+ghost use Rattle.fields.specs.Ranges.{maxParked};
+ghost use Rattle.pages.specs.Asks.{RowAsks};
+ghost use Rattle.heap.specs.Release.{pageFair, rowFair, keepsEmpty, spotOf, spotAt, spotFair, releaseFair};
+ghost use Rattle.release.specs.Fair.{blocksFair, flagsFair, linksFair, storeFair, PageAsks, SpotAsks, FairAsks, SpotFairAsks};
+use classes::Shape;
+use pages::Park;
+
+// So many blocks of the page were out.
+fn blocks_fair(meta: &[u32], shape: Shape, m: usize, q: u32) -> bool
+    requires { ⌜ PageAsks (now meta) q ⌝ }
+    ensures { λ r. ⌜ r ≡ blocksFair (now (meta .entry)) shape m q ⌝ }
+{
+    let carved = fields::page::carved(meta, q);
+    if carved > shape.capacity {
+        return false;
+    }
+    let free = fields::page::free(meta, q);
+    if free > carved {
+        return false;
+    }
+    m <= (carved - free) as usize
+}
+
+fn flags_fair(meta: &[u32], q: u32) -> bool
+    requires { ⌜ PageAsks (now meta) q ⌝ }
+    ensures { λ r. ⌜ r ≡ flagsFair (now (meta .entry)) q ⌝ }
+{
+    if fields::page::listed(meta, q) > 1 {
+        return false;
+    }
+    fields::page::virgin(meta, q) <= 1
+}
+
+// A page's links are read only where it is listed.
+fn links_fair(meta: &[u32], q: u32) -> bool
+    requires { ⌜ PageAsks (now meta) q ⌝ }
+    ensures { λ r. ⌜ r ≡ linksFair (now (meta .entry)) q ⌝ }
+{
+    if fields::page::listed(meta, q) != 1 {
+        return true;
+    }
+    let frontier = fields::arena::frontier(meta);
+    if fields::page::next(meta, q) > frontier {
+        return false;
+    }
+    fields::page::prev(meta, q) <= frontier
+}
+
+pub fn page_fair(meta: &[u32], shape: Shape, m: usize, q: u32) -> bool
+    requires { ⌜ PageAsks (now meta) q ⌝ }
+    ensures { λ r. ⌜ r ≡ pageFair (now (meta .entry)) shape m q ⌝ }
+{
+    if blocks_fair(meta, shape, m, q) {
+        if flags_fair(meta, q) {
+            return links_fair(meta, q);
+        }
+    }
+    false
+}
+
+fn store_fair(meta: &[u32], c: u32, park: Park) -> bool
+    requires { ⌜ RowAsks (now meta) c ⌝ }
+    ensures { λ r. ⌜ r ≡ storeFair (now (meta .entry)) c park ⌝ }
+{
+    if pages::store_top(meta, c, park) > fields::arena::frontier(meta) {
+        return false;
+    }
+    pages::store_count(meta, c, park) <= 256
+}
+
+pub fn row_fair(meta: &[u32], c: u32) -> bool
+    requires { ⌜ RowAsks (now meta) c ⌝ }
+    ensures { λ r. ⌜ r ≡ rowFair (now (meta .entry)) c ⌝ }
+{
+    if fields::class::partial(meta, c) > fields::arena::frontier(meta) {
+        return false;
+    }
+    if store_fair(meta, c, Park::Empty) {
+        return store_fair(meta, c, Park::Cold);
+    }
+    false
+}
+
+// The empty store has room for one more run.
+fn keeps_empty(shape: Shape, empties: u32) -> bool
+    requires { ⌜ Sound shape ⌝ }
+    requires { ⌜ empties ≤ maxParked ⌝ }
+    ensures { λ r. ⌜ r ≡ keepsEmpty shape empties ⌝ }
+{
+    if empties >= shape.empties {
+        return false;
+    }
+    (empties + 1) * shape.pages <= shape.emptypages
+}
+
+// Where a page with none out goes, by the counts of the two stores: 0 empty, 1 cold, 2 to the arena.
+pub fn spot_of(shape: Shape, empties: u32, colds: u32) -> u32
+    requires { ⌜ Sound shape ⌝ }
+    requires { ⌜ empties ≤ maxParked ⌝ }
+    ensures { λ r. ⌜ r ≡ spotOf shape empties colds ⌝ }
+{
+    if keeps_empty(shape, empties) {
+        return 0;
+    }
+    if colds < shape.colds { 1 } else { 2 }
+}
+
+pub fn spot_at(meta: &[u32], c: u32, shape: Shape) -> u32
+    requires { ⌜ SpotAsks (now meta) c shape ⌝ }
+    ensures { λ r. ⌜ r ≡ spotAt (now (meta .entry)) c shape ⌝ }
+{
+    spot_of(
+        shape,
+        pages::store_count(meta, c, Park::Empty),
+        pages::store_count(meta, c, Park::Cold),
+    )
+}
+
+// Where the page would go to the arena, the words that giving reads.
+fn spot_fair(meta: &[u32], n: u32, c: u32, shape: Shape, m: usize, q: u32) -> bool
+    requires { ⌜ SpotFairAsks (now meta) c shape m q ⌝ }
+    ensures { λ r. ⌜ r ≡ spotFair n (now (meta .entry)) c shape m q ⌝ }
+{
+    let out = fields::page::carved(meta, q) - fields::page::free(meta, q);
+    if out as usize != m {
+        return true;
+    }
+    if spot_at(meta, c, shape) != 2 {
+        return true;
+    }
+    runs::give::give_fair(meta, n, shape.pages)
+}
+
+pub fn release_fair(meta: &[u32], n: u32, c: u32, shape: Shape, m: usize, q: u32) -> bool
+    requires { ⌜ FairAsks (now meta) c shape q ⌝ }
+    ensures { λ r. ⌜ r ≡ releaseFair n (now (meta .entry)) c shape m q ⌝ }
+{
+    if fields::arena::frontier(meta) > n {
+        return false;
+    }
+    if page_fair(meta, shape, m, q) {
+        if row_fair(meta, c) {
+            return spot_fair(meta, n, c, shape, m, q);
+        }
+    }
+    false
+}

@@ -1,0 +1,26 @@
+// Releases by list: the tests in their order, each over the whole list, and then the act.
+mod fair;
+mod kinds;
+mod park;
+mod release;
+pub mod strike;
+
+pub use fair::page_fair;
+pub use fair::row_fair;
+pub use fair::spot_of;
+pub use kinds::all_of_kind;
+pub use park::park_empty_page;
+pub use release::release_blocks;
+pub use release::release_call;
+
+// A page or a block, or none.
+pub enum Found {
+    At(u32),
+    Nothing,
+}
+
+// What a release answers: a refusal's number, or the page's fate.
+pub enum Released {
+    Refused(u32),
+    Fate(u32),
+}
