@@ -32,7 +32,7 @@ use Rattle.model.proofs.Find.{pageIn, located-first}
 use Rattle.heap.specs.Release.{outAt, pageFair}
 use Rattle.heap.specs.Chunks.{blocksOn, chunksMatch, returnsAll, runsGiven, pagesGiven, chunksFair, settleChunks, giveRuns, ChunksReleased, chunksNone, releaseChunks, chunksCall}
 use Rattle.refinement.specs.Represents.{Represents}
-use Rattle.refinement.specs.Classes.{Follows}
+use Rattle.refinement.specs.Direct.{Agrees}
 use Rattle.refinement.specs.Releases.{chunksReply}
 use Rattle.refinement.proofs.Basics.{Setting, setting-kept, bool-eq}
 use Rattle.refinement.proofs.Frames.{ofClass}
@@ -156,13 +156,13 @@ module _ (n : ℕ) (hn : n ≤ maxPages) (b : List ℕ) (H : Heap) (R : Represen
           )
           (by-cases (eqb (pagesGiven b c (shapeOf c) gs) 0) (λ e. rw e) (λ e. rw e))
 
-      settled-follows : (fs : List ℕ)
+      settled-agrees : (fs : List ℕ)
           → (let w = settleChunks b c (shapeOf c) h ws gs in
           let x = Model.settleChunks (shapeOf c) h ws (H .classes c) gs in
-          Follows n (chunksReply (record { code = 0; book = giveRuns (w .book) (shapeOf c .pages) (w .gives); fates = w .fates ++ drop (length gs) fs }))
+          Agrees (Represents n) (chunksReply (record { code = 0; book = giveRuns (w .book) (shapeOf c .pages) (w .gives); fates = w .fates ++ drop (length gs) fs }))
           (interact n H c h (done (record { class = x .class; answer = fates (x .fates ++ drop (length gs) fs); gives = x .gives }))))
       unfolding interact offer finish
-      settled-follows fs =
+      settled-agrees fs =
           let w = all-settled in
           record {
             answer = ap (λ l. fates (l ++ drop (length gs) fs)) (w .fates);
@@ -174,7 +174,7 @@ module _ (n : ℕ) (hn : n ≤ maxPages) (b : List ℕ) (H : Heap) (R : Represen
 
   -- ---- the whole call
   module _ (h : ℕ) (ws gs fs : List ℕ) where
-    denied : (k : ℕ) → eqb k 0 ≡ false → (k ≡ 13 → ⊥) → Follows n (chunksReply (chunksNone b fs k)) (interact n H c h (refuse (H .classes c) k))
+    denied : (k : ℕ) → eqb k 0 ≡ false → (k ≡ 13 → ⊥) → Agrees (Represents n) (chunksReply (chunksNone b fs k)) (interact n H c h (refuse (H .classes c) k))
     unfolding interact offer finish
     denied k e ne = record {
       answer = rw e;
@@ -182,14 +182,14 @@ module _ (n : ℕ) (hn : n ≤ maxPages) (b : List ℕ) (H : Heap) (R : Represen
       heap = represents-class n b H R ok b c (H .classes c) (changes-none (ofClass b c) b) (R .classes c hc);
     }
 
-    follows-cond : (t : Bool) (w w′ : ChunksReleased) (x x′ : Ask) → (t ≡ true → Follows n (chunksReply w) (interact n H c h x))
-        → (t ≡ false → Follows n (chunksReply w′) (interact n H c h x′)) → Follows n (chunksReply (cond t w w′)) (interact n H c h (cond t x x′))
-    follows-cond true w w′ x x′ f g = f refl
-    follows-cond false w w′ x x′ f g = g refl
+    agrees-cond : (t : Bool) (w w′ : ChunksReleased) (x x′ : Ask) → (t ≡ true → Agrees (Represents n) (chunksReply w) (interact n H c h x))
+        → (t ≡ false → Agrees (Represents n) (chunksReply w′) (interact n H c h x′)) → Agrees (Represents n) (chunksReply (cond t w w′)) (interact n H c h (cond t x x′))
+    agrees-cond true w w′ x x′ f g = f refl
+    agrees-cond false w w′ x x′ f g = g refl
 
     -- from number 11 on
     past-ten : every (ofKind (shapeOf c .kind)) ws ≡ true → every (outAt n b c (shapeOf c)) ws ≡ true → distinct ws ≡ true
-        → Follows n (chunksReply
+        → Agrees (Represents n) (chunksReply
         (cond (not (chunksMatch b ws gs)) (chunksNone b fs 11)
         (cond (not (chunksFair n b c (shapeOf c) gs)) (chunksNone b fs 13)
         (let w = settleChunks b c (shapeOf c) h ws gs in
@@ -203,33 +203,33 @@ module _ (n : ℕ) (hn : n ≤ maxPages) (b : List ℕ) (H : Heap) (R : Represen
         let t₂ = every (Model.chunkFits (shapeOf c) (H .classes c) ws) gs in
         let t₃ = every (chunked (shapeOf c) (H .classes c) gs) ws in
         rw (chunks-same s hn (H .classes c) (R .classes c hc) ws k o gs)
-        (follows-cond (not (t₁ && (t₂ && t₃))) _ _ _ _ (λ e. denied 11 refl (λ z. omega arith))
+        (agrees-cond (not (t₁ && (t₂ && t₃))) _ _ _ _ (λ e. denied 11 refl (λ z. omega arith))
         (λ e. let u = not-false (t₁ && (t₂ && t₃)) e in
         let fits = and-l t₂ t₃ (and-r t₁ (t₂ && t₃) u) in
         let apart = and-l t₁ (t₂ && t₃) u in
-        rw (chunks-fair ws k o once h gs fits apart) (settled-follows ws k o once h gs fits apart fs)))
+        rw (chunks-fair ws k o once h gs fits apart) (settled-agrees ws k o once h gs fits apart fs)))
 
-    chunks-follow : Follows n (chunksReply (releaseChunks n b c (shapeOf c) h ws gs fs)) (interact n H c h (Model.releaseChunks (shapeOf c) h (H .classes c) ws gs fs))
+    chunks-agree : Agrees (Represents n) (chunksReply (releaseChunks n b c (shapeOf c) h ws gs fs)) (interact n H c h (Model.releaseChunks (shapeOf c) h (H .classes c) ws gs fs))
     unfolding releaseChunks Model.releaseChunks
-    chunks-follow =
+    chunks-agree =
         let sh = shapeOf c in
         let t = H .classes c in
         let k₁ = every (ofKind (shapeOf c .kind)) ws in
         let k₂ = every (ofKind chunkKind) gs in
-        follows-cond (isNil ws || isNil gs) _ _ _ _ (λ e. denied 7 refl (λ z. omega arith))
-        (λ e. follows-cond (ltb chunksMax (length gs) || ltb (length fs) (length gs)) _ _ _ _ (λ e. denied 8 refl (λ z. omega arith))
-        (λ e. follows-cond (not (k₁ && k₂)) _ _ _ _ (λ e. denied 9 refl (λ z. omega arith))
+        agrees-cond (isNil ws || isNil gs) _ _ _ _ (λ e. denied 7 refl (λ z. omega arith))
+        (λ e. agrees-cond (ltb chunksMax (length gs) || ltb (length fs) (length gs)) _ _ _ _ (λ e. denied 8 refl (λ z. omega arith))
+        (λ e. agrees-cond (not (k₁ && k₂)) _ _ _ _ (λ e. denied 9 refl (λ z. omega arith))
         (λ e. let k = and-l k₁ k₂ (not-false (k₁ && k₂) e) in
         rw (← (outs-here s hn (H .classes c) (R .classes c hc) ws k))
-        (follows-cond (not (every (outAt n b c (shapeOf c)) ws && distinct ws)) _ _ _ _ (λ e. denied 10 refl (λ z. omega arith))
+        (agrees-cond (not (every (outAt n b c (shapeOf c)) ws && distinct ws)) _ _ _ _ (λ e. denied 10 refl (λ z. omega arith))
         (λ e. let u = not-false (every (outAt n b c sh) ws && distinct ws) e in
         past-ten k (and-l (every (outAt n b c sh) ws) (distinct ws) u) (and-r (every (outAt n b c sh) ws) (distinct ws) u))))))
 
-    pub chunks-whole : Follows n (chunksReply (chunksCall n b c (shapeOf c) h ws gs fs)) (classCall n H c (Calls.giveChunks h ws gs fs))
+    pub chunks-whole : Agrees (Represents n) (chunksReply (chunksCall n b c (shapeOf c) h ws gs fs)) (classCall n H c (Calls.giveChunks h ws gs fs))
     unfolding chunksCall classCall answer
-    chunks-whole = follows-cond (ltb hostMax h) _ _ _ _ (λ e. denied 3 refl (λ z. omega arith)) (λ e. chunks-follow)
+    chunks-whole = agrees-cond (ltb hostMax h) _ _ _ _ (λ e. denied 3 refl (λ z. omega arith)) (λ e. chunks-agree)
 
 -- after every history on an arena of n pages
 pub chunks-after : (n : ℕ) → n ≤ maxPages → (xs : List Call) (b : List ℕ) → Represents n b (heapAfter n xs) → (c : ℕ) → ltb c 64 ≡ true → (h : ℕ) (ws gs fs : List ℕ)
-    → Follows n (chunksReply (chunksCall n b c (shapeOf c) h ws gs fs)) (classCall n (heapAfter n xs) c (Calls.giveChunks h ws gs fs))
+    → Agrees (Represents n) (chunksReply (chunksCall n b c (shapeOf c) h ws gs fs)) (classCall n (heapAfter n xs) c (Calls.giveChunks h ws gs fs))
 chunks-after n hn xs b R c hs h ws gs fs = chunks-whole n hn b (heapAfter n xs) R (reached-after n xs) c hs h ws gs fs

@@ -28,7 +28,7 @@ use Rattle.model.proofs.Counts.{by-cases, and-l, and-r, distinct-count}
 use Rattle.pages.specs.Stack.{indexOf}
 use Rattle.heap.specs.Release.{startOf, outAt, Released, releasedNone, lastStep, giveBackAt, releaseFair, releaseBlocks, releaseCall}
 use Rattle.refinement.specs.Represents.{Represents}
-use Rattle.refinement.specs.Classes.{Follows}
+use Rattle.refinement.specs.Direct.{Agrees}
 use Rattle.refinement.specs.Releases.{listReply}
 use Rattle.refinement.proofs.Basics.{Setting}
 use Rattle.refinement.proofs.Frames.{ofClass}
@@ -108,26 +108,26 @@ module _ (n : ℕ) (hn : n ≤ maxPages) (b : List ℕ) (H : Heap) (R : Represen
       (λ k. rw k (denied 9 refl (λ z. omega arith)))
 
   -- ---- the whole book
-  list-follows : (w : Released) (x : Ask) → ReleaseRep w x → Follows n (listReply w) (interact n H c h x)
+  list-agrees : (w : Released) (x : Ask) → ReleaseRep w x → Agrees (Represents n) (listReply w) (interact n H c h x)
   unfolding interact offer finish
-  list-follows w x (denied k e ne) = record {
+  list-agrees w x (denied k e ne) = record {
     answer = rw e;
     fair = ne;
     heap = represents-class n b H R ok b c (H .classes c) (changes-none (ofClass b c) b) (R .classes c hc);
   }
-  list-follows w x (did q (stays {b′ = b′} {s = t} {f = f} ne r o)) =
+  list-agrees w x (did q (stays {b′ = b′} {s = t} {f = f} ne r o)) =
       rw (ne-eqb f 2 ne) (record { answer = refl; fair = λ e. omega arith; heap = represents-class n b H R ok b′ c t o r })
-  list-follows w x (did q (goes {b′ = b′} {s = t} p e r o)) =
+  list-agrees w x (did q (goes {b′ = b′} {s = t} p e r o)) =
       record { answer = refl; fair = λ z. omega arith; heap = all-given n b H R ok c hc b′ o t (p ∷ []) r (q ∷ []) (ap (λ x. x ∷ []) e) }
 
-  pub release-whole : (ws : List ℕ) → Follows n (listReply (releaseCall n b c (shapeOf c) h ws)) (classCall n H c (Calls.giveBack h ws))
+  pub release-whole : (ws : List ℕ) → Agrees (Represents n) (listReply (releaseCall n b c (shapeOf c) h ws)) (classCall n H c (Calls.giveBack h ws))
   unfolding releaseCall classCall answer
   release-whole ws =
       by-cases (ltb hostMax h)
-      (λ e. rw e (list-follows (releasedNone b 3) (refuse (H .classes c) 3) (denied 3 refl (λ z. omega arith))))
-      (λ e. rw e (list-follows _ _ (release-rep ws)))
+      (λ e. rw e (list-agrees (releasedNone b 3) (refuse (H .classes c) 3) (denied 3 refl (λ z. omega arith))))
+      (λ e. rw e (list-agrees _ _ (release-rep ws)))
 
 -- after every history on an arena of n pages
 pub release-after : (n : ℕ) → n ≤ maxPages → (xs : List Call) (b : List ℕ) → Represents n b (heapAfter n xs) → (c : ℕ) → ltb c 76 ≡ true → (h : ℕ) (ws : List ℕ)
-    → Follows n (listReply (releaseCall n b c (shapeOf c) h ws)) (classCall n (heapAfter n xs) c (Calls.giveBack h ws))
+    → Agrees (Represents n) (listReply (releaseCall n b c (shapeOf c) h ws)) (classCall n (heapAfter n xs) c (Calls.giveBack h ws))
 release-after n hn xs b R c hc h ws = release-whole n hn b (heapAfter n xs) R (reached-after n xs) c hc h ws

@@ -23,13 +23,16 @@ use Rattle.model.proofs.Pages.{GoodPage}
 use Rattle.model.proofs.Used.{none-out-count}
 use Rattle.pages.specs.Runs.{flag}
 use Rattle.pages.specs.Stack.{marked, marks, push, back, indexOf}
+use Rattle.pages.proofs.Downs.{every-below}
+use Rattle.pages.proofs.Marks.{marks-changes, marks-at}
+use Rattle.pages.proofs.Pushes.{length-push, push-changes, push-kept}
 use Rattle.heap.specs.Chunks.{emptied}
 use Rattle.refinement.specs.Represents.{Holds, PageRep}
 use Rattle.refinement.proofs.ArenaStore.{long-kept}
 use Rattle.refinement.proofs.Basics.{Setting, setting-kept, flag-le, flag-false, flag-cases}
 use Rattle.refinement.proofs.Frames.{isData, ofClass, Only, data-owns, whole-kept, whole-in, whole-owner, marked-kept, slots-kept}
-use Rattle.refinement.proofs.Blocks.{map-append, length-map, fits, in-row, few-counts, every-counts, marks-changes, marks-at}
-use Rattle.refinement.proofs.Pushes.{push-changes, push-kept, push-slots, slots-under}
+use Rattle.refinement.proofs.Blocks.{map-append, length-map, fits, in-row, few-counts, every-counts}
+use Rattle.refinement.proofs.Pushes.{push-slots, slots-under}
 use Rattle.refinement.proofs.Draw.{free-length}
 use Rattle.refinement.proofs.Decode.{word-inj, count-words, words-elem, index-is, Sits, out-sits, sits-out, page-low}
 
@@ -51,7 +54,7 @@ module _ {n : ℕ} {b : List ℕ} {c : ℕ} {sh : Shape} (s : Setting n b c sh) 
 
   cleared-changes : (t : Field → Bool) → ((i : ℕ) → t (out q i) ≡ true) → Changes t b cleared
   unfolding cleared
-  cleared-changes t o = marks-changes s q 0 t o is back-fit
+  cleared-changes t o = marks-changes b q 0 t o is (every-below (sh .capacity) 4096 (s .shape .few) is back-fit)
 
   s₁ : Setting n cleared c sh
   s₁ = setting-kept cleared (cleared-changes (λ g. true) (λ i. refl) .long) s
@@ -62,7 +65,7 @@ module _ {n : ℕ} {b : List ℕ} {c : ℕ} {sh : Shape} (s : Setting n b c sh) 
   back-changes t f v e o =
       changes-put t b _ (page free q) _ refl f
       (changes-put t b _ (page virgin q) _ refl v
-      (changes-trans t b cleared _ (cleared-changes t o) (push-changes t cleared q (get b (page free q)) is e room)))
+      (changes-trans t b cleared _ (cleared-changes t o) (push-changes cleared q (get b (page free q)) t e is room)))
 
   pub back-data : Changes (isData q) b (back b q is)
   back-data = let e = eq-eqb q q refl in back-changes (isData q) e e (λ i. e) (λ i. e)
@@ -79,7 +82,7 @@ module _ {n : ℕ} {b : List ℕ} {c : ℕ} {sh : Shape} (s : Setting n b c sh) 
   unfolding back cleared
   back-marked j =
       marked-kept cleared (back b q is) sh q j (λ e. let o = in-row s j e in simp get-put-other (push-kept cleared q (get b (page free q)) is room (out q j) o refl))
-      ∙ marks-at s q 0 hq refl is back-fit j
+      ∙ marks-at n b (s .long) q hq 0 refl sh (s .shape .few) is back-fit j
 
   back-outs : (j : ℕ) → marked (back b q is) sh q j + count j (is ++ xs) ≡ flag (ltb j k)
   back-outs j =
@@ -97,7 +100,7 @@ module _ {n : ℕ} {b : List ℕ} {c : ℕ} {sh : Shape} (s : Setting n b c sh) 
       let here = hq in
       let t₀ = get b (page free q) in
       let b₂ = push cleared q (get b (page free q)) is in
-      let hb₂ = long-kept n cleared b₂ (push-changes (λ g. true) cleared q t₀ is (λ i. refl) room .long) (s₁ .long) in
+      let hb₂ = long-kept n cleared b₂ (length-push cleared q t₀ is) (s₁ .long) in
       let low = slots-kept b cleared q xs (λ i e. cleared-changes (λ g. eqb (region g) 5) (λ i. refl) .kept (slot q i) e refl) (h .slots) in
       record {
         run = whole-kept (data-owns q ch) n sh c q ∙ h .run;

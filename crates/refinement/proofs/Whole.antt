@@ -20,8 +20,7 @@ use Rattle.model.specs.Heap.{Heap, directCall, step, newHeap}
 use Rattle.model.specs.History.{Event, eventsFrom, heapFrom, heapAfter, answers}
 use Rattle.arena.specs.Open.{opened}
 use Rattle.refinement.specs.Represents.{Represents}
-use Rattle.refinement.specs.Direct.{Reply, directReply}
-use Rattle.refinement.specs.Classes.{Follows}
+use Rattle.refinement.specs.Direct.{Reply, Agrees, directReply}
 use Rattle.refinement.specs.Run.{callReply, repliesFrom, bookFrom, answersIn, run, bookAfter}
 use Rattle.model.proofs.Counts.{by-cases}
 use Rattle.refinement.proofs.ArenaReached.{reached-after, heap-next}
@@ -43,10 +42,10 @@ record RunRep (n : ℕ) (H : Heap) (b : List ℕ) (ys : List Call) : Type 0 wher
 module _ (n : ℕ) (hn : n ≤ maxPages) where
   -- ---- one call, after the history xs
   module _ (xs : List Call) (b : List ℕ) (R : Represents n b (heapAfter n xs)) where
-    directly : (x : Call) → Follows n (directReply n b x) (directCall n (heapAfter n xs) x)
-    directly x = let a = direct-represents n b (heapAfter n xs) R (reached-after n xs) x in record { answer = a .answer; fair = a .fair; heap = a .heap }
+    directly : (x : Call) → Agrees (Represents n) (directReply n b x) (directCall n (heapAfter n xs) x)
+    directly x = direct-represents n b (heapAfter n xs) R (reached-after n xs) x
 
-    pub call-whole : (x : Call) → Follows n (callReply n b x) (step n (heapAfter n xs) x)
+    pub call-whole : (x : Call) → Agrees (Represents n) (callReply n b x) (step n (heapAfter n xs) x)
     unfolding callReply step
     call-whole (Calls.takeBlocks c h l) =
         by-cases (ltb c 64) (λ e. rw e (take-after n xs b R c (small-class c e) h l)) (λ e. rw e (directly (Calls.takeBlocks c h l)))
