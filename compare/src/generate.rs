@@ -369,7 +369,7 @@ fn stores(maker: &mut Maker, family: Family, class: u32, runs: u64) {
 /// 4 empty pages, 256 cold ones, and more that go to the arena.
 fn small_stores(maker: &mut Maker) {
     let class = maker.random.pick(&[36, 40, 42, 44, 45, 50, 63]);
-    let runs = maker.random.between(255, 300);
+    let runs = maker.random.between(258, 268);
     maker.arena(310, 700);
     stores(maker, Family::Small, class, runs);
 }

@@ -1,6 +1,7 @@
 //! Compares Vigbuso's exported calls with the Rust that they port. README.md says how to run it.
 
 mod arguments;
+mod boundaries;
 mod call;
 mod damaged;
 mod generate;
@@ -18,6 +19,7 @@ mod random;
 mod reference;
 mod run;
 mod shrink;
+mod speed;
 mod tally;
 #[cfg(test)]
 mod tests;
@@ -36,7 +38,10 @@ const USAGE: &str = "usage: compare COMMAND [--NAME VALUE ..]
   model-test   [--calls N] [--seed S] [--scenario NAME] [--longest STEPS] [--file F] [--repository FOLDER]
                histories with the original's answers, computed by the checker on the model
   damaged      [--calls N] [--seed S] [--only HISTORY]
-               calls with any arguments on damaged books";
+               calls with any arguments on damaged books
+  boundaries   document 01's examples at the limits, on the port
+  speed        [--file F] [--seconds S]
+               the port's time against the original's, for each scenario S seconds; the table is also written to F";
 
 fn main() -> ExitCode {
     let words: Vec<String> = std::env::args().skip(1).collect();
@@ -48,6 +53,8 @@ fn main() -> ExitCode {
         Some("replay") => histories::replay(rest),
         Some("model-test") => model_test::run(rest),
         Some("damaged") => damaged::run(rest),
+        Some("boundaries") => boundaries::run(rest),
+        Some("speed") => speed::run(rest),
         _ => Err(USAGE.into()),
     };
     match result {

@@ -129,7 +129,8 @@ fn filled<'a>(place: &'a mut Fenced, lent: &Lent) -> &'a mut [u32] {
     words
 }
 
-/// Asks the port. Every answer that CALLS.md does not allow is `Broken`.
+/// Asks the port. Every answer that CALLS.md does not allow is `Broken`. The plain calls beside it, whose time is
+/// measured, pass on what the port returns and writes.
 pub fn ask(book: &mut [u32], room: &mut Room, call: &Call) -> Answer {
     match call {
         Call::Take { family, class, host, lent } => {
@@ -180,7 +181,9 @@ fn yes_or_no(name: &str, value: u32, answer: impl FnOnce(bool) -> Answer) -> Ans
     }
 }
 
-fn take(book: &mut [u32], family: Family, [class, host]: [u32; 2], list: &mut [u32], lent: &Lent) -> Answer {
+/// What is returned, count and virgin.
+#[inline]
+pub fn plain_take(book: &mut [u32], family: Family, [class, host]: [u32; 2], list: &mut [u32]) -> [u32; 3] {
     let (mut count, mut virgin) = (UNTOUCHED, UNTOUCHED);
     let ask = match family {
         Family::Small => vigbuso_take_blocks,
@@ -189,6 +192,11 @@ fn take(book: &mut [u32], family: Family, [class, host]: [u32; 2], list: &mut [u
     let (words, len) = (book.len(), list.len());
     // SAFETY: slices and out-parameters are lent for the call.
     let number = unsafe { ask(book.as_mut_ptr(), words, class, host, list.as_mut_ptr(), len, &mut count, &mut virgin) };
+    [number, count, virgin]
+}
+
+fn take(book: &mut [u32], family: Family, class_and_host: [u32; 2], list: &mut [u32], lent: &Lent) -> Answer {
+    let [number, count, virgin] = plain_take(book, family, class_and_host, list);
     let kept = |from: usize| list[from..].iter().all(|&entry| entry == lent.fill);
     if number != 0 {
         return refusal(number, kept(0) && count == UNTOUCHED && virgin == UNTOUCHED);
@@ -200,7 +208,9 @@ fn take(book: &mut [u32], family: Family, [class, host]: [u32; 2], list: &mut [u
     yes_or_no("virgin", virgin, |virgin| Answer::Taken { virgin, words: list[..count].to_vec() })
 }
 
-fn release_blocks(book: &mut [u32], family: Family, [class, host]: [u32; 2], list: &[u32]) -> Answer {
+/// What is returned, and the fate.
+#[inline]
+pub fn plain_release_blocks(book: &mut [u32], family: Family, [class, host]: [u32; 2], list: &[u32]) -> [u32; 2] {
     let mut fate = UNTOUCHED;
     let ask = match family {
         Family::Small => vigbuso_release_blocks,
@@ -208,22 +218,27 @@ fn release_blocks(book: &mut [u32], family: Family, [class, host]: [u32; 2], lis
     };
     // SAFETY: slices and out-parameters are lent for the call.
     let number = unsafe { ask(book.as_mut_ptr(), book.len(), class, host, list.as_ptr(), list.len(), &mut fate) };
-    match number {
-        0 => Answer::Fate(fate),
-        _ => refusal(number, fate == UNTOUCHED),
+    [number, fate]
+}
+
+fn release_blocks(book: &mut [u32], family: Family, class_and_host: [u32; 2], list: &[u32]) -> Answer {
+    match plain_release_blocks(book, family, class_and_host, list) {
+        [0, fate] => Answer::Fate(fate),
+        [number, fate] => refusal(number, fate == UNTOUCHED),
     }
 }
 
-fn release_chunks(
+/// What is returned.
+#[inline]
+pub fn plain_release_chunks(
     book: &mut [u32],
     [class, host]: [u32; 2],
     list: &[u32],
     groups: &[u32],
     fates: &mut [u32],
-    lent: &Lent,
-) -> Answer {
+) -> u32 {
     // SAFETY: slices are lent for the call.
-    let number = unsafe {
+    unsafe {
         vigbuso_release_bin_chunks(
             book.as_mut_ptr(),
             book.len(),
@@ -236,7 +251,18 @@ fn release_chunks(
             fates.as_mut_ptr(),
             fates.len(),
         )
-    };
+    }
+}
+
+fn release_chunks(
+    book: &mut [u32],
+    class_and_host: [u32; 2],
+    list: &[u32],
+    groups: &[u32],
+    fates: &mut [u32],
+    lent: &Lent,
+) -> Answer {
+    let number = plain_release_chunks(book, class_and_host, list, groups, fates);
     let kept = |from: usize| fates[from..].iter().all(|&entry| entry == lent.fill);
     if number != 0 {
         return refusal(number, kept(0));
@@ -247,15 +273,21 @@ fn release_chunks(
     Answer::Fates(fates[..groups.len()].to_vec())
 }
 
-fn commit(book: &mut [u32], host: u32, pages: u64) -> Answer {
+/// What is returned, first page and fresh.
+#[inline]
+pub fn plain_commit(book: &mut [u32], host: u32, pages: u64) -> [u32; 3] {
     let (mut first, mut fresh) = (UNTOUCHED, UNTOUCHED);
     // SAFETY: the book and the out-parameters are lent for the call.
     let number = unsafe { vigbuso_commit(book.as_mut_ptr(), book.len(), host, pages, &mut first, &mut fresh) };
-    match (number, first, fresh) {
-        (0, NO_PAGE, 0) => Answer::NoRun,
-        (0, NO_PAGE, _) => Answer::Broken(format!("no run, yet fresh is {fresh}")),
-        (0, _, _) => yes_or_no("fresh", fresh, |fresh| Answer::Run { first, fresh }),
-        _ => refusal(number, first == UNTOUCHED && fresh == UNTOUCHED),
+    [number, first, fresh]
+}
+
+fn commit(book: &mut [u32], host: u32, pages: u64) -> Answer {
+    match plain_commit(book, host, pages) {
+        [0, NO_PAGE, 0] => Answer::NoRun,
+        [0, NO_PAGE, fresh] => Answer::Broken(format!("no run, yet fresh is {fresh}")),
+        [0, first, fresh] => yes_or_no("fresh", fresh, |fresh| Answer::Run { first, fresh }),
+        [number, first, fresh] => refusal(number, first == UNTOUCHED && fresh == UNTOUCHED),
     }
 }
 
@@ -269,9 +301,15 @@ fn grow(book: &mut [u32], host: u32, [first, old, new]: [u64; 3]) -> Answer {
     }
 }
 
-fn release(book: &mut [u32], host: u32, first: u64, pages: u64) -> Answer {
+/// What is returned.
+#[inline]
+pub fn plain_release(book: &mut [u32], host: u32, first: u64, pages: u64) -> u32 {
     // SAFETY: the book is lent for the call.
-    match unsafe { vigbuso_release(book.as_mut_ptr(), book.len(), host, first, pages) } {
+    unsafe { vigbuso_release(book.as_mut_ptr(), book.len(), host, first, pages) }
+}
+
+fn release(book: &mut [u32], host: u32, first: u64, pages: u64) -> Answer {
+    match plain_release(book, host, first, pages) {
         0 => Answer::Released,
         number => refusal(number, true),
     }

@@ -64,6 +64,7 @@ pub fn run(words: &[String]) -> Result<bool, String> {
     let lost: usize = verdict.too_long.iter().map(|&at| cases[at].history.calls.len()).sum();
     println!("not computed, for the checker's limit of steps: {} histories of {lost} calls", verdict.too_long.len());
     match &verdict.refused {
+        None if verdict.too_long.len() == cases.len() => println!("nothing was computed"),
         None => println!("0 differences: the model computes these answers in every history"),
         Some(refused) => {
             println!("the checker refuses it ({} is left):\n{}", refused.folder.display(), refused.said);
@@ -72,7 +73,7 @@ pub fn run(words: &[String]) -> Result<bool, String> {
             }
         }
     }
-    Ok(verdict.refused.is_none())
+    Ok(verdict.refused.is_none() && verdict.too_long.len() < cases.len())
 }
 
 fn counted<'a>(cases: impl Iterator<Item = &'a Case>) -> Tally {

@@ -1,14 +1,23 @@
 //! The fates that the original decided during one call, in the order in which it acted on them.
 
-use std::cell::RefCell;
+use std::cell::{Cell, RefCell};
 
 thread_local! {
     static FATES: RefCell<Vec<u32>> = const { RefCell::new(Vec::new()) };
+    static KEPT: Cell<bool> = const { Cell::new(true) };
 }
 
 /// Called by the patched original for each page or span that it was given back.
+#[inline]
 pub(crate) fn push(fate: u32) {
-    FATES.with(|fates| fates.borrow_mut().push(fate));
+    if KEPT.with(Cell::get) {
+        FATES.with(|fates| fates.borrow_mut().push(fate));
+    }
+}
+
+/// Whether fates are kept. Where time is measured they are not: the original keeps none.
+pub(crate) fn keep(kept: bool) {
+    KEPT.with(|cell| cell.set(kept));
 }
 
 /// The fates since the last call of this function.

@@ -44,6 +44,14 @@ pub fn run_pages(family: Family, class: u32) -> u32 {
     }
 }
 
+/// Blocks of a page or span.
+pub fn capacity(family: Family, class: u32) -> u32 {
+    match family {
+        Family::Small => ((PAGE_BYTES - page::HEADER_SIZE) / block_bytes(family, class)) as u32,
+        Family::Medium => batch(family, class) as u32,
+    }
+}
+
 /// The most blocks that a take gives, and what its list must hold.
 pub fn batch(family: Family, class: u32) -> usize {
     match family {
@@ -65,6 +73,21 @@ pub struct Original {
     medium: Box<heap::MediumHeap>,
 }
 
+/// Blocks of one page or span, linked from head to tail.
+pub struct Chain {
+    run: *mut u8,
+    head: *mut u8,
+    tail: *mut u8,
+    count: usize,
+}
+
+/// Blocks that are linked from the head on, and the pages that they go back to.
+pub struct Chunks {
+    head: *mut u8,
+    len: u32,
+    chunks: Vec<heap::PageReleaseChunk>,
+}
+
 impl Original {
     pub fn open(pages: u32) -> Original {
         assert!(!IN_USE.swap(true, Ordering::AcqRel), "one history of the original at a time");
@@ -77,18 +100,36 @@ impl Original {
         }
     }
 
+    /// The heap and its arena as `open` leaves them.
+    pub fn reopen(&mut self) {
+        arena::rebuild(self.pages as usize);
+        *self.small = heap::GlobalHeap::new();
+        *self.medium = heap::MediumHeap::new();
+    }
+
+    /// Calls of which only the time is asked: no fate is kept.
+    pub fn keep_fates(&mut self, kept: bool) {
+        fates::keep(kept);
+    }
+
     /// The words of the blocks, latest popped first, and virgin.
     pub fn take_blocks(&mut self, family: Family, class: u32, host: u32) -> (Vec<u32>, bool) {
+        let (chain, count, virgin) = self.take_chain(family, class, host);
+        self.touched = self.touched.max(self.frontier() as usize);
+        (words_of_chain(family, chain, count), virgin)
+    }
+
+    /// The original's own answer: the first block, which links the others, their number, and virgin.
+    #[inline]
+    pub fn take_chain(&mut self, family: Family, class: u32, host: u32) -> (*mut u8, u32, bool) {
         host::set(host);
         // SAFETY: the class is the family's; every page of the heap lies in the region.
-        let (chain, count, virgin) = unsafe {
+        unsafe {
             match family {
                 Family::Small => self.small.take_blocks(class as usize),
                 Family::Medium => self.medium.take_blocks(class as usize),
             }
-        };
-        self.touched = self.touched.max(self.frontier() as usize);
-        (words_of_chain(family, chain, count), virgin)
+        }
     }
 
     /// The first page of the page or span that a block out belongs to.
@@ -98,44 +139,42 @@ impl Original {
 
     /// The fate of the page or span that the blocks, all out of it, go back to.
     pub fn release_blocks(&mut self, family: Family, class: u32, host: u32, list: &[u32]) -> u32 {
-        host::set(host);
-        let (head, tail) = link(list);
-        let run = run_address(family, list[0]);
-        // SAFETY: the blocks are out of this one run and are linked from head to tail.
-        unsafe {
-            match family {
-                Family::Small => {
-                    self.small.release_blocks_with_tail(run.cast(), head, tail, list.len() as u16);
-                }
-                Family::Medium => {
-                    self.medium.release_blocks(class as usize, run.cast(), head, tail, list.len() as u32);
-                }
-            }
-        }
+        self.release_chain(family, class, host, &chain(family, list));
         let fates = fates::take();
         assert!(fates.len() == 1, "one release has one fate, not {fates:?}");
         fates[0]
     }
 
+    /// The blocks of a chain, all out of its run, go back.
+    #[inline]
+    pub fn release_chain(&mut self, family: Family, class: u32, host: u32, chain: &Chain) {
+        host::set(host);
+        let Chain { run, head, tail, count } = *chain;
+        // SAFETY: the blocks are out of this one run and are linked from head to tail.
+        unsafe {
+            match family {
+                Family::Small => self.small.release_blocks_with_tail(run.cast(), head, tail, count as u16),
+                Family::Medium => self.medium.release_blocks(class as usize, run.cast(), head, tail, count as u32),
+            }
+        }
+    }
+
     /// The fates of the groups, in their order; 4 more for a page that was retired.
     pub fn release_bin_chunks(&mut self, class: u32, host: u32, list: &[u32], groups: &[u32]) -> Vec<u32> {
-        host::set(host);
-        let (head, _) = link(list);
-        let mut chunks: Vec<heap::PageReleaseChunk> = groups
-            .iter()
-            .map(|&group| heap::PageReleaseChunk {
-                page: address(group_page(group) as usize * PAGE_BYTES).cast(),
-                head: std::ptr::null_mut(),
-                tail: std::ptr::null_mut(),
-                n: group_count(group) as u16,
-            })
-            .collect();
-        // SAFETY: the blocks are out of this class, and the chunks name each of their pages once with its blocks' number.
-        unsafe { self.small.release_bin_chunks(class as usize, head, list.len() as u32, &mut chunks) };
+        let mut made = chunks(list, groups);
+        self.release_chunks(class, host, &mut made);
         let fates = fates::take();
         assert!(fates.len() == groups.len(), "{} groups have {} fates", groups.len(), fates.len());
         let retired = |chunk: &heap::PageReleaseChunk| chunk.n & heap::PAGE_RELEASE_RETIRED != 0;
-        chunks.iter().zip(fates).map(|(chunk, fate)| if retired(chunk) { fate + 4 } else { fate }).collect()
+        made.chunks.iter().zip(fates).map(|(chunk, fate)| if retired(chunk) { fate + 4 } else { fate }).collect()
+    }
+
+    /// The blocks of the chunks go back. What is written to the chunks is the original's affair.
+    #[inline]
+    pub fn release_chunks(&mut self, class: u32, host: u32, made: &mut Chunks) {
+        host::set(host);
+        // SAFETY: the blocks are out of this class, and the chunks name each of their pages once with its blocks' number.
+        unsafe { self.small.release_bin_chunks(class as usize, made.head, made.len, &mut made.chunks) };
     }
 
     /// First page and fresh, or none.
@@ -218,6 +257,24 @@ fn run_address(family: Family, word: u32) -> *mut u8 {
     }
 }
 
+/// Links the blocks of a release list, all out of one page or span.
+pub fn chain(family: Family, list: &[u32]) -> Chain {
+    let (head, tail) = link(list);
+    Chain { run: run_address(family, list[0]), head, tail, count: list.len() }
+}
+
+/// Links the blocks of a group release, and makes a chunk of each group.
+pub fn chunks(list: &[u32], groups: &[u32]) -> Chunks {
+    let (head, _) = link(list);
+    let chunk = |&group: &u32| heap::PageReleaseChunk {
+        page: address(group_page(group) as usize * PAGE_BYTES).cast(),
+        head: std::ptr::null_mut(),
+        tail: std::ptr::null_mut(),
+        n: group_count(group) as u16,
+    };
+    Chunks { head, len: list.len() as u32, chunks: groups.iter().map(chunk).collect() }
+}
+
 /// Links the blocks in the list's order, and answers the first and the last.
 fn link(list: &[u32]) -> (*mut u8, *mut u8) {
     let mut next = std::ptr::null_mut();
@@ -230,7 +287,7 @@ fn link(list: &[u32]) -> (*mut u8, *mut u8) {
     (next, block_address(list[list.len() - 1]))
 }
 
-fn words_of_chain(family: Family, chain: *mut u8, count: u32) -> Vec<u32> {
+pub fn words_of_chain(family: Family, chain: *mut u8, count: u32) -> Vec<u32> {
     let mut block = chain;
     (0..count)
         .map(|_| {

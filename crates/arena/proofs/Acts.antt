@@ -7,37 +7,35 @@ use Prim.Native.Nat.{ℕ, zero, suc, _+_, _-_, _≤_, _<_}
 use native.Mathlib.Omega.{arith}
 use native.Mathlib.Decide.{ℕ-discrete, decLe}
 use native.Mathlib.Numerals.{add-one}
-use mathlib.Core.Bool.{Bool, true, false, cond, not, _&&_, true≢false, false≢true}
-use mathlib.Core.List.{List, [], _∷_, _++_}
+use mathlib.Core.Bool.{Bool, true, false, cond, _&&_, true≢false, false≢true}
+use mathlib.Core.List.{List}
 use mathlib.Core.Option.{Option, none, some}
 use mathlib.Core.Path.{_≡_, refl, sym, ap, _∙_, subst}
-use lib.Dec.{eqb, ltb, leb}
+use lib.Dec.{ltb, leb}
 use lib.ListN.{length, length-append}
-use borrow.Author.Tests.{lt-ltb, ltb-true, ltb-false, le-ltb, eq-eqb, ne-eqb, eqb-true, le-leb, lt-leb, leb-true}
+use borrow.Author.Tests.{lt-ltb, ltb-true, le-ltb, eq-eqb, ne-eqb, le-leb, lt-leb, leb-true}
 use Rattle.words.specs.Host.{reservationGranted, commitGranted}
-use Rattle.fields.specs.Field.{arena, memory, state, frontier, holes, holePages, held, get, put, words}
+use Rattle.fields.specs.Field.{arena, state, frontier, holes, holePages, held, get, put, words}
 use Rattle.fields.proofs.Laws.{put-get}
 use Rattle.model.specs.declared.Hole.{Hole}
-use Rattle.model.specs.Lists.{every}
 use Rattle.model.specs.HoleStore as Model
-use Rattle.model.specs.HoleStore.{HoleStore, Memory, holeAt, lastHole, setAt, removeAt, lowest, refresh, remember, cutFrom, takeAt, accepts, append, Choice, chooseIn}
+use Rattle.model.specs.HoleStore.{Memory, holeAt, lastHole, setAt, removeAt, lowest, refresh, remember, cutFrom, takeAt, accepts, append, Choice, chooseIn}
 use Rattle.model.specs.Arena as Arenas
-use Rattle.model.specs.Arena.{Arena, Status, unasked, ready, disabled, Given, give, drawFrom, draw, grant, commitReady, commitAs, commit}
+use Rattle.model.specs.Arena.{Arena, Status, ready, disabled, Given, give, drawFrom, draw, grant, commitReady, commitAs, commit}
 use Rattle.model.proofs.Counts.{by-cases, and-l, and-r}
 use Rattle.arena.specs.declared.Arena.{Arena as Record}
 use Rattle.arena.specs.declared.Plan.{Plan}
 use Rattle.arena.specs.Load.{statusOf, statusCode, indexOf, indexCode, loadHole, loadHoles, recall, loadStore, loadArena}
 use Rattle.arena.specs.Store.{storeHole, storeStore, storeArena}
-use Rattle.arena.specs.Record.{recordOf, storeRecord, advanced, counted, abandoning}
-use Rattle.arena.specs.Fair.{recordFair, memoryFair, holesFair, holeFair, commitFair}
+use Rattle.arena.specs.Record.{recordOf, storeRecord, advanced, counted}
+use Rattle.arena.specs.Fair.{recordFair, memoryFair, holesFair, commitFair}
 use Rattle.arena.specs.Owners.{own}
-use Rattle.arena.specs.Plan.{cutHoles, noPlan, planAt, planOf, chosen}
-use Rattle.arena.specs.Calls.{Committed, commitRefused, advance, committed, commitFor, given, grownBy, grownBook}
-use Rattle.arena.specs.Act.{rememberWord, recallWord, withState, withHoles, accepting, appendWords, giveWords, giveRecord, cutWords, usedWords, drawWords, drawRecord, forgetWord, endNone, endRun, endGiven, settle, fromFrontier, commitDrawn, nextState, commitPlanned, planned, commitRead, commitRecalled, commitActs, givenWith, giveActs, growWith, growActs}
-use Rattle.arena.specs.Answer.{ranYes}
-use Rattle.arena.proofs.StoreLaws.{hole-length, loaded-length, loaded-last, removed-length, set-length, remember-length, remember-twice, store-length, store-loaded, store-remembered, store-set, store-appended, store-removed}
+use Rattle.arena.specs.Plan.{cutHoles, noPlan, planAt, planOf}
+use Rattle.arena.specs.Calls.{Committed, advance, committed, commitFor, given, grownBy, grownBook}
+use Rattle.arena.specs.Act.{rememberWord, recallWord, withState, withHoles, appendWords, giveWords, giveRecord, cutWords, usedWords, drawWords, drawRecord, forgetWord, endNone, endRun, endGiven, settle, fromFrontier, commitDrawn, commitPlanned, planned, commitRead, commitRecalled, commitActs, givenWith, giveActs, growWith, growActs, ranYes}
+use Rattle.arena.proofs.StoreLaws.{hole-length, loaded-length, loaded-last, removed-length, set-length, remember-twice, store-loaded, store-remembered, store-set, store-appended, store-removed}
 use Rattle.arena.proofs.Choice.{Choosing, empty, recalled, exact, longer, short, choosing, choice-of}
-use Rattle.arena.proofs.Frames.{isStored, isOwner, arena-changes, own-changes, own-twice}
+use Rattle.arena.proofs.Frames.{isOwner, arena-changes, own-changes, own-twice}
 use Rattle.fields.proofs.Changes.{changes-none}
 
 -- ---- the record that an arena is stored by

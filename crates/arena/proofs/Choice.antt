@@ -1,16 +1,16 @@
 -- The model's choice of a hole, as data: which hole, and what is known of it and of the memory. Assumes nothing.
-use Prim.Native.Nat.{ℕ, zero, suc, _+_, _≤_, _<_}
+use Prim.Native.Nat.{ℕ, suc, _≤_, _<_}
 use native.Mathlib.Omega.{arith}
-use mathlib.Core.Bool.{Bool, true, false, cond, _&&_, true≢false, false≢true}
+use mathlib.Core.Bool.{Bool, true, false, _&&_, true≢false, false≢true}
 use mathlib.Core.List.{List, [], _∷_}
 use mathlib.Core.Option.{Option, none, some}
-use mathlib.Core.Path.{_≡_, refl, sym, ap, _∙_}
-use lib.Dec.{eqb, ltb, leb}
+use mathlib.Core.Path.{_≡_, refl, _∙_}
+use lib.Dec.{ltb, leb}
 use lib.ListN.{length}
 use borrow.Author.Tests.{ltb-true, ltb-false, eqb-true, ne-eqb, leb-true, leb-false, le-leb}
 use Rattle.model.specs.declared.Hole.{Hole}
 use Rattle.model.specs.HoleStore as Model
-use Rattle.model.specs.HoleStore.{HoleStore, Memory, rememberedMax, holeAt, next, lowest, Fit, nearer, leastFit, refresh, stillHolds, Choice, chooseIn}
+use Rattle.model.specs.HoleStore.{Memory, rememberedMax, holeAt, lowest, Fit, nearer, leastFit, refresh, stillHolds, Choice, chooseIn}
 use Rattle.model.proofs.Counts.{by-cases, and-l, and-r}
 
 -- ---- the least sufficient length

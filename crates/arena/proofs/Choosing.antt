@@ -82,7 +82,7 @@ settle : (r : Bool) (ys : List Hole) (count m code : ℕ) → (r ≡ true → 0 
 settle true ys count m code p = simp (lt-ltb 0 count (p refl))
 settle false ys count m code p = simp (le-ltb count count (omega arith)) (best-code (leastFit m (take count ys)))
 
-both-true : (a b : Bool) → (a && b) ≡ true → (a ≡ true) × (b ≡ true)
+pub both-true : (a b : Bool) → (a && b) ≡ true → (a ≡ true) × (b ≡ true)
 both-true true true e = (refl, refl)
 both-true true false e = (refl, e)
 both-true false b e = (e, cc)

@@ -3,18 +3,17 @@ use Prim.Native.Nat.{ℕ, zero, suc, _+_, _-_, _≤_, _<_}
 use native.Mathlib.Omega.{arith}
 use mathlib.Core.Bool.{Bool, true, false, _&&_}
 use mathlib.Core.List.{List, [], _∷_}
-use mathlib.Core.Path.{_≡_, refl, sym, ap, _∙_}
+use mathlib.Core.Path.{_≡_, refl, ap, _∙_}
 use lib.Dec.{eqb, ltb, leb}
 use lib.ListN.{length}
-use borrow.Author.Tests.{lt-ltb, ne-eqb, leb-true, le-leb}
-use Rattle.fields.specs.Field.{Field, arena, memory, class, hole, page, out, slot, ArenaField, state, frontier, holes, holePages, commits, commitsHigh, reuses, reusesHigh, abandoned, abandonedHigh, held, start, pages, owner, arenaOff, pageOff, get, put, ok, words}
+use borrow.Author.Tests.{lt-ltb, ne-eqb}
+use Rattle.fields.specs.Field.{Field, arena, memory, class, hole, page, out, slot, ArenaField, state, frontier, holes, holePages, commits, commitsHigh, reuses, reusesHigh, abandoned, abandonedHigh, start, pages, owner, arenaOff, pageOff, put, words}
 use Rattle.fields.proofs.Laws.{put-put-same, put-comm, length-put}
 use Rattle.fields.proofs.Changes.{Changes, changes-none, changes-put}
 use Rattle.model.specs.declared.Hole.{Hole}
 use Rattle.model.specs.HoleStore.{Memory}
 use Rattle.model.specs.Arena.{Arena}
-use Rattle.arena.specs.Load.{statusCode, indexCode}
-use Rattle.arena.specs.Store.{storeHole, storeHoles, storeMemory, memoryWords, storeCounts, storeTop, storeStore, storeArena}
+use Rattle.arena.specs.Store.{storeHoles, storeMemory, memoryWords, storeCounts, storeTop, storeStore, storeArena}
 use Rattle.arena.specs.Owners.{own}
 
 -- the words that hold the arena: all of its record but the length and HELD, the memory, the holes

@@ -7,10 +7,6 @@ mod Laid
 mod Least
 mod Loading
 mod Planning
-mod Ways
-mod ActWays
-mod CallWays
-mod DirectWays
 pub mod StoreLaws
 pub mod Choice
 pub mod Frames

@@ -5,13 +5,13 @@
 -- Assumes nothing.
 use Prim.Native.Nat.{ℕ, zero, suc, _+_, _-_, _≤_, _<_}
 use native.Mathlib.Omega.{arith}
-use mathlib.Core.Bool.{Bool, true, false, cond, _&&_, false≢true}
+use mathlib.Core.Bool.{Bool, true, false, cond, false≢true}
 use mathlib.Core.List.{List, [], _∷_}
-use mathlib.Core.Option.{Option, none, some}
+use mathlib.Core.Option.{some}
 use mathlib.Core.Path.{_≡_, refl, sym, ap, _∙_, subst}
-use lib.Dec.{eqb, ltb, leb}
+use lib.Dec.{eqb, leb}
 use lib.ListN.{length}
-use borrow.Author.Tests.{eqb-true, eq-eqb, ne-eqb, leb-true, leb-false, le-leb, lt-leb}
+use borrow.Author.Tests.{leb-true, leb-false, lt-leb}
 use Rattle.fields.specs.Field.{arena, frontier, holes, holePages, held, get, words}
 use Rattle.model.specs.declared.Hole.{Hole}
 use Rattle.model.specs.Lists.{every}
@@ -22,12 +22,12 @@ use Rattle.arena.specs.declared.Plan.{Plan}
 use Rattle.arena.specs.Load.{loadHoles, recall}
 use Rattle.arena.specs.Record.{recordOf}
 use Rattle.arena.specs.Fair.{recordFair, memoryFair, holeFair, holesFair}
-use Rattle.arena.specs.Plan.{noPlan, planAt, planOf}
-use Rattle.arena.specs.Calls.{Committed, commitRefused, commitFor}
+use Rattle.arena.specs.Plan.{noPlan, planAt}
+use Rattle.arena.specs.Calls.{commitRefused, commitFor}
 use Rattle.arena.specs.Act.{rememberWord, forgetWord, endNone, fromFrontier, commitDrawn, nextState, withState, commitPlanned, planned, commitRead, commitRecalled, commitActs, growWith, growActs, clamped}
 use Rattle.arena.proofs.StoreLaws.{loaded-length}
 use Rattle.arena.proofs.Choice.{Choosing, empty, recalled, exact, longer, short, choosing}
-use Rattle.arena.proofs.Acts.{planned-fair, planned-at, FairRecord, fair-record, commit-acts}
+use Rattle.arena.proofs.Acts.{planned-fair, planned-at, fair-record, commit-acts}
 
 every-at : (t : Hole → Bool) (hs : List Hole) (i : ℕ) → every t hs ≡ true → i < length hs → t (holeAt i hs) ≡ true
 every-at t [] i e l = absurd (omega arith)

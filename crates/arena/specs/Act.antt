@@ -17,7 +17,7 @@ use Rattle.arena.specs.Load.{loadHoles}
 use Rattle.arena.specs.Store.{storeHole}
 use Rattle.arena.specs.Record.{recordOf, storeRecord, advanced, counted, abandoning}
 use Rattle.arena.specs.Fair.{recordFair, memoryFair}
-use Rattle.arena.specs.Owners.{own, heldWith}
+use Rattle.arena.specs.Owners.{own}
 use Rattle.arena.specs.Plan.{planOf}
 use Rattle.arena.specs.Calls.{Committed, commitRefused}
 
@@ -135,6 +135,11 @@ growWith n b a h e m w d = cond (eqb (a .frontier) e) (fromFrontier n b a m h w 
 
 unfoldable pub growActs : ℕ → List ℕ → ℕ → ℕ → ℕ → ℕ → Committed
 growActs n b h e m w = growWith n b (recordOf b) h e m w (get b (arena held))
+
+-- was a run answered
+abbrev pub ranYes : Option ℕ → Bool
+ranYes none = false
+ranYes (some q) = true
 
 -- a page more than any arena has stands for every longer run
 unfoldable pub clamped : ℕ → ℕ

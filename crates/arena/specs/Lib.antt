@@ -7,7 +7,5 @@ pub mod Plan
 pub mod Scan
 pub mod Calls
 pub mod Act
-pub mod Answer
-pub mod Asks
 pub mod Open
 pub mod Represents

@@ -22,25 +22,26 @@ abbrev pub bestOf : Option Fit → Best
 bestOf none = record { code = 0; pages = 0 }
 bestOf (some f) = record { code = suc (f .index); pages = f .pages }
 
--- a fit as one number, its key, where its index is counted from i: of two fits the one of the lesser key has the lesser length, or
--- the same and the lesser index; none has the greatest
+-- a hole as one number, its key, where so many pages are needed: the pages beyond those, modulo 2 to the 32nd, so that a hole too
+-- short comes after all that are long enough; then the index. No hole has the greatest number
 abbrev pub noKey : ℕ
 noKey = 18446744073709551615
 
-abbrev pub key : ℕ → ℕ → ℕ
-key i n = n * 2 ^ 32 + i
+abbrev pub over : ℕ → ℕ → ℕ
+over need n = (n + (2 ^ 32 - need)) % 2 ^ 32
 
-abbrev pub keyFrom : ℕ → Option Fit → ℕ
-keyFrom i none = noKey
-keyFrom i (some f) = key (i + f .index) (f .pages)
+abbrev pub key : ℕ → ℕ → ℕ → ℕ
+key need i n = over need n * 2 ^ 32 + i
 
--- the lesser key of k and of the hole at i, of n pages, if those are enough
+-- the lesser key of k and of the hole at i, of n pages
 abbrev pub betterOf : ℕ → ℕ → ℕ → ℕ → ℕ
-betterOf need i n k = cond (ltb n need) k (cond (ltb (key i n) k) (key i n) k)
+betterOf need i n k = cond (ltb (key need i n) k) (key need i n) k
 
--- what a key says
-abbrev pub bestAt : ℕ → Best
-bestAt k = cond (eqb k noKey) (record { code = 0; pages = 0 }) (record { code = (k + 1) % 2 ^ 32; pages = k / 2 ^ 32 })
+-- what the least key says
+abbrev pub bestAt : ℕ → ℕ → Best
+bestAt need k =
+    cond (leb (2 ^ 32) (k / 2 ^ 32 + need)) (record { code = 0; pages = 0 })
+    (cond (eqb k noKey) (record { code = 0; pages = 0 }) (record { code = (k + 1) % 2 ^ 32; pages = k / 2 ^ 32 + need }))
 
 -- ---- a plan, from a slice of holes of which the first count are stored
 -- the hole that a code names; 0 names none, and stands for the first

@@ -1,15 +1,17 @@
 // The hole store, lent as a slice of holes: read, stored to, and scanned for the least length that is enough.
 use model::Hole;
+use std::num::wrapping_sub_u32;
 ghost use mathlib.Core.Path.{_≡_};
 ghost use Prim.Native.Nat.{_+_, _*_, _<_, _≤_, _^_};
 ghost use mathlib.Core.Bool.{_&&_};
+ghost use lib.Dec.{leb, ltb};
 ghost use lib.ListN.{length, getD, set, take, drop};
 ghost use Rattle.model.specs.HoleStore.{leastFit};
 ghost use Rattle.model.specs.Lists.{every};
 ghost use Rattle.fields.specs.Field.{hole, start, pages, word, Has};
 ghost use Rattle.arena.specs.Load.{loadHole, loadHoles};
 ghost use Rattle.arena.specs.Fair.{holeFair};
-ghost use Rattle.arena.specs.Scan.{noHole, betterOf, bestAt, bestOf};
+ghost use Rattle.arena.specs.Scan.{noHole, key, betterOf, bestAt, bestOf};
 
 pub fn hole_at(holes: &[Hole], i: usize) -> Hole
     requires { ⌜ i < length (now holes) ⌝ }
@@ -31,28 +33,37 @@ pub struct Best {
     pub pages: u32,
 }
 
-// The key of the hole at `i`, of so many pages, where that is enough and the key is less; else the best key before it.
-// A key has the pages in its upper half and the index in its lower one, so the least key is the lowest index of the least length.
+// The key of the hole at `i`, of so many pages: in its upper half the pages beyond the need, which wrap where they are too few and so
+// come after all others, and in its lower half the index. The least key is the lowest index of the least length that is enough.
+fn key_of(need: u32, i: u32, pages: u32) -> u64
+    ensures { λ r. ⌜ r ≡ key need i pages ⌝ }
+{
+    let over = wrapping_sub_u32(pages, need);
+    (over as u64) * 4_294_967_296 + (i as u64)
+}
+
+// The lesser key of that and of the best before.
 fn better(need: u32, i: u32, pages: u32, best: u64) -> u64
     ensures { λ r. ⌜ r ≡ betterOf need i pages best ⌝ }
 {
-    if pages < need {
-        return best;
-    }
-    let key = (pages as u64) * 4_294_967_296 + (i as u64);
+    let key = key_of(need, i, pages);
     if key < best { key } else { best }
 }
 
-// What a key says; the greatest number is the key of none.
-fn best_at(key: u64) -> Best
-    ensures { λ r. ⌜ r ≡ bestAt key ⌝ }
+// What the least key says; the greatest number is the key of none.
+fn best_at(need: u32, key: u64) -> Best
+    ensures { λ r. ⌜ r ≡ bestAt need key ⌝ }
 {
+    let pages = key / 4_294_967_296 + (need as u64);
+    if 4_294_967_296 <= pages {
+        return Best { code: 0, pages: 0 };
+    }
     if key == 18_446_744_073_709_551_615 {
         return Best { code: 0, pages: 0 };
     }
     Best {
         code: ((key + 1) % 4_294_967_296) as u32,
-        pages: (key / 4_294_967_296) as u32,
+        pages: pages as u32,
     }
 }
 
@@ -65,18 +76,25 @@ fn weigh(holes: &[Hole], need: u32, i: u32, best: u64) -> u64
     better(need, i, h.pages, best)
 }
 
-// The lowest index of the least length that is enough, of the first `count` holes. The last hole is weighed first.
+// Whether the hole at `i` is to be weighed: none is once a hole has just the pages needed, which shows as a key below `i`.
+fn going(i: u32, count: u32, best: u64) -> bool
+    ensures { λ r. ⌜ r ≡ (ltb i count && leb i best) ⌝ }
+{
+    if i < count { (i as u64) <= best } else { false }
+}
+
+// The lowest index of the least length that is enough, of the first `count` holes.
 pub fn scan(holes: &[Hole], count: u32, need: u32) -> Best
     requires { ⌜ count ≤ length (now holes) ⌝ }
     ensures { λ r. ⌜ r ≡ bestOf (leastFit need (take count (now (holes .entry)))) ⌝ }
 {
     let mut best: u64 = 18_446_744_073_709_551_615;
-    let mut i = count;
-    while 0 < i {
-        i -= 1;
+    let mut i: u32 = 0;
+    while going(i, count, best) {
         best = weigh(holes, need, i, best);
+        i += 1;
     }
-    best_at(best)
+    best_at(need, best)
 }
 
 // The hole that the words hold at `i`.
@@ -94,16 +112,10 @@ fn hole_from(meta: &[u32], i: u32) -> Hole
 fn fair_too(fair: bool, h: Hole, total: u32, frontier: u32) -> bool
     ensures { λ r. ⌜ r ≡ (fair && holeFair total frontier h) ⌝ }
 {
-    if !fair {
-        return false;
-    }
-    if h.pages < 1 {
-        return false;
-    }
-    if total < h.pages {
-        return false;
-    }
-    (h.first as u64) + (h.pages as u64) <= (frontier as u64)
+    let some = 1 <= h.pages;
+    let few = h.pages <= total;
+    let below = (h.first as u64) + (h.pages as u64) <= (frontier as u64);
+    fair & some & few & below
 }
 
 // The first `count` holes that the words hold are stored, the others stay; the answer is whether each of those is in its range.

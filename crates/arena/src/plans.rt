@@ -181,12 +181,20 @@ fn plan_in(meta: &[u32], holes: &mut [Hole], a: Arena, pages: u32, code: u32) ->
     planned(p, best)
 }
 
-// For up to 64 holes.
+// The array is filled before use, so it is lent at the least of three sizes that is enough.
 fn plan_few(meta: &[u32], a: Arena, pages: u32, code: u32) -> Plan
     requires { ⌜ (a .count ≤ 64) × (word (hole start (a .count)) ≤ length (now meta)) ⌝ }
     ensures { λ r. ⌜ r ≡ planOf (loadHoles (now (meta .entry)) 0 (a .count)) (a .total) (a .frontier) pages code ⌝ }
 {
     let mut holes = [Hole { first: 0, pages: 0 }; 64];
+    plan_in(meta, &mut holes, a, pages, code)
+}
+
+fn plan_some(meta: &[u32], a: Arena, pages: u32, code: u32) -> Plan
+    requires { ⌜ (a .count ≤ 512) × (word (hole start (a .count)) ≤ length (now meta)) ⌝ }
+    ensures { λ r. ⌜ r ≡ planOf (loadHoles (now (meta .entry)) 0 (a .count)) (a .total) (a .frontier) pages code ⌝ }
+{
+    let mut holes = [Hole { first: 0, pages: 0 }; 512];
     plan_in(meta, &mut holes, a, pages, code)
 }
 
@@ -198,14 +206,16 @@ fn plan_many(meta: &[u32], a: Arena, pages: u32, code: u32) -> Plan
     plan_in(meta, &mut holes, a, pages, code)
 }
 
-// What a commit of `pages` finds, where its length's memory has this code. A small array is enough for few holes.
+// What a commit of `pages` finds, where its length's memory has this code.
 pub fn plan(meta: &[u32], a: Arena, pages: u32, code: u32) -> Plan
     requires { ⌜ (a .count ≤ holeSlots) × (40000 ≤ length (now meta)) ⌝ }
     ensures { λ r. ⌜ r ≡ planOf (loadHoles (now (meta .entry)) 0 (a .count)) (a .total) (a .frontier) pages code ⌝ }
 {
     if a.count <= 64 {
-        plan_few(meta, a, pages, code)
-    } else {
-        plan_many(meta, a, pages, code)
+        return plan_few(meta, a, pages, code);
     }
+    if a.count <= 512 {
+        return plan_some(meta, a, pages, code);
+    }
+    plan_many(meta, a, pages, code)
 }

@@ -22,31 +22,24 @@ use Rattle.model.specs.Page.{wordOf}
 use Rattle.model.proofs.Counts.{by-cases, and-l, and-r}
 use Rattle.pages.specs.Stack.{latest, draw, hasMore}
 use Rattle.pages.specs.Links.{pointNext, cutOut, unlink}
+use Rattle.pages.proofs.Draws.{draw-changes}
+use Rattle.pages.proofs.Frames.{changes-unlink}
 use Rattle.heap.specs.Take.{walk, Filled, filledNone, thenFilled, relist, fillFrom}
-use Rattle.heap.proofs.TakePages.{Fair, whole-below}
-use Rattle.heap.proofs.TakeDraws.{draw-changes, draw-full}
+use Rattle.heap.proofs.TakePages.{Fair, whole-below, latest-most}
+use Rattle.heap.proofs.TakeDraws.{latest-small, draw-full}
 use Rattle.heap.proofs.Walk.{Planned, plannedNone, thenPlanned, planned, planned-stops, planned-goes, stops, stops-full, some-wanted, some-page, Step, walk-below, walk-stops, walk-step, isTurned, head-kept}
 
 -- ---- the head of the list is cut out
 module _ (n : ℕ) (b : List ℕ) (hb : leb (words n) (length b) ≡ true) (c : ℕ) (hc : ltb c 76 ≡ true) (q x : ℕ) (hq : ltb q n ≡ true) (first : get b (page prev q) ≡ 0) (after : get b (page next q) ≡ x) where
-  turned-own : (b₁ : List ℕ) (v : ℕ) → Changes (isTurned c q x) b b₁ → Changes (isTurned c q x) b (put (put (put b₁ (page next q) v) (page prev q) v) (page listed q) v)
-  turned-own b₁ v h =
-      let qq = eq-eqb q q refl in
-      changes-put (isTurned c q x) b _ (page listed q) v refl (rw qq)
-      (changes-put (isTurned c q x) b _ (page prev q) v refl (rw qq)
-      (changes-put (isTurned c q x) b _ (page next q) v refl (rw qq) h))
-
   or-right : (s t : Bool) → t ≡ true → (s || t) ≡ true
   or-right true t e = refl
   or-right false t e = e
 
   pub unlink-changes : Changes (isTurned c q x) b (unlink b c q)
-  unfolding unlink cutOut
   unlink-changes =
-      rw (first, after)
-      (turned-own (putAt (put b (class partial c) x) prev x 0) 0
-      (changes-putAt (isTurned c q x) b (put b (class partial c) x) prev x 0 (λ r e. or-right (eqb r q) (eqb (suc r) x) (eq-eqb (suc r) x (sym e)))
-      (changes-put (isTurned c q x) b b (class partial c) x hc (eq-eqb c c refl) (changes-none (isTurned c q x) b))))
+      let qq = eq-eqb q q refl in
+      changes-unlink (isTurned c q x) b c q hc (λ z. eq-eqb c c refl) (λ z e. absurd (let u : 0 ≡ suc z = sym first ∙ e in omega arith))
+      (λ z e. or-right (eqb z q) (eqb (suc z) x) (eq-eqb (suc z) x (sym e ∙ after))) (rw qq) (rw qq) (rw qq)
 
   pub unlink-head : get (unlink b c q) (class partial c) ≡ x
   unfolding unlink cutOut
@@ -60,7 +53,7 @@ module _ (n : ℕ) (b : List ℕ) (hb : leb (words n) (length b) ≡ true) (c : 
 
 -- ---- one turn
 -- FREE, CARVED and the out bits
-abbrev isCount : Field → Bool
+abbrev pub isCount : Field → Bool
 isCount g = (eqb (region g) 4 && (ltb 3 (off g) && ltb (off g) 6)) || eqb (region g) 5
 
 pub record Turned (n : ℕ) (b b₁ : List ℕ) (c : ℕ) (sh : Shape) (k m x : ℕ) : Type 0 where
@@ -93,7 +86,7 @@ module _ (n : ℕ) (b : List ℕ) (hb : leb (words n) (length b) ≡ true) (c : 
     there = page-there 1 m page₁ (step .fair)
 
     drawn : (t : Field → Bool) → t (page free page₁) ≡ true → t (page carved page₁) ≡ true → ((i : ℕ) → t (out page₁ i) ≡ true) → Changes t b (draw b sh page₁ m)
-    drawn = draw-changes n b hb c sh (sd .few) 1 m page₁ there (step .fair)
+    drawn = draw-changes b sh page₁ m (latest-small b sh m page₁ (sd .few) (leb-true _ _ (step .fair .within)) (step .fair .entries))
 
     pub drawn-kept : (g : Field) → ok g ≡ true → isCount g ≡ false → get (draw b sh page₁ m) g ≡ get b g
     drawn-kept g o f = drawn isCount refl refl (λ i. refl) .kept g o f
@@ -110,7 +103,7 @@ module _ (n : ℕ) (b : List ℕ) (hb : leb (words n) (length b) ≡ true) (c : 
     -- the page gave all that was wanted
     turned-full : hasMore (draw b sh page₁ m) sh page₁ ≡ true → Turned n b (draw b sh page₁ m) c sh k left after
     turned-full g =
-        let j : length (latest b sh page₁ m) ≡ m = draw-full n b hb c sh (sd .few) 1 m page₁ there (step .fair) g in
+        let j : length (latest b sh page₁ m) ≡ m = draw-full n b hb c sh 1 m page₁ there (step .fair) g in
         let z : (x : ℕ) → stops left x ≡ true = λ x. stops-full left x (omega arith) in
         let hd = drawn-kept (class partial c) hc refl in
         let fr = drawn-kept (arena frontier) refl refl in
@@ -149,7 +142,7 @@ module _ (n : ℕ) (b : List ℕ) (hb : leb (words n) (length b) ≡ true) (c : 
 abbrev pub foreseen : Filled → Planned
 foreseen f = record { count = length (f .blocks); virgin = f .virgin }
 
-length-map : (f : ℕ → ℕ) (s : List ℕ) → length (map f s) ≡ length s
+pub length-map : (f : ℕ → ℕ) (s : List ℕ) → length (map f s) ≡ length s
 length-map f [] = refl
 length-map f (x ∷ s) = ap suc (length-map f s)
 
@@ -173,3 +166,12 @@ module _ (n c : ℕ) (hc : ltb c 76 ≡ true) (sh : Shape) (sd : Sound sh) where
       let b₁ = relist (draw b sh q m) c sh q in
       let ih = fill-planned k (m - length ws) b₁ (rw (t .long) hb) (rw (t .frontier) bound) (t .walks) ∙ t .finds in
       rw (e, ← ih, length-append, length-map))
+
+-- no more than was wanted
+pub fill-most : (c : ℕ) (sh : Shape) (k m : ℕ) (b : List ℕ) → length (fillFrom b c sh k m .blocks) ≤ m
+unfolding fillFrom
+fill-most c sh zero m b = omega arith
+fill-most c sh (suc k) m b =
+    let q = get b (class partial c) - 1 in
+    let ih = fill-most c sh k (m - length (latest b sh q m)) (relist (draw b sh q m) c sh q) in
+    by-cases (stops m (get b (class partial c))) (λ e. rw e (omega arith)) (λ e. rw (e, length-append, length-map) (omega (arith, ih, latest-most b sh q m)))

@@ -3,3 +3,9 @@ pub mod TakeDraws
 pub mod Walk
 pub mod Fill
 pub mod PlanSteps
+pub mod FillSteps
+pub mod TakeAlone
+pub mod TakeParked
+pub mod TakeGranted
+pub mod TakeNew
+pub mod TakeSteps

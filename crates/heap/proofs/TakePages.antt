@@ -6,10 +6,10 @@
 use Prim.Native.Nat.{ℕ, zero, suc, _+_, _-_, _≤_, _<_, min}
 use native.Mathlib.Omega.{arith}
 use mathlib.Core.Bool.{Bool, true, false, cond, not, _&&_, _||_}
-use mathlib.Core.List.{List, [], _∷_, _++_, reverse}
+use mathlib.Core.List.{List}
 use mathlib.Core.Path.{_≡_, refl, sym, ap, _∙_}
 use lib.Dec.{eqb, ltb, leb}
-use lib.ListN.{length, length-append, length-reverse}
+use lib.ListN.{length}
 use borrow.Author.Tests.{lt-ltb, ltb-true, leb-true, eq-eqb, eqb-true, eqb-false}
 use Rattle.classes.specs.declared.Shape.{Shape}
 use Rattle.classes.specs.Sound.{Sound}
@@ -17,9 +17,9 @@ use Rattle.fields.specs.Field.{arena, page, slot, frontier, owner, first, free,
 use Rattle.model.specs.Lists.{every, below}
 use Rattle.model.proofs.Counts.{by-cases, and-l, and-r}
 use Rattle.pages.specs.Runs.{ofRun, whole}
-use Rattle.pages.specs.Stack.{tops, downs, carvedNow, latest, hasMore}
-use Rattle.pages.proofs.Downs.{length-downs}
-use Rattle.pages.proofs.Tops.{length-tops, tops-kept}
+use Rattle.pages.specs.Stack.{tops, latest, hasMore}
+use Rattle.pages.proofs.Tops.{tops-kept}
+use Rattle.pages.proofs.Draws.{latest-length}
 use Rattle.heap.specs.Take.{sound}
 
 pub record Fair (n : ℕ) (b : List ℕ) (c : ℕ) (sh : Shape) (l m q : ℕ) : Type 0 where
@@ -105,20 +105,16 @@ module _ (b b′ : List ℕ) (q : ℕ) (h : Alike b b′ q) where
       }
 
 -- ---- how many blocks a page gives
-pub latest-length : (b : List ℕ) (sh : Shape) (q m : ℕ) → length (latest b sh q m) ≡ carvedNow b sh q m + min m (get b (page free q))
-unfolding latest
-latest-length b sh q m = rw (length-append, length-downs, length-reverse, length-tops)
-
 pub positive : (x : ℕ) → (x ≡ 0 → ⊥) → 1 ≤ x
 positive x z = omega (arith, z)
 
-some-of : (m f r : ℕ) → 1 ≤ m → 1 ≤ f → 1 ≤ min (m - f) r + min m f
+some-of : (m f r : ℕ) → 1 ≤ m → 1 ≤ f → 1 ≤ min m f + min (m - f) r
 some-of m f r l h = let z : 1 ≤ min m f = omega arith in omega arith
 
-some-new : (m k top : ℕ) → 1 ≤ m → k < top → 1 ≤ min (m - 0) (top - k) + min m 0
+some-new : (m k top : ℕ) → 1 ≤ m → k < top → 1 ≤ min m 0 + min (m - 0) (top - k)
 some-new m k top l h = omega arith
 
-gives : (m f k top : ℕ) → 1 ≤ m → (not (eqb f 0) || ltb k top) ≡ true → 1 ≤ min (m - f) (top - k) + min m f
+gives : (m f k top : ℕ) → 1 ≤ m → (not (eqb f 0) || ltb k top) ≡ true → 1 ≤ min m f + min (m - f) (top - k)
 gives m f k top l e =
     by-cases (eqb f 0)
     (λ u. let v : ltb k top ≡ true = rw u at e in rw (eqb-true f 0 u) (some-new m k top l (ltb-true k top v)))
@@ -127,3 +123,9 @@ gives m f k top l e =
 pub latest-some : (b : List ℕ) (sh : Shape) (q m : ℕ) → (m ≡ 0 → ⊥) → hasMore b sh q ≡ true → 1 ≤ length (latest b sh q m)
 unfolding hasMore
 latest-some b sh q m z e = rw (latest-length b sh q m) (gives m (get b (page free q)) (get b (page carved q)) (sh .capacity) (positive m z) e)
+
+pub latest-most : (b : List ℕ) (sh : Shape) (q m : ℕ) → length (latest b sh q m) ≤ m
+latest-most b sh q m = rw (latest-length b sh q m) (most m (get b (page free q)) (sh .capacity - get b (page carved q)))
+  where
+    most : (m f r : ℕ) → min m f + min (m - f) r ≤ m
+    most m f r = omega arith

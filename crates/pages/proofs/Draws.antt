@@ -3,15 +3,15 @@
 --     latest-below      they are blocks of the class
 --     draw-changes      only FREE, CARVED and out bits are changed
 --     draw-free, draw-carved
-use Prim.Native.Nat.{ℕ, zero, suc, _+_, _-_, _≤_, _<_, min}
+use Prim.Native.Nat.{ℕ, _+_, _-_, _≤_, min}
 use native.Mathlib.Omega.{arith}
-use mathlib.Core.Bool.{Bool, true, false}
-use mathlib.Core.List.{List, [], _∷_, _++_, reverse}
-use mathlib.Core.Path.{_≡_, refl, sym, ap, _∙_}
+use mathlib.Core.Bool.{Bool, true}
+use mathlib.Core.List.{List, reverse}
+use mathlib.Core.Path.{_≡_, refl}
 use lib.Dec.{ltb, leb}
 use lib.ListN.{length, length-append, length-reverse}
 use Rattle.classes.specs.declared.Shape.{Shape}
-use Rattle.fields.specs.Field.{Field, page, out, free, carved, get, put, ok, words}
+use Rattle.fields.specs.Field.{Field, page, out, free, carved, get, put, words}
 use Rattle.fields.proofs.Laws.{get-put-same, get-put-other, length-put}
 use Rattle.fields.proofs.Changes.{Changes, changes-put}
 use Rattle.model.specs.Lists.{every}

@@ -3,15 +3,13 @@
 --     back-pushed      blocks that come back: their out bits, then the stack
 use Prim.Native.Nat.{ℕ, zero, suc, _+_, _-_, _*_, _/_, _≤_, _<_}
 use native.Mathlib.Omega.{arith}
-use mathlib.Core.Bool.{Bool, true, false}
+use mathlib.Core.Bool.{Bool, true}
 use mathlib.Core.List.{List}
-use mathlib.Core.Path.{_≡_, refl, sym, ap, _∙_}
+use mathlib.Core.Path.{_≡_, refl}
 use lib.Dec.{ltb}
 use lib.ListN.{length}
-use borrow.Author.Tests.{lt-ltb}
 use Rattle.classes.specs.declared.Shape.{Shape}
 use Rattle.fields.specs.Field.{Field, class, page, slot, out, partial, next, prev, first, free, carved, listed, virgin, get, put}
-use Rattle.fields.specs.Outcome.{putAt}
 use Rattle.fields.specs.Clear.{clearOut}
 use Rattle.fields.proofs.Changes.{Changes, changes-none, changes-put, changes-trans}
 use Rattle.fields.proofs.Outcome.{changes-putAt}
@@ -19,7 +17,7 @@ use Rattle.fields.proofs.Clear.{changes-clear}
 use Rattle.model.specs.Lists.{every}
 use Rattle.pages.specs.declared.Park.{Park}
 use Rattle.pages.specs.Runs.{flag, nameRun}
-use Rattle.pages.specs.Stack.{downs, marks, push, pushed, back}
+use Rattle.pages.specs.Stack.{downs, marks, pushed, back}
 use Rattle.pages.specs.Links.{pointNext, linked, cutOut, link, unlink, top, tally, stow, unstow}
 use Rattle.pages.specs.Carve.{stocked, carveAnew, outWords, newRun}
 use Rattle.pages.proofs.Downs.{small, length-downs}

@@ -10,7 +10,7 @@
 --     indexOf   the block that a word names in the run at q; a word below the run's first block names block 0
 --     spliced   a list with words over its own from place a on
 use Prim.Native.Nat.{ℕ, zero, suc, _+_, _-_, _*_, _/_, min}
-use mathlib.Core.Bool.{Bool, true, false, cond, not, _||_}
+use mathlib.Core.Bool.{Bool, cond, not, _||_}
 use mathlib.Core.List.{List, [], _∷_, _++_, map, reverse}
 use mathlib.Core.Path.{_≡_}
 use lib.Dec.{eqb, ltb}

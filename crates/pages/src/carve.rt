@@ -55,10 +55,10 @@ pub fn clear_out(meta: &mut [u32], q: u32, k: u32)
     requires { ⌜ ClearAsks (now meta) q k ⌝ }
     ensures { λ _. ⌜ now (meta .exit) ≡ clearOut (now (meta .entry)) q 0 (32 * k) ⌝ }
 {
-    let mut i = 0;
-    while i < k {
-        fields::out::clear_word(meta, q, i);
-        i += 1;
+    let mut j = 0;
+    while j < k {
+        fields::out::clear_word(meta, q, j);
+        j += 1;
     }
 }
 

@@ -5,11 +5,11 @@
 -- Assumes nothing.
 use Prim.Native.Nat.{ℕ, zero, suc, _+_, _≤_, _<_}
 use native.Mathlib.Omega.{arith}
-use mathlib.Core.Bool.{Bool, true, false, cond, _&&_}
+use mathlib.Core.Bool.{true}
 use mathlib.Core.List.{List, [], _∷_}
-use mathlib.Core.Option.{Option, none, some}
+use mathlib.Core.Option.{Option, some}
 use mathlib.Core.Path.{_≡_, refl, sym, ap, _∙_}
-use lib.Dec.{ltb, leb}
+use lib.Dec.{leb}
 use lib.ListN.{length}
 use borrow.Author.Tests.{le-leb, leb-true}
 use Rattle.fields.specs.Field.{arena, memory, state, frontier, holes, holePages, commits, commitsHigh, reuses, reusesHigh, abandoned, abandonedHigh, held, get}
@@ -19,11 +19,11 @@ use Rattle.model.specs.Lists.{All, every, total}
 use Rattle.model.specs.Arena.{Arena, Status, unasked, ready, disabled}
 use Rattle.model.specs.Heap.{Heap, heldPages}
 use Rattle.model.proofs.Counts.{by-cases}
-use Rattle.model.proofs.Remembers.{Tidy}
 use Rattle.model.proofs.IdlePages.{HolesBelow}
 use Rattle.arena.specs.Load.{statusCode, indexOf, wide, recall, loadHoles, loadStore, loadArena}
 use Rattle.arena.specs.Fair.{holeFair, recordFair, holesFair, memoryFair, commitFair, giveFair}
 use Rattle.arena.specs.Represents.{ArenaRep}
+use Rattle.arena.proofs.StoreLaws.{loaded-length}
 use Rattle.refinement.proofs.ArenaReached.{Reached, reached-holes, held-le}
 
 -- ---- what the words of an arena that is loaded are
@@ -52,13 +52,8 @@ module _ (b : List ℕ) (a : Arena) (loads : loadArena b ≡ a) where
   unfolding loadArena
   loads-abandoned = ap (λ x. x .abandoned) loads
 
-  loaded-length : (i k : ℕ) → length (loadHoles b i k) ≡ k
-  unfolding loadHoles
-  loaded-length i zero = refl
-  loaded-length i (suc k) = ap suc (loaded-length (suc i) k)
-
   pub loads-number : get b (arena holes) ≡ length (a .store .holes)
-  loads-number = sym (loaded-length 0 (get b (arena holes))) ∙ ap length loads-holes
+  loads-number = sym (loaded-length b 0 (get b (arena holes))) ∙ ap length loads-holes
 
   pub loads-memory : (m : ℕ) → recall b m ≡ a .store .memory m
   unfolding loadArena loadStore

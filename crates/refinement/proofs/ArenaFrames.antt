@@ -10,12 +10,12 @@ use mathlib.Core.Bool.{Bool, true, false, _&&_, _||_, true≢false, false≢true
 use mathlib.Core.List.{List}
 use mathlib.Core.Option.{Option, none, some}
 use mathlib.Core.Path.{_≡_, refl, sym, ap, _∙_}
-use lib.Dec.{eqb, ltb, leb, eqb·zero-suc}
+use lib.Dec.{eqb, ltb, leb}
 use lib.ListN.{length}
-use borrow.Author.Tests.{lt-ltb, ltb-true, ltb-false, ne-eqb, eqb-true, eqb-false, le-leb, leb-true, leb-false}
+use borrow.Author.Tests.{lt-ltb, ltb-true, ltb-false, eqb-true, eqb-false, le-leb, leb-true, leb-false}
 use Rattle.classes.specs.declared.Shape.{Shape}
-use Rattle.fields.specs.Field.{Field, arena, memory, class, hole, page, out, slot, ClassField, PageField, owner, first, frontier, held, size, arenaOff, pageOff, get, put, ok, words}
-use Rattle.fields.proofs.Laws.{get-put-same, get-put-other, length-put}
+use Rattle.fields.specs.Field.{Field, arena, memory, class, hole, page, out, slot, ClassField, PageField, owner, first, frontier, held, arenaOff, pageOff, get, put, words}
+use Rattle.fields.proofs.Laws.{get-put-same, length-put}
 use Rattle.fields.proofs.Changes.{Changes, changes-none, changes-put, changes-trans, changes-mono}
 use Rattle.model.specs.Lists.{every, below, inRun}
 use Rattle.model.specs.Arena.{Arena, Given, Grown}
@@ -26,7 +26,7 @@ use Rattle.arena.specs.Load.{loadArena}
 use Rattle.arena.specs.Store.{storeArena}
 use Rattle.arena.specs.Owners.{own, ownRun, heldWith}
 use Rattle.arena.specs.Calls.{advance, committed, given, grownBy, grownBook}
-use Rattle.refinement.proofs.ArenaStore.{isStored, long-kept, store-changes}
+use Rattle.refinement.proofs.ArenaStore.{isStored, store-changes}
 
 -- ---- which words
 abbrev pub isOwner : (ℕ → Bool) → Field → Bool
@@ -218,7 +218,7 @@ given-changes b q m l =
 abbrev pub names : List ℕ → ℕ → ℕ → ℕ → Bool
 names b d x y = eqb (get b (page owner y)) (suc d) && eqb (get b (page first y)) x
 
-every-cong : (s t : ℕ → Bool) (m : ℕ) → ((k : ℕ) → k < m → s k ≡ t k) → every s (below m) ≡ every t (below m)
+pub every-cong : (s t : ℕ → Bool) (m : ℕ) → ((k : ℕ) → k < m → s k ≡ t k) → every s (below m) ≡ every t (below m)
 every-cong s t zero h = refl
 every-cong s t (suc m) h = rw (h m (omega arith), every-cong s t m (λ k l. h k (omega arith)))
 
@@ -235,7 +235,9 @@ unfolding whole
 whole-names n b sh d x y e r =
     let l = leb-true x y (and-l (leb x y) (ltb y (x + sh .pages)) r) in
     let u = ltb-true y (x + sh .pages) (and-r (leb x y) (ltb y (x + sh .pages)) r) in
-    let all = and-r (leb (x + sh .pages) (get b (arena frontier))) (every (ofRun b d x) (below (sh .pages))) (and-r (leb (x + sh .pages) n) (leb (x + sh .pages) (get b (arena frontier)) && every (ofRun b d x) (below (sh .pages))) e) in
+    let ends = leb (x + sh .pages) (get b (arena frontier)) in
+    let pages = every (ofRun b d x) (below (sh .pages)) in
+    let all = and-r ends pages (and-r (leb (x + sh .pages) n) (ends && pages) e) in
     let z : x + (y - x) ≡ y = omega arith in
     rw z at (every-at (ofRun b d x) (sh .pages) (y - x) all (omega arith))
 
@@ -252,8 +254,10 @@ pub whole-ends : (n : ℕ) (b : List ℕ) (sh : Shape) (d x : ℕ) → whole n b
 unfolding whole
 whole-ends n b sh d x e =
     let f = get b (arena frontier) in
-    let r = and-r (leb (x + sh .pages) n) (leb (x + sh .pages) f && every (ofRun b d x) (below (sh .pages))) e in
-    (leb-true (x + sh .pages) n (and-l (leb (x + sh .pages) n) (leb (x + sh .pages) f && every (ofRun b d x) (below (sh .pages))) e), leb-true (x + sh .pages) f (and-l (leb (x + sh .pages) f) (every (ofRun b d x) (below (sh .pages))) r))
+    let inside = leb (x + sh .pages) n in
+    let ends = leb (x + sh .pages) f in
+    let pages = every (ofRun b d x) (below (sh .pages)) in
+    (leb-true (x + sh .pages) n (and-l inside (ends && pages) e), leb-true (x + sh .pages) f (and-l ends pages (and-r inside (ends && pages) e)))
 
 module _ (n : ℕ) (b b′ : List ℕ) (sh : Shape) (d x : ℕ) (some-page : 1 ≤ sh .pages) (rises : get b (arena frontier) ≤ get b′ (arena frontier))
     (under : (y : ℕ) → y < get b (arena frontier) → names b′ d x y ≡ names b d x y)

@@ -1,15 +1,14 @@
 -- The pages held, as a number: what a run adds when it passes to a holder, and takes away when it passes to nobody. Assumes nothing.
-use Prim.Native.Nat.{ℕ, zero, suc, _+_, _-_, _≤_, _<_}
+use Prim.Native.Nat.{ℕ, zero, suc, _+_, _-_, _≤_}
 use native.Mathlib.Omega.{arith}
-use mathlib.Core.Bool.{Bool, true, false, cond}
-use mathlib.Core.List.{List}
-use mathlib.Core.Path.{_≡_, refl, sym, ap, _∙_}
+use mathlib.Core.Bool.{cond}
+use mathlib.Core.Path.{_≡_}
 use lib.Dec.{eqb, ltb}
 use borrow.Author.Tests.{ltb-true, ltb-false, eqb-true, eqb-false}
 use Rattle.model.specs.Lists.{total, below, covers}
 use Rattle.model.specs.Heap.{Holder, nobody, isHeld, passTo}
 use Rattle.model.proofs.Counts.{by-cases}
-use Rattle.model.proofs.Runs.{covers-in, covers-before, covers-after, covers-le}
+use Rattle.model.proofs.Runs.{covers-in, covers-before, covers-after}
 
 abbrev pub heldOf : ℕ → (ℕ → Holder) → ℕ
 heldOf n w = total (λ x. isHeld (w x)) (below n)

@@ -3,22 +3,22 @@
 --     step-class    a class whose runs are whole as before is as it was
 --     class-left    a class whose run in no list was given: that page is gone, the rest is as it was; class-beside-left: another class
 -- Assumes nothing.
-use Prim.Native.Nat.{ℕ, zero, suc, _+_, _≤_, _<_}
+use Prim.Native.Nat.{ℕ, _+_, _≤_}
 use native.Mathlib.Omega.{arith}
 use native.Mathlib.Decide.{ℕ-discrete}
 use mathlib.Core.Bool.{Bool, true, false, cond}
 use mathlib.Core.List.{List, [], _∷_}
-use mathlib.Core.Path.{_≡_, refl, sym, ap, _∙_}
+use mathlib.Core.Path.{_≡_, refl, _∙_}
 use lib.Dec.{eqb, ltb}
 use borrow.Author.Tests.{eq-eqb, ne-eqb}
 use Rattle.classes.specs.declared.Shape.{Shape}
 use Rattle.classes.specs.Sound.{Sound}
-use Rattle.fields.specs.Field.{page, next, prev, free, carved, listed, virgin, get}
+use Rattle.fields.specs.Field.{page, next, prev, free, carved, listed, virgin}
 use Rattle.fields.proofs.Changes.{Changes}
 use Rattle.model.specs.Lists.{inRun, covers}
 use Rattle.model.specs.Page.{Page}
 use Rattle.model.specs.Heap.{Heap, isHeld}
-use Rattle.pages.specs.Runs.{flag, whole}
+use Rattle.pages.specs.Runs.{whole}
 use Rattle.pages.specs.declared.Park.{Park}
 use Rattle.arena.specs.Calls.{given}
 use Rattle.arena.specs.Represents.{ArenaRep}
@@ -49,7 +49,8 @@ module _ (t : ℕ → Bool) (b b′ : List ℕ) (h : Changes (isStep t) b b′) 
   step-class {c = c} sound hc same r = class-kept sound r (λ f. step-row t b b′ h f c hc) same (λ x e. step-keeps (same x ∙ e))
 
 -- ---- a class's run is given
-module _ (n : ℕ) (b : List ℕ) (H : Heap) (rep : ArenaRep n b H) (r : Reached n H) (c : ℕ) (hc : ltb c 76 ≡ true) {sh : Shape} (sound : Sound sh) {k : Park} {ps xs ys fs : List Page} (p : Page)
+module _ (n : ℕ) (b : List ℕ) (H : Heap) (rep : ArenaRep n b H) (r : Reached n H) (c : ℕ) (hc : ltb c 76 ≡ true) {sh : Shape} (sound : Sound sh)
+    {k : Park} {ps xs ys fs : List Page} (p : Page)
     (cr : ClassRep n b c sh k ps xs ys (p ∷ fs)) (holds : (x : ℕ) → covers (sh .pages) (p .first) x ≤ isHeld (H .holder x)) where
   changed : Changes (isStep (inRun (sh .pages) (p .first))) b (given b (p .first) (sh .pages))
   changed = given-step n b H rep r (p .first) (sh .pages) (sound .paged) holds

@@ -3,27 +3,26 @@
 --     reached-after    every heap after a history is reached
 --     reached-commit, reached-grow, reached-give    a step of the arena, with what it passes to a holder, keeps this
 -- Assumes nothing.
-use Prim.Native.Nat.{ℕ, zero, suc, _+_, _-_, _≤_, _<_}
+use Prim.Native.Nat.{ℕ, zero, suc, _+_, _≤_, _<_}
 use native.Mathlib.Omega.{arith}
-use mathlib.Core.Bool.{Bool, true, false, cond, _&&_}
+use mathlib.Core.Bool.{true, cond}
 use mathlib.Core.List.{List, [], _∷_, _++_}
-use mathlib.Core.Option.{Option, none, some}
-use mathlib.Core.Path.{_≡_, refl, sym, ap, _∙_}
-use lib.Dec.{eqb, ltb, leb}
-use borrow.Author.Tests.{ltb-true, ltb-false, leb-true, eqb-true, eqb-false, eq-eqb, ne-eqb}
-use Rattle.model.specs.Lists.{total, below, inRun, covers, coversRun}
+use mathlib.Core.Path.{_≡_, refl}
+use lib.Dec.{eqb, ltb}
+use borrow.Author.Tests.{ltb-true, ltb-false, eqb-true, eqb-false}
+use Rattle.model.specs.Lists.{total, below, covers, coversRun}
 use Rattle.model.specs.Calls.{Call}
 use Rattle.model.specs.Arena.{Arena, commit, grow, give}
 use Rattle.model.specs.Class.{Class}
 use Rattle.model.specs.Heap.{Heap, Holder, nobody, direct, class, isHeld, passTo, heldPages, step}
 use Rattle.model.specs.History.{heapFrom, heapAfter}
-use Rattle.model.specs.Ledger.{above, abandons}
+use Rattle.model.specs.Ledger.{above}
 use Rattle.model.proofs.Counts.{by-cases}
-use Rattle.model.proofs.Runs.{covers-in, covers-before, covers-after, covers-le, above-at}
+use Rattle.model.proofs.Runs.{above-at}
 use Rattle.model.proofs.Remembers.{Tidy}
 use Rattle.model.proofs.ArenaTidy.{tidy-commit, tidy-grow, tidy-give}
 use Rattle.model.proofs.ArenaLaws.{idle, commit-law, grow-law, grow-bound, give-law, give-frontier}
-use Rattle.model.proofs.IdlePages.{HolesBelow, holes-below, run-below}
+use Rattle.model.proofs.IdlePages.{HolesBelow, holes-below}
 use Rattle.model.proofs.HeapLaws.{kept}
 use Rattle.model.proofs.HistoryArena.{tidy-after}
 use Rattle.refinement.proofs.ArenaHolders.{isKnown, Known, known-passed, known-after}
@@ -115,7 +114,8 @@ module _ (n : ℕ) (H : Heap) (r : Reached n H) (h m : ℕ) (one : 1 ≤ m) (who
       record {
         tidy = tidy-grow n h m one e (H .arena) (r .tidy);
         bound = grow-bound n h e m (H .arena) (r .bound);
-        apart = λ x. takes (H .holder x) who (idle x (H .arena)) (idle x (g .arena)) (cond (g .grew) (covers m e x) 0) (r .apart x) (omega (arith, grow-law n h e m (H .arena) x)) (one-held who);
+        apart = λ x. takes (H .holder x) who (idle x (H .arena)) (idle x (g .arena)) (cond (g .grew) (covers m e x) 0) (r .apart x)
+            (omega (arith, grow-law n h e m (H .arena) x)) (one-held who);
         known = known-passed who (λ x. cond (g .grew) (covers m e x) 0) (H .holder) ours (r .known);
       }
 

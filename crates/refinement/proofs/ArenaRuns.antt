@@ -5,26 +5,24 @@
 --     claimed-whole, claimed-new    a commit for a class, once the run's pages name its first: the run is whole, the others as before
 --     left-whole, left-gone         a class's run is given: it is not whole any more, the others are as before
 -- Assumes nothing.
-use Prim.Native.Nat.{ℕ, zero, suc, _+_, _-_, _≤_, _<_}
+use Prim.Native.Nat.{ℕ, suc, _+_, _≤_, _<_}
 use native.Mathlib.Omega.{arith}
-use mathlib.Core.Bool.{Bool, true, false, cond, _&&_, true≢false}
+use mathlib.Core.Bool.{Bool, true, false, cond, _&&_}
 use mathlib.Core.List.{List}
-use mathlib.Core.Option.{Option, none, some}
-use mathlib.Core.Path.{_≡_, refl, sym, ap, _∙_}
+use mathlib.Core.Path.{_≡_, refl, sym, _∙_}
 use lib.Dec.{eqb, ltb, leb, eqb·zero-suc}
-use lib.ListN.{length}
-use borrow.Author.Tests.{ltb-true, ltb-false, ne-eqb, eqb-true, eqb-false, eq-eqb, le-leb, lt-ltb, leb-true}
+use borrow.Author.Tests.{ltb-true, ltb-false, ne-eqb, eqb-true, eqb-false, eq-eqb, le-leb, lt-ltb}
 use Rattle.classes.specs.declared.Shape.{Shape}
 use Rattle.fields.specs.Field.{arena, page, owner, first, frontier, get}
 use Rattle.fields.proofs.Changes.{Changes}
-use Rattle.model.specs.Lists.{every, below, inRun, covers, coversRun}
+use Rattle.model.specs.Lists.{below, inRun, covers, coversRun}
 use Rattle.model.specs.Arena.{Arena, commit, grow, give}
 use Rattle.model.specs.Class.{Class}
 use Rattle.model.specs.Heap.{Heap, Holder, nobody, direct, class, isHeld, passTo}
 use Rattle.model.proofs.Counts.{by-cases, and-l, and-r}
 use Rattle.model.proofs.ArenaTidy.{tidy-commit, tidy-grow, tidy-give}
 use Rattle.model.proofs.ArenaLaws.{idle, commit-law, grow-law, grow-rises, give-frontier}
-use Rattle.pages.specs.Runs.{ofRun, whole}
+use Rattle.pages.specs.Runs.{whole}
 use Rattle.arena.specs.Owners.{ownerCode}
 use Rattle.arena.specs.Calls.{committed, given, grownBy, grownBook}
 use Rattle.arena.specs.Represents.{ArenaRep}
@@ -111,7 +109,8 @@ module _ (n : ℕ) (b b′ : List ℕ) (H : Heap) (r : Reached n H) (rep : Arena
         (λ e. page-free n b b′ H (heapOf a (passTo who g (H .holder)) cs) rep rep′ rises d x y l (rw e o) (λ u. rw (drawn-nobody y e) (nobody-other d))))
 
     -- the holder's class, once the pages name q: its other runs
-    pub claimed-others : (q : ℕ) → ((y : ℕ) → eqb (g y) 0 ≡ false → get b′ (page first y) ≡ q) → (sh : Shape) (d x : ℕ) → 1 ≤ sh .pages → (x ≡ q → ⊥) → whole n b′ sh d x ≡ whole n b sh d x
+    pub claimed-others : (q : ℕ) → ((y : ℕ) → eqb (g y) 0 ≡ false → get b′ (page first y) ≡ q) → (sh : Shape) (d x : ℕ) → 1 ≤ sh .pages → (x ≡ q → ⊥)
+        → whole n b′ sh d x ≡ whole n b sh d x
     claimed-others q fs sh d x one ne =
         pages-whole n b b′ H (heapOf a (passTo who g (H .holder)) cs) rep rep′ rises sh d x one
         (λ y l. by-cases (eqb (g y) 0)
@@ -194,7 +193,8 @@ pub grow-whole : (n : ℕ) (b : List ℕ) (H : Heap) → ArenaRep n b H → Reac
 grow-whole n b H rep r h m one e sh d x some-page hd =
     let g = grow n h e m (H .arena) in
     let t = either (passed b (g .arena)) (inRunOf m (grownBy (g .grew) e)) in
-    drawn-whole n b (grownBook b g e m) H r rep (g .arena) (λ y. cond (g .grew) (covers m e y) 0) direct (H .classes) (grow-rep n b H rep r h m one e (H .classes)) (grow-rises n h e m (H .arena))
+    drawn-whole n b (grownBook b g e m) H r rep (g .arena) (λ y. cond (g .grew) (covers m e y) 0) direct (H .classes)
+    (grow-rep n b H rep r h m one e (H .classes)) (grow-rises n h e m (H .arena))
     (λ y. omega (arith, grow-law n h e m (H .arena) y))
     (λ y z. step-first t b (grownBook b g e m) (grown-changes b g e m (tidy-grow n h m one e (H .arena) (r .tidy) .slots)) y)
     sh d x some-page (direct-other d hd)

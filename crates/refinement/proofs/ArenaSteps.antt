@@ -2,9 +2,9 @@
 --     rep-kept              a book with the same words of the arena and OWNERs stands for the same
 --     Stands n b a w f k    the words stand for the arena a and for the holders w of the pages below f, and HELD is k
 -- Assumes nothing.
-use Prim.Native.Nat.{ℕ, zero, suc, _+_, _-_, _≤_, _<_}
+use Prim.Native.Nat.{ℕ, _+_, _-_, _≤_, _<_}
 use native.Mathlib.Omega.{arith}
-use mathlib.Core.Bool.{Bool, true, false, cond, not, _&&_, false≢true}
+use mathlib.Core.Bool.{Bool, true, false, not, false≢true}
 use mathlib.Core.List.{List}
 use mathlib.Core.Path.{_≡_, refl, sym, ap, _∙_}
 use lib.Dec.{eqb, ltb, leb}
@@ -12,7 +12,7 @@ use lib.ListN.{length}
 use borrow.Author.Tests.{ltb-true, ltb-false, le-leb, lt-ltb, lt-leb}
 use Rattle.fields.specs.Field.{Field, arena, memory, class, hole, page, out, slot, owner, size, state, held, holes, pageOff, get, put, ok, words}
 use Rattle.fields.proofs.Laws.{get-put-same, get-put-other, length-put}
-use Rattle.fields.proofs.Changes.{Changes, differ}
+use Rattle.fields.proofs.Changes.{differ}
 use Rattle.model.specs.Lists.{inRun, covers}
 use Rattle.model.specs.Arena.{Arena}
 use Rattle.model.specs.Heap.{Heap, Holder, nobody, passTo, heldPages}
@@ -66,7 +66,8 @@ stored-arenas (page k p) e = absurd (false≢true e)
 stored-arenas (out p i) e = e
 stored-arenas (slot p i) e = e
 
-pub rep-kept : (n : ℕ) (b b′ : List ℕ) (H : Heap) → length (H .arena .store .holes) ≤ 4096 → length b′ ≡ length b → ((g : Field) → ok g ≡ true → isArenas g ≡ true → get b′ g ≡ get b g)
+pub rep-kept : (n : ℕ) (b b′ : List ℕ) (H : Heap) → length (H .arena .store .holes) ≤ 4096 → length b′ ≡ length b
+    → ((g : Field) → ok g ≡ true → isArenas g ≡ true → get b′ g ≡ get b g)
     → ArenaRep n b H → ArenaRep n b′ H
 rep-kept n b b′ H few long k r = record {
   long = long-kept n b b′ long (r .long);

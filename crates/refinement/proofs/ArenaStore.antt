@@ -4,9 +4,9 @@
 --     load-kept        a book with the same such words holds the same arena
 --     load-store       an arena that was stored is loaded again
 -- Assumes nothing.
-use Prim.Native.Nat.{ℕ, zero, suc, _+_, _*_, _/_, _%_, _^_, _≤_, _<_}
+use Prim.Native.Nat.{ℕ, zero, suc, _+_, _≤_, _<_}
 use native.Mathlib.Omega.{arith}
-use mathlib.Core.Bool.{Bool, true, false, cond, _&&_}
+use mathlib.Core.Bool.{Bool, true, false, _&&_}
 use mathlib.Core.List.{List, [], _∷_}
 use mathlib.Core.Option.{Option, none, some}
 use mathlib.Core.Path.{_≡_, refl, sym, ap, _∙_, subst, fun-ext}
@@ -71,7 +71,8 @@ load-written b a t w =
     rw (w .status, status-of (a .status), w .frontier, w .number, w .holes, w .total, recalls, w .commits, w .reuses, w .abandoned) refl
 
 -- ---- a book whose arena's words are as they were
-holes-same : (b b′ : List ℕ) (i k : ℕ) → i + k ≤ 4096 → ((f : HoleField) (j : ℕ) → ltb j 4096 ≡ true → i ≤ j → get b′ (hole f j) ≡ get b (hole f j)) → loadHoles b′ i k ≡ loadHoles b i k
+holes-same : (b b′ : List ℕ) (i k : ℕ) → i + k ≤ 4096 → ((f : HoleField) (j : ℕ) → ltb j 4096 ≡ true → i ≤ j → get b′ (hole f j) ≡ get b (hole f j))
+    → loadHoles b′ i k ≡ loadHoles b i k
 unfolding loadHoles
 holes-same b b′ i zero l h = refl
 holes-same b b′ i (suc k) l h =
@@ -155,7 +156,8 @@ module _ (n : ℕ) where
   and-no true = refl
   and-no false = refl
 
-  hole-other : (b : List ℕ) (i j : ℕ) (f : HoleField) (h : Hole) → ltb i 4096 ≡ true → ltb j 4096 ≡ true → eqb i j ≡ false → get (storeHole b i h) (hole f j) ≡ get b (hole f j)
+  hole-other : (b : List ℕ) (i j : ℕ) (f : HoleField) (h : Hole) → ltb i 4096 ≡ true → ltb j 4096 ≡ true → eqb i j ≡ false
+      → get (storeHole b i h) (hole f j) ≡ get b (hole f j)
   hole-other b i j f h o v d =
       get-put-other (put b (hole start i) (h .first)) (hole pages i) (hole f j) (h .pages) o v (rw (d, and-no (eqb (holeOff pages) (holeOff f))))
       ∙ get-put-other b (hole start i) (hole f j) (h .first) o v (rw (d, and-no (eqb (holeOff start) (holeOff f))))
@@ -179,7 +181,8 @@ module _ (n : ℕ) where
       let o : ltb m 129 ≡ true = lt-ltb m 129 (omega arith) in
       let hc = long-kept n b c (memory-changes b f m (omega arith) .long) hb in
       by-cases (eqb m j)
-      (λ e. let z = eqb-true m j e in subst (λ x. get (put c (memory m) (indexCode (f m))) (memory x) ≡ indexCode (f x)) z (get-put-same n c (memory m) (indexCode (f m)) hc o refl))
+      (λ e. let z = eqb-true m j e in
+      subst (λ x. get (put c (memory m) (indexCode (f m))) (memory x) ≡ indexCode (f x)) z (get-put-same n c (memory m) (indexCode (f m)) hc o refl))
       (λ e. let z : m ≡ j → ⊥ = eqb-false m j e in
       get-put-other c (memory m) (memory j) (indexCode (f m)) o (lt-ltb j 129 (omega arith)) e ∙ memory-there b f m hb (omega arith) j (omega (arith, z)))
 
@@ -195,7 +198,8 @@ module _ (n : ℕ) where
   store-there b s hb l =
       let c = storeHoles b 0 (s .holes) in
       let hc = long-kept n b c (holes-changes b 0 (s .holes) (omega arith) .long) hb in (
-        holes-same c (storeMemory c (s .memory) 129) 0 (length (s .holes)) (omega arith) (λ f j o u. memory-holes c (s .memory) 129 (omega arith) f j o) ∙ holes-there b 0 (s .holes) hb (omega arith),
+        holes-same c (storeMemory c (s .memory) 129) 0 (length (s .holes)) (omega arith) (λ f j o u. memory-holes c (s .memory) 129 (omega arith) f j o)
+            ∙ holes-there b 0 (s .holes) hb (omega arith),
         λ m o. memory-there c (s .memory) 129 hc (omega arith) m (ltb-true m 129 o),
       )
 
@@ -230,7 +234,8 @@ module _ (n : ℕ) where
   store-written b a hb l =
       let x = storeStore b (a .store) in
       let s = store-there b (a .store) hb l in
-      let t = top-there x (long-kept n b x (store-store-changes b (a .store) l .long) hb) (statusCode (a .status)) (a .frontier) (length (a .store .holes)) (a .store .total) (a .commits) (a .reuses) (a .abandoned) in
+      let hx = long-kept n b x (store-store-changes b (a .store) l .long) hb in
+      let t = top-there x hx (statusCode (a .status)) (a .frontier) (length (a .store .holes)) (a .store .total) (a .commits) (a .reuses) (a .abandoned) in
       record {
         status = t .state;
         frontier = t .frontier;

@@ -1,30 +1,26 @@
--- Lists of block indices, and the stack and the out bits that hold them. Assumes nothing.
---     count-downs     how often an index stands among those just carved
+-- Lists of block indices, and the stack that holds them. Assumes nothing.
 --     few-counts      a list that has each index below k at most once, and no other, is no longer than k
 --     tops-take       the top entries of a stack that is represented
---     marks-at        the out bits after some were set or cleared
-use Prim.Native.Nat.{ℕ, zero, suc, _+_, _≤_, _<_}
+use Prim.Native.Nat.{ℕ, zero, suc, _+_, _≤_}
 use native.Mathlib.Omega.{arith}
-use native.Mathlib.Nat.{add-zero, zero-add}
-use mathlib.Core.Bool.{Bool, true, false, cond}
+use native.Mathlib.Nat.{zero-add}
+use mathlib.Core.Bool.{Bool, true, cond}
 use mathlib.Core.List.{List, [], _∷_, _++_, map, reverse, reverseAux}
-use mathlib.Core.Path.{_≡_, refl, sym, ap, _∙_}
-use lib.Dec.{eqb, ltb, leb}
+use mathlib.Core.Path.{_≡_, refl, sym, ap}
+use lib.Dec.{eqb, ltb}
 use lib.ListN.{length, take, drop}
-use borrow.Author.Tests.{lt-ltb, le-ltb, ltb-true, ltb-false, eqb-true, eqb-false, ne-eqb}
+use borrow.Author.Tests.{lt-ltb, ltb-true, ltb-false}
 use Rattle.classes.specs.declared.Shape.{Shape}
-use Rattle.fields.specs.Field.{Field, page, slot, out, get, put, ok, words}
-use Rattle.fields.proofs.Laws.{get-put-same, get-put-other}
-use Rattle.fields.proofs.Changes.{Changes, changes-none, changes-put}
 use Rattle.model.specs.Lists.{every, count, total, below}
 use Rattle.model.specs.Page.{wordOf, wordsFrom}
-use Rattle.model.proofs.Counts.{by-cases, and-l, and-r}
+use Rattle.model.proofs.Counts.{by-cases}
 use Rattle.pages.specs.Runs.{flag}
-use Rattle.pages.specs.Stack.{marked, tops, downs, marks}
+use Rattle.pages.specs.Stack.{tops, downs}
+use Rattle.pages.proofs.Downs.{flag-true, flag-false, flag-cases, eq-cases}
+pub use Rattle.pages.proofs.Downs.{length-downs, count-downs}
 use Rattle.refinement.specs.Represents.{Slots}
-use Rattle.refinement.proofs.Basics.{Setting, long-kept, flag-true, flag-false, flag-cases, eq-cases}
+use Rattle.refinement.proofs.Basics.{Setting}
 use Rattle.refinement.proofs.Lists.{itself}
-use Rattle.refinement.proofs.Frames.{marked-kept}
 
 -- ---- a function along lists of numbers
 module _ (f : ℕ → ℕ) where
@@ -57,21 +53,6 @@ module _ (f : ℕ → ℕ) where
 pub words-downs : (sh : Shape) (q a k : ℕ) → wordsFrom sh q a k ≡ map (wordOf sh q) (downs a k)
 words-downs sh q a zero = refl
 words-downs sh q a (suc k) = ap (λ l. wordOf sh q (a + k) ∷ l) (words-downs sh q a k)
-
-pub length-downs : (a k : ℕ) → length (downs a k) ≡ k
-length-downs a zero = refl
-length-downs a (suc k) = ap suc (length-downs a k)
-
-pub count-downs : (j a k : ℕ) → count j (downs a k) + flag (ltb j a) ≡ flag (ltb j (a + k))
-count-downs j a zero = rw add-zero (omega arith)
-count-downs j a (suc k) =
-    let ih = count-downs j a k in
-    eq-cases j (a + k)
-    (λ e e′. omega (arith, flag-false j (a + k) (omega arith), flag-true j (a + suc k) (omega arith)))
-    (λ e e′.
-    flag-cases j (a + k)
-    (λ f f′. omega (arith, flag-true j (a + suc k) (omega arith)))
-    (λ f f′. omega (arith, flag-false j (a + suc k) (omega (arith, e)))))
 
 -- from 0 on
 pub count-downs-zero : (j k : ℕ) → count j (downs 0 k) ≡ flag (ltb j k)
@@ -133,37 +114,9 @@ slots-drop b q zero xs s = s
 slots-drop b q (suc m) [] s = s
 slots-drop b q (suc m) (x ∷ xs) s = slots-drop b q m xs (s .2)
 
--- ---- out bits of blocks below the capacity, set to v
+-- ---- blocks below the capacity
 abbrev pub fits : Shape → ℕ → Bool
 fits sh i = ltb i (sh .capacity)
 
 pub in-row : {n : ℕ} {b : List ℕ} {c : ℕ} {sh : Shape} → Setting n b c sh → (i : ℕ) → ltb i (sh .capacity) ≡ true → ltb i 4096 ≡ true
 in-row {sh = sh} s i e = lt-ltb i 4096 (omega (arith, ltb-true i (sh .capacity) e, s .shape .few))
-
-module _ {n : ℕ} {b : List ℕ} {c : ℕ} {sh : Shape} (s : Setting n b c sh) (q : ℕ) (v : ℕ) where
-  pub marks-changes : (t : Field → Bool) → ((i : ℕ) → t (out q i) ≡ true) → (is : List ℕ) → every (fits sh) is ≡ true → Changes t b (marks b q v is)
-  marks-changes t h [] e = changes-none t b
-  marks-changes t h (i ∷ is) e =
-      changes-put t b (marks b q v is) (out q i) v (in-row s i (and-l (fits sh i) (every (fits sh) is) e)) (h i)
-      (marks-changes t h is (and-r (fits sh i) (every (fits sh) is) e))
-
-  module _ (hq : ltb q n ≡ true) (hv : ltb v 2 ≡ true) where
-    set-here : (b₁ : List ℕ) → leb (words n) (length b₁) ≡ true → (i : ℕ) → ltb i (sh .capacity) ≡ true → marked (put b₁ (out q i) v) sh q i ≡ v
-    unfolding marked
-    set-here b₁ hb i e = rw e (get-put-same n b₁ (out q i) v hb (rw (in-row s i e, hq)) hv)
-
-    set-there : (b₁ : List ℕ) (i j : ℕ) → ltb i (sh .capacity) ≡ true → eqb i j ≡ false → marked (put b₁ (out q i) v) sh q j ≡ marked b₁ sh q j
-    set-there b₁ i j e d = marked-kept b₁ (put b₁ (out q i) v) sh q j (λ u. get-put-other b₁ (out q i) (out q j) v (in-row s i e) (in-row s j u) (rw d))
-
-    abbrev pub MarkedAt : List ℕ → ℕ → Type 0
-    MarkedAt is j = _≡_ {A = ℕ} (marked (marks b q v is) sh q j) (cond (eqb (count j is) 0) (marked b sh q j) v)
-
-    pub marks-at : (is : List ℕ) → every (fits sh) is ≡ true → (j : ℕ) → MarkedAt is j
-    marks-at [] e j = refl
-    marks-at (i ∷ is) e j =
-        let ei = and-l (fits sh i) (every (fits sh) is) e in
-        let es = and-r (fits sh i) (every (fits sh) is) e in
-        let hb = long-kept n b (marks b q v is) (marks-changes (λ g. true) (λ i. refl) is es .long) (s .long) in
-        by-cases (eqb j i)
-        (λ u. let j-i : j ≡ i = eqb-true j i u in rw (u, ne-eqb (1 + count j is) 0 (λ z. omega arith), j-i) (set-here (marks b q v is) hb i ei))
-        (λ u. rw (u, zero-add) (set-there (marks b q v is) i j ei (ne-eqb i j (λ z. eqb-false j i u (sym z))) ∙ marks-at is es j))

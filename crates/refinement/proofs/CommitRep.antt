@@ -4,29 +4,28 @@
 --     commit-rep     the book afterwards stands for the model's arena, and the run is the holder's
 --     grow-rep       the same for a growth
 -- Assumes nothing.
-use Prim.Native.Nat.{ℕ, zero, suc, _+_, _-_, _≤_, _<_}
+use Prim.Native.Nat.{ℕ, _+_, _≤_}
 use native.Mathlib.Omega.{arith}
 use mathlib.Core.Bool.{Bool, true, false, cond}
 use mathlib.Core.List.{List}
 use mathlib.Core.Option.{Option, none, some}
-use mathlib.Core.Path.{_≡_, refl, sym, ap, _∙_, subst, fun-ext}
+use mathlib.Core.Path.{_≡_, refl, subst, fun-ext}
 use Rattle.fields.specs.Field.{arena, held, get, put}
 use Rattle.model.specs.Lists.{covers, coversRun}
 use Rattle.model.specs.Arena.{Arena, commit, grow}
 use Rattle.model.specs.Ledger.{above}
 use Rattle.model.specs.Class.{Class}
 use Rattle.model.specs.Heap.{Heap, Holder, direct, isHeld, passTo, heldPages}
-use Rattle.model.proofs.Counts.{by-cases}
 use Rattle.model.proofs.Remembers.{Tidy}
 use Rattle.model.proofs.ArenaTidy.{tidy-commit, tidy-grow}
-use Rattle.model.proofs.ArenaLaws.{idle, commit-law, grow-law, grow-rises, grow-bound}
+use Rattle.model.proofs.ArenaLaws.{commit-law, grow-law, grow-rises, grow-bound}
 use Rattle.model.proofs.IdlePages.{run-below, commit-below}
 use Rattle.arena.specs.Owners.{ownerCode, own, ownRun, heldWith}
-use Rattle.arena.specs.Calls.{advance, Committed, committed, commitFor, grownBy, grownBook}
+use Rattle.arena.specs.Calls.{advance, committed, commitFor, grownBy, grownBook}
 use Rattle.arena.specs.Represents.{ArenaRep}
 use Rattle.refinement.proofs.ArenaReached.{Reached, heapOf, idle-once, above-nobody}
 use Rattle.refinement.proofs.ArenaFair.{loads-frontier, commit-passes}
-use Rattle.refinement.proofs.ArenaHeld.{heldOf, held-more}
+use Rattle.refinement.proofs.ArenaHeld.{held-more}
 use Rattle.refinement.proofs.ArenaSteps.{Stands, rep-stands, stands-rep, store-stands, own-stands, fresh-stands, held-stands}
 
 pub grown-covers : (m : ℕ) (y : Bool) (e x : ℕ) → coversRun m (grownBy y e) x ≡ cond y (covers m e x) 0
@@ -39,13 +38,15 @@ module _ (n : ℕ) (b : List ℕ) (H : Heap) (rep : ArenaRep n b H) (r : Reached
     unfolding advance
     advance-stands =
         let s = store-stands n b (H .arena) (H .holder) (H .arena .frontier) (heldPages n H) (rep-stands n b H rep) a tidy in
-        rw (loads-frontier b (H .arena) (rep .loads)) (fresh-stands n _ a (H .holder) (H .arena .frontier) (heldPages n H) s (tidy .slots) (a .frontier) rises bound (above-nobody n H r))
+        rw (loads-frontier b (H .arena) (rep .loads))
+        (fresh-stands n _ a (H .holder) (H .arena .frontier) (heldPages n H) s (tidy .slots) (a .frontier) rises bound (above-nobody n H r))
 
     pub advance-rep : ArenaRep n (advance b a) (heapOf a (H .holder) (H .classes))
     advance-rep = stands-rep n (advance b a) a (H .holder) (heldPages n H) (H .classes) refl advance-stands
 
     -- a run that nobody held passes to a holder, and counts as held
-    passed-rep : (o : Option ℕ) (m : ℕ) (who : Holder) → isHeld who ≡ 1 → ((x : ℕ) → coversRun m o x + isHeld (H .holder x) ≤ 1) → ((q : ℕ) → o ≡ some q → q + m ≤ n) → (cs : ℕ → Class)
+    passed-rep : (o : Option ℕ) (m : ℕ) (who : Holder) → isHeld who ≡ 1 → ((x : ℕ) → coversRun m o x + isHeld (H .holder x) ≤ 1)
+        → ((q : ℕ) → o ≡ some q → q + m ≤ n) → (cs : ℕ → Class)
         → ArenaRep n (put (ownRun (advance b a) o m (ownerCode who)) (arena held) (heldWith (get b (arena held)) o m)) (heapOf a (passTo who (coversRun m o) (H .holder)) cs)
     passed-rep none m who one free low cs =
         stands-rep n _ a (H .holder) (get b (arena held)) cs (rep .held)

@@ -3,14 +3,14 @@
 --     claim-new          the run itself is whole now
 --     claim-none         no class had a run there before
 -- b is the book before the commit, b′ any book that stands for the model's arena and holders after it. Assumes nothing.
-use Prim.Native.Nat.{ℕ, zero, suc, _+_, _-_, _≤_, _<_}
+use Prim.Native.Nat.{ℕ, suc, _+_, _≤_, _<_}
 use native.Mathlib.Omega.{arith}
-use mathlib.Core.Bool.{Bool, true, false, cond, _&&_}
+use mathlib.Core.Bool.{true, false}
 use mathlib.Core.List.{List}
-use mathlib.Core.Option.{Option, none, some}
+use mathlib.Core.Option.{some}
 use mathlib.Core.Path.{_≡_, refl, sym, ap, _∙_}
-use lib.Dec.{eqb, ltb, leb}
-use borrow.Author.Tests.{ltb-true, eqb-true, eqb-false, le-leb, lt-ltb}
+use lib.Dec.{eqb}
+use borrow.Author.Tests.{eqb-true, eqb-false, le-leb, lt-ltb}
 use Rattle.classes.specs.declared.Shape.{Shape}
 use Rattle.fields.specs.Field.{page, owner, first, get}
 use Rattle.model.specs.Lists.{inRun, covers, coversRun}
@@ -18,7 +18,6 @@ use Rattle.model.specs.Arena.{commit}
 use Rattle.model.specs.Class.{Class}
 use Rattle.model.specs.Heap.{Heap, nobody, class, passTo}
 use Rattle.model.proofs.Counts.{by-cases, and-l}
-use Rattle.model.proofs.Runs.{covers-in}
 use Rattle.model.proofs.ArenaLaws.{idle, commit-law}
 use Rattle.model.proofs.IdlePages.{commit-below}
 use Rattle.pages.specs.Runs.{whole}
@@ -65,9 +64,11 @@ module _ (n : ℕ) (b : List ℕ) (H : Heap) (rep : ArenaRep n b H) (r : Reached
         let drawn : (y : ℕ) → idle y (g .arena) + coversRun m (g .run) y ≤ idle y (H .arena) = λ y. omega (arith, law .pages y) in
         by-cases (eqb d c)
         (λ e. let z = eqb-true d c e in
-        claimed-others n b b′ H r rep (g .arena) (coversRun m (g .run)) (class c) cs rep′ (law .rises) drawn (λ y t. outside y (left-out y t)) q (λ y t. inside y (passed-in y t)) sh d x l (ne z))
+        claimed-others n b b′ H r rep (g .arena) (coversRun m (g .run)) (class c) cs rep′ (law .rises) drawn
+        (λ y t. outside y (left-out y t)) q (λ y t. inside y (passed-in y t)) sh d x l (ne z))
         (λ e. let z : d ≡ c → ⊥ = eqb-false d c e in
-        drawn-whole n b b′ H r rep (g .arena) (coversRun m (g .run)) (class c) cs rep′ (law .rises) drawn (λ y t. outside y (left-out y t)) sh d x l (class-other c d (λ w. z (sym w))))
+        drawn-whole n b b′ H r rep (g .arena) (coversRun m (g .run)) (class c) cs rep′ (law .rises) drawn
+        (λ y t. outside y (left-out y t)) sh d x l (class-other c d (λ w. z (sym w))))
 
     pub claim-new : (sh : Shape) → sh .pages ≡ m → whole n b′ sh c q ≡ true
     claim-new sh e =

@@ -4,40 +4,37 @@
 --     direct-agrees     every call that names no class, in the arena's part
 --     direct-represents    the same for the whole book
 -- Assumes nothing.
-use Prim.Native.Nat.{ℕ, zero, suc, _+_, _-_, _*_, _^_, _≤_, _<_}
+use Prim.Native.Nat.{ℕ, zero, suc, _+_, _-_, _≤_, _<_}
 use native.Mathlib.Omega.{arith}
 use mathlib.Core.Bool.{Bool, true, false, cond, not, _&&_, _||_, true≢false, false≢true}
 use mathlib.Core.List.{List}
-use mathlib.Core.Option.{Option, none, some}
-use mathlib.Core.Path.{_≡_, refl, sym, ap, _∙_}
+use mathlib.Core.Path.{_≡_, refl, sym, ap}
 use lib.Dec.{eqb, ltb, leb}
-use lib.ListN.{length}
-use borrow.Author.Tests.{leb-true, leb-false, le-leb, lt-leb, ltb-true, ltb-false, eqb-false, eqb-true, ne-eqb, not-false}
+use borrow.Author.Tests.{leb-true, leb-false, ltb-true, eqb-false, ne-eqb, not-false}
 use Rattle.classes.specs.declared.Shape.{Shape}
 use Rattle.classes.specs.Shape.{shapeOf}
 use Rattle.classes.proofs.Shapes.{shape-sound}
 use Rattle.fields.specs.Field.{arena, page, owner, get}
 use Rattle.fields.proofs.Changes.{Changes, changes-none}
-use Rattle.model.specs.Lists.{every, below, covers, coversRun, inRun}
+use Rattle.model.specs.Lists.{every, below, covers, inRun}
 use Rattle.model.specs.Calls as Calls
 use Rattle.model.specs.Calls.{Call, Answer, refused, released}
 use Rattle.model.specs.Chunks.{hostMax}
 use Rattle.model.specs.Arena as Model
-use Rattle.model.specs.Arena.{Arena}
 use Rattle.model.specs.Heap as Heaps
 use Rattle.model.specs.Heap.{Heap, Holder, Outcome, nobody, direct, class, isDirect, isHeld, badRun, unchanged, directCall, reportOf}
 use Rattle.model.proofs.Counts.{by-cases, and-l, and-r}
 use Rattle.model.proofs.ArenaTidy.{tidy-commit, tidy-grow}
 use Rattle.pages.specs.Runs.{whole}
 use Rattle.arena.specs.Owners.{ownerCode}
-use Rattle.arena.specs.Calls.{commitCall, heldDirect, growCall, grownBy, releaseCall, containsCall, figures, reportCode}
+use Rattle.arena.specs.Calls.{commitCall, everyDirect, heldDirect, growCall, grownBy, releaseCall, containsCall, figures, reportCode}
 use Rattle.arena.specs.Represents.{ArenaRep}
 use Rattle.refinement.specs.Represents.{Represents}
 use Rattle.refinement.specs.Direct.{Reply, reply, commitReply, growReply, releaseReply, reportedOf, directReply, Agrees}
 use Rattle.refinement.proofs.ArenaHolders.{isKnown}
 use Rattle.refinement.proofs.ArenaReached.{Reached, held-below}
 use Rattle.refinement.proofs.ArenaFair.{loads-frontier, loads-total, loads-commits, loads-reuses, loads-abandoned, record-passes}
-use Rattle.refinement.proofs.ArenaFrames.{isStep, inRunOf, either, passed, committed-changes, grown-changes, every-at}
+use Rattle.refinement.proofs.ArenaFrames.{isStep, inRunOf, either, passed, committed-changes, grown-changes, every-cong, every-at}
 use Rattle.refinement.proofs.CommitRep.{commit-for, commit-rep, grow-rep}
 use Rattle.refinement.proofs.GiveRep.{give-fair, give-rep}
 use Rattle.refinement.proofs.ArenaRuns.{isOf, direct-other, commit-whole, grow-whole, given-step, give-whole}
@@ -73,10 +70,6 @@ direct-held nobody e = absurd (false≢true e)
 direct-held direct e = omega arith
 direct-held (class c) e = absurd (false≢true e)
 
-every-cong : (s t : ℕ → Bool) (m : ℕ) → ((k : ℕ) → k < m → s k ≡ t k) → every s (below m) ≡ every t (below m)
-every-cong s t zero h = refl
-every-cong s t (suc m) h = rw (h m (omega arith), every-cong s t m (λ k l. h k (omega arith)))
-
 module _ (n : ℕ) (b : List ℕ) (H : Heap) (rep : ArenaRep n b H) (r : Reached n H) where
   -- a run wholly held by the direct calls
   module _ (q m : ℕ) (one : 1 ≤ m) where
@@ -101,7 +94,7 @@ module _ (n : ℕ) (b : List ℕ) (H : Heap) (rep : ArenaRep n b H) (r : Reached
     low k l u = rw (rep .owners (q + k) (omega arith)) (is-direct (H .holder (q + k)) (r .known .at (q + k)))
 
     pub held-direct : heldDirect n b q m ≡ Heaps.heldDirect n H q m
-    unfolding heldDirect Heaps.heldDirect
+    unfolding heldDirect everyDirect Heaps.heldDirect
     held-direct =
         rw (loads-frontier b (H .arena) (rep .loads))
         (ap (λ t. leb (q + m) n && t)
@@ -123,7 +116,8 @@ module _ (n : ℕ) (b : List ℕ) (H : Heap) (rep : ArenaRep n b H) (r : Reached
     classes : o .heap .classes ≡ H .classes
 
   -- tests before a call, on both sides
-  settle-cond : {W : Type 0} (f : W → Reply) (t : Bool) (w w′ : W) (o o′ : Outcome) → (t ≡ true → Settled (f w) o) → (t ≡ false → Settled (f w′) o′) → Settled (f (cond t w w′)) (cond t o o′)
+  settle-cond : {W : Type 0} (f : W → Reply) (t : Bool) (w w′ : W) (o o′ : Outcome) → (t ≡ true → Settled (f w) o) → (t ≡ false → Settled (f w′) o′)
+      → Settled (f (cond t w w′)) (cond t o o′)
   settle-cond f true w w′ o o′ h k = h refl
   settle-cond f false w w′ o o′ h k = k refl
 

@@ -2,28 +2,31 @@
 --     draw-holds     the words of the run afterwards
 --     pop-rep        the page afterwards is the model's
 --     pop-blocks     the blocks are the model's
-use Prim.Native.Nat.{ℕ, zero, suc, _+_, _-_, _≤_, _<_, min}
+use Prim.Native.Nat.{ℕ, suc, _+_, _-_, min}
 use native.Mathlib.Omega.{arith}
-use mathlib.Core.Bool.{Bool, true, false, cond, not, _||_}
+use mathlib.Core.Bool.{Bool, true, cond, not, _&&_}
 use mathlib.Core.List.{List, [], _∷_, _++_, map, reverse}
 use mathlib.Core.Path.{_≡_, refl, sym, ap, _∙_}
-use lib.Dec.{eqb, ltb, leb}
+use lib.Dec.{eqb, ltb}
 use lib.ListN.{length, take, drop, length-append, length-drop, length-take, length-reverse}
 use borrow.Author.Tests.{eq-eqb, ne-eqb, eqb-true, eqb-false}
 use Rattle.classes.specs.declared.Shape.{Shape}
-use Rattle.fields.specs.Field.{Field, page, slot, out, owner, free, carved, listed, virgin, region, get, put, ok, words}
-use Rattle.fields.proofs.Laws.{get-put-same, get-put-other, length-put}
-use Rattle.fields.proofs.Changes.{Changes, changes-put}
+use Rattle.fields.specs.Field.{Field, page, slot, out, owner, free, carved, listed, virgin, region, get, words, off}
+use Rattle.fields.proofs.Laws.{get-put-other}
+use Rattle.fields.proofs.Changes.{Changes}
 use Rattle.model.specs.Lists.{every, count, isNil}
 use Rattle.model.specs.Page as Model
 use Rattle.model.specs.Page.{Page, wordOf, pop}
 use Rattle.model.proofs.Counts.{by-cases, count-append, count-reverse, count-cut}
-use Rattle.pages.specs.Runs.{flag, whole}
-use Rattle.pages.specs.Stack.{marked, tops, downs, marks, carvedNow, latest, draw, hasMore}
-use Rattle.refinement.specs.Represents.{Slots, Holds, PageRep}
-use Rattle.refinement.proofs.Basics.{Setting, long-kept, flag-le, flag-false}
+use Rattle.pages.specs.Runs.{flag}
+use Rattle.pages.specs.Stack.{marked, downs, marks, carvedNow, latest, draw, hasMore}
+use Rattle.pages.proofs.Downs.{flag-le, flag-false, length-downs, count-downs, every-below}
+use Rattle.pages.proofs.Draws.{draw-changes, draw-free, draw-carved}
+use Rattle.pages.proofs.Marks.{marks-at}
+use Rattle.refinement.specs.Represents.{Holds, PageRep}
+use Rattle.refinement.proofs.Basics.{Setting}
 use Rattle.refinement.proofs.Frames.{isData, ofClass, Only, data-owns, whole-kept, whole-in, whole-owner, marked-kept, slots-kept}
-use Rattle.refinement.proofs.Blocks.{map-append, map-reverse, map-take, map-drop, length-map, words-downs, length-downs, count-downs, fits, in-row, every-counts, tops-take, slots-drop, marks-changes, marks-at}
+use Rattle.refinement.proofs.Blocks.{map-append, map-reverse, map-take, map-drop, length-map, words-downs, fits, in-row, every-counts, tops-take, slots-drop}
 
 -- ---- the words
 module _ {n : ℕ} {b : List ℕ} {c : ℕ} {sh : Shape} (s : Setting n b c sh) {l q : ℕ} {xs : List ℕ} {k : ℕ} {v : Bool} (h : Holds n sh b c l q xs k v) (m : ℕ) where
@@ -34,8 +37,8 @@ module _ {n : ℕ} {b : List ℕ} {c : ℕ} {sh : Shape} (s : Setting n b c sh) 
   latest-count : (j : ℕ) → count j (latest b sh q m) ≡ count j (downs k (min (m - length xs) (sh .capacity - k))) + count j (take m xs)
   latest-count j = rw (latest-is, count-append, count-reverse)
 
-  pub latest-length : length (latest b sh q m) ≡ min (m - length xs) (sh .capacity - k) + min m (length xs)
-  latest-length = rw (latest-is, length-append, length-downs, length-reverse, length-take)
+  latest-size : length (latest b sh q m) ≡ min (m - length xs) (sh .capacity - k) + min m (length xs)
+  latest-size = rw (latest-is, length-append, length-downs, length-reverse, length-take)
 
   latest-fit : every (fits sh) (latest b sh q m) ≡ true
   latest-fit =
@@ -50,18 +53,16 @@ module _ {n : ℕ} {b : List ℕ} {c : ℕ} {sh : Shape} (s : Setting n b c sh) 
         flag-false j k (omega (arith, h .within)),
       ))
 
-  draw-changes : (t : Field → Bool) → t (page free q) ≡ true → t (page carved q) ≡ true → ((i : ℕ) → t (out q i) ≡ true) → Changes t b (draw b sh q m)
-  unfolding draw
-  draw-changes t f k o =
-      changes-put t b _ (page carved q) _ refl k (changes-put t b _ (page free q) _ refl f (marks-changes s q 1 t o (latest b sh q m) latest-fit))
+  changes : (t : Field → Bool) → t (page free q) ≡ true → t (page carved q) ≡ true → ((i : ℕ) → t (out q i) ≡ true) → Changes t b (draw b sh q m)
+  changes = draw-changes b sh q m (every-below (sh .capacity) 4096 (s .shape .few) (latest b sh q m) latest-fit)
 
   pub draw-data : Changes (isData q) b (draw b sh q m)
-  draw-data = let e = eq-eqb q q refl in draw-changes (isData q) e e (λ i. e)
+  draw-data = let e = eq-eqb q q refl in changes (isData q) e e (λ i. e)
 
   pub draw-only : Only c b (draw b sh q m)
   draw-only =
       let o : eqb (get b (page owner q)) (suc c) ≡ true = eq-eqb _ _ (whole-owner n b (s .shape) c q (h .run)) in
-      draw-changes (ofClass b c) o o (λ i. o)
+      changes (ofClass b c) o o (λ i. o)
 
   hq : ltb q n ≡ true
   hq = whole-in n b (s .shape) c q (h .run)
@@ -70,11 +71,7 @@ module _ {n : ℕ} {b : List ℕ} {c : ℕ} {sh : Shape} (s : Setting n b c sh) 
   unfolding draw
   draw-marked j =
       marked-kept (marks b q 1 (latest b sh q m)) _ sh q j (λ e. let o = in-row s j e in simp get-put-other)
-      ∙ marks-at s q 1 hq refl (latest b sh q m) latest-fit j
-
-  -- setting out bits leaves every other field alone
-  kept : (g : Field) → ok g ≡ true → eqb (region g) 5 ≡ false → get (marks b q 1 (latest b sh q m)) g ≡ get b g
-  kept g o d = marks-changes s q 1 (λ g. eqb (region g) 5) (λ i. refl) (latest b sh q m) latest-fit .kept g o d
+      ∙ marks-at n b (s .long) q hq 1 refl sh (s .shape .few) (latest b sh q m) latest-fit j
 
   draw-outs : (j : ℕ) → marked (draw b sh q m) sh q j + count j (drop m xs) ≡ flag (ltb j (k + min (m - length xs) (sh .capacity - k)))
   draw-outs j =
@@ -88,22 +85,16 @@ module _ {n : ℕ} {b : List ℕ} {c : ℕ} {sh : Shape} (s : Setting n b c sh) 
       (λ e. let z = eqb-false (count j (latest b sh q m)) 0 e in rw (draw-marked j, e) (omega (arith, z)))
 
   pub draw-holds : Holds n sh (draw b sh q m) c l q (drop m xs) (k + min (m - length xs) (sh .capacity - k)) v
-  unfolding draw
-  draw-holds =
-      let ch = draw-data in
-      let mc : Changes (λ g. true) b (marks b q 1 (latest b sh q m)) = marks-changes s q 1 (λ g. true) (λ i. refl) (latest b sh q m) latest-fit in
-      let hb₁ = long-kept n b (marks b q 1 (latest b sh q m)) (mc .long) (s .long) in
-      let here = hq in
-      record {
-        run = whole-kept (data-owns q ch) n sh c q ∙ h .run;
-        listing = ch .kept (page listed q) refl refl ∙ h .listing;
-        height = simp (get-put-other, get-put-same n) (rw (h .height) (sym (length-drop m xs)));
-        slots = slots-kept b _ q (drop m xs) (λ i e. simp get-put-other (kept (slot q i) e refl)) (slots-drop b q m xs (h .slots));
-        ready = simp (get-put-same n, length-put, hb₁, h .ready, h .height);
-        clean = simp get-put-other (kept (page virgin q) refl refl ∙ h .clean);
-        within = omega (arith, h .within);
-        outs = draw-outs;
-      }
+  draw-holds = record {
+    run = whole-kept (data-owns q draw-data) n sh c q ∙ h .run;
+    listing = draw-data .kept (page listed q) refl refl ∙ h .listing;
+    height = draw-free b sh q m n (s .long) hq ∙ rw (h .height) (sym (length-drop m xs));
+    slots = slots-kept b (draw b sh q m) q (drop m xs) (λ i e. changes (λ g. not (eqb (region g) 6)) refl refl (λ j. refl) .kept (slot q i) e refl) (slots-drop b q m xs (h .slots));
+    ready = draw-carved b sh q m n (s .long) hq ∙ rw (h .ready, h .height);
+    clean = changes (λ g. not (eqb (region g) 4 && eqb (off g) 7)) refl refl (λ j. refl) .kept (page virgin q) refl refl ∙ h .clean;
+    within = omega (arith, h .within);
+    outs = draw-outs;
+  }
 
 -- ---- the page
 is-nil : (xs : List ℕ) → isNil xs ≡ eqb (length xs) 0
@@ -144,5 +135,5 @@ module _ {n : ℕ} {b : List ℕ} {c : ℕ} {sh : Shape} (s : Setting n b c sh) 
   pub pop-length : length (latest b sh (p .first) m) ≡ length (pop sh m p .blocks)
   pop-length = sym (length-map (wordOf sh (p .first)) (latest b sh (p .first) m)) ∙ ap length pop-blocks
 
-  pub latest-size : length (latest b sh (p .first) m) ≡ min (m - length (p .free)) (sh .capacity - p .carved) + min m (length (p .free))
-  latest-size = latest-length s (r .holds) m ∙ rw (free-length r)
+  pub pop-size : length (latest b sh (p .first) m) ≡ min (m - length (p .free)) (sh .capacity - p .carved) + min m (length (p .free))
+  pop-size = latest-size s (r .holds) m ∙ rw (free-length r)

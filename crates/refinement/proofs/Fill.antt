@@ -1,7 +1,7 @@
 -- Filling from the partial list: the words do what the model's `fillFromList` says, and change only words of the class. Assumes nothing.
 use Prim.Native.Nat.{ℕ, zero, suc, _+_, _-_, _≤_, _<_, min}
 use native.Mathlib.Omega.{arith}
-use mathlib.Core.Bool.{Bool, true, false, cond, not, _&&_, _||_}
+use mathlib.Core.Bool.{true, false, not, _||_}
 use mathlib.Core.List.{List, [], _∷_, _++_, map}
 use mathlib.Core.Logic.{_⊎_, inl, inr}
 use mathlib.Core.Path.{_≡_, refl, sym, ap, _∙_}
@@ -25,7 +25,7 @@ use Rattle.refinement.specs.Represents.{PageRep, ClassRep}
 use Rattle.refinement.proofs.Basics.{Setting, setting-kept, flag-eqb}
 use Rattle.refinement.proofs.Frames.{ofClass, Only, only-trans}
 use Rattle.refinement.proofs.Moves.{at-partial, from-partial, full-out, unlink-only}
-use Rattle.refinement.proofs.Draw.{draw-data, draw-only, more-is, pop-rep, pop-blocks, pop-length, latest-size}
+use Rattle.refinement.proofs.Draw.{draw-data, draw-only, more-is, pop-rep, pop-blocks, pop-length, pop-size}
 
 -- ---- how many blocks a page gives
 module _ (sh : Shape) where
@@ -150,7 +150,7 @@ module _ {n c : ℕ} {sh : Shape} {k : Park} {xs ys : List Page} where
     clean = ap (λ x. eqb x 1) (r .partials .0 .holds .clean) ∙ flag-eqb (p .virgin)
 
     size : length (latest b sh (p .first) m) ≡ min (m - length (p .free)) (sh .capacity - p .carved) + min m (length (p .free))
-    size = latest-size s (r .partials .0) m
+    size = pop-size s (r .partials .0) m
 
     -- the page has more: then nothing more is wanted
     stays : (fuel : ℕ) → Page.hasMore sh (pop sh m p .page) ≡ true → FillRep n b c sh k xs ys fs (stepFilled b c sh fuel m (p .first)) (stepModel sh m p ps)

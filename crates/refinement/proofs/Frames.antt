@@ -3,25 +3,26 @@
 --     home b f     the class, and one, to which a field belongs; 0 for the arena's. OWNER and FIRST are the arena's
 --     Only         a change of one class's fields only
 --     isData q     the fields that say what the blocks of the run at q are
-use Prim.Native.Nat.{ℕ, zero, suc, _+_, _≤_, _<_}
+use Prim.Native.Nat.{ℕ, suc, _+_, _≤_, _<_}
 use native.Mathlib.Omega.{arith}
 use native.Mathlib.Nat.{add-zero}
 use mathlib.Core.Bool.{Bool, true, false, cond, _&&_, _||_}
 use mathlib.Core.List.{List, [], _∷_}
-use mathlib.Core.Path.{_≡_, refl, sym, ap, _∙_}
+use mathlib.Core.Path.{_≡_, refl, sym, _∙_}
 use lib.Dec.{eqb, ltb, leb, eqb·zero-suc}
 use lib.ListN.{length}
 use borrow.Author.Tests.{eq-eqb, eqb-true, leb-true, le-leb, lt-ltb}
 use Rattle.classes.specs.declared.Shape.{Shape}
 use Rattle.classes.specs.Sound.{Sound}
-use Rattle.fields.specs.Field.{Field, PageField, arena, memory, class, hole, page, slot, out, owner, first, frontier, pageOff, get, ok}
+use Rattle.fields.specs.Field.{Field, arena, memory, class, hole, page, slot, out, owner, first, frontier, pageOff, get, ok}
 use Rattle.fields.proofs.Changes.{Changes, changes-trans, changes-mono}
 use Rattle.model.specs.Lists.{every, below}
 use Rattle.model.proofs.Counts.{by-cases, and-l, and-r}
 use Rattle.pages.specs.Runs.{ofRun, whole}
 use Rattle.pages.specs.Stack.{marked}
 use Rattle.refinement.specs.Represents.{Slots}
-use Rattle.refinement.proofs.Basics.{bool-eq, every-says, every-of}
+use Rattle.refinement.proofs.Basics.{bool-eq, every-of}
+use Rattle.refinement.proofs.ArenaFrames.{every-at}
 
 -- ---- runs
 pub record Whole (n : ℕ) (b : List ℕ) (sh : Shape) (c q : ℕ) : Type 0 where
@@ -38,7 +39,7 @@ module _ (n : ℕ) (b : List ℕ) (sh : Shape) (c q : ℕ) where
       let under = leb (q + sh .pages) (get b (arena frontier)) in
       let pages = every (ofRun b c q) (below (sh .pages)) in
       let rest = and-r fits (under && pages) e in
-      let each : (k : ℕ) → k < sh .pages → ofRun b c q k ≡ true = every-says (ofRun b c q) (sh .pages) (and-r under pages rest) in
+      let each : (k : ℕ) → k < sh .pages → ofRun b c q k ≡ true = λ k. every-at (ofRun b c q) (sh .pages) k (and-r under pages rest) in
       record {
         inside = leb-true (q + sh .pages) n (and-l fits (under && pages) e);
         below = leb-true (q + sh .pages) (get b (arena frontier)) (and-l under pages rest);
@@ -81,8 +82,18 @@ module _ {b b′ : List ℕ} (k : Owns b b′) (n : ℕ) (sh : Shape) (c q : ℕ
   pub whole-kept : whole n b′ sh c q ≡ whole n b sh c q
   whole-kept =
       whole-same n b b′ sh c q
-      (λ w. record { inside = w .inside; below = rw (k .bound) (w .below); owner = λ j l. k .owners (q + j) ∙ w .owner j l; first = λ j l. k .starts (q + j) ∙ w .first j l })
-      (λ w. record { inside = w .inside; below = rw (k .bound) at (w .below); owner = λ j l. sym (k .owners (q + j)) ∙ w .owner j l; first = λ j l. sym (k .starts (q + j)) ∙ w .first j l })
+      (λ w. record {
+        inside = w .inside;
+        below = rw (k .bound) (w .below);
+        owner = λ j l. k .owners (q + j) ∙ w .owner j l;
+        first = λ j l. k .starts (q + j) ∙ w .first j l;
+      })
+      (λ w. record {
+        inside = w .inside;
+        below = rw (k .bound) at (w .below);
+        owner = λ j l. sym (k .owners (q + j)) ∙ w .owner j l;
+        first = λ j l. sym (k .starts (q + j)) ∙ w .first j l;
+      })
 
 -- ---- which fields are whose
 abbrev pub home : List ℕ → Field → ℕ
@@ -132,7 +143,11 @@ isData q (slot p i) = eqb p q
 isData q (out p i) = eqb p q
 
 pub data-owns : (q : ℕ) {b b′ : List ℕ} → Changes (isData q) b b′ → Owns b b′
-data-owns q h = record { owners = λ x. h .kept (page owner x) refl refl; starts = λ x. h .kept (page first x) refl refl; bound = h .kept (arena frontier) refl refl }
+data-owns q h = record {
+  owners = λ x. h .kept (page owner x) refl refl;
+  starts = λ x. h .kept (page first x) refl refl;
+  bound = h .kept (arena frontier) refl refl;
+}
 
 -- ---- out bits and stacks
 module _ (b b′ : List ℕ) where

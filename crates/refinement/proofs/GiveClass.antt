@@ -3,15 +3,14 @@
 --     run-held           the pages of a class's run are held
 --     give-represents    the page in no list is given
 -- Assumes nothing.
-use Prim.Native.Nat.{ℕ, zero, suc, _+_, _≤_, _<_}
+use Prim.Native.Nat.{ℕ, suc, _+_, _≤_, _<_}
 use native.Mathlib.Omega.{arith}
 use native.Mathlib.Decide.{ℕ-discrete}
-use mathlib.Core.Bool.{Bool, true, false, cond, false≢true}
-use mathlib.Core.List.{List, [], _∷_, map}
-use mathlib.Core.Path.{_≡_, refl, sym, ap, _∙_, subst}
+use mathlib.Core.Bool.{true, false, false≢true}
+use mathlib.Core.List.{List, _∷_, map}
+use mathlib.Core.Path.{_≡_, refl, sym, _∙_, subst}
 use lib.Dec.{eqb, ltb, leb, eqb·zero-suc}
-use lib.ListN.{length}
-use borrow.Author.Tests.{eq-eqb, ne-eqb, eqb-true, leb-true, ltb-true}
+use borrow.Author.Tests.{eq-eqb, ne-eqb, eqb-true, ltb-true}
 use Rattle.classes.specs.declared.Shape.{Shape}
 use Rattle.classes.specs.Shape.{shapeOf}
 use Rattle.classes.proofs.Shapes.{shape-sound}
@@ -29,7 +28,7 @@ use Rattle.arena.specs.Owners.{ownerCode}
 use Rattle.arena.specs.Calls.{given}
 use Rattle.arena.specs.Represents.{ArenaRep}
 use Rattle.refinement.specs.Represents.{ClassRep, StateRep, Represents}
-use Rattle.refinement.proofs.Frames.{home, ofClass, Only}
+use Rattle.refinement.proofs.Frames.{ofClass, Only}
 use Rattle.refinement.proofs.Kept.{class-beside}
 use Rattle.refinement.proofs.ArenaReached.{Reached, heapOf}
 use Rattle.refinement.proofs.ArenaFair.{loads-frontier}

@@ -2,16 +2,16 @@
 --     give-rep     the book afterwards stands for the model's arena, and the run is nobody's
 --     give-fair    number 13's test for it passes
 -- Assumes nothing.
-use Prim.Native.Nat.{ℕ, zero, suc, _+_, _-_, _≤_, _<_}
+use Prim.Native.Nat.{ℕ, _+_, _-_, _≤_}
 use native.Mathlib.Omega.{arith}
 use mathlib.Core.Bool.{true}
 use mathlib.Core.List.{List}
-use mathlib.Core.Path.{_≡_, refl, sym, ap, _∙_, subst}
+use mathlib.Core.Path.{_≡_, sym, subst}
 use Rattle.fields.specs.Field.{arena, held, get, put}
 use Rattle.model.specs.Lists.{covers}
-use Rattle.model.specs.Arena.{Arena, give}
+use Rattle.model.specs.Arena.{give}
 use Rattle.model.specs.Class.{Class}
-use Rattle.model.specs.Heap.{Heap, Holder, nobody, isHeld, passTo, heldPages}
+use Rattle.model.specs.Heap.{Heap, nobody, isHeld, passTo, heldPages}
 use Rattle.model.proofs.Runs.{covers-in}
 use Rattle.model.proofs.ArenaTidy.{tidy-give}
 use Rattle.model.proofs.ArenaLaws.{give-frontier}

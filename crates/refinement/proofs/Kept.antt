@@ -4,19 +4,17 @@
 --     class-now       a class whose row and listed pages are as they were, with other pages in no list
 --     class-kept      a class that is as it was
 --     class-beside    what changes only words of class d leaves every other class alone
-use Prim.Native.Nat.{ℕ, zero, suc, _+_, _≤_, _<_}
+use Prim.Native.Nat.{ℕ, suc, _+_, _≤_}
 use native.Mathlib.Omega.{arith}
-use mathlib.Core.Bool.{Bool, true, false, cond}
+use mathlib.Core.Bool.{Bool, true, false}
 use mathlib.Core.List.{List, [], _∷_, _++_}
-use mathlib.Core.Logic.{_⊎_, inl, inr}
-use mathlib.Core.Path.{_≡_, refl, sym, ap, _∙_}
-use lib.Dec.{eqb, ltb, leb, eqb·zero-suc}
-use lib.ListN.{length}
+use mathlib.Core.Logic.{inl, inr}
+use mathlib.Core.Path.{_≡_, refl, ap, _∙_}
+use lib.Dec.{eqb, ltb}
 use borrow.Author.Tests.{ne-eqb, lt-ltb, ltb-true}
 use Rattle.classes.specs.declared.Shape.{Shape}
 use Rattle.classes.specs.Sound.{Sound}
-use Rattle.fields.specs.Field.{Field, ClassField, PageField, class, page, slot, out, partial, owner, next, prev, free, carved, listed, virgin, get, ok, pageOff}
-use Rattle.fields.proofs.Changes.{Changes}
+use Rattle.fields.specs.Field.{ClassField, class, page, slot, out, partial, owner, next, prev, free, carved, listed, virgin, get}
 use Rattle.model.specs.Lists.{All, count}
 use Rattle.model.specs.Page.{Page}
 use Rattle.model.proofs.Pages.{all-append}
@@ -26,9 +24,8 @@ use Rattle.pages.specs.declared.Park.{Park}
 use Rattle.pages.specs.Links.{other, top, tally}
 use Rattle.refinement.specs.Chain.{In, Chain, Line, Stack}
 use Rattle.refinement.specs.Represents.{Holds, PageRep, Parked, firsts, heads, ClassRep}
-use Rattle.refinement.proofs.Basics.{flag-le}
 use Rattle.refinement.proofs.Lists.{segment-kept, in-count, all-along}
-use Rattle.refinement.proofs.Frames.{ofClass, Only, Owns, only-owns, whole-kept, whole-owner, marked-kept, slots-kept}
+use Rattle.refinement.proofs.Frames.{Only, only-owns, whole-kept, whole-owner, marked-kept, slots-kept}
 
 pub record Body (q : ℕ) (b b′ : List ℕ) : Type 0 where
   pub free : get b′ (page free q) ≡ get b (page free q)

@@ -26,3 +26,17 @@ pub mod ArenaKeeps
 pub mod DirectCalls
 pub mod GiveClass
 pub mod Pushes
+pub mod Book
+pub mod NewRun
+pub mod Join
+pub mod TakeWhole
+pub mod Decode
+pub mod Found
+pub mod Returned
+pub mod Release
+pub mod ReleaseFair
+pub mod ReleaseGives
+pub mod ReleaseWhole
+pub mod ChunkTests
+pub mod Chunks
+pub mod ChunkWhole

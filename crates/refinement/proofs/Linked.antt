@@ -1,17 +1,17 @@
 -- The linked lists after a page came in or went out. Assumes nothing.
 --     chain-linked, chain-unlinked     the partial list, with a page at its head, and without one of its pages
 --     stack-stowed, stack-unstowed     a store, with a page on top, and without its newest
-use Prim.Native.Nat.{ℕ, zero, suc, _+_, _-_, _≤_, _<_}
+use Prim.Native.Nat.{ℕ, zero, suc, _+_, _-_, _<_}
 use native.Mathlib.Omega.{arith}
 use native.Mathlib.Numerals.{add-one}
-use mathlib.Core.Bool.{Bool, true, false}
+use mathlib.Core.Bool.{true, false}
 use mathlib.Core.List.{List, [], _∷_, _++_}
 use mathlib.Core.Logic.{_⊎_, inl, inr, ⊎-elim}
 use mathlib.Core.Path.{_≡_, refl, sym, ap, subst, _∙_}
 use lib.Dec.{eqb, ltb, leb}
 use lib.ListN.{length}
 use borrow.Author.Tests.{ltb-true, lt-ltb, ne-eqb}
-use Rattle.fields.specs.Field.{Field, class, page, partial, next, prev, listed, words, get, put}
+use Rattle.fields.specs.Field.{class, page, partial, next, prev, words, get}
 use Rattle.fields.proofs.Laws.{get-put-same, get-put-other, length-put}
 use Rattle.fields.proofs.Changes.{Changes}
 use Rattle.fields.proofs.Outcome.{length-putAt, get-putAt-same, get-putAt-other}
@@ -21,7 +21,7 @@ use Rattle.pages.specs.Links.{pointNext, linked, cutOut, link, unlink, top, tal
 use Rattle.refinement.specs.Chain.{In, Distinct, Segment, Chain, Stack}
 use Rattle.refinement.proofs.Lists.{in-left, in-right, in-without, Middle, middle, lastCode, last-in, last-suc, first-page, last-page, segment-kept, segment-redirect, Parted, part, join}
 use Rattle.refinement.proofs.Kept.{line-kept}
-use Rattle.refinement.proofs.Links.{isLink, link-lets, link-changes, cut-changes, link-next, link-prev}
+use Rattle.refinement.proofs.Links.{isLink, link-lets, link-changes, unlink-changes, link-next, link-prev}
 
 -- ---- a page at the head of the partial list
 module _ (n : ℕ) (b : List ℕ) (hb : leb (words n) (length b) ≡ true) (c q : ℕ) (hc : ltb c 76 ≡ true) (hq : ltb q n ≡ true) where
@@ -76,17 +76,23 @@ module _ (n : ℕ) (b : List ℕ) (hb : leb (words n) (length b) ≡ true) (c q 
     below = λ x i. ⊎-elim (λ e. omega (arith, ltb-true)) (λ j. ch .below x j) i;
   }
 
--- ---- a page out of the partial list, whose neighbours have the codes x behind it and y before it
-module _ (n : ℕ) (b : List ℕ) (hb : leb (words n) (length b) ≡ true) (c q x y : ℕ) (hc : ltb c 76 ≡ true) where
+-- ---- a page out of the partial list; x is the code of the page behind it, y that of the page before it
+module _ (n : ℕ) (b : List ℕ) (hb : leb (words n) (length b) ≡ true) (c q : ℕ) (hc : ltb c 76 ≡ true) where
+  abbrev x : ℕ
+  x = get b (page next q)
+
+  abbrev y : ℕ
+  y = get b (page prev q)
+
   abbrev cut : List ℕ
-  cut = put (cutOut b c q x y) (page listed q) 0
+  cut = unlink b c q
 
   head-cut : y ≡ 0 → get cut (class partial c) ≡ x
-  unfolding cutOut
+  unfolding unlink cutOut
   head-cut e = rw e (simp (get-put-other, get-putAt-other, get-put-same n))
 
   fore-cut : (w : ℕ) → ltb w n ≡ true → eqb q w ≡ false → y ≡ suc w → get cut (page next w) ≡ x
-  unfolding cutOut
+  unfolding unlink cutOut
   fore-cut w hw d e = rw e (simp (get-put-other, get-putAt-other, get-put-same n))
 
   long-point : (code v : ℕ) → leb (words n) (length (pointNext b c code v)) ≡ true
@@ -94,11 +100,11 @@ module _ (n : ℕ) (b : List ℕ) (hb : leb (words n) (length b) ≡ true) (c q 
   long-point (suc z) v = rw length-put hb
 
   aft-cut : (r : ℕ) → ltb r n ≡ true → eqb q r ≡ false → x ≡ suc r → get cut (page prev r) ≡ y
-  unfolding cutOut
+  unfolding unlink cutOut
   aft-cut r hr d e = simp (get-put-other) (get-putAt-same n (pointNext b c y x) prev x y r (long-point y x) hr e)
 
   changed-cut : Changes (isLink c q x y) b cut
-  changed-cut = cut-changes (isLink c q x y) b c q hc x y (link-lets c q x y)
+  changed-cut = unlink-changes (isLink c q x y) b c q hc (link-lets c q x y)
 
   -- the pages behind q: y stands before them now
   aft : (zs : List ℕ) → (In q zs → ⊥) → ((z : ℕ) → In z zs → y ≡ suc z → ⊥) → Distinct zs → ((z : ℕ) → In z zs → z < n)
@@ -135,22 +141,17 @@ module _ (n : ℕ) (b : List ℕ) (hb : leb (words n) (length b) ≡ true) (c q 
       (fore-cut r (lt-ltb r n (l r i)) (ne-eqb q r (λ h. z-q r i (sym h))) y-r)
       s)
 
-module _ (n : ℕ) (b : List ℕ) (hb : leb (words n) (length b) ≡ true) (c q : ℕ) (hc : ltb c 76 ≡ true) where
   pub chain-unlinked : (ys zs : List ℕ) → Chain n b c (ys ++ q ∷ zs) → Chain n (unlink b c q) c (ys ++ zs)
-  unfolding unlink
   chain-unlinked ys zs ch =
-      let x = get b (page next q) in
-      let y = get b (page prev q) in
       let s : Parted b 0 (get b (class partial c)) ys q zs 0 = part b 0 (get b (class partial c)) ys q zs 0 (ch .links) in
       let m : Middle ys q zs = middle ys q zs (ch .distinct) in
-      let b′ = unlink b c q in
       record {
         links =
-            join b′ 0 (get b′ (class partial c)) ys x zs 0
-            (fore n b hb c q x y hc ys (m .front) (λ z i e. m .across z i (first-page b (suc q) x zs z (s .aft) e)) (m .fore)
+            join cut 0 (get cut (class partial c)) ys x zs 0
+            (fore ys (m .front) (λ z i e. m .across z i (first-page b (suc q) x zs z (s .aft) e)) (m .fore)
             (λ z i. ch .below z (in-left z ys (q ∷ zs) i)) (s .before) (s .fore))
             (rw (← (s .before))
-            (aft n b hb c q x y hc zs (m .back) (λ z i e. m .across z (last-page ys z (sym (s .before) ∙ e)) i) (m .aft)
+            (aft zs (m .back) (λ z i e. m .across z (last-page ys z (sym (s .before) ∙ e)) i) (m .aft)
             (λ z i. ch .below z (in-right z ys (q ∷ zs) (inr i))) (s .aft)));
         distinct = m .rest;
         below = λ z i. ch .below z (in-without z q ys zs i);
@@ -206,5 +207,5 @@ module _ (n : ℕ) (b : List ℕ) (hb : leb (words n) (length b) ≡ true) (c q 
           (λ x i. others-stowed k x (ne-eqb q x (λ e. f (subst (λ (w : ℕ). In w us) (sym e) i)))) (s .line)),
     );
     number = tally-stowed k ∙ ap suc (s .number);
-    few = l;
+    few = omega arith;
   }

@@ -3,19 +3,18 @@
 --                   head of the list, and whether q is listed
 --     isStow        a store's row, and NEXT of q
 --     LetsLink, LetsStow    what a test must let pass for these moves to be changes of that test
-use Prim.Native.Nat.{ℕ, zero, suc, _+_}
-use native.Mathlib.Omega.{arith}
+use Prim.Native.Nat.{ℕ, suc}
 use mathlib.Core.Bool.{Bool, true, false, _&&_, _||_}
 use mathlib.Core.List.{List}
-use mathlib.Core.Path.{_≡_, refl, ap, _∙_}
+use mathlib.Core.Path.{_≡_, refl}
 use lib.Dec.{eqb, ltb}
 use borrow.Author.Tests.{eq-eqb, ne-eqb}
-use Rattle.fields.specs.Field.{Field, arena, memory, class, hole, page, slot, out, partial, owner, first, next, prev, free, carved, listed, virgin, frontier, classOff, pageOff, get, put}
-use Rattle.fields.proofs.Changes.{Changes, changes-none, changes-put}
-use Rattle.fields.proofs.Outcome.{changes-putAt}
+use Rattle.fields.specs.Field.{Field, arena, memory, class, hole, page, slot, out, partial, owner, first, next, prev, free, carved, listed, virgin, frontier, classOff, pageOff, get}
+use Rattle.fields.proofs.Changes.{Changes}
 use Rattle.pages.specs.declared.Park.{Park}
 use Rattle.pages.specs.declared.Park.the-variants.{Empty, Cold}
-use Rattle.pages.specs.Links.{pointNext, linked, cutOut, link, unlink, top, tally, other, stow, unstow}
+use Rattle.pages.specs.Links.{link, unlink, top, tally, other, stow, unstow}
+use Rattle.pages.proofs.Frames.{changes-link, changes-unlink, changes-stow, changes-unstow}
 use Rattle.refinement.proofs.Basics.{or-right}
 use Rattle.refinement.proofs.Frames.{ofClass, Owns}
 use Rattle.refinement.proofs.Kept.{Body, Ties}
@@ -64,30 +63,11 @@ class-lets b c q x y o behind before =
     }
 
 module _ (t : Field → Bool) (b : List ℕ) (c q : ℕ) (row : ltb c 76 ≡ true) where
-  changes-point : (code v : ℕ) → (code ≡ 0 → t (class partial c) ≡ true) → ((z : ℕ) → code ≡ suc z → t (page next z) ≡ true) → Changes t b (pointNext b c code v)
-  changes-point zero v u d = changes-put t b b (class partial c) v row (u refl) (changes-none t b)
-  changes-point (suc z) v u d = changes-put t b b (page next z) v refl (d z refl) (changes-none t b)
-
   pub link-changes : LetsLink t c q (get b (class partial c)) 0 → Changes t b (link b c q)
-  unfolding link linked
-  link-changes l =
-      changes-put t b _ (page listed q) 1 refl (l .listing)
-      (changes-put t b _ (class partial c) _ row (l .head refl)
-      (changes-putAt t b _ prev (get b (class partial c)) _ (l .behind)
-      (changes-put t b _ (page prev q) _ refl (l .back)
-      (changes-put t b _ (page next q) _ refl (l .fore) (changes-none t b)))))
-
-  pub cut-changes : (x y : ℕ) → LetsLink t c q x y → Changes t b (put (cutOut b c q x y) (page listed q) 0)
-  unfolding cutOut
-  cut-changes x y l =
-      changes-put t b _ (page listed q) 0 refl (l .listing)
-      (changes-put t b _ (page prev q) 0 refl (l .back)
-      (changes-put t b _ (page next q) 0 refl (l .fore)
-      (changes-putAt t b _ prev x _ (l .behind) (changes-point y x (l .head) (l .before)))))
+  link-changes l = changes-link t b c q row (l .head refl) (l .fore) (l .back) (l .listing) (l .behind)
 
   pub unlink-changes : LetsLink t c q (get b (page next q)) (get b (page prev q)) → Changes t b (unlink b c q)
-  unfolding unlink
-  unlink-changes l = cut-changes (get b (page next q)) (get b (page prev q)) l
+  unlink-changes l = changes-unlink t b c q row (l .head) (l .before) (l .behind) (l .fore) (l .back) (l .listing)
 
 -- what linking leaves alone
 module _ {b b′ : List ℕ} (c q x y : ℕ) (h : Changes (isLink c q x y) b b′) where
@@ -144,14 +124,10 @@ class-lets-stow b k c q o = record { newest = eq-eqb (suc c) (suc c) refl; numbe
 
 module _ (t : Field → Bool) (b : List ℕ) (c q : ℕ) (row : ltb c 76 ≡ true) (k : Park) (l : LetsStow t k c q) where
   pub stow-changes : Changes t b (stow b c k q)
-  unfolding stow
-  stow-changes =
-      changes-put t b _ (class (tally k) c) _ row (l .number)
-      (changes-put t b _ (class (top k) c) _ row (l .newest) (changes-put t b _ (page next q) _ refl (l .fore) (changes-none t b)))
+  stow-changes = changes-stow t b c q row k (l .newest) (l .number) (l .fore)
 
   pub unstow-changes : Changes t b (unstow b c k q)
-  unfolding unstow
-  unstow-changes = changes-put t b _ (class (tally k) c) _ row (l .number) (changes-put t b _ (class (top k) c) _ row (l .newest) (changes-none t b))
+  unstow-changes = changes-unstow t b c q row k (l .newest) (l .number)
 
 module _ {b b′ : List ℕ} (k : Park) (c q : ℕ) (h : Changes (isStow k c q) b b′) where
   pub stow-owns : Owns b b′

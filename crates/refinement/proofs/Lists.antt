@@ -3,18 +3,17 @@
 --     segment-kept     a segment whose links are as they were
 --     part, join       a segment parted at a page, and two segments joined
 --     in-count, off    membership as a count
-use Prim.Native.Nat.{ℕ, zero, suc, _+_, _≤_, _<_}
+use Prim.Native.Nat.{ℕ, suc, _+_, _≤_}
 use native.Mathlib.Omega.{arith}
-use mathlib.Core.Bool.{Bool, true, false, cond, false≢true}
+use mathlib.Core.Bool.{cond}
 use mathlib.Core.List.{List, [], _∷_, _++_}
-use mathlib.Core.Logic.{_⊎_, inl, inr}
+use mathlib.Core.Logic.{inl, inr}
 use mathlib.Core.Path.{_≡_, refl, sym, ap, subst, _∙_}
 use lib.Dec.{eqb}
-use borrow.Author.Tests.{eq-eqb, eqb-true}
+use borrow.Author.Tests.{eq-eqb}
 use Rattle.fields.specs.Field.{page, next, prev, get}
 use Rattle.model.specs.Lists.{All, count}
 use Rattle.model.specs.Page.{Page}
-use Rattle.model.proofs.Counts.{by-cases}
 use Rattle.refinement.specs.Chain.{In, Distinct, Segment}
 use Rattle.refinement.specs.Represents.{firsts, heads}
 

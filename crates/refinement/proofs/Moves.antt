@@ -4,39 +4,42 @@
 --     from-partial, to-partial         out of the partial list, from any place, and to its head
 --     from-store, to-store             off a store's top, and onto it
 --     swap, full-out, full-in          the two stores' parts exchanged; the order of pages in no list does not matter
-use Prim.Native.Nat.{ℕ, zero, suc, _+_, _≤_, _<_}
+use Prim.Native.Nat.{ℕ, suc, _+_, _≤_, _<_}
 use native.Mathlib.Omega.{arith}
-use mathlib.Core.Bool.{Bool, true, false, cond, and-false}
+use mathlib.Core.Bool.{true, cond}
 use mathlib.Core.List.{List, [], _∷_, _++_}
-use mathlib.Core.Logic.{_⊎_, inl, inr}
+use mathlib.Core.Logic.{inl, inr}
 use mathlib.Core.Path.{_≡_, refl, sym, ap, _∙_, subst}
 use lib.Dec.{eqb, ltb, leb}
 use lib.ListN.{length}
 use borrow.Author.Tests.{ne-eqb, eq-eqb}
 use Rattle.classes.specs.declared.Shape.{Shape}
 use Rattle.classes.specs.Sound.{Sound}
-use Rattle.fields.specs.Field.{Field, class, page, slot, out, partial, owner, next, prev, free, carved, listed, virgin, get, put, words}
+use Rattle.fields.specs.Field.{class, page, slot, out, partial, owner, next, prev, free, carved, listed, virgin, get, put, words}
 use Rattle.fields.proofs.Laws.{get-put-same, length-put}
 use Rattle.fields.proofs.Changes.{Changes}
 use Rattle.model.specs.Lists.{All, count}
 use Rattle.model.specs.Page.{Page}
 use Rattle.model.proofs.Find.{all-at}
-use Rattle.pages.specs.Runs.{flag, whole}
+use Rattle.pages.specs.Runs.{whole}
 use Rattle.pages.specs.declared.Park.{Park}
 use Rattle.pages.specs.declared.Park.the-variants.{Empty, Cold}
 use Rattle.pages.specs.Links.{linked, unlinked, link, unlink, other, top, tally, stow, unstow}
+use Rattle.pages.proofs.Downs.{flag-le}
 use Rattle.refinement.specs.Chain.{In, Chain}
 use Rattle.refinement.specs.Represents.{PageRep, Parked, firsts, heads, ClassRep}
-use Rattle.refinement.proofs.Basics.{Setting, long-kept, flag-le}
+use Rattle.refinement.proofs.ArenaStore.{long-kept}
+use Rattle.refinement.proofs.Basics.{Setting}
 use Rattle.refinement.proofs.Lists.{in-left, in-count, itself, off, not-in, firsts-append, firsts-at, heads-at, all-along, first-page, last-page, part}
-use Rattle.refinement.proofs.Frames.{isData, ofClass, Only, Owns, data-owns, whole-kept, whole-owner, whole-in}
-use Rattle.refinement.proofs.Kept.{Body, Ties, Keeps, rep-kept, rep-moved, parked-kept, stack-kept, chain-kept, class-now, listed-whole}
+use Rattle.refinement.proofs.Frames.{isData, ofClass, Only, data-owns, whole-kept, whole-owner, whole-in}
+use Rattle.refinement.proofs.Kept.{Body, Ties, rep-kept, rep-moved, parked-kept, stack-kept, chain-kept, class-now, listed-whole}
 use Rattle.refinement.proofs.Links.{isLink, isStow, link-lets, class-lets, link-changes, unlink-changes, link-owns, link-body, link-listing, link-next, link-top, link-tally, stow-lets, class-lets-stow, stow-changes, unstow-changes, stow-owns, stow-body, stow-listing, stow-ties, stow-partial, stow-top, stow-tally}
 use Rattle.refinement.proofs.Linked.{chain-linked, chain-unlinked, stack-stowed, stack-unstowed}
 
 -- ---- the four lists put in another order
 module _ {n : ℕ} {b : List ℕ} {c : ℕ} {sh : Shape} {k : Park} where
-  pub full-out : {ps xs ys : List Page} (ss : List Page) (p : Page) (ts : List Page) → ClassRep n b c sh k ps xs ys (ss ++ p ∷ ts) → ClassRep n b c sh k ps xs ys (p ∷ (ss ++ ts))
+  pub full-out : {ps xs ys : List Page} (ss : List Page) (p : Page) (ts : List Page) → ClassRep n b c sh k ps xs ys (ss ++ p ∷ ts)
+      → ClassRep n b c sh k ps xs ys (p ∷ (ss ++ ts))
   full-out ss p ts r = record {
     chain = r .chain;
     store = r .store;
@@ -48,7 +51,8 @@ module _ {n : ℕ} {b : List ℕ} {c : ℕ} {sh : Shape} {k : Park} where
     runs = λ q. omega (arith, r .runs q, heads-at q ss p ts);
   }
 
-  pub full-in : {ps xs ys : List Page} (ss : List Page) (p : Page) (ts : List Page) → ClassRep n b c sh k ps xs ys (p ∷ (ss ++ ts)) → ClassRep n b c sh k ps xs ys (ss ++ p ∷ ts)
+  pub full-in : {ps xs ys : List Page} (ss : List Page) (p : Page) (ts : List Page) → ClassRep n b c sh k ps xs ys (p ∷ (ss ++ ts))
+      → ClassRep n b c sh k ps xs ys (ss ++ p ∷ ts)
   full-in ss p ts r = record {
     chain = r .chain;
     store = r .store;
@@ -175,6 +179,7 @@ module _ {n : ℕ} {b : List ℕ} {c : ℕ} {sh : Shape} (s : Setting n b c sh) 
       let x = get b (page next q) in
       let y = get b (page prev q) in
       let ch : Chain n b c (firsts ss ++ p .first ∷ firsts ts) = rw (firsts-append ss (p ∷ ts)) at (r .chain) in
+      let pa = part b 0 (get b (class partial c)) (firsts ss) q (firsts ts) 0 (ch .links) in
       let h = unlink-changes (isLink c q x y) b c q (s .row) (link-lets c q x y) in
       let o : Off n sh c (p .first) b (unlink b c (p .first)) = record {
         same = whole-kept (link-owns c q x y h) n sh c;
@@ -190,7 +195,7 @@ module _ {n : ℕ} {b : List ℕ} {c : ℕ} {sh : Shape} (s : Setting n b c sh) 
       let beyond : (z : ℕ) → heads z (ss ++ p ∷ ts) ≡ 0 → get (unlink b c (p .first)) (page next z) ≡ get b (page next z)
       = λ z e. let away = not-in z (firsts ss ++ p .first ∷ firsts ts) (ap (count z) (sym (firsts-append ss (p ∷ ts))) ∙ e) in
       link-next c q x y h z (λ d. apart z d e)
-      (λ d. away (in-left z (firsts ss) (p .first ∷ firsts ts) (last-page (firsts ss) z (sym (part b 0 (get b (class partial c)) (firsts ss) q (firsts ts) 0 (ch .links) .before) ∙ d)))) in
+      (λ d. away (in-left z (firsts ss) (p .first ∷ firsts ts) (last-page (firsts ss) z (sym (pa .before) ∙ d)))) in
       record {
         chain = rw (firsts-append ss ts) (chain-unlinked n b (s .long) c q (s .row) (firsts ss) (firsts ts) ch);
         store = stack-kept (link-top c q x y h (s .row) k) (link-tally c q x y h (s .row) k)
@@ -268,7 +273,10 @@ module _ {n : ℕ} {b : List ℕ} {c : ℕ} {sh : Shape} (s : Setting n b c sh) 
         partials = reps-off (s .shape) o 1 ps (omega arith) (r .partials);
         parked = parked-off (s .shape) o xs (omega arith) (r .parked .1);
         parkeds = parked-off (s .shape) o ys (omega arith) (r .parkeds);
-        fulls = (rep-kept (s .shape) (stow-body k c q h q) (stow-listing k c q h q) (o .same q ∙ run) (r .parked .0 .rep), reps-off (s .shape) o 0 fs (omega arith) (r .fulls));
+        fulls = (
+          rep-kept (s .shape) (stow-body k c q h q) (stow-listing k c q h q) (o .same q ∙ run) (r .parked .0 .rep),
+          reps-off (s .shape) o 0 fs (omega arith) (r .fulls),
+        );
         runs = λ z. rw (o .same z) (omega (arith, r .runs z));
       }
 
@@ -303,7 +311,8 @@ module _ {n : ℕ} {b : List ℕ} {c : ℕ} {sh : Shape} (s : Setting n b c sh) 
       let ch : Chain n b c (firsts ss ++ p .first ∷ firsts ts) = rw (firsts-append ss (p ∷ ts)) at (r .chain) in
       let pa = part b 0 (get b (class partial c)) (firsts ss) q (firsts ts) 0 (ch .links) in
       let own : (z : ℕ) → In z (firsts (ss ++ p ∷ ts)) → get b (page owner z) ≡ suc c = λ z i. mine z r (omega (arith, in-count z (firsts (ss ++ p ∷ ts)) i)) in
-      let has : (z : ℕ) → In z (firsts ss ++ p .first ∷ firsts ts) → get b (page owner z) ≡ suc c = λ z i. own z (subst (λ (l : List ℕ). In z l) (sym (firsts-append ss (p ∷ ts))) i) in
+      let has : (z : ℕ) → In z (firsts ss ++ p .first ∷ firsts ts) → get b (page owner z) ≡ suc c
+      = λ z i. own z (subst (λ (l : List ℕ). In z l) (sym (firsts-append ss (p ∷ ts))) i) in
       unlink-changes (ofClass b c) b c q (s .row)
       (class-lets b c q (get b (page next q)) (get b (page prev q))
       (has q (in-mid (firsts ss) q (firsts ts) q (inl refl)))

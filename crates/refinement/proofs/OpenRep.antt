@@ -3,17 +3,15 @@
 --     opened-class         the part of every class
 --     opened-represents    the whole
 -- Assumes nothing.
-use Prim.Native.Nat.{ℕ, zero, suc, _+_, _*_, _^_, _≤_, _<_}
+use Prim.Native.Nat.{ℕ, zero, suc, _+_, _≤_, _<_}
 use native.Mathlib.Omega.{arith}
-use mathlib.Core.Bool.{Bool, true, false, cond, _&&_}
-use mathlib.Core.List.{List, [], _∷_}
-use mathlib.Core.Option.{Option, none, some}
+use mathlib.Core.Bool.{Bool, true, false, _&&_}
+use mathlib.Core.List.{List}
 use mathlib.Core.Path.{_≡_, refl, sym, ap, _∙_}
 use lib.Dec.{eqb, ltb, leb}
-use lib.ListN.{length, getD, set, length-set}
+use lib.ListN.{length, getD, length-set}
 use lib.Seq.{getD-set-same, getD-set-other}
 use borrow.Author.Tests.{eqb-true, eqb-false, leb-true, lt-leb, ltb-true}
-use Rattle.classes.specs.declared.Shape.{Shape}
 use Rattle.classes.specs.Shape.{shapeOf}
 use Rattle.classes.proofs.Shapes.{shape-sound}
 use Rattle.fields.specs.Field.{Field, arena, memory, class, ClassField, partial, empty, emptyCount, cold, coldCount, size, state, frontier, holes, holePages, commits, commitsHigh, reuses, reusesHigh, abandoned, abandonedHigh, held, classOff, word, part, read, get, same, ok, words}
@@ -25,7 +23,7 @@ use Rattle.model.specs.Heap.{newHeap}
 use Rattle.model.proofs.Counts.{by-cases}
 use Rattle.model.proofs.ArenaTidy.{tidy-new}
 use Rattle.pages.specs.Runs as Runs
-use Rattle.arena.specs.Load.{loadHoles, loadArena}
+use Rattle.arena.specs.Load.{loadHoles}
 use Rattle.arena.specs.Open.{cleared, headWords, opened}
 use Rattle.arena.specs.Represents.{ArenaRep}
 use Rattle.refinement.specs.Represents.{StateRep, Represents}

@@ -2,17 +2,17 @@
 --     page-sound      a page of the class that has a block is in its ranges
 --     walk-passes     the walk over the partial list
 --     park-passes     the newest page of a store
-use Prim.Native.Nat.{ℕ, zero, suc, _+_, _-_, _≤_, _<_}
+use Prim.Native.Nat.{ℕ, zero, suc, _-_, _≤_}
 use native.Mathlib.Omega.{arith}
-use mathlib.Core.Bool.{Bool, true, false, cond, not, _&&_, _||_}
+use mathlib.Core.Bool.{Bool, true, not}
 use mathlib.Core.List.{List, [], _∷_, map}
-use mathlib.Core.Path.{_≡_, refl, sym, ap, _∙_}
+use mathlib.Core.Path.{_≡_, refl, ap, _∙_}
 use lib.Dec.{eqb, ltb, leb}
 use lib.ListN.{length, take}
 use borrow.Author.Tests.{eq-eqb, ne-eqb, ltb-false, le-leb, lt-ltb}
 use Rattle.classes.specs.declared.Shape.{Shape}
 use Rattle.classes.specs.Sound.{Sound}
-use Rattle.fields.specs.Field.{arena, class, page, free, carved, virgin, listed, next, prev, frontier, get}
+use Rattle.fields.specs.Field.{arena, class, page, free, carved, next, frontier, get}
 use Rattle.model.specs.Lists.{All, count, every, isNil}
 use Rattle.model.specs.Page as Page
 use Rattle.model.specs.Page.{Page, wordOf}
@@ -20,11 +20,12 @@ use Rattle.model.proofs.Counts.{by-cases, count-cut}
 use Rattle.pages.specs.Runs.{flag}
 use Rattle.pages.specs.Stack.{latest, hasMore}
 use Rattle.pages.specs.declared.Park.{Park}
-use Rattle.pages.specs.Links.{top, tally}
+use Rattle.pages.specs.Links.{top}
 use Rattle.heap.specs.Take.{sound, walk, parkFair}
+use Rattle.pages.proofs.Downs.{flag-cases}
 use Rattle.refinement.specs.Chain.{Segment, Line, Stack}
 use Rattle.refinement.specs.Represents.{Holds, PageRep, Parked, firsts}
-use Rattle.refinement.proofs.Basics.{or-left, or-right, flag-small, flag-cases}
+use Rattle.refinement.proofs.Basics.{or-left, or-right, flag-small}
 use Rattle.refinement.proofs.Frames.{whole-below}
 use Rattle.refinement.proofs.Blocks.{few-counts, every-counts, tops-take}
 use Rattle.refinement.proofs.Draw.{more-is}

@@ -1,42 +1,38 @@
 -- Blocks laid on a page's stack, and a run carved anew. Assumes nothing.
---     push-changes, push-slots     the stack with a list laid on it
---     carve-holds                  a run that has no block out, carved anew
-use Prim.Native.Nat.{ℕ, zero, suc, _+_, _≤_, _<_}
+--     push-slots     the stack with a list laid on it
+--     anew-holds     a run that has no block out, carved anew
+--     carve-rep      it is the model's carved page
+use Prim.Native.Nat.{ℕ, suc, _+_, _≤_, _<_}
 use native.Mathlib.Omega.{arith}
 use mathlib.Core.Bool.{Bool, true, false, cond}
-use mathlib.Core.List.{List, [], _∷_, _++_, map, append-nil}
+use mathlib.Core.List.{List, [], _∷_, _++_, append-nil}
 use mathlib.Core.Path.{_≡_, refl, sym, ap, _∙_, subst}
-use lib.Dec.{eqb, ltb, leb}
+use lib.Dec.{eqb, ltb}
 use lib.ListN.{length, length-append}
 use borrow.Author.Tests.{lt-ltb, ltb-true, eq-eqb, ne-eqb}
 use Rattle.classes.specs.declared.Shape.{Shape}
-use Rattle.fields.specs.Field.{Field, page, slot, out, owner, free, carved, listed, virgin, region, get, put, ok, words}
+use Rattle.fields.specs.Field.{Field, page, slot, out, owner, free, carved, listed, virgin, get, words}
 use Rattle.fields.proofs.Laws.{get-put-same, get-put-other, length-put}
-use Rattle.fields.proofs.Changes.{Changes, changes-none, changes-put}
-use Rattle.model.specs.Lists.{every, count}
-use Rattle.model.specs.Page.{Page, wordOf, isMedium, carveAs, carve}
-use Rattle.model.proofs.Counts.{by-cases, and-l, and-r}
-use Rattle.pages.specs.Runs.{flag, whole}
+use Rattle.fields.proofs.Changes.{Changes}
+use Rattle.model.specs.Lists.{every}
+use Rattle.model.specs.Page.{isMedium, carveAs, carve}
+use Rattle.model.proofs.Counts.{and-l, and-r}
+use Rattle.pages.specs.Runs.{whole}
 use Rattle.pages.specs.Stack.{marked, downs, push}
 use Rattle.pages.specs.Carve.{stocked, carveAnew}
-use Rattle.refinement.specs.Represents.{Slots, Holds, PageRep, Parked}
-use Rattle.refinement.proofs.Basics.{Setting, long-kept, flag-false}
+use Rattle.pages.proofs.Downs.{flag-false, length-downs, small}
+use Rattle.pages.proofs.Pushes.{length-push, push-kept}
+use Rattle.pages.proofs.Frames.{changes-carve}
+use Rattle.refinement.specs.Represents.{Slots, Holds, PageRep}
+use Rattle.refinement.proofs.ArenaStore.{long-kept}
+use Rattle.refinement.proofs.Basics.{Setting}
 use Rattle.refinement.proofs.Frames.{isData, ofClass, Only, marked-kept}
-use Rattle.refinement.proofs.Blocks.{fits, in-row, words-downs, length-downs, count-downs-zero, every-counts}
+use Rattle.refinement.proofs.Blocks.{fits, in-row, words-downs, count-downs-zero, every-counts}
 
 -- ---- a list laid on a stack whose top stands below t₀
 pub slots-under : (b b′ : List ℕ) (q : ℕ) (zs : List ℕ) → ((j : ℕ) → j < length zs → ltb j 4096 ≡ true → get b′ (slot q j) ≡ get b (slot q j)) → Slots b q zs → Slots b′ q zs
 slots-under b b′ q [] k s = tt
 slots-under b b′ q (z ∷ zs) k s = (k (length zs) (omega arith) (lt-ltb _ _ (s .1)) ∙ s .0, s .1, slots-under b b′ q zs (λ j l e. k j (omega arith) e) (s .2))
-
-pub push-changes : (t : Field → Bool) (b : List ℕ) (q t₀ : ℕ) (is : List ℕ) → ((i : ℕ) → t (slot q i) ≡ true) → t₀ + length is ≤ 4096 → Changes t b (push b q t₀ is)
-push-changes t b q t₀ [] h l = changes-none t b
-push-changes t b q t₀ (i ∷ is) h l =
-    changes-put t b (push b q t₀ is) (slot q (t₀ + length is)) i (lt-ltb (t₀ + length is) 4096 (omega arith)) (h (t₀ + length is)) (push-changes t b q t₀ is h (omega arith))
-
--- a field that is no entry
-pub push-kept : (b : List ℕ) (q t₀ : ℕ) (is : List ℕ) → t₀ + length is ≤ 4096 → (g : Field) → ok g ≡ true → eqb (region g) 6 ≡ false → get (push b q t₀ is) g ≡ get b g
-push-kept b q t₀ is l = push-changes (λ g. eqb (region g) 6) b q t₀ is (λ i. refl) l .kept
 
 module _ {n : ℕ} {b : List ℕ} {c : ℕ} {sh : Shape} (s : Setting n b c sh) (q : ℕ) (hq : ltb q n ≡ true) where
   pub push-slots : (xs is : List ℕ) (t₀ : ℕ) → length xs ≡ t₀ → t₀ + length is ≤ 4096 → every (fits sh) is ≡ true → Slots b q xs → Slots (push b q t₀ is) q (is ++ xs)
@@ -46,7 +42,7 @@ module _ {n : ℕ} {b : List ℕ} {c : ℕ} {sh : Shape} (s : Setting n b c sh) 
       let top : length (is ++ xs) ≡ t₀ + length is = length-append is xs ∙ sums (length is) (length xs) t₀ e in
       let room : ltb (t₀ + length is) 4096 ≡ true = lt-ltb (t₀ + length is) 4096 (omega arith) in
       let small = ltb-true i (sh .capacity) (and-l (fits sh i) (every (fits sh) is) f) in
-      let long = long-kept n b b₁ (push-changes (λ g. true) b q t₀ is (λ i. refl) (omega arith) .long) (s .long) in (
+      let long = long-kept n b b₁ (length-push b q t₀ is) (s .long) in (
         ap (λ z. get (push b q t₀ (i ∷ is)) (slot q z)) top
             ∙ get-put-same n b₁ (slot q (t₀ + length is)) i long (rw (room, hq)) (lt-ltb i 65536 (omega (arith, s .shape .few))),
         omega arith,
@@ -70,12 +66,9 @@ module _ {n : ℕ} {b : List ℕ} {c : ℕ} {sh : Shape} (s : Setting n b c sh) 
   room : 0 + length (downs 0 (stocked sh)) ≤ 4096
   room = omega (arith, length-downs 0 (stocked sh), stocked-in sh, s .shape .few)
 
-  anew-changes : (t : Field → Bool) → t (page free q) ≡ true → t (page carved q) ≡ true → t (page virgin q) ≡ true → ((i : ℕ) → t (slot q i) ≡ true) → Changes t b (carveAnew b sh q u)
-  unfolding carveAnew
-  anew-changes t f k v e =
-      changes-put t b _ (page free q) _ refl f
-      (changes-put t b _ (page carved q) _ refl k
-      (changes-put t b _ (page virgin q) _ refl v (push-changes t b q 0 (downs 0 (stocked sh)) e room)))
+  anew-changes : (t : Field → Bool) → t (page free q) ≡ true → t (page carved q) ≡ true → t (page virgin q) ≡ true → ((i : ℕ) → t (slot q i) ≡ true)
+      → Changes t b (carveAnew b sh q u)
+  anew-changes t f k v e = changes-carve t b q f v e sh u k (s .shape .few)
 
   pub anew-data : Changes (isData q) b (carveAnew b sh q u)
   anew-data = let e = eq-eqb q q refl in anew-changes (isData q) e e e (λ i. e)
@@ -97,7 +90,7 @@ module _ {n : ℕ} {b : List ℕ} {c : ℕ} {sh : Shape} (s : Setting n b c sh) 
   unfolding carveAnew
   anew-holds hq run listing idle =
       let b₁ = push b q 0 (downs 0 (stocked sh)) in
-      let hb₁ = long-kept n b (push b q 0 (downs 0 (stocked sh))) (push-changes (λ g. true) b q 0 (downs 0 (stocked sh)) (λ i. refl) room .long) (s .long) in
+      let hb₁ = long-kept n b (push b q 0 (downs 0 (stocked sh))) (length-push b q 0 (downs 0 (stocked sh))) (s .long) in
       let low : every (fits sh) (downs 0 (stocked sh)) ≡ true
       = every-counts (sh .capacity) (downs 0 (stocked sh)) (λ j z. omega (arith, count-downs-zero j (stocked sh), flag-false j (stocked sh) (omega (arith, stocked-in sh)))) in
       record {

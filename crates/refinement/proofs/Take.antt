@@ -1,10 +1,10 @@
 -- A take from the class's own pages: on a represented book 13 never answers, and answer and book are the model's. Assumes nothing.
-use Prim.Native.Nat.{ℕ, zero, suc, _+_, _≤_, _<_}
+use Prim.Native.Nat.{ℕ, suc}
 use native.Mathlib.Omega.{arith}
-use mathlib.Core.Bool.{Bool, true, false, cond, not}
+use mathlib.Core.Bool.{false}
 use mathlib.Core.List.{List, [], _∷_, map}
-use mathlib.Core.Path.{_≡_, refl, sym, ap, _∙_}
-use lib.Dec.{eqb, ltb}
+use mathlib.Core.Path.{_≡_, refl}
+use lib.Dec.{ltb}
 use borrow.Author.Tests.{ne-eqb}
 use Rattle.classes.specs.declared.Shape.{Shape}
 use Rattle.fields.specs.Field.{arena, class, partial, frontier, get}
@@ -14,7 +14,7 @@ use Rattle.model.specs.Class as Model
 use Rattle.model.specs.Class.{lists, Result, Ask, done, asks, fillFromList, served, thawed, onRun, takeFrom}
 use Rattle.pages.specs.declared.Park.{Park}
 use Rattle.pages.specs.declared.Park.the-variants.{Empty, Cold}
-use Rattle.pages.specs.Links.{other, link, unstow, wake}
+use Rattle.pages.specs.Links.{other, unstow, wake}
 use Rattle.heap.specs.Take.{Took, Filled, took, fillFrom, fromPartial, fromPark, takeNew, takeBlocks}
 use Rattle.refinement.specs.Represents.{ClassRep, StateRep}
 use Rattle.refinement.proofs.Basics.{Setting, setting-kept}
@@ -79,10 +79,23 @@ module _ {n : ℕ} {b : List ℕ} {c : ℕ} {sh : Shape} (s : Setting n b c sh) 
   take-own h (p ∷ ps) es cs fs low g r =
       rw (low, r .chain .links .0, ne-eqb (suc (p .first)) 0 (λ z. omega arith)) (did (from-partial-rep p ps es cs fs g r))
   take-own h [] (e ∷ es) cs fs low g r =
-      rw (low, r .chain .links, r .store .line .0, ne-eqb (suc (reused sh e .first)) 0 (λ z. omega arith), from-park-is Empty (reused sh e) (map (reused sh) es) (map (thawed sh) cs) fs r)
+      rw (
+        low,
+        r .chain .links,
+        r .store .line .0,
+        ne-eqb (suc (reused sh e .first)) 0 (λ z. omega arith),
+        from-park-is Empty (reused sh e) (map (reused sh) es) (map (thawed sh) cs) fs r,
+      )
       (did (filled-rep es cs fs _ _ (wakes Empty (reused sh e) (map (reused sh) es) (map (thawed sh) cs) fs r)))
   take-own h [] [] (d ∷ cs) fs low g r =
       let r′ = swap r in
-      rw (low, r .chain .links, r .store .line, r .beside .line .0, ne-eqb (suc (thawed sh d .first)) 0 (λ z. omega arith), from-park-is Cold (thawed sh d) (map (thawed sh) cs) [] fs r′)
+      rw (
+        low,
+        r .chain .links,
+        r .store .line,
+        r .beside .line .0,
+        ne-eqb (suc (thawed sh d .first)) 0 (λ z. omega arith),
+        from-park-is Cold (thawed sh d) (map (thawed sh) cs) [] fs r′,
+      )
       (did (filled-rep [] cs fs _ _ (swapped Cold (map (thawed sh) cs) [] fs _ _ (wakes Cold (thawed sh d) (map (thawed sh) cs) [] fs r′))))
   take-own h [] [] [] fs low g r = rw (low, r .chain .links, r .store .line, r .beside .line) (asked fs r)

@@ -1,3 +1,5 @@
 pub mod Chain
 pub mod Represents
 pub mod Direct
+pub mod Classes
+pub mod Releases

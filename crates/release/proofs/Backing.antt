@@ -16,7 +16,7 @@ use Rattle.model.specs.Page.{isMedium}
 use Rattle.model.specs.Release.{coldFate}
 use Rattle.arena.specs.Fair.{recordFair, giveFair}
 use Rattle.arena.specs.Calls.{given}
-use Rattle.arena.specs.Asks.{GiveIn}
+use Rattle.runs.specs.Asks.{GiveIn}
 use Rattle.pages.specs.declared.Park.the-variants.{Empty, Cold}
 use Rattle.pages.specs.Asks.{LinkAsks, PushAsks}
 use Rattle.pages.specs.Links.{stow}

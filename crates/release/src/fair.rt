@@ -133,7 +133,7 @@ fn spot_fair(meta: &[u32], n: u32, c: u32, shape: Shape, m: usize, q: u32) -> bo
     if spot_at(meta, c, shape) != 2 {
         return true;
     }
-    arena::give::give_fair(meta, n, shape.pages)
+    runs::give::give_fair(meta, n, shape.pages)
 }
 
 pub fn release_fair(meta: &[u32], n: u32, c: u32, shape: Shape, m: usize, q: u32) -> bool

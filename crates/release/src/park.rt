@@ -103,7 +103,7 @@ pub fn settle(
 {
     let fate = give_back(meta, c, shape, host, q, list);
     if fate == 2 {
-        arena::give::give(meta, n, q, shape.pages);
+        runs::give::give(meta, n, q, shape.pages);
     }
     fate
 }

@@ -1,11 +1,11 @@
 -- Blocks given one after another, and the ways out of the functions that give them. Assumes nothing.
-use Prim.Native.Nat.{ℕ, zero, suc, _+_, _-_, _*_, _≤_, _<_, min}
+use Prim.Native.Nat.{ℕ, suc, _+_, _-_, _≤_, _<_, min}
 use native.Mathlib.Omega.{arith}
 use native.Mathlib.Numerals.{add-one}
-use mathlib.Core.Bool.{Bool, true, false, _&&_}
+use mathlib.Core.Bool.{true}
 use mathlib.Core.List.{List, [], _∷_, _++_, map, map-append, reverse}
 use mathlib.Core.Path.{_≡_, refl, sym, ap, _∙_}
-use lib.Dec.{eqb, ltb, leb}
+use lib.Dec.{ltb}
 use lib.ListN.{length, set, length-map, length-append, length-reverse}
 use borrow.Author.Tests.{lt-ltb, ltb-true}
 use Rattle.classes.specs.declared.Shape.{Shape}
@@ -129,17 +129,6 @@ module _ (b₀ : List ℕ) (sh : Shape) (q : ℕ) (l₀ : List ℕ) (at k : ℕ)
 
     pub carving-none : Carving b₀ l₀ 0
     carving-none = giving-none
-
-    pub carving-asks : (b l : List ℕ) (j : ℕ) → FreshAsks b₀ sh q l₀ at a k → j < k → Carving b l j → GiveAsks b sh q l (at - j) (a + j)
-    carving-asks b l j h u v =
-        record {
-          sound = h .sound;
-          below = h .below;
-          there = rw (v .long) (h .there);
-          block = omega (arith, h .blocks);
-          room = omega (arith, h .room);
-          places = omega (arith, v .list, h .places);
-        }
 
     pub carving-more : (b l : List ℕ) (j : ℕ) (b′ l′ : List ℕ) → FreshAsks b₀ sh q l₀ at a k → j < k → Carving b l j
         → Gave b sh q l (at - j) ((a + j) ∷ []) b′ l′ → Carving b′ l′ (j + 1)

@@ -1,7 +1,7 @@
 // Blocks that a page gives: free ones first, the top of the stack first, then new ones, lowest first.
 // A list is filled from a place downwards, so that the latest stands first.
 ghost use mathlib.Core.Path.{_≡_};
-ghost use mathlib.Core.List.{_∷_, [], _++_, reverse};
+ghost use mathlib.Core.List.{[], _∷_, _++_, reverse};
 ghost use Prim.Native.Nat.{min};
 ghost use Rattle.pages.specs.Stack.{tops, downs, Gave, Drawn};
 ghost use Rattle.pages.specs.Asks.{GiveAsks, PopAsks, FreshAsks, BothAsks, DrawAsks};

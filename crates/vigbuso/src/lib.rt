@@ -1,2 +1,5 @@
 // The exported C functions. Numbers and slices only; each is thin over a proved function.
-mod lookup;
+pub mod arena_calls;
+pub mod lookup;
+pub mod release_calls;
+pub mod take_calls;

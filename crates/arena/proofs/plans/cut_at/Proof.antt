@@ -229,12 +229,12 @@ module _ {M : Type 1} (𝓤 : URA M) (H : Heap 𝓤) (A : Atoms 𝓤) (W : Given
         -- it is lent on to `put_hole`
         lend-mut ! tt R (named 0) ys b o gn (λ ν γ′.
         use2 W (raw (PutHole 𝓤 H A at-mem run .pre (to-put γ′ ν r₈ r₉ u₉))) (goes-put γ′ ν r₈ r₉ u₉ (is₈ .1) is₉ (subst (λ (k : ℕ). k < length ys) (sym e₈) (pre .0))) $
-        -- [pre; lent; obor; obs; auth; the rest; _12; …; _11; …; _10; …; _9; …; _8; …; _7; …; _6; …; _5; …; _4; …; _3; …; _2; …; _1; …; _0; …]
+        -- [what the call asks; the lender's part; the open borrow; obs; auth; the rest; _12; …; _11; …; _10; …; _9; …; _8; …; _7; …; _6; …; _5; …; _4; …; _3; …; _2; …; _1; …; _0; …]
         calls-at ! fm (PutHole 𝓤 H A at-mem run) known-put-hole (to-put γ′ ν r₈ r₉ u₉) (and-then ! (load ! (from ! (stop !)) (look ! 16 refl)) (and-then ! (load ! (from ! (stop !)) (look ! 14 refl)) (and-then ! (load ! (from ! (stop !)) (look ! 12 refl)) (no-more !)))) (λ u₅.
         use1 W (later (some (λ (z : Unit {0}). ((‵ (flft (ν ∷ []) fullShare) ⊛ ‵ ftrue) ⊛ ‵ (NoValue .own z (u₅ ∷ []))) ⊛ raw (ensured 𝓤 H A put-hole′.ended (put-hole′.clauses 𝓤 H A at-mem run) (ν ∷ [], tt) (slice γ′ ys, (r₈, (r₉, tt))) tt z)))) (id⊢ 𝓤 _) $ await ! tt $ pick ! (λ z.
         split ! $ move ! (1 ∷ []) $ use1 W (some (λ (ws : List Hole × (Unit {0} × (Unit {0} × Unit {0}))). ‵ (lasts put-hole′.ended (ν ∷ [], tt) (slice γ′ ys, (r₈, (r₉, tt))) ws) ⊛ raw (fact 𝓤 (ws .0 ≡ set ys r₈ r₉)))) (id⊢ 𝓤 _) $ pick ! (λ ws.
         split ! $ move ! (1 ∷ []) $ heard ! (ws .0 ≡ set ys r₈ r₉) (λ e₅. fsplit ! $ fsplit ! $ move ! (1 ∷ []) $ feqL ! (λ long. move ! (2 ∷ []) $ split ! $ move ! (1 ∷ []) $ feqL ! (λ is₅.
-        -- [toktrue; fin; others; lent; obor; obs; auth; the rest; _12; …; _11; …; _10; …; _9; …; _8; …; _7; …; _6; …; _5; …; _4; …; _3; …; _2; …; _1; …; _0; …]
+        -- [the new token; what says the last list; true; the lender's part; the open borrow; obs; auth; the rest; _12; …; _11; …; _10; …; _9; …; _8; …; _7; …; _6; …; _5; …; _4; …; _3; …; _2; …; _1; …; _0; …]
         land ! (from ! (stop !)) (init ! 22 refl (subst (λ (z : Val). Holds (hasTy tyUnit z) × WT z) (sym (ap only is₅)) (tt, tt))) $ split ! $
         move ! (0 ∷ 4 ∷ 2 ∷ 5 ∷ 6 ∷ 7 ∷ []) $ back-mut ! tt R ys (ws .0) long b o $ move ! (3 ∷ []) $ drop ! $ move ! (3 ∷ []) $ drop ! $
         -- [obs; the borrow; the token; the rest; _12; …]: it is made anew once more, and what `scan` is passed

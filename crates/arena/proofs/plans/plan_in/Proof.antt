@@ -241,13 +241,13 @@ module _ {M : Type 1} (𝓤 : URA M) (H : Heap 𝓤) (A : Atoms 𝓤) (W : Given
         move ! (3 ∷ []) $ use1 W (‵ Own ⊛ ‵ Own) (shr-slice-copy 𝓤 H A W (named 0) κ u32 .twice m (vm ∷ [])) $ split ! $ move ! (2 ∷ 3 ∷ 4 ∷ []) $
         lend-mut ! tt R (named 1) ys b o gn (λ ν γ′.
         move ! (7 ∷ 8 ∷ []) $ join ! $ move ! (1 ∷ 2 ∷ []) $ join ! $ move ! (0 ∷ 1 ∷ []) $ use2 W (raw (LoadHoles 𝓤 H A at-mem run .pre (to-load γ′ ν))) (goes-load γ′ ν) $
-        -- [pre; lent; obor; obs; auth; what the slice owns; the rest; _14; …; _13; …; _12; …; _11; …; _10; …; _9; …; _8; …; _7; …; _6; …; _5; …; _4; …; _3; …; _2; …; _1; …; _0; …]
+        -- [what the call asks; the lender's part; the open borrow; obs; auth; what the slice owns; the rest; _14; …; _13; …; _12; …; _11; …; _10; …; _9; …; _8; …; _7; …; _6; …; _5; …; _4; …; _3; …; _2; …; _1; …; _0; …]
         calls-at ! fm (LoadHoles 𝓤 H A at-mem run) known-load-holes (to-load γ′ ν) (and-then ! (load ! (from ! (stop !)) (look ! 33 refl)) (and-then ! (load ! (from ! (stop !)) (look ! 15 refl)) (and-then ! (load ! (from ! (fld ! refl (stop !))) (look-in ! 29 (sub ! 2 refl (whole !)))) (and-then ! (load ! (from ! (fld ! refl (stop !))) (look-in ! 29 (sub ! 3 refl (whole !)))) (and-then ! (load ! (from ! (fld ! refl (stop !))) (look-in ! 29 (sub ! 1 refl (whole !)))) (no-more !)))))) (λ u₆.
         use1 W (later (some (λ (r₆ : Bool). ((‵ (flft κ q) ⊛ ‵ (flft (ν ∷ []) fullShare) ⊛ ‵ ftrue) ⊛ ‵ (bool .own r₆ (u₆ ∷ []))) ⊛ raw (ensured 𝓤 H A load-holes′.ended (load-holes′.clauses 𝓤 H A at-mem run) (κ, (ν ∷ [], tt)) (load-args γ′) tt r₆)))) (id⊢ 𝓤 _) $ await ! tt $ pick ! (λ r₆.
         split ! $ move ! (1 ∷ []) $ use1 W (some (λ (ws : Unit {0} × (List Hole × (Unit {0} × (Unit {0} × (Unit {0} × Unit {0}))))). ‵ (lasts load-holes′.ended (κ, (ν ∷ [], tt)) (load-args γ′) ws) ⊛ raw (fact 𝓤 (Loaded (ws .1 .0) r₆)))) (id⊢ 𝓤 _) $ pick ! (λ ws.
         split ! $ move ! (1 ∷ []) $ heard ! (Loaded (ws .1 .0) r₆) (λ e₆. fsplit ! $ move ! (1 ∷ []) $ fsplit ! $ fsplit ! $ move ! (1 ∷ []) $ feqL ! (λ long.
         move ! (3 ∷ []) $ split ! $ move ! (1 ∷ []) $ peeks ! bool (Is bool) (shows 𝓤 H A bool) r₆ (u₆ ∷ []) (λ is₆. drop ! $
-        -- [toks3; fin; others; first; lent; obor; obs; auth; what the slice owns; the rest; _14; …; _13; …; _12; …; _11; …; _10; …; _9; …; _8; …; _7; …; _6; …; _5; …; _4; …; _3; …; _2; …; _1; …; _0; …]
+        -- [the tokens; what says the last list; true; true; the lender's part; the open borrow; obs; auth; what the slice owns; the rest; _14; …; _13; …; _12; …; _11; …; _10; …; _9; …; _8; …; _7; …; _6; …; _5; …; _4; …; _3; …; _2; …; _1; …; _0; …]
         land ! (from ! (stop !)) (init ! 26 refl (subst (λ (z : Val). Holds (hasTy tyBool z) × WT z) (sym (ap only is₆)) (tt, tt))) $ rewrite ! 26 (λ (z : Val). ‵ (fat fullShare tyBool l₆ 0 z)) (ap only is₆) refl $
         split ! $ move ! (1 ∷ []) $ split ! $ move ! (2 ∷ 1 ∷ []) $ join ! $ move ! (1 ∷ 5 ∷ 2 ∷ 6 ∷ 7 ∷ 8 ∷ []) $ back-mut ! tt R ys (ws .1 .0) long b o $
         move ! (4 ∷ []) $ drop ! $

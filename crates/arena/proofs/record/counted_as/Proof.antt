@@ -106,7 +106,7 @@ module _ {M : Type 1} (𝓤 : URA M) (H : Heap 𝓤) (A : Atoms 𝓤) (W : Given
         owned ! R (Is R) (LL.makes T.the-type T′.the-plain 𝓤 H A) h _ h-is $ move ! (5 ∷ 0 ∷ []) $ use2 W (‵ (mem R .lies h l₃ 0)) (part-in-at 𝓤 H A W R refl fullShare h l₃ 0 T′.mir refl (T′.lowered h)) $
         lft-new ! tt (λ ν. move ! (1 ∷ []) $ use1 W (later (some (λ (γ : GName). ‵ (MutRef (named 0) (ν ∷ []) R .own (ref l₃ γ) (vptr l₃ 0 ∷ [])) ⊛ ‵ (flent (ν ∷ []) (Body (mem R) l₃ 0 γ)))))
         (lends-ref 𝓤 H A W R (named 0) (ν ∷ []) h l₃ 0) $ await ! tt $ pick ! (λ γ. split ! $ move ! (0 ∷ 2 ∷ []) $ use2 W (raw (Count 𝓤 H A at-mem run .pre (to-count l₃ γ ν))) (goes-count l₃ γ ν) $
-        -- [what count asks; the lender's part; _5; …; room for _4; …; that _3 dies; _2; …; _1; …; room for _0; …; true; what arena and pages own]
+        -- [what count asks; the lender's part; _5; …; room for _4; …; that _3 dies; _2; …; _1; …; room for _0; …; true; what arena and fresh own]
         calls-at ! fm (Count 𝓤 H A at-mem run) known (to-count l₃ γ ν) (and-then ! (load ! (from ! (stop !)) (look ! 2 refl)) (and-then ! (load ! (from ! (stop !)) (look ! 7 refl)) (no-more !))) (λ u.
         use1 W (later (some (λ (z : Unit {0}). ((‵ (flft (ν ∷ []) fullShare) ⊛ ‵ ftrue) ⊛ ‵ (NoValue .own z (u ∷ []))) ⊛ raw (ensured 𝓤 H A count.ended (count.clauses 𝓤 H A at-mem run) (ν ∷ [], tt) (ref l₃ γ, (fresh, tt)) tt z)))) (id⊢ 𝓤 _) $ await ! tt $ pick ! (λ z.
         -- what `count_commit` ensures, at some last record
@@ -118,7 +118,7 @@ module _ {M : Type 1} (𝓤 : URA M) (H : Heap 𝓤) (A : Atoms 𝓤) (W : Given
         split ! $ lft-end ! tt $ move ! (0 ∷ 4 ∷ 2 ∷ []) $ use3 W (later (‵ (mem R .lies (ws .0) l₃ 0))) (ref-back 𝓤 H A W R (ν ∷ []) γ (ws .0) l₃ 0) $ await ! tt $
         use1 W (some (λ (u₀ : Val). ‵ (fat fullShare T′.mir l₃ 0 u₀) ⊛ ‵ (R .own (ws .0) (u₀ ∷ [])))) (part-out-at 𝓤 H A W R refl fullShare (ws .0) l₃ 0 T′.mir refl) $ pick ! (λ u₀. split ! $
         move ! (1 ∷ []) $ peeks ! R (Is R) (shows 𝓤 H A R) (ws .0) (u₀ ∷ []) (λ is₀. move ! (1 ∷ 0 ∷ []) $
-        -- [_3; what it owns; true; …; _5; …; _4; …; that _3 dies; _2; …; _1; …; room for _0; …; true; what arena and pages own]
+        -- [_3; what it owns; true; …; _5; …; _4; …; that _3 dies; _2; …; _1; …; room for _0; …; true; what arena and fresh own]
         assigns ! (of-opd ! (load ! (from ! (stop !)) (look ! 0 refl))) (from ! (stop !)) (init ! 13 refl (LL.lawful T.the-type T′.the-laws 𝓤 H A W .typed (ws .0) _ is₀ .0)) $
         returns ! (look ! 13 refl) $ forget ! 0 refl $ forget ! 4 refl $ forget ! 6 refl $ forget ! 9 refl $ forget ! 11 refl $ forget ! 13 refl $
         move ! (13 ∷ 14 ∷ []) $ free1 ! $ move ! (11 ∷ 12 ∷ []) $ free1 ! $ move ! (9 ∷ 10 ∷ []) $ free1 ! $ move ! (0 ∷ 8 ∷ []) $ free1 ! $ move ! (5 ∷ 6 ∷ []) $ free1 ! $ move ! (3 ∷ 4 ∷ []) $ free1 ! $ free0 ! $

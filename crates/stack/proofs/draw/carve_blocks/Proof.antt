@@ -1,4 +1,4 @@
-use Rattle.stack.proofs.DrawSteps.{Carving, carving-none, carving-asks, carving-more, carving-done}
+use Rattle.stack.proofs.DrawSteps.{Carving, carving-none, carving-more, carving-done}
 use Prim.Native.Nat.{_-_}
 use borrow.Author.Needs.{needs}
 use Rattle.stack.proofs.draw.carve_blocks.Statement.{statement}
@@ -11,4 +11,4 @@ abbrev μ-loop : tie.MeasureT-loop
 μ-loop meta₀ shape q list₀ at from k j₀ meta list j = k - j
 
 pub carve-blocks-spec : {M : Type 1} → statement M
-carve-blocks-spec = tie.close (tie.spec Inv-loop μ-loop (λ c. search carving-none) (λ c. search needs) (λ c. search needs) (λ c κs. search carving-asks) (λ c. search needs) (λ c. search needs) (λ c. search carving-more) (λ c. search needs) (λ c. search needs) (λ c. search carving-done))
+carve-blocks-spec = tie.close (tie.spec Inv-loop μ-loop (λ c. search carving-none) (λ c. search needs) (λ c. search needs) (λ c κs. search needs) (λ c. search needs) (λ c. search needs) (λ c. search carving-more) (λ c. search needs) (λ c. search needs) (λ c. search carving-done))

@@ -1,0 +1,259 @@
+//! What is measured. A scenario is one variant with its rows, the calls it needs and a round written once for both sides.
+
+use super::rounds::{Clock, Round};
+use super::sides::{Class, Side};
+use crate::call::Kind;
+use crate::oracle;
+use crate::port;
+use crate::words::{group_word, page_of, Family};
+
+#[derive(Clone, Copy)]
+pub enum Scenario {
+    /// Commits of 1 page and gives, with so many holes of 1 page; none: from the frontier.
+    Remembered { holes: u32 },
+    /// Commits of 2 pages, with so many holes of 1 page.
+    NoFit { holes: u32 },
+    /// Takes that carve, releases of all that one gave, takes from the free list.
+    Batches { class: Class },
+    /// Releases of one block.
+    Single { class: Class },
+    /// Releases of all blocks of a page.
+    Whole { class: Class },
+    /// Group releases: of so many pages so many blocks each.
+    Groups { class: Class, pages: u32, blocks: u32 },
+}
+
+/// A line of the table.
+pub struct Row {
+    pub call: String,
+    pub holes: Option<u32>,
+}
+
+const HOLES: [u32; 5] = [0, 10, 100, 1_000, 4_000];
+
+pub fn all() -> Vec<Scenario> {
+    let small = |class| Class(Family::Small, class);
+    let medium = |class| Class(Family::Medium, class);
+    let remembered = HOLES.map(|holes| Scenario::Remembered { holes });
+    let no_fit = HOLES[1..].iter().map(|&holes| Scenario::NoFit { holes });
+    let batches = [small(0), small(3), small(10), medium(0)].map(|class| Scenario::Batches { class });
+    let single = [0, 10].map(|class| Scenario::Single { class: small(class) });
+    let whole = [0, 10, 45].map(|class| Scenario::Whole { class: small(class) });
+    let group = |(pages, blocks)| Scenario::Groups { class: small(10), pages, blocks };
+    let groups = [(1, 8), (8, 8), (32, 64), (8, 314)].map(group);
+    remembered.into_iter().chain(no_fit).chain(batches).chain(single).chain(whole).chain(groups).collect()
+}
+
+/// Calls between two readings of the clock, where no scenario says otherwise.
+const BATCH: usize = 8;
+/// Times that calls which undo each other are repeated in a round; the first is not counted.
+const REPEATS: usize = 4;
+
+impl Scenario {
+    pub fn landed(&self) -> bool {
+        port::landed(match self {
+            Scenario::Remembered { .. } | Scenario::NoFit { .. } => Kind::Commit,
+            Scenario::Batches { .. } | Scenario::Single { .. } | Scenario::Whole { .. } => Kind::TakeBlocks,
+            Scenario::Groups { .. } => Kind::ReleaseBinChunks,
+        })
+    }
+
+    /// In the order of the round's times.
+    pub fn rows(&self) -> Vec<Row> {
+        let with = |holes, calls: &[&str]| {
+            calls.iter().map(|call| Row { call: call.to_string(), holes: Some(holes) }).collect::<Vec<Row>>()
+        };
+        let plain = |calls: &[String]| calls.iter().map(|call| Row { call: call.clone(), holes: None }).collect();
+        match *self {
+            Scenario::Remembered { holes: 0 } => with(0, &["commit, 1 page, from the frontier", "give, 1 page"]),
+            Scenario::Remembered { holes } => with(holes, &["commit, 1 page, remembered", "give, 1 page"]),
+            Scenario::NoFit { holes } => with(holes, &["commit, 2 pages, fits no hole"]),
+            Scenario::Batches { class } => {
+                let (blocks, name) = (oracle::batch(class.0, class.1), name(class));
+                plain(&[
+                    format!("take of {blocks}, carving, {name}"),
+                    format!("take of {blocks}, free list, {name}"),
+                    format!("release of {blocks}, {name}"),
+                    format!("release of {blocks} with their linking, {name}"),
+                ])
+            }
+            Scenario::Single { class } => plain(&[format!("release of 1, {}", name(class))]),
+            Scenario::Whole { class } => {
+                plain(&[format!("release of a whole page, {} blocks, {}", capacity(class), name(class))])
+            }
+            Scenario::Groups { class, pages, blocks } => {
+                let retired = if blocks == capacity(class) { ", retired" } else { "" };
+                plain(&[format!("group release, {pages} × {blocks} blocks{retired}, {}", name(class))])
+            }
+        }
+    }
+
+    pub fn round<S: Side>(&self, side: &mut S, clock: Clock) -> Round {
+        side.reopen();
+        match *self {
+            Scenario::Remembered { holes: 0 } => frontier(side, clock),
+            Scenario::Remembered { holes } => remembered(side, clock, holes),
+            Scenario::NoFit { holes } => no_fit(side, clock, holes),
+            Scenario::Batches { class } => batches(side, clock, class),
+            Scenario::Single { class } => single(side, clock, class),
+            Scenario::Whole { class } => whole(side, clock, class),
+            Scenario::Groups { class, pages, blocks } => groups(side, clock, class, pages, blocks),
+        }
+    }
+}
+
+fn name(Class(family, class): Class) -> String {
+    match family {
+        Family::Small => format!("class {class}"),
+        Family::Medium => format!("medium {class}"),
+    }
+}
+
+fn capacity(Class(family, class): Class) -> u32 {
+    oracle::capacity(family, class)
+}
+
+/// Holes of 1 page each.
+fn store_holes<S: Side>(side: &mut S, holes: u32) {
+    let pages: Vec<u32> = (0..holes).map(|_| side.commit(1)).collect();
+    pages.into_iter().for_each(|first| side.give(first, 1));
+}
+
+fn time_commits<S: Side>(side: &mut S, clock: Clock, pages: u64) -> ([u32; BATCH], f64) {
+    clock.time(BATCH, || {
+        let mut firsts = [0; BATCH];
+        firsts.iter_mut().for_each(|first| *first = side.commit(pages));
+        firsts
+    })
+}
+
+fn time_gives<S: Side>(side: &mut S, clock: Clock, firsts: &[u32; BATCH]) -> f64 {
+    clock.time(BATCH, || firsts.iter().for_each(|&first| side.give(first, 1))).1
+}
+
+/// No hole is stored when the commits begin; the gives store up to a batch of them.
+fn frontier<S: Side>(side: &mut S, clock: Clock) -> Round {
+    store_holes(side, 1);
+    let mut answers = vec![side.commit(1)];
+    answers.extend((0..BATCH).map(|_| side.commit(1)));
+    let (firsts, commit) = time_commits(side, clock, 1);
+    let give = time_gives(side, clock, &firsts);
+    answers.extend(firsts);
+    Round { times: vec![commit, give], answers }
+}
+
+/// A batch begins with half of it more holes than are named, and ends with as many less.
+fn remembered<S: Side>(side: &mut S, clock: Clock, holes: u32) -> Round {
+    store_holes(side, holes + BATCH as u32 / 2);
+    let mut round = Round { times: vec![0.0; 2], answers: Vec::new() };
+    for repeat in 0..REPEATS {
+        let (firsts, commit) = time_commits(side, clock, 1);
+        let give = time_gives(side, clock, &firsts);
+        round.answers.extend(firsts);
+        if repeat > 0 {
+            round.times[0] += commit / (REPEATS - 1) as f64;
+            round.times[1] += give / (REPEATS - 1) as f64;
+        }
+    }
+    round
+}
+
+fn no_fit<S: Side>(side: &mut S, clock: Clock, holes: u32) -> Round {
+    store_holes(side, holes);
+    let mut answers = vec![side.commit(2)];
+    let (firsts, commit) = time_commits(side, clock, 2);
+    answers.extend(firsts);
+    Round { times: vec![commit], answers }
+}
+
+/// Takes that a page carves after its first one; a span's are all carved at the first.
+fn carvings(class: Class) -> usize {
+    match class.0 {
+        Family::Small => (capacity(class) as usize / oracle::batch(class.0, class.1) - 1).min(BATCH),
+        Family::Medium => BATCH,
+    }
+}
+
+fn time_takes<S: Side>(side: &mut S, clock: Clock, class: Class, number: usize) -> (Vec<Vec<u32>>, f64) {
+    let mut taken = vec![S::Taken::default(); number];
+    let ((), time) = clock.time(number, || taken.iter_mut().for_each(|taken| side.take(class, taken)));
+    (taken.iter().map(|taken| S::words(class, taken)).collect(), time)
+}
+
+/// A first take stays out, so that no page becomes empty but a span.
+fn batches<S: Side>(side: &mut S, clock: Clock, class: Class) -> Round {
+    let number = carvings(class);
+    let mut answers = time_takes(side, clock, class, 1).0.concat();
+    let (mut lists, carving) = time_takes(side, clock, class, number);
+    answers.extend(lists.concat());
+    let mut times = vec![carving, 0.0, 0.0, 0.0];
+    for linking in [false, true] {
+        for repeat in 0..REPEATS {
+            let released = time_release(side, clock, class, &lists, linking);
+            let (taken, from_list) = time_takes(side, clock, class, number);
+            answers.extend(taken.concat());
+            lists = taken;
+            if repeat > 0 {
+                times[1] += from_list / (2 * (REPEATS - 1)) as f64;
+                times[2 + usize::from(linking)] += released / (REPEATS - 1) as f64;
+            }
+        }
+    }
+    Round { times, answers }
+}
+
+fn time_release<S: Side>(side: &mut S, clock: Clock, class: Class, lists: &[Vec<u32>], linking: bool) -> f64 {
+    if linking {
+        return clock.time(lists.len(), || lists.iter().for_each(|words| side.release_list(class, words))).1;
+    }
+    let at_hand: Vec<S::List> = lists.iter().map(|words| S::list(class, words)).collect();
+    clock.time(lists.len(), || at_hand.iter().for_each(|list| side.release(class, list))).1
+}
+
+fn single<S: Side>(side: &mut S, clock: Clock, class: Class) -> Round {
+    let words = time_takes(side, clock, class, 2).0.concat();
+    let lists: Vec<Vec<u32>> = words.chunks(1).map(<[u32]>::to_vec).collect();
+    let mut answers = words;
+    let (first, counted) = lists[..3 * BATCH].split_at(BATCH);
+    time_release(side, clock, class, first, false);
+    let time = time_release(side, clock, class, counted, false);
+    answers.extend(time_takes(side, clock, class, 1).0.concat());
+    Round { times: vec![time], answers }
+}
+
+/// All blocks of so many pages, page by page.
+fn fill<S: Side>(side: &mut S, clock: Clock, class: Class, pages: u32) -> Vec<Vec<u32>> {
+    let takes = capacity(class).div_ceil(oracle::batch(class.0, class.1) as u32) * pages;
+    let mut words = time_takes(side, clock, class, takes as usize).0.concat();
+    words.sort_by_key(|&word| page_of(word));
+    let filled: Vec<Vec<u32>> = words.chunk_by(|&one, &other| page_of(one) == page_of(other)).map(Vec::from).collect();
+    assert!(filled.len() == pages as usize, "{pages} pages are filled, not {}", filled.len());
+    filled
+}
+
+/// As many pages as are parked empty.
+const PARKED: u32 = 4;
+
+fn whole<S: Side>(side: &mut S, clock: Clock, class: Class) -> Round {
+    let lists = fill(side, clock, class, PARKED);
+    let time = time_release(side, clock, class, &lists, false);
+    let mut answers = lists.concat();
+    answers.extend(time_takes(side, clock, class, 2).0.concat());
+    Round { times: vec![time], answers }
+}
+
+/// Of each page the same share for each call, as often as it goes.
+fn groups<S: Side>(side: &mut S, clock: Clock, class: Class, pages: u32, blocks: u32) -> Round {
+    let filled = fill(side, clock, class, pages);
+    let number = (capacity(class) / blocks).min(PARKED) as usize;
+    let words = |call: usize| {
+        let from = call * blocks as usize;
+        filled.iter().flat_map(|page| page[from..from + blocks as usize].to_vec()).collect::<Vec<u32>>()
+    };
+    let group: Vec<u32> = filled.iter().map(|page| group_word(blocks, page_of(page[0]))).collect();
+    let mut at_hand: Vec<S::Groups> = (0..number).map(|call| S::groups(&words(call), &group)).collect();
+    let ((), time) = clock.time(number, || at_hand.iter_mut().for_each(|groups| side.release_groups(class, groups)));
+    let mut answers = filled.concat();
+    answers.extend(time_takes(side, clock, class, 2).0.concat());
+    Round { times: vec![time], answers }
+}

@@ -1,0 +1,212 @@
+//! The two heaps behind one set of plain calls, so that a scenario is written once.
+//!
+//! What a caller of the original has at hand before it calls, a chain that is linked, is made before the clock starts,
+//! but for `release_list`. The host word grants reservation and commit and no discard: the comparison's stand-in for a
+//! discard overwrites the page's header, which would count against the original.
+
+use crate::memory::Reserved;
+use crate::oracle::{self, Chain, Chunks, Original};
+use crate::port;
+use crate::words::{book_words, Family, HOST_COMMIT, HOST_RESERVE, NO_PAGE, SMALL_BATCH};
+
+const HOST: u32 = HOST_RESERVE | HOST_COMMIT;
+
+/// The arena's length in every scenario.
+pub const PAGES: u32 = 8_192;
+
+/// A family and a class of it.
+#[derive(Clone, Copy, PartialEq, Eq, Debug)]
+pub struct Class(pub Family, pub u32);
+
+pub trait Side {
+    /// What a take answers.
+    type Taken: Clone + Default;
+    /// A release list at hand.
+    type List;
+    /// A list and its groups at hand.
+    type Groups;
+
+    /// A heap on which nothing was asked yet.
+    fn reopen(&mut self);
+    /// First page, or none.
+    fn commit(&mut self, pages: u64) -> u32;
+    fn give(&mut self, first: u32, pages: u64);
+    fn take(&mut self, class: Class, taken: &mut Self::Taken);
+    fn words(class: Class, taken: &Self::Taken) -> Vec<u32>;
+    fn list(class: Class, words: &[u32]) -> Self::List;
+    fn release(&mut self, class: Class, list: &Self::List);
+    /// A release with the making of the chain, where it needs one.
+    fn release_list(&mut self, class: Class, words: &[u32]);
+    fn groups(words: &[u32], groups: &[u32]) -> Self::Groups;
+    fn release_groups(&mut self, class: Class, groups: &mut Self::Groups);
+    /// Whether no call was refused since the opening.
+    fn is_sound(&self) -> bool;
+}
+
+pub struct OriginalSide(Original);
+
+impl OriginalSide {
+    pub fn open() -> OriginalSide {
+        let mut original = Original::open(PAGES);
+        original.keep_fates(false);
+        OriginalSide(original)
+    }
+}
+
+impl Side for OriginalSide {
+    type Taken = Option<(*mut u8, u32)>;
+    type List = Chain;
+    type Groups = Chunks;
+
+    fn reopen(&mut self) {
+        self.0.reopen();
+    }
+
+    #[inline]
+    fn commit(&mut self, pages: u64) -> u32 {
+        self.0.commit(HOST, pages).map_or(NO_PAGE, |(first, _)| first)
+    }
+
+    #[inline]
+    fn give(&mut self, first: u32, pages: u64) {
+        self.0.release(HOST, u64::from(first), pages);
+    }
+
+    #[inline]
+    fn take(&mut self, Class(family, class): Class, taken: &mut Self::Taken) {
+        let (chain, count, _) = self.0.take_chain(family, class, HOST);
+        *taken = Some((chain, count));
+    }
+
+    fn words(Class(family, _): Class, taken: &Self::Taken) -> Vec<u32> {
+        taken.map_or(Vec::new(), |(chain, count)| oracle::words_of_chain(family, chain, count))
+    }
+
+    fn list(Class(family, _): Class, words: &[u32]) -> Chain {
+        oracle::chain(family, words)
+    }
+
+    #[inline]
+    fn release(&mut self, Class(family, class): Class, list: &Chain) {
+        self.0.release_chain(family, class, HOST, list);
+    }
+
+    #[inline]
+    fn release_list(&mut self, class: Class, words: &[u32]) {
+        self.release(class, &oracle::chain(class.0, words));
+    }
+
+    fn groups(words: &[u32], groups: &[u32]) -> Chunks {
+        oracle::chunks(words, groups)
+    }
+
+    #[inline]
+    fn release_groups(&mut self, Class(_, class): Class, groups: &mut Chunks) {
+        self.0.release_chunks(class, HOST, groups);
+    }
+
+    fn is_sound(&self) -> bool {
+        true
+    }
+}
+
+impl Drop for OriginalSide {
+    fn drop(&mut self) {
+        self.0.keep_fates(true);
+    }
+}
+
+pub struct PortSide {
+    book: Reserved,
+    /// The numbers that were returned, or-ed.
+    refused: u32,
+}
+
+impl PortSide {
+    pub fn open() -> PortSide {
+        PortSide { book: Reserved::new(book_words(PAGES)), refused: 0 }
+    }
+
+    fn book(&mut self) -> &mut [u32] {
+        self.book.words_mut()
+    }
+}
+
+/// The list that a take is lent, and its count.
+#[derive(Clone)]
+pub struct Lent([u32; SMALL_BATCH], u32);
+
+impl Default for Lent {
+    fn default() -> Lent {
+        Lent([0; SMALL_BATCH], 0)
+    }
+}
+
+/// A list, its groups, and the room for their fates.
+pub struct Grouped {
+    words: Vec<u32>,
+    groups: Vec<u32>,
+    fates: Vec<u32>,
+}
+
+impl Side for PortSide {
+    type Taken = Lent;
+    type List = Vec<u32>;
+    type Groups = Grouped;
+
+    fn reopen(&mut self) {
+        self.refused = port::open(self.book(), u64::from(PAGES));
+    }
+
+    #[inline]
+    fn commit(&mut self, pages: u64) -> u32 {
+        let [number, first, _] = port::plain_commit(self.book(), HOST, pages);
+        self.refused |= number;
+        first
+    }
+
+    #[inline]
+    fn give(&mut self, first: u32, pages: u64) {
+        self.refused |= port::plain_release(self.book(), HOST, u64::from(first), pages);
+    }
+
+    #[inline]
+    fn take(&mut self, Class(family, class): Class, taken: &mut Lent) {
+        let [number, count, _] = port::plain_take(self.book(), family, [class, HOST], &mut taken.0);
+        taken.1 = count;
+        self.refused |= number;
+    }
+
+    fn words(_: Class, taken: &Lent) -> Vec<u32> {
+        taken.0[..taken.1 as usize].to_vec()
+    }
+
+    fn list(_: Class, words: &[u32]) -> Vec<u32> {
+        words.to_vec()
+    }
+
+    #[inline]
+    fn release(&mut self, class: Class, list: &Vec<u32>) {
+        self.release_list(class, list);
+    }
+
+    #[inline]
+    fn release_list(&mut self, Class(family, class): Class, words: &[u32]) {
+        let [number, _] = port::plain_release_blocks(self.book(), family, [class, HOST], words);
+        self.refused |= number;
+    }
+
+    fn groups(words: &[u32], groups: &[u32]) -> Grouped {
+        Grouped { words: words.to_vec(), groups: groups.to_vec(), fates: vec![0; groups.len()] }
+    }
+
+    #[inline]
+    fn release_groups(&mut self, Class(_, class): Class, at_hand: &mut Grouped) {
+        let Grouped { words, groups, fates } = at_hand;
+        self.refused |= port::plain_release_chunks(self.book(), [class, HOST], words, groups, fates);
+    }
+
+    fn is_sound(&self) -> bool {
+        self.refused == 0
+    }
+}

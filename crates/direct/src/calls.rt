@@ -1,0 +1,184 @@
+// The direct calls, from number 3 on: the book is long enough for an arena of `size` pages.
+use super::Figures;
+use super::Grow;
+use super::Report;
+use runs::Commit;
+use runs::Request;
+use runs::give;
+use runs::growth;
+use runs::load;
+use runs::owners;
+ghost use mathlib.Core.Path.{_≡_};
+ghost use mathlib.Core.Bool.{true};
+ghost use Prim.Native.Nat.{_+_, _-_, _≤_, _<_};
+ghost use Rattle.model.specs.Heap.{badRun};
+ghost use Rattle.arena.specs.Fair.{recordFair};
+ghost use Rattle.arena.specs.Calls.{commitCall, releaseCall, growCall, containsCall};
+ghost use Rattle.arena.specs.Act.{clamped, growActs};
+ghost use Rattle.runs.specs.Asks.{BookIn};
+ghost use Rattle.runs.specs.Answer.{Answers};
+ghost use Rattle.direct.specs.Answer.{growCommit, Releases, Grows, Grew, fairGrow, badGrowth, figuresOf, reportOf, heldRelease};
+
+fn bad_run(pages: u64) -> bool
+    ensures { λ r. ⌜ r ≡ badRun pages ⌝ }
+{
+    if pages == 0 {
+        return true;
+    }
+    281_474_976_710_656 <= pages
+}
+
+// A page more than any arena has stands for every longer run.
+fn clamp(pages: u64) -> u32
+    ensures { λ r. ⌜ r ≡ clamped pages ⌝ }
+{
+    if 262_144 < pages {
+        return 262_145;
+    }
+    pages as u32
+}
+
+pub fn commit(meta: &mut [u32], size: u32, host: u32, pages: u64) -> Commit
+    requires { ⌜ BookIn (now meta) size ⌝ }
+    ensures { λ r. ⌜ Answers r (now (meta .exit)) (commitCall size (now (meta .entry)) host pages) ⌝ }
+{
+    if 15 < host {
+        return Commit::Refused(3);
+    }
+    if bad_run(pages) {
+        return Commit::Refused(6);
+    }
+    runs::commit_for(meta, size, host, clamp(pages), 77)
+}
+
+// A run that the direct calls hold.
+fn release_held(meta: &mut [u32], size: u32, first: u32, pages: u32) -> u32
+    requires { ⌜ BookIn (now meta) size × (first + pages ≤ size) ⌝ }
+    ensures { λ r. ⌜ Releases r (now (meta .exit)) (heldRelease size (now (meta .entry)) first pages) ⌝ }
+{
+    if give::give_fair(meta, size, pages) {
+        give::give(meta, size, first, pages);
+        return 0;
+    }
+    13
+}
+
+pub fn release(meta: &mut [u32], size: u32, host: u32, first: u64, pages: u64) -> u32
+    requires { ⌜ BookIn (now meta) size ⌝ }
+    ensures { λ r. ⌜ Releases r (now (meta .exit)) (releaseCall size (now (meta .entry)) host first pages) ⌝ }
+{
+    if 15 < host {
+        return 3;
+    }
+    if bad_run(pages) {
+        return 6;
+    }
+    if owners::held_direct(meta, size, first, pages) {
+        return release_held(meta, size, first as u32, pages as u32);
+    }
+    12
+}
+
+// What the settled growth answers.
+fn grow_of(c: Commit) -> Grow
+    ensures { λ r. ⌜ r ≡ growCommit c ⌝ }
+{
+    match c {
+        Commit::Refused(k) => Grow::Refused(k),
+        Commit::Run(_, _) => Grow::Yes,
+        Commit::Nothing => Grow::No,
+    }
+}
+
+// A run that the direct calls hold and that ends at page `end`, on a record in its ranges.
+fn grow_held(meta: &mut [u32], size: u32, host: u32, end: u32, pages: u32) -> Grow
+    requires { ⌜ BookIn (now meta) size × (recordFair size (now meta) ≡ true) × (pages ≤ 262145) ⌝ }
+    ensures { λ r. ⌜ Grows r (now (meta .exit)) (growActs size (now (meta .entry)) host end pages 77) ⌝ }
+{
+    let a = load::load_record(meta);
+    let q = Request {
+        size,
+        pages,
+        host,
+        owner: 77,
+        held: fields::arena::held(meta),
+    };
+    grow_of(growth::grow_run(meta, a, end, q))
+}
+
+fn grow_fair(meta: &mut [u32], size: u32, host: u32, end: u32, pages: u32) -> Grow
+    requires { ⌜ BookIn (now meta) size × (pages ≤ 262145) ⌝ }
+    ensures { λ r. ⌜ Grows r (now (meta .exit)) (fairGrow size (now (meta .entry)) host end pages) ⌝ }
+{
+    if load::record_fair(meta, size) {
+        return grow_held(meta, size, host, end, pages);
+    }
+    Grow::Refused(13)
+}
+
+fn bad_growth(old: u64, new: u64) -> bool
+    ensures { λ r. ⌜ r ≡ badGrowth old new ⌝ }
+{
+    if bad_run(old) {
+        return true;
+    }
+    if bad_run(new) {
+        return true;
+    }
+    new <= old
+}
+
+pub fn grow_frontier(meta: &mut [u32], size: u32, host: u32, first: u64, old: u64, new: u64) -> Grow
+    requires { ⌜ BookIn (now meta) size ⌝ }
+    ensures { λ r. ⌜ Grew r (now (meta .exit)) (growCall size (now (meta .entry)) host first old new) ⌝ }
+{
+    if 15 < host {
+        return Grow::Refused(3);
+    }
+    if bad_growth(old, new) {
+        return Grow::Refused(6);
+    }
+    if owners::held_direct(meta, size, first, old) {
+        return grow_fair(meta, size, host, (first + old) as u32, clamp(new - old));
+    }
+    Grow::Refused(12)
+}
+
+// Are the bytes the arena's. A sum that does not fit is never made.
+pub fn contains(meta: &[u32], size: u32, offset: u64, length: u64) -> bool
+    requires { ⌜ BookIn (now meta) size ⌝ }
+    ensures { λ r. ⌜ r ≡ containsCall size (now (meta .entry)) offset length ⌝ }
+{
+    if fields::arena::state(meta) != 1 {
+        return false;
+    }
+    let bytes = (size as u64) * 65_536;
+    if bytes < offset {
+        return false;
+    }
+    length <= bytes - offset
+}
+
+fn figures(meta: &[u32], size: u32) -> Figures
+    requires { ⌜ BookIn (now meta) size × (recordFair size (now meta) ≡ true) ⌝ }
+    ensures { λ r. ⌜ r ≡ figuresOf size (now (meta .entry)) ⌝ }
+{
+    let a = load::load_record(meta);
+    Figures {
+        commits: a.commits,
+        reuses: a.reuses,
+        abandoned: a.abandoned,
+        held: fields::arena::held(meta) as u64,
+        idle: (a.total as u64) + ((size - a.frontier) as u64),
+    }
+}
+
+pub fn report(meta: &[u32], size: u32) -> Report
+    requires { ⌜ BookIn (now meta) size ⌝ }
+    ensures { λ r. ⌜ r ≡ reportOf size (now (meta .entry)) ⌝ }
+{
+    if load::record_fair(meta, size) {
+        return Report::Told(figures(meta, size));
+    }
+    Report::Refused(13)
+}

@@ -1,0 +1,173 @@
+-- What a commit that answers a run leaves, on any words: the run lies below the frontier and the arena's end, its pages are the
+-- owner's, and no class's row is changed.
+--     Granted           that
+--     commit-granted    a commit's
+-- Assumes nothing.
+use Prim.Native.Nat.{ℕ, zero, suc, _+_, _-_, _≤_, _<_}
+use native.Mathlib.Omega.{arith}
+use native.Mathlib.Nat.{add-zero}
+use mathlib.Core.Bool.{Bool, true, false, cond, not, _&&_, _||_}
+use mathlib.Core.List.{List}
+use mathlib.Core.Option.{Option, none, some}
+use mathlib.Core.Path.{_≡_, refl, sym, ap, _∙_, subst}
+use lib.Dec.{eqb, ltb, leb}
+use lib.ListN.{length}
+use borrow.Author.Tests.{lt-ltb, le-leb, leb-true, eqb-true, eqb-false, ne-eqb}
+use Rattle.words.specs.Host.{commitGranted}
+use Rattle.fields.specs.Field.{Field, arena, memory, class, hole, page, out, slot, frontier, held, partial, owner, start, pages, get, put, ok, words}
+use Rattle.fields.proofs.Laws.{get-put-same, get-put-other, length-put}
+use Rattle.fields.proofs.Changes.{Changes, changes-none, changes-put}
+use Rattle.model.specs.HoleStore as Model
+use Rattle.model.specs.declared.Hole.{Hole}
+use Rattle.model.proofs.Counts.{by-cases}
+use Rattle.arena.specs.declared.Arena.{Arena}
+use Rattle.arena.specs.declared.Plan.{Plan}
+use Rattle.arena.specs.Store.{storeHole, storeCounts, storeTop}
+use Rattle.arena.specs.Record.{recordOf, storeRecord, advanced, counted}
+use Rattle.arena.specs.Fair.{recordFair, memoryFair}
+use Rattle.arena.specs.Owners.{own}
+use Rattle.arena.specs.Calls.{Committed, commitRefused, commitFor}
+use Rattle.arena.specs.Act.{rememberWord, withState, withHoles, cutWords, usedWords, drawWords, drawRecord, forgetWord, endNone, endRun, endGiven, settle, fromFrontier, commitDrawn, nextState, commitPlanned, planned, commitRead, commitRecalled, commitActs}
+use Rattle.arena.proofs.Frames.{isStored, isOwner, record-changes, own-changes}
+use Rattle.arena.proofs.Acts.{FairRecord, fair-record, commit-acts}
+use Rattle.arena.proofs.PlanLaws.{PlanFits, plan-fits}
+
+pub record Granted (n : ℕ) (b b′ : List ℕ) (m q w : ℕ) : Type 0 where
+  pub ends : q + m ≤ n
+  pub below : q + m ≤ get b′ (arena frontier)
+  pub bound : get b′ (arena frontier) ≤ n
+  pub owners : (i : ℕ) → i < m → get b′ (page owner (q + i)) ≡ w
+  pub rows : (c : ℕ) → ltb c 76 ≡ true → get b′ (class partial c) ≡ get b (class partial c)
+  pub long : length b′ ≡ length b
+
+-- ---- owners
+own-before : (b : List ℕ) (p q m w : ℕ) → p < q → get (own b q m w) (page owner p) ≡ get b (page owner p)
+unfolding own
+own-before b p q zero w h = refl
+own-before b p q (suc m) w h =
+    own-before (put b (page owner q) w) p (suc q) m w (omega arith)
+    ∙ get-put-other b (page owner q) (page owner p) w refl refl (rw (ne-eqb q p (λ e. omega arith)))
+
+own-at : (n : ℕ) (b : List ℕ) → leb (words n) (length b) ≡ true → (q m w i : ℕ) → q + m ≤ n → i < m → get (own b q m w) (page owner (q + i)) ≡ w
+unfolding own
+own-at n b hb q zero w i h l = absurd (omega arith)
+own-at n b hb q (suc m) w zero h l =
+    rw add-zero (own-before (put b (page owner q) w) q (suc q) m w (omega arith) ∙ get-put-same n b (page owner q) w hb (lt-ltb q n (omega arith)) refl)
+own-at n b hb q (suc m) w (suc i) h l =
+    ap (λ z. get (own (put b (page owner q) w) (suc q) m w) (page owner z)) (omega arith)
+    ∙ own-at n (put b (page owner q) w) (rw length-put hb) (suc q) m w i (omega arith) (omega arith)
+
+-- ---- the record
+record-frontier : (n : ℕ) (x : List ℕ) → leb (words n) (length x) ≡ true → (r : Arena) → get (storeRecord x r) (arena frontier) ≡ r .frontier
+unfolding storeTop storeCounts
+record-frontier n x hx r = simp (get-put-other, get-put-same n, length-put, hx)
+
+-- ---- the ends
+module _ (n : ℕ) (b : List ℕ) (hb : leb (words n) (length b) ≡ true) (m w : ℕ) where
+  abbrev Grants : Committed → Type 0
+  Grants o = (q : ℕ) → o .run ≡ some q → Granted n b (o .book) m q w
+
+  no-run : (o : Committed) → o .run ≡ none → Grants o
+  no-run o e q h = let z : _≡_ {A = ℕ} 0 1 = cc in absurd (omega arith)
+
+  either : (t : Bool) (x y : Committed) → (t ≡ true → Grants x) → Grants y → Grants (cond t x y)
+  either true x y f g = f refl
+  either false x y f g = g
+
+  same-run : (x y : ℕ) → _≡_ {A = Option ℕ} (some x) (some y) → x ≡ y
+  same-run x y e = cc
+
+  run-granted : (x : List ℕ) (r : Arena) (f : Bool) (d q : ℕ) → Changes isStored b x → q + m ≤ r .frontier → r .frontier ≤ n
+      → Granted n b (put (own (storeRecord x (counted f r)) q m w) (arena held) (d + m)) m q w
+  run-granted x r f d q ch l u =
+      let y = storeRecord x (counted f r) in
+      let z = own y q m w in
+      let hx : leb (words n) (length x) ≡ true = rw (ch .long) hb in
+      let ry : Changes isStored b y = record-changes b x (counted f r .commits) (counted f r .reuses) (counted f r .abandoned) (r .state) (r .frontier) (r .count) (r .total) ch in
+      let hy : leb (words n) (length y) ≡ true = rw (ry .long) hb in
+      let oz = own-changes y y q m w (changes-none isOwner y) in
+      let fr : get (put z (arena held) (d + m)) (arena frontier) ≡ r .frontier = get-put-other z (arena held) (arena frontier) (d + m) refl refl refl ∙ oz .kept (arena frontier) refl refl ∙ record-frontier n x hx (counted f r) in
+      record {
+        ends = omega arith;
+        below = rw fr l;
+        bound = rw fr u;
+        owners = λ i h. get-put-other z (arena held) (page owner (q + i)) (d + m) refl refl refl ∙ own-at n y hy q m w i (omega arith) h;
+        rows = λ c hc. get-put-other z (arena held) (class partial c) (d + m) refl hc refl ∙ oz .kept (class partial c) hc refl ∙ ry .kept (class partial c) hc refl;
+        long = length-put z (arena held) (d + m) ∙ oz .long ∙ ry .long;
+      }
+
+  module _ (h d : ℕ) where
+    settle-granted : (x : List ℕ) (r : Arena) (q : ℕ) (f : Bool) → Changes isStored b x → q + m ≤ r .frontier → r .frontier ≤ n → Grants (settle x r m q f h w d)
+    unfolding settle endRun endGiven
+    settle-granted x r q f ch l u =
+        by-cases (commitGranted h)
+        (λ t. rw t (λ p e. subst (λ z. Granted n b (put (own (storeRecord x (counted f r)) q m w) (arena held) (d + m)) m z w) (same-run q p e) (run-granted x r f d q ch l u)))
+        (λ t. rw t (no-run (endGiven x r m q f) refl))
+
+    remember-changes : (x : List ℕ) (k v : ℕ) → Changes isStored b x → Changes isStored b (rememberWord x k v)
+    unfolding rememberWord
+    remember-changes x k v ch = by-cases (leb k 128) (λ t. rw t (changes-put isStored b x (memory k) v (lt-ltb k 129 (omega (arith, leb-true k 128 t))) refl ch)) (λ t. rw t ch)
+
+    hole-changes : (x : List ℕ) (i : ℕ) (y : Hole) → i < 4096 → Changes isStored b x → Changes isStored b (storeHole x i y)
+    hole-changes x i y l ch =
+        let o : ltb i 4096 ≡ true = lt-ltb i 4096 l in
+        changes-put isStored b _ (hole pages i) (y .pages) o refl (changes-put isStored b x (hole start i) (y .first) o refl ch)
+
+    draw-changes : (p : Plan) → p .code - 1 < 4096 → Changes isStored b (drawWords b m p)
+    unfolding drawWords cutWords usedWords
+    draw-changes p l =
+        by-cases (ltb m (p .pages))
+        (λ t. rw t (remember-changes _ (p .pages - m) (p .code) (remember-changes _ (p .pages) (p .lowest) (remember-changes _ m 0 (hole-changes b (p .code - 1) (Model.hole (p .first + m) (p .pages - m)) l (changes-none isStored b))))))
+        (λ t. rw t (remember-changes _ m (p .lowest) (hole-changes b (p .code - 1) (Model.hole (p .lastfirst) (p .lastpages)) l (changes-none isStored b))))
+
+    forget-changes : (a : Arena) → Changes isStored b (forgetWord b a m)
+    unfolding forgetWord
+    forget-changes a = by-cases (eqb (a .count) 0) (λ t. rw t (changes-none isStored b)) (λ t. rw t (remember-changes b m 0 (changes-none isStored b)))
+
+    frontier-granted : (x : List ℕ) (a : Arena) → Changes isStored b x → Grants (fromFrontier n x a m h w d)
+    unfolding fromFrontier endNone
+    frontier-granted x a ch =
+        by-cases (leb (a .frontier + m) n)
+        (λ t. rw t (settle-granted x (advanced m a) (a .frontier) true ch (omega arith) (leb-true (a .frontier + m) n t)))
+        (λ t. rw t (no-run (endNone x a) refl))
+
+    drawn-frontier : (a : Arena) (p : Plan) → drawRecord a m p .frontier ≡ a .frontier
+    unfolding drawRecord
+    drawn-frontier a p = by-cases (ltb m (p .pages)) (λ t. rw t) (λ t. rw t)
+
+    drawn-granted : (a : Arena) (p : Plan) → a .frontier ≤ n → ((p .code ≡ 0 → ⊥) → (p .code ≤ 4096) × (p .first + m ≤ a .frontier)) → Grants (commitDrawn n b a p m h w d)
+    unfolding commitDrawn
+    drawn-granted a p u fits =
+        by-cases (eqb (p .code) 0)
+        (λ t. rw t (frontier-granted (forgetWord b a m) a (forget-changes a)))
+        (λ t.
+        let k = fits (eqb-false (p .code) 0 t) in
+        let e = drawn-frontier a p in
+        rw t (settle-granted (drawWords b m p) (drawRecord a m p) (p .first) false (draw-changes p (omega (arith, k .0))) (rw e (k .1)) (rw e u)))
+
+    planned-granted : (a : Arena) (p : Plan) → a .frontier ≤ n → ((p .code ≡ 0 → ⊥) → (p .code ≤ 4096) × (p .first + m ≤ a .frontier)) → Grants (commitPlanned n b a p m h w d)
+    unfolding commitPlanned endNone
+    planned-granted a p u fits =
+        by-cases (eqb (nextState (a .state) h) 2)
+        (λ t. rw t (no-run (endNone b (withState (nextState (a .state) h) a)) refl))
+        (λ t. rw t (drawn-granted (withState (nextState (a .state) h) a) p u fits))
+
+    read-granted : FairRecord n b → Grants (commitRead n b h m w d)
+    unfolding commitRead
+    read-granted k =
+        either (planned b m .fair) (commitPlanned n b (recordOf b) (planned b m) m h w d) (commitRefused b 13)
+        (λ t. planned-granted (recordOf b) (planned b m) (k .frontier) (λ z. let f = plan-fits b m (planned b m) refl t z in (omega (arith, f .stored, k .holes), omega (arith, f .enough, f .ends))))
+        (no-run (commitRefused b 13) refl)
+
+    recalled-granted : FairRecord n b → Grants (commitRecalled n b h m w d)
+    unfolding commitRecalled
+    recalled-granted k = by-cases (memoryFair b m) (λ t. rw t (read-granted k)) (λ t. rw t (no-run (commitRefused b 13) refl))
+
+  acts-granted : (h : ℕ) → Grants (commitActs n b h m w)
+  unfolding commitActs
+  acts-granted h = by-cases (recordFair n b) (λ t. rw t (recalled-granted h (get b (arena held)) (fair-record n b t))) (λ t. rw t (no-run (commitRefused b 13) refl))
+
+  pub commit-granted : (h q : ℕ) → commitFor n b h m w .run ≡ some q → Granted n b (commitFor n b h m w .book) m q w
+  commit-granted h q e =
+      let a = commit-acts n b hb h m w in
+      subst (λ o. Granted n b (o .book) m q w) a (acts-granted h q (ap (λ o. o .run) a ∙ e))

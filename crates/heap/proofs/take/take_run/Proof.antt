@@ -1,0 +1,16 @@
+use borrow.Author.Needs.{needs}
+use Rattle.heap.proofs.TakeSteps.{run-new, run-supply, run-links, run-fills, run-took}
+use Rattle.heap.proofs.take.take_run.Statement.{statement}
+use Rattle.heap.proofs.take.take_run.Tie as tie
+
+pub take-run-spec : {M : Type 1} → statement M
+take-run-spec =
+    tie.close
+    (tie.spec
+    (λ c κs. search run-new)
+    (λ c κs. search run-supply)
+    (λ c κs. search run-links)
+    (λ c κs. search run-fills)
+    (λ c. search needs)
+    (λ c. search needs)
+    (λ c. search run-took))

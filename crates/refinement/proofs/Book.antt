@@ -1,0 +1,50 @@
+-- The whole book after a call that changed words of one class only. Assumes nothing.
+--     setting-of           the standing facts, of a represented book
+--     represents-class     the book stands for the heap with that class's new state
+use Prim.Native.Nat.{ℕ}
+use native.Mathlib.Omega.{arith}
+use native.Mathlib.Decide.{ℕ-discrete}
+use mathlib.Core.Bool.{true, false}
+use mathlib.Core.List.{List}
+use mathlib.Core.Path.{_≡_, sym, subst}
+use lib.Dec.{ltb}
+use borrow.Author.Tests.{eq-eqb, ne-eqb, le-ltb}
+use Rattle.classes.specs.Shape.{shapeOf}
+use Rattle.classes.proofs.Shapes.{shape-sound}
+use Rattle.fields.specs.Field.{arena, class, frontier, get}
+use Rattle.model.specs.Lists.{update}
+use Rattle.model.specs.Class.{Class}
+use Rattle.model.specs.Heap.{Heap}
+use Rattle.refinement.specs.Represents.{StateRep, Represents}
+use Rattle.refinement.proofs.ArenaReached.{Reached, heapOf}
+use Rattle.refinement.proofs.ArenaFair.{loads-frontier}
+use Rattle.refinement.proofs.ArenaSteps.{rep-classes}
+use Rattle.refinement.proofs.GiveClass.{arena-only}
+use Rattle.refinement.proofs.Basics.{Setting}
+use Rattle.refinement.proofs.Frames.{Only}
+use Rattle.refinement.proofs.Kept.{class-beside}
+
+-- every class but c, and c
+pub classes-with : (n : ℕ) (b : List ℕ) (H : Heap) (c : ℕ) (s : Class) → StateRep n b c (shapeOf c) s
+    → ((d : ℕ) → ltb d 76 ≡ true → (d ≡ c → ⊥) → StateRep n b d (shapeOf d) (H .classes d))
+    → (d : ℕ) → ltb d 76 ≡ true → StateRep n b d (shapeOf d) (update (H .classes) c s d)
+classes-with n b H c s new others d hd =
+    elim (ℕ-discrete d c) [
+      | yes e ↦ rw (eq-eqb d c e) (subst (λ (k : ℕ). StateRep n b k (shapeOf k) s) (sym e) new)
+      | no e ↦ rw (ne-eqb d c e) (others d hd e)
+    ]
+
+module _ (n : ℕ) (b : List ℕ) (H : Heap) (R : Represents n b H) where
+  pub setting-of : (c : ℕ) → ltb c 76 ≡ true → Setting n b c (shapeOf c)
+  setting-of c hc = record { long = R .arena .long; row = hc; shape = shape-sound c }
+
+  module _ (ok : Reached n H) where
+    pub frontier-in : ltb n (get b (arena frontier)) ≡ false
+    frontier-in = le-ltb n (get b (arena frontier)) (omega (arith, loads-frontier b (H .arena) (R .arena .loads), ok .bound))
+
+    pub represents-class : (b′ : List ℕ) (c : ℕ) (s : Class) → Only c b b′ → StateRep n b′ c (shapeOf c) s
+        → Represents n b′ (heapOf (H .arena) (H .holder) (update (H .classes) c s))
+    represents-class b′ c s h new = record {
+      arena = rep-classes n b′ H (update (H .classes) c s) (arena-only n b b′ H c ok h (R .arena));
+      classes = classes-with n b′ H c s new (λ d hd ne. class-beside d c (shape-sound d) hd ne h (R .classes d hd));
+    }

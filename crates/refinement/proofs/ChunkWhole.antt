@@ -1,0 +1,235 @@
+-- A group release, whole: on a book that stands for a reached heap it has the model's answer, is never refused by number 13, and
+-- leaves a book that stands for the model's next heap. n is at most the longest arena, c a small class. Assumes nothing.
+--     chunks-fair      number 13's tests pass
+--     chunks-whole     every group release, refused or not, of any fates, the gives included
+--     chunks-after     the same after any history
+use Prim.Native.Nat.{ℕ, _+_, _≤_}
+use native.Mathlib.Omega.{arith}
+use mathlib.Core.Bool.{Bool, true, false, cond, not, _&&_, _||_, false≢true}
+use mathlib.Core.List.{List, [], _∷_, _++_, map}
+use mathlib.Core.Option.{Option, none, some}
+use mathlib.Core.Path.{_≡_, refl, sym, ap, _∙_, subst}
+use lib.Dec.{eqb, ltb}
+use lib.ListN.{length, drop, length-append}
+use borrow.Author.Tests.{eqb-true, eq-eqb, ltb-true, lt-ltb, not-false}
+use Rattle.words.specs.Word.{chunkKind, countOf, pageOf}
+use Rattle.classes.specs.Shape.{smallShape, shapeOf}
+use Rattle.fields.specs.Field.{arena, class, page, free, carved, get}
+use Rattle.fields.specs.Ranges.{maxPages}
+use Rattle.fields.proofs.Changes.{changes-none}
+use Rattle.model.specs.Lists.{All, every, distinct, isNil}
+use Rattle.model.specs.Calls as Calls
+use Rattle.model.specs.Calls.{Call, fates}
+use Rattle.model.specs.Page.{isMedium, noneOut, reused, returned}
+use Rattle.model.specs.Class.{Ask, done, refuse, thawed}
+use Rattle.model.specs.Release.{Site, locate, ofKind}
+use Rattle.model.specs.Chunks as Model
+use Rattle.model.specs.Chunks.{startsAt, fitsOn, chunked, chunksMax, answer, hostMax}
+use Rattle.model.specs.Heap.{Heap, offer, finish, interact, classCall, heldPages}
+use Rattle.model.specs.History.{heapAfter}
+use Rattle.model.proofs.Counts.{by-cases, and-l, and-r}
+use Rattle.model.proofs.Find.{pageIn, located-first}
+use Rattle.heap.specs.Release.{outAt, pageFair}
+use Rattle.heap.specs.Chunks.{blocksOn, chunksMatch, returnsAll, runsGiven, pagesGiven, chunksFair, settleChunks, giveRuns, ChunksReleased, chunksNone, releaseChunks, chunksCall}
+use Rattle.refinement.specs.Represents.{Represents}
+use Rattle.refinement.specs.Classes.{Follows}
+use Rattle.refinement.specs.Releases.{chunksReply}
+use Rattle.refinement.proofs.Basics.{Setting, setting-kept, bool-eq}
+use Rattle.refinement.proofs.Frames.{ofClass}
+use Rattle.refinement.proofs.ArenaReached.{Reached, reached-after}
+use Rattle.refinement.proofs.ArenaFair.{give-passes}
+use Rattle.refinement.proofs.Draw.{free-length}
+use Rattle.refinement.proofs.Book.{setting-of, represents-class}
+use Rattle.refinement.proofs.Found.{Located, located, located-passes, At, found-at, placed-rep, outs-here}
+use Rattle.refinement.proofs.Returned.{none-count, return-only, return-rep, return-room}
+use Rattle.refinement.proofs.Release.{shape-limits, length-firsts}
+use Rattle.refinement.proofs.ReleaseFair.{row-fair, page-fair, frontier-fair}
+use Rattle.refinement.proofs.ReleaseGives.{all-held, all-given}
+use Rattle.refinement.proofs.ChunkTests.{same-blocks, chunks-same}
+use Rattle.refinement.proofs.Chunks.{every-blocks, once-blocks, Waits, ChunksRep, chunks-rep}
+
+pub small-shape : (c : ℕ) → ltb c 64 ≡ true → isMedium (shapeOf c) ≡ false
+unfolding shapeOf smallShape
+small-shape c e = rw e
+
+small-class : (c : ℕ) → ltb c 64 ≡ true → ltb c 76 ≡ true
+small-class c e = lt-ltb c 76 (omega (arith, ltb-true c 64 e))
+
+module _ (n : ℕ) (hn : n ≤ maxPages) (b : List ℕ) (H : Heap) (R : Represents n b H) (ok : Reached n H) (c : ℕ) (hs : ltb c 64 ≡ true) where
+  hc : ltb c 76 ≡ true
+  hc = small-class c hs
+
+  s : Setting n b c (shapeOf c)
+  s = setting-of n b H R c hc
+
+  -- ---- the list has passed number 10, and the chunks number 11
+  module _ (ws : List ℕ) (k : every (ofKind (shapeOf c .kind)) ws ≡ true) (o : every (outAt n b c (shapeOf c)) ws ≡ true) (once : distinct ws ≡ true) where
+    -- a chunk that fits
+    record Fits (g : ℕ) : Type 0 where
+      site : Site
+      found : pageIn (locate (startsAt (pageOf g)) (H .classes c)) ≡ some (site .page)
+      at : At n b c (shapeOf c) [] site
+      here : site .page .first ≡ pageOf g
+      number : countOf g ≡ length (Model.blocksOn (shapeOf c) ws (site .page))
+
+    fits-at : (g : ℕ) (x : Option Site) → locate (startsAt (pageOf g)) (H .classes c) ≡ x → Located (startsAt (pageOf g)) (H .classes c) x → fitsOn (shapeOf c) ws g x ≡ true → Fits g
+    fits-at g none i y e = absurd (false≢true e)
+    fits-at g (some x) i y e = record {
+      site = x;
+      found = ap pageIn i;
+      at = found-at {zs = []} (R .classes c hc) y;
+      here = eqb-true (x .page .first) (pageOf g) (located-passes y);
+      number = eqb-true (countOf g) (length (Model.blocksOn (shapeOf c) ws (x .page))) (and-r (not (eqb (countOf g) 0)) (eqb (countOf g) (length (Model.blocksOn (shapeOf c) ws (x .page)))) e);
+    }
+
+    module _ (g : ℕ) (f : Fits g) where
+      room : length (f .site .page .free) + countOf g ≤ f .site .page .carved
+      room =
+          let bs = Model.blocksOn (shapeOf c) ws (f .site .page) in
+          omega (arith, f .number, return-room s hn (placed-rep (f .at .placed)) (Model.blocksOn (shapeOf c) ws (f .site .page)) (every-blocks (shapeOf c) ws (f .site .page)) (once-blocks (shapeOf c) ws once (f .site .page)))
+
+      fair : pageFair b (shapeOf c) (countOf g) (pageOf g) ≡ true
+      fair = subst (λ (q : ℕ). pageFair b (shapeOf c) (countOf g) q ≡ true) (f .here) (page-fair s (countOf g) room (f .at .placed))
+
+      all-back : returnsAll b g ≡ noneOut (shapeOf c) (returned (Model.blocksOn (shapeOf c) ws (f .site .page)) (f .site .page))
+      unfolding returned
+      all-back =
+          let p = f .site .page in
+          let bs = Model.blocksOn (shapeOf c) ws (f .site .page) in
+          let r = placed-rep (f .at .placed) in
+          let outs = every-blocks (shapeOf c) ws (f .site .page) in
+          let few = once-blocks (shapeOf c) ws once (f .site .page) in
+          let s₁ = setting-kept _ (return-only s hn r bs outs few .long) s in
+          let h : get b (page free (pageOf g)) ≡ length (f .site .page .free) = ap (λ q. get b (page free q)) (sym (f .here)) ∙ r .holds .height ∙ sym (free-length r) in
+          let v : get b (page carved (pageOf g)) ≡ f .site .page .carved = ap (λ q. get b (page carved q)) (sym (f .here)) ∙ r .holds .ready in
+          rw (h, v) (turned (length (p .free)) (countOf g) (p .carved) (length (bs ++ p .free)) (omega (arith, length-append bs (p .free), f .number))
+          ∙ sym (none-count s₁ hn (return-rep s hn r bs outs few)))
+        where
+          turned : (a d e m : ℕ) → a + d ≡ m → eqb (a + d) e ≡ eqb e m
+          turned a d e m z =
+              bool-eq (eqb (a + d) e) (eqb e m) (λ u. eq-eqb e m (omega (arith, eqb-true (a + d) e u))) (λ u. eq-eqb (a + d) e (omega (arith, eqb-true e m u)))
+
+      waits : Waits (shapeOf c) ws b (H .classes c) g
+      waits = record {
+        page = f .site .page;
+        found = sym (located-first (startsAt (pageOf g)) (H .classes c)) ∙ f .found;
+        blocks = same-blocks s hn (placed-rep (f .at .placed)) ws k o ∙ ap (blocksOn b ws) (f .here);
+        all = all-back;
+      }
+
+    fitting : (g : ℕ) → Model.chunkFits (shapeOf c) (H .classes c) ws g ≡ true → Fits g
+    unfolding Model.chunkFits
+    fitting g e = fits-at g (locate (startsAt (pageOf g)) (H .classes c)) refl (located (startsAt (pageOf g)) (H .classes c)) e
+
+    all-fair : (gs : List ℕ) → every (Model.chunkFits (shapeOf c) (H .classes c) ws) gs ≡ true → every (λ g. pageFair b (shapeOf c) (countOf g) (pageOf g)) gs ≡ true
+    all-fair [] e = refl
+    all-fair (g ∷ gs) e =
+        let t = Model.chunkFits (shapeOf c) (H .classes c) ws in
+        rw (fair g (fitting g (and-l (t g) (every t gs) e)), all-fair gs (and-r (t g) (every t gs) e))
+
+    all-wait : (gs : List ℕ) → every (Model.chunkFits (shapeOf c) (H .classes c) ws) gs ≡ true → All (Waits (shapeOf c) ws b (H .classes c)) gs
+    all-wait [] e = tt
+    all-wait (g ∷ gs) e =
+        let t = Model.chunkFits (shapeOf c) (H .classes c) ws in
+        (waits g (fitting g (and-l (t g) (every t gs) e)), all-wait gs (and-r (t g) (every t gs) e))
+
+    module _ (h : ℕ) (gs : List ℕ) (fits : every (Model.chunkFits (shapeOf c) (H .classes c) ws) gs ≡ true) (apart : distinct (map pageOf gs) ≡ true) where
+      all-settled : ChunksRep n c (shapeOf c) b [] (settleChunks b c (shapeOf c) h ws gs) (Model.settleChunks (shapeOf c) h ws (H .classes c) gs)
+          (runsGiven b (shapeOf c) gs (length (H .classes c .empty)) (length (H .classes c .cold)))
+      all-settled = chunks-rep hn (shape-limits c) (small-shape c hs) h ws once b s gs apart b (H .classes c) [] (changes-none (ofClass b c) b) (R .classes c hc) (all-wait gs fits)
+
+      given-held : pagesGiven b c (shapeOf c) gs ≤ heldPages n H
+      given-held =
+          let r = R .classes c hc in
+          let w = all-settled in
+          rw (r .store .number, length-firsts (reused (shapeOf c)) (H .classes c .empty), r .beside .number, length-firsts (thawed (shapeOf c)) (H .classes c .cold), w .number)
+          (all-held n b H R ok c hc (settleChunks b c (shapeOf c) h ws gs .book) (w .only) (Model.settleChunks (shapeOf c) h ws (H .classes c) gs .class) (w .pages) (w .rep))
+
+      chunks-fair : chunksFair n b c (shapeOf c) gs ≡ true
+      unfolding chunksFair
+      chunks-fair =
+          rw (
+            frontier-fair n b H R ok c,
+            all-fair gs fits,
+            row-fair s (R .classes c hc),
+            give-passes n b H (R .arena) ok (pagesGiven b c (shapeOf c) gs) given-held,
+          )
+          (by-cases (eqb (pagesGiven b c (shapeOf c) gs) 0) (λ e. rw e) (λ e. rw e))
+
+      settled-follows : (fs : List ℕ)
+          → (let w = settleChunks b c (shapeOf c) h ws gs in
+          let x = Model.settleChunks (shapeOf c) h ws (H .classes c) gs in
+          Follows n (chunksReply (record { code = 0; book = giveRuns (w .book) (shapeOf c .pages) (w .gives); fates = w .fates ++ drop (length gs) fs }))
+          (interact n H c h (done (record { class = x .class; answer = fates (x .fates ++ drop (length gs) fs); gives = x .gives }))))
+      unfolding interact offer finish
+      settled-follows fs =
+          let w = all-settled in
+          rw (w .fates, w .gives)
+          (record {
+            answer = refl;
+            fair = λ e. omega arith;
+            heap = all-given n b H R ok c hc (settleChunks b c (shapeOf c) h ws gs .book) (w .only) (Model.settleChunks (shapeOf c) h ws (H .classes c) gs .class) (w .pages) (w .rep)
+                (Model.settleChunks (shapeOf c) h ws (H .classes c) gs .gives) (w .named);
+          })
+
+  -- ---- the whole call
+  module _ (h : ℕ) (ws gs fs : List ℕ) where
+    denied : (k : ℕ) → eqb k 0 ≡ false → (k ≡ 13 → ⊥) → Follows n (chunksReply (chunksNone b fs k)) (interact n H c h (refuse (H .classes c) k))
+    unfolding interact offer finish
+    denied k e ne = record {
+      answer = rw e;
+      fair = ne;
+      heap = represents-class n b H R ok b c (H .classes c) (changes-none (ofClass b c) b) (R .classes c hc);
+    }
+
+    follows-cond : (t : Bool) (w w′ : ChunksReleased) (x x′ : Ask) → (t ≡ true → Follows n (chunksReply w) (interact n H c h x))
+        → (t ≡ false → Follows n (chunksReply w′) (interact n H c h x′)) → Follows n (chunksReply (cond t w w′)) (interact n H c h (cond t x x′))
+    follows-cond true w w′ x x′ f g = f refl
+    follows-cond false w w′ x x′ f g = g refl
+
+    -- from number 11 on
+    past-ten : every (ofKind (shapeOf c .kind)) ws ≡ true → every (outAt n b c (shapeOf c)) ws ≡ true → distinct ws ≡ true
+        → Follows n (chunksReply
+        (cond (not (chunksMatch b ws gs)) (chunksNone b fs 11)
+        (cond (not (chunksFair n b c (shapeOf c) gs)) (chunksNone b fs 13)
+        (let w = settleChunks b c (shapeOf c) h ws gs in
+        record { code = 0; book = giveRuns (w .book) (shapeOf c .pages) (w .gives); fates = w .fates ++ drop (length gs) fs }))))
+        (interact n H c h
+        (cond (not (distinct (map pageOf gs) && (every (Model.chunkFits (shapeOf c) (H .classes c) ws) gs && every (chunked (shapeOf c) (H .classes c) gs) ws))) (refuse (H .classes c) 11)
+        (let x = Model.settleChunks (shapeOf c) h ws (H .classes c) gs in
+        done (record { class = x .class; answer = fates (x .fates ++ drop (length gs) fs); gives = x .gives }))))
+    past-ten k o once =
+        let t₁ = distinct (map pageOf gs) in
+        let t₂ = every (Model.chunkFits (shapeOf c) (H .classes c) ws) gs in
+        let t₃ = every (chunked (shapeOf c) (H .classes c) gs) ws in
+        rw (chunks-same s hn (H .classes c) (R .classes c hc) ws k o gs)
+        (follows-cond (not (t₁ && (t₂ && t₃))) _ _ _ _ (λ e. denied 11 refl (λ z. omega arith))
+        (λ e. let u = not-false (t₁ && (t₂ && t₃)) e in
+        let fits = and-l t₂ t₃ (and-r t₁ (t₂ && t₃) u) in
+        let apart = and-l t₁ (t₂ && t₃) u in
+        rw (chunks-fair ws k o once h gs fits apart) (settled-follows ws k o once h gs fits apart fs)))
+
+    chunks-follow : Follows n (chunksReply (releaseChunks n b c (shapeOf c) h ws gs fs)) (interact n H c h (Model.releaseChunks (shapeOf c) h (H .classes c) ws gs fs))
+    unfolding releaseChunks Model.releaseChunks
+    chunks-follow =
+        let sh = shapeOf c in
+        let t = H .classes c in
+        let k₁ = every (ofKind (shapeOf c .kind)) ws in
+        let k₂ = every (ofKind chunkKind) gs in
+        follows-cond (isNil ws || isNil gs) _ _ _ _ (λ e. denied 7 refl (λ z. omega arith))
+        (λ e. follows-cond (ltb chunksMax (length gs) || ltb (length fs) (length gs)) _ _ _ _ (λ e. denied 8 refl (λ z. omega arith))
+        (λ e. follows-cond (not (k₁ && k₂)) _ _ _ _ (λ e. denied 9 refl (λ z. omega arith))
+        (λ e. let k = and-l k₁ k₂ (not-false (k₁ && k₂) e) in
+        rw (← (outs-here s hn (H .classes c) (R .classes c hc) ws k))
+        (follows-cond (not (every (outAt n b c (shapeOf c)) ws && distinct ws)) _ _ _ _ (λ e. denied 10 refl (λ z. omega arith))
+        (λ e. let u = not-false (every (outAt n b c sh) ws && distinct ws) e in
+        past-ten k (and-l (every (outAt n b c sh) ws) (distinct ws) u) (and-r (every (outAt n b c sh) ws) (distinct ws) u))))))
+
+    pub chunks-whole : Follows n (chunksReply (chunksCall n b c (shapeOf c) h ws gs fs)) (classCall n H c (Calls.giveChunks h ws gs fs))
+    unfolding chunksCall classCall answer
+    chunks-whole = follows-cond (ltb hostMax h) _ _ _ _ (λ e. denied 3 refl (λ z. omega arith)) (λ e. chunks-follow)
+
+-- after every history on an arena of n pages
+pub chunks-after : (n : ℕ) → n ≤ maxPages → (xs : List Call) (b : List ℕ) → Represents n b (heapAfter n xs) → (c : ℕ) → ltb c 64 ≡ true → (h : ℕ) (ws gs fs : List ℕ)
+    → Follows n (chunksReply (chunksCall n b c (shapeOf c) h ws gs fs)) (classCall n (heapAfter n xs) c (Calls.giveChunks h ws gs fs))
+chunks-after n hn xs b R c hs h ws gs fs = chunks-whole n hn b (heapAfter n xs) R (reached-after n xs) c hs h ws gs fs

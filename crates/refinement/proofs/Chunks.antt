@@ -1,0 +1,231 @@
+-- The chunks of a group release, one after the other: fates, runs for the arena and book are the model's. Assumes nothing.
+--     settle-skips     settling one page leaves every other page where the model finds it
+--     settle-counts    what it adds to the stores and to the runs for the arena
+--     Waits            a chunk whose page has its blocks out, whatever the chunks before it did
+--     chunks-rep       all chunks
+use Prim.Native.Nat.{ℕ, _+_, _≤_}
+use native.Mathlib.Omega.{arith}
+use mathlib.Core.Bool.{Bool, true, false, cond, not, true≢false}
+use mathlib.Core.List.{List, [], _∷_, _++_, map, append-assoc, append-nil}
+use mathlib.Core.Option.{Option, none, some, Option·none-ne-some, Option·some-injective}
+use mathlib.Core.Path.{_≡_, refl, sym, ap, _∙_, subst}
+use lib.Dec.{eqb, ltb}
+use lib.ListN.{length}
+use borrow.Author.Tests.{eqb-true, ne-eqb, not-true}
+use Rattle.words.specs.Word.{pageOf}
+use Rattle.classes.specs.declared.Shape.{Shape}
+use Rattle.fields.specs.Ranges.{maxPages}
+use Rattle.model.specs.Lists.{All, every, elem, filter, distinct, count}
+use Rattle.model.specs.Page.{Page, isMedium, isOut, noneOut, returned, retire}
+use Rattle.model.specs.Class.{Class}
+use Rattle.model.specs.Release as Release
+use Rattle.model.specs.Release.{Site, Settled, inPartial, inFull, locate, park, settle}
+use Rattle.model.specs.Chunks as Model
+use Rattle.model.specs.Chunks.{startsAt, settleChunk, AllSettled}
+use Rattle.model.proofs.Counts.{by-cases, and-l, and-r, filter-le, distinct-count}
+use Rattle.model.proofs.Find.{firstOf, pageIn, located-first, Skips, partial-skips, full-skips}
+use Rattle.pages.specs.Runs.{flag}
+use Rattle.pages.specs.Stack.{indexOf}
+use Rattle.heap.specs.Release.{startOf, Released, keepsEmpty, spotOf}
+use Rattle.heap.specs.Chunks as Words
+use Rattle.heap.specs.Chunks.{blocksOn, returnsAll, runsGiven, chunkBackAt, givesOf, settleChunks}
+use Rattle.refinement.specs.Represents.{firsts}
+use Rattle.refinement.proofs.Basics.{Setting, setting-kept}
+use Rattle.refinement.proofs.Frames.{Only, only-owns, only-trans}
+use Rattle.refinement.proofs.Moves.{full-in}
+use Rattle.refinement.proofs.Found.{Located, inList, inNone, located, located-passes, Away, found-at}
+use Rattle.refinement.proofs.Release.{Limits, SettledRep, stays, goes, settle-chunk}
+
+-- what settling a page adds, where e empty and k cold pages were: a page to the store that the spot names, or a run for the arena
+record Adds (e k spot : ℕ) (gone : Bool) (y : Settled) : Type 0 where
+  empty : length (y .class .empty) ≡ cond gone (e + flag (eqb spot 0)) e
+  cold : length (y .class .cold) ≡ cond gone (k + flag (eqb spot 1)) k
+  gives : length (y .gives) ≡ cond gone (flag (eqb spot 2)) 0
+
+-- ---- the model's settling of one page
+module _ (sh : Shape) (h : ℕ) where
+  park-skips : (s : Class) (p : Page) (u : Page → Bool) → firstOf u (park sh h s p .class) ≡ firstOf u s
+  unfolding park
+  park-skips s p u = by-cases (Release.keepsEmpty sh s) (λ e. rw e) (λ e. by-cases (Release.keepsCold sh s) (λ d. rw (e, d)) (λ d. rw (e, d)))
+
+  skips : {t : Page → Bool} {s : Class} {x : Site} → Located t s (some x) → Skips s x
+  skips {t} {s} (inList f k) = partial-skips t s f k
+  skips {t} {s} (inNone f k) = full-skips t s f k
+
+  settle-skips : {t : Page → Bool} {s : Class} {x : Site} → Located t s (some x) → (ws : List ℕ) (r : ℕ) → eqb (x .page .first) r ≡ false
+      → firstOf (startsAt r) (settle sh h true ws x .class) ≡ firstOf (startsAt r) s
+  unfolding settle returned
+  settle-skips {s = s} {x = x} y ws r ne =
+      let k = skips y in
+      by-cases (noneOut sh (returned ws (x .page)))
+      (λ e. rw e (park-skips (x .without) (retire (x .page)) (startsAt r) ∙ k .without (startsAt r) ne))
+      (λ e. rw e (k .with (startsAt r) (returned ws (x .page)) ne ne))
+
+  park-adds : (s : Class) (p : Page) → Adds (length (s .empty)) (length (s .cold)) (spotOf sh (length (s .empty)) (length (s .cold))) true (Release.markRetired (park sh h s p))
+  unfolding park spotOf
+  park-adds s p =
+      by-cases (keepsEmpty sh (length (s .empty)))
+      (λ e. rw e (record { empty = omega arith; cold = omega arith; gives = refl }))
+      (λ e. by-cases (ltb (length (s .cold)) (sh .colds))
+      (λ d. rw (e, d) (record { empty = omega arith; cold = omega arith; gives = refl }))
+      (λ d. rw (e, d) (record { empty = omega arith; cold = omega arith; gives = refl })))
+
+  settle-adds : {t : Page → Bool} {s : Class} {x : Site} → Located t s (some x) → (ws : List ℕ)
+      → Adds (length (s .empty)) (length (s .cold)) (spotOf sh (length (s .empty)) (length (s .cold))) (noneOut sh (returned ws (x .page))) (settle sh h true ws x)
+  unfolding settle inPartial inFull
+  settle-adds {s = s} (inList f k) ws =
+      by-cases (noneOut sh (returned ws (f .page))) (λ e. rw e (park-adds (inPartial s f .without) (retire (f .page))))
+      (λ e. rw e (record { empty = refl; cold = refl; gives = refl }))
+  settle-adds {s = s} (inNone f k) ws =
+      by-cases (noneOut sh (returned ws (f .page))) (λ e. rw e (park-adds (inFull s f .without) (retire (f .page))))
+      (λ e. rw e (record { empty = refl; cold = refl; gives = refl }))
+
+-- ---- lists of blocks
+every-filter : (t : ℕ → Bool) (l : List ℕ) → every t (filter t l) ≡ true
+every-filter t [] = refl
+every-filter t (x ∷ l) = let ih = every-filter t l in by-cases (t x) (λ e. rw (e, e) ih) (λ e. rw e ih)
+
+-- a chunk's blocks are out on its page, each once
+pub every-blocks : (sh : Shape) (ws : List ℕ) (p : Page) → every (λ w. isOut sh w p) (Model.blocksOn sh ws p) ≡ true
+unfolding Model.blocksOn
+every-blocks sh ws p = every-filter (λ w. isOut sh w p) ws
+
+pub once-blocks : (sh : Shape) (ws : List ℕ) → distinct ws ≡ true → (p : Page) (w : ℕ) → count w (Model.blocksOn sh ws p) ≤ 1
+unfolding Model.blocksOn
+once-blocks sh ws once p w = omega (arith, filter-le (λ w. isOut sh w p) w ws, distinct-count w ws once)
+
+-- a chunk's blocks go by where the runs begin
+blocks-kept : (b b′ : List ℕ) → ((w : ℕ) → startOf b′ w ≡ startOf b w) → (ws : List ℕ) (q : ℕ) → blocksOn b′ ws q ≡ blocksOn b ws q
+unfolding blocksOn
+blocks-kept b b′ k [] q = refl
+blocks-kept b b′ k (w ∷ ws) q = rw (k w, blocks-kept b b′ k ws q)
+
+start-kept : (c : ℕ) {b b′ : List ℕ} → Only c b b′ → (w : ℕ) → startOf b′ w ≡ startOf b w
+unfolding startOf
+start-kept c h w = only-owns c h .starts _
+
+-- ---- all chunks; b₀ is the book before the first
+pub record Waits (sh : Shape) (ws b₀ : List ℕ) (t : Class) (g : ℕ) : Type 0 where
+  pub page : Page
+  pub found : firstOf (startsAt (pageOf g)) t ≡ some page
+  pub blocks : Model.blocksOn sh ws page ≡ blocksOn b₀ ws (pageOf g)
+  pub all : returnsAll b₀ g ≡ noneOut sh (returned (Model.blocksOn sh ws page) page)
+
+waits-next : (sh : Shape) (ws b₀ : List ℕ) (t t′ : Class) (q : ℕ) → ((r : ℕ) → eqb q r ≡ false → firstOf (startsAt r) t′ ≡ firstOf (startsAt r) t)
+    → (gs : List ℕ) → elem q (map pageOf gs) ≡ false → All (Waits sh ws b₀ t) gs → All (Waits sh ws b₀ t′) gs
+waits-next sh ws b₀ t t′ q k [] e a = tt
+waits-next sh ws b₀ t t′ q k (g ∷ gs) e a =
+    by-cases (eqb q (pageOf g))
+    (λ u. absurd (true≢false (rw u at e)))
+    (λ u. let r = a .0 in
+    (record { page = r .page; found = k (pageOf g) u ∙ r .found; blocks = r .blocks; all = r .all }, waits-next sh ws b₀ t t′ q k gs (rw u at e) (a .1)))
+
+-- what comes of chunks, where pages zs waited for the arena before; `runs` of them go there
+pub record ChunksRep (n c : ℕ) (sh : Shape) (b₀ : List ℕ) (zs : List Page) (w : Words.Settled) (x : AllSettled) (runs : ℕ) : Type 0 where
+  pub pages : List Page
+  pub rep : Away n (w .book) c sh (x .class) (zs ++ pages)
+  pub only : Only c b₀ (w .book)
+  pub fates : w .fates ≡ x .fates
+  pub gives : w .gives ≡ x .gives
+  pub named : firsts pages ≡ x .gives
+  pub number : runs ≡ length pages
+
+-- one chunk's outcome before that of the others
+abbrev thenWords : ℕ → ℕ → Words.Settled → Words.Settled
+thenWords q f w = record { book = w .book; fates = f ∷ w .fates; gives = givesOf q f ++ w .gives }
+
+abbrev thenModel : ℕ → List ℕ → AllSettled → AllSettled
+thenModel f gs x = record { class = x .class; fates = f ∷ x .fates; gives = gs ++ x .gives }
+
+-- the page of the first chunk goes to the arena before those of the others
+goes-then : {n c : ℕ} {sh : Shape} {b₀ : List ℕ} (zs : List Page) (q : ℕ) (p : Page) {w : Words.Settled} {x : AllSettled} (k : ℕ) → p .first ≡ q
+    → ChunksRep n c sh b₀ (zs ++ (p ∷ [])) w x k
+    → ChunksRep n c sh b₀ zs (thenWords q 6 w) (thenModel 6 (q ∷ []) x) (1 + k)
+goes-then zs q p k e ih = record {
+  pages = p ∷ ih .pages;
+  rep = rw (append-assoc zs (p ∷ []) (ih .pages)) at (ih .rep);
+  only = ih .only;
+  fates = ap (λ l. 6 ∷ l) (ih .fates);
+  gives = ap (λ l. q ∷ l) (ih .gives);
+  named = ap (λ z. z ∷ firsts (ih .pages)) e ∙ ap (λ l. q ∷ l) (ih .named);
+  number = omega (arith, ih .number);
+}
+
+stays-then : {n c : ℕ} {sh : Shape} {b₀ : List ℕ} (zs : List Page) (q f : ℕ) {w : Words.Settled} {x : AllSettled} (k : ℕ) → (f ≡ 6 → ⊥)
+    → ChunksRep n c sh b₀ zs w x k
+    → ChunksRep n c sh b₀ zs (thenWords q f w) (thenModel f [] x) (0 + k)
+stays-then zs q f k ne ih = record {
+  pages = ih .pages;
+  rep = ih .rep;
+  only = ih .only;
+  fates = ap (λ l. f ∷ l) (ih .fates);
+  gives = rw (ne-eqb f 6 ne) (ih .gives);
+  named = ih .named;
+  number = omega (arith, ih .number);
+}
+
+first-then : {n c : ℕ} {sh : Shape} {b₀ b : List ℕ} (zs : List Page) (q : ℕ) {v : Released} {y : Settled} {w : Words.Settled} {x : AllSettled} (k : ℕ)
+    → Only c b₀ b → SettledRep n b c sh zs 6 q v y
+    → ((zs′ : List Page) → Only c b₀ (v .book) → Away n (v .book) c sh (y .class) zs′ → ChunksRep n c sh b₀ zs′ w x k)
+    → ChunksRep n c sh b₀ zs (thenWords q (v .fate) w) (thenModel (y .fate) (y .gives) x) (length (y .gives) + k)
+first-then {c = c} zs q k o₀ (stays {f = f} ne r o) rest = stays-then zs q f k ne (rest zs (only-trans c o₀ o) r)
+first-then {n} {c} {sh} zs q k o₀ (goes {b′ = b′} {s = s} p e r o) rest =
+    let r₁ : Away n b′ c sh s (zs ++ (p ∷ [])) = rw (append-assoc zs (p ∷ []) (s .full)) (full-in zs p (s .full) r) in
+    goes-then zs q p k e (rest (zs ++ (p ∷ [])) (only-trans c o₀ o) r₁)
+
+module _ {n c : ℕ} {sh : Shape} (hn : n ≤ maxPages) (lim : Limits sh) (small : isMedium sh ≡ false) (h : ℕ) (ws : List ℕ) (once : distinct ws ≡ true)
+    (b₀ : List ℕ) (s₀ : Setting n b₀ c sh) where
+  -- the chunks gs, of any book after the first ones
+  Rest : List ℕ → Type 0
+  Rest gs =
+      (b : List ℕ) (t : Class) (zs : List Page) → Only c b₀ b → Away n b c sh t zs → All (Waits sh ws b₀ t) gs
+      → ChunksRep n c sh b₀ zs (settleChunks b c sh h ws gs) (Model.settleChunks sh h ws t gs) (runsGiven b₀ sh gs (length (t .empty)) (length (t .cold)))
+
+  module _ (g : ℕ) (gs : List ℕ) (rest : Rest gs) (new : elem (pageOf g) (map pageOf gs) ≡ false) (b : List ℕ) (t : Class) (zs : List Page) (o : Only c b₀ b) (r : Away n b c sh t zs)
+      (wait : Waits sh ws b₀ t g) (waits : All (Waits sh ws b₀ t) gs) where
+    outcome : Released
+    outcome = chunkBackAt b c sh h (pageOf g) (map (indexOf sh (pageOf g)) (blocksOn b ws (pageOf g)))
+
+    s : Setting n b c sh
+    s = setting-kept b (o .long) s₀
+
+    runs-are : (x : Site) → Located (startsAt (pageOf g)) t (some x) → x .page ≡ wait .page
+        → (let y = settle sh h true (Model.blocksOn sh ws (x .page)) x in
+        runsGiven b₀ sh (g ∷ gs) (length (t .empty)) (length (t .cold)) ≡ length (y .gives) + runsGiven b₀ sh gs (length (y .class .empty)) (length (y .class .cold)))
+    unfolding runsGiven
+    runs-are x y e =
+        let a = settle-adds sh h y (Model.blocksOn sh ws (x .page)) in
+        let all : returnsAll b₀ g ≡ noneOut sh (returned (Model.blocksOn sh ws (x .page)) (x .page)) = rw e (wait .all) in
+        by-cases (noneOut sh (returned (Model.blocksOn sh ws (x .page)) (x .page)))
+        (λ u. rw (all, u, a .empty, a .cold, a .gives, u))
+        (λ u. rw (all, u, a .empty, a .cold, a .gives, u) (omega arith))
+
+    step : (x : Option Site) → Located (startsAt (pageOf g)) t x → pageIn x ≡ some (wait .page)
+        → ChunksRep n c sh b₀ zs (thenWords (pageOf g) (outcome .fate) (settleChunks (outcome .book) c sh h ws gs))
+        (thenModel (settleChunk sh h t ws x .fate) (settleChunk sh h t ws x .gives) (Model.settleChunks sh h ws (settleChunk sh h t ws x .class) gs)) (runsGiven b₀ sh (g ∷ gs) (length (t .empty)) (length (t .cold)))
+    unfolding settleChunk outcome Rest
+    step none y e = absurd (Option·none-ne-some (wait .page) e)
+    step (some x) y e =
+        let q = pageOf g in
+        let bs = Model.blocksOn sh ws (x .page) in
+        let ep : x .page ≡ wait .page = Option·some-injective (x .page) (wait .page) e in
+        let eq : x .page .first ≡ pageOf g = eqb-true (x .page .first) (pageOf g) (located-passes y) in
+        let eb : Model.blocksOn sh ws (x .page) ≡ blocksOn b ws (pageOf g)
+        = ap (Model.blocksOn sh ws) ep ∙ wait .blocks ∙ sym (blocks-kept b₀ b (start-kept c o) ws (pageOf g)) in
+        let y₁ = settle sh h true (Model.blocksOn sh ws (x .page)) x in
+        let settled = settle-chunk s hn lim h x (found-at {zs = zs} r y .placed) (Model.blocksOn sh ws (x .page)) (every-blocks sh ws (x .page)) (once-blocks sh ws once (x .page)) small in
+        let settled₁ = subst (λ (z : ℕ). SettledRep n b c sh zs 6 z (chunkBackAt b c sh h z (map (indexOf sh z) bs)) y₁) eq settled in
+        let settled₂ = subst (λ (l : List ℕ). SettledRep n b c sh zs 6 q (chunkBackAt b c sh h q (map (indexOf sh q) l)) y₁) eb settled₁ in
+        rw (runs-are x y ep)
+        (first-then zs (pageOf g) _ o settled₂
+        (λ zs′ o′ r′. rest _ (y₁ .class) zs′ o′ r′ (waits-next sh ws b₀ t (y₁ .class) q (λ z ne. settle-skips sh h y bs z (ap (λ v. eqb v z) eq ∙ ne)) gs new waits)))
+
+  pub chunks-rep : (gs : List ℕ) → distinct (map pageOf gs) ≡ true → (b : List ℕ) (t : Class) (zs : List Page) → Only c b₀ b → Away n b c sh t zs → All (Waits sh ws b₀ t) gs
+      → ChunksRep n c sh b₀ zs (settleChunks b c sh h ws gs) (Model.settleChunks sh h ws t gs) (runsGiven b₀ sh gs (length (t .empty)) (length (t .cold)))
+  unfolding settleChunks Model.settleChunks runsGiven Rest outcome
+  chunks-rep [] d b t zs o r a = record { pages = []; rep = rw (append-nil zs) r; only = o; fates = refl; gives = refl; named = refl; number = refl }
+  chunks-rep (g ∷ gs) d b t zs o r a =
+      let new = not-true (elem (pageOf g) (map pageOf gs)) (and-l (not (elem (pageOf g) (map pageOf gs))) (distinct (map pageOf gs)) d) in
+      let others = and-r (not (elem (pageOf g) (map pageOf gs))) (distinct (map pageOf gs)) d in
+      step g gs (λ b t zs o r a. chunks-rep gs others b t zs o r a) new b t zs o r (a .0) (a .1) (locate (startsAt (pageOf g)) t) (located (startsAt (pageOf g)) t)
+      (located-first (startsAt (pageOf g)) t ∙ a .0 .found)

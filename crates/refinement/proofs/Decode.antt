@@ -1,0 +1,215 @@
+-- A word taken apart: where a block lies, and what the tests on the words say of it. Assumes nothing.
+--     Sits               the word is a block of the run at q, and its out bit is set
+--     count-words        words of blocks stand as often as their indices
+--     out-sits, sits-out     the model's `isOut` says so of a represented page
+--     in-sits, sits-in       and so does `outIn`
+--     sits-at            then the word is out in the class, and its run is the page's
+use Prim.Native.Nat.{ℕ, zero, suc, _+_, _-_, _*_, _/_, _^_, _≤_, _<_}
+use native.Mathlib.Omega.{arith}
+use native.Mathlib.Nat.{zero-add, mul-le-mul-right, mul-div-cancel}
+use native.Mathlib.Decide.{ℕ-discrete, decLe}
+use mathlib.Core.Bool.{Bool, true, false, not, _&&_}
+use mathlib.Core.List.{List, [], _∷_, map}
+use mathlib.Core.Path.{_≡_, refl, sym, ap, _∙_}
+use lib.Dec.{eqb, ltb, leb}
+use borrow.Author.Tests.{eq-eqb, ne-eqb, eqb-true, eqb-false, ltb-true, leb-true, le-leb, lt-ltb, not-true}
+use Rattle.words.specs.Word.{granuleOf}
+use Rattle.classes.specs.declared.Shape.{Shape}
+use Rattle.classes.specs.Sound.{Sound}
+use Rattle.fields.specs.Field.{arena, page, out, first, frontier, get}
+use Rattle.fields.specs.Ranges.{maxPages}
+use Rattle.model.specs.Lists.{count, elem}
+use Rattle.model.specs.Page.{Page, wordOf, wordsFrom, isOut, carvedWords}
+use Rattle.model.specs.Release.{ofKind}
+use Rattle.model.proofs.Counts.{by-cases, and-l, and-r, elem-count, count-elem}
+use Rattle.model.proofs.Pages.{word-rises}
+use Rattle.pages.specs.Runs.{flag}
+use Rattle.pages.specs.Stack.{marked, blocksFrom, indexOf}
+use Rattle.heap.specs.Release.{pageAt, startOf, outIn, inRunOf, outAt}
+use Rattle.refinement.specs.Represents.{PageRep}
+use Rattle.refinement.proofs.Basics.{Setting, flag-cases}
+use Rattle.refinement.proofs.Frames.{whole-says}
+
+pub both : (s t : Bool) → s ≡ true → t ≡ true → (s && t) ≡ true
+both s t e f = rw (e, f)
+
+pub in-elem : (x : ℕ) (ys : List ℕ) → 1 ≤ count x ys → elem x ys ≡ true
+in-elem x [] h = absurd (omega arith)
+in-elem x (y ∷ ys) h = by-cases (eqb x y) (λ u. rw u) (λ u. rw (u, in-elem x ys (let z : 1 ≤ 0 + count x ys = rw u at h in omega arith)))
+
+pub count-not : (x : ℕ) (ys : List ℕ) → count x ys ≡ 0 → elem x ys ≡ false
+count-not x ys h = by-cases (elem x ys) (λ u. absurd (omega (arith, elem-count x ys u))) (λ u. u)
+
+-- ---- words of a run's blocks
+module _ {sh : Shape} (ok : Sound sh) where
+  pub word-inj : (q i j : ℕ) → wordOf sh q i ≡ wordOf sh q j → i ≡ j
+  word-inj q i j e =
+      elim (ℕ-discrete i j) [
+        | yes z ↦ z
+        | no z ↦ absurd (elim (decLe i j) [
+          | yes l ↦ (let y = word-rises sh ok q i j (omega (arith, z)) in omega arith)
+          | no l ↦ (let y = word-rises sh ok q j i (omega arith) in omega arith)
+        ])
+      ]
+
+  pub count-words : (q j : ℕ) (xs : List ℕ) → count (wordOf sh q j) (map (wordOf sh q) xs) ≡ count j xs
+  count-words q j [] = refl
+  count-words q j (x ∷ xs) =
+      let ih = count-words q j xs in
+      by-cases (eqb j x)
+      (λ e. rw (e, eq-eqb (wordOf sh q j) (wordOf sh q x) (ap (wordOf sh q) (eqb-true j x e))) (omega arith))
+      (λ e. rw (e, ne-eqb (wordOf sh q j) (wordOf sh q x) (λ z. eqb-false j x e (word-inj q j x z))) (omega arith))
+
+  -- a carved word is the word of a block below
+  which : (q k w : ℕ) → 1 ≤ count w (wordsFrom sh q 0 k) → (i : ℕ) × (i < k) × (w ≡ wordOf sh q i)
+  which q zero w h = absurd (omega arith)
+  which q (suc k) w h =
+      by-cases (eqb w (wordOf sh q (0 + k)))
+      (λ e. (k, omega arith, rw zero-add at (eqb-true w (wordOf sh q (0 + k)) e)))
+      (λ e. let z : 1 ≤ 0 + count w (wordsFrom sh q 0 k) = rw e at h in
+      let r = which q k w (omega arith) in (r .0, omega (arith, r .1), r .2))
+
+  pub words-elem : (q k i : ℕ) → i < k → elem (wordOf sh q i) (wordsFrom sh q 0 k) ≡ true
+  words-elem q zero i h = absurd (omega arith)
+  words-elem q (suc k) i h =
+      by-cases (eqb (wordOf sh q i) (wordOf sh q (0 + k))) (λ e. rw e)
+      (λ e. let d : (i ≡ k) → ⊥ = λ z. eqb-false (wordOf sh q i) (wordOf sh q (0 + k)) e (ap (wordOf sh q) (z ∙ sym (zero-add k))) in
+      rw (e, words-elem q k i (omega (arith, d))))
+
+  -- block i of a run that lies in the longest arena
+  module _ (q i : ℕ) (inside : i < sh .capacity) (low : q + sh .pages ≤ maxPages) where
+    ends : sh .header + (i * sh .block + sh .block) ≤ 4096 * sh .pages
+    ends = omega (arith, mul-le-mul-right (sh .block) inside, ok .fits)
+
+    granule-is : granuleOf (wordOf sh q i) ≡ blocksFrom sh q + i * sh .block
+    unfolding wordOf
+    granule-is = omega (arith, ends, ok .wide)
+
+    pub index-is : indexOf sh q (wordOf sh q i) ≡ i
+    unfolding indexOf
+    index-is =
+        ap (λ z. (z - blocksFrom sh q) / sh .block) granule-is
+        ∙ ap (λ z. z / sh .block) (sums (blocksFrom sh q) (i * sh .block)) ∙ mul-div-cancel i (ok .wide)
+      where
+        sums : (a d : ℕ) → a + d - a ≡ d
+        sums a d = omega arith
+
+    low-page : q ≤ pageAt (wordOf sh q i)
+    low-page = rw granule-is (omega arith)
+
+    high-page : pageAt (wordOf sh q i) < q + sh .pages
+    high-page = rw granule-is (omega (arith, ends, ok .wide))
+
+  decoded : (q w : ℕ) → ofKind (sh .kind) w ≡ true → leb (blocksFrom sh q) (granuleOf w) ≡ true → eqb (indexOf sh q w * sh .block) (granuleOf w - blocksFrom sh q) ≡ true
+      → w ≡ wordOf sh q (indexOf sh q w)
+  unfolding ofKind wordOf
+  decoded q w e f g =
+      let a = eqb-true (w / 2 ^ 30) (sh .kind) e in
+      let b = leb-true (blocksFrom sh q) (granuleOf w) f in
+      let c = eqb-true (indexOf sh q w * sh .block) (granuleOf w - blocksFrom sh q) g in
+      omega arith
+
+-- ---- a block that is out
+pub record Sits (b : List ℕ) (sh : Shape) (q w : ℕ) : Type 0 where
+  pub index : ℕ
+  pub inside : index < sh .capacity
+  pub names : w ≡ wordOf sh q index
+  pub set : marked b sh q index ≡ 1
+
+-- what `outIn` says, whatever stands in the book
+module _ (b : List ℕ) {sh : Shape} (ok : Sound sh) (q w : ℕ) where
+  pub in-sits : ofKind (sh .kind) w ≡ true → outIn b sh q w ≡ true → Sits b sh q w
+  unfolding outIn marked
+  in-sits k e =
+      let i = indexOf sh q w in
+      let t₁ = leb (blocksFrom sh q) (granuleOf w) in
+      let t₂ = eqb (indexOf sh q w * sh .block) (granuleOf w - blocksFrom sh q) in
+      let t₃ = ltb (indexOf sh q w) (sh .capacity) in
+      let t₄ = eqb (get b (out q (indexOf sh q w))) 1 in
+      let e₂ = and-r t₁ (t₂ && (t₃ && t₄)) e in
+      let e₃ = and-r t₂ (t₃ && t₄) e₂ in
+      let u = and-l t₃ t₄ e₃ in
+      record {
+        index = indexOf sh q w;
+        inside = ltb-true (indexOf sh q w) (sh .capacity) u;
+        names = decoded ok q w k (and-l t₁ (t₂ && (t₃ && t₄)) e) (and-l t₂ (t₃ && t₄) e₂);
+        set = rw u (eqb-true (get b (out q (indexOf sh q w))) 1 (and-r t₃ t₄ e₃));
+      }
+
+  pub sits-in : q + sh .pages ≤ maxPages → Sits b sh q w → outIn b sh q w ≡ true
+  unfolding outIn marked
+  sits-in low s =
+      let i = s .index in
+      let u = lt-ltb (s .index) (sh .capacity) (s .inside) in
+      rw (
+        s .names,
+        index-is ok q (s .index) (s .inside) low,
+        granule-is ok q (s .index) (s .inside) low,
+        u,
+        le-leb (blocksFrom sh q) (blocksFrom sh q + i * sh .block) (omega arith),
+        eq-eqb (i * sh .block) (blocksFrom sh q + i * sh .block - blocksFrom sh q) (omega arith),
+        eq-eqb (get b (out q i)) 1 (rw u at (s .set)),
+      )
+
+-- on a page of the class
+module _ {n : ℕ} {b : List ℕ} {c : ℕ} {sh : Shape} (s : Setting n b c sh) (hn : n ≤ maxPages) {l : ℕ} {p : Page} (r : PageRep n sh b c l p) where
+  pub page-low : p .first + sh .pages ≤ maxPages
+  page-low = omega (arith, whole-says n b sh c (p .first) (r .holds .run) .inside)
+
+  pub free-count : (i : ℕ) → count (wordOf sh (p .first) i) (p .free) ≡ count i (r .stack)
+  free-count i = ap (count (wordOf sh (p .first) i)) (r .names) ∙ count-words (s .shape) (p .first) i (r .stack)
+
+  module _ (w : ℕ) where
+    pub out-sits : isOut sh w p ≡ true → Sits b sh (p .first) w
+    unfolding isOut carvedWords
+    out-sits e =
+        let t = which (s .shape) (p .first) (p .carved) w (elem-count w (carvedWords sh p) (and-l (elem w (carvedWords sh p)) (not (elem w (p .free))) e)) in
+        let f = count-elem w (p .free) (not-true (elem w (p .free)) (and-r (elem w (carvedWords sh p)) (not (elem w (p .free))) e)) in
+        let z : count (t .0) (r .stack) ≡ 0 = sym (free-count (t .0)) ∙ ap (λ v. count v (p .free)) (sym (t .2)) ∙ f in
+        let y : flag (ltb (t .0) (p .carved)) ≡ 1 = ap flag (lt-ltb (t .0) (p .carved) (t .1)) in
+        record { index = t .0; inside = omega (arith, t .1, r .holds .within); names = t .2; set = omega (arith, r .holds .outs (t .0)) }
+
+    module _ (t : Sits b sh (p .first) w) where
+      pub sits-out : isOut sh w p ≡ true
+      unfolding isOut carvedWords
+      sits-out =
+          let i = t .index in
+          flag-cases (t .index) (p .carved)
+          (λ u e. both (elem w (carvedWords sh p)) (not (elem w (p .free)))
+          (ap (λ z. elem z (carvedWords sh p)) (t .names) ∙ words-elem (s .shape) (p .first) (p .carved) i u)
+          (ap not (count-not w (p .free) (ap (λ z. count z (p .free)) (t .names) ∙ free-count i ∙ none i u e (t .set)))))
+          (λ u e. absurd (omega (arith, r .holds .outs (t .index), t .set)))
+        where
+          none : (i : ℕ) → i < p .carved → flag (ltb i (p .carved)) ≡ 1 → marked b sh (p .first) i ≡ 1 → count i (r .stack) ≡ 0
+          none i u e m = omega (arith, r .holds .outs i)
+
+      pub sits-start : startOf b w ≡ p .first
+      unfolding startOf
+      sits-start =
+          let i = t .index in
+          let q = p .first in
+          let x = pageAt (wordOf sh (p .first) (t .index)) in
+          let lo = low-page (s .shape) (p .first) (t .index) (t .inside) page-low in
+          let hi = high-page (s .shape) (p .first) (t .index) (t .inside) page-low in
+          let z : p .first + (pageAt (wordOf sh (p .first) (t .index)) - p .first) ≡ pageAt (wordOf sh (p .first) (t .index)) = omega arith in
+          ap (λ v. get b (page first (pageAt v))) (t .names)
+          ∙ ap (λ y. get b (page first y)) (sym z) ∙ whole-says n b sh c (p .first) (r .holds .run) .first (x - q) (omega arith)
+
+      pub sits-at : outAt n b c sh w ≡ true
+      unfolding outAt inRunOf
+      sits-at =
+          let x = pageAt (wordOf sh (p .first) (t .index)) in
+          let lo = low-page (s .shape) (p .first) (t .index) (t .inside) page-low in
+          let hi = high-page (s .shape) (p .first) (t .index) (t .inside) page-low in
+          let w₀ = whole-says n b sh c (p .first) (r .holds .run) in
+          let g : pageAt w ≡ pageAt (wordOf sh (p .first) (t .index)) = ap pageAt (t .names) in
+          rw (
+            sits-start,
+            sits-in b (s .shape) (p .first) w page-low t,
+            g,
+            r .holds .run,
+            lt-ltb x n (omega (arith, w₀ .inside)),
+            lt-ltb x (get b (arena frontier)) (omega (arith, w₀ .below)),
+            le-leb (p .first) x lo,
+            lt-ltb x (p .first + sh .pages) hi,
+          )

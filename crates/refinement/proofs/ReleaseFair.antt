@@ -1,0 +1,137 @@
+-- Number 13's tests of a release pass on a represented book. Assumes nothing.
+--     row-fair         the class's row
+--     page-fair        a page with blocks out, of which some come back
+--     release-fair     all that a release by list tests
+use Prim.Native.Nat.{ℕ, zero, suc, _+_, _≤_}
+use native.Mathlib.Omega.{arith}
+use mathlib.Core.Bool.{Bool, true, false, cond, _&&_}
+use mathlib.Core.List.{List, [], _∷_, _++_}
+use mathlib.Core.Logic.{inl, inr}
+use mathlib.Core.Path.{_≡_, refl, sym, _∙_, subst}
+use lib.Dec.{eqb, leb}
+use lib.ListN.{length}
+use borrow.Author.Tests.{le-leb}
+use Rattle.classes.specs.declared.Shape.{Shape}
+use Rattle.classes.specs.Shape.{shapeOf}
+use Rattle.classes.proofs.Shapes.{shape-sound}
+use Rattle.fields.specs.Field.{arena, class, page, partial, empty, emptyCount, cold, coldCount, next, prev, free, carved, frontier, get}
+use Rattle.model.specs.Page.{Page}
+use Rattle.model.specs.Heap.{Heap}
+use Rattle.model.specs.Release.{Site}
+use Rattle.pages.specs.Runs.{whole}
+use Rattle.pages.specs.declared.Park.the-variants.{Empty}
+use Rattle.arena.specs.Fair.{giveFair}
+use Rattle.heap.specs.Release.{pageFair, rowFair, spotAt, spotFair, releaseFair}
+use Rattle.refinement.specs.Chain.{In, Chain, Line}
+use Rattle.refinement.specs.Represents.{firsts, heads, ClassRep, Represents}
+use Rattle.refinement.proofs.Basics.{Setting, flag-small}
+use Rattle.refinement.proofs.Lists.{in-left, in-right, first-page, last-page, firsts-append, part, in-count}
+use Rattle.refinement.proofs.Frames.{whole-below}
+use Rattle.refinement.proofs.Kept.{listed-whole}
+use Rattle.refinement.proofs.Draw.{free-length}
+use Rattle.refinement.proofs.ArenaReached.{Reached}
+use Rattle.refinement.proofs.ArenaFair.{loads-frontier}
+use Rattle.refinement.proofs.GiveRep.{give-fair}
+use Rattle.refinement.proofs.GiveClass.{run-held}
+use Rattle.refinement.proofs.Found.{Placed, among, aside, placed-rep}
+
+-- a code that is 0, or of a page below f
+code-fair : (code f : ℕ) → ((z : ℕ) → code ≡ suc z → suc z ≤ f) → leb code f ≡ true
+code-fair zero f h = le-leb zero f (omega arith)
+code-fair (suc z) f h = le-leb (suc z) f (h z refl)
+
+line-page : (b : List ℕ) (h : ℕ) (xs : List ℕ) (z : ℕ) → Line b h xs → h ≡ suc z → In z xs
+line-page b h [] z s e = absurd (omega arith)
+line-page b h (x ∷ xs) z s e = inl (omega (arith, s .0))
+
+module _ {n : ℕ} {b : List ℕ} {c : ℕ} {sh : Shape} (s : Setting n b c sh) {ps xs ys fs : List Page} (r : ClassRep n b c sh Empty ps xs ys fs) where
+  under : (z : ℕ) → 1 ≤ heads z ps + heads z xs + heads z ys + heads z fs → suc z ≤ get b (arena frontier)
+  under z h = whole-below n b (s .shape) c z (listed-whole (s .shape) r z h)
+
+  pub row-fair : rowFair b c ≡ true
+  unfolding rowFair
+  row-fair =
+      let f = get b (arena frontier) in
+      rw (
+        code-fair (get b (class partial c)) f (λ z e. under z (omega (arith, in-count z (firsts ps) (first-page b 0 (get b (class partial c)) (firsts ps) z (r .chain .links) e)))),
+        code-fair (get b (class empty c)) f (λ z e. under z (omega (arith, in-count z (firsts xs) (line-page b (get b (class empty c)) (firsts xs) z (r .store .line) e)))),
+        le-leb (get b (class emptyCount c)) 256 (omega (arith, r .store .number, r .store .few)),
+        code-fair (get b (class cold c)) f (λ z e. under z (omega (arith, in-count z (firsts ys) (line-page b (get b (class cold c)) (firsts ys) z (r .beside .line) e)))),
+        le-leb (get b (class coldCount c)) 256 (omega (arith, r .beside .number, r .beside .few)),
+      )
+
+-- the links of a page of the partial list
+module _ {n : ℕ} {b : List ℕ} {c : ℕ} {sh : Shape} (s : Setting n b c sh) (ss : List Page) (p : Page) (ts : List Page) {xs ys fs : List Page}
+    (r : ClassRep n b c sh Empty (ss ++ p ∷ ts) xs ys fs) where
+  along : (z : ℕ) → In z (firsts ss ++ p .first ∷ firsts ts) → suc z ≤ get b (arena frontier)
+  along z i =
+      under s r z (omega (arith, in-count z (firsts (ss ++ p ∷ ts)) (subst (λ (l : List ℕ). In z l) (sym (firsts-append ss (p ∷ ts))) i)))
+
+  links-fair : (leb (get b (page next (p .first))) (get b (arena frontier)) && leb (get b (page prev (p .first))) (get b (arena frontier))) ≡ true
+  links-fair =
+      let q = p .first in
+      let f = get b (arena frontier) in
+      let ch : Chain n b c (firsts ss ++ p .first ∷ firsts ts) = rw (firsts-append ss (p ∷ ts)) at (r .chain) in
+      let pa = part b 0 (get b (class partial c)) (firsts ss) q (firsts ts) 0 (ch .links) in
+      rw (
+        code-fair (get b (page next (p .first))) f (λ z e. along z (in-right z (firsts ss) (q ∷ firsts ts) (inr (first-page b (suc q) (get b (page next q)) (firsts ts) z (pa .aft) e)))),
+        code-fair (get b (page prev (p .first))) f (λ z e. along z (in-left z (firsts ss) (q ∷ firsts ts) (last-page (firsts ss) z (sym (pa .before) ∙ e)))),
+      )
+
+module _ {n : ℕ} {b : List ℕ} {c : ℕ} {sh : Shape} (s : Setting n b c sh) {zs : List Page} where
+  pub page-fair : {l : ℕ} {p : Page} {x : Site} (m : ℕ) → length (p .free) + m ≤ p .carved → Placed n b c sh zs l p x → pageFair b sh m (p .first) ≡ true
+  unfolding pageFair
+  page-fair m room (among {p} t f r) =
+      let rp = placed-rep {zs = zs} (among t f r) in
+      let h = rp .holds in
+      rw (
+        h .ready,
+        h .height,
+        h .listing,
+        h .clean,
+        le-leb (p .carved) (sh .capacity) (h .within),
+        le-leb (length (rp .stack) + m) (p .carved) (omega (arith, free-length rp)),
+        flag-small (p .virgin),
+        links-fair s (f .before) p (f .behind) r,
+      )
+  page-fair m room (aside {p} t f r) =
+      let rp = r .fulls .0 in
+      let h = rp .holds in
+      rw (
+        h .ready,
+        h .height,
+        h .listing,
+        h .clean,
+        le-leb (p .carved) (sh .capacity) (h .within),
+        le-leb (length (rp .stack) + m) (p .carved) (omega (arith, free-length rp)),
+        flag-small (p .virgin),
+      )
+
+  pub placed-row : {l : ℕ} {p : Page} {x : Site} → Placed n b c sh zs l p x → rowFair b c ≡ true
+  placed-row (among t f r) = row-fair s r
+  placed-row (aside t f r) = row-fair s r
+
+if-true : (t u : Bool) → u ≡ true → cond t u true ≡ true
+if-true true u e = e
+if-true false u e = refl
+
+-- a run of the class may be given
+module _ (n : ℕ) (b : List ℕ) (H : Heap) (R : Represents n b H) (ok : Reached n H) (c : ℕ) where
+  pub frontier-fair : leb (get b (arena frontier)) n ≡ true
+  frontier-fair = le-leb (get b (arena frontier)) n (omega (arith, loads-frontier b (H .arena) (R .arena .loads), ok .bound))
+
+  run-fair : (q : ℕ) → whole n b (shapeOf c) c q ≡ true → giveFair n b (shapeOf c .pages) ≡ true
+  run-fair q e = give-fair n b H (R .arena) ok q (shapeOf c .pages) (shape-sound c .paged) (run-held n b H (R .arena) (shapeOf c) c q e)
+
+  pub release-fair : Setting n b c (shapeOf c) → {zs : List Page} {l : ℕ} {p : Page} {x : Site} (m : ℕ) → length (p .free) + m ≤ p .carved
+      → Placed n b c (shapeOf c) zs l p x → releaseFair n b c (shapeOf c) m (p .first) ≡ true
+  unfolding releaseFair spotFair
+  release-fair s {p = p} m room pl =
+      let sh = shapeOf c in
+      rw (
+        frontier-fair,
+        page-fair s m room pl,
+        placed-row s pl,
+        if-true (eqb (get b (page free (p .first)) + m) (get b (page carved (p .first))) && eqb (spotAt b c sh) 2) (giveFair n b (sh .pages))
+            (run-fair (p .first) (placed-rep pl .holds .run)),
+      )

@@ -1,0 +1,163 @@
+-- A take, whole: on a book that stands for a reached heap it has the model's answer, is never refused by number 13, and leaves a book
+-- that stands for the model's next heap. Assumes nothing.
+--     take-new       a take that asks the arena, with a run or none
+--     take-whole     every take, refused or not, from any source
+--     take-after     the same after any history
+use Prim.Native.Nat.{ℕ, zero, suc, _+_, _≤_}
+use native.Mathlib.Omega.{arith}
+use mathlib.Core.Bool.{Bool, true, false, not, _||_}
+use mathlib.Core.List.{List, [], _∷_, _++_}
+use mathlib.Core.Option.{Option, none, some}
+use mathlib.Core.Path.{_≡_, refl, sym, subst}
+use lib.Dec.{eqb, ltb}
+use lib.ListN.{length}
+use borrow.Author.Tests.{lt-ltb}
+use Rattle.classes.specs.declared.Shape.{Shape}
+use Rattle.classes.specs.Shape.{shapeOf}
+use Rattle.classes.proofs.Shapes.{shape-sound}
+use Rattle.model.specs.Lists.{isNil, covers, update}
+use Rattle.model.specs.Calls as Calls
+use Rattle.model.specs.Calls.{Call, refused}
+use Rattle.model.specs.Page as Page
+use Rattle.model.specs.Page.{Page, isMedium, wordsFrom, carve, carveAs}
+use Rattle.model.specs.Arena.{commit, Given}
+use Rattle.model.specs.Class as Model
+use Rattle.model.specs.Class.{lists, Result, Ask, done, asks, refuse, fillFromList, served}
+use Rattle.model.specs.Chunks.{answer, hostMax}
+use Rattle.model.specs.Heap.{Heap, class, passTo, offer, finish, interact, classCall, Outcome}
+use Rattle.model.specs.History.{heapAfter}
+use Rattle.model.specs.Yields.{Listed}
+use Rattle.model.proofs.Counts.{by-cases}
+use Rattle.model.proofs.Yields.{yielding}
+use Rattle.fields.proofs.Changes.{changes-none}
+use Rattle.pages.specs.declared.Park.the-variants.{Empty}
+use Rattle.pages.specs.Links.{link}
+use Rattle.pages.specs.Carve.{newRun}
+use Rattle.heap.specs.Take.{Took, tookNone, onRun, takeNew, takeCall}
+use Rattle.arena.specs.Calls.{committed}
+use Rattle.refinement.proofs.GiveClass.{arena-only}
+use Rattle.refinement.specs.Represents.{ClassRep, Represents}
+use Rattle.refinement.specs.Classes.{takeReply}
+use Rattle.refinement.specs.Direct.{Agrees}
+use Rattle.refinement.proofs.ArenaReached.{Reached, heapOf, reached-after}
+use Rattle.refinement.proofs.CommitRep.{commit-for}
+use Rattle.refinement.proofs.Basics.{setting-kept}
+use Rattle.refinement.proofs.Frames.{ofClass, Only, only-trans}
+use Rattle.refinement.proofs.Kept.{class-beside}
+use Rattle.refinement.proofs.Moves.{to-partial, link-only}
+use Rattle.refinement.proofs.Fill.{fills}
+use Rattle.refinement.proofs.Take.{TookRep, TakeRep, did, asked, take-own}
+use Rattle.refinement.proofs.Pushes.{carve-first}
+use Rattle.refinement.proofs.Book.{setting-of, frontier-in, classes-with, represents-class}
+use Rattle.refinement.proofs.Join.{none-arena, none-stays, new-setting, new-arena, new-reached, others-stay, class-joins}
+
+-- a run just carved has a block
+carve-more : (sh : Shape) (q : ℕ) → 1 ≤ sh .capacity → (t : Bool) → Page.hasMore sh (carveAs sh t q true) ≡ true
+unfolding Page.hasMore carveAs
+carve-more sh q h true = full (sh .capacity) h
+  where
+    full : (k : ℕ) → 1 ≤ k → (not (isNil (wordsFrom sh q 0 k)) || ltb (sh .capacity) (sh .capacity)) ≡ true
+    full zero l = absurd (omega arith)
+    full (suc k) l = refl
+carve-more sh q h false = lt-ltb 0 (sh .capacity) h
+
+module _ (n : ℕ) (b : List ℕ) (H : Heap) (R : Represents n b H) (ok : Reached n H) (c : ℕ) (hc : ltb c 76 ≡ true) where
+  -- ---- a take that asks the arena
+  module _ (h : ℕ) (l : List ℕ) (fs : List Page) (z : ClassRep n b c (shapeOf c) Empty [] [] [] fs) where
+    abbrev grant : Given
+    grant = commit n h (shapeOf c .pages) (H .arena)
+
+    abbrev after : List ℕ
+    after = committed b grant (shapeOf c .pages) (suc c)
+
+    -- what the model makes of the arena's answer
+    abbrev outcome : Option ℕ → Outcome
+    outcome o = finish H c (shapeOf c) (shapeOf c .pages) (record { arena = grant .arena; run = o; fresh = grant .fresh }) (Model.onRun (shapeOf c) l fs o)
+
+    none-agrees : commit n h (shapeOf c .pages) (H .arena) .run ≡ none → Agrees (Represents n) (takeReply (onRun after c (shapeOf c) l none)) (outcome none)
+    unfolding onRun Model.onRun finish
+    none-agrees e = record {
+      answer = refl;
+      fair = λ t. omega arith;
+      heap = record {
+        arena = none-arena n b H R ok c hc h e (update (H .classes) c (lists [] [] [] fs));
+        classes = classes-with n after H c (lists [] [] [] fs) (none-stays n b H R ok c hc h e c hc z) (λ d hd ne. none-stays n b H R ok c hc h e d hd (R .classes d hd));
+      };
+    }
+
+    run-agrees : (q : ℕ) → commit n h (shapeOf c .pages) (H .arena) .run ≡ some q → Agrees (Represents n) (takeReply (onRun after c (shapeOf c) l (some q))) (outcome (some q))
+    unfolding onRun Model.onRun finish served
+    run-agrees q e =
+        let sh = shapeOf c in
+        let b₂ = newRun after sh q in
+        let b₃ = link b₂ c q in
+        let p = carve sh q true in
+        let s₂ = new-setting n b H R ok c hc h q e in
+        let r₂ = class-joins n b H R ok c hc h q e z in
+        let start : carve (shapeOf c) q true .first ≡ q = carve-first sh q true in
+        let r₃ : ClassRep n (link (newRun after (shapeOf c) q) c q) c (shapeOf c) Empty (carve (shapeOf c) q true ∷ []) [] [] fs
+        = subst (λ (x : ℕ). ClassRep n (link (newRun after (shapeOf c) q) c x) c (shapeOf c) Empty (carve (shapeOf c) q true ∷ []) [] [] fs) start (to-partial s₂ r₂) in
+        let o₃ : Only c (newRun after (shapeOf c) q) (link (newRun after (shapeOf c) q) c q)
+        = subst (λ (x : ℕ). Only c (newRun after (shapeOf c) q) (link (newRun after (shapeOf c) q) c x)) start (link-only s₂ r₂) in
+        let s₃ = setting-kept b₃ (o₃ .long) s₂ in
+        let f = fills s₃ (p ∷ []) fs (sh .batch) (sh .batch) (omega arith) (carve-more sh q (shape-sound c .blocks) (isMedium sh), tt) r₃ in
+        let only = only-trans c o₃ (f .only) in
+        let filled = fillFromList sh (sh .batch) (p ∷ []) in
+        let s′ = lists (filled .partial) [] [] (filled .full ++ fs) in
+        let cs = update (H .classes) c s′ in
+        record {
+          answer = rw (f .blocks, f .virgin);
+          fair = λ t. omega arith;
+          heap = record {
+            arena = arena-only n b₂ _ (heapOf (grant .arena) (passTo (class c) (covers (sh .pages) q) (H .holder)) cs) c (new-reached n b H R ok c hc h q e cs) only
+                (new-arena n b H R ok c hc h q e cs);
+            classes = classes-with n _ H c s′ (f .rep)
+                (λ d hd ne. class-beside d c (shape-sound d) hd ne only (others-stay n b H R ok c hc h q e d hd ne (R .classes d hd)));
+          };
+        }
+
+    given-agrees : (o : Option ℕ) → commit n h (shapeOf c .pages) (H .arena) .run ≡ o → Agrees (Represents n) (takeReply (onRun after c (shapeOf c) l o)) (outcome o)
+    given-agrees none e = none-agrees e
+    given-agrees (some q) e = run-agrees q e
+
+    pub take-new : Agrees (Represents n) (takeReply (takeNew n b c (shapeOf c) h l)) (interact n H c h (asks (shapeOf c .pages) (Model.onRun (shapeOf c) l fs)))
+    unfolding takeNew interact offer
+    take-new = rw (commit-for n b H (R .arena) ok h (shapeOf c .pages) (suc c)) (given-agrees (grant .run) refl)
+
+  -- ---- a take that is over
+  over : (h : ℕ) (w : Took) (x : Result) → TookRep n b c (shapeOf c) w x → Agrees (Represents n) (takeReply w) (interact n H c h (done x))
+  unfolding interact offer finish
+  over h w x k = record {
+    answer = rw (k .code) (sym (k .answer));
+    fair = λ e. omega (arith, k .code);
+    heap = rw (k .gives) (represents-class n b H R ok (w .book) c (x .class) (k .only) (k .rep));
+  }
+
+  turned : (h : ℕ) (l : List ℕ) (k : ℕ) → eqb k 0 ≡ false → (k ≡ 13 → ⊥) → Agrees (Represents n) (takeReply (tookNone b l k)) (interact n H c h (refuse (H .classes c) k))
+  unfolding interact offer finish
+  turned h l k e ne = record {
+    answer = rw e;
+    fair = ne;
+    heap = represents-class n b H R ok b c (H .classes c) (changes-none (ofClass b c) b) (R .classes c hc);
+  }
+
+  own-agrees : (h : ℕ) (l : List ℕ) (w : Took) (q : Ask) → TakeRep n b c (shapeOf c) h l w q → Agrees (Represents n) (takeReply w) (interact n H c h q)
+  own-agrees h l w q (did {x = x} k) = over h w x k
+  own-agrees h l w q (asked fs z) = take-new h l fs z
+
+  pub take-whole : Listed (shapeOf c) (H .classes c) → (h : ℕ) (l : List ℕ)
+      → Agrees (Represents n) (takeReply (takeCall n b c (shapeOf c) h l)) (classCall n H c (Calls.take h l))
+  unfolding takeCall classCall answer
+  take-whole y h l =
+      by-cases (ltb hostMax h)
+      (λ e. rw e (turned h l 3 refl (λ z. omega arith)))
+      (λ e. by-cases (ltb (length l) (shapeOf c .batch))
+      (λ u. rw (e, u) (turned h l 5 refl (λ z. omega arith)))
+      (λ u. rw (e, u) (own-agrees h l _ _
+      (take-own (setting-of n b H R c hc) l h (H .classes c .partial) (H .classes c .empty) (H .classes c .cold) (H .classes c .full)
+      (frontier-in n b H R ok) (y .partial) (R .classes c hc)))))
+
+-- after every history on an arena of n pages
+pub take-after : (n : ℕ) (xs : List Call) (b : List ℕ) → Represents n b (heapAfter n xs) → (c : ℕ) → ltb c 76 ≡ true → (h : ℕ) (l : List ℕ)
+    → Agrees (Represents n) (takeReply (takeCall n b c (shapeOf c) h l)) (classCall n (heapAfter n xs) c (Calls.take h l))
+take-after n xs b R c hc h l = take-whole n b (heapAfter n xs) R (reached-after n xs) c hc (yielding n xs .listed c) h l

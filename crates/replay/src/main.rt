@@ -1,0 +1,85 @@
+// Replays stored histories on the compiled heap, and compares every answer with the original's, stored beside the call. The input has
+// a call a line, as compare/src/history.rs writes them: a name, the arguments, and after `=` what the call returned and wrote.
+mod arena_calls;
+mod text;
+
+use libc::STDIN_FILENO;
+use libc::STDOUT_FILENO;
+use text::Step;
+ghost use Prim.Native.Nat.{_<_};
+ghost use lib.ListN.{length};
+ghost use Rattle.replay.specs.Text.{Onward};
+
+// How many calls were replayed, and how many answered something else.
+struct Tally {
+    calls: u64,
+    differ: u64,
+}
+
+// The line whose name starts at `at`. A name is known by its first letter and its length.
+fn replay_line(text: &[u8], at: usize, meta: &mut [u32]) -> Step
+    requires { ⌜ at < length (now text) ⌝ }
+    ensures { λ r. ⌜ Onward (length (now (text .entry))) at (r .next) ⌝ }
+{
+    let letter = text[at];
+    let end = text::name_end(text, at);
+    let long = end - at;
+    if letter == b'o' && long == 4 {
+        return arena_calls::open(text, end, meta);
+    }
+    if letter == b'c' && long == 6 {
+        return arena_calls::commit(text, end, meta);
+    }
+    if letter == b'c' && long == 8 {
+        return arena_calls::contains(text, end, meta);
+    }
+    if letter == b'g' && long == 13 {
+        return arena_calls::grow(text, end, meta);
+    }
+    if letter == b'r' && long == 7 {
+        return arena_calls::release(text, end, meta);
+    }
+    if letter == b'r' && long == 6 {
+        return arena_calls::report(text, end, meta);
+    }
+    text::answered(text, end, letter == b'#' || letter == b'\n')
+}
+
+fn counted(t: Tally, s: Step) -> Tally {
+    let calls = std::num::wrapping_add_u64(t.calls, 1);
+    if s.same {
+        return Tally {
+            calls,
+            differ: t.differ,
+        };
+    }
+    Tally {
+        calls,
+        differ: std::num::wrapping_add_u64(t.differ, 1),
+    }
+}
+
+fn replay(text: &[u8], meta: &mut [u32]) -> Tally {
+    let mut tally = Tally {
+        calls: 0,
+        differ: 0,
+    };
+    let mut at: usize = 0;
+    while at < text.len() {
+        let step = replay_line(text, at, meta);
+        at = step.next;
+        tally = counted(tally, step);
+    }
+    tally
+}
+
+fn main() {
+    let mut text = io::large_buffer();
+    let mut meta = [0u32; 138688];
+    let n = io::read_full(STDIN_FILENO, &mut text);
+    let tally = replay(&text[..n], &mut meta);
+    io::print_decimal(STDOUT_FILENO, tally.calls);
+    io::write_all(STDOUT_FILENO, b" lines replayed, ");
+    io::print_decimal(STDOUT_FILENO, tally.differ);
+    io::write_all(STDOUT_FILENO, b" differ\n");
+}

@@ -1,0 +1,4 @@
+mod Ways
+mod ActWays
+mod GiveWays
+pub mod CommitWays

@@ -1,0 +1,110 @@
+-- The ways out of the functions, over plain values. Assumes nothing.
+use Prim.Native.Nat.{ℕ, zero, suc, _+_, _-_, _≤_, _<_}
+use native.Mathlib.Omega.{arith}
+use native.Mathlib.Numerals.{add-one}
+use mathlib.Core.Bool.{Bool, true, false, _&&_}
+use mathlib.Core.List.{List}
+use mathlib.Core.Path.{_≡_, refl, _∙_}
+use lib.Dec.{leb}
+use lib.ListN.{length}
+use borrow.Author.Tests.{lt-ltb, le-ltb, le-leb, lt-leb}
+use Rattle.fields.specs.Field.{arena, memory, page, owner, state, frontier, holes, holePages, held, get, put}
+use Rattle.fields.proofs.Laws.{length-put}
+use Rattle.model.specs.HoleStore as Model
+use Rattle.arena.specs.declared.Arena.{Arena}
+use Rattle.arena.specs.Record.{abandoning}
+use Rattle.arena.specs.Fair.{recordFair}
+use Rattle.arena.specs.Owners.{own}
+use Rattle.arena.specs.Act.{rememberWord, recallWord, withHoles, appendWords, giveWords, giveRecord, Gives}
+
+and-false : (a : Bool) → (a && false) ≡ false
+and-false true = refl
+and-false false = refl
+
+-- ---- the record's test: one failing word is enough
+module _ (n : ℕ) (b : List ℕ) where
+  pub no-state : (s : ℕ) → s ≡ get b (arena state) → 2 < s → false ≡ recordFair n b
+  unfolding recordFair
+  no-state s e l = rw (← e, lt-leb s 2 l)
+
+  pub no-frontier : (f : ℕ) → f ≡ get b (arena frontier) → n < f → false ≡ recordFair n b
+  unfolding recordFair
+  no-frontier f e l = simp (← e, lt-leb f n l, and-false)
+
+  pub no-holes : (k : ℕ) → k ≡ get b (arena holes) → 4096 < k → false ≡ recordFair n b
+  unfolding recordFair
+  no-holes k e l = simp (← e, lt-leb k 4096 l, and-false)
+
+  pub no-pages : (t : ℕ) → t ≡ get b (arena holePages) → 65536 < t → false ≡ recordFair n b
+  unfolding recordFair
+  no-pages t e l = simp (← e, lt-leb t 65536 l, and-false)
+
+  pub all-fair : (s f k t d : ℕ) → s ≡ get b (arena state) → s ≤ 2 → f ≡ get b (arena frontier) → f ≤ n → k ≡ get b (arena holes) → k ≤ 4096
+      → t ≡ get b (arena holePages) → t ≤ 65536 → d ≡ get b (arena held) → leb d n ≡ recordFair n b
+  unfolding recordFair
+  all-fair s f k t d e₁ l₁ e₂ l₂ e₃ l₃ e₄ l₄ e₅ =
+      rw (← e₁, ← e₂, ← e₃, ← e₄, ← e₅, le-leb s 2 l₁, le-leb f n l₂, le-leb k 4096 l₃, le-leb t 65536 l₄)
+
+-- ---- a length's memory
+pub recalls-not : (b : List ℕ) (m : ℕ) → 128 < m → 0 ≡ recallWord b m
+unfolding recallWord
+recalls-not b m l = rw (lt-leb m 128 l)
+
+pub recalls : (b : List ℕ) (m r : ℕ) → m ≤ 128 → r ≡ get b (memory m) → r ≡ recallWord b m
+unfolding recallWord
+recalls b m r l e = rw (le-leb m 128 l) e
+
+pub remembers : (b x : List ℕ) (m c : ℕ) → m ≤ 128 → x ≡ put b (memory m) c → x ≡ rememberWord b m c
+unfolding rememberWord
+remembers b x m c l e = rw (le-leb m 128 l) e
+
+pub remembers-not : (b : List ℕ) (m c : ℕ) → 128 < m → b ≡ rememberWord b m c
+unfolding rememberWord
+remembers-not b m c l = rw (lt-leb m 128 l)
+
+-- ---- owners: what is left to write comes to what was asked
+pub record Owning (b₀ : List ℕ) (first pages w : ℕ) (b : List ℕ) (p left : ℕ) : Type 0 where
+  pub end : p + left ≡ first + pages
+  pub long : length b ≡ length b₀
+  pub rest : own b p left w ≡ own b₀ first pages w
+
+module _ (w : ℕ) where
+  step : (b : List ℕ) (p left : ℕ) → own (put b (page owner p) w) (suc p) left w ≡ own b p (suc left) w
+  unfolding own
+  step b p left = refl
+
+  none : (b : List ℕ) (p left : ℕ) → left ≡ 0 → b ≡ own b p left w
+  unfolding own
+  none b p left e = rw e
+
+module _ (b₀ : List ℕ) (first pages w : ℕ) where
+  pub owns-start : Owning b₀ first pages w b₀ first pages
+  owns-start = record { end = refl; long = refl; rest = refl }
+
+  pub owns-again : (b b′ : List ℕ) (p left : ℕ) → Owning b₀ first pages w b p left → 0 < left → b′ ≡ put b (page owner p) w
+      → Owning b₀ first pages w b′ (p + 1) (left - 1)
+  owns-again b b′ p zero k l e = absurd (omega arith)
+  owns-again b b′ p (suc left) k l e =
+      let z : suc left - 1 ≡ left = omega arith in
+      rw (e, z, add-one) (record { end = let y = k .end in omega arith; long = length-put b (page owner p) w ∙ k .long; rest = turn })
+    where
+      turn : own (put b (page owner p) w) (suc p) left w ≡ own b₀ first pages w
+      turn = step w b p left ∙ k .rest
+
+  pub owns-done : (b : List ℕ) (p left : ℕ) → Owning b₀ first pages w b p left → left ≤ 0 → b ≡ own b₀ first pages w
+  owns-done b p left k l = let z : left ≡ 0 = omega arith in none w b p left z ∙ k .rest
+
+-- ---- giving
+module _ (b : List ℕ) (a : Arena) (m q : ℕ) where
+  pub gives-full : (r : Arena) → 4096 ≤ a .count → r ≡ abandoning a → Gives b a m q b r
+  unfolding giveWords giveRecord
+  gives-full r l e = let z = le-ltb (a .count) 4096 l in record { left = rw z; top = rw z e }
+
+  pub gives-over : (r : Arena) → 65536 < a .total + m → r ≡ abandoning a → Gives b a m q b r
+  unfolding giveWords giveRecord
+  gives-over r l e = let z = lt-leb (a .total + m) 65536 l in record { left = simp (z, and-false); top = simp (z, and-false) e }
+
+  pub gives : (x : List ℕ) (r : Arena) → a .count < 4096 → a .total + m ≤ 65536 → x ≡ appendWords b (a .count) m q → r ≡ withHoles (a .count + 1) (a .total + m) a
+      → Gives b a m q x r
+  unfolding giveWords giveRecord
+  gives x r l u e f = let z = lt-ltb (a .count) 4096 l in let y = le-leb (a .total + m) 65536 u in record { left = rw (z, y) e; top = rw (z, y) f }

@@ -1,0 +1,54 @@
+// The arena's record as the words hold it, and number 13's tests of it.
+use arena::Arena;
+ghost use mathlib.Core.Path.{_≡_};
+ghost use Prim.Native.Nat.{_≤_};
+ghost use lib.ListN.{length};
+ghost use Rattle.arena.specs.Record.{recordOf};
+ghost use Rattle.arena.specs.Fair.{recordFair};
+ghost use Rattle.arena.specs.Act.{recallWord};
+
+pub fn load_record(meta: &[u32]) -> Arena
+    requires { ⌜ 40000 ≤ length (now meta) ⌝ }
+    ensures { λ r. ⌜ r ≡ recordOf (now (meta .entry)) ⌝ }
+{
+    Arena {
+        state: fields::arena::state(meta),
+        frontier: fields::arena::frontier(meta),
+        count: fields::arena::holes(meta),
+        total: fields::arena::hole_pages(meta),
+        commits: fields::arena::commits(meta),
+        reuses: fields::arena::reuses(meta),
+        abandoned: fields::arena::abandoned(meta),
+    }
+}
+
+// Is every word of the record in its range, in an arena of so many pages.
+pub fn record_fair(meta: &[u32], size: u32) -> bool
+    requires { ⌜ 40000 ≤ length (now meta) ⌝ }
+    ensures { λ r. ⌜ r ≡ recordFair size (now (meta .entry)) ⌝ }
+{
+    if 2 < fields::arena::state(meta) {
+        return false;
+    }
+    if size < fields::arena::frontier(meta) {
+        return false;
+    }
+    if 4_096 < fields::arena::holes(meta) {
+        return false;
+    }
+    if 65_536 < fields::arena::hole_pages(meta) {
+        return false;
+    }
+    fields::arena::held(meta) <= size
+}
+
+// The memory of a length, 0 where it has none.
+pub fn recall(meta: &[u32], pages: u32) -> u32
+    requires { ⌜ 40000 ≤ length (now meta) ⌝ }
+    ensures { λ r. ⌜ r ≡ recallWord (now (meta .entry)) pages ⌝ }
+{
+    if 128 < pages {
+        return 0;
+    }
+    fields::hole::memory(meta, pages)
+}

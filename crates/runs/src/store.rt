@@ -1,0 +1,54 @@
+// The record, a hole, and the memory of a length, written to the words.
+use arena::Arena;
+ghost use mathlib.Core.Path.{_≡_};
+ghost use Prim.Native.Nat.{_≤_, _<_};
+ghost use lib.ListN.{length};
+ghost use Rattle.model.specs.HoleStore.{hole};
+ghost use Rattle.arena.specs.Store.{storeHole, storeCounts, storeTop};
+ghost use Rattle.arena.specs.Record.{storeRecord};
+ghost use Rattle.arena.specs.Act.{rememberWord};
+
+fn store_counts(meta: &mut [u32], a: Arena)
+    requires { ⌜ 40000 ≤ length (now meta) ⌝ }
+    ensures { λ _. ⌜ now (meta .exit) ≡ storeCounts (now (meta .entry)) (a .commits) (a .reuses) (a .abandoned) ⌝ }
+{
+    fields::arena::set_commits(meta, a.commits);
+    fields::arena::set_reuses(meta, a.reuses);
+    fields::arena::set_abandoned(meta, a.abandoned);
+}
+
+fn store_top(meta: &mut [u32], a: Arena)
+    requires { ⌜ 40000 ≤ length (now meta) ⌝ }
+    ensures { λ _. ⌜ now (meta .exit) ≡ storeTop (now (meta .entry)) (a .state) (a .frontier) (a .count) (a .total) ⌝ }
+{
+    fields::arena::set_state(meta, a.state);
+    fields::arena::set_frontier(meta, a.frontier);
+    fields::arena::set_holes(meta, a.count);
+    fields::arena::set_hole_pages(meta, a.total);
+}
+
+pub fn store_record(meta: &mut [u32], a: Arena)
+    requires { ⌜ 40000 ≤ length (now meta) ⌝ }
+    ensures { λ _. ⌜ now (meta .exit) ≡ storeRecord (now (meta .entry)) a ⌝ }
+{
+    store_counts(meta, a);
+    store_top(meta, a);
+}
+
+pub fn store_hole(meta: &mut [u32], i: u32, first: u32, pages: u32)
+    requires { ⌜ (40000 ≤ length (now meta)) × (i < 4096) ⌝ }
+    ensures { λ _. ⌜ now (meta .exit) ≡ storeHole (now (meta .entry)) i (hole first pages) ⌝ }
+{
+    fields::hole::set_start(meta, i, first);
+    fields::hole::set_pages(meta, i, pages);
+}
+
+// Lengths above 128 have no memory.
+pub fn remember(meta: &mut [u32], pages: u32, code: u32)
+    requires { ⌜ 40000 ≤ length (now meta) ⌝ }
+    ensures { λ _. ⌜ now (meta .exit) ≡ rememberWord (now (meta .entry)) pages code ⌝ }
+{
+    if pages <= 128 {
+        fields::hole::set_memory(meta, pages, code);
+    }
+}

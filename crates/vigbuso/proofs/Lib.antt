@@ -1,0 +1,3 @@
+mod DirectWays
+mod TakeWays
+mod ReleaseWays

@@ -1,0 +1,75 @@
+-- The exported takes and releases by list, on any book, any numbers and any list: the answer, the book, the list and the
+-- out-parameters afterwards, refusals included. Numbers 1 to 4 come first; then it is a call of the class, on an arena of the length
+-- that the book holds.
+-- Assumes nothing.
+use Prim.Native.Nat.{ℕ, _+_}
+use mathlib.Core.List.{List}
+use mathlib.Core.Bool.{Bool, true, false, cond}
+use mathlib.Core.Path.{_≡_}
+use lib.Dec.{eqb, ltb}
+use Rattle.words.specs.Host.{digit}
+use Rattle.classes.specs.Shape.{shapeOf}
+use Rattle.fields.specs.Field.{arena, size, get}
+use Rattle.fields.specs.Ranges.{metaFault}
+use Rattle.model.specs.Chunks.{hostMax}
+use Rattle.heap.specs.declared.take.Take.{Take}
+use Rattle.heap.specs.declared.take.Take.the-variants.{Refused, Took}
+use Rattle.heap.specs.Take as Heap
+use Rattle.heap.specs.Take.{tookNone, takeCall}
+use Rattle.heap.specs.TakeAnswer.{answerOf}
+use Rattle.heap.specs.Release as Back
+use Rattle.heap.specs.Release.{releasedNone, releaseCall}
+use Rattle.release.specs.declared.Released.{Released}
+use Rattle.release.specs.declared.Released.the-variants.{Fate}
+use Rattle.release.specs.Act.{answerAs}
+
+-- a take of class c among those of ids low to low + many - 1: 0 and 64 for the small ones, 64 and 12 for the medium ones
+unfoldable pub takeOn : ℕ → ℕ → List ℕ → ℕ → ℕ → List ℕ → Heap.Took
+takeOn low many b c h l =
+    cond (eqb (metaFault b) 0)
+    (cond (ltb hostMax h) (tookNone b l 3)
+    (cond (ltb c many) (takeCall (get b (arena size)) b (low + c) (shapeOf (low + c)) h l) (tookNone b l 4)))
+    (tookNone b l (metaFault b))
+
+abbrev pub codeOut : Take → ℕ
+codeOut (Refused k) = k
+codeOut (Took m v) = 0
+
+abbrev pub countOut : Take → ℕ → ℕ
+countOut (Refused k) old = old
+countOut (Took m v) old = m
+
+abbrev pub virginOut : Take → ℕ → ℕ
+virginOut (Refused k) old = old
+virginOut (Took m v) old = digit v
+
+abbrev pub answered : Heap.Took → Take
+answered t = answerOf (t .code) (t .count) (t .virgin)
+
+pub record TakeEnds (t : Heap.Took) (r : ℕ) (b l : List ℕ) (count₀ count virgin₀ virgin : ℕ) : Type 0 where
+  pub code : r ≡ codeOut (answered t)
+  pub book : b ≡ t .book
+  pub list : l ≡ t .list
+  pub count : count ≡ countOut (answered t) count₀
+  pub virgin : virgin ≡ virginOut (answered t) virgin₀
+
+-- ---- releases by list
+unfoldable pub releaseOn : ℕ → ℕ → List ℕ → ℕ → ℕ → List ℕ → Back.Released
+releaseOn low many b c h ws =
+    cond (eqb (metaFault b) 0)
+    (cond (ltb hostMax h) (releasedNone b 3)
+    (cond (ltb c many) (releaseCall (get b (arena size)) b (low + c) (shapeOf (low + c)) h ws) (releasedNone b 4)))
+    (releasedNone b (metaFault b))
+
+abbrev pub releaseCode : Released → ℕ
+releaseCode (Released.Refused k) = k
+releaseCode (Fate f) = 0
+
+abbrev pub fateOut : Released → ℕ → ℕ
+fateOut (Released.Refused k) old = old
+fateOut (Fate f) old = f
+
+pub record ReleaseEnds (o : Back.Released) (r : ℕ) (b : List ℕ) (fate₀ fate : ℕ) : Type 0 where
+  pub code : r ≡ releaseCode (answerAs (o .code) (o .fate))
+  pub book : b ≡ o .book
+  pub fate : fate ≡ fateOut (answerAs (o .code) (o .fate)) fate₀

@@ -1,0 +1,87 @@
+-- The exported calls that go straight to the arena, on any book and any numbers: the answer, the book and the out-parameters
+-- afterwards, refusals included. Numbers 1 and 2 come first; then the call is one on an arena of the length that the book holds.
+-- Assumes nothing.
+use Prim.Native.Nat.{ℕ}
+use mathlib.Core.List.{List, [], _∷_}
+use mathlib.Core.Bool.{Bool, false, cond}
+use mathlib.Core.Path.{_≡_}
+use lib.Dec.{eqb}
+use lib.ListN.{length}
+use Rattle.words.specs.Host.{digit}
+use Rattle.fields.specs.Field.{arena, size, get}
+use Rattle.fields.specs.Outcome.{Outcome, ends}
+use Rattle.fields.specs.Ranges.{lengthFault, metaFault}
+use Rattle.runs.specs.declared.Commit.{Commit}
+use Rattle.runs.specs.declared.Commit.the-variants.{Refused, Run, Nothing}
+use Rattle.direct.specs.declared.Grow.{Grow}
+use Rattle.direct.specs.declared.Grow.the-variants.{Yes, No}
+use Rattle.direct.specs.declared.Report.{Report}
+use Rattle.direct.specs.declared.Report.the-variants.{Told}
+use Rattle.arena.specs.Calls.{Committed, commitRefused, commitCall, Done, doneRefused, growCall, releaseCall, containsCall}
+use Rattle.arena.specs.Open.{opened}
+use Rattle.runs.specs.Answer.{commitAnswer, commitCode}
+use Rattle.direct.specs.Answer.{grownAs, growCode, reportOf}
+
+-- ---- opening
+unfoldable pub openOn : List ℕ → ℕ → Outcome
+openOn b n = cond (eqb (lengthFault n (length b)) 0) (ends 0 (opened n b)) (ends (lengthFault n (length b)) b)
+
+-- ---- commit: for none, the first page is the greatest number
+unfoldable pub commitOn : List ℕ → ℕ → ℕ → Committed
+commitOn b h m = cond (eqb (metaFault b) 0) (commitCall (get b (arena size)) b h m) (commitRefused b (metaFault b))
+
+abbrev pub firstOut : Commit → ℕ → ℕ
+firstOut (Refused k) old = old
+firstOut (Run q f) old = q
+firstOut Nothing old = 4294967295
+
+abbrev pub freshOut : Commit → ℕ → ℕ
+freshOut (Refused k) old = old
+freshOut (Run q f) old = digit f
+freshOut Nothing old = 0
+
+-- q and f are the out-parameters before the call, q′ and f′ after it
+pub record CommitEnds (o : Committed) (r : ℕ) (b : List ℕ) (q q′ f f′ : ℕ) : Type 0 where
+  pub code : r ≡ commitCode (commitAnswer o)
+  pub book : b ≡ o .book
+  pub first : q′ ≡ firstOut (commitAnswer o) q
+  pub fresh : f′ ≡ freshOut (commitAnswer o) f
+
+-- ---- growth
+unfoldable pub growOn : List ℕ → ℕ → ℕ → ℕ → ℕ → Done
+growOn b h q old new = cond (eqb (metaFault b) 0) (growCall (get b (arena size)) b h q old new) (doneRefused b (metaFault b))
+
+abbrev pub grownOut : Grow → ℕ → ℕ
+grownOut (Grow.Refused k) old = old
+grownOut Yes old = 1
+grownOut No old = 0
+
+pub record GrowEnds (o : Done) (r : ℕ) (b : List ℕ) (g g′ : ℕ) : Type 0 where
+  pub code : r ≡ growCode (grownAs (o .code) (o .yes))
+  pub book : b ≡ o .book
+  pub grown : g′ ≡ grownOut (grownAs (o .code) (o .yes)) g
+
+-- ---- release
+unfoldable pub releaseOn : List ℕ → ℕ → ℕ → ℕ → Done
+releaseOn b h q m = cond (eqb (metaFault b) 0) (releaseCall (get b (arena size)) b h q m) (doneRefused b (metaFault b))
+
+-- ---- contains, as a number: no on a book that 1 or 2 would refuse
+unfoldable pub containsOn : List ℕ → ℕ → ℕ → Bool
+containsOn b o k = cond (eqb (metaFault b) 0) (containsCall (get b (arena size)) b o k) false
+
+-- ---- report
+unfoldable pub reportOn : List ℕ → Report
+reportOn b = cond (eqb (metaFault b) 0) (reportOf (get b (arena size)) b) (Report.Refused (metaFault b))
+
+abbrev pub reportCode : Report → ℕ
+reportCode (Report.Refused k) = k
+reportCode (Told f) = 0
+
+-- commits, reuses, abandoned, pages held, idle pages
+abbrev pub figuresOut : Report → List ℕ → List ℕ
+figuresOut (Report.Refused k) old = old
+figuresOut (Told f) old = f .commits ∷ f .reuses ∷ f .abandoned ∷ f .held ∷ f .idle ∷ []
+
+pub record ReportEnds (o : Report) (r : ℕ) (fs fs′ : List ℕ) : Type 0 where
+  pub code : r ≡ reportCode o
+  pub figures : fs′ ≡ figuresOut o fs

@@ -1,0 +1,146 @@
+// The calls that go straight to the arena. Any number and any book is taken: numbers 1 and 2 stand before each call.
+use direct::Grow;
+use direct::Report;
+use runs::Commit;
+ghost use mathlib.Core.Path.{_≡_};
+ghost use Rattle.words.specs.Host.{digit};
+ghost use Rattle.fields.specs.Outcome.{Did};
+ghost use Rattle.runs.specs.Answer.{Answers};
+ghost use Rattle.direct.specs.Answer.{Grew, Releases};
+ghost use Rattle.vigbuso.specs.Direct.{openOn, commitOn, CommitEnds, growOn, GrowEnds, releaseOn, containsOn, reportOn, ReportEnds};
+
+#[no_mangle]
+pub extern "C" fn vigbuso_open(meta: &mut [u32], pages: u64) -> u32
+    ensures { λ r. ⌜ Did r (now (meta .exit)) (openOn (now (meta .entry)) pages) ⌝ }
+{
+    let fault = fields::fault::length_fault(pages, meta.len());
+    if fault != 0 {
+        return fault;
+    }
+    direct::open::open(meta, pages as u32);
+    0
+}
+
+fn commit_on(meta: &mut [u32], host: u32, pages: u64) -> Commit
+    ensures { λ r. ⌜ Answers r (now (meta .exit)) (commitOn (now (meta .entry)) host pages) ⌝ }
+{
+    let fault = fields::fault::meta_fault(meta);
+    if fault != 0 {
+        return Commit::Refused(fault);
+    }
+    let size = fields::arena::size(meta);
+    direct::calls::commit(meta, size, host, pages)
+}
+
+#[no_mangle]
+pub extern "C" fn vigbuso_commit(
+    meta: &mut [u32],
+    host: u32,
+    pages: u64,
+    first: &mut u32,
+    fresh: &mut u32,
+) -> u32
+    ensures { λ r. ⌜ CommitEnds (commitOn (now (meta .entry)) host pages) r (now (meta .exit)) (now (first .entry)) (now (first .exit)) (now (fresh .entry)) (now (fresh .exit)) ⌝ }
+{
+    match commit_on(meta, host, pages) {
+        Commit::Refused(k) => k,
+        Commit::Run(q, f) => {
+            *first = q;
+            *fresh = f as u32;
+            0
+        }
+        Commit::Nothing => {
+            *first = 4_294_967_295;
+            *fresh = 0;
+            0
+        }
+    }
+}
+
+fn grow_on(meta: &mut [u32], host: u32, first: u64, old: u64, new: u64) -> Grow
+    ensures { λ r. ⌜ Grew r (now (meta .exit)) (growOn (now (meta .entry)) host first old new) ⌝ }
+{
+    let fault = fields::fault::meta_fault(meta);
+    if fault != 0 {
+        return Grow::Refused(fault);
+    }
+    let size = fields::arena::size(meta);
+    direct::calls::grow_frontier(meta, size, host, first, old, new)
+}
+
+#[no_mangle]
+pub extern "C" fn vigbuso_grow_frontier(
+    meta: &mut [u32],
+    host: u32,
+    first: u64,
+    old: u64,
+    new: u64,
+    grown: &mut u32,
+) -> u32
+    ensures { λ r. ⌜ GrowEnds (growOn (now (meta .entry)) host first old new) r (now (meta .exit)) (now (grown .entry)) (now (grown .exit)) ⌝ }
+{
+    match grow_on(meta, host, first, old, new) {
+        Grow::Refused(k) => k,
+        Grow::Yes => {
+            *grown = 1;
+            0
+        }
+        Grow::No => {
+            *grown = 0;
+            0
+        }
+    }
+}
+
+#[no_mangle]
+pub extern "C" fn vigbuso_release(meta: &mut [u32], host: u32, first: u64, pages: u64) -> u32
+    ensures { λ r. ⌜ Releases r (now (meta .exit)) (releaseOn (now (meta .entry)) host first pages) ⌝ }
+{
+    let fault = fields::fault::meta_fault(meta);
+    if fault != 0 {
+        return fault;
+    }
+    let size = fields::arena::size(meta);
+    direct::calls::release(meta, size, host, first, pages)
+}
+
+fn contains_on(meta: &[u32], offset: u64, length: u64) -> bool
+    ensures { λ r. ⌜ r ≡ containsOn (now (meta .entry)) offset length ⌝ }
+{
+    if fields::fault::meta_fault(meta) != 0 {
+        return false;
+    }
+    let size = fields::arena::size(meta);
+    direct::calls::contains(meta, size, offset, length)
+}
+
+#[no_mangle]
+pub extern "C" fn vigbuso_contains(meta: &[u32], offset: u64, length: u64) -> u32
+    ensures { λ r. ⌜ r ≡ digit (containsOn (now (meta .entry)) offset length) ⌝ }
+{
+    contains_on(meta, offset, length) as u32
+}
+
+fn report_on(meta: &[u32]) -> Report
+    ensures { λ r. ⌜ r ≡ reportOn (now (meta .entry)) ⌝ }
+{
+    let fault = fields::fault::meta_fault(meta);
+    if fault != 0 {
+        return Report::Refused(fault);
+    }
+    let size = fields::arena::size(meta);
+    direct::calls::report(meta, size)
+}
+
+#[no_mangle]
+pub extern "C" fn vigbuso_report(meta: &[u32], figures: &mut [u64; 5]) -> u32
+    ensures { λ r. ⌜ ReportEnds (reportOn (now (meta .entry))) r (now (figures .entry)) (now (figures .exit)) ⌝ }
+{
+    match report_on(meta) {
+        Report::Refused(k) => k,
+        Report::Told(f) => {
+            *figures = [f.commits, f.reuses, f.abandoned, f.held, f.idle];
+            0
+        }
+    }
+}

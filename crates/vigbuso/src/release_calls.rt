@@ -1,0 +1,73 @@
+// The releases by list. Any number, any list and any book is taken: numbers 1 to 4 stand before each call.
+use release::Released;
+ghost use mathlib.Core.Path.{_≡_};
+ghost use Prim.Native.Nat.{_+_, _≤_};
+ghost use Rattle.release.specs.Act.{Answered};
+ghost use Rattle.vigbuso.specs.Blocks.{releaseOn, ReleaseEnds};
+
+const MAX_HOST: u32 = 15;
+
+// A release of a class among those of ids `low` to `low + many - 1`.
+fn release_on(
+    meta: &mut [u32],
+    low: u32,
+    many: u32,
+    class: u32,
+    host: u32,
+    list: &[u32],
+) -> Released
+    requires { ⌜ low + many ≤ 76 ⌝ }
+    ensures { λ r. ⌜ Answered r (now (meta .exit)) (releaseOn low many (now (meta .entry)) class host (now (list .entry))) ⌝ }
+{
+    let fault = fields::fault::meta_fault(meta);
+    if fault != 0 {
+        return Released::Refused(fault);
+    }
+    if MAX_HOST < host {
+        return Released::Refused(3);
+    }
+    if many <= class {
+        return Released::Refused(4);
+    }
+    let size = fields::arena::size(meta);
+    let id = low + class;
+    release::release_call(meta, size, id, classes::shape_of(id), host, list)
+}
+
+#[no_mangle]
+pub extern "C" fn vigbuso_release_blocks(
+    meta: &mut [u32],
+    class: u32,
+    host: u32,
+    list: &[u32],
+    fate: &mut u32,
+) -> u32
+    ensures { λ r. ⌜ ReleaseEnds (releaseOn 0 64 (now (meta .entry)) class host (now (list .entry))) r (now (meta .exit)) (now (fate .entry)) (now (fate .exit)) ⌝ }
+{
+    match release_on(meta, 0, 64, class, host, list) {
+        Released::Refused(k) => k,
+        Released::Fate(f) => {
+            *fate = f;
+            0
+        }
+    }
+}
+
+#[no_mangle]
+pub extern "C" fn vigbuso_medium_release_blocks(
+    meta: &mut [u32],
+    class: u32,
+    host: u32,
+    list: &[u32],
+    fate: &mut u32,
+) -> u32
+    ensures { λ r. ⌜ ReleaseEnds (releaseOn 64 12 (now (meta .entry)) class host (now (list .entry))) r (now (meta .exit)) (now (fate .entry)) (now (fate .exit)) ⌝ }
+{
+    match release_on(meta, 64, 12, class, host, list) {
+        Released::Refused(k) => k,
+        Released::Fate(f) => {
+            *fate = f;
+            0
+        }
+    }
+}

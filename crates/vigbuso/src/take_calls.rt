@@ -1,0 +1,69 @@
+// The takes. Any number, any list and any book is taken: numbers 1 to 4 stand before each call.
+use heap::take::Take;
+ghost use mathlib.Core.Path.{_≡_};
+ghost use Prim.Native.Nat.{_+_, _≤_};
+ghost use Rattle.heap.specs.TakeAnswer.{Takes};
+ghost use Rattle.vigbuso.specs.Blocks.{takeOn, TakeEnds};
+
+const MAX_HOST: u32 = 15;
+
+// A take of a class among those of ids `low` to `low + many - 1`.
+fn take_on(meta: &mut [u32], low: u32, many: u32, class: u32, host: u32, list: &mut [u32]) -> Take
+    requires { ⌜ low + many ≤ 76 ⌝ }
+    ensures { λ r. ⌜ Takes r (now (meta .exit)) (now (list .exit)) (takeOn low many (now (meta .entry)) class host (now (list .entry))) ⌝ }
+{
+    let fault = fields::fault::meta_fault(meta);
+    if fault != 0 {
+        return Take::Refused(fault);
+    }
+    if MAX_HOST < host {
+        return Take::Refused(3);
+    }
+    if many <= class {
+        return Take::Refused(4);
+    }
+    let size = fields::arena::size(meta);
+    heap::take::take_call(meta, size, low + class, host, list)
+}
+
+#[no_mangle]
+pub extern "C" fn vigbuso_take_blocks(
+    meta: &mut [u32],
+    class: u32,
+    host: u32,
+    list: &mut [u32],
+    count: &mut u32,
+    virgin: &mut u32,
+) -> u32
+    ensures { λ r. ⌜ TakeEnds (takeOn 0 64 (now (meta .entry)) class host (now (list .entry))) r (now (meta .exit)) (now (list .exit)) (now (count .entry)) (now (count .exit)) (now (virgin .entry)) (now (virgin .exit)) ⌝ }
+{
+    match take_on(meta, 0, 64, class, host, list) {
+        Take::Refused(k) => k,
+        Take::Took(m, v) => {
+            *count = m;
+            *virgin = v as u32;
+            0
+        }
+    }
+}
+
+#[no_mangle]
+pub extern "C" fn vigbuso_medium_take_blocks(
+    meta: &mut [u32],
+    class: u32,
+    host: u32,
+    list: &mut [u32],
+    count: &mut u32,
+    virgin: &mut u32,
+) -> u32
+    ensures { λ r. ⌜ TakeEnds (takeOn 64 12 (now (meta .entry)) class host (now (list .entry))) r (now (meta .exit)) (now (list .exit)) (now (count .entry)) (now (count .exit)) (now (virgin .entry)) (now (virgin .exit)) ⌝ }
+{
+    match take_on(meta, 64, 12, class, host, list) {
+        Take::Refused(k) => k,
+        Take::Took(m, v) => {
+            *count = m;
+            *virgin = v as u32;
+            0
+        }
+    }
+}
