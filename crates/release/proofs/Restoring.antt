@@ -70,8 +70,8 @@ module _ (b : List ℕ) (sh : Shape) (w : ℕ) (e : hasBit b sh w ≡ true) wher
         restored-is b′ z = z ∙ rw (start-is, x)
 
 -- ---- lists
-take-last : (ws : List ℕ) (i : ℕ) → (i ≡ 0 → ⊥) → i ≤ length ws → take i ws ≡ take (i - 1) ws ++ (getD ws (i - 1) 0 ∷ [])
-take-last ws zero h l = absurd (h refl)
+take-last : (ws : List ℕ) (i : ℕ) → 0 < i → i ≤ length ws → take i ws ≡ take (i - 1) ws ++ (getD ws (i - 1) 0 ∷ [])
+take-last ws zero h l = absurd (omega arith)
 take-last ws (suc i) h l = rw (sub-one (suc i)) (take-suc ws i 0 l)
 
 pub every-append : {A : Type 0} (t : A → Bool) (xs ys : List A) → every t (xs ++ ys) ≡ (every t xs && every t ys)
@@ -93,11 +93,11 @@ module _ (b : List ℕ) (sh : Shape) (ws : List ℕ) (count : ℕ) where
   pub restore-starts : RestoreAsks b sh (take count ws) → RestoreInv b sh ws count b count
   restore-starts a = record { within = omega arith; long = refl; bits = a .bits; left = refl }
 
-  pub restore-ends : (b′ : List ℕ) (i : ℕ) → i ≡ 0 → RestoreInv b sh ws count b′ i → b′ ≡ unstruck b sh (take count ws)
+  pub restore-ends : (b′ : List ℕ) (i : ℕ) → i ≤ 0 → RestoreInv b sh ws count b′ i → b′ ≡ unstruck b sh (take count ws)
   unfolding unstruck
-  restore-ends b′ i h v = rw h at (v .left)
+  restore-ends b′ i h v = let z : i ≡ 0 = omega arith in rw z at (v .left)
 
-  module _ (b′ : List ℕ) (i : ℕ) (h : i ≡ 0 → ⊥) (v : RestoreInv b sh ws count b′ i) (l : count ≤ length ws) where
+  module _ (b′ : List ℕ) (i : ℕ) (h : 0 < i) (v : RestoreInv b sh ws count b′ i) (l : count ≤ length ws) where
     split-bits : (every (hasBit b′ sh) (take (i - 1) ws) && (hasBit b′ sh (getD ws (i - 1) 0) && true)) ≡ true
     split-bits = sym (every-append (hasBit b′ sh) (take (i - 1) ws) (getD ws (i - 1) 0 ∷ [])) ∙ (rw (take-last ws i h (omega (arith, v .within))) at (v .bits))
 

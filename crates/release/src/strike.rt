@@ -146,7 +146,7 @@ pub fn unstrike(meta: &mut [u32], shape: Shape, list: &[u32], count: usize)
     ensures { λ _. ⌜ now (meta .exit) ≡ unstruck (now (meta .entry)) shape (take count (now (list .entry))) ⌝ }
 {
     let mut i = count;
-    while i != 0 {
+    while i > 0 {
         i -= 1;
         restore(meta, shape, list[i]);
     }

@@ -1,3 +1,5 @@
+use Prim.Native.Nat.{_<_, _≤_}
+use native.Mathlib.Omega.{arith}
 use borrow.Author.Needs.{needs}
 use Rattle.release.proofs.Restoring.{RestoreInv, restore-starts, last-bit, restore-goes-on, restore-ends}
 use Rattle.release.proofs.strike.unstrike.Statement.{statement}
@@ -22,19 +24,27 @@ shared-slice-read-restore : tie.Need-shared-slice-read-restore Inv-loop μ-loop
 shared-slice-read-restore c = search needs
 
 restore-requires : tie.Need-restore-requires Inv-loop μ-loop
-restore-requires c κs = (search needs, search last-bit)
+restore-requires c κs =
+    let turn = c .before .before in
+    let some : 0 < turn .before .loop .i = omega arith in
+    (search needs, last-bit _ _ _ _ _ _ some (turn .before .loop .inv) (turn .before .before .before .before .pre .0))
 
 loop-less : tie.Need-loop-less Inv-loop μ-loop
 loop-less c = search needs
 
 loop-again : tie.Need-loop-again Inv-loop μ-loop
-loop-again c = search restore-goes-on
+loop-again c =
+    let turn = c .before .before .before .before .before in
+    let some : 0 < turn .before .loop .i = omega arith in
+    restore-goes-on _ _ _ _ _ _ some (turn .before .loop .inv) (turn .before .before .before .before .pre .0) _ (c .before .before .restore .ensures)
 
 same-length : tie.Need-same-length Inv-loop μ-loop
 same-length c = search needs
 
 returns : tie.Need-returns Inv-loop μ-loop
-returns c = search restore-ends
+returns c =
+    let none : c .before .loop .i ≤ 0 = omega arith in
+    restore-ends _ _ _ _ _ _ none (c .before .loop .inv)
 
 pub unstrike-spec : {M : Type 1} → statement M
 unstrike-spec =
