@@ -1,6 +1,7 @@
 // Replays stored histories on the compiled heap, and compares every answer with the original's, stored beside the call. The input has
 // a call a line, as compare/src/history.rs writes them: a name, the arguments, and after `=` what the call returned and wrote.
 mod arena_calls;
+mod block_calls;
 mod text;
 
 use libc::STDIN_FILENO;
@@ -8,7 +9,7 @@ use libc::STDOUT_FILENO;
 use text::Step;
 ghost use Prim.Native.Nat.{_<_};
 ghost use lib.ListN.{length};
-ghost use Rattle.replay.specs.Text.{Onward};
+ghost use Rattle.replay.specs.Text.{Onward, Reached};
 
 // How many calls were replayed, and how many answered something else.
 struct Tally {
@@ -41,6 +42,29 @@ fn replay_line(text: &[u8], at: usize, meta: &mut [u32]) -> Step
     }
     if letter == b'r' && long == 6 {
         return arena_calls::report(text, end, meta);
+    }
+    replay_blocks(text, at, end, meta)
+}
+
+// The takes and releases by list.
+fn replay_blocks(text: &[u8], at: usize, end: usize, meta: &mut [u32]) -> Step
+    requires { ⌜ at < length (now text) ⌝ }
+    requires { ⌜ Reached (length (now text)) at end ⌝ }
+    ensures { λ r. ⌜ Onward (length (now (text .entry))) at (r .next) ⌝ }
+{
+    let letter = text[at];
+    let long = end - at;
+    if letter == b't' && long == 11 {
+        return block_calls::take(text, end, meta, false);
+    }
+    if letter == b'm' && long == 18 {
+        return block_calls::take(text, end, meta, true);
+    }
+    if letter == b'r' && long == 14 {
+        return block_calls::release(text, end, meta, false);
+    }
+    if letter == b'm' && long == 21 {
+        return block_calls::release(text, end, meta, true);
     }
     text::answered(text, end, letter == b'#' || letter == b'\n')
 }

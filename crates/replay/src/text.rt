@@ -101,6 +101,10 @@ pub fn low(value: u64) -> u32 {
     (value % 4_294_967_296) as u32
 }
 
+pub fn wide(word: u32) -> u64 {
+    word as u64
+}
+
 // The place after the line's end.
 fn line_end(text: &[u8], at: usize) -> usize
     requires { ⌜ at ≤ length (now text) ⌝ }
