@@ -3,31 +3,29 @@
 --     turned        every turn does
 --     fill-planned  so the fill yields what was planned
 -- Assumes nothing.
-use Prim.Native.Nat.{ℕ, zero, suc, _+_, _-_, _≤_, _<_}
+use Prim.Native.Nat.{ℕ, zero, suc, _-_, _≤_}
 use native.Mathlib.Omega.{arith}
-use mathlib.Core.Bool.{Bool, true, false, cond, not, _&&_, _||_}
-use mathlib.Core.List.{List, [], _∷_, _++_, map}
+use mathlib.Core.Bool.{Bool, true, false, _&&_, _||_}
+use mathlib.Core.List.{List, [], _∷_, map}
 use mathlib.Core.Path.{_≡_, refl, sym, ap, _∙_}
 use lib.Dec.{eqb, ltb, leb}
 use lib.ListN.{length, length-append}
-use borrow.Author.Tests.{lt-ltb, leb-true, eq-eqb, ne-eqb, eqb-true}
+use borrow.Author.Tests.{lt-ltb, leb-true, eq-eqb, ne-eqb}
 use Rattle.classes.specs.declared.Shape.{Shape}
 use Rattle.classes.specs.Sound.{Sound}
-use Rattle.fields.specs.Field.{Field, arena, memory, class, hole, page, out, slot, frontier, partial, next, prev, free, carved, listed, virgin, region, off, get, put, ok, words}
-use Rattle.fields.specs.Outcome.{putAt}
+use Rattle.fields.specs.Field.{Field, arena, class, page, out, frontier, partial, next, prev, free, carved, virgin, region, off, get, ok, words}
 use Rattle.fields.proofs.Laws.{get-put-same, get-put-other, length-put}
-use Rattle.fields.proofs.Outcome.{length-putAt, get-putAt-other, get-putAt-same, changes-putAt}
-use Rattle.fields.proofs.Changes.{Changes, changes-none, changes-put, changes-trans}
-use Rattle.model.specs.Page.{wordOf}
-use Rattle.model.proofs.Counts.{by-cases, and-l, and-r}
+use Rattle.fields.proofs.Outcome.{get-putAt-other}
+use Rattle.fields.proofs.Changes.{Changes, changes-trans}
+use Rattle.model.proofs.Counts.{by-cases}
 use Rattle.pages.specs.Stack.{latest, draw, hasMore}
-use Rattle.pages.specs.Links.{pointNext, cutOut, unlink}
+use Rattle.pages.specs.Links.{cutOut, unlink}
 use Rattle.pages.proofs.Draws.{draw-changes}
 use Rattle.pages.proofs.Frames.{changes-unlink}
-use Rattle.heap.specs.Take.{walk, Filled, filledNone, thenFilled, relist, fillFrom}
+use Rattle.heap.specs.Take.{walk, Filled, filledNone, relist, fillFrom}
 use Rattle.heap.proofs.TakePages.{Fair, whole-below, latest-most}
 use Rattle.heap.proofs.TakeDraws.{latest-small, draw-full}
-use Rattle.heap.proofs.Walk.{Planned, plannedNone, thenPlanned, planned, planned-stops, planned-goes, stops, stops-full, some-wanted, some-page, Step, walk-below, walk-stops, walk-step, isTurned, head-kept}
+use Rattle.heap.proofs.Walk.{Planned, planned, planned-stops, stops, stops-full, some-page, Step, walk-below, walk-stops, walk-step, isTurned, head-kept}
 
 -- ---- the head of the list is cut out
 module _ (n : ℕ) (b : List ℕ) (hb : leb (words n) (length b) ≡ true) (c : ℕ) (hc : ltb c 76 ≡ true) (q x : ℕ) (hq : ltb q n ≡ true) (first : get b (page prev q) ≡ 0) (after : get b (page next q) ≡ x) where

@@ -1,17 +1,15 @@
 -- The ways out of the functions that fill a take's list, and what the loop keeps. Assumes nothing.
 use Prim.Native.Nat.{ℕ, zero, suc, _+_, _-_, _≤_, _<_}
 use native.Mathlib.Omega.{arith}
-use mathlib.Core.Bool.{Bool, true, false, cond, not, _&&_, _||_}
-use mathlib.Core.List.{List, [], _∷_, _++_, map, append-assoc}
+use mathlib.Core.Bool.{Bool, true, false, not}
+use mathlib.Core.List.{List, _++_, map, append-assoc}
 use mathlib.Core.Path.{_≡_, refl, sym, ap, _∙_}
-use lib.Dec.{eqb, ltb, leb}
+use lib.Dec.{eqb}
 use lib.ListN.{length, take, drop, length-append}
 use lib.Seq.{length-take-le, drop-at}
-use borrow.Author.Tests.{lt-ltb, le-leb, leb-true, eqb-true, not-true, not-false}
+use borrow.Author.Tests.{lt-ltb, le-leb, leb-true, not-true, not-false}
 use Rattle.classes.specs.declared.Shape.{Shape}
-use Rattle.classes.specs.Sound.{Sound}
-use Rattle.fields.specs.Field.{arena, class, page, frontier, partial, next, prev, free, carved, virgin, region, off, words, get}
-use Rattle.model.specs.Lists.{every}
+use Rattle.fields.specs.Field.{arena, class, page, frontier, partial, next, prev, free, carved, virgin, words, get}
 use Rattle.model.specs.Page.{wordOf}
 use Rattle.model.proofs.Counts.{by-cases}
 use Rattle.pages.specs.Stack.{latest, draw, hasMore, spliced, Drawn}
@@ -19,11 +17,11 @@ use Rattle.pages.specs.Links.{unlink}
 use Rattle.pages.specs.Asks.{DrawAsks, UnlinkAsks}
 use Rattle.pages.proofs.Draws.{draw-changes}
 use Rattle.pages.proofs.Spliced.{length-spliced}
-use Rattle.heap.specs.Take.{walk, Filled, filledNone, thenFilled, relist, fillFrom}
+use Rattle.heap.specs.Take.{walk, filledNone, thenFilled, relist, fillFrom}
 use Rattle.heap.specs.TakePlan.{TakeAsks, fills, TurnAsks, GaveTurn, FillAsks, Filling}
-use Rattle.heap.proofs.TakePages.{Fair, whole-below, latest-some, latest-most, positive}
+use Rattle.heap.proofs.TakePages.{whole-below, latest-some, latest-most, positive}
 use Rattle.heap.proofs.TakeDraws.{latest-small}
-use Rattle.heap.proofs.Walk.{stops, stops-full, some-wanted, some-page, Step, walk-below, walk-step}
+use Rattle.heap.proofs.Walk.{stops, some-wanted, some-page, Step, walk-below, walk-step}
 use Rattle.heap.proofs.Fill.{isCount, Turned, turned, fill-stops, length-map}
 
 -- ---- a page that gave its last block

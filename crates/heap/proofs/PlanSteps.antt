@@ -2,12 +2,12 @@
 use Prim.Native.Nat.{ℕ, zero, suc, _+_, _-_, _≤_, _<_, min}
 use native.Mathlib.Omega.{arith}
 use native.Mathlib.Numerals.{sub-one}
-use mathlib.Core.Bool.{Bool, true, false, cond, not, _&&_, _||_, and-false, true≢false}
-use mathlib.Core.List.{List, [], _∷_}
+use mathlib.Core.Bool.{Bool, true, false, not, _&&_, and-false}
+use mathlib.Core.List.{List}
 use mathlib.Core.Path.{_≡_, refl, sym, ap, _∙_}
 use lib.Dec.{eqb, ltb, leb}
 use lib.ListN.{length}
-use borrow.Author.Tests.{lt-ltb, le-ltb, le-leb, lt-leb, leb-true, eq-eqb, ne-eqb, eqb-true, not-true, not-false}
+use borrow.Author.Tests.{lt-ltb, le-ltb, le-leb, lt-leb, leb-true, eq-eqb, ne-eqb, not-true, not-false}
 use Rattle.classes.specs.declared.Shape.{Shape}
 use Rattle.fields.specs.Field.{arena, class, page, slot, frontier, partial, next, prev, free, carved, listed, virgin, words, Has, get}
 use Rattle.model.specs.Lists.{every}
@@ -18,8 +18,8 @@ use Rattle.pages.proofs.Draws.{latest-length}
 use Rattle.heap.specs.Take.{sound, walk}
 use Rattle.heap.specs.declared.take_plan.Plan.{Plan}
 use Rattle.heap.specs.TakePlan.{TakeAsks, TopsAsks, SupplyAsks, headerFair, share, walksFrom, fills, Foretold}
-use Rattle.heap.proofs.TakePages.{Fair, sound-fair, fair-sound, whole-below, latest-some, latest-most, positive}
-use Rattle.heap.proofs.Walk.{Planned, planned, planned-stops, planned-goes, stops, stops-full, stops-none, walk-stops, walk-step}
+use Rattle.heap.proofs.TakePages.{sound-fair, fair-sound, whole-below, latest-some, latest-most, positive}
+use Rattle.heap.proofs.Walk.{planned, planned-stops, planned-goes, stops, stops-full, stops-none, walk-stops, walk-step}
 use Rattle.heap.proofs.Fill.{foreseen, fill-planned}
 
 -- ---- the stack's top entries

@@ -3,27 +3,25 @@
 --     alone-walks      every test passes
 --     alone-planned    what the take gives
 -- Assumes nothing.
-use Prim.Native.Nat.{ℕ, zero, suc, _+_, _-_, _≤_, _<_}
+use Prim.Native.Nat.{ℕ, zero, suc, _+_, _-_, _≤_}
 use native.Mathlib.Omega.{arith}
 use native.Mathlib.Numerals.{add-one}
-use mathlib.Core.Bool.{Bool, true, false, cond, not, _&&_, _||_}
+use mathlib.Core.Bool.{Bool, true, false, _&&_, _||_}
 use mathlib.Core.List.{List}
 use mathlib.Core.Path.{_≡_, refl, sym, ap, _∙_}
 use lib.Dec.{eqb, ltb, leb}
 use lib.ListN.{length}
-use borrow.Author.Tests.{lt-ltb, le-leb, leb-true, eq-eqb, ne-eqb, eqb-true}
+use borrow.Author.Tests.{le-leb, leb-true, eq-eqb, ne-eqb}
 use Rattle.classes.specs.declared.Shape.{Shape}
-use Rattle.fields.specs.Field.{Field, arena, memory, class, hole, page, out, slot, frontier, partial, owner, first, next, prev, free, carved, listed, virgin, classOff, pageOff, get, put, ok, words}
-use Rattle.fields.specs.Outcome.{putAt}
+use Rattle.fields.specs.Field.{Field, arena, memory, class, hole, page, out, slot, frontier, partial, owner, first, next, prev, free, carved, listed, virgin, classOff, pageOff, get, put, words}
 use Rattle.fields.proofs.Laws.{get-put-same, get-put-other, length-put}
 use Rattle.fields.proofs.Changes.{Changes}
-use Rattle.model.proofs.Counts.{by-cases}
 use Rattle.pages.specs.Stack.{latest}
 use Rattle.pages.specs.Links.{linked, link}
 use Rattle.pages.proofs.Frames.{changes-link}
 use Rattle.heap.specs.Take.{walk}
-use Rattle.heap.proofs.TakePages.{Fair, fair-sound, Alike, fair-alike, latest-alike}
-use Rattle.heap.proofs.Walk.{Planned, plannedNone, thenPlanned, planned, planned-stops, planned-goes, stops, stops-none, Step, walk-stops, step-walk}
+use Rattle.heap.proofs.TakePages.{Fair, Alike, fair-alike, latest-alike}
+use Rattle.heap.proofs.Walk.{plannedNone, thenPlanned, planned, planned-stops, planned-goes, stops, stops-none, walk-stops, step-walk}
 
 abbrev pub isLinked : ℕ → ℕ → Field → Bool
 isLinked c q (arena k) = false

@@ -6,15 +6,15 @@
 use Prim.Native.Nat.{ℕ, zero, suc, _+_, _-_, _≤_, _<_}
 use native.Mathlib.Omega.{arith}
 use native.Mathlib.Nat.{add-zero}
-use mathlib.Core.Bool.{Bool, true, false, cond, not, _&&_, _||_}
+use mathlib.Core.Bool.{Bool, true, false, cond}
 use mathlib.Core.List.{List}
 use mathlib.Core.Option.{Option, none, some}
-use mathlib.Core.Path.{_≡_, refl, sym, ap, _∙_, subst}
+use mathlib.Core.Path.{_≡_, refl, ap, _∙_, subst}
 use lib.Dec.{eqb, ltb, leb}
 use lib.ListN.{length}
-use borrow.Author.Tests.{lt-ltb, le-leb, leb-true, eqb-true, eqb-false, ne-eqb}
+use borrow.Author.Tests.{lt-ltb, leb-true, eqb-false, ne-eqb}
 use Rattle.words.specs.Host.{commitGranted}
-use Rattle.fields.specs.Field.{Field, arena, memory, class, hole, page, out, slot, frontier, held, partial, owner, start, pages, get, put, ok, words}
+use Rattle.fields.specs.Field.{arena, memory, class, hole, page, frontier, held, partial, owner, start, pages, get, put, words}
 use Rattle.fields.proofs.Laws.{get-put-same, get-put-other, length-put}
 use Rattle.fields.proofs.Changes.{Changes, changes-none, changes-put}
 use Rattle.model.specs.HoleStore as Model
@@ -27,10 +27,10 @@ use Rattle.arena.specs.Record.{recordOf, storeRecord, advanced, counted}
 use Rattle.arena.specs.Fair.{recordFair, memoryFair}
 use Rattle.arena.specs.Owners.{own}
 use Rattle.arena.specs.Calls.{Committed, commitRefused, commitFor}
-use Rattle.arena.specs.Act.{rememberWord, withState, withHoles, cutWords, usedWords, drawWords, drawRecord, forgetWord, endNone, endRun, endGiven, settle, fromFrontier, commitDrawn, nextState, commitPlanned, planned, commitRead, commitRecalled, commitActs}
+use Rattle.arena.specs.Act.{rememberWord, withState, cutWords, usedWords, drawWords, drawRecord, forgetWord, endNone, endRun, endGiven, settle, fromFrontier, commitDrawn, nextState, commitPlanned, planned, commitRead, commitRecalled, commitActs}
 use Rattle.arena.proofs.Frames.{isStored, isOwner, record-changes, own-changes}
 use Rattle.arena.proofs.Acts.{FairRecord, fair-record, commit-acts}
-use Rattle.arena.proofs.PlanLaws.{PlanFits, plan-fits}
+use Rattle.arena.proofs.PlanLaws.{plan-fits}
 
 pub record Granted (n : ℕ) (b b′ : List ℕ) (m q w : ℕ) : Type 0 where
   pub ends : q + m ≤ n

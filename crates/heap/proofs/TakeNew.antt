@@ -1,16 +1,16 @@
 -- A new run on the words: a page of the class that gives blocks. Assumes nothing.
-use Prim.Native.Nat.{ℕ, zero, suc, _+_, _-_, _*_, _/_, _≤_, _<_, min}
+use Prim.Native.Nat.{ℕ, zero, suc, _+_, _*_, _/_, _≤_, _<_, min}
 use native.Mathlib.Omega.{arith}
 use native.Mathlib.Nat.{add-zero}
 use mathlib.Core.Bool.{Bool, true, false, cond, not, _&&_, _||_}
-use mathlib.Core.List.{List, [], _∷_, _++_}
-use mathlib.Core.Path.{_≡_, refl, sym, ap, _∙_}
+use mathlib.Core.List.{List, [], _++_}
+use mathlib.Core.Path.{_≡_, refl, ap, _∙_}
 use lib.Dec.{eqb, ltb, leb}
 use lib.ListN.{length}
 use borrow.Author.Tests.{lt-ltb, le-leb, eq-eqb, ne-eqb}
 use Rattle.classes.specs.declared.Shape.{Shape}
 use Rattle.classes.specs.Sound.{Sound}
-use Rattle.fields.specs.Field.{Field, arena, class, page, out, slot, frontier, partial, owner, first, free, carved, listed, virgin, region, off, get, put, ok, words}
+use Rattle.fields.specs.Field.{Field, arena, page, slot, frontier, owner, first, free, carved, listed, virgin, region, off, get, put, words}
 use Rattle.fields.specs.Clear.{clearOut}
 use Rattle.fields.proofs.Laws.{get-put-same, get-put-other, length-put}
 use Rattle.fields.proofs.Changes.{Changes, changes-none}
@@ -24,7 +24,7 @@ use Rattle.pages.specs.Stack.{tops, downs, push, hasMore}
 use Rattle.pages.specs.Carve.{stocked, carveAnew, newRun, outWords}
 use Rattle.pages.proofs.Downs.{length-downs, downs-below, every-append, every-below}
 use Rattle.pages.proofs.Tops.{tops-cut, tops-fewer, tops-kept}
-use Rattle.pages.proofs.Pushes.{length-push, push-changes, tops-push}
+use Rattle.pages.proofs.Pushes.{length-push, tops-push}
 use Rattle.pages.proofs.Frames.{changes-new, changes-carve, changes-name}
 use Rattle.heap.proofs.TakePages.{Fair}
 

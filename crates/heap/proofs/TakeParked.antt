@@ -1,29 +1,27 @@
 -- A take from a store: its newest page becomes the partial list. Assumes nothing.
-use Prim.Native.Nat.{ℕ, zero, suc, _+_, _-_, _≤_, _<_}
+use Prim.Native.Nat.{ℕ, suc, _+_, _-_, _≤_, _<_}
 use native.Mathlib.Omega.{arith}
-use mathlib.Core.Bool.{Bool, true, false, cond, not, _&&_, _||_, and-false, true≢false}
+use mathlib.Core.Bool.{Bool, true, false, not, and-false, true≢false}
 use mathlib.Core.List.{List}
 use mathlib.Core.Path.{_≡_, refl, sym, ap, _∙_}
 use lib.Dec.{eqb, ltb, leb}
 use lib.ListN.{length}
-use borrow.Author.Tests.{lt-ltb, le-leb, lt-leb, leb-true, eq-eqb, ne-eqb, eqb-true, eqb-false, not-true, not-false}
+use borrow.Author.Tests.{lt-ltb, le-leb, lt-leb, leb-true, ne-eqb, eqb-true, eqb-false, not-true, not-false}
 use Rattle.classes.specs.declared.Shape.{Shape}
-use Rattle.fields.specs.Field.{Field, arena, class, page, slot, frontier, partial, owner, first, next, free, carved, listed, virgin, region, get, put, words, Has}
+use Rattle.fields.specs.Field.{Field, arena, class, page, slot, frontier, partial, owner, first, next, free, carved, listed, virgin, region, get, words, Has}
 use Rattle.fields.proofs.Laws.{get-put-other}
 use Rattle.fields.proofs.Changes.{Changes}
-use Rattle.model.proofs.Counts.{by-cases, and-l, and-r}
+use Rattle.model.proofs.Counts.{and-l, and-r}
 use Rattle.pages.specs.Stack.{latest}
-use Rattle.pages.specs.Links.{link, top, tally, unstow, wake}
+use Rattle.pages.specs.Links.{top, tally, unstow}
 use Rattle.pages.specs.declared.Park.{Park}
 use Rattle.pages.specs.declared.Park.the-variants.{Empty, Cold}
 use Rattle.pages.specs.Asks.{WakeAsks}
 use Rattle.pages.proofs.Frames.{changes-unstow}
-use Rattle.heap.specs.Take.{sound, walk, parkFair}
-use Rattle.heap.specs.declared.take_plan.Plan.{Plan}
+use Rattle.heap.specs.Take.{sound, parkFair}
 use Rattle.heap.specs.TakePlan.{TakeAsks, SupplyAsks, walksFrom, fills, Foretold, ParkedAsks, woken}
 use Rattle.heap.proofs.TakePages.{Fair, sound-fair, whole-below, Alike, fair-alike, latest-alike}
 use Rattle.heap.proofs.TakeAlone.{link-changes, alone-walks, alone-planned}
-use Rattle.heap.proofs.Walk.{Planned, planned}
 use Rattle.heap.proofs.Fill.{foreseen, fill-planned}
 
 -- ---- the test

@@ -3,11 +3,11 @@ use Prim.Native.Nat.{ℕ, zero, suc, _+_, _-_, _≤_, _<_}
 use native.Mathlib.Omega.{arith}
 use native.Mathlib.Numerals.{add-one}
 use mathlib.Core.Bool.{Bool, true, false, cond, not}
-use mathlib.Core.List.{List, _++_}
+use mathlib.Core.List.{List}
 use mathlib.Core.Option.{Option, none, some}
 use mathlib.Core.Path.{_≡_, refl, sym, ap, _∙_}
-use lib.Dec.{eqb, ltb, leb}
-use lib.ListN.{length, drop}
+use lib.Dec.{ltb, leb}
+use lib.ListN.{length}
 use borrow.Author.Tests.{lt-ltb, le-ltb, le-leb, leb-true, ne-eqb, not-true, not-false}
 use Rattle.classes.specs.declared.Shape.{Shape}
 use Rattle.classes.specs.Shape.{shapeOf}
@@ -31,7 +31,7 @@ use Rattle.pages.specs.Asks.{WakeAsks, LinkAsks, NewAsks}
 use Rattle.heap.specs.declared.take.Take as Taken
 use Rattle.heap.specs.declared.take.Take.the-variants as Answer
 use Rattle.heap.specs.declared.take_plan.Plan.{Plan}
-use Rattle.heap.specs.Take.{walk, Filled, fillFrom, parkFair, Took, filled, fromPartial, fromPark, onRun, takeNew, takeBlocks, takeCall}
+use Rattle.heap.specs.Take.{parkFair, Took, filled, fromPartial, fromPark, onRun, takeNew, takeBlocks, takeCall}
 use Rattle.heap.specs.TakePlan.{TakeAsks, SupplyAsks, TakeRunAsks, TakeNewAsks, BlocksAsks, CallAsks, walksFrom, fills, Foretold, ParkedAsks, woken, FillAsks, Filling}
 use Rattle.heap.specs.TakeAnswer.{answerOf, Takes}
 use Rattle.heap.proofs.TakePages.{Fair}

@@ -6,17 +6,16 @@
 --     tail-kept     a walk past the second page does not see that the first one is cut out
 --     head-kept     the second page, once it heads the list
 -- Assumes nothing.
-use Prim.Native.Nat.{ℕ, zero, suc, _+_, _-_, _≤_, _<_}
+use Prim.Native.Nat.{ℕ, zero, suc, _+_, _-_, _≤_}
 use native.Mathlib.Omega.{arith}
-use mathlib.Core.Bool.{Bool, true, false, cond, not, _&&_, _||_, true≢false}
+use mathlib.Core.Bool.{Bool, true, false, cond, _&&_, _||_, true≢false}
 use mathlib.Core.List.{List}
-use mathlib.Core.Logic.{_⊎_, inl, inr}
 use mathlib.Core.Path.{_≡_, refl, sym, ap, _∙_}
 use lib.Dec.{eqb, ltb, leb}
 use lib.ListN.{length}
-use borrow.Author.Tests.{leb-true, eq-eqb, ne-eqb, eqb-true, eqb-false}
+use borrow.Author.Tests.{leb-true, eq-eqb, ne-eqb, eqb-true}
 use Rattle.classes.specs.declared.Shape.{Shape}
-use Rattle.fields.specs.Field.{Field, arena, memory, class, hole, page, out, slot, frontier, partial, owner, first, next, prev, free, carved, listed, virgin, classOff, pageOff, get}
+use Rattle.fields.specs.Field.{Field, arena, memory, class, hole, page, out, slot, frontier, owner, first, next, prev, free, carved, listed, virgin, classOff, pageOff, get}
 use Rattle.fields.proofs.Changes.{Changes}
 use Rattle.model.proofs.Counts.{by-cases, and-l, and-r}
 use Rattle.pages.specs.Stack.{latest}

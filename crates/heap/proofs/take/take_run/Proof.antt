@@ -10,7 +10,7 @@ take-run-spec =
     (λ c κs. search run-new)
     (λ c κs. search run-supply)
     (λ c κs. search run-links)
-    (λ c κs. search run-fills)
+    (λ c κs. run-fills _ _ _ _ _ _ _ _ (c .before .before .before .before .before .before .before .before .before .before .before .before .before .before .pre) (c .before .before .before .before .before .before .before .before .before .before .new-run .ensures) (c .before .before .before .before .before .before .supply .ensures) (c .before .before .before .before .link-partial .ensures))
     (λ c. search needs)
     (λ c. search needs)
     (λ c. search run-took))

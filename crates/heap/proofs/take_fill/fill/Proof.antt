@@ -9,45 +9,18 @@ Inv-loop meta₀ c shape list₀ count at₀ m₀ meta list at m = FillInv meta�
 abbrev μ-loop : tie.MeasureT-loop
 μ-loop meta₀ c shape list₀ count at₀ m₀ meta list at m = at
 
-loop-holds : tie.Need-loop-holds Inv-loop μ-loop
-loop-holds c = search fill-starts
-
-fill-page-requires : tie.Need-fill-page-requires Inv-loop μ-loop
-fill-page-requires c κs = search turn-asks
-
-sub-at : tie.Need-sub-at Inv-loop μ-loop
-sub-at c = search turn-written
-
-sub-m : tie.Need-sub-m Inv-loop μ-loop
-sub-m c = search turn-wanted
-
-loop-less : tie.Need-loop-less Inv-loop μ-loop
-loop-less c = search turn-some
-
-loop-again : tie.Need-loop-again Inv-loop μ-loop
-loop-again c = search fill-again
-
-same-length : tie.Need-same-length Inv-loop μ-loop
-same-length c = search needs
-
-same-length-2 : tie.Need-same-length-2 Inv-loop μ-loop
-same-length-2 c = search needs
-
-returns : tie.Need-returns Inv-loop μ-loop
-returns c = search fill-done
-
 pub fill-spec : {M : Type 1} → statement M
 fill-spec =
     tie.close
     (tie.spec
     Inv-loop
     μ-loop
-    loop-holds
-    fill-page-requires
-    sub-at
-    sub-m
-    loop-less
-    loop-again
-    same-length
-    same-length-2
-    returns)
+    (λ c. search fill-starts)
+    (λ c κs. search turn-asks)
+    (λ c. search turn-written)
+    (λ c. search turn-wanted)
+    (λ c. search turn-some)
+    (λ c. search fill-again)
+    (λ c. search needs)
+    (λ c. search needs)
+    (λ c. search fill-done))
