@@ -41,3 +41,4 @@ pub mod ChunkTests
 pub mod Chunks
 pub mod ChunkWhole
 pub mod Whole
+pub mod Ranges
