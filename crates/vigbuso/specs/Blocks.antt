@@ -1,4 +1,4 @@
--- The exported takes and releases by list, on any book, any numbers and any list: the answer, the book, the list and the
+-- The exported takes and releases, by list and by groups, on any book, any numbers and any list: the answer, the book, the list and the
 -- out-parameters afterwards, refusals included. Numbers 1 to 4 come first; then it is a call of the class, on an arena of the length
 -- that the book holds.
 -- Assumes nothing.
@@ -19,6 +19,7 @@ use Rattle.heap.specs.Take.{tookNone, takeCall}
 use Rattle.heap.specs.TakeAnswer.{answerOf}
 use Rattle.heap.specs.Release as Back
 use Rattle.heap.specs.Release.{releasedNone, releaseCall}
+use Rattle.heap.specs.Chunks.{ChunksReleased, chunksNone, chunksCall}
 use Rattle.release.specs.declared.Released.{Released}
 use Rattle.release.specs.declared.Released.the-variants.{Fate}
 use Rattle.release.specs.Act.{answerAs}
@@ -73,3 +74,16 @@ pub record ReleaseEnds (o : Back.Released) (r : ℕ) (b : List ℕ) (fate₀ fat
   pub code : r ≡ releaseCode (answerAs (o .code) (o .fate))
   pub book : b ≡ o .book
   pub fate : fate′ ≡ fateOut (answerAs (o .code) (o .fate)) fate₀
+
+-- ---- group releases, of small classes alone: gs are the groups, fs the lent fates
+unfoldable pub chunksOn : List ℕ → ℕ → ℕ → List ℕ → List ℕ → List ℕ → ChunksReleased
+chunksOn b c h ws gs fs =
+    cond (eqb (metaFault b) 0)
+    (cond (ltb hostMax h) (chunksNone b fs 3)
+    (cond (ltb c 64) (chunksCall (get b (arena size)) b c (shapeOf c) h ws gs fs) (chunksNone b fs 4)))
+    (chunksNone b fs (metaFault b))
+
+pub record ChunksEnds (o : ChunksReleased) (r : ℕ) (b fs : List ℕ) : Type 0 where
+  pub code : r ≡ o .code
+  pub book : b ≡ o .book
+  pub fates : fs ≡ o .fates

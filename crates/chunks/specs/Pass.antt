@@ -1,0 +1,42 @@
+-- The act of a group release in passes over the list and the chunks, on a book whose listed blocks are struck (release, specs/Strike).
+-- It ends as `settleChunks` (heap, specs/Chunks) says, which goes chunk by chunk. A small class's run is one page, so that a block's
+-- page is the one that has its granule. Assumes nothing.
+--     pushAll      the listed blocks back on their pages' stacks, the list's last first
+--     placeAt      where a chunk's page goes, once its blocks are back
+--     placeAll     the chunks in order
+--     givesIn      the pages with fate 6, in the chunks' order
+use Prim.Native.Nat.{ℕ, suc, _+_}
+use mathlib.Core.Bool.{cond}
+use mathlib.Core.List.{List, [], _∷_, _++_}
+use lib.Dec.{eqb}
+use Rattle.words.specs.Word.{pageOf}
+use Rattle.classes.specs.declared.Shape.{Shape}
+use Rattle.fields.specs.Field.{page, slot, free, carved, virgin, get, put}
+use Rattle.pages.specs.Stack.{indexOf}
+use Rattle.heap.specs.Release.{pageAt, Released, released, relisted, parkAt}
+use Rattle.heap.specs.Chunks.{emptied, markRetired, givesOf, Settled}
+
+-- block i on the stack of page q
+unfoldable pub pushOne : List ℕ → ℕ → ℕ → List ℕ
+pushOne b q i = put (put b (slot q (get b (page free q))) i) (page free q) (get b (page free q) + 1)
+
+unfoldable pub pushAll : List ℕ → Shape → List ℕ → List ℕ
+pushAll b sh [] = b
+pushAll b sh (w ∷ ws) = pushOne (pushAll b sh ws) (pageAt w) (indexOf sh (pageAt w) w)
+
+unfoldable pub placeAt : List ℕ → ℕ → Shape → ℕ → ℕ → Released
+placeAt b c sh h q =
+    let d = put b (page virgin q) 0 in
+    cond (eqb (get d (page carved q)) (get d (page free q))) (markRetired (parkAt (emptied d q) c sh h q)) (released (relisted d c q) 0)
+
+unfoldable pub placeAll : List ℕ → ℕ → Shape → ℕ → List ℕ → Settled
+placeAll b c sh h [] = record { book = b; fates = []; gives = [] }
+placeAll b c sh h (g ∷ gs) =
+    let r = placeAt b c sh h (pageOf g) in
+    let s = placeAll (r .book) c sh h gs in
+    record { book = s .book; fates = r .fate ∷ s .fates; gives = givesOf (pageOf g) (r .fate) ++ s .gives }
+
+unfoldable pub givesIn : List ℕ → List ℕ → List ℕ
+givesIn [] fs = []
+givesIn (g ∷ gs) [] = []
+givesIn (g ∷ gs) (f ∷ fs) = givesOf (pageOf g) f ++ givesIn gs fs

@@ -1,0 +1,1 @@
+// Group releases of small classes.
