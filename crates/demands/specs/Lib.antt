@@ -1,1 +1,3 @@
 pub mod Call
+pub mod Run
+pub mod Demands
