@@ -6,7 +6,7 @@
 use Prim.Native.Nat.{ℕ, suc, _+_, _≤_}
 use native.Mathlib.Omega.{arith}
 use mathlib.Core.Bool.{Bool, true, false, cond, _&&_}
-use mathlib.Core.List.{List}
+use mathlib.Core.List.{List, []}
 use mathlib.Core.Logic.{_↔_}
 use mathlib.Core.Path.{_≡_, refl, sym, _∙_}
 use lib.Dec.{eqb, ltb, leb}
@@ -27,28 +27,23 @@ use Rattle.heap.specs.Release.{releaseCall}
 use Rattle.heap.specs.Chunks.{chunksCall}
 use Rattle.direct.specs.Answer.{reportOf}
 use Rattle.vigbuso.specs.Direct as Direct
-use Rattle.vigbuso.specs.Direct.{openOn, commitOn, growOn, containsOn, reportOn}
+use Rattle.vigbuso.specs.Direct.{openOn, commitOn, growOn, containsOn, reportOn, figuresOut}
 use Rattle.vigbuso.specs.Blocks as Blocks
 use Rattle.vigbuso.specs.Blocks.{takeOn, chunksOn}
 use Rattle.refinement.specs.Represents.{Represents}
-use Rattle.refinement.specs.Direct.{Reply, reply, noClassReply, commitReply, growReply, releaseReply, directReply}
+use Rattle.refinement.specs.Direct.{Reply, reply, noClassReply, commitReply, growReply, releaseReply, reportedOf, directReply}
 use Rattle.refinement.specs.Classes.{takeReply}
 use Rattle.refinement.specs.Releases.{listReply, chunksReply}
 use Rattle.refinement.specs.Run.{callReply}
 use Rattle.model.proofs.Counts.{by-cases, and-l, and-r}
-use Rattle.demands.specs.Call.{call, told}
-use Rattle.demands.specs.Run.{Opens}
+use Rattle.demands.specs.Call.{call}
+use Rattle.demands.specs.Run.{Opens, Room}
 
 -- ---- an unrefused opening
-pub record Room (n : ℕ) (b : List ℕ) : Type 0 where
-  pub some-pages : 1 ≤ n
-  pub few-pages : n ≤ maxPages
-  pub long : words n ≤ length b
-
 pub fits-length : (n k : ℕ) → 1 ≤ n → n ≤ maxPages → words n ≤ k → lengthFault n k ≡ 0
 fits-length n k p q l = rw (le-leb 1 n p, le-leb n maxPages q, le-leb (words n) k l)
 
-room-of : (n : ℕ) (b : List ℕ) → lengthFault n (length b) ≡ 0 → Room n b
+pub room-of : (n : ℕ) (b : List ℕ) → lengthFault n (length b) ≡ 0 → Room n b
 room-of n b e =
     by-cases (leb 1 n && leb n maxPages)
     (λ u. by-cases (leb (words n) (length b))
@@ -125,7 +120,7 @@ module _ (n : ℕ) (b : List ℕ) (some-pages : 1 ≤ n) (few-pages : n ≤ maxP
   unfolding containsOn directReply
   contains-is o k = rw (no-fault, sized)
 
-  report-is : reply (Direct.reportCode (reportOn b)) (told (reportOn b)) b ≡ directReply n b Calls.report
+  report-is : reply (Direct.reportCode (reportOn b)) (reportedOf (figuresOut (reportOn b) [])) b ≡ directReply n b Calls.report
   unfolding reportOn directReply reportOf reportCode
   report-is = rw (no-fault, sized) (by-cases (recordFair n b) (λ u. rw u) (λ u. rw u))
 

@@ -29,8 +29,8 @@ use Rattle.refinement.proofs.OpenRep.{opened-represents}
 use Rattle.refinement.proofs.Whole as Whole
 use Rattle.refinement.proofs.Whole.{call-whole}
 use Rattle.demands.specs.Call.{call}
-use Rattle.demands.specs.Run.{Opens, repliesFrom, bookFrom, run, bookAfter, next}
-use Rattle.demands.proofs.Calls.{Room, room, opened-by, call-is}
+use Rattle.demands.specs.Run.{Opens, Room, repliesFrom, bookFrom, run, bookAfter, next}
+use Rattle.demands.proofs.Calls.{room, opened-by, call-is}
 
 -- the calls xs, on a book that stands for the heap after the history ys
 record Same (n : ℕ) (b : List ℕ) (xs : List Call) : Type 0 where

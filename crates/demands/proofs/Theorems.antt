@@ -12,10 +12,9 @@ use Rattle.refinement.specs.Represents.{Represents}
 use Rattle.refinement.specs.Direct.{Reply}
 use Rattle.refinement.specs.Run.{callReply, answersIn}
 use Rattle.demands.specs.Call.{call}
-use Rattle.demands.specs.Run.{Opens, repliesFrom, run, bookAfter, next, told}
+use Rattle.demands.specs.Run.{Opens, Room, repliesFrom, run, bookAfter, next, told}
 use Rattle.demands.specs.Demands.{Demand2, Demand3}
 use Rattle.demands.proofs.Calls as Calls
-use Rattle.demands.proofs.Calls.{Room}
 use Rattle.demands.proofs.Histories as Histories
 use Rattle.demands.proofs.Told.{told-answers, told-disjoint, told-iso}
 use Rattle.demands.proofs.Fits.{commit-fits, run-fits, memory-fits, take-yields}

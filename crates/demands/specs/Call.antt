@@ -4,23 +4,16 @@
 --     call    vigbuso_take_blocks, vigbuso_medium_take_blocks, vigbuso_release_blocks, vigbuso_medium_release_blocks,
 --             vigbuso_release_bin_chunks, vigbuso_commit, vigbuso_grow_frontier, vigbuso_release, vigbuso_contains, vigbuso_report
 use Prim.Native.Nat.{ℕ}
-use mathlib.Core.List.{List}
+use mathlib.Core.List.{List, []}
 use Rattle.model.specs.Calls as Calls
-use Rattle.model.specs.Calls.{Call, Answer, released, contained, reported}
-use Rattle.direct.specs.declared.Report.{Report}
-use Rattle.direct.specs.declared.Report.the-variants.{Refused, Told}
+use Rattle.model.specs.Calls.{Call, contained}
 use Rattle.vigbuso.specs.Direct as Direct
-use Rattle.vigbuso.specs.Direct.{commitOn, growOn, containsOn, reportOn, reportCode}
+use Rattle.vigbuso.specs.Direct.{commitOn, growOn, containsOn, reportOn, reportCode, figuresOut}
 use Rattle.vigbuso.specs.Blocks as Blocks
 use Rattle.vigbuso.specs.Blocks.{takeOn, chunksOn}
-use Rattle.refinement.specs.Direct.{Reply, reply, commitReply, growReply, releaseReply}
+use Rattle.refinement.specs.Direct.{Reply, reply, commitReply, growReply, releaseReply, reportedOf}
 use Rattle.refinement.specs.Classes.{takeReply}
 use Rattle.refinement.specs.Releases.{listReply, chunksReply}
-
--- the report's five figures, where it is not refused
-abbrev pub told : Report → Answer
-told (Refused k) = Calls.refused k
-told (Told f) = reported (f .commits) (f .reuses) (f .abandoned) (f .held) (f .idle)
 
 unfoldable pub call : List ℕ → Call → Reply
 call b (Calls.takeBlocks c h l) = takeReply (takeOn 0 64 b c h l)
@@ -32,4 +25,4 @@ call b (Calls.commit h m) = commitReply (commitOn b h m)
 call b (Calls.growFrontier h q old new) = growReply (growOn b h q old new)
 call b (Calls.release h q m) = releaseReply (Direct.releaseOn b h q m)
 call b (Calls.contains o k) = reply 0 (contained (containsOn b o k)) b
-call b Calls.report = reply (reportCode (reportOn b)) (told (reportOn b)) b
+call b Calls.report = reply (reportCode (reportOn b)) (reportedOf (figuresOut (reportOn b) [])) b

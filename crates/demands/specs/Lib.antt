@@ -1,3 +1,4 @@
 pub mod Call
 pub mod Run
+pub mod Contracts
 pub mod Demands
