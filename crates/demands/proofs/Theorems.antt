@@ -3,6 +3,7 @@ use Prim.Native.Nat.{ℕ, _≤_}
 use mathlib.Core.List.{List, _∷_, _++_}
 use mathlib.Core.Logic.{_↔_}
 use mathlib.Core.Path.{_≡_, sym, _∙_}
+use Rattle.fields.specs.Ranges.{maxPages}
 use Rattle.model.specs.Lists.{All}
 use Rattle.model.specs.Calls.{Call}
 use Rattle.model.specs.Heap.{Heap}
@@ -13,11 +14,18 @@ use Rattle.refinement.specs.Direct.{Reply}
 use Rattle.refinement.specs.Run.{callReply, answersIn}
 use Rattle.demands.specs.Call.{call}
 use Rattle.demands.specs.Run.{Opens, Room, repliesFrom, run, bookAfter, next, told}
+use Rattle.demands.specs.Contracts.{Contracts}
 use Rattle.demands.specs.Demands.{Demand2, Demand3}
 use Rattle.demands.proofs.Calls as Calls
+use Rattle.demands.proofs.Contracts.{contracts}
 use Rattle.demands.proofs.Histories as Histories
 use Rattle.demands.proofs.Told.{told-answers, told-disjoint, told-iso}
 use Rattle.demands.proofs.Fits.{commit-fits, run-fits, memory-fits, take-yields}
+use Rattle.demands.proofs.Returns.{entry-returns}
+
+-- what a caller sees of an exported function, by its contract, is the reply of `call`
+pub contracts-say : Contracts
+contracts-say = contracts
 
 -- an opening is refused by numbers 1 and 2 alone: every book that is long enough can be opened, whatever it holds
 pub opens-exactly : (n : ℕ) (b : List ℕ) → Opens n b ↔ Room n b
@@ -26,6 +34,10 @@ opens-exactly n b = (Calls.room n b, Calls.opens n b)
 -- every call of a history is a call on the book that the calls before it left
 pub run-calls : (n : ℕ) (b : List ℕ) (xs : List Call) (x : Call) (ys : List Call) → run n b (xs ++ x ∷ ys) ≡ run n b xs ++ (next n b xs x ∷ repliesFrom (next n b xs x .book) ys)
 run-calls = Histories.run-calls
+
+-- on a book that stands for a heap, a call is the refinement's
+pub call-is : (n : ℕ) (b : List ℕ) → 1 ≤ n → n ≤ maxPages → (H : Heap) → Represents n b H → (x : Call) → call b x ≡ callReply n b x
+call-is = Calls.call-is
 
 -- the answers are the model's; number 13 is never among the codes; the book stands for the model's heap
 pub run-answers : (n : ℕ) (b : List ℕ) → Opens n b → (xs : List Call) → answersIn (run n b xs) ≡ answers n xs
@@ -43,6 +55,7 @@ demand-2 n b o xs = record {
   runs = run-fits n b o xs;
   remembers = memory-fits n b o xs;
   takes = take-yields n b o xs;
+  returns = entry-returns n b o xs;
   apart = told-iso n b o xs (Model.iso-disjoint n (Calls.room n b o .few-pages) xs);
 }
 

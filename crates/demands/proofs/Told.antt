@@ -72,6 +72,9 @@ bare-iso n vs d = record {
 }
 
 module _ (n : ℕ) (b : List ℕ) (o : Opens n b) (xs : List Call) where
+  pub told-live : (e : Entry) → Live 0 (told n b xs) e → Live 0 (events n xs) e
+  told-live e l = bare-live 0 (events n xs) e (rw (told-is n b o xs) at l)
+
   pub told-disjoint : Disjoint (events n xs) → Disjoint (told n b xs)
   told-disjoint d = rw (told-is n b o xs) (bare-disjoint (events n xs) d)
 

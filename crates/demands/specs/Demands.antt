@@ -2,7 +2,7 @@
 -- Assumes nothing.
 use Prim.Native.Nat.{ℕ, _≤_}
 use mathlib.Core.Bool.{Bool, false}
-use mathlib.Core.List.{List}
+use mathlib.Core.List.{List, [], _∷_}
 use mathlib.Core.Logic.{_⊎_, _↔_}
 use mathlib.Core.Option.{Option, none, some}
 use mathlib.Core.Path.{_≡_}
@@ -16,6 +16,7 @@ use Rattle.model.specs.Arena.{Arena}
 use Rattle.model.specs.Chunks.{hostMax}
 use Rattle.model.specs.Heap.{badRun, answerRun, step}
 use Rattle.model.specs.History.{events, heapAfter, callsOf, answersOf, runsOf}
+use Rattle.model.specs.Entries.{Entry, Live}
 use Rattle.model.specs.BestFit.{Commits, Remembers}
 use Rattle.model.specs.Demands.{Disjoint, IsoDisjoint}
 use Rattle.arena.specs.Load.{loadArena}
@@ -53,5 +54,8 @@ pub record Demand2 (n : ℕ) (b : List ℕ) (xs : List Call) : Type 0 where
   -- a take that is not refused answers a block, or the arena has no run for it
   pub takes : (x : Call) (c h : ℕ) (l : List ℕ) → names x ≡ some (record { class = c; request = Calls.take h l }) → next n b xs x .code ≡ 0
       → (isNil (blocksOf (next n b xs x .answer)) ≡ false) ⊎ Commits n h (shapeOf c .pages) (loadArena (bookAfter n b xs)) none false
+  -- an entry not yet released can be released: a release of its class with its word alone is not refused
+  pub returns : (e : Entry) → Live 0 (told n b xs) e → (x : Call) (h : ℕ) → h ≤ hostMax
+      → names x ≡ some (record { class = e .class; request = Calls.giveBack h (e .word ∷ []) }) → next n b xs x .code ≡ 0
   -- blocks not yet released lie in the arena and have no byte in common
   pub apart : IsoDisjoint n (told n b xs)
