@@ -1,47 +1,37 @@
 -- What a caller sees of an exported function is the reply of `call` (specs/Contracts). Assumes nothing.
 use Prim.Native.Nat.{ℕ, zero, suc, _+_, _≤_, _<_}
 use native.Mathlib.Omega.{arith}
-use mathlib.Core.Bool.{Bool, true, false, cond, _&&_}
+use mathlib.Core.Bool.{Bool, true, false}
 use mathlib.Core.List.{List, [], _∷_}
 use mathlib.Core.Option.{Option, none, some}
-use mathlib.Core.Path.{_≡_, refl, sym, ap, _∙_, subst}
+use mathlib.Core.Path.{_≡_, refl, sym, _∙_, subst}
 use lib.Dec.{eqb, leb, ltb}
 use lib.ListN.{length}
 use borrow.Author.Tests.{eqb-true, ne-eqb, leb-true}
 use Rattle.words.specs.Host.{digit}
 use Rattle.fields.specs.Field.{arena, size, state, frontier, holePages, get}
 use Rattle.fields.specs.Ranges.{maxPages, metaFault}
-use Rattle.fields.specs.Outcome.{Did}
 use Rattle.model.specs.declared.Hole.{Hole}
-use Rattle.model.specs.Lists.{All, every}
+use Rattle.model.specs.Lists.{every}
 use Rattle.model.specs.Calls as Calls
-use Rattle.model.specs.Calls.{Answer, taken, fate, fates}
+use Rattle.model.specs.Calls.{taken, fate, fates}
 use Rattle.model.specs.Chunks.{hostMax}
 use Rattle.model.specs.HoleStore.{holeAt}
-use Rattle.model.specs.Arena as Model
-use Rattle.model.specs.Heap.{answerRun, badRun, direct}
+use Rattle.model.specs.Heap.{answerRun, badRun}
 use Rattle.model.specs.BestFit.{Commits, from-hole, from-frontier, unusable, ungranted, exhausted}
 use Rattle.model.proofs.BestFit.{commits}
 use Rattle.model.proofs.Counts.{by-cases, and-l, and-r}
-use Rattle.arena.specs.Load.{loadArena, loadStore, loadHoles}
+use Rattle.arena.specs.Load.{loadArena, loadStore}
 use Rattle.arena.specs.Fair.{holeFair, holesFair, recordFair, memoryFair, commitFair}
-use Rattle.arena.specs.Owners.{ownerCode}
-use Rattle.arena.specs.Calls.{Committed, commitCall, commitFor, Done}
-use Rattle.heap.specs.declared.take.Take.{Take}
-use Rattle.heap.specs.Take as Heap
+use Rattle.arena.specs.Calls.{commitCall, commitFor}
 use Rattle.heap.specs.TakeAnswer.{answerOf}
-use Rattle.heap.specs.Release as Back
 use Rattle.release.specs.Act.{answerAs}
 use Rattle.runs.specs.Answer as Runs
 use Rattle.runs.specs.Answer.{commitCode}
-use Rattle.direct.specs.declared.Report.{Report}
-use Rattle.direct.specs.declared.Report.the-variants.{Refused, Told}
 use Rattle.direct.specs.Answer.{grownAs, growCode, reportOf}
-use Rattle.vigbuso.specs.Direct.{openOn, commitOn, firstOut, freshOut, CommitEnds, grownOut, GrowEnds, reportOn, reportCode, figuresOut, ReportEnds}
-use Rattle.vigbuso.specs.Blocks.{codeOut, countOut, virginOut, TakeEnds, releaseCode, fateOut, ReleaseEnds}
-use Rattle.refinement.specs.Direct.{Reply, reply, commitReply, growReply, reportedOf}
-use Rattle.refinement.specs.Classes.{takeReply}
-use Rattle.refinement.specs.Releases.{listReply}
+use Rattle.vigbuso.specs.Direct.{openOn, commitOn, firstOut, freshOut, grownOut, reportOn, ReportEnds}
+use Rattle.vigbuso.specs.Blocks.{codeOut, countOut, virginOut, releaseCode, fateOut}
+use Rattle.refinement.specs.Direct.{reply, reportedOf}
 use Rattle.demands.specs.Call.{call}
 use Rattle.demands.specs.Contracts.{Contracts, runSeen}
 use Rattle.demands.proofs.Calls.{room-of}

@@ -8,21 +8,20 @@ use mathlib.Core.Bool.{Bool, true, false, cond, false≢true}
 use mathlib.Core.List.{List, [], _∷_}
 use mathlib.Core.Logic.{_⊎_, inl, inr}
 use mathlib.Core.Option.{Option, none, some}
-use mathlib.Core.Path.{_≡_, refl, sym, ap, _∙_, subst}
-use lib.Dec.{ltb}
+use mathlib.Core.Path.{_≡_, refl, sym, _∙_}
 use borrow.Author.Tests.{le-ltb}
 use Rattle.classes.specs.declared.Shape.{Shape}
 use Rattle.classes.specs.Shape.{shapeOf}
 use Rattle.model.specs.Lists.{isNil}
 use Rattle.model.specs.Calls as Calls
-use Rattle.model.specs.Calls.{Call, Answer, Named, names, hostOf, Request, blocksOf, isRefused}
+use Rattle.model.specs.Calls.{Call, Named, names, hostOf, Request, blocksOf, isRefused}
 use Rattle.model.specs.Page.{Page}
 use Rattle.model.specs.Arena as Arenas
 use Rattle.model.specs.Arena.{Arena}
 use Rattle.model.specs.Class.{Class, Cold, Result, Ask, done, asks, serve, takeFrom}
 use Rattle.model.specs.Release.{Site, onPage, releaseList}
 use Rattle.model.specs.Chunks.{releaseChunks, answer, hostMax}
-use Rattle.model.specs.Heap.{Heap, Outcome, badRun, answerRun, runWith, asked, offer, finish, interact, classCall, commitCall, directCall, route, step}
+use Rattle.model.specs.Heap.{badRun, runWith, asked, offer, finish, interact, classCall, commitCall, directCall, step}
 use Rattle.model.specs.History.{heapAfter}
 use Rattle.model.specs.BestFit.{Commits, Remembers, from-hole, from-frontier, unusable, ungranted, exhausted}
 use Rattle.model.specs.Yields.{TakeYields, refuses, yields, asks-first}

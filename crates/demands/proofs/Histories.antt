@@ -5,10 +5,9 @@
 --     run-represents    the book after it stands for the model's heap after it
 --     run-calls         each reply is the reply to the next call after the history before it
 use Prim.Native.Nat.{ℕ, _≤_}
-use native.Mathlib.Omega.{arith}
 use mathlib.Core.Bool.{true}
 use mathlib.Core.List.{List, [], _∷_, _++_}
-use mathlib.Core.Path.{_≡_, refl, sym, ap, ap₂, _∙_, subst}
+use mathlib.Core.Path.{_≡_, refl, sym, ap, _∙_, subst}
 use lib.Dec.{leb}
 use lib.ListN.{length}
 use borrow.Author.Tests.{le-leb}
@@ -29,7 +28,7 @@ use Rattle.refinement.proofs.OpenRep.{opened-represents}
 use Rattle.refinement.proofs.Whole as Whole
 use Rattle.refinement.proofs.Whole.{call-whole}
 use Rattle.demands.specs.Call.{call}
-use Rattle.demands.specs.Run.{Opens, Room, repliesFrom, bookFrom, run, bookAfter, next}
+use Rattle.demands.specs.Run.{Opens, repliesFrom, bookFrom, run, bookAfter, next}
 use Rattle.demands.proofs.Calls.{room, opened-by, call-is}
 
 -- the calls xs, on a book that stands for the heap after the history ys

@@ -5,26 +5,26 @@
 use Prim.Native.Nat.{ℕ, zero, suc, _+_, _-_, _*_, _^_, _≤_, _<_}
 use native.Mathlib.Omega.{arith}
 use native.Mathlib.Nat.{mul-le-mul-right}
-use mathlib.Core.Bool.{Bool, true, false, cond, not, _&&_, _||_, false≢true}
-use mathlib.Core.List.{List, [], _∷_, _++_}
+use mathlib.Core.Bool.{Bool, true, false, false≢true}
+use mathlib.Core.List.{List, [], _∷_}
 use mathlib.Core.Logic.{_⊎_, inl, inr}
 use mathlib.Core.Option.{Option, none, some}
-use mathlib.Core.Path.{_≡_, refl, sym, ap, _∙_, subst}
+use mathlib.Core.Path.{_≡_, refl, sym, ap}
 use lib.Dec.{eqb, leb, ltb}
-use borrow.Author.Tests.{eq-eqb, eqb-true, eqb-false, leb-true, leb-false, ltb-true, ltb-false, le-ltb}
-use Rattle.words.specs.Word.{kindBits, kindOf, blockWord}
+use borrow.Author.Tests.{eq-eqb, eqb-true, leb-true, leb-false, ltb-true, ltb-false, le-ltb}
+use Rattle.words.specs.Word.{kindBits}
 use Rattle.words.proofs.RoundTrip.{kind-block}
 use Rattle.classes.specs.declared.Shape.{Shape}
 use Rattle.classes.specs.Shape.{shapeOf}
 use Rattle.classes.specs.Sound.{Sound}
 use Rattle.classes.proofs.Shapes.{shape-sound}
 use Rattle.fields.specs.Ranges.{maxPages}
-use Rattle.model.specs.Lists.{All, total, count, elem, every, isSome}
+use Rattle.model.specs.Lists.{All, total, elem, every, isSome}
 use Rattle.model.specs.Calls as Calls
-use Rattle.model.specs.Calls.{Call, Answer, names, isRefused, fate}
+use Rattle.model.specs.Calls.{Call, names, isRefused}
 use Rattle.model.specs.Page.{Page, wordOf, wordsFrom, pageGranules, carvedWords, isOut}
-use Rattle.model.specs.Class.{Class, Ask, done, serve}
-use Rattle.model.specs.Release.{Found, Site, find, prepend, inPartial, inFull, orElse, mapFound, locate, ofKind, outHere, settle, onPage, siteOfFirst, releaseList}
+use Rattle.model.specs.Class.{Class, serve}
+use Rattle.model.specs.Release.{Found, Site, find, prepend, inPartial, inFull, locate, ofKind, outHere, onPage, releaseList}
 use Rattle.model.specs.Chunks.{answer, hostMax}
 use Rattle.model.specs.Heap.{Heap, offer, finish, interact, classCall, step}
 use Rattle.model.specs.History.{events, heapAfter}
@@ -33,7 +33,7 @@ use Rattle.model.specs.Ledger.{heldBy}
 use Rattle.model.proofs.Counts.{by-cases, elem-count, count-elem, every-count}
 use Rattle.model.proofs.ArenaLaws.{above-at, covers-in}
 use Rattle.model.proofs.Pages.{outOf, on, GoodPage, words-once}
-use Rattle.model.proofs.ClassLaws.{GoodClass, outCount}
+use Rattle.model.proofs.ClassLaws.{outCount}
 use Rattle.model.proofs.Find.{FoundLaws, found-law}
 use Rattle.model.proofs.Fold.{liveFrom, live-in}
 use Rattle.model.proofs.EntryCounts.{is}
@@ -94,7 +94,7 @@ module _ (sh : Shape) (ok : Sound sh) where
         by-cases (leb 1 (outOf sh w p))
         (λ e. let u : 1 ≤ outOf sh w p = leb-true 1 (outOf sh w p) e in record { found = rw (out-page p u); kind = page-kind p (good .0) (low-page p ps low) u })
         (λ e. let r = here ps (good .1) (λ y l. low y (omega arith)) (omega (arith, leb-false 1 (outOf sh w p) e)) in
-          record { found = by-cases (isOut sh w p) (λ d. rw d) (λ d. rw d (some-before p (find (isOut sh w) ps) (r .found))); kind = r .kind })
+        record { found = by-cases (isOut sh w p) (λ d. rw d) (λ d. rw d (some-before p (find (isOut sh w) ps) (r .found))); kind = r .kind })
       where
         some-before : (p : Page) (o : Option Found) → isSome o ≡ true → isSome (prepend p o) ≡ true
         some-before p none e = e
@@ -144,10 +144,10 @@ module _ (n k : ℕ) (H : Heap) (es : List Entry) (f : ℕ → Bool) (l : ℕ �
   found-out c w h =
       by-cases (leb 1 (total (outOf (shapeOf c) w) (H .classes c .partial)))
       (λ e. let r = here (shapeOf c) (shape-sound c) w (H .classes c .partial) (inv .good c .partial) (λ y u. held-low c y (omega (arith, inv .mine c y))) (leb-true 1 (total (outOf (shapeOf c) w) (H .classes c .partial)) e) in
-        record { kind = r .kind; where-it-is = located (isOut (shapeOf c) w) (H .classes c) (inl (r .found)) })
+      record { kind = r .kind; where-it-is = located (isOut (shapeOf c) w) (H .classes c) (inl (r .found)) })
       (λ e. let r = here (shapeOf c) (shape-sound c) w (H .classes c .full) (inv .good c .full) (λ y u. held-low c y (omega (arith, inv .mine c y)))
-          (omega (arith, leb-false 1 (total (outOf (shapeOf c) w) (H .classes c .partial)) e)) in
-        record { kind = r .kind; where-it-is = located (isOut (shapeOf c) w) (H .classes c) (inr (r .found)) })
+      (omega (arith, leb-false 1 (total (outOf (shapeOf c) w) (H .classes c .partial)) e)) in
+      record { kind = r .kind; where-it-is = located (isOut (shapeOf c) w) (H .classes c) (inr (r .found)) })
 
 is-self : (e : Entry) → is (e .class) (e .word) e ≡ 1
 is-self e = rw (eq-eqb (e .class) (e .class) refl, eq-eqb (e .word) (e .word) refl)
@@ -170,7 +170,7 @@ module _ (n : ℕ) (small : n ≤ maxPages) (xs : List Call) where
   step-returns e live x h low d =
       let o = entry-out e live in
       rw d (alone-unrefused (shapeOf (e .class)) (heapAfter n xs .classes (e .class)) (e .word) h low (o .kind) (o .where-it-is)
-        (offer n h (heapAfter n xs .arena) (answer (shapeOf (e .class)) (heapAfter n xs .classes (e .class)) (Calls.giveBack h (e .word ∷ []))) .run))
+      (offer n h (heapAfter n xs .arena) (answer (shapeOf (e .class)) (heapAfter n xs .classes (e .class)) (Calls.giveBack h (e .word ∷ []))) .run))
 
 -- ---- on the words
 list-unrefused : (w : Released) → isRefused (listReply w .answer) ≡ false → listReply w .code ≡ 0

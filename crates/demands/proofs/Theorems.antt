@@ -2,12 +2,12 @@
 use Prim.Native.Nat.{ℕ, _≤_}
 use mathlib.Core.List.{List, _∷_, _++_}
 use mathlib.Core.Logic.{_↔_}
-use mathlib.Core.Path.{_≡_, sym, _∙_}
+use mathlib.Core.Path.{_≡_}
 use Rattle.fields.specs.Ranges.{maxPages}
 use Rattle.model.specs.Lists.{All}
 use Rattle.model.specs.Calls.{Call}
 use Rattle.model.specs.Heap.{Heap}
-use Rattle.model.specs.History.{answers, events, heapAfter, callsOf, answersOf, runsOf}
+use Rattle.model.specs.History.{answers, events, heapAfter, answersOf, runsOf}
 use Rattle.model.proofs.Theorems as Model
 use Rattle.refinement.specs.Represents.{Represents}
 use Rattle.refinement.specs.Direct.{Reply}

@@ -4,9 +4,9 @@
 --     told-answers      so a class's answers are the model's
 --     told-disjoint     and what the model's events have as `Disjoint` and `IsoDisjoint`, these have
 use Prim.Native.Nat.{ℕ, suc, _/_}
-use mathlib.Core.Bool.{Bool, true, false, not, _&&_}
+use mathlib.Core.Bool.{Bool, false, not, _&&_}
 use mathlib.Core.List.{List, [], _∷_, map, head-eq-of-cons-eq, tail-eq-of-cons-eq}
-use mathlib.Core.Logic.{_⊎_, inl, inr}
+use mathlib.Core.Logic.{inl, inr}
 use mathlib.Core.Option.{none}
 use mathlib.Core.Path.{_≡_, refl, sym, ap, ap₂, _∙_}
 use Rattle.classes.specs.Sizes.{pageBytes}
@@ -14,7 +14,7 @@ use Rattle.model.specs.Lists.{every}
 use Rattle.model.specs.Calls.{Call, Answer, names}
 use Rattle.model.specs.Heap.{Heap, step, newHeap}
 use Rattle.model.specs.History.{Event, eventsFrom, events, answersOf, isOf}
-use Rattle.model.specs.Entries.{Entry, Live, releases, directNext, directFrom, directAfter}
+use Rattle.model.specs.Entries.{Entry, Live, releases, directNext, directFrom}
 use Rattle.model.specs.Demands.{Disjoint, IsoDisjoint}
 use Rattle.model.proofs.Counts.{by-cases}
 use Rattle.refinement.specs.Direct.{Reply}

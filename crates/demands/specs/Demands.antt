@@ -10,7 +10,7 @@ use Rattle.classes.specs.Shape.{shapeOf}
 use Rattle.model.specs.declared.Hole.{Hole}
 use Rattle.model.specs.Lists.{isNil}
 use Rattle.model.specs.Calls as Calls
-use Rattle.model.specs.Calls.{Call, Answer, Named, names, hostOf, Request, blocksOf}
+use Rattle.model.specs.Calls.{Call, Answer, Named, names, hostOf, blocksOf}
 use Rattle.model.specs.HoleStore.{hole}
 use Rattle.model.specs.Arena.{Arena}
 use Rattle.model.specs.Chunks.{hostMax}
