@@ -1,20 +1,23 @@
--- What a caller sees of an exported function is the reply of `call` (specs/Contracts). Assumes nothing.
+-- What a caller sees of the exported functions is the reply of `call`, and of `run` (specs/Contracts). Assumes nothing.
+--     shows-call    of one function
+--     trace-run     of calls in turn, from an opening
 use Prim.Native.Nat.{ℕ, zero, suc, _+_, _≤_, _<_}
 use native.Mathlib.Omega.{arith}
 use mathlib.Core.Bool.{Bool, true, false}
 use mathlib.Core.List.{List, [], _∷_}
 use mathlib.Core.Option.{Option, none, some}
-use mathlib.Core.Path.{_≡_, refl, sym, _∙_, subst}
+use mathlib.Core.Path.{_≡_, refl, sym, ap, ap₂, _∙_, subst}
 use lib.Dec.{eqb, leb, ltb}
 use lib.ListN.{length}
 use borrow.Author.Tests.{eqb-true, ne-eqb, leb-true}
 use Rattle.words.specs.Host.{digit}
 use Rattle.fields.specs.Field.{arena, size, state, frontier, holePages, get}
 use Rattle.fields.specs.Ranges.{maxPages, metaFault}
+use Rattle.fields.specs.Outcome.{Did}
 use Rattle.model.specs.declared.Hole.{Hole}
 use Rattle.model.specs.Lists.{every}
 use Rattle.model.specs.Calls as Calls
-use Rattle.model.specs.Calls.{taken, fate, fates}
+use Rattle.model.specs.Calls.{Call, taken, fate}
 use Rattle.model.specs.Chunks.{hostMax}
 use Rattle.model.specs.HoleStore.{holeAt}
 use Rattle.model.specs.Heap.{answerRun, badRun}
@@ -31,9 +34,10 @@ use Rattle.runs.specs.Answer.{commitCode}
 use Rattle.direct.specs.Answer.{grownAs, growCode, reportOf}
 use Rattle.vigbuso.specs.Direct.{openOn, commitOn, firstOut, freshOut, grownOut, reportOn, ReportEnds}
 use Rattle.vigbuso.specs.Blocks.{codeOut, countOut, virginOut, releaseCode, fateOut}
-use Rattle.refinement.specs.Direct.{reply, reportedOf}
+use Rattle.refinement.specs.Direct.{Reply, reply, reportedOf}
 use Rattle.demands.specs.Call.{call}
-use Rattle.demands.specs.Contracts.{Contracts, runSeen}
+use Rattle.demands.specs.Run.{Opens, repliesFrom, run}
+use Rattle.demands.specs.Contracts.{runSeen, Shows, take-blocks, medium-take-blocks, release-blocks, medium-release-blocks, release-bin-chunks, commit, grow-frontier, release, contains, report, Trace, ends, calls}
 use Rattle.demands.proofs.Calls.{room-of}
 
 is-one : (v : Bool) → eqb (digit v) 1 ≡ v
@@ -117,25 +121,30 @@ commit-low b h m p c e =
     (λ x. absurd (none-some (rw (u, v, w, x) at e))))))
     (λ u. absurd (none-some (rw u at e)))
 
-report-says : (b fs fs′ : List ℕ) (r : ℕ) → ReportEnds (reportOn b) r fs fs′ → call b Calls.report ≡ reply r (reportedOf fs′) b
+report-says : (b fs fs′ : List ℕ) (r : ℕ) → ReportEnds (reportOn b) r fs fs′ → reply r (reportedOf fs′) b ≡ call b Calls.report
 unfolding call reportOn reportOf
-report-says b fs fs′ r e = rw (e .code, e .figures) (
-    by-cases (eqb (metaFault b) 0)
+report-says b fs fs′ r e =
+    rw (e .code, e .figures)
+    (by-cases (eqb (metaFault b) 0)
     (λ u. rw u (by-cases (recordFair (get b (arena size)) b) (λ v. rw v) (λ v. rw v)))
     (λ u. rw (u, u)))
 
-pub contracts : Contracts
-unfolding call openOn
-contracts = record {
-  opening = λ b b′ n r e z. (sym (e .answer) ∙ z, e .left);
-  takeBlocks = λ b b′ l l′ c h r k k′ v v′ e. rw (e .code, e .book, e .list, e .count, e .virgin) (take-read _ _ _ _ _ k v);
-  mediumTakeBlocks = λ b b′ l l′ c h r k k′ v v′ e. rw (e .code, e .book, e .list, e .count, e .virgin) (take-read _ _ _ _ _ k v);
-  releaseBlocks = λ b b′ ws c h r f f′ e. rw (e .code, e .book, e .fate) (list-read _ _ _ f);
-  mediumReleaseBlocks = λ b b′ ws c h r f f′ e. rw (e .code, e .book, e .fate) (list-read _ _ _ f);
-  releaseBinChunks = λ b b′ ws gs fs fs′ c h r e. rw (e .code, e .book, e .fates);
-  commit = λ b b′ h m r q q′ f f′ e. rw (e .code, e .book, e .first, e .fresh) (commit-read _ _ _ _ q f (commit-low b h m));
-  growFrontier = λ b b′ h q old new r g g′ e. rw (e .code, e .book, e .grown) (grow-read _ _ _ g);
-  release = λ b b′ h q m r e. rw (e .code, e .book);
-  contains = λ b o k r e. rw (e, is-one);
-  report = report-says;
-}
+pub shows-call : {b : List ℕ} {x : Call} {w : Reply} → Shows b x w → w ≡ call b x
+unfolding call
+shows-call (take-blocks c h r k k′ v v′ b′ l l′ e) = rw (e .code, e .book, e .list, e .count, e .virgin) (sym (take-read _ _ _ _ _ k v))
+shows-call (medium-take-blocks c h r k k′ v v′ b′ l l′ e) = rw (e .code, e .book, e .list, e .count, e .virgin) (sym (take-read _ _ _ _ _ k v))
+shows-call (release-blocks c h r f f′ b′ ws e) = rw (e .code, e .book, e .fate) (sym (list-read _ _ _ f))
+shows-call (medium-release-blocks c h r f f′ b′ ws e) = rw (e .code, e .book, e .fate) (sym (list-read _ _ _ f))
+shows-call (release-bin-chunks c h r b′ ws gs fs fs′ e) = rw (e .code, e .book, e .fates)
+shows-call {b} (commit h m r q q′ f f′ b′ e) = rw (e .code, e .book, e .first, e .fresh) (sym (commit-read _ _ _ _ q f (commit-low b h m)))
+shows-call (grow-frontier h q old new r g g′ b′ e) = rw (e .code, e .book, e .grown) (sym (grow-read _ _ _ g))
+shows-call (release h q m r b′ e) = rw (e .code, e .book)
+shows-call (contains o k r e) = rw (e, is-one)
+shows-call {b} (report r fs fs′ e) = report-says b fs fs′ r e
+
+trace-replies : {b : List ℕ} {xs : List Call} {ws : List Reply} → Trace b xs ws → ws ≡ repliesFrom b xs
+trace-replies (ends b) = refl
+trace-replies (calls b x w xs ws s t) = ap₂ _∷_ (shows-call s) (trace-replies t ∙ ap (λ (v : Reply). repliesFrom (v .book) xs) (shows-call s))
+
+pub trace-run : (n : ℕ) (b b′ : List ℕ) (xs : List Call) (ws : List Reply) → Did 0 b′ (openOn b n) → Trace b′ xs ws → Opens n b × (ws ≡ run n b xs)
+trace-run n b b′ xs ws d t = (sym (d .answer), trace-replies t ∙ ap (λ (m : List ℕ). repliesFrom m xs) (d .left))

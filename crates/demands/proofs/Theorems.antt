@@ -4,28 +4,33 @@ use mathlib.Core.List.{List, _∷_, _++_}
 use mathlib.Core.Logic.{_↔_}
 use mathlib.Core.Path.{_≡_}
 use Rattle.fields.specs.Ranges.{maxPages}
+use Rattle.fields.specs.Outcome.{Did}
 use Rattle.model.specs.Lists.{All}
 use Rattle.model.specs.Calls.{Call}
 use Rattle.model.specs.Heap.{Heap}
 use Rattle.model.specs.History.{answers, events, heapAfter, answersOf, runsOf}
 use Rattle.model.proofs.Theorems as Model
+use Rattle.vigbuso.specs.Direct.{openOn}
 use Rattle.refinement.specs.Represents.{Represents}
 use Rattle.refinement.specs.Direct.{Reply}
 use Rattle.refinement.specs.Run.{callReply, answersIn}
 use Rattle.demands.specs.Call.{call}
 use Rattle.demands.specs.Run.{Opens, Room, repliesFrom, run, bookAfter, next, told}
-use Rattle.demands.specs.Contracts.{Contracts}
+use Rattle.demands.specs.Contracts.{Shows, Trace}
 use Rattle.demands.specs.Demands.{Demand2, Demand3}
 use Rattle.demands.proofs.Calls as Calls
-use Rattle.demands.proofs.Contracts.{contracts}
+use Rattle.demands.proofs.Contracts as Contracts
 use Rattle.demands.proofs.Histories as Histories
 use Rattle.demands.proofs.Told.{told-answers, told-disjoint, told-iso}
 use Rattle.demands.proofs.Fits.{commit-fits, run-fits, memory-fits, take-yields}
 use Rattle.demands.proofs.Returns.{entry-returns}
 
--- what a caller sees of an exported function, by its contract, is the reply of `call`
-pub contracts-say : Contracts
-contracts-say = contracts
+-- what a caller sees of an exported function, by its contract, is the reply of `call`; of calls in turn from an opening, that of `run`
+pub shows-call : {b : List ℕ} {x : Call} {w : Reply} → Shows b x w → w ≡ call b x
+shows-call = Contracts.shows-call
+
+pub trace-run : (n : ℕ) (b b′ : List ℕ) (xs : List Call) (ws : List Reply) → Did 0 b′ (openOn b n) → Trace b′ xs ws → Opens n b × (ws ≡ run n b xs)
+trace-run = Contracts.trace-run
 
 -- an opening is refused by numbers 1 and 2 alone: every book that is long enough can be opened, whatever it holds
 pub opens-exactly : (n : ℕ) (b : List ℕ) → Opens n b ↔ Room n b
