@@ -1,6 +1,6 @@
 -- A call by the exported functions' definitions, on a book that stands for a heap, is the call on the words that the refinement knows.
 -- Assumes nothing.
---     opens-when     an opening is not refused exactly where the arena is of 1 to 262,144 pages and the book is long enough for it
+--     room, opens    an opening is not refused exactly where the arena is of 1 to 262,144 pages and the book is long enough for it
 --     no-fault       numbers 1 and 2 do not apply to a book that stands for a heap
 --     call-is        `call` is the refinement's `callReply`
 use Prim.Native.Nat.{ℕ, _+_, _≤_}
@@ -123,18 +123,33 @@ module _ (n : ℕ) (b : List ℕ) (some-pages : 1 ≤ n) (few-pages : n ≤ maxP
   unfolding reportOn directReply reportOf reportCode
   report-is = rw (no-fault, sized) (by-cases (recordFair n b) (λ u. rw u) (λ u. rw u))
 
+  small-take : (c h : ℕ) (l : List ℕ) → takeReply (takeOn 0 64 b c h l) ≡ callReply n b (Calls.takeBlocks c h l)
+  unfolding callReply directReply
+  small-take c h l = by-cases (ltb c 64) (λ e. rw (e, take-known 0 64 c h l e, zero-plus c)) (λ e. rw (e, take-unknown 0 64 c h l e))
+
+  medium-take : (c h : ℕ) (l : List ℕ) → takeReply (takeOn 64 12 b c h l) ≡ callReply n b (Calls.mediumTakeBlocks c h l)
+  unfolding callReply directReply
+  medium-take c h l = by-cases (ltb c 12) (λ e. rw (e, take-known 64 12 c h l e)) (λ e. rw (e, take-unknown 64 12 c h l e))
+
+  small-release : (c h : ℕ) (ws : List ℕ) → listReply (Blocks.releaseOn 0 64 b c h ws) ≡ callReply n b (Calls.releaseBlocks c h ws)
+  unfolding callReply directReply
+  small-release c h ws = by-cases (ltb c 64) (λ e. rw (e, release-known 0 64 c h ws e, zero-plus c)) (λ e. rw (e, release-unknown 0 64 c h ws e))
+
+  medium-release : (c h : ℕ) (ws : List ℕ) → listReply (Blocks.releaseOn 64 12 b c h ws) ≡ callReply n b (Calls.mediumReleaseBlocks c h ws)
+  unfolding callReply directReply
+  medium-release c h ws = by-cases (ltb c 12) (λ e. rw (e, release-known 64 12 c h ws e)) (λ e. rw (e, release-unknown 64 12 c h ws e))
+
+  chunks-is : (c h : ℕ) (ws gs fs : List ℕ) → chunksReply (chunksOn b c h ws gs fs) ≡ callReply n b (Calls.releaseBinChunks c h ws gs fs)
+  unfolding callReply directReply
+  chunks-is c h ws gs fs = by-cases (ltb c 64) (λ e. rw (e, chunks-known c h ws gs fs e)) (λ e. rw (e, chunks-unknown c h ws gs fs e))
+
   pub call-is : (x : Call) → call b x ≡ callReply n b x
-  unfolding call callReply directReply
-  call-is (Calls.takeBlocks c h l) =
-      by-cases (ltb c 64) (λ e. rw (e, take-known 0 64 c h l e, zero-plus c)) (λ e. rw (e, take-unknown 0 64 c h l e))
-  call-is (Calls.mediumTakeBlocks c h l) =
-      by-cases (ltb c 12) (λ e. rw (e, take-known 64 12 c h l e)) (λ e. rw (e, take-unknown 64 12 c h l e))
-  call-is (Calls.releaseBlocks c h ws) =
-      by-cases (ltb c 64) (λ e. rw (e, release-known 0 64 c h ws e, zero-plus c)) (λ e. rw (e, release-unknown 0 64 c h ws e))
-  call-is (Calls.mediumReleaseBlocks c h ws) =
-      by-cases (ltb c 12) (λ e. rw (e, release-known 64 12 c h ws e)) (λ e. rw (e, release-unknown 64 12 c h ws e))
-  call-is (Calls.releaseBinChunks c h ws gs fs) =
-      by-cases (ltb c 64) (λ e. rw (e, chunks-known c h ws gs fs e)) (λ e. rw (e, chunks-unknown c h ws gs fs e))
+  unfolding call callReply
+  call-is (Calls.takeBlocks c h l) = small-take c h l
+  call-is (Calls.mediumTakeBlocks c h l) = medium-take c h l
+  call-is (Calls.releaseBlocks c h ws) = small-release c h ws
+  call-is (Calls.mediumReleaseBlocks c h ws) = medium-release c h ws
+  call-is (Calls.releaseBinChunks c h ws gs fs) = chunks-is c h ws gs fs
   call-is (Calls.commit h m) = commit-is h m
   call-is (Calls.growFrontier h q old new) = grow-is h q old new
   call-is (Calls.release h q m) = release-is h q m
