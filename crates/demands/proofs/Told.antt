@@ -14,7 +14,7 @@ use Rattle.model.specs.Lists.{every}
 use Rattle.model.specs.Calls.{Call, Answer, names}
 use Rattle.model.specs.Heap.{Heap, step, newHeap}
 use Rattle.model.specs.History.{Event, eventsFrom, events, answersOf, isOf}
-use Rattle.model.specs.Entries.{Entry, Live, releases, directNext, directFrom}
+use Rattle.model.specs.Entries.{Entry, Live, releases, directNext, directFrom, directAfter}
 use Rattle.model.specs.Demands.{Disjoint, IsoDisjoint}
 use Rattle.model.proofs.Counts.{by-cases}
 use Rattle.refinement.specs.Direct.{Reply}
@@ -74,6 +74,9 @@ bare-iso n vs d = record {
 module _ (n : ℕ) (b : List ℕ) (o : Opens n b) (xs : List Call) where
   pub told-live : (e : Entry) → Live 0 (told n b xs) e → Live 0 (events n xs) e
   told-live e l = bare-live 0 (events n xs) e (rw (told-is n b o xs) at l)
+
+  pub told-direct : (x : ℕ) → directAfter (told n b xs) x ≡ directAfter (events n xs) x
+  told-direct x = ap (λ (vs : List Event). directAfter vs x) (told-is n b o xs) ∙ bare-direct (λ y. false) (events n xs) x
 
   pub told-disjoint : Disjoint (events n xs) → Disjoint (told n b xs)
   told-disjoint d = rw (told-is n b o xs) (bare-disjoint (events n xs) d)

@@ -1,7 +1,7 @@
 -- Demands 2 and 3, as statements about every history of calls on the words, from an opening on any book. proofs/Theorems proves them.
 -- Assumes nothing.
-use Prim.Native.Nat.{ℕ, _≤_}
-use mathlib.Core.Bool.{Bool, false}
+use Prim.Native.Nat.{ℕ, _+_, _≤_, _<_}
+use mathlib.Core.Bool.{Bool, true, false}
 use mathlib.Core.List.{List, [], _∷_}
 use mathlib.Core.Logic.{_⊎_, _↔_}
 use mathlib.Core.Option.{Option, none, some}
@@ -16,7 +16,7 @@ use Rattle.model.specs.Arena.{Arena}
 use Rattle.model.specs.Chunks.{hostMax}
 use Rattle.model.specs.Heap.{badRun, answerRun, step}
 use Rattle.model.specs.History.{events, heapAfter, callsOf, answersOf, runsOf}
-use Rattle.model.specs.Entries.{Entry, Live}
+use Rattle.model.specs.Entries.{Entry, Live, directAfter}
 use Rattle.model.specs.BestFit.{Commits, Remembers}
 use Rattle.model.specs.Demands.{Disjoint, IsoDisjoint}
 use Rattle.arena.specs.Load.{loadArena}
@@ -57,5 +57,8 @@ pub record Demand2 (n : ℕ) (b : List ℕ) (xs : List Call) : Type 0 where
   -- an entry not yet released can be released: a release of its class with its word alone is not refused
   pub returns : (e : Entry) → Live 0 (told n b xs) e → (x : Call) (h : ℕ) → h ≤ hostMax
       → names x ≡ some (record { class = e .class; request = Calls.giveBack h (e .word ∷ []) }) → next n b xs x .code ≡ 0
+  -- a run can be released directly exactly if each of its pages is held by the direct calls
+  pub releases : (h q m : ℕ) → h ≤ hostMax → badRun m ≡ false
+      → (next n b xs (Calls.release h q m) .code ≡ 0) ↔ ((k : ℕ) → k < m → directAfter (told n b xs) (q + k) ≡ true)
   -- blocks not yet released lie in the arena and have no byte in common
   pub apart : IsoDisjoint n (told n b xs)
