@@ -6,10 +6,13 @@ use mathlib.Core.Path.{_≡_}
 use Rattle.fields.specs.Ranges.{maxPages}
 use Rattle.fields.specs.Outcome.{Did}
 use Rattle.model.specs.Lists.{All}
-use Rattle.model.specs.Calls.{Call}
+use Rattle.model.specs.declared.Hole.{Hole}
+use Rattle.model.specs.Calls.{Call, Answer}
 use Rattle.model.specs.Heap.{Heap}
 use Rattle.model.specs.History.{answers, events, heapAfter, answersOf, runsOf}
+use Rattle.model.specs.Examples.{history, onNewHeap}
 use Rattle.model.proofs.Theorems as Model
+use Rattle.arena.specs.Load.{loadArena}
 use Rattle.vigbuso.specs.Direct.{openOn}
 use Rattle.refinement.specs.Represents.{Represents}
 use Rattle.refinement.specs.Direct.{Reply}
@@ -54,6 +57,13 @@ run-fair = Histories.run-fair
 
 pub run-represents : (n : ℕ) (b : List ℕ) → Opens n b → (xs : List Call) → Represents n (bookAfter n b xs) (heapAfter n xs)
 run-represents = Histories.run-represents
+
+-- an example of document 01 that is a history finds on the words what it finds on the model (`examples-hold`, crate model): each call's
+-- answer, and the holes stored after the last
+pub examples-run : (b : List ℕ) → Opens 64 b → (xs : List Call) (zs : List Answer) (hs : List Hole)
+    → history (answersIn (run 64 b xs)) (loadArena (bookAfter 64 b xs) .store .holes) ≡ onNewHeap xs zs hs .found
+unfolding onNewHeap
+examples-run b o xs zs hs = rw (run-answers 64 b o xs, run-represents 64 b o xs .arena .loads)
 
 pub demand-2 : (n : ℕ) (b : List ℕ) → Opens n b → (xs : List Call) → Demand2 n b xs
 demand-2 n b o xs = record {
