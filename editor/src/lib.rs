@@ -73,3 +73,8 @@ pub const PAGE_BYTES: usize = 65_536;
 /// # Ok::<(), vigbuso::Refusal>(())
 /// ```
 pub const GRANULE_BYTES: usize = 16;
+
+/// The README's example, tested as it stands there.
+#[cfg(doctest)]
+#[doc = include_str!("../../README.md")]
+struct Readme;

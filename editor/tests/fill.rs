@@ -5,6 +5,9 @@ use std::path::Path;
 use std::process::Command;
 
 const WORDS: &str = include_str!("../examples/words.txt");
+const README: &str = include_str!("../../README.md");
+/// The README's picture.
+const PICTURE: &str = include_str!("../arena.svg");
 
 fn fill(picture: &Path) -> String {
     let mut cargo = Command::new(env!("CARGO"));
@@ -60,5 +63,8 @@ fn the_grid_is_filled_and_the_pages_are_drawn() {
     let labels = svg.matches("class=\"size\"").count() - svg.matches(">hole</text>").count();
     assert_eq!(labels, held, "a label for each page that is held");
 
+    assert_eq!(svg, PICTURE, "arena.svg is to be drawn anew");
+    let printed = output.split("\n\n").next().expect("some output");
+    assert!(README.contains(printed), "the README has another output than\n{printed}");
     assert_eq!(fill(&picture), output, "every run is the same");
 }
