@@ -63,12 +63,10 @@ fn modified(path: &Path) -> Option<SystemTime> {
     fs::metadata(path).and_then(|found| found.modified()).ok()
 }
 
-/// When a file was last changed, or the newest file below a folder.
+/// When a file, or anything in a folder, was last changed. A folder changes too when a file of it goes.
 fn newest(path: &Path) -> Option<SystemTime> {
-    match fs::read_dir(path) {
-        Ok(entries) => entries.flatten().filter_map(|entry| newest(&entry.path())).max(),
-        Err(_) => modified(path),
-    }
+    let inside = fs::read_dir(path).into_iter().flatten().flatten();
+    inside.filter_map(|entry| newest(&entry.path())).max().max(modified(path))
 }
 
 fn build(root: &Path) {

@@ -6,6 +6,9 @@ use std::ops::Range;
 
 use vigbuso::{class_for_size, medium_class_for_size, Block, Heap, Host, Kind, Report, Run, PAGE_BYTES};
 
+#[cfg(group_release)]
+use vigbuso::Chunk;
+
 use crate::pages::{pages_of_block, pages_of_run, Holder, Pages};
 use crate::Outcome;
 
@@ -94,16 +97,31 @@ impl Store {
         stock.pop().ok_or_else(|| format!("the arena has no block of {class:?} left").into())
     }
 
-    /// Hands blocks back to the heap, page by page.
-    fn give_back(&mut self, class: Class, mut blocks: Vec<Block>) -> Outcome<()> {
+    /// Hands blocks back to the heap: small ones of many pages at once, medium ones page by page, since blocks that start on
+    /// one page are in one span.
+    fn give_back(&mut self, (kind, class): Class, mut blocks: Vec<Block>) -> Outcome<()> {
         blocks.sort_unstable();
-        for list in blocks.chunk_by(|a, b| a.page() == b.page()) {
-            let fate = match class.0 {
-                Kind::Small => self.heap.release(class.1, HOST, list)?,
-                Kind::Medium => self.heap.medium_release(class.1, HOST, list)?,
-            };
-            if fate.is_arena() {
-                self.holders[pages_of_block(list[0], class)].fill(Holder::Hole);
+        match kind {
+            #[cfg(group_release)]
+            Kind::Small => {
+                let chunks = Chunk::of(&blocks);
+                let fates = self.heap.release_chunks(class, HOST, &blocks, &chunks)?;
+                for (chunk, _) in chunks.iter().zip(fates).filter(|(_, fate)| fate.is_arena()) {
+                    self.holders[chunk.page() as usize] = Holder::Hole;
+                }
+            }
+            #[cfg(not(group_release))]
+            Kind::Small => {
+                for list in blocks.chunk_by(|a, b| a.page() == b.page()) {
+                    if self.heap.release(class, HOST, list)?.is_arena() {
+                        self.holders[list[0].page() as usize] = Holder::Hole;
+                    }
+                }
+            }
+            Kind::Medium => {
+                for list in blocks.chunk_by(|a, b| a.page() == b.page()) {
+                    self.heap.medium_release(class, HOST, list)?;
+                }
             }
         }
         Ok(())
