@@ -19,7 +19,7 @@
 pub enum Fate {
     /// The class keeps it, in use or among its empty ones.
     Kept = 0,
-    /// The class keeps it among its cold ones, to be discarded.
+    /// The class keeps it among its cold ones. This is where the host word's discard is done.
     Cold = 1,
     /// It was given back to the arena.
     Arena = 2,

@@ -4,8 +4,9 @@ use std::ops::{BitAnd, BitOr};
 
 /// The host word: what the system answers within one call, told in advance. All discards of one call share its answers.
 ///
-/// The heap asks no system itself. A caller whose arena is memory that it already has passes [`Host::ALL`] or, where
-/// released pages keep their bytes, [`Host::GRANTED`].
+/// The heap asks no system itself. A caller that has the arena's memory already and never discards any of it passes
+/// [`Host::GRANTED`]. [`Host::ALL`] says more: that a page which goes cold is discarded and then reads as zeroes, so that
+/// its blocks may be [virgin](crate::Taken::is_virgin) again.
 ///
 /// ```
 /// use vigbuso::Host;

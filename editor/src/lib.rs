@@ -10,10 +10,10 @@
 //! let mut arena = vec![0; 64 * PAGE_BYTES];
 //! let mut heap = Heap::open(64)?;
 //! let class = class_for_size(24);
-//! let blocks = heap.take(class, Host::ALL)?;
+//! let blocks = heap.take(class, Host::GRANTED)?;
 //! let place = blocks[0].byte_offset() as usize;
 //! arena[place..place + 24].copy_from_slice(b"the record of this block");
-//! heap.release(class, Host::ALL, &blocks)?;
+//! heap.release(class, Host::GRANTED, &blocks)?;
 //! println!("{}", heap.report()?);
 //! # Ok::<(), vigbuso::Refusal>(())
 //! ```
