@@ -1,4 +1,4 @@
-use Rattle.tally.proofs.Steps.{not-named, count-none, count-some}
+use Rattle.tally.proofs.CountSteps.{not-named, count-none, count-some}
 use borrow.Author.Needs.{needs}
 use Rattle.tally.proofs.counts.chunk_fits.Statement.{statement}
 use Rattle.tally.proofs.counts.chunk_fits.Tie as tie

@@ -1,13 +1,13 @@
-use Rattle.tally.proofs.Steps.{UnnameInv, tally-last, unname-starts, unname-goes-on, unname-ends}
+use Rattle.tally.proofs.NameSteps.{UnnameInv, tally-last, unname-starts, unname-goes-on, unname-ends}
 use borrow.Author.Needs.{needs}
 use Rattle.tally.proofs.naming.unname_chunks.Statement.{statement}
 use Rattle.tally.proofs.naming.unname_chunks.Tie as tie
 
 abbrev Inv-loop : tie.InvT-loop
-Inv-loop meta₀ n chunks saved i₀ meta i = UnnameInv meta₀ chunks saved meta i
+Inv-loop meta₀ chunks saved i₀ meta i = UnnameInv meta₀ chunks saved meta i
 
 abbrev μ-loop : tie.MeasureT-loop
-μ-loop meta₀ n chunks saved i₀ meta i = i
+μ-loop meta₀ chunks saved i₀ meta i = i
 
 loop-holds : tie.Need-loop-holds Inv-loop μ-loop
 loop-holds c = search unname-starts
