@@ -171,25 +171,24 @@ module _ (b ws gs cs : List ℕ) where
       record { answer = rw d at (v .rest); counts = λ x k. let z = rw d at (v .counts k) in omega (arith, z) }
 
 -- ---- chunk_fits
-module _ (b gs cs : List ℕ) (k w p t : ℕ) (e : w ≡ getD gs k 0) (f : p ≡ pageOf w) (g : t ≡ get b (page tally p)) where
-  named-is : get b (tallyIn gs k) ≡ t
-  named-is = sym (g ∙ ap (λ q. get b (page tally q)) (f ∙ ap pageOf e))
+module _ (b gs cs : List ℕ) (k w u : ℕ) (e : w ≡ getD gs k 0) (c : u ≡ countOf w) where
+  count-is : countOf (getD gs k 0) ≡ u
+  count-is = sym (c ∙ ap countOf e)
 
-  pub not-named : (t ≡ k → ⊥) → false ≡ fits b gs cs k
+  pub count-none : u ≡ 0 → false ≡ fits b gs cs k
   unfolding fits agrees
-  not-named h = rw (named-is, ne-eqb t k h)
+  count-none z = rw (count-is, z)
 
-  module _ (h : t ≡ k) (u : ℕ) (c : u ≡ countOf w) where
-    count-is : countOf (getD gs k 0) ≡ u
-    count-is = sym (c ∙ ap countOf e)
-
-    pub count-none : u ≡ 0 → false ≡ fits b gs cs k
+  module _ (z : u ≡ 0 → ⊥) where
+    pub count-other : (u ≡ getD cs k 0 → ⊥) → false ≡ fits b gs cs k
     unfolding fits agrees
-    count-none z = rw (named-is, count-is, eq-eqb t k h, z)
+    count-other h = rw (count-is, ne-eqb u 0 z, ne-eqb u (getD cs k 0) h)
 
-    pub count-some : (u ≡ 0 → ⊥) → eqb u (getD cs k 0) ≡ fits b gs cs k
+    pub count-same : u ≡ getD cs k 0 → (p t : ℕ) → p ≡ pageOf w → t ≡ get b (page tally p) → eqb t k ≡ fits b gs cs k
     unfolding fits agrees
-    count-some z = rw (named-is, count-is, eq-eqb t k h, ne-eqb u 0 z)
+    count-same h p t f g =
+        let n : get b (tallyIn gs k) ≡ t = sym (g ∙ ap (λ q. get b (page tally q)) (f ∙ ap pageOf e)) in
+        rw (count-is, n, ne-eqb u 0 z, eq-eqb u (getD cs k 0) h)
 
 -- ---- counts_fit: the chunks from i on agree
 pub record FitInv (b gs cs : List ℕ) (i : ℕ) : Type 0 where

@@ -3,7 +3,7 @@
 --     named      the book with the first so many chunks named; `Saved`, what stood there
 --     unnamed    what stood there written back, the latest first
 --     runOn      how many words at the list's head lie on a page
---     agrees     a chunk is named by its page, and its count is not 0 and is the one given
+--     agrees     a chunk's count is not 0 and is the one given, and its page names it
 --     tallied    the test on a book whose chunks are named
 -- Assumes nothing.
 use Prim.Native.Nat.{ℕ, zero, suc, _<_}
@@ -55,7 +55,7 @@ runOn p [] = 0
 runOn p (w ∷ ws) = cond (eqb (pageAt w) p) (suc (runOn p ws)) 0
 
 unfoldable pub agrees : List ℕ → List ℕ → ℕ → ℕ → Bool
-agrees b gs k m = eqb (get b (tallyIn gs k)) k && (not (eqb (countOf (getD gs k 0)) 0) && eqb (countOf (getD gs k 0)) m)
+agrees b gs k m = not (eqb (countOf (getD gs k 0)) 0) && (eqb (countOf (getD gs k 0)) m && eqb (get b (tallyIn gs k)) k)
 
 -- by the counts kept; by the list's
 unfoldable pub fits : List ℕ → List ℕ → List ℕ → ℕ → Bool

@@ -62,20 +62,20 @@ pub fn count_blocks(meta: &[u32], list: &[u32], chunks: &[u32], counts: &mut [us
     true
 }
 
-// Whether chunk i's page names it, and its count is not 0 and is the list's.
+// Whether chunk i's count is not 0 and is the list's, and its page names it.
 fn chunk_fits(meta: &[u32], chunks: &[u32], counts: &[usize], i: usize) -> bool
     requires { ⌜ OneAsks (now meta) (now chunks) (now counts) i ⌝ }
     ensures { λ r. ⌜ r ≡ fits (now (meta .entry)) (now (chunks .entry)) (now (counts .entry)) i ⌝ }
 {
     let g = Word::of(chunks[i]);
-    if fields::page::tally(meta, g.page()) as usize != i {
-        return false;
-    }
     let count = g.count() as usize;
     if count == 0 {
         return false;
     }
-    count == counts[i]
+    if count != counts[i] {
+        return false;
+    }
+    fields::page::tally(meta, g.page()) as usize == i
 }
 
 pub fn counts_fit(meta: &[u32], chunks: &[u32], counts: &[usize]) -> bool
