@@ -1,0 +1,179 @@
+-- Demand 1: every exported function answers the first number of document 01's table that applies to the call, and a refusal changes
+-- nothing. Assumes nothing.
+--     .. -refuses         for each function
+--     demand-1            all of them, in one record
+--     refused-exactly     a call is refused exactly when a number of its table applies
+use Prim.Native.Nat.{ℕ, zero, suc, _≤_}
+use native.Mathlib.Omega.{arith}
+use mathlib.Core.Bool.{Bool, true, false, not, true≢false}
+use mathlib.Core.List.{List, [], _∷_}
+use mathlib.Core.Option.{Option, none, some}
+use mathlib.Core.Path.{_≡_, refl, sym, ap, _∙_}
+use mathlib.Core.Logic.{_↔_}
+use lib.Dec.{eqb, leb, ltb}
+use borrow.Author.Tests.{ltb-true, lt-leb, eqb-true}
+use Rattle.words.specs.Host.{digit}
+use Rattle.classes.specs.Lookup.{classForSize, mediumClassForSize}
+use Rattle.classes.proofs.Meaning.{small-class, medium-class}
+use Rattle.fields.specs.Field.{arena, size, state, get}
+use Rattle.fields.specs.Ranges.{metaFault}
+use Rattle.model.specs.Lists.{any}
+use Rattle.model.specs.Arena.{contains, isReady}
+use Rattle.model.proofs.Counts.{by-cases, and-l, and-r}
+use Rattle.arena.specs.Load.{statusOf, loadArena}
+use Rattle.arena.specs.Calls.{containsCall}
+use Rattle.runs.specs.Answer.{answerOf, commitCode}
+use Rattle.direct.specs.Answer.{grownAs, growCode}
+use Rattle.heap.specs.TakeAnswer as Takes
+use Rattle.release.specs.Act.{answerAs}
+use Rattle.vigbuso.specs.Direct.{firstOut, freshOut, grownOut, containsOn}
+use Rattle.vigbuso.specs.Blocks.{codeOut, countOut, virginOut, releaseCode, fateOut}
+use Rattle.demands.specs.Refusals.{Row, firstNumber, rises, Refuses, OpenRefuses, CommitRefuses, GrowRefuses, GiveRefuses, ReportRefuses, TakeRefuses, ReleaseRefuses, ChunksRefuses, containsTable, ContainsAnswers, SizeAnswers, Demand1}
+use Rattle.demands.proofs.RefusalsLaws.{Ends, book-turn}
+use Rattle.demands.proofs.RefusalsCalls.{open-table, commit-table, grow-table, give-table, report-table, take-table, release-table, chunks-table}
+
+-- ---- the answer's number is the definition's, and where it is one, the out-parameters stay as they were
+commit-number : (k : ℕ) (q : Option ℕ) (f : Bool) → commitCode (answerOf k q f) ≡ k
+commit-number zero none f = refl
+commit-number zero (some q) f = refl
+commit-number (suc k) q f = refl
+
+commit-first : (k : ℕ) (q : Option ℕ) (f : Bool) (old : ℕ) → (k ≡ 0 → ⊥) → firstOut (answerOf k q f) old ≡ old
+commit-first zero q f old d = absurd (d refl)
+commit-first (suc k) q f old d = refl
+
+commit-fresh : (k : ℕ) (q : Option ℕ) (f : Bool) (old : ℕ) → (k ≡ 0 → ⊥) → freshOut (answerOf k q f) old ≡ old
+commit-fresh zero q f old d = absurd (d refl)
+commit-fresh (suc k) q f old d = refl
+
+grow-number : (k : ℕ) (y : Bool) → growCode (grownAs k y) ≡ k
+grow-number zero true = refl
+grow-number zero false = refl
+grow-number (suc k) y = refl
+
+grow-grown : (k : ℕ) (y : Bool) (old : ℕ) → (k ≡ 0 → ⊥) → grownOut (grownAs k y) old ≡ old
+grow-grown zero y old d = absurd (d refl)
+grow-grown (suc k) y old d = refl
+
+take-number : (k m : ℕ) (v : Bool) → codeOut (Takes.answerOf k m v) ≡ k
+take-number zero m v = refl
+take-number (suc k) m v = refl
+
+take-count : (k m : ℕ) (v : Bool) (old : ℕ) → (k ≡ 0 → ⊥) → countOut (Takes.answerOf k m v) old ≡ old
+take-count zero m v old d = absurd (d refl)
+take-count (suc k) m v old d = refl
+
+take-virgin : (k m : ℕ) (v : Bool) (old : ℕ) → (k ≡ 0 → ⊥) → virginOut (Takes.answerOf k m v) old ≡ old
+take-virgin zero m v old d = absurd (d refl)
+take-virgin (suc k) m v old d = refl
+
+release-number : (k f : ℕ) → releaseCode (answerAs k f) ≡ k
+release-number zero f = refl
+release-number (suc k) f = refl
+
+release-fate : (k f old : ℕ) → (k ≡ 0 → ⊥) → fateOut (answerAs k f) old ≡ old
+release-fate zero f old d = absurd (d refl)
+release-fate (suc k) f old d = refl
+
+-- ---- from a definition to what its function answers and leaves
+module _ {R : Type 0} (code : R → ℕ) (Same : R → Type 0) (rows : List Row) (o : R) (t : Ends code Same rows o) where
+  refuses : (After : Type 0) (r : ℕ) → rises 0 rows ≡ true → r ≡ code o → ((code o ≡ 0 → ⊥) → Same o → After) → Refuses rows r After
+  refuses After r u e f = record { order = u; number = e ∙ t .number; kept = λ d. let g : code o ≡ 0 → ⊥ = λ z. d (e ∙ z) in f g (t .kept g) }
+
+-- ---- the functions
+pub open-refuses : OpenRefuses
+open-refuses b n r b′ e = refuses _ _ _ _ (open-table b n) _ r refl (e .answer) λ d s. e .left ∙ s
+
+pub commit-refuses : CommitRefuses
+commit-refuses b h m r b′ q q′ f f′ e =
+    refuses _ _ _ _ (commit-table b h m) _ r refl (e .code ∙ commit-number _ _ _)
+    λ d s. (e .book ∙ s, e .first ∙ commit-first _ _ _ q d, e .fresh ∙ commit-fresh _ _ _ f d)
+
+pub grow-refuses : GrowRefuses
+grow-refuses b h q old new r b′ g g′ e =
+    refuses _ _ _ _ (grow-table b h q old new) _ r refl (e .code ∙ grow-number _ _) λ d s. (e .book ∙ s, e .grown ∙ grow-grown _ _ g d)
+
+pub give-refuses : GiveRefuses
+give-refuses b h q m r b′ e = refuses _ _ _ _ (give-table b h q m) _ r refl (e .code) λ d s. e .book ∙ s
+
+pub report-refuses : ReportRefuses
+report-refuses b r fs fs′ e = refuses _ _ _ _ (report-table b fs) _ r refl (e .code) λ d s. e .figures ∙ s
+
+pub take-refuses : (low many : ℕ) → TakeRefuses low many
+take-refuses low many b c h l r b′ l′ k k′ v v′ e =
+    refuses _ _ _ _ (take-table low many b c h l) _ r refl (e .code ∙ take-number _ _ _)
+    λ d s. (e .book ∙ s .0, e .list ∙ s .1, e .count ∙ take-count _ _ _ k d, e .virgin ∙ take-virgin _ _ _ v d)
+
+pub release-refuses : (low many : ℕ) → ReleaseRefuses low many
+release-refuses low many b c h ws r b′ f f′ e =
+    refuses _ _ _ _ (release-table low many b c h ws) _ r refl (e .code ∙ release-number _ _) λ d s. (e .book ∙ s, e .fate ∙ release-fate _ _ f d)
+
+pub chunks-refuses : ChunksRefuses
+chunks-refuses b c h ws gs fs r b′ fs′ e = refuses _ _ _ _ (chunks-table b c h ws gs fs) _ r refl (e .code) λ d s. (e .book ∙ s .0, e .fates ∙ s .1)
+
+-- ---- the lookups and `contains` refuse nothing
+pub small-answers : SizeAnswers classForSize 64
+small-answers bytes r e = lt-leb 64 r (omega (arith, small-class bytes))
+
+pub medium-answers : SizeAnswers mediumClassForSize 12
+medium-answers bytes r e = lt-leb 12 r (omega (arith, medium-class bytes))
+
+digit-small : (t : Bool) → digit t ≤ 1
+digit-small true = omega arith
+digit-small false = omega arith
+
+beyond-ready : (s : ℕ) → leb s 2 ≡ false → isReady (statusOf s) ≡ false
+beyond-ready zero e = refl
+beyond-ready (suc zero) e = e
+beyond-ready (suc (suc s)) e = refl
+
+module _ (b : List ℕ) (o k : ℕ) where
+  -- none of the rows applies where the book has its length and STATE is in its range
+  no-row : metaFault b ≡ 0 → leb (get b (arena state)) 2 ≡ true → firstNumber (containsTable b) ≡ 0
+  unfolding metaFault
+  no-row z e =
+      let t = book-turn {R = ℕ} (λ x. x) (λ x. Unit {0}) ((13, not (leb (get b (arena state)) 2)) ∷ []) (λ x. x) 0 (λ x. refl) (λ x. tt) (record { number = rw e; kept = λ d. tt }) (get b (arena size)) b in
+      sym (t .number) ∙ (rw z)
+
+  contains-no : (firstNumber (containsTable b) ≡ 0 → ⊥) → containsOn b o k ≡ false
+  unfolding containsOn containsCall contains loadArena
+  contains-no d =
+      by-cases (eqb (metaFault b) 0)
+      (λ e. by-cases (leb (get b (arena state)) 2) (λ i. absurd (d (no-row (eqb-true (metaFault b) 0 e) i))) (λ i. rw (e, beyond-ready (get b (arena state)) i)))
+      (λ e. rw e)
+
+pub contains-answers : ContainsAnswers
+contains-answers b o k r e = record { plain = rw e (digit-small (containsOn b o k)); no = λ d. e ∙ ap digit (contains-no b o k d) }
+
+-- ---- the demand
+pub demand-1 : Demand1
+demand-1 = record {
+  opening = open-refuses;
+  commit = commit-refuses;
+  growFrontier = grow-refuses;
+  release = give-refuses;
+  report = report-refuses;
+  takeBlocks = take-refuses 0 64;
+  mediumTakeBlocks = take-refuses 64 12;
+  releaseBlocks = release-refuses 0 64;
+  mediumReleaseBlocks = release-refuses 64 12;
+  releaseBinChunks = chunks-refuses;
+  contains = contains-answers;
+  classForSize = small-answers;
+  mediumClassForSize = medium-answers;
+}
+
+-- ---- "refused exactly when one of these papers' numbers applies to it"
+none-applies : (k : ℕ) (rows : List Row) → rises k rows ≡ true → firstNumber rows ≡ 0 → any (λ row. row .1) rows ≡ false
+none-applies k [] u e = refl
+none-applies k (row ∷ rows) u e =
+    by-cases (row .1)
+    (λ f. absurd (let z = ltb-true k (row .0) (and-l (ltb k (row .0)) _ u) in let y : row .0 ≡ 0 = rw f at e in omega arith))
+    (λ f. rw f (none-applies (row .0) rows (and-r (ltb k (row .0)) _ u) (rw f at e)))
+
+first-none : (rows : List Row) → any (λ row. row .1) rows ≡ false → firstNumber rows ≡ 0
+first-none [] e = refl
+first-none (row ∷ rows) e = by-cases (row .1) (λ f. absurd (true≢false (rw f at e))) (λ f. rw f (first-none rows (rw f at e)))
+
+pub refused-exactly : {rows : List Row} {r : ℕ} {Same : Type 0} → Refuses rows r Same → (r ≡ 0) ↔ (any (λ row. row .1) rows ≡ false)
+refused-exactly {rows} e = (λ z. none-applies 0 rows (e .order) (sym (e .number) ∙ z), λ z. e .number ∙ first-none rows z)

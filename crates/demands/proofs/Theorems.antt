@@ -1,0 +1,89 @@
+-- Demands 2 and 3 hold of every history of the exported calls, on the words. Assumes nothing.
+use Prim.Native.Nat.{ℕ, _≤_}
+use mathlib.Core.List.{List, _∷_, _++_}
+use mathlib.Core.Logic.{_↔_}
+use mathlib.Core.Path.{_≡_}
+use Rattle.fields.specs.Ranges.{maxPages}
+use Rattle.fields.specs.Outcome.{Did}
+use Rattle.model.specs.Lists.{All}
+use Rattle.model.specs.declared.Hole.{Hole}
+use Rattle.model.specs.Calls.{Call, Answer}
+use Rattle.model.specs.Heap.{Heap}
+use Rattle.model.specs.History.{answers, events, heapAfter, answersOf, runsOf}
+use Rattle.model.specs.Examples.{history, onNewHeap}
+use Rattle.model.proofs.Theorems as Model
+use Rattle.arena.specs.Load.{loadArena}
+use Rattle.vigbuso.specs.Direct.{openOn}
+use Rattle.refinement.specs.Represents.{Represents}
+use Rattle.refinement.specs.Direct.{Reply}
+use Rattle.refinement.specs.Run.{callReply, answersIn}
+use Rattle.demands.specs.Call.{call}
+use Rattle.demands.specs.Run.{Opens, Room, repliesFrom, run, bookAfter, next, told}
+use Rattle.demands.specs.Contracts.{Shows, Trace}
+use Rattle.demands.specs.Demands.{Demand2, Demand3}
+use Rattle.demands.proofs.Calls as Calls
+use Rattle.demands.proofs.Contracts as Contracts
+use Rattle.demands.proofs.Histories as Histories
+use Rattle.demands.proofs.Told.{told-answers, told-disjoint, told-iso}
+use Rattle.demands.proofs.Fits.{commit-fits, run-fits, memory-fits, take-yields}
+use Rattle.demands.proofs.Returns.{entry-returns}
+use Rattle.demands.proofs.Held.{held-releases}
+
+-- what a caller sees of an exported function, by its contract, is the reply of `call`; of calls in turn from an opening, that of `run`
+pub shows-call : {b : List ℕ} {x : Call} {w : Reply} → Shows b x w → w ≡ call b x
+shows-call = Contracts.shows-call
+
+pub trace-run : (n : ℕ) (b b′ : List ℕ) (xs : List Call) (ws : List Reply) → Did 0 b′ (openOn b n) → Trace b′ xs ws → Opens n b × (ws ≡ run n b xs)
+trace-run = Contracts.trace-run
+
+-- an opening is refused by numbers 1 and 2 alone: every book that is long enough can be opened, whatever it holds
+pub opens-exactly : (n : ℕ) (b : List ℕ) → Opens n b ↔ Room n b
+opens-exactly n b = (Calls.room n b, Calls.opens n b)
+
+-- every call of a history is a call on the book that the calls before it left
+pub run-calls : (n : ℕ) (b : List ℕ) (xs : List Call) (x : Call) (ys : List Call) → run n b (xs ++ x ∷ ys) ≡ run n b xs ++ (next n b xs x ∷ repliesFrom (next n b xs x .book) ys)
+run-calls = Histories.run-calls
+
+-- on a book that stands for a heap, a call is the refinement's
+pub call-is : (n : ℕ) (b : List ℕ) → 1 ≤ n → n ≤ maxPages → (H : Heap) → Represents n b H → (x : Call) → call b x ≡ callReply n b x
+call-is = Calls.call-is
+
+-- the answers are the model's; number 13 is never among the codes; the book stands for the model's heap
+pub run-answers : (n : ℕ) (b : List ℕ) → Opens n b → (xs : List Call) → answersIn (run n b xs) ≡ answers n xs
+run-answers = Histories.run-answers
+
+pub run-fair : (n : ℕ) (b : List ℕ) → Opens n b → (xs : List Call) → All (λ (r : Reply). r .code ≡ 13 → ⊥) (run n b xs)
+run-fair = Histories.run-fair
+
+pub run-represents : (n : ℕ) (b : List ℕ) → Opens n b → (xs : List Call) → Represents n (bookAfter n b xs) (heapAfter n xs)
+run-represents = Histories.run-represents
+
+-- an example of document 01 that is a history finds on the words what it finds on the model (`examples-hold`, crate model): each call's
+-- answer, and the holes stored after the last
+pub examples-run : (b : List ℕ) → Opens 64 b → (xs : List Call) (zs : List Answer) (hs : List Hole)
+    → history (answersIn (run 64 b xs)) (loadArena (bookAfter 64 b xs) .store .holes) ≡ onNewHeap xs zs hs .found
+unfolding onNewHeap
+examples-run b o xs zs hs = rw (run-answers 64 b o xs, run-represents 64 b o xs .arena .loads)
+
+pub demand-2 : (n : ℕ) (b : List ℕ) → Opens n b → (xs : List Call) → Demand2 n b xs
+demand-2 n b o xs = record {
+  commits = commit-fits n b o xs;
+  runs = run-fits n b o xs;
+  remembers = memory-fits n b o xs;
+  takes = take-yields n b o xs;
+  returns = entry-returns n b o xs;
+  releases = held-releases n b o xs;
+  apart = told-iso n b o xs (Model.iso-disjoint n (Calls.room n b o .few-pages) xs);
+}
+
+-- a class's answers are the model's
+both : (n : ℕ) (b₁ b₂ : List ℕ) → Opens n b₁ → Opens n b₂ → (c : ℕ) (xs ys : List Call)
+    → (answersOf c (events n xs) ≡ answersOf c (events n ys)) ↔ (runsOf c (events n xs) ≡ runsOf c (events n ys))
+    → (answersOf c (told n b₁ xs) ≡ answersOf c (told n b₂ ys)) ↔ (runsOf c (events n xs) ≡ runsOf c (events n ys))
+both n b₁ b₂ o₁ o₂ c xs ys f = rw (told-answers n b₁ o₁ c xs, told-answers n b₂ o₂ c ys) f
+
+pub demand-3 : Demand3
+demand-3 = record {
+  alone = λ n b₁ b₂ o₁ o₂ c xs ys e. both n b₁ b₂ o₁ o₂ c xs ys (Model.demand-3 n (Calls.room n b₁ o₁ .few-pages) .alone c xs ys e);
+  disjoint = λ n b o xs. told-disjoint n b o xs (Model.demand-3 n (Calls.room n b o .few-pages) .disjoint xs);
+}

@@ -1,0 +1,85 @@
+-- What is told of a history on the words, its calls with their answers, is what the model's events have of it; a class's answers, entries
+-- and holds read no more of events than that. Assumes nothing.
+--     told-is           the calls with their answers are the model's events without the runs
+--     told-answers      so a class's answers are the model's
+--     told-disjoint     and what the model's events have as `Disjoint` and `IsoDisjoint`, these have
+use Prim.Native.Nat.{ℕ, suc, _/_}
+use mathlib.Core.Bool.{Bool, false, not, _&&_}
+use mathlib.Core.List.{List, [], _∷_, map, head-eq-of-cons-eq, tail-eq-of-cons-eq}
+use mathlib.Core.Logic.{inl, inr}
+use mathlib.Core.Option.{none}
+use mathlib.Core.Path.{_≡_, refl, sym, ap, ap₂, _∙_}
+use Rattle.classes.specs.Sizes.{pageBytes}
+use Rattle.model.specs.Lists.{every}
+use Rattle.model.specs.Calls.{Call, Answer, names}
+use Rattle.model.specs.Heap.{Heap, step, newHeap}
+use Rattle.model.specs.History.{Event, eventsFrom, events, answersOf, isOf}
+use Rattle.model.specs.Entries.{Entry, Live, releases, directNext, directFrom, directAfter}
+use Rattle.model.specs.Demands.{Disjoint, IsoDisjoint}
+use Rattle.model.proofs.Counts.{by-cases}
+use Rattle.refinement.specs.Direct.{Reply}
+use Rattle.refinement.specs.Run.{answersIn}
+use Rattle.demands.specs.Run.{Opens, answered, told, run}
+use Rattle.demands.proofs.Histories.{run-answers}
+
+abbrev bare : List Event → List Event
+bare [] = []
+bare (v ∷ vs) = record { call = v .call; answer = v .answer; run = none } ∷ bare vs
+
+answered-is : (n : ℕ) (H : Heap) (xs : List Call) (rs : List Reply) → answersIn rs ≡ map (λ (e : Event). e .answer) (eventsFrom n H xs) → answered xs rs ≡ bare (eventsFrom n H xs)
+answered-is n H [] rs e = refl
+answered-is n H (x ∷ xs) [] e = cc
+answered-is n H (x ∷ xs) (r ∷ rs) e =
+    ap₂ (λ (a : Answer) (vs : List Event). record { call = x; answer = a; run = none } ∷ vs) (head-eq-of-cons-eq e) (answered-is n (step n H x .heap) xs rs (tail-eq-of-cons-eq e))
+
+pub told-is : (n : ℕ) (b : List ℕ) → Opens n b → (xs : List Call) → told n b xs ≡ bare (events n xs)
+told-is n b o xs = answered-is n newHeap xs (run n b xs) (run-answers n b o xs)
+
+-- ---- a class's answers
+bare-answers : (c : ℕ) (vs : List Event) → answersOf c (bare vs) ≡ answersOf c vs
+bare-answers c [] = refl
+bare-answers c (v ∷ vs) =
+    by-cases (isOf c (names (v .call))) (λ e. rw e (ap (λ (ys : List Answer). v .answer ∷ ys) (bare-answers c vs))) (λ e. rw e (bare-answers c vs))
+
+pub told-answers : (n : ℕ) (b : List ℕ) → Opens n b → (c : ℕ) (xs : List Call) → answersOf c (told n b xs) ≡ answersOf c (events n xs)
+told-answers n b o c xs = ap (answersOf c) (told-is n b o xs) ∙ bare-answers c (events n xs)
+
+-- ---- entries and holds
+bare-kept : (e : Entry) (vs : List Event)
+    → every (λ (u : Event). not (releases (names (u .call)) (u .answer) e)) (bare vs) ≡ every (λ (u : Event). not (releases (names (u .call)) (u .answer) e)) vs
+bare-kept e [] = refl
+bare-kept e (v ∷ vs) = ap (λ (t : Bool). not (releases (names (v .call)) (v .answer) e) && t) (bare-kept e vs)
+
+bare-live : (k : ℕ) (vs : List Event) (e : Entry) → Live k (bare vs) e → Live k vs e
+bare-live k [] e l = l
+bare-live k (v ∷ vs) e (inl p) = inl (p .0, sym (bare-kept e vs) ∙ p .1)
+bare-live k (v ∷ vs) e (inr l) = inr (bare-live (suc k) vs e l)
+
+bare-direct : (f : ℕ → Bool) (vs : List Event) (x : ℕ) → directFrom f (bare vs) x ≡ directFrom f vs x
+bare-direct f [] x = refl
+bare-direct f (v ∷ vs) x = bare-direct (directNext (v .call) (v .answer) f) vs x
+
+bare-disjoint : (vs : List Event) → Disjoint vs → Disjoint (bare vs)
+bare-disjoint vs d = record {
+  apart = λ e e′ l l′. d .apart e e′ (bare-live 0 vs e l) (bare-live 0 vs e′ l′);
+  offDirect = λ e l b h. bare-direct (λ x. false) vs (b / pageBytes) ∙ d .offDirect e (bare-live 0 vs e l) b h;
+}
+
+bare-iso : (n : ℕ) (vs : List Event) → IsoDisjoint n vs → IsoDisjoint n (bare vs)
+bare-iso n vs d = record {
+  inArena = λ e l. d .inArena e (bare-live 0 vs e l);
+  noCommon = λ e e′ l l′. d .noCommon e e′ (bare-live 0 vs e l) (bare-live 0 vs e′ l′);
+}
+
+module _ (n : ℕ) (b : List ℕ) (o : Opens n b) (xs : List Call) where
+  pub told-live : (e : Entry) → Live 0 (told n b xs) e → Live 0 (events n xs) e
+  told-live e l = bare-live 0 (events n xs) e (rw (told-is n b o xs) at l)
+
+  pub told-direct : (x : ℕ) → directAfter (told n b xs) x ≡ directAfter (events n xs) x
+  told-direct x = ap (λ (vs : List Event). directAfter vs x) (told-is n b o xs) ∙ bare-direct (λ y. false) (events n xs) x
+
+  pub told-disjoint : Disjoint (events n xs) → Disjoint (told n b xs)
+  told-disjoint d = rw (told-is n b o xs) (bare-disjoint (events n xs) d)
+
+  pub told-iso : IsoDisjoint n (events n xs) → IsoDisjoint n (told n b xs)
+  told-iso d = rw (told-is n b o xs) (bare-iso n (events n xs) d)

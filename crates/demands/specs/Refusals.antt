@@ -1,0 +1,264 @@
+-- Demand 1: document 01's table "Numbers for a refused call, in checking order", for each exported function. Assumes nothing.
+--     badLength to takeFair      when each number applies, with document 01's sentence
+--     openTable to chunksTable   for each function the numbers that it can answer, in checking order, and whether each applies
+--     firstNumber                the first of them that applies, 0 if none does
+--     Refuses                    a call answered that number, and changed nothing where it is not 0
+--     Demand1                    every exported function does so, by what its contract says of it
+-- b is the book, n the arena's length in it, c a class, sh its shape, h the host word, ws a list of blocks, gs of groups, fs the lent
+-- fates. Each condition says by itself when its number applies, also where an earlier number answers first.
+use Prim.Native.Nat.{ℕ, _+_, _≤_}
+use mathlib.Core.Bool.{Bool, true, false, cond, not, _&&_, _||_}
+use mathlib.Core.List.{List, [], _∷_}
+use mathlib.Core.Path.{_≡_}
+use lib.Dec.{eqb, ltb, leb}
+use lib.ListN.{length}
+use Rattle.words.specs.Word.{chunkKind}
+use Rattle.words.specs.Host.{digit}
+use Rattle.classes.specs.declared.Shape.{Shape}
+use Rattle.classes.specs.Shape.{shapeOf}
+use Rattle.classes.specs.Lookup.{classForSize, mediumClassForSize}
+use Rattle.fields.specs.Field.{arena, class, size, state, frontier, partial, empty, cold, words, get}
+use Rattle.fields.specs.Outcome.{Did}
+use Rattle.fields.specs.Ranges.{maxPages, inRange}
+use Rattle.model.specs.Lists.{isNil, every, distinct}
+use Rattle.model.specs.Heap.{badRun}
+use Rattle.model.specs.Release.{ofKind}
+use Rattle.model.specs.Chunks.{chunksMax, hostMax}
+use Rattle.arena.specs.Fair.{recordFair, commitFair, giveFair}
+use Rattle.arena.specs.Calls.{heldDirect}
+use Rattle.pages.specs.declared.Park.the-variants.{Empty, Cold}
+use Rattle.direct.specs.Answer.{badGrowth, Releases}
+use Rattle.heap.specs.Take.{walk, parkFair}
+use Rattle.heap.specs.Release.{startOf, outAt, firstOf, releaseFair}
+use Rattle.heap.specs.Chunks.{chunksMatch, chunksFair}
+use Rattle.vigbuso.specs.Direct as Direct
+use Rattle.vigbuso.specs.Direct.{openOn, commitOn, CommitEnds, growOn, GrowEnds, containsOn, reportOn, ReportEnds}
+use Rattle.vigbuso.specs.Blocks as Blocks
+use Rattle.vigbuso.specs.Blocks.{takeOn, TakeEnds, ReleaseEnds, chunksOn, ChunksEnds}
+
+-- ---- when each number applies
+-- 1. "Arena length, given at opening or stored as the book's first word, is 0 (an empty book reads so) or above 262,144."
+abbrev pub badLength : ℕ → Bool
+badLength n = eqb n 0 || ltb maxPages n
+
+-- 2. "The book is too short."
+abbrev pub tooShort : ℕ → List ℕ → Bool
+tooShort n b = ltb (length b) (words n)
+
+-- 3. "The host word exceeds 15."
+abbrev pub badHost : ℕ → Bool
+badHost h = ltb hostMax h
+
+-- 4. "The class is 64 or more, medium 12 or more."
+abbrev pub noClass : ℕ → ℕ → Bool
+noClass many c = leb many c
+
+-- 5. "The list lent to a take is shorter than 64, medium than one span's blocks."
+abbrev pub shortList : Shape → List ℕ → Bool
+shortList sh l = ltb (length l) (sh .batch)
+
+-- 6. "A run has 0 pages or 2 to the 48th or more, or growth isn't to more pages.": `badRun`, `badGrowth`
+
+-- 7. "The release or group list is empty."
+abbrev pub nothingListed : List ℕ → List ℕ → Bool
+nothingListed ws gs = isNil ws || isNil gs
+
+-- 8. "Groups exceed 2,056 or the fate list is shorter than the groups."
+abbrev pub manyChunks : List ℕ → List ℕ → Bool
+manyChunks gs fs = ltb chunksMax (length gs) || ltb (length fs) (length gs)
+
+-- 9. "A word has the wrong kind."
+abbrev pub wrongKind : ℕ → List ℕ → Bool
+wrongKind kind ws = not (every (ofKind kind) ws)
+
+-- 10. "A block is not out in this class, or stands twice."
+abbrev pub notOut : ℕ → List ℕ → ℕ → Shape → List ℕ → Bool
+notOut n b c sh ws = not (every (outAt n b c sh) ws) || not (distinct ws)
+
+-- 11. "A block is on another page or span than the first"
+abbrev pub otherPage : List ℕ → List ℕ → Bool
+otherPage b ws = not (every (λ w. eqb (startOf b w) (startOf b (firstOf ws))) ws)
+
+-- "for groups, a page twice, a count 0 or not the list's, a page missing."
+abbrev pub chunksDiffer : List ℕ → List ℕ → List ℕ → Bool
+chunksDiffer b ws gs = not (chunksMatch b ws gs)
+
+-- 12. "The run handed to `release` or to growth isn't wholly held by hand."
+abbrev pub notHeld : ℕ → List ℕ → ℕ → ℕ → Bool
+notHeld n b q m = not (heldDirect n b q m)
+
+-- 13. "Another book word that the call reads is out of its range, or a listed page yields no block." The tests are those of
+-- docs/RANGES.md: `commitFair`, `giveFair`, `recordFair`, `releaseFair`, `chunksFair`. A take reads the frontier, then its source:
+-- the partial list as far as it goes, or the newest empty page, or the newest cold one, or what a commit reads.
+unfoldable pub takeFair : ℕ → List ℕ → ℕ → Shape → Bool
+takeFair n b c sh =
+    leb (get b (arena frontier)) n
+    && cond (not (eqb (get b (class partial c)) 0)) (walk n b c sh (sh .batch) (sh .batch) (get b (class partial c)) 0)
+    (cond (not (eqb (get b (class empty c)) 0)) (parkFair n b c sh Empty)
+    (cond (not (eqb (get b (class cold c)) 0)) (parkFair n b c sh Cold)
+    (commitFair n b (sh .pages))))
+
+-- ---- a table's rows are a number and whether it applies
+abbrev pub Row : Type 0
+Row = ℕ × Bool
+
+abbrev pub firstNumber : List Row → ℕ
+firstNumber [] = 0
+firstNumber (row ∷ rows) = cond (row .1) (row .0) (firstNumber rows)
+
+-- the numbers rise, from above k on: the first that applies is the least
+abbrev pub rises : ℕ → List Row → Bool
+rises k [] = true
+rises k (row ∷ rows) = ltb k (row .0) && rises (row .0) rows
+
+-- ---- the tables
+-- vigbuso_open
+abbrev pub openTable : List ℕ → ℕ → List Row
+openTable b n = (1, badLength n) ∷ (2, tooShort n b) ∷ []
+
+-- vigbuso_commit
+abbrev pub commitTable : List ℕ → ℕ → ℕ → List Row
+commitTable b h m =
+    let n = get b (arena size) in
+    (1, badLength n) ∷ (2, tooShort n b) ∷ (3, badHost h) ∷ (6, badRun m) ∷ (13, not (commitFair n b m)) ∷ []
+
+-- vigbuso_grow_frontier
+abbrev pub growTable : List ℕ → ℕ → ℕ → ℕ → ℕ → List Row
+growTable b h q old new =
+    let n = get b (arena size) in
+    (1, badLength n) ∷ (2, tooShort n b) ∷ (3, badHost h) ∷ (6, badGrowth old new) ∷ (12, notHeld n b q old) ∷ (13, not (recordFair n b)) ∷ []
+
+-- vigbuso_release
+abbrev pub giveTable : List ℕ → ℕ → ℕ → ℕ → List Row
+giveTable b h q m =
+    let n = get b (arena size) in
+    (1, badLength n) ∷ (2, tooShort n b) ∷ (3, badHost h) ∷ (6, badRun m) ∷ (12, notHeld n b q m) ∷ (13, not (giveFair n b m)) ∷ []
+
+-- vigbuso_report
+abbrev pub reportTable : List ℕ → List Row
+reportTable b =
+    let n = get b (arena size) in
+    (1, badLength n) ∷ (2, tooShort n b) ∷ (13, not (recordFair n b)) ∷ []
+
+-- vigbuso_contains answers none of these: it is no where one applies
+abbrev pub containsTable : List ℕ → List Row
+containsTable b =
+    let n = get b (arena size) in
+    (1, badLength n) ∷ (2, tooShort n b) ∷ (13, not (inRange 0 b (arena state))) ∷ []
+
+-- vigbuso_take_blocks, with class ids from 0 on and 64 classes; vigbuso_medium_take_blocks, with ids from 64 on and 12 classes
+abbrev pub takeTable : ℕ → ℕ → List ℕ → ℕ → ℕ → List ℕ → List Row
+takeTable low many b c h l =
+    let n = get b (arena size) in
+    let sh = shapeOf (low + c) in
+    (1, badLength n) ∷ (2, tooShort n b) ∷ (3, badHost h) ∷ (4, noClass many c) ∷ (5, shortList sh l) ∷ (13, not (takeFair n b (low + c) sh)) ∷ []
+
+-- vigbuso_release_blocks, vigbuso_medium_release_blocks, in the same way
+abbrev pub releaseTable : ℕ → ℕ → List ℕ → ℕ → ℕ → List ℕ → List Row
+releaseTable low many b c h ws =
+    let n = get b (arena size) in
+    let sh = shapeOf (low + c) in
+    (1, badLength n)
+    ∷ (2, tooShort n b)
+    ∷ (3, badHost h)
+    ∷ (4, noClass many c)
+    ∷ (7, isNil ws)
+    ∷ (9, wrongKind (sh .kind) ws)
+    ∷ (10, notOut n b (low + c) sh ws)
+    ∷ (11, otherPage b ws)
+    ∷ (13, not (releaseFair n b (low + c) sh (length ws) (startOf b (firstOf ws))))
+    ∷ []
+
+-- vigbuso_release_bin_chunks
+abbrev pub chunksTable : List ℕ → ℕ → ℕ → List ℕ → List ℕ → List ℕ → List Row
+chunksTable b c h ws gs fs =
+    let n = get b (arena size) in
+    let sh = shapeOf c in
+    (1, badLength n)
+    ∷ (2, tooShort n b)
+    ∷ (3, badHost h)
+    ∷ (4, noClass 64 c)
+    ∷ (7, nothingListed ws gs)
+    ∷ (8, manyChunks gs fs)
+    ∷ (9, wrongKind (sh .kind) ws || wrongKind chunkKind gs)
+    ∷ (10, notOut n b c sh ws)
+    ∷ (11, chunksDiffer b ws gs)
+    ∷ (13, not (chunksFair n b c sh gs))
+    ∷ []
+
+-- ---- "Each returns its number and changes nothing."
+-- A call with these rows answered r; Same says that all that it was lent to write is as it was: book, list, out-parameters.
+pub record Refuses (rows : List Row) (r : ℕ) (Same : Type 0) : Type 0 where
+  pub order : rises 0 rows ≡ true
+  pub number : r ≡ firstNumber rows
+  pub kept : (r ≡ 0 → ⊥) → Same
+
+-- What the contract of the function says is the premise, word for word; a prime marks what stands there afterwards.
+abbrev pub OpenRefuses : Type 0
+OpenRefuses = (b : List ℕ) (n r : ℕ) (b′ : List ℕ) → Did r b′ (openOn b n) → Refuses (openTable b n) r (b′ ≡ b)
+
+abbrev pub CommitRefuses : Type 0
+CommitRefuses =
+    (b : List ℕ) (h m r : ℕ) (b′ : List ℕ) (q q′ f f′ : ℕ)
+    → CommitEnds (commitOn b h m) r b′ q q′ f f′
+    → Refuses (commitTable b h m) r ((b′ ≡ b) × (q′ ≡ q) × (f′ ≡ f))
+
+abbrev pub GrowRefuses : Type 0
+GrowRefuses =
+    (b : List ℕ) (h q old new r : ℕ) (b′ : List ℕ) (g g′ : ℕ)
+    → GrowEnds (growOn b h q old new) r b′ g g′
+    → Refuses (growTable b h q old new) r ((b′ ≡ b) × (g′ ≡ g))
+
+abbrev pub GiveRefuses : Type 0
+GiveRefuses = (b : List ℕ) (h q m r : ℕ) (b′ : List ℕ) → Releases r b′ (Direct.releaseOn b h q m) → Refuses (giveTable b h q m) r (b′ ≡ b)
+
+-- the book is only read
+abbrev pub ReportRefuses : Type 0
+ReportRefuses = (b : List ℕ) (r : ℕ) (fs fs′ : List ℕ) → ReportEnds (reportOn b) r fs fs′ → Refuses (reportTable b) r (fs′ ≡ fs)
+
+abbrev pub TakeRefuses : ℕ → ℕ → Type 0
+TakeRefuses low many =
+    (b : List ℕ) (c h : ℕ) (l : List ℕ) (r : ℕ) (b′ l′ : List ℕ) (k k′ v v′ : ℕ)
+    → TakeEnds (takeOn low many b c h l) r b′ l′ k k′ v v′
+    → Refuses (takeTable low many b c h l) r ((b′ ≡ b) × (l′ ≡ l) × (k′ ≡ k) × (v′ ≡ v))
+
+-- the list is only read, and so are the groups below
+abbrev pub ReleaseRefuses : ℕ → ℕ → Type 0
+ReleaseRefuses low many =
+    (b : List ℕ) (c h : ℕ) (ws : List ℕ) (r : ℕ) (b′ : List ℕ) (f f′ : ℕ)
+    → ReleaseEnds (Blocks.releaseOn low many b c h ws) r b′ f f′
+    → Refuses (releaseTable low many b c h ws) r ((b′ ≡ b) × (f′ ≡ f))
+
+abbrev pub ChunksRefuses : Type 0
+ChunksRefuses =
+    (b : List ℕ) (c h : ℕ) (ws gs fs : List ℕ) (r : ℕ) (b′ fs′ : List ℕ)
+    → ChunksEnds (chunksOn b c h ws gs fs) r b′ fs′
+    → Refuses (chunksTable b c h ws gs fs) r ((b′ ≡ b) × (fs′ ≡ fs))
+
+-- "Sizes and `contains` refuse nothing": a size has a class that number 4 does not refuse; `contains` is 1 or 0, yes or no, and no "on
+-- a book that 1, 2 or 13 would refuse".
+pub record Contains (b : List ℕ) (r : ℕ) : Type 0 where
+  pub plain : r ≤ 1
+  pub no : (firstNumber (containsTable b) ≡ 0 → ⊥) → r ≡ 0
+
+abbrev pub ContainsAnswers : Type 0
+ContainsAnswers = (b : List ℕ) (o k r : ℕ) → r ≡ digit (containsOn b o k) → Contains b r
+
+abbrev pub SizeAnswers : (ℕ → ℕ) → ℕ → Type 0
+SizeAnswers lookup many = (bytes r : ℕ) → r ≡ lookup bytes → noClass many r ≡ false
+
+-- ---- the demand, a field for each exported function
+pub record Demand1 : Type 0 where
+  pub opening : OpenRefuses
+  pub commit : CommitRefuses
+  pub growFrontier : GrowRefuses
+  pub release : GiveRefuses
+  pub report : ReportRefuses
+  pub takeBlocks : TakeRefuses 0 64
+  pub mediumTakeBlocks : TakeRefuses 64 12
+  pub releaseBlocks : ReleaseRefuses 0 64
+  pub mediumReleaseBlocks : ReleaseRefuses 64 12
+  pub releaseBinChunks : ChunksRefuses
+  pub contains : ContainsAnswers
+  pub classForSize : SizeAnswers classForSize 64
+  pub mediumClassForSize : SizeAnswers mediumClassForSize 12

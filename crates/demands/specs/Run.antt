@@ -1,0 +1,54 @@
+-- Histories on the words (document 01, "The histories of demand 3"). Assumes nothing.
+--     Opens       an arena of n pages is opened on the book b, and not refused; `Room` says when
+--     run         the replies to the calls of a history from that opening; `bookAfter` the book that it leaves
+--     next        the reply to one more call
+--     told        the calls with their answers, as the model's definitions of entries, holds and a class's answers read them
+use Prim.Native.Nat.{ℕ, _≤_}
+use mathlib.Core.List.{List, [], _∷_}
+use mathlib.Core.Option.{none}
+use mathlib.Core.Path.{_≡_}
+use lib.ListN.{length}
+use Rattle.fields.specs.Field.{words}
+use Rattle.fields.specs.Ranges.{maxPages}
+use Rattle.model.specs.Calls.{Call}
+use Rattle.model.specs.History.{Event}
+use Rattle.vigbuso.specs.Direct.{openOn}
+use Rattle.refinement.specs.Direct.{Reply}
+use Rattle.demands.specs.Call.{call}
+
+-- "It starts from an unrefused opening"
+abbrev pub Opens : ℕ → List ℕ → Type 0
+Opens n b = openOn b n .code ≡ 0
+
+-- what numbers 1 and 2 leave: opening asks no more of a book
+pub record Room (n : ℕ) (b : List ℕ) : Type 0 where
+  pub some-pages : 1 ≤ n
+  pub few-pages : n ≤ maxPages
+  pub long : words n ≤ length b
+
+-- "Each call gets the book as the last one left it"
+abbrev pub repliesFrom : List ℕ → List Call → List Reply
+repliesFrom b [] = []
+repliesFrom b (x ∷ xs) = call b x ∷ repliesFrom (call b x .book) xs
+
+abbrev pub bookFrom : List ℕ → List Call → List ℕ
+bookFrom b [] = b
+bookFrom b (x ∷ xs) = bookFrom (call b x .book) xs
+
+abbrev pub run : ℕ → List ℕ → List Call → List Reply
+run n b xs = repliesFrom (openOn b n .meta) xs
+
+abbrev pub bookAfter : ℕ → List ℕ → List Call → List ℕ
+bookAfter n b xs = bookFrom (openOn b n .meta) xs
+
+abbrev pub next : ℕ → List ℕ → List Call → Call → Reply
+next n b xs x = call (bookAfter n b xs) x
+
+-- what the arena gives at a call is "never read from the book": it is not told here, and `none` stands in its place
+abbrev pub answered : List Call → List Reply → List Event
+answered [] rs = []
+answered (x ∷ xs) [] = []
+answered (x ∷ xs) (r ∷ rs) = record { call = x; answer = r .answer; run = none } ∷ answered xs rs
+
+abbrev pub told : ℕ → List ℕ → List Call → List Event
+told n b xs = answered xs (run n b xs)
