@@ -1,0 +1,2 @@
+pub mod GatherPlace
+pub mod GatherPush
