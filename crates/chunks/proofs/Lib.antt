@@ -1,2 +1,3 @@
 pub mod GatherPlace
 pub mod GatherPush
+pub mod Gather
