@@ -1,4 +1,4 @@
--- Placing a chunk's page neither reads nor writes another page's stack, out bits and FREE: a write of these may as well come after it.
+-- Placing a chunk's page neither reads nor writes another page's stack, out bits, FREE and CARVED: a write of these may as well come after it.
 --     aside          such a field, seen from page q; FIRST of any page is one too
 --     past-put ..    a write goes past a step that leaves its field aside
 --     place-past     it goes past a whole placing, which has the same fate
@@ -34,7 +34,7 @@ use Rattle.release.specs.Act.{coldVirgin}
 use Rattle.chunks.specs.Pass.{placeAt}
 
 abbrev pub aside : ℕ → Field → Bool
-aside q f = (eqb (region f) 4 && eqb (off f) 1) || ((leb 5 (region f) || (eqb (region f) 4 && eqb (off f) 4)) && not (eqb (row f) q))
+aside q f = (eqb (region f) 4 && eqb (off f) 1) || ((leb 5 (region f) || (eqb (region f) 4 && (eqb (off f) 4 || eqb (off f) 5))) && not (eqb (row f) q))
 
 -- what is written on another book
 abbrev pub onBook : (List ℕ → List ℕ) → Released → Released
@@ -128,7 +128,7 @@ module _ (c q : ℕ) (hc : ltb c 76 ≡ true) (f : Field) (v : ℕ) (of : ok f �
 
   emptied-past : (b : List ℕ) → emptied (put b f v) q ≡ put (emptied b q) f v
   unfolding emptied
-  emptied-past b = past _ _ (page free q) 0 refl (own q) (past b _ (page carved q) 0 refl refl refl)
+  emptied-past b = past _ _ (page free q) 0 refl (own q) (past b _ (page carved q) 0 refl (own q) refl)
 
   module _ (sh : Shape) (few : sh .capacity ≤ 4096) where
     carve-past : (b : List ℕ) (z : Bool) → carveAnew (put b f v) sh q z ≡ put (carveAnew b sh q z) f v
@@ -137,7 +137,7 @@ module _ (c q : ℕ) (hc : ltb c 76 ≡ true) (f : Field) (v : ℕ) (of : ok f �
         let k = stocked sh in
         let l : 0 + length (downs 0 k) ≤ 4096 = omega (arith, length-downs 0 k, stocked-le sh k refl few) in
         past _ _ (page free q) k refl (own q)
-        (past _ _ (page carved q) k refl refl
+        (past _ _ (page carved q) k refl (own q)
         (past _ _ (page virgin q) (flag z) refl refl
         (past-push (aside q) f v of tf b _ q 0 (downs 0 k) (λ i. own q) l refl)))
 
@@ -156,7 +156,7 @@ module _ (c q : ℕ) (hc : ltb c 76 ≡ true) (f : Field) (v : ℕ) (of : ok f �
     unfolding placeAt after
     place-past b h =
         let d = put b (page virgin q) 0 in
-        rw (past b _ (page virgin q) 0 refl refl refl, idle d (page carved q) refl refl, idle d (page free q) refl (own q)) (by d (eqb (get d (page carved q)) (get d (page free q))))
+        rw (past b _ (page virgin q) 0 refl refl refl, idle d (page carved q) refl (own q), idle d (page free q) refl (own q)) (by d (eqb (get d (page carved q)) (get d (page free q))))
       where
         by : (d : List ℕ) (t : Bool) → cond t (markRetired (parkAt (emptied (put d f v) q) c sh h q)) (released (relisted (put d f v) c q) 0)
             ≡ onBook (λ d. put d f v) (cond t (markRetired (parkAt (emptied d q) c sh h q)) (released (relisted d c q) 0))
@@ -165,7 +165,7 @@ module _ (c q : ℕ) (hc : ltb c 76 ≡ true) (f : Field) (v : ℕ) (of : ok f �
 
 -- ---- what placing may change
 abbrev pub stirs : ℕ → Field → Bool
-stirs q f = not (aside q f)
+stirs q f = eqb (region f) 2 || (leb 4 (region f) && not (aside q f))
 
 pub stirs-own : (q : ℕ) → not (not (eqb q q)) ≡ true
 stirs-own q = rw (eq-eqb q q refl)
@@ -192,7 +192,7 @@ module _ (c q : ℕ) (hc : ltb c 76 ≡ true) where
     as-stirs b zero = changes-stow (stirs q) b c q hc Empty refl refl refl
     as-stirs b (suc zero) =
         let d = carveAnew b sh q (coldVirgin sh h) in
-        changes-trans (stirs q) b d _ (changes-carve (stirs q) b q (stirs-own q) refl (λ i. stirs-own q) sh (coldVirgin sh h) refl few)
+        changes-trans (stirs q) b d _ (changes-carve (stirs q) b q (stirs-own q) refl (λ i. stirs-own q) sh (coldVirgin sh h) (stirs-own q) few)
         (changes-stow (stirs q) d c q hc Cold refl refl refl)
     as-stirs b (suc (suc s)) = changes-none (stirs q) b
 
@@ -210,6 +210,6 @@ module _ (c q : ℕ) (hc : ltb c 76 ≡ true) where
         by d true =
             let e = emptied d q in
             changes-trans (stirs q) d e _
-            (changes-put (stirs q) d _ (page free q) 0 refl (stirs-own q) (changes-put (stirs q) d d (page carved q) 0 refl refl (changes-none (stirs q) d)))
+            (changes-put (stirs q) d _ (page free q) 0 refl (stirs-own q) (changes-put (stirs q) d d (page carved q) 0 refl (stirs-own q) (changes-none (stirs q) d)))
             (park-stirs e)
         by d false = relisted-stirs d

@@ -1,3 +1,4 @@
 pub mod GatherPlace
 pub mod GatherPush
 pub mod Gather
+pub mod GatherGives
