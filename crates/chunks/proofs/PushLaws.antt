@@ -2,7 +2,7 @@
 --     push-length     the book's length stays
 --     push-free       FREE of a page grows by the words on it
 -- Assumes nothing.
-use Prim.Native.Nat.{ℕ, suc, _+_, _-_, _≤_, _<_}
+use Prim.Native.Nat.{ℕ, zero, suc, _+_, _-_, _≤_, _<_}
 use native.Mathlib.Omega.{arith}
 use mir.Val.{Fits}
 use mir.Syntax.{w32}
@@ -14,7 +14,6 @@ use lib.ListN.{length, getD, drop}
 use lib.Seq.{drop-cons, drop-length}
 use borrow.Author.Tests.{lt-ltb, le-leb, eqb-true, eq-eqb}
 use Rattle.classes.specs.declared.Shape.{Shape}
-use Rattle.classes.specs.Sound.{Sound}
 use Rattle.fields.specs.Field.{page, slot, free, words, get, put, Has}
 use Rattle.fields.proofs.Laws.{get-put-same, get-put-other, length-put}
 use Rattle.model.proofs.Counts.{by-cases}
@@ -89,7 +88,7 @@ asks-tail b sh w ws a = record {
 
 -- nor do those from any place on
 asks-drop : (b : List ℕ) (sh : Shape) (i : ℕ) (ws : List ℕ) → PushAllAsks b sh ws → PushAllAsks b sh (drop i ws)
-asks-drop b sh ℕ.zero ws a = a
+asks-drop b sh zero ws a = a
 asks-drop b sh (suc i) [] a = a
 asks-drop b sh (suc i) (w ∷ ws) a = asks-drop b sh i ws (asks-tail b sh w ws a)
 
