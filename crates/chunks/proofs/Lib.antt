@@ -2,3 +2,6 @@ pub mod GatherPlace
 pub mod GatherPush
 pub mod Gather
 pub mod GatherGives
+pub mod PushLaws
+pub mod GiveLaws
+pub mod CallTests
