@@ -1,2 +1,3 @@
 pub mod PushLaws
 pub mod GiveLaws
+pub mod FairWays
