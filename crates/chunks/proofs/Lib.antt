@@ -4,4 +4,5 @@ pub mod Gather
 pub mod GatherGives
 pub mod PushLaws
 pub mod GiveLaws
+pub mod FairWays
 pub mod CallTests

@@ -1,3 +1,4 @@
 pub mod Pass
 pub mod PushAsks
 pub mod GiveAsks
+pub mod FairAsks
