@@ -1,1 +1,2 @@
 // Group releases of small classes.
+mod place;

@@ -1,0 +1,2 @@
+pub mod PlaceKept
+pub mod PlaceSteps
