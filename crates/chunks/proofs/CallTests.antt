@@ -93,6 +93,11 @@ module _ (b b′ : List ℕ) (h : Changes isBit b b′) where
     chunks-fair-kept n sh gs =
         rw (h .kept (arena frontier) refl refl, every-same (λ g. pageFair b′ sh (countOf g) (pageOf g)) (λ g. pageFair b sh (countOf g) (pageOf g)) gs (λ g. page-kept sh (countOf g) (pageOf g)), row-kept, given-kept sh gs, give-kept n _)
 
+-- ---- the pages' part of number 13
+pub fair-pages : (n : ℕ) (b : List ℕ) (c : ℕ) (sh : Shape) (gs : List ℕ) → chunksFair n b c sh gs ≡ true → every (λ g. pageFair b sh (countOf g) (pageOf g)) gs ≡ true
+unfolding chunksFair
+fair-pages n b c sh gs f = and-l (every (λ g. pageFair b sh (countOf g) (pageOf g)) gs) _ (and-r (leb (get b (arena frontier)) n) _ f)
+
 -- ---- where the listed words are, in a class whose runs are one page
 module _ (n : ℕ) (b : List ℕ) (c : ℕ) (sh : Shape) (one : sh .pages ≡ 1) where
   module _ (w : ℕ) (r : inRunOf n b sh c w ≡ true) where
@@ -171,11 +176,11 @@ module _ (n : ℕ) (b : List ℕ) (c : ℕ) (sh : Shape) (one : sh .pages ≡ 1)
     pub match-fits : every (chunkFits b ws) gs ≡ true
     match-fits = and-l (every (chunkFits b ws) gs) (every (λ w. elem (startOf b w) (map pageOf gs)) ws) match-rest
 
-    fits-count : (g : ℕ) → chunkFits b ws g ≡ true → countOf g ≡ wordsOn ws (pageOf g)
+    pub fits-count : (g : ℕ) → chunkFits b ws g ≡ true → countOf g ≡ wordsOn ws (pageOf g)
     unfolding chunkFits
     fits-count g f = eqb-true (countOf g) (length (blocksOn b ws (pageOf g))) (and-r (not (eqb (countOf g) 0)) _ f) ∙ on-words ws r (pageOf g)
 
-    fits-lands : (g : ℕ) → chunkFits b ws g ≡ true → Lands (pageOf g)
+    pub fits-lands : (g : ℕ) → chunkFits b ws g ≡ true → Lands (pageOf g)
     unfolding chunkFits
     fits-lands g f =
         let z = not-true (eqb (countOf g) 0) (and-l (not (eqb (countOf g) 0)) (eqb (countOf g) (length (blocksOn b ws (pageOf g)))) f) in

@@ -5,4 +5,8 @@ pub mod GatherGives
 pub mod PushLaws
 pub mod GiveLaws
 pub mod FairWays
+pub mod PlaceKept
+pub mod PlaceSteps
 pub mod CallTests
+pub mod CallPasses
+pub mod CallWays

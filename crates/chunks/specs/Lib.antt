@@ -2,3 +2,5 @@ pub mod Pass
 pub mod PushAsks
 pub mod GiveAsks
 pub mod FairAsks
+pub mod PlaceAsks
+pub mod CallAsks

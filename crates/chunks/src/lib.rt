@@ -1,6 +1,7 @@
 // Group releases of small classes.
 mod fair;
 mod gives;
+mod place;
 mod push;
 
 pub use fair::chunks_fair;
