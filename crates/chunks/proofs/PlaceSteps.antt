@@ -1,5 +1,5 @@
 -- Placing one chunk's page, and the loop over the chunks. Assumes nothing.
-use Prim.Native.Nat.{ℕ, zero, suc, _+_, _≤_, _<_}
+use Prim.Native.Nat.{ℕ, zero, suc, _+_, _-_, _≤_, _<_}
 use native.Mathlib.Omega.{arith}
 use native.Mathlib.Numerals.{add-one}
 use mir.Val.{Fits}
@@ -13,6 +13,8 @@ use lib.Seq.{drop-cons, drop-length, take-suc-set, drop-set-lt}
 use borrow.Author.Tests.{leb-true, lt-ltb, ltb-true, eq-eqb, ne-eqb}
 use Rattle.words.specs.Word.{pageOf}
 use Rattle.classes.specs.declared.Shape.{Shape}
+use Rattle.classes.specs.Sizes.{smallSizes, mediumSizes}
+use Rattle.classes.specs.Shape.{smallShape, mediumShape, shapeOf}
 use Rattle.fields.specs.Field.{arena, page, frontier, free, carved, virgin, words, get, put}
 use Rattle.fields.proofs.Laws.{and-left, and-right}
 use Rattle.model.specs.Lists.{every}
@@ -24,7 +26,7 @@ use Rattle.heap.specs.Chunks.{emptied}
 use Rattle.release.specs.Fair.{linksFair}
 use Rattle.release.specs.Act.{ParkingAsks, Parked}
 use Rattle.chunks.specs.Pass.{placeAt, placeAll}
-use Rattle.chunks.specs.PlaceAsks.{placeFair, PlaceAsks, Placed}
+use Rattle.chunks.specs.PlaceAsks.{Limits, placeFair, PlaceAsks, Placed}
 use Rattle.chunks.proofs.PlaceKept.{Steady, row-out, ties-out, steady-none, virgin-steady, emptied-steady, placed-steady, asks-kept}
 
 pub retired : (b b₁ b₂ : List ℕ) (q : ℕ) → b₁ ≡ put b (page carved q) 0 → b₂ ≡ put b₁ (page free q) 0 → b₂ ≡ emptied b q
@@ -150,3 +152,12 @@ module _ (b : List ℕ) (c : ℕ) (sh : Shape) (h : ℕ) (gs fs : List ℕ) (a :
       let n : i ≡ length gs = omega (arith, v .within) in
       let d : drop i gs ≡ [] = rw n (drop-length gs) in
       record { left = rw d at (v .left); fates = sym (take-append-drop (length gs) fs′) ∙ rw (d, n) at (v .fates) }
+
+-- ---- every class's limits are in range
+pub class-limits : (c : ℕ) → Limits (shapeOf c)
+unfolding shapeOf smallShape mediumShape
+class-limits c = by (ltb c 64)
+  where
+    by : (t : Bool) → Limits (cond t (smallShape (getD smallSizes c 16384)) (mediumShape (getD mediumSizes (c - 64) 65472)))
+    by true = record { empties = omega arith; colds = omega arith }
+    by false = record { empties = omega arith; colds = omega arith }
