@@ -1,4 +1,4 @@
 mod DirectWays
 mod TakeWays
 mod ReleaseWays
-pub mod ChunkWays
+mod ChunkWays

@@ -2,6 +2,7 @@
 ghost use Rattle.vigbuso.specs.Blocks.{chunksOn, ChunksEnds};
 
 const MAX_HOST: u32 = 15;
+
 const SMALL_CLASSES: u32 = 64;
 
 #[no_mangle]
