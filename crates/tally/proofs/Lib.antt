@@ -1,0 +1,4 @@
+pub mod Indices
+pub mod NameLaws
+pub mod MatchLaws
+pub mod Steps
