@@ -2,27 +2,28 @@
 -- passed its test, and a store's count grows only below its limit. Assumes nothing.
 --     Row, Ties       what `rowFair` and `linksFair` test, as bounds
 --     Steady b c b′   b′ has the length and FRONTIER of b, the class's row is in range, and so are a page's links wherever they were in b
---     put-still ..    one write, or several that none of this reads
+--     put-code ..     one write keeps a steady book so
 --     link-steady ..  the steps on the class's lists
---     place-steady    one chunk's page placed
+--     placed-steady   one chunk's page placed
+--     asks-kept       what placing a page asks, on a steady book
 use Prim.Native.Nat.{ℕ, zero, suc, _+_, _≤_, _<_}
 use native.Mathlib.Omega.{arith}
 use native.Mathlib.Decide.{decLe}
 use mathlib.Core.Bool.{Bool, true, false, cond, _&&_, _||_}
 use mathlib.Core.List.{List}
 use mathlib.Core.Logic.{_⊎_, inl, inr, ⊎-elim}
-use mathlib.Core.Path.{_≡_, refl, sym, ap, _∙_}
+use mathlib.Core.Path.{_≡_, refl, sym, _∙_}
 use lib.Dec.{eqb, ltb, leb}
 use lib.ListN.{length, getD, set}
 use lib.Seq.{getD-set-same, getD-set-other, set-out}
 use borrow.Author.Tests.{leb-true, ltb-true, eqb-true, eqb-false, le-leb, lt-ltb, eq-eqb, ne-eqb}
 use Rattle.classes.specs.declared.Shape.{Shape}
 use Rattle.classes.specs.Sound.{Sound}
-use Rattle.fields.specs.Field.{Field, PageField, arena, class, page, word, part, whole, region, off, frontier, partial, next, prev, free, carved, listed, virgin, words, get, put, ok, same}
+use Rattle.fields.specs.Field.{Field, PageField, arena, class, page, word, part, whole, region, off, frontier, partial, next, prev, free, carved, listed, virgin, words, get, put, ok}
 use Rattle.fields.specs.Outcome.{putAt}
 use Rattle.fields.specs.Ranges.{maxParked}
 use Rattle.fields.proofs.Laws.{and-left, and-right, get-put-same, get-put-other, length-put}
-use Rattle.fields.proofs.Changes.{same-eq, differ, Changes, changes-none, changes-put}
+use Rattle.fields.proofs.Changes.{differ, Changes, changes-none, changes-put}
 use Rattle.pages.specs.declared.Park.{Park}
 use Rattle.pages.specs.declared.Park.the-variants.{Empty, Cold}
 use Rattle.pages.specs.Links.{pointNext, linked, cutOut, link, unlink, top, tally, stow}
@@ -32,7 +33,7 @@ use Rattle.heap.specs.Release.{rowFair, unlisted, relisted, released, keepsEmpt
 use Rattle.heap.specs.Chunks.{emptied, markRetired}
 use Rattle.release.specs.Fair.{linksFair}
 use Rattle.release.specs.Act.{coldVirgin, ParkingAsks}
-use Rattle.release.proofs.Parking.{unlisted-changes, carve-changes}
+use Rattle.release.proofs.Parking.{unlisted-changes}
 use Rattle.chunks.specs.Pass.{placeAt}
 use Rattle.chunks.specs.PlaceAsks.{Limits}
 

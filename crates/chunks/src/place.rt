@@ -39,3 +39,22 @@ pub fn place_chunk(meta: &mut [u32], c: u32, shape: Shape, host: u32, q: u32) ->
     relist(meta, c, q);
     0
 }
+
+// The chunks' pages in their order; each one's fate stands at its chunk's place.
+pub fn place_chunks(
+    meta: &mut [u32],
+    c: u32,
+    shape: Shape,
+    host: u32,
+    chunks: &[u32],
+    fates: &mut [u32],
+)
+    requires { ⌜ PlaceAsks (now meta) c shape (now chunks) (now fates) ⌝ }
+    ensures { λ _. ⌜ Placed (now (meta .exit)) (now (fates .exit)) (now (meta .entry)) c shape host (now (chunks .entry)) (now (fates .entry)) ⌝ }
+{
+    let mut i = 0;
+    while i < chunks.len() {
+        fates[i] = place_chunk(meta, c, shape, host, page_of(chunks[i]));
+        i += 1;
+    }
+}
