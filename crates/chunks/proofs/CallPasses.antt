@@ -225,3 +225,17 @@ module _ (n : ℕ) (b : List ℕ) (c : ℕ) (sh : Shape) (ws gs fs : List ℕ) (
         pub settled : (b″ fs″ : List ℕ) → u ≡ true → ChunksAnswered 0 b″ fs″ (settledTo (placed b′ c sh h ws gs) sh gs fs) → ChunksAnswered 0 b″ fs″ (passes n b c sh h ws gs fs)
         unfolding passes
         settled b″ fs″ x p = rw (matches, fairs ∙ x) (rw (k .left) at p)
+
+-- ---- one pass after the other
+module _ (n : ℕ) (b : List ℕ) (c : ℕ) (sh : Shape) (h : ℕ) (ws gs fs : List ℕ) (a : SettleAsks n b c sh h ws gs fs) (b₁ : List ℕ) (e : b₁ ≡ pushAll b sh ws) where
+  pub place-next : PlaceAsks b₁ c sh gs fs
+  place-next = rw e (a .placing)
+
+  module _ (b₂ fs₂ : List ℕ) (p : Placed b₂ fs₂ b₁ c sh h gs fs) where
+    pub give-next : GiveChunksAsks n b₂ sh gs fs₂
+    give-next = rw (p .left, p .fates, e) (a .giving)
+
+    pub settles : (b₃ : List ℕ) → b₃ ≡ giveRuns b₂ (sh .pages) (givesIn gs fs₂) → ChunksAnswered 0 b₃ fs₂ (settledTo (placed b c sh h ws gs) sh gs fs)
+    settles b₃ x =
+        let z = gives-in c (lt-ltb c 76 (a .placing .known)) sh (a .placing .sound) h (pushAll b sh ws) gs (drop (length gs) fs) in
+        record { answer = refl; left = x ∙ rw (p .left, p .fates, e, ← z); fates = p .fates ∙ rw e }

@@ -1,9 +1,8 @@
 // Group releases of small classes.
+mod call;
 mod fair;
 mod gives;
 mod place;
 mod push;
 
-pub use fair::chunks_fair;
-pub use gives::give_chunks;
-pub use push::push_blocks;
+pub use call::chunks_call;
