@@ -2,42 +2,30 @@
 --     not-out, struck-asks       short of all struck, and all struck
 --     released, refused          what the passes answered, and the struck blocks set again where they refused
 --     no-list .. bad-host        numbers 7, 8, 9 and 3
-use Prim.Native.Nat.{ℕ, zero, suc, _+_, _*_, _≤_, _<_}
+use Prim.Native.Nat.{ℕ, suc, _≤_, _<_}
 use native.Mathlib.Omega.{arith}
-use mathlib.Core.Bool.{Bool, true, false, cond, not, _&&_, _||_, true≢false, false≢true}
-use mathlib.Core.List.{List, [], _∷_, _++_, map}
-use mathlib.Core.Path.{_≡_, refl, sym, ap, _∙_}
+use mathlib.Core.Bool.{Bool, true, false, cond, not, _&&_, _||_}
+use mathlib.Core.List.{List, [], _∷_}
+use mathlib.Core.Path.{_≡_, refl, sym, _∙_}
 use lib.Dec.{eqb, ltb, leb}
-use lib.ListN.{length, take, drop, length-append, length-drop}
-use borrow.Author.Tests.{ltb-true, lt-ltb, le-ltb, leb-true, le-leb, eq-eqb, eqb-true, eqb-false, ne-eqb, not-true}
-use Rattle.words.specs.Word.{chunkKind, countOf, pageOf}
+use lib.ListN.{length, take}
+use borrow.Author.Tests.{lt-ltb, le-ltb, le-leb, eq-eqb, ne-eqb}
+use Rattle.words.specs.Word.{chunkKind}
 use Rattle.classes.specs.declared.Shape.{Shape}
 use Rattle.classes.specs.Sound.{Sound}
-use Rattle.fields.specs.Field.{Field, arena, class, page, slot, region, off, frontier, state, holes, holePages, held, partial, empty, emptyCount, cold, coldCount, next, prev, free, carved, listed, virgin, get, put, words}
-use Rattle.fields.proofs.Changes.{Changes, changes-none, changes-put}
-use Rattle.model.specs.Lists.{All, every, elem, distinct, isNil}
+use Rattle.fields.specs.Field.{class, put, words}
+use Rattle.fields.proofs.Changes.{Changes}
+use Rattle.model.specs.Lists.{every, distinct, isNil}
 use Rattle.model.specs.Release.{ofKind}
 use Rattle.model.specs.Chunks.{chunksMax, hostMax}
 use Rattle.model.proofs.Counts.{by-cases, and-l, and-r}
-use Rattle.arena.specs.Fair.{recordFair, giveFair}
-use Rattle.pages.specs.Stack.{indexOf}
-use Rattle.heap.specs.Release.{pageAt, inRunOf, outAt, pageFair, rowFair}
-use Rattle.heap.specs.Chunks.{chunkFits, chunksMatch, returnsAll, runsGiven, pagesGiven, chunksFair, settleChunks, giveRuns, ChunksReleased, chunksNone, releaseChunks, chunksCall}
-use Rattle.release.specs.Strike.{bitOf, struckCount, struck, unstruck}
-use Rattle.release.specs.Asks.{ClassAsks, RestoreAsks, Struck}
-use Rattle.release.specs.Fair.{linksFair}
+use Rattle.heap.specs.Release.{inRunOf, outAt}
+use Rattle.heap.specs.Chunks.{chunksMatch, chunksFair, settleChunks, ChunksReleased, chunksNone, releaseChunks, chunksCall}
+use Rattle.release.specs.Strike.{bitOf, struckCount, unstruck}
+use Rattle.release.specs.Asks.{RestoreAsks, Struck}
 use Rattle.release.proofs.Bits.{isBit, every-same, in-run-kept}
-use Rattle.release.proofs.FairWays.{links-fair}
 use Rattle.release.proofs.StrikeLaws.{run-of-out, strikes-all, restores, struck-changes, restorable}
-use Rattle.tally.specs.Match.{MatchAsks, Matched}
-use Rattle.chunks.specs.Pass.{pushOne, pushAll, placeAll, givesIn}
-use Rattle.chunks.specs.PushAsks.{wordsOn, PushAllAsks}
-use Rattle.chunks.specs.FairAsks.{ChunksFairAsks}
-use Rattle.chunks.specs.PlaceAsks.{Limits, placeFair, PlaceAsks, Placed}
-use Rattle.chunks.specs.GiveAsks.{givesFair, GiveChunksAsks}
-use Rattle.chunks.specs.CallAsks.{placed, settledTo, passes, CallAsks, StrikeAsks, StruckAsks, SettleAsks, ChunksAnswered}
-use Rattle.chunks.proofs.PushLaws.{push-length, push-free, on-here, on-other}
-use Rattle.chunks.proofs.GatherGives.{idle, ofClass, gives-count, gives-in, fates-length, all-changes}
+use Rattle.chunks.specs.CallAsks.{placed, settledTo, passes, CallAsks, StrikeAsks, StruckAsks, ChunksAnswered}
 use Rattle.chunks.proofs.Gather.{gathered}
 use Rattle.chunks.proofs.CallTests.{match-kept, chunks-fair-kept, fair-pages}
 
