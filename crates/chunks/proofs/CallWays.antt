@@ -127,17 +127,14 @@ module _ (n : ℕ) (b : List ℕ) (c : ℕ) (sh : Shape) (ws gs fs : List ℕ) (
         placed-is m f =
             rw (z .left) (gathered n b c sh ws sound (a .call .single) hb every-out h gs hc count-is m (fair-pages n b c sh gs f))
 
-        done : r ≡ 0 → ChunksAnswered r b′ fs′ (releaseChunks n b c sh h ws gs fs)
+        pub released : r ≡ 0 → ChunksAnswered r b′ fs′ (releaseChunks n b c sh h ws gs fs)
         unfolding passes
-        done x =
+        released x =
             by-cases (chunksMatch b ws gs)
             (λ m. by-cases (chunksFair n b c sh gs)
             (λ f. rw (all-out h outs, m, f, ← (placed-is m f)) (rw (matched ∙ m, faired ∙ f) at p))
             (λ f. let q = rw (matched ∙ m, faired ∙ f) at p in absurd (omega (arith, q .answer))))
             (λ m. let q = rw (matched ∙ m) at p in absurd (omega (arith, q .answer)))
-
-        pub released : r ≡ 0 → ChunksAnswered 0 b′ fs′ (releaseChunks n b c sh h ws gs fs)
-        released x = rw x at (done x)
 
         -- a refusal left the struck book
         record Refusal : Type 0 where
