@@ -2,6 +2,7 @@
 --     not-out, struck-asks       short of all struck, and all struck
 --     released, refused          what the passes answered, and the struck blocks set again where they refused
 --     no-list .. bad-host        numbers 7, 8, 9 and 3
+--     small-asks                 what the call asks holds of every small class
 use Prim.Native.Nat.{ℕ, suc, _≤_, _<_}
 use native.Mathlib.Omega.{arith}
 use mathlib.Core.Bool.{Bool, true, false, cond, not, _&&_, _||_}
@@ -12,8 +13,11 @@ use lib.ListN.{length, take}
 use borrow.Author.Tests.{lt-ltb, le-ltb, le-leb, eq-eqb, ne-eqb}
 use Rattle.words.specs.Word.{chunkKind}
 use Rattle.classes.specs.declared.Shape.{Shape}
+use Rattle.classes.specs.Shape.{smallShape, shapeOf}
 use Rattle.classes.specs.Sound.{Sound}
-use Rattle.fields.specs.Field.{class, put, words}
+use Rattle.classes.proofs.Shapes.{shape-sound}
+use Rattle.fields.specs.Field.{put, words}
+use Rattle.fields.specs.Ranges.{maxPages}
 use Rattle.fields.proofs.Changes.{Changes}
 use Rattle.model.specs.Lists.{every, distinct, isNil}
 use Rattle.model.specs.Release.{ofKind}
@@ -26,6 +30,7 @@ use Rattle.release.specs.Asks.{RestoreAsks, Struck}
 use Rattle.release.proofs.Bits.{isBit, every-same, in-run-kept}
 use Rattle.release.proofs.StrikeLaws.{run-of-out, strikes-all, restores, struck-changes, restorable}
 use Rattle.chunks.specs.CallAsks.{placed, settledTo, passes, CallAsks, StrikeAsks, StruckAsks, ChunksAnswered}
+use Rattle.chunks.proofs.PlaceSteps.{class-limits}
 use Rattle.chunks.proofs.Gather.{gathered}
 use Rattle.chunks.proofs.CallTests.{match-kept, chunks-fair-kept, fair-pages}
 
@@ -212,3 +217,10 @@ module _ (n : ℕ) (b : List ℕ) (c : ℕ) (sh : Shape) (h : ℕ) where
     pub good-host : (r : ℕ) (b′ fs′ : List ℕ) → h ≤ 15 → ChunksAnswered r b′ fs′ (releaseChunks n b c sh h ws gs fs) → ChunksAnswered r b′ fs′ (chunksCall n b c sh h ws gs fs)
     unfolding chunksCall
     good-host r b′ fs′ l a = rw (le-ltb hostMax h l) a
+
+-- ---- the classes that have group releases
+pub small-asks : (n : ℕ) (b : List ℕ) (c : ℕ) → c < 64 → n ≤ maxPages → words n ≤ length b → CallAsks n b c (shapeOf c)
+unfolding shapeOf smallShape
+small-asks n b c l few long =
+    let e : shapeOf c .pages ≡ 1 = rw (lt-ltb c 64 l) in
+    record { class = record { known = omega arith; sound = shape-sound c; few = few; long = long }; single = e; limits = class-limits c }
