@@ -1,8 +1,8 @@
 -- Lists by index: tests of every element, and the pages of a list of chunks. Assumes nothing.
-use Prim.Native.Nat.{ℕ, zero, suc, _+_, _-_, _≤_, _<_}
+use Prim.Native.Nat.{ℕ, zero, suc, _-_, _≤_, _<_}
 use native.Mathlib.Omega.{arith}
 use native.Mathlib.Numerals.{sub-one}
-use mathlib.Core.Bool.{Bool, true, false, not, _&&_, _||_, true≢false}
+use mathlib.Core.Bool.{Bool, true, false, not, _||_, true≢false}
 use mathlib.Core.List.{List, [], _∷_, map}
 use mathlib.Core.Path.{_≡_, refl, sym, ap, _∙_}
 use lib.Dec.{eqb}
@@ -12,7 +12,7 @@ use borrow.Author.Tests.{eqb-true, eqb-false, eq-eqb, not-true}
 use Rattle.words.specs.Word.{pageOf}
 use Rattle.fields.proofs.Laws.{and-left, and-right}
 use Rattle.model.proofs.Counts.{by-cases}
-use Rattle.model.specs.Lists.{every, elem, distinct, count, below}
+use Rattle.model.specs.Lists.{every, elem, distinct, below}
 use Rattle.tally.specs.Tally.{pageIn}
 
 -- ---- tests

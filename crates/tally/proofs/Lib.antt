@@ -1,4 +1,6 @@
 pub mod Indices
 pub mod NameLaws
 pub mod MatchLaws
-pub mod Steps
+pub mod NameSteps
+pub mod CountSteps
+pub mod MatchSteps

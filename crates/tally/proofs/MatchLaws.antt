@@ -1,12 +1,12 @@
 -- The test on the named book is `chunksMatch` on the book at entry. Assumes nothing.
-use Prim.Native.Nat.{ℕ, zero, suc, _+_, _≤_, _<_}
+use Prim.Native.Nat.{ℕ, _+_, _≤_, _<_}
 use native.Mathlib.Omega.{arith}
-use mathlib.Core.Bool.{Bool, true, false, cond, not, _&&_, and-false, true≢false}
+use mathlib.Core.Bool.{Bool, true, false, cond, not, _&&_, and-false, and-true, true≢false}
 use mathlib.Core.List.{List, [], _∷_, map}
 use mathlib.Core.Path.{_≡_, refl, sym, ap, _∙_}
 use lib.Dec.{eqb, ltb, leb}
 use lib.ListN.{length, getD}
-use borrow.Author.Tests.{ltb-true, ltb-false, eqb-true, eqb-false, lt-ltb, le-ltb, eq-eqb, ne-eqb, not-true}
+use borrow.Author.Tests.{ltb-true, ltb-false, eqb-true, eqb-false, lt-ltb, eq-eqb, ne-eqb, not-true}
 use Rattle.words.specs.Word.{countOf, pageOf}
 use Rattle.fields.specs.Field.{page, tally, words, get}
 use Rattle.fields.proofs.Laws.{and-left, and-right}
@@ -115,11 +115,11 @@ module _ (n : ℕ) (b ws gs : List ℕ) (hb : leb (words n) (length b) ≡ true)
   module _ (c : every (hasChunk B gs) ws ≡ true) where
     agrees-fits : (k : ℕ) → get B (tallyIn gs k) ≡ k → agreesAt k ≡ chunkFits b ws (getD gs k 0)
     unfolding agrees chunkFits
-    agrees-fits k h = rw (counts-blocks k h ws on c, eq-eqb _ _ h)
+    agrees-fits k h = rw (counts-blocks k h ws on c, eq-eqb _ _ h) (ap (λ t. not (eqb (countOf (getD gs k 0)) 0) && t) (and-true _))
 
     agrees-named : (k : ℕ) → agreesAt k ≡ true → get B (tallyIn gs k) ≡ k
     unfolding agrees
-    agrees-named k e = eqb-true _ _ (and-left _ _ e)
+    agrees-named k e = eqb-true _ _ (and-right (eqb (countOf (getD gs k 0)) (count k (map (chunkAt B) ws))) _ (and-right (not (eqb (countOf (getD gs k 0)) 0)) _ e))
 
     all-agree : every agreesAt (below (length gs)) ≡ (distinct (map pageOf gs) && every (chunkFits b ws) gs)
     all-agree =

@@ -2,12 +2,13 @@
 -- later one; then each word finds its chunk in one step. b is the book, ws the list, gs the chunks, k a chunk's index.
 --     named      the book with the first so many chunks named; `Saved`, what stood there
 --     unnamed    what stood there written back, the latest first
---     agrees     a chunk is named by its page, and its count is not 0 and is the one given
+--     runOn      how many words at the list's head lie on a page
+--     agrees     a chunk's count is not 0 and is the one given, and its page names it
 --     tallied    the test on a book whose chunks are named
 -- Assumes nothing.
 use Prim.Native.Nat.{ℕ, zero, suc, _<_}
-use mathlib.Core.Bool.{Bool, not, _&&_}
-use mathlib.Core.List.{List, map}
+use mathlib.Core.Bool.{Bool, cond, not, _&&_}
+use mathlib.Core.List.{List, [], _∷_, map}
 use mathlib.Core.Path.{_≡_}
 use lib.Dec.{eqb, ltb}
 use lib.ListN.{length, getD}
@@ -49,10 +50,14 @@ chunkAt b w = get b (page tally (pageAt w))
 unfoldable pub hasChunk : List ℕ → List ℕ → ℕ → Bool
 hasChunk b gs w = ofChunk gs (chunkAt b w) (pageAt w)
 
-unfoldable pub agrees : List ℕ → List ℕ → ℕ → ℕ → Bool
-agrees b gs k m = eqb (get b (tallyIn gs k)) k && (not (eqb (countOf (getD gs k 0)) 0) && eqb (countOf (getD gs k 0)) m)
+unfoldable pub runOn : ℕ → List ℕ → ℕ
+runOn p [] = 0
+runOn p (w ∷ ws) = cond (eqb (pageAt w) p) (suc (runOn p ws)) 0
 
--- by the counts that are kept, and by the list's
+unfoldable pub agrees : List ℕ → List ℕ → ℕ → ℕ → Bool
+agrees b gs k m = not (eqb (countOf (getD gs k 0)) 0) && (eqb (countOf (getD gs k 0)) m && eqb (get b (tallyIn gs k)) k)
+
+-- by the counts kept; by the list's
 unfoldable pub fits : List ℕ → List ℕ → List ℕ → ℕ → Bool
 fits b gs cs k = agrees b gs k (getD cs k 0)
 

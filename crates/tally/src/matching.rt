@@ -1,5 +1,4 @@
 // The test over both lists, with room for what stood in TALLY and for the counts.
-ghost use mathlib.Core.Path.{_≡_};
 ghost use Prim.Native.Nat.{_≤_};
 ghost use lib.ListN.{length};
 ghost use Rattle.tally.specs.Match.{MatchAsks, Matched};
@@ -23,9 +22,9 @@ fn match_with(
     ensures { λ r. ⌜ Matched r (now (meta .exit)) (now (meta .entry)) (now (list .entry)) (now (chunks .entry)) ⌝ }
 {
     if all_pages(n, chunks) {
-        name_chunks(meta, n, chunks, saved);
-        let r = tallies_agree(meta, n, list, chunks, counts);
-        unname_chunks(meta, n, chunks, saved);
+        name_chunks(meta, chunks, saved);
+        let r = tallies_agree(meta, list, chunks, counts);
+        unname_chunks(meta, chunks, saved);
         r
     } else {
         false

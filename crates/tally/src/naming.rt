@@ -1,10 +1,9 @@
 // TALLY of each chunk's page names the chunk by its index; what stood there is kept, and written back.
 ghost use mathlib.Core.Path.{_≡_};
-ghost use Prim.Native.Nat.{_≤_};
 ghost use lib.ListN.{length};
 ghost use Rattle.model.specs.Lists.{every};
 ghost use Rattle.tally.specs.Tally.{isPage, unnamed};
-ghost use Rattle.tally.specs.Asks.{ChunksAsks, Named};
+ghost use Rattle.tally.specs.Asks.{NameAsks, Named};
 use words::Word;
 
 fn is_page(n: u32, g: u32) -> bool
@@ -28,8 +27,8 @@ pub fn all_pages(n: u32, chunks: &[u32]) -> bool
     true
 }
 
-pub fn name_chunks(meta: &mut [u32], n: u32, chunks: &[u32], saved: &mut [u32])
-    requires { ⌜ ChunksAsks n (now meta) (now chunks) (now saved) ⌝ }
+pub fn name_chunks(meta: &mut [u32], chunks: &[u32], saved: &mut [u32])
+    requires { ⌜ NameAsks (now meta) (now chunks) (now saved) ⌝ }
     ensures { λ _. ⌜ Named (now (meta .exit)) (now (saved .exit)) (now (meta .entry)) (now (chunks .entry)) ⌝ }
 {
     let mut i = 0;
@@ -42,8 +41,8 @@ pub fn name_chunks(meta: &mut [u32], n: u32, chunks: &[u32], saved: &mut [u32])
 }
 
 // The last named first: a page that stands twice gets back what it had before the first.
-pub fn unname_chunks(meta: &mut [u32], n: u32, chunks: &[u32], saved: &[u32])
-    requires { ⌜ ChunksAsks n (now meta) (now chunks) (now saved) ⌝ }
+pub fn unname_chunks(meta: &mut [u32], chunks: &[u32], saved: &[u32])
+    requires { ⌜ NameAsks (now meta) (now chunks) (now saved) ⌝ }
     ensures { λ _. ⌜ now (meta .exit) ≡ unnamed (now (meta .entry)) (now (chunks .entry)) (now (saved .entry)) (length (now (chunks .entry))) ⌝ }
 {
     let mut i = chunks.len();

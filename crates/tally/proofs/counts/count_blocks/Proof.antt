@@ -1,16 +1,16 @@
 use native.Mathlib.Omega.{arith}
 use Prim.Native.Nat.{_-_}
 use lib.ListN.{length}
-use Rattle.tally.proofs.Steps.{CountInv, word-page, count-starts, index-in, count-fits, count-goes-on, count-stops, count-ends}
+use Rattle.tally.proofs.CountSteps.{CountInv, word-tally, count-starts, index-in, count-stops, count-fits, count-goes-on, count-ends}
 use borrow.Author.Needs.{needs}
 use Rattle.tally.proofs.counts.count_blocks.Statement.{statement}
 use Rattle.tally.proofs.counts.count_blocks.Tie as tie
 
 abbrev Inv-loop : tie.InvT-loop
-Inv-loop meta n list chunks counts₀ j₀ counts j = CountInv meta list chunks counts₀ counts j
+Inv-loop meta list chunks counts₀ j₀ counts j = CountInv meta list chunks counts₀ counts j
 
 abbrev μ-loop : tie.MeasureT-loop
-μ-loop meta n list chunks counts₀ j₀ counts j = length list - j
+μ-loop meta list chunks counts₀ j₀ counts j = length list - j
 
 loop-holds : tie.Need-loop-holds Inv-loop μ-loop
 loop-holds c = search count-starts
@@ -25,10 +25,19 @@ page-at-requires : tie.Need-page-at-requires Inv-loop μ-loop
 page-at-requires c κs = search needs
 
 tally-requires : tie.Need-tally-requires Inv-loop μ-loop
-tally-requires c κs = search word-page
+tally-requires c κs = search word-tally
 
 of-chunk-requires : tie.Need-of-chunk-requires Inv-loop μ-loop
 of-chunk-requires c κs = search needs
+
+add-run-end : tie.Need-add-run-end Inv-loop μ-loop
+add-run-end c = search needs
+
+run-end-requires : tie.Need-run-end-requires Inv-loop μ-loop
+run-end-requires c κs = search needs
+
+sub-counts : tie.Need-sub-counts Inv-loop μ-loop
+sub-counts c = search needs
 
 cast-counts : tie.Need-cast-counts Inv-loop μ-loop
 cast-counts c = search needs
@@ -41,16 +50,13 @@ slice-read-counts c = search index-in
 
 add-counts : tie.Need-add-counts Inv-loop μ-loop
 add-counts c =
-    let asked = c .before .before in
+    let asked = c .before .before .before in
     let turn = asked .before .before .before .before in
-    let z = count-fits _ _ _ _ _ _ (turn .before .loop .inv) (turn .loop-test .taken) _ _ (asked .before .before .page-at .ensures) (asked .before .tally .ensures) _ (asked .of-chunk .ensures) in
+    let z = count-fits _ _ _ _ _ _ (turn .before .loop .inv) (turn .loop-test .taken) _ _ (asked .before .before .page-at .ensures) (asked .before .tally .ensures) _ (asked .of-chunk .ensures) _ (c .before .run-end .ensures) in
     omega (arith, z)
 
 slice-write-counts : tie.Need-slice-write-counts Inv-loop μ-loop
 slice-write-counts c = search index-in
-
-add-j : tie.Need-add-j Inv-loop μ-loop
-add-j c = search needs
 
 loop-less : tie.Need-loop-less Inv-loop μ-loop
 loop-less c = search needs
@@ -82,12 +88,14 @@ count-blocks-spec =
     page-at-requires
     tally-requires
     of-chunk-requires
+    add-run-end
+    run-end-requires
+    sub-counts
     cast-counts
     mul-counts
     slice-read-counts
     add-counts
     slice-write-counts
-    add-j
     loop-less
     loop-again
     same-length

@@ -1,13 +1,13 @@
-use Rattle.tally.proofs.Steps.{FitInv, fit-starts, last-fits, fit-goes-on, fit-stops, fit-ends}
+use Rattle.tally.proofs.CountSteps.{FitInv, fit-starts, last-fits, fit-goes-on, fit-stops, fit-ends}
 use borrow.Author.Needs.{needs}
 use Rattle.tally.proofs.counts.counts_fit.Statement.{statement}
 use Rattle.tally.proofs.counts.counts_fit.Tie as tie
 
 abbrev Inv-loop : tie.InvT-loop
-Inv-loop meta n chunks counts i₀ i = FitInv meta chunks counts i
+Inv-loop meta chunks counts i₀ i = FitInv meta chunks counts i
 
 abbrev μ-loop : tie.MeasureT-loop
-μ-loop meta n chunks counts i₀ i = i
+μ-loop meta chunks counts i₀ i = i
 
 loop-holds : tie.Need-loop-holds Inv-loop μ-loop
 loop-holds c = search fit-starts

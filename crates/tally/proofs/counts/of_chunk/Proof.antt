@@ -1,4 +1,4 @@
-use Rattle.tally.proofs.Steps.{no-chunk, page-of-chunk}
+use Rattle.tally.proofs.CountSteps.{no-chunk, page-of-chunk}
 use borrow.Author.Needs.{needs}
 use Rattle.tally.proofs.counts.of_chunk.Statement.{statement}
 use Rattle.tally.proofs.counts.of_chunk.Tie as tie

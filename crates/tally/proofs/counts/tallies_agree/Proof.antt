@@ -1,4 +1,4 @@
-use Rattle.tally.proofs.Steps.{blocks-counted, page-missing}
+use Rattle.tally.proofs.CountSteps.{blocks-counted, page-missing}
 use borrow.Author.Needs.{needs}
 use Rattle.tally.proofs.counts.tallies_agree.Statement.{statement}
 use Rattle.tally.proofs.counts.tallies_agree.Tie as tie

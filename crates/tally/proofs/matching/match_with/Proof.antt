@@ -1,4 +1,4 @@
-use Rattle.tally.proofs.Steps.{past-arena, name-asks, count-asks, fit-asks, unname-asks, matched}
+use Rattle.tally.proofs.MatchSteps.{past-arena, name-asks, count-asks, fit-asks, unname-asks, matched}
 use borrow.Author.Needs.{needs}
 use Rattle.tally.proofs.matching.match_with.Statement.{statement}
 use Rattle.tally.proofs.matching.match_with.Tie as tie

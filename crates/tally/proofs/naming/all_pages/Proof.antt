@@ -1,6 +1,6 @@
 use Prim.Native.Nat.{_-_}
 use lib.ListN.{length}
-use Rattle.tally.proofs.Steps.{PagesInv, pages-starts, pages-goes-on, pages-stops, pages-ends}
+use Rattle.tally.proofs.NameSteps.{PagesInv, pages-starts, pages-goes-on, pages-stops, pages-ends}
 use borrow.Author.Needs.{needs}
 use Rattle.tally.proofs.naming.all_pages.Statement.{statement}
 use Rattle.tally.proofs.naming.all_pages.Tie as tie

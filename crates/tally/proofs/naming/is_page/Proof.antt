@@ -1,4 +1,4 @@
-use Rattle.tally.proofs.Steps.{page-test}
+use Rattle.tally.proofs.NameSteps.{page-test}
 use borrow.Author.Needs.{needs}
 use Rattle.tally.proofs.naming.is_page.Statement.{statement}
 use Rattle.tally.proofs.naming.is_page.Tie as tie

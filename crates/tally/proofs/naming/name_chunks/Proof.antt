@@ -1,15 +1,15 @@
 use Prim.Native.Nat.{_-_}
 use lib.ListN.{length}
-use Rattle.tally.proofs.Steps.{NameInv, tally-there, name-starts, name-goes-on, name-ends}
+use Rattle.tally.proofs.NameSteps.{NameInv, tally-there, name-starts, name-goes-on, name-ends}
 use borrow.Author.Needs.{needs}
 use Rattle.tally.proofs.naming.name_chunks.Statement.{statement}
 use Rattle.tally.proofs.naming.name_chunks.Tie as tie
 
 abbrev Inv-loop : tie.InvT-loop
-Inv-loop meta₀ n chunks saved₀ i₀ meta saved i = NameInv meta₀ chunks saved₀ meta saved i
+Inv-loop meta₀ chunks saved₀ i₀ meta saved i = NameInv meta₀ chunks saved₀ meta saved i
 
 abbrev μ-loop : tie.MeasureT-loop
-μ-loop meta₀ n chunks saved₀ i₀ meta saved i = length chunks - i
+μ-loop meta₀ chunks saved₀ i₀ meta saved i = length chunks - i
 
 loop-holds : tie.Need-loop-holds Inv-loop μ-loop
 loop-holds c = search name-starts

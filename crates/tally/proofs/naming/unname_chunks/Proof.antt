@@ -1,13 +1,15 @@
-use Rattle.tally.proofs.Steps.{UnnameInv, tally-last, unname-starts, unname-goes-on, unname-ends}
+use Prim.Native.Nat.{_<_}
+use native.Mathlib.Omega.{arith}
+use Rattle.tally.proofs.NameSteps.{UnnameInv, tally-last, unname-starts, unname-goes-on, unname-ends}
 use borrow.Author.Needs.{needs}
 use Rattle.tally.proofs.naming.unname_chunks.Statement.{statement}
 use Rattle.tally.proofs.naming.unname_chunks.Tie as tie
 
 abbrev Inv-loop : tie.InvT-loop
-Inv-loop meta₀ n chunks saved i₀ meta i = UnnameInv meta₀ chunks saved meta i
+Inv-loop meta₀ chunks saved i₀ meta i = UnnameInv meta₀ chunks saved meta i
 
 abbrev μ-loop : tie.MeasureT-loop
-μ-loop meta₀ n chunks saved i₀ meta i = i
+μ-loop meta₀ chunks saved i₀ meta i = i
 
 loop-holds : tie.Need-loop-holds Inv-loop μ-loop
 loop-holds c = search unname-starts
@@ -34,13 +36,19 @@ shared-slice-read-set-tally : tie.Need-shared-slice-read-set-tally Inv-loop μ-l
 shared-slice-read-set-tally c = search needs
 
 set-tally-requires : tie.Need-set-tally-requires Inv-loop μ-loop
-set-tally-requires c κs = search tally-last
+set-tally-requires c κs =
+    let turn = c .before .before .before .before .before in
+    let some : 0 < turn .before .loop .i = omega arith in
+    search tally-last
 
 loop-less : tie.Need-loop-less Inv-loop μ-loop
 loop-less c = search needs
 
 loop-again : tie.Need-loop-again Inv-loop μ-loop
-loop-again c = search unname-goes-on
+loop-again c =
+    let turn = c .before .before .before .before .before .before .before .before in
+    let some : 0 < turn .before .loop .i = omega arith in
+    search unname-goes-on
 
 same-length : tie.Need-same-length Inv-loop μ-loop
 same-length c = search needs
