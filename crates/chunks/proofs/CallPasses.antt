@@ -1,43 +1,35 @@
 -- The passes of a group release, once its listed blocks are struck. Assumes nothing.
 --     match-asks, fair-asks, settle-asks    what each pass asks follows from the tests before it
 --     mismatch, unfair, settled             the ways out of the passes
-use Prim.Native.Nat.{ℕ, zero, suc, _+_, _*_, _≤_, _<_}
+use Prim.Native.Nat.{ℕ, _+_, _≤_, _<_}
 use native.Mathlib.Omega.{arith}
-use mathlib.Core.Bool.{Bool, true, false, cond, not, _&&_, _||_, true≢false, false≢true}
-use mathlib.Core.List.{List, [], _∷_, _++_, map}
+use mathlib.Core.Bool.{Bool, true, false, cond, _&&_, _||_}
+use mathlib.Core.List.{List, [], _∷_, _++_}
 use mathlib.Core.Path.{_≡_, refl, sym, ap, _∙_}
 use lib.Dec.{eqb, ltb, leb}
-use lib.ListN.{length, take, drop, length-append, length-drop}
-use borrow.Author.Tests.{ltb-true, lt-ltb, le-ltb, leb-true, le-leb, eq-eqb, eqb-true, eqb-false, ne-eqb, not-true}
-use Rattle.words.specs.Word.{chunkKind, countOf, pageOf}
+use lib.ListN.{length, drop, length-append}
+use borrow.Author.Tests.{lt-ltb, leb-true, le-leb, eq-eqb, eqb-true, eqb-false, ne-eqb}
+use Rattle.words.specs.Word.{countOf, pageOf}
 use Rattle.classes.specs.declared.Shape.{Shape}
-use Rattle.classes.specs.Sound.{Sound}
-use Rattle.fields.specs.Field.{Field, arena, class, page, slot, region, off, frontier, state, holes, holePages, held, partial, empty, emptyCount, cold, coldCount, next, prev, free, carved, listed, virgin, get, put, words}
+use Rattle.fields.specs.Field.{Field, arena, class, page, slot, region, off, frontier, state, holes, holePages, held, partial, empty, emptyCount, cold, coldCount, next, prev, free, carved, listed, get, words}
 use Rattle.fields.proofs.Changes.{Changes, changes-none, changes-put}
-use Rattle.model.specs.Lists.{All, every, elem, distinct, isNil}
-use Rattle.model.specs.Release.{ofKind}
-use Rattle.model.specs.Chunks.{chunksMax, hostMax}
+use Rattle.model.specs.Lists.{All, every}
 use Rattle.model.proofs.Counts.{by-cases, and-l, and-r}
 use Rattle.arena.specs.Fair.{recordFair, giveFair}
-use Rattle.pages.specs.Stack.{indexOf}
-use Rattle.heap.specs.Release.{pageAt, inRunOf, outAt, pageFair, rowFair}
-use Rattle.heap.specs.Chunks.{chunkFits, chunksMatch, returnsAll, runsGiven, pagesGiven, chunksFair, settleChunks, giveRuns, ChunksReleased, chunksNone, releaseChunks, chunksCall}
-use Rattle.release.specs.Strike.{bitOf, struckCount, struck, unstruck}
-use Rattle.release.specs.Asks.{ClassAsks, RestoreAsks, Struck}
+use Rattle.heap.specs.Release.{pageAt, pageFair, rowFair}
+use Rattle.heap.specs.Chunks.{chunkFits, chunksMatch, returnsAll, runsGiven, pagesGiven, chunksFair, giveRuns}
 use Rattle.release.specs.Fair.{linksFair}
-use Rattle.release.proofs.Bits.{isBit, every-same, in-run-kept}
 use Rattle.release.proofs.FairWays.{links-fair}
-use Rattle.release.proofs.StrikeLaws.{run-of-out, strikes-all, restores, struck-changes, restorable}
 use Rattle.tally.specs.Match.{MatchAsks, Matched}
-use Rattle.chunks.specs.Pass.{pushOne, pushAll, placeAll, givesIn}
+use Rattle.chunks.specs.Pass.{pushOne, pushAll, givesIn}
 use Rattle.chunks.specs.PushAsks.{wordsOn, PushAllAsks}
 use Rattle.chunks.specs.FairAsks.{ChunksFairAsks}
-use Rattle.chunks.specs.PlaceAsks.{Limits, placeFair, PlaceAsks, Placed}
+use Rattle.chunks.specs.PlaceAsks.{placeFair, PlaceAsks, Placed}
 use Rattle.chunks.specs.GiveAsks.{givesFair, GiveChunksAsks}
-use Rattle.chunks.specs.CallAsks.{placed, settledTo, passes, CallAsks, StrikeAsks, StruckAsks, SettleAsks, ChunksAnswered}
-use Rattle.chunks.proofs.PushLaws.{push-length, push-free, on-here, on-other}
+use Rattle.chunks.specs.CallAsks.{placed, settledTo, passes, StruckAsks, SettleAsks, ChunksAnswered}
+use Rattle.chunks.proofs.PushLaws.{push-free, on-here, on-other}
 use Rattle.chunks.proofs.GatherGives.{idle, ofClass, gives-count, gives-in, fates-length, all-changes}
-use Rattle.chunks.proofs.CallTests.{fair-pages, words-on, on-words, fits-count, fits-lands, match-apart, match-fits, chunks-below, slots-left, page-there}
+use Rattle.chunks.proofs.CallTests.{fair-pages, words-on, fits-count, fits-lands, match-apart, match-fits, chunks-below, slots-left, page-there}
 
 -- ---- the blocks back on their stacks: of the words that are tested, only FREE is another
 abbrev stacked : Field → Bool

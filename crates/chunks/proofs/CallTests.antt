@@ -3,24 +3,23 @@
 --     lands                           the first page of a word's run, and of a chunk's, is the page itself, below the frontier
 --     chunks-land                     number 11 passed: the chunks' pages are pages of listed words
 --     slots-left                      number 13 passed: the pages' stacks have room for the listed blocks
-use Prim.Native.Nat.{ℕ, zero, suc, _+_, _*_, _≤_, _<_}
+use Prim.Native.Nat.{ℕ, zero, suc, _+_, _≤_, _<_}
 use native.Mathlib.Omega.{arith}
-use mathlib.Core.Bool.{Bool, true, false, cond, not, _&&_, _||_, true≢false, false≢true}
+use mathlib.Core.Bool.{Bool, true, false, not, _&&_, true≢false, false≢true}
 use mathlib.Core.List.{List, [], _∷_, map}
-use mathlib.Core.Path.{_≡_, refl, sym, ap, _∙_}
+use mathlib.Core.Path.{_≡_, refl, ap, _∙_}
 use lib.Dec.{eqb, ltb, leb}
 use lib.ListN.{length}
 use borrow.Author.Tests.{ltb-true, lt-ltb, leb-true, eq-eqb, eqb-true, not-true}
 use Rattle.words.specs.Word.{countOf, pageOf}
 use Rattle.classes.specs.declared.Shape.{Shape}
-use Rattle.classes.specs.Sound.{Sound}
 use Rattle.fields.specs.Field.{arena, class, page, frontier, state, holes, holePages, held, partial, empty, emptyCount, cold, coldCount, next, prev, free, carved, listed, virgin, get, words}
 use Rattle.fields.proofs.Changes.{Changes}
-use Rattle.model.specs.Lists.{every, elem, filter, distinct}
+use Rattle.model.specs.Lists.{every, elem, distinct}
 use Rattle.model.proofs.Counts.{by-cases, and-l, and-r}
 use Rattle.arena.specs.Fair.{recordFair, giveFair}
 use Rattle.pages.specs.Runs.{whole}
-use Rattle.heap.specs.Release.{pageAt, startOf, inRunOf, pageFair, rowFair, spotOf}
+use Rattle.heap.specs.Release.{pageAt, startOf, inRunOf, pageFair, rowFair}
 use Rattle.heap.specs.Chunks.{blocksOn, chunkFits, chunksMatch, returnsAll, runsGiven, pagesGiven, chunksFair}
 use Rattle.release.proofs.Bits.{isBit, every-same, start-kept}
 use Rattle.release.proofs.FairWays.{room-left, carved-low}

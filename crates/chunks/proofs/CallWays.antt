@@ -2,42 +2,35 @@
 --     not-out, struck-asks       short of all struck, and all struck
 --     released, refused          what the passes answered, and the struck blocks set again where they refused
 --     no-list .. bad-host        numbers 7, 8, 9 and 3
-use Prim.Native.Nat.{ℕ, zero, suc, _+_, _*_, _≤_, _<_}
+--     small-asks                 what the call asks holds of every small class
+use Prim.Native.Nat.{ℕ, suc, _≤_, _<_}
 use native.Mathlib.Omega.{arith}
-use mathlib.Core.Bool.{Bool, true, false, cond, not, _&&_, _||_, true≢false, false≢true}
-use mathlib.Core.List.{List, [], _∷_, _++_, map}
-use mathlib.Core.Path.{_≡_, refl, sym, ap, _∙_}
+use mathlib.Core.Bool.{Bool, true, false, cond, not, _&&_, _||_}
+use mathlib.Core.List.{List, [], _∷_}
+use mathlib.Core.Path.{_≡_, refl, sym, _∙_}
 use lib.Dec.{eqb, ltb, leb}
-use lib.ListN.{length, take, drop, length-append, length-drop}
-use borrow.Author.Tests.{ltb-true, lt-ltb, le-ltb, leb-true, le-leb, eq-eqb, eqb-true, eqb-false, ne-eqb, not-true}
-use Rattle.words.specs.Word.{chunkKind, countOf, pageOf}
+use lib.ListN.{length, take}
+use borrow.Author.Tests.{lt-ltb, le-ltb, le-leb, eq-eqb, ne-eqb}
+use Rattle.words.specs.Word.{chunkKind}
 use Rattle.classes.specs.declared.Shape.{Shape}
+use Rattle.classes.specs.Shape.{smallShape, shapeOf}
 use Rattle.classes.specs.Sound.{Sound}
-use Rattle.fields.specs.Field.{Field, arena, class, page, slot, region, off, frontier, state, holes, holePages, held, partial, empty, emptyCount, cold, coldCount, next, prev, free, carved, listed, virgin, get, put, words}
-use Rattle.fields.proofs.Changes.{Changes, changes-none, changes-put}
-use Rattle.model.specs.Lists.{All, every, elem, distinct, isNil}
+use Rattle.classes.proofs.Shapes.{shape-sound}
+use Rattle.fields.specs.Field.{put, words}
+use Rattle.fields.specs.Ranges.{maxPages}
+use Rattle.fields.proofs.Changes.{Changes}
+use Rattle.model.specs.Lists.{every, distinct, isNil}
 use Rattle.model.specs.Release.{ofKind}
 use Rattle.model.specs.Chunks.{chunksMax, hostMax}
 use Rattle.model.proofs.Counts.{by-cases, and-l, and-r}
-use Rattle.arena.specs.Fair.{recordFair, giveFair}
-use Rattle.pages.specs.Stack.{indexOf}
-use Rattle.heap.specs.Release.{pageAt, inRunOf, outAt, pageFair, rowFair}
-use Rattle.heap.specs.Chunks.{chunkFits, chunksMatch, returnsAll, runsGiven, pagesGiven, chunksFair, settleChunks, giveRuns, ChunksReleased, chunksNone, releaseChunks, chunksCall}
-use Rattle.release.specs.Strike.{bitOf, struckCount, struck, unstruck}
-use Rattle.release.specs.Asks.{ClassAsks, RestoreAsks, Struck}
-use Rattle.release.specs.Fair.{linksFair}
+use Rattle.heap.specs.Release.{inRunOf, outAt}
+use Rattle.heap.specs.Chunks.{chunksMatch, chunksFair, settleChunks, ChunksReleased, chunksNone, releaseChunks, chunksCall}
+use Rattle.release.specs.Strike.{bitOf, struckCount, unstruck}
+use Rattle.release.specs.Asks.{RestoreAsks, Struck}
 use Rattle.release.proofs.Bits.{isBit, every-same, in-run-kept}
-use Rattle.release.proofs.FairWays.{links-fair}
 use Rattle.release.proofs.StrikeLaws.{run-of-out, strikes-all, restores, struck-changes, restorable}
-use Rattle.tally.specs.Match.{MatchAsks, Matched}
-use Rattle.chunks.specs.Pass.{pushOne, pushAll, placeAll, givesIn}
-use Rattle.chunks.specs.PushAsks.{wordsOn, PushAllAsks}
-use Rattle.chunks.specs.FairAsks.{ChunksFairAsks}
-use Rattle.chunks.specs.PlaceAsks.{Limits, placeFair, PlaceAsks, Placed}
-use Rattle.chunks.specs.GiveAsks.{givesFair, GiveChunksAsks}
-use Rattle.chunks.specs.CallAsks.{placed, settledTo, passes, CallAsks, StrikeAsks, StruckAsks, SettleAsks, ChunksAnswered}
-use Rattle.chunks.proofs.PushLaws.{push-length, push-free, on-here, on-other}
-use Rattle.chunks.proofs.GatherGives.{idle, ofClass, gives-count, gives-in, fates-length, all-changes}
+use Rattle.chunks.specs.CallAsks.{placed, settledTo, passes, CallAsks, StrikeAsks, StruckAsks, ChunksAnswered}
+use Rattle.chunks.proofs.PlaceSteps.{class-limits}
 use Rattle.chunks.proofs.Gather.{gathered}
 use Rattle.chunks.proofs.CallTests.{match-kept, chunks-fair-kept, fair-pages}
 
@@ -139,17 +132,14 @@ module _ (n : ℕ) (b : List ℕ) (c : ℕ) (sh : Shape) (ws gs fs : List ℕ) (
         placed-is m f =
             rw (z .left) (gathered n b c sh ws sound (a .call .single) hb every-out h gs hc count-is m (fair-pages n b c sh gs f))
 
-        done : r ≡ 0 → ChunksAnswered r b′ fs′ (releaseChunks n b c sh h ws gs fs)
+        pub released : r ≡ 0 → ChunksAnswered r b′ fs′ (releaseChunks n b c sh h ws gs fs)
         unfolding passes
-        done x =
+        released x =
             by-cases (chunksMatch b ws gs)
             (λ m. by-cases (chunksFair n b c sh gs)
             (λ f. rw (all-out h outs, m, f, ← (placed-is m f)) (rw (matched ∙ m, faired ∙ f) at p))
             (λ f. let q = rw (matched ∙ m, faired ∙ f) at p in absurd (omega (arith, q .answer))))
             (λ m. let q = rw (matched ∙ m) at p in absurd (omega (arith, q .answer)))
-
-        pub released : r ≡ 0 → ChunksAnswered 0 b′ fs′ (releaseChunks n b c sh h ws gs fs)
-        released x = rw x at (done x)
 
         -- a refusal left the struck book
         record Refusal : Type 0 where
@@ -227,3 +217,10 @@ module _ (n : ℕ) (b : List ℕ) (c : ℕ) (sh : Shape) (h : ℕ) where
     pub good-host : (r : ℕ) (b′ fs′ : List ℕ) → h ≤ 15 → ChunksAnswered r b′ fs′ (releaseChunks n b c sh h ws gs fs) → ChunksAnswered r b′ fs′ (chunksCall n b c sh h ws gs fs)
     unfolding chunksCall
     good-host r b′ fs′ l a = rw (le-ltb hostMax h l) a
+
+-- ---- the classes that have group releases
+pub small-asks : (n : ℕ) (b : List ℕ) (c : ℕ) → c < 64 → n ≤ maxPages → words n ≤ length b → CallAsks n b c (shapeOf c)
+unfolding shapeOf smallShape
+small-asks n b c l few long =
+    let e : shapeOf c .pages ≡ 1 = rw (lt-ltb c 64 l) in
+    record { class = record { known = omega arith; sound = shape-sound c; few = few; long = long }; single = e; limits = class-limits c }

@@ -5,9 +5,9 @@
 --     settle-as      settling, with each page's stack height and blocks as they were before the first chunk
 --     placed-as      the passes come to the same
 --     gathered       the passes on the struck book settle the chunks
-use Prim.Native.Nat.{ℕ, zero, suc, _+_, _≤_, _<_}
+use Prim.Native.Nat.{ℕ, _+_, _≤_, _<_}
 use native.Mathlib.Omega.{arith}
-use mathlib.Core.Bool.{Bool, true, false, cond, not, _&&_, _||_, true≢false, false≢true}
+use mathlib.Core.Bool.{Bool, true, false, not, _&&_, true≢false}
 use mathlib.Core.List.{List, [], _∷_, _++_, map}
 use mathlib.Core.Path.{_≡_, refl, sym, ap, _∙_}
 use lib.Dec.{eqb, ltb, leb}
@@ -16,23 +16,22 @@ use borrow.Author.Tests.{lt-ltb, ltb-true, leb-true, eq-eqb, eqb-true, eqb-false
 use Rattle.words.specs.Word.{countOf, pageOf}
 use Rattle.classes.specs.declared.Shape.{Shape}
 use Rattle.classes.specs.Sound.{Sound}
-use Rattle.fields.specs.Field.{Field, arena, page, slot, out, frontier, first, free, virgin, get, put, words}
-use Rattle.fields.proofs.Laws.{put-comm, length-put}
+use Rattle.fields.specs.Field.{arena, page, slot, out, frontier, first, free, virgin, get, put, words}
+use Rattle.fields.proofs.Laws.{put-comm}
 use Rattle.fields.proofs.Changes.{Changes, changes-trans}
-use Rattle.model.specs.Lists.{All, every, elem, filter, distinct}
-use Rattle.model.specs.Release.{ofKind}
+use Rattle.model.specs.Lists.{All, every, elem, distinct}
 use Rattle.model.proofs.Counts.{by-cases, and-l, and-r}
 use Rattle.pages.specs.Runs.{whole}
 use Rattle.pages.specs.Stack.{marks, push, back, indexOf}
 use Rattle.pages.proofs.Downs.{small}
-use Rattle.heap.specs.Release.{pageAt, startOf, inRunOf, outAt, pageFair, Released}
+use Rattle.heap.specs.Release.{pageAt, startOf, inRunOf, outAt, pageFair}
 use Rattle.heap.specs.Chunks.{blocksOn, chunkFits, chunksMatch, chunkBackAt, givesOf, Settled, settleChunks}
 use Rattle.release.specs.Strike.{bitOf, struckCount, struck}
 use Rattle.release.proofs.Bits.{every-same}
-use Rattle.release.proofs.StrikeLaws.{run-of-out, index-of-out, page-of-out, strikes-all}
+use Rattle.release.proofs.StrikeLaws.{run-of-out, index-of-out, page-of-out}
 use Rattle.release.proofs.FairWays.{room-left, carved-low}
 use Rattle.chunks.specs.Pass.{pushAll, placeAt, placeAll}
-use Rattle.chunks.proofs.GatherPlace.{aside, stirs, onBook, place-past, place-changes}
+use Rattle.chunks.proofs.GatherPlace.{stirs, onBook, place-past, place-changes}
 use Rattle.chunks.proofs.GatherPush.{cleared, laid, laidAll, blocksOf, Fits, laid-changes, onPages, pushes}
 
 -- ---- the words that are out

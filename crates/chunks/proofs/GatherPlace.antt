@@ -4,16 +4,16 @@
 --     place-past     it goes past a whole placing, which has the same fate
 --     place-changes  what placing may change
 -- Assumes nothing.
-use Prim.Native.Nat.{ℕ, zero, suc, _+_, _≤_, _<_}
+use Prim.Native.Nat.{ℕ, zero, suc, _+_, _≤_}
 use native.Mathlib.Omega.{arith}
 use mathlib.Core.Bool.{Bool, true, false, cond, not, _&&_, _||_}
 use mathlib.Core.List.{List, [], _∷_}
-use mathlib.Core.Path.{_≡_, refl, sym, ap, _∙_}
+use mathlib.Core.Path.{_≡_, refl}
 use lib.Dec.{eqb, ltb, leb}
 use lib.ListN.{length}
 use borrow.Author.Tests.{lt-ltb, eq-eqb}
 use Rattle.classes.specs.declared.Shape.{Shape}
-use Rattle.fields.specs.Field.{Field, PageField, class, page, slot, out, region, off, row, partial, emptyCount, coldCount, next, prev, first, free, carved, listed, virgin, get, put, ok}
+use Rattle.fields.specs.Field.{Field, PageField, class, page, slot, out, region, off, row, partial, emptyCount, coldCount, next, prev, free, carved, listed, virgin, get, put, ok}
 use Rattle.fields.specs.Outcome.{putAt}
 use Rattle.fields.proofs.Laws.{get-put-other, put-comm}
 use Rattle.fields.proofs.Changes.{Changes, changes-none, changes-put, changes-trans, differ}
@@ -28,7 +28,7 @@ use Rattle.pages.specs.Carve.{stocked, carveAnew}
 use Rattle.pages.proofs.Downs.{small, length-downs}
 use Rattle.pages.proofs.CarveSteps.{stocked-le}
 use Rattle.pages.proofs.Frames.{changes-link, changes-unlink, changes-stow, changes-carve}
-use Rattle.heap.specs.Release.{Released, released, unlisted, relisted, parkCold, parkAs, spotAt, parkAt}
+use Rattle.heap.specs.Release.{Released, released, unlisted, relisted, parkAs, spotAt, parkAt}
 use Rattle.heap.specs.Chunks.{emptied, markRetired}
 use Rattle.release.specs.Act.{coldVirgin}
 use Rattle.chunks.specs.Pass.{placeAt}

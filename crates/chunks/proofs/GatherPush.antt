@@ -5,18 +5,18 @@
 --     blocksOf      a page's blocks of the list
 --     pushes        the words' blocks, one by one, are the pages' blocks, page by page
 -- Assumes nothing.
-use Prim.Native.Nat.{ℕ, zero, suc, _+_, _≤_, _<_}
+use Prim.Native.Nat.{ℕ, suc, _+_, _≤_}
 use native.Mathlib.Omega.{arith}
-use mathlib.Core.Bool.{Bool, true, false, cond, not, _&&_, _||_, true≢false, false≢true}
+use mathlib.Core.Bool.{Bool, true, false, not, _&&_, true≢false, false≢true}
 use mathlib.Core.List.{List, [], _∷_, map}
 use mathlib.Core.Path.{_≡_, refl, sym, ap, _∙_}
 use lib.Dec.{eqb, ltb, leb}
 use lib.ListN.{length}
-use borrow.Author.Tests.{lt-ltb, ltb-true, eq-eqb, eqb-true, not-true}
+use borrow.Author.Tests.{lt-ltb, eq-eqb, eqb-true, not-true}
 use Rattle.classes.specs.declared.Shape.{Shape}
 use Rattle.fields.specs.Field.{Field, page, slot, out, region, row, free, get, put, ok, same, words}
 use Rattle.fields.proofs.Laws.{get-put-same, get-put-other, put-comm, put-put-same, put-get, length-put}
-use Rattle.fields.proofs.Changes.{Changes, changes-none, changes-put, changes-trans, same-eq}
+use Rattle.fields.proofs.Changes.{Changes, changes-put, changes-trans, same-eq}
 use Rattle.model.specs.Lists.{All, every, elem, filter, distinct}
 use Rattle.model.proofs.Counts.{by-cases, and-l, and-r}
 use Rattle.pages.specs.Stack.{marks, push, indexOf}

@@ -76,7 +76,7 @@ fn strike_chunks(
     }
     let code = pass_chunks(meta, n, c, shape, host, list, chunks, fates);
     if code == 0 {
-        return 0;
+        return code;
     }
     unstrike(meta, shape, list, count);
     code
