@@ -9,6 +9,8 @@ use mathlib.Core.List.{List, [], _∷_}
 use mathlib.Core.Logic.{_⊎_, inl, inr}
 use mathlib.Core.Option.{Option, none, some}
 use mathlib.Core.Path.{_≡_, refl, sym, _∙_}
+use lib.Dec.{ltb}
+use lib.ListN.{length}
 use borrow.Author.Tests.{le-ltb}
 use Rattle.classes.specs.declared.Shape.{Shape}
 use Rattle.classes.specs.Shape.{shapeOf}
@@ -25,13 +27,14 @@ use Rattle.model.specs.Heap.{badRun, runWith, asked, offer, finish, interact, c
 use Rattle.model.specs.History.{heapAfter}
 use Rattle.model.specs.BestFit.{Commits, Remembers, from-hole, from-frontier, unusable, ungranted, exhausted}
 use Rattle.model.specs.Yields.{TakeYields, refuses, yields, asks-first}
+use Rattle.model.proofs.Counts.{by-cases}
 use Rattle.model.proofs.Theorems.{best-fit, yielding}
 use Rattle.heap.specs.Take.{Took, takeCall}
 use Rattle.arena.specs.Load.{loadArena}
 use Rattle.refinement.specs.Classes.{takeReply}
 use Rattle.refinement.specs.Run.{callReply}
 use Rattle.demands.specs.Run.{Opens, bookAfter, next}
-use Rattle.demands.specs.Demands.{CommitFits, RunFits, nothing, given}
+use Rattle.demands.specs.Demands.{CommitFits, RunFits, nothing, given, Spent}
 use Rattle.demands.proofs.Histories.{run-represents, next-is, next-agrees}
 
 -- ---- a request of a class is done, or asks for m pages
@@ -62,6 +65,25 @@ module _ (sh : Shape) where
   answer-asks s (Calls.giveBack h ws) = search (asks-cond, is-done, page-asks)
   answer-asks s (Calls.giveChunks h ws gs fs) = search (asks-cond, is-done) depth 9
 
+-- a take asks only if no page of the class is at hand
+done-asks : {r : Result} {m : ℕ} {k : Option ℕ → Result} → _≡_ {A = Ask} (done r) (asks m k) → ⊥
+done-asks e = let z : _≡_ {A = ℕ} 0 1 = cc in omega arith
+
+module _ (sh : Shape) (m : ℕ) (k : Option ℕ → Result) where
+  take-spent : (l : List ℕ) (ps es : List Page) (cs : List Cold) (fs : List Page) → takeFrom sh l ps es cs fs ≡ asks m k → (ps ≡ []) × (es ≡ []) × (cs ≡ [])
+  unfolding takeFrom
+  take-spent l (p ∷ ps) es cs fs e = absurd (done-asks e)
+  take-spent l [] (p ∷ es) cs fs e = absurd (done-asks e)
+  take-spent l [] [] (c ∷ cs) fs e = absurd (done-asks e)
+  take-spent l [] [] [] fs e = (refl, refl, refl)
+
+  answer-spent : (s : Class) (h : ℕ) (l : List ℕ) → answer sh s (Calls.take h l) ≡ asks m k → Spent s
+  unfolding answer
+  answer-spent s h l e =
+      by-cases (ltb hostMax h) (λ t. absurd (done-asks (rw t at e)))
+      (λ t. by-cases (ltb (length l) (sh .batch)) (λ u. absurd (done-asks (rw (t, u) at e)))
+      (λ u. let r = take-spent l (s .partial) (s .empty) (s .cold) (s .full) (rw (t, u) at e) in record { partial = r .0; empty = r .1; cold = r .2 }))
+
 -- ---- what the arena answers it
 some-none : {q : ℕ} → _≡_ {A = Option ℕ} (some q) none → ⊥
 some-none e = let z : _≡_ {A = ℕ} 0 1 = cc in omega arith
@@ -89,11 +111,11 @@ module _ (n h m : ℕ) (a : Arena) (fits : Commits n h m a (Arenas.commit n h m 
   serve-yields (some q) e k y = inl (y q)
 
   offer-yields : {q : Ask} → AsksFor m q → TakeYields q → isRefused (serve q (offer n h a q .run) .answer) ≡ false
-      → (isNil (blocksOf (serve q (offer n h a q .run) .answer)) ≡ false) ⊎ Commits n h m a none false
+      → (isNil (blocksOf (serve q (offer n h a q .run) .answer)) ≡ false) ⊎ (((k : Option ℕ → Result) × (q ≡ asks m k)) × Commits n h m a none false)
   unfolding offer
   offer-yields is-done (refuses r) u = absurd (false≢true (sym u ∙ r))
   offer-yields is-done (yields y) u = inl y
-  offer-yields (is-asked {k}) (asks-first y) u = serve-yields (Arenas.commit n h m a .run) refl k y
+  offer-yields (is-asked {k}) (asks-first y) u = elim (serve-yields (Arenas.commit n h m a .run) refl k y) [ inl z ↦ inl z | inr w ↦ inr ((k, refl), w) ]
 
 -- ---- after a history
 taken-unrefused : (w : Took) → takeReply w .code ≡ 0 → isRefused (takeReply w .answer) ≡ false
@@ -135,8 +157,14 @@ module _ (n : ℕ) (b : List ℕ) (o : Opens n b) (xs : List Call) where
     unfolding callReply
     unrefused z = rw (next-is n b o xs x, e) (taken-unrefused (takeCall n (bookAfter n b xs) c (shapeOf c) h l) (rw (next-is n b o xs x, e) at z))
 
-    pub take-yields : next n b xs x .code ≡ 0 → (isNil (blocksOf (next n b xs x .answer)) ≡ false) ⊎ Commits n h (shapeOf c .pages) (loadArena (bookAfter n b xs)) none false
+    spent : {A : Type 0} {m : ℕ} {a : Arena} → A ⊎ (((k : Option ℕ → Result) × (takeAsk n xs c h l ≡ asks m k)) × Commits n h m a none false)
+        → A ⊎ (Spent (heapAfter n xs .classes c) × Commits n h m a none false)
+    spent (inl p) = inl p
+    spent {m = m} (inr p) = inr (answer-spent (shapeOf c) m (p .0 .0) (heapAfter n xs .classes c) h l (p .0 .1), p .1)
+
+    pub take-yields : next n b xs x .code ≡ 0
+        → (isNil (blocksOf (next n b xs x .answer)) ≡ false) ⊎ (Spent (heapAfter n xs .classes c) × Commits n h (shapeOf c .pages) (loadArena (bookAfter n b xs)) none false)
     take-yields z =
         rw (loads, served)
-        (offer-yields n h (shapeOf c .pages) (heapAfter n xs .arena) (best-fit n xs .commits h (shapeOf c .pages)) (answer-asks (shapeOf c) (heapAfter n xs .classes c) (Calls.take h l))
-        (yielding n xs .takes c h l) (rw served at (unrefused z)))
+        (spent (offer-yields n h (shapeOf c .pages) (heapAfter n xs .arena) (best-fit n xs .commits h (shapeOf c .pages)) (answer-asks (shapeOf c) (heapAfter n xs .classes c) (Calls.take h l))
+        (yielding n xs .takes c h l) (rw served at (unrefused z))))

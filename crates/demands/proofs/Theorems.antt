@@ -12,6 +12,7 @@ use Rattle.model.specs.Heap.{Heap}
 use Rattle.model.specs.History.{answers, events, heapAfter, answersOf, runsOf}
 use Rattle.model.specs.Examples.{history, onNewHeap}
 use Rattle.model.proofs.Theorems as Model
+use Rattle.model.proofs.Alone as Alone
 use Rattle.arena.specs.Load.{loadArena}
 use Rattle.vigbuso.specs.Direct.{openOn}
 use Rattle.refinement.specs.Represents.{Represents}
@@ -67,6 +68,8 @@ examples-run b o xs zs hs = rw (run-answers 64 b o xs, run-represents 64 b o xs 
 
 pub demand-2 : (n : ℕ) (b : List ℕ) → Opens n b → (xs : List Call) → Demand2 n b xs
 demand-2 n b o xs = record {
+  rules = run-answers n b o xs;
+  arena = run-represents n b o xs .arena .loads;
   commits = commit-fits n b o xs;
   runs = run-fits n b o xs;
   remembers = memory-fits n b o xs;
@@ -77,13 +80,13 @@ demand-2 n b o xs = record {
 }
 
 -- a class's answers are the model's
-both : (n : ℕ) (b₁ b₂ : List ℕ) → Opens n b₁ → Opens n b₂ → (c : ℕ) (xs ys : List Call)
-    → (answersOf c (events n xs) ≡ answersOf c (events n ys)) ↔ (runsOf c (events n xs) ≡ runsOf c (events n ys))
-    → (answersOf c (told n b₁ xs) ≡ answersOf c (told n b₂ ys)) ↔ (runsOf c (events n xs) ≡ runsOf c (events n ys))
-both n b₁ b₂ o₁ o₂ c xs ys f = rw (told-answers n b₁ o₁ c xs, told-answers n b₂ o₂ c ys) f
+both : (n₁ n₂ : ℕ) (b₁ b₂ : List ℕ) → Opens n₁ b₁ → Opens n₂ b₂ → (c : ℕ) (xs ys : List Call)
+    → (answersOf c (events n₁ xs) ≡ answersOf c (events n₂ ys)) ↔ (runsOf c (events n₁ xs) ≡ runsOf c (events n₂ ys))
+    → (answersOf c (told n₁ b₁ xs) ≡ answersOf c (told n₂ b₂ ys)) ↔ (runsOf c (events n₁ xs) ≡ runsOf c (events n₂ ys))
+both n₁ n₂ b₁ b₂ o₁ o₂ c xs ys f = rw (told-answers n₁ b₁ o₁ c xs, told-answers n₂ b₂ o₂ c ys) f
 
 pub demand-3 : Demand3
 demand-3 = record {
-  alone = λ n b₁ b₂ o₁ o₂ c xs ys e. both n b₁ b₂ o₁ o₂ c xs ys (Model.demand-3 n (Calls.room n b₁ o₁ .few-pages) .alone c xs ys e);
+  alone = λ n₁ n₂ b₁ b₂ o₁ o₂ c xs ys e. both n₁ n₂ b₁ b₂ o₁ o₂ c xs ys (Alone.alone n₁ n₂ c xs ys e);
   disjoint = λ n b o xs. told-disjoint n b o xs (Model.demand-3 n (Calls.room n b o .few-pages) .disjoint xs);
 }
