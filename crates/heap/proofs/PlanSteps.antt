@@ -1,15 +1,14 @@
 -- The ways out of the functions that plan a take, and what their loops keep. Assumes nothing.
 use Prim.Native.Nat.{ℕ, zero, suc, _+_, _-_, _≤_, _<_, min}
 use native.Mathlib.Omega.{arith}
-use native.Mathlib.Numerals.{sub-one}
 use mathlib.Core.Bool.{Bool, true, false, not, _&&_, and-false}
 use mathlib.Core.List.{List}
 use mathlib.Core.Path.{_≡_, refl, sym, ap, _∙_}
 use lib.Dec.{eqb, ltb, leb}
 use lib.ListN.{length}
-use borrow.Author.Tests.{lt-ltb, le-ltb, le-leb, lt-leb, leb-true, eq-eqb, ne-eqb, not-true, not-false}
+use borrow.Author.Tests.{lt-ltb, le-leb, lt-leb, leb-true, eq-eqb, ne-eqb, not-true, not-false}
 use Rattle.classes.specs.declared.Shape.{Shape}
-use Rattle.fields.specs.Field.{arena, class, page, slot, frontier, partial, next, prev, free, carved, listed, virgin, words, Has, get}
+use Rattle.fields.specs.Field.{arena, class, page, frontier, partial, next, prev, free, carved, listed, virgin, words, Has, get}
 use Rattle.model.specs.Lists.{every}
 use Rattle.model.proofs.Counts.{by-cases, and-l, and-r}
 use Rattle.pages.specs.Runs.{whole}
@@ -21,36 +20,6 @@ use Rattle.heap.specs.TakePlan.{TakeAsks, TopsAsks, SupplyAsks, headerFa
 use Rattle.heap.proofs.TakePages.{sound-fair, fair-sound, whole-below, latest-some, latest-most, positive}
 use Rattle.heap.proofs.Walk.{planned, planned-stops, planned-goes, stops, stops-full, stops-none, walk-stops, walk-step}
 use Rattle.heap.proofs.Fill.{foreseen, fill-planned}
-
--- ---- the stack's top entries
-module _ (b : List ℕ) (q m top k : ℕ) where
-  abbrev fit : ℕ → ℕ → Bool
-  fit left t = every (λ i. ltb i k) (tops b q left t)
-
-  pub record TopsInv (left t : ℕ) : Type 0 where
-    pub slots : t ≤ top
-    pub rest : fit left t ≡ fit m top
-
-  fit-step : (left t s : ℕ) → (left ≡ 0 → ⊥) → (t ≡ 0 → ⊥) → s ≡ get b (slot q (t - 1)) → fit left t ≡ (ltb s k && fit (left - 1) (t - 1))
-  fit-step zero t s h z e = absurd (h refl)
-  fit-step (suc left) zero s h z e = absurd (z refl)
-  fit-step (suc left) (suc t) s h z e = rw (e, sub-one, sub-one)
-
-  pub tops-again : (left t s : ℕ) → (left ≡ 0 → ⊥) → TopsInv left t → (t ≡ 0 → ⊥) → s ≡ get b (slot q (t - 1)) → s < k → TopsInv (left - 1) (t - 1)
-  tops-again left t s h i z e l = record { slots = omega (arith, i .slots); rest = sym (ap (λ x. x && fit (left - 1) (t - 1)) (lt-ltb s k l)) ∙ sym (fit-step left t s h z e) ∙ i .rest }
-
-  pub tops-high : (left t s : ℕ) → (left ≡ 0 → ⊥) → TopsInv left t → (t ≡ 0 → ⊥) → s ≡ get b (slot q (t - 1)) → k ≤ s → false ≡ fit m top
-  tops-high left t s h i z e l = sym (ap (λ x. x && fit (left - 1) (t - 1)) (le-ltb s k l)) ∙ sym (fit-step left t s h z e) ∙ i .rest
-
-  pub tops-spent : (left t : ℕ) → TopsInv left t → t ≡ 0 → true ≡ fit m top
-  tops-spent left t i z = sym (rw z (spent left)) ∙ i .rest
-    where
-      spent : (left : ℕ) → fit left 0 ≡ true
-      spent zero = refl
-      spent (suc left) = refl
-
-  pub tops-done : (left t : ℕ) → left ≡ 0 → TopsInv left t → true ≡ fit m top
-  tops-done left t z i = rw z at (i .rest)
 
 -- ---- how many blocks a page gives
 module _ (b : List ℕ) (sh : Shape) (q m : ℕ) where

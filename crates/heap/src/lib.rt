@@ -2,3 +2,4 @@
 pub mod take;
 mod take_fill;
 mod take_plan;
+mod tops;

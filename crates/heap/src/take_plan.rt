@@ -2,13 +2,13 @@
 ghost use mathlib.Core.Bool.{_&&_};
 ghost use mathlib.Core.Path.{_≡_};
 ghost use Prim.Native.Nat.{_+_, _<_, _≤_};
-ghost use lib.Dec.{eqb, ltb};
+ghost use lib.Dec.{eqb};
 ghost use lib.ListN.{length};
 ghost use Rattle.fields.specs.Field.{page, virgin, words, get};
-ghost use Rattle.model.specs.Lists.{every};
-ghost use Rattle.pages.specs.Stack.{tops, latest};
+ghost use Rattle.pages.specs.Stack.{latest};
 ghost use Rattle.heap.specs.Take.{sound, parkFair};
-ghost use Rattle.heap.specs.TakePlan.{TakeAsks, TopsAsks, SupplyAsks, headerFair, share, walksFrom, fills, Foretold, ParkedAsks, woken};
+ghost use Rattle.heap.specs.TakePlan.{TakeAsks, SupplyAsks, headerFair, share, walksFrom, fills, Foretold, ParkedAsks, woken};
+use crate::tops::tops_below;
 use classes::Shape;
 use pages::Park;
 
@@ -20,26 +20,6 @@ pub struct Plan {
     pub fair: bool,
     pub count: u32,
     pub virgin: bool,
-}
-
-// Of a stack of `top`, each of the topmost m entries is below `carved`.
-fn tops_below(meta: &[u32], q: u32, m: u32, top: u32, carved: u32) -> bool
-    requires { ⌜ TopsAsks (now meta) q top ⌝ }
-    ensures { λ r. ⌜ r ≡ every (λ i. ltb i carved) (tops (now (meta .entry)) q m top) ⌝ }
-{
-    let mut left = m;
-    let mut t = top;
-    while left != 0 {
-        if t == 0 {
-            return true;
-        }
-        left -= 1;
-        t -= 1;
-        if fields::slot::entry(meta, q, t) >= carved {
-            return false;
-        }
-    }
-    true
 }
 
 // How many blocks a page gives when m are wanted.

@@ -130,6 +130,18 @@ pub record FreshAsks (b : List ℕ) (sh : Shape) (q : ℕ) (l : List ℕ) (at a 
   pub room : k ≤ at
   pub places : at ≤ length l
 
+-- their words, and their out bits
+pub record NameAsks (sh : Shape) (q : ℕ) (l : List ℕ) (at a k : ℕ) : Type 0 where
+  pub sound : Sound sh
+  pub below : q + sh .pages ≤ maxPages
+  pub blocks : a + k ≤ sh .capacity
+  pub room : k ≤ at
+  pub places : at ≤ length l
+
+pub record MarkAsks (b : List ℕ) (q a k : ℕ) : Type 0 where
+  pub there : words (q + 1) ≤ length b
+  pub blocks : a + k ≤ 4096
+
 -- p blocks from the stack, then r new ones
 pub record BothAsks (b : List ℕ) (sh : Shape) (q : ℕ) (l : List ℕ) (at t p a r : ℕ) : Type 0 where
   pub sound : Sound sh

@@ -1,4 +1,4 @@
--- Blocks given one after another, and the ways out of the functions that give them. Assumes nothing.
+-- Blocks given, and more; free ones and new ones together. Assumes nothing.
 use Prim.Native.Nat.{ℕ, suc, _+_, _-_, _≤_, _<_, min}
 use native.Mathlib.Omega.{arith}
 use native.Mathlib.Numerals.{add-one}
@@ -50,97 +50,6 @@ module _ (b : List ℕ) (sh : Shape) (q : ℕ) (l : List ℕ) (at : ℕ) where
     ap length (g .outs) ∙ length-marks b q 1 xs,
     ap length (g .list) ∙ length-spliced l (at - length xs) (map (wordOf sh q) xs) (omega (arith, length-map xs (wordOf sh q))),
   )
-
--- ---- j of k blocks given: the blocks xs
-pub record Giving (b₀ : List ℕ) (sh : Shape) (q : ℕ) (l₀ : List ℕ) (at k : ℕ) (xs b l : List ℕ) (j : ℕ) : Type 0 where
-  pub within : j ≤ k
-  pub many : length xs ≡ j
-  pub long : length b ≡ length b₀
-  pub list : length l ≡ length l₀
-  pub gave : Gave b₀ sh q l₀ at xs b l
-
-module _ (b₀ : List ℕ) (sh : Shape) (q : ℕ) (l₀ : List ℕ) (at k : ℕ) where
-  giving-none : Giving b₀ sh q l₀ at k [] b₀ l₀ 0
-  giving-none = record { within = omega arith; many = refl; long = refl; list = refl; gave = gave-none b₀ sh q l₀ at }
-
-  giving-more : (xs b l : List ℕ) (j i : ℕ) (b′ l′ : List ℕ) → k ≤ at → at ≤ length l₀ → j < k
-      → Giving b₀ sh q l₀ at k xs b l j → Gave b sh q l (at - j) (i ∷ []) b′ l′ → Giving b₀ sh q l₀ at k (i ∷ xs) b′ l′ (j + 1)
-  giving-more xs b l j i b′ l′ h p t v g =
-      let n = v .many in
-      let longs = gave-long b sh q l (at - j) (i ∷ []) b′ l′ (omega arith) (omega (arith, v .list)) g in
-      record {
-        within = omega arith;
-        many = omega arith;
-        long = longs .0 ∙ v .long;
-        list = longs .1 ∙ v .list;
-        gave = gave-more b₀ sh q l₀ at xs (i ∷ []) b l b′ l′ (omega arith) p (v .gave) (rw n g);
-      }
-
-  -- ---- from the stack
-  module _ (t : ℕ) where
-    abbrev pub Popping : List ℕ → List ℕ → ℕ → Type 0
-    Popping b l j = Giving b₀ sh q l₀ at k (reverse (tops b₀ q j t)) b l j
-
-    pub popping-none : Popping b₀ l₀ 0
-    popping-none = giving-none
-
-    popped-small : (j : ℕ) → PopAsks b₀ sh q l₀ at t k → j ≤ k → every small (reverse (tops b₀ q j t)) ≡ true
-    popped-small j h l =
-        every-reverse small (tops b₀ q j t)
-        (every-below (sh .capacity) 4096 (h .sound .few) (tops b₀ q j t) (tops-fewer b₀ q (λ i. ltb i (sh .capacity)) j k t l (h .entries)))
-
-    entry-is : (b l : List ℕ) (j i : ℕ) → PopAsks b₀ sh q l₀ at t k → j < k → Popping b l j → i ≡ get b (slot q (t - 1 - j)) → i ≡ get b₀ (slot q (t - suc j))
-    entry-is b l j i h u v e =
-        let s : t - 1 - j ≡ t - suc j = omega arith in
-        e
-        ∙ ap (λ z. get b (slot q z)) s
-        ∙ ap (λ z. get z (slot q (t - suc j))) (v .gave .outs)
-        ∙ marks-kept b₀ q 1 (reverse (tops b₀ q j t)) (popped-small j h (omega arith)) (slot q (t - suc j)) (lt-ltb (t - suc j) 4096 (omega (arith, h .slots, h .enough))) refl
-
-    pub popping-asks : (b l : List ℕ) (j i : ℕ) → PopAsks b₀ sh q l₀ at t k → j < k → Popping b l j → i ≡ get b (slot q (t - 1 - j)) → GiveAsks b sh q l (at - j) i
-    popping-asks b l j i h u v e =
-        let o : ltb (get b₀ (slot q (t - suc j))) (sh .capacity) ≡ true = every-tops b₀ q (λ i. ltb i (sh .capacity)) k t j (h .entries) u (omega (arith, h .enough)) in
-        record {
-          sound = h .sound;
-          below = h .below;
-          there = rw (v .long) (h .there);
-          block = omega (arith, entry-is b l j i h u v e, ltb-true (get b₀ (slot q (t - suc j))) (sh .capacity) o);
-          room = omega (arith, h .room);
-          places = omega (arith, v .list, h .places);
-        }
-
-    pub popping-more : (b l : List ℕ) (j i : ℕ) (b′ l′ : List ℕ) → PopAsks b₀ sh q l₀ at t k → j < k → Popping b l j → i ≡ get b (slot q (t - 1 - j))
-        → Gave b sh q l (at - j) (i ∷ []) b′ l′ → Popping b′ l′ (j + 1)
-    popping-more b l j i b′ l′ h u v e g =
-        let r = giving-more (reverse (tops b₀ q j t)) b l j i b′ l′ (h .room) (h .places) u v g in
-        let x : reverse (tops b₀ q (j + 1) t) ≡ i ∷ reverse (tops b₀ q j t) =
-        ap (λ z. reverse (tops b₀ q z t)) (add-one j) ∙ popped-more b₀ q j t (omega (arith, h .enough)) ∙ ap (λ z. z ∷ reverse (tops b₀ q j t)) (sym (entry-is b l j i h u v e)) in
-        rw x r
-
-    pub popping-done : (b l : List ℕ) (j : ℕ) → k ≤ j → Popping b l j → Gave b₀ sh q l₀ at (reverse (tops b₀ q k t)) b l
-    popping-done b l j h v =
-        let e : j ≡ k = omega (arith, v .within) in
-        rw e at (v .gave)
-
-  -- ---- new ones
-  module _ (a : ℕ) where
-    abbrev pub Carving : List ℕ → List ℕ → ℕ → Type 0
-    Carving b l j = Giving b₀ sh q l₀ at k (downs a j) b l j
-
-    pub carving-none : Carving b₀ l₀ 0
-    carving-none = giving-none
-
-    pub carving-more : (b l : List ℕ) (j : ℕ) (b′ l′ : List ℕ) → FreshAsks b₀ sh q l₀ at a k → j < k → Carving b l j
-        → Gave b sh q l (at - j) ((a + j) ∷ []) b′ l′ → Carving b′ l′ (j + 1)
-    carving-more b l j b′ l′ h u v g =
-        let r = giving-more (downs a j) b l j (a + j) b′ l′ (h .room) (h .places) u v g in
-        let x : downs a (j + 1) ≡ (a + j) ∷ downs a j = ap (downs a) (add-one j) in
-        rw x r
-
-    pub carving-done : (b l : List ℕ) (j : ℕ) → k ≤ j → Carving b l j → Gave b₀ sh q l₀ at (downs a k) b l
-    carving-done b l j h v =
-        let e : j ≡ k = omega (arith, v .within) in
-        rw e at (v .gave)
 
 -- ---- both
 module _ (b : List ℕ) (sh : Shape) (q : ℕ) (l : List ℕ) (at t p a r : ℕ) where

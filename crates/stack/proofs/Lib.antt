@@ -1,3 +1,5 @@
 pub mod BlockSteps
 pub mod DrawSteps
+pub mod PopSteps
+pub mod CarveSteps
 pub mod PushSteps

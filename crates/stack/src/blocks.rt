@@ -1,6 +1,6 @@
 // A block's word and index, and whether a page has one to give.
 ghost use mathlib.Core.Path.{_≡_};
-ghost use Prim.Native.Nat.{_+_, _≤_};
+ghost use Prim.Native.Nat.{_+_, _≤_, min};
 ghost use lib.ListN.{length};
 ghost use Rattle.fields.specs.Field.{words};
 ghost use Rattle.model.specs.Page.{wordOf};
@@ -11,6 +11,12 @@ use words::Word;
 
 // Granules of a page.
 const PAGE_GRANULES: u32 = 4096;
+
+pub fn min(a: u32, b: u32) -> u32
+    ensures { λ r. ⌜ r ≡ min a b ⌝ }
+{
+    if a < b { a } else { b }
+}
 
 // The word of block i of the run at q.
 pub fn word_of(shape: Shape, q: u32, i: u32) -> u32

@@ -1,60 +1,12 @@
 // Blocks that a page gives: free ones first, the top of the stack first, then new ones, lowest first.
 // A list is filled from a place downwards, so that the latest stands first.
-ghost use mathlib.Core.Path.{_≡_};
-ghost use mathlib.Core.List.{[], _∷_, _++_, reverse};
-ghost use Prim.Native.Nat.{min};
+ghost use mathlib.Core.List.{_++_, reverse};
 ghost use Rattle.pages.specs.Stack.{tops, downs, Gave, Drawn};
-ghost use Rattle.pages.specs.Asks.{GiveAsks, PopAsks, FreshAsks, BothAsks, DrawAsks};
-use crate::blocks::word_of;
+ghost use Rattle.pages.specs.Asks.{BothAsks, DrawAsks};
+use crate::blocks::min;
+use crate::carve::carve_blocks;
+use crate::pop::pop_blocks;
 use classes::Shape;
-
-fn min(a: u32, b: u32) -> u32
-    ensures { λ r. ⌜ r ≡ min a b ⌝ }
-{
-    if a < b { a } else { b }
-}
-
-// Block i is out, and its word stands in the list below `at`.
-fn give_block(meta: &mut [u32], shape: Shape, q: u32, list: &mut [u32], at: u32, i: u32)
-    requires { ⌜ GiveAsks (now meta) shape q (now list) at i ⌝ }
-    ensures { λ _. ⌜ Gave (now (meta .entry)) shape q (now (list .entry)) at (i ∷ []) (now (meta .exit)) (now (list .exit)) ⌝ }
-{
-    list[(at - 1) as usize] = word_of(shape, q, i);
-    fields::out::set_bit(meta, q, i, 1);
-}
-
-// k blocks from a stack of `top`.
-fn pop_blocks(meta: &mut [u32], shape: Shape, q: u32, list: &mut [u32], at: u32, top: u32, k: u32)
-    requires { ⌜ PopAsks (now meta) shape q (now list) at top k ⌝ }
-    ensures { λ _. ⌜ Gave (now (meta .entry)) shape q (now (list .entry)) at (reverse (tops (now (meta .entry)) q k top)) (now (meta .exit)) (now (list .exit)) ⌝ }
-{
-    let mut j = 0;
-    while j < k {
-        let i = fields::slot::entry(meta, q, top - 1 - j);
-        give_block(meta, shape, q, list, at - j, i);
-        j += 1;
-    }
-}
-
-// k new blocks, from block `from` on.
-fn carve_blocks(
-    meta: &mut [u32],
-    shape: Shape,
-    q: u32,
-    list: &mut [u32],
-    at: u32,
-    from: u32,
-    k: u32,
-)
-    requires { ⌜ FreshAsks (now meta) shape q (now list) at from k ⌝ }
-    ensures { λ _. ⌜ Gave (now (meta .entry)) shape q (now (list .entry)) at (downs from k) (now (meta .exit)) (now (list .exit)) ⌝ }
-{
-    let mut j = 0;
-    while j < k {
-        give_block(meta, shape, q, list, at - j, from + j);
-        j += 1;
-    }
-}
 
 // `popped` blocks from a stack of `top`, then `fresh` new ones from block `from` on.
 fn give_blocks(

@@ -1,6 +1,8 @@
 // A page's blocks: their words, the stack of the free ones, and those given out and taken back.
 mod blocks;
+mod carve;
 mod draw;
+mod pop;
 mod push;
 
 pub use blocks::has_more;

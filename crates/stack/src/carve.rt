@@ -1,0 +1,55 @@
+// New blocks given: their words one after another, their out bits word by word.
+ghost use mathlib.Core.List.{map};
+ghost use mathlib.Core.Path.{_≡_};
+ghost use Prim.Native.Nat.{_-_};
+ghost use Rattle.model.specs.Page.{wordOf};
+ghost use Rattle.pages.specs.Stack.{downs, marks, spliced, Gave};
+ghost use Rattle.pages.specs.Asks.{NameAsks, MarkAsks, FreshAsks};
+use crate::blocks::min;
+use crate::blocks::word_of;
+use classes::Shape;
+
+// The words of k blocks from block `from` on, to the list's places below `at`.
+fn name_blocks(shape: Shape, q: u32, list: &mut [u32], at: u32, from: u32, k: u32)
+    requires { ⌜ NameAsks shape q (now list) at from k ⌝ }
+    ensures { λ _. ⌜ now (list .exit) ≡ spliced (now (list .entry)) (at - k) (map (wordOf shape q) (downs from k)) ⌝ }
+{
+    let mut j = 0;
+    while j < k {
+        list[(at - 1 - j) as usize] = word_of(shape, q, from + j);
+        j += 1;
+    }
+}
+
+// k blocks from block `from` on are out.
+fn mark_blocks(meta: &mut [u32], q: u32, from: u32, k: u32)
+    requires { ⌜ MarkAsks (now meta) q from k ⌝ }
+    ensures { λ _. ⌜ now (meta .exit) ≡ marks (now (meta .entry)) q 1 (downs from k) ⌝ }
+{
+    let mut i = from;
+    let mut left = k;
+    while left != 0 {
+        let bit = i % 32;
+        let n = min(32 - bit, left);
+        fields::out::mark_run(meta, q, i / 32, bit, n);
+        i += n;
+        left -= n;
+    }
+}
+
+// k new blocks, from block `from` on.
+pub fn carve_blocks(
+    meta: &mut [u32],
+    shape: Shape,
+    q: u32,
+    list: &mut [u32],
+    at: u32,
+    from: u32,
+    k: u32,
+)
+    requires { ⌜ FreshAsks (now meta) shape q (now list) at from k ⌝ }
+    ensures { λ _. ⌜ Gave (now (meta .entry)) shape q (now (list .entry)) at (downs from k) (now (meta .exit)) (now (list .exit)) ⌝ }
+{
+    name_blocks(shape, q, list, at, from, k);
+    mark_blocks(meta, q, from, k);
+}
