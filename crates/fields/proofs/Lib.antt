@@ -6,3 +6,4 @@ pub mod Wide
 pub mod Outcome
 pub mod Sound
 pub mod Clear
+pub mod Mark

@@ -1,10 +1,12 @@
 // Whether a block of a page is out: bit i of the page's out words.
 ghost use mathlib.Core.Path.{_≡_};
-ghost use Prim.Native.Nat.{_*_};
+ghost use Prim.Native.Nat.{_+_, _*_, _≤_, _<_};
 ghost use Rattle.fields.specs.Clear.{clearOut};
 ghost use Rattle.fields.specs.Field.{out, word, Has, get, put};
+ghost use Rattle.fields.specs.Mark.{markOut};
 use crate::bits::place_bits;
 use crate::bits::read_bits;
+use crate::bits::set_ones;
 use crate::page::page_word;
 
 fn out_word(p: u32, i: u32) -> usize
@@ -34,4 +36,33 @@ pub fn clear_word(meta: &mut [u32], p: u32, j: u32)
     ensures { λ _. ⌜ now (meta .exit) ≡ clearOut (now (meta .entry)) p (32 * j) 32 ⌝ }
 {
     meta[page_word(p, 16 + j as usize)] = 0;
+}
+
+// Block i is out.
+pub fn mark(meta: &mut [u32], p: u32, i: u32)
+    requires { ⌜ Has (now meta) (out p i) ⌝ }
+    ensures { λ _. ⌜ now (meta .exit) ≡ put (now (meta .entry)) (out p i) 1 ⌝ }
+{
+    let at = out_word(p, i);
+    meta[at] = set_ones(meta[at], i % 32, 1);
+}
+
+// Block i, which is out, no longer is.
+pub fn unmark(meta: &mut [u32], p: u32, i: u32)
+    requires { ⌜ Has (now meta) (out p i) ⌝ }
+    requires { ⌜ get (now meta) (out p i) ≡ 1 ⌝ }
+    ensures { λ _. ⌜ now (meta .exit) ≡ put (now (meta .entry)) (out p i) 0 ⌝ }
+{
+    let at = out_word(p, i);
+    meta[at] -= 1u32 << (i % 32);
+}
+
+// The n blocks from 32 j + s on, whose bits are in one word, are out.
+pub fn mark_run(meta: &mut [u32], p: u32, j: u32, s: u32, n: u32)
+    requires { ⌜ Has (now meta) (out p (32 * j)) ⌝ }
+    requires { ⌜ (s < 32) × (s + n ≤ 32) ⌝ }
+    ensures { λ _. ⌜ now (meta .exit) ≡ markOut (now (meta .entry)) p (32 * j + s) n ⌝ }
+{
+    let at = page_word(p, 16 + j as usize);
+    meta[at] = set_ones(meta[at], s, n);
 }
