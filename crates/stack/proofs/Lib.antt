@@ -1,3 +1,4 @@
 pub mod BlockSteps
 pub mod DrawSteps
+pub mod InverseLaws
 pub mod PushSteps
