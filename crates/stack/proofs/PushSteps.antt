@@ -107,6 +107,14 @@ module _ (b : List ℕ) (sh : Shape) (q t : ℕ) (ws : List ℕ) (n : ℕ) (e : 
       by [] z = refl
       by (v ∷ vs) z = absurd (omega arith)
 
+  pub lay-one : (b′ : List ℕ) (k : ℕ) → n ≡ 1 → k ≡ indexOf sh q (getD ws 0 0) → b′ ≡ put b (slot q t) k → b′ ≡ push b q t (map (indexOf sh q) ws)
+  lay-one b′ k h f g = g ∙ ap (put b (slot q t)) f ∙ by ws (sym e ∙ h)
+    where
+      by : (vs : List ℕ) → length vs ≡ 1 → put b (slot q t) (indexOf sh q (getD vs 0 0)) ≡ push b q t (map (indexOf sh q) vs)
+      by [] z = absurd (omega arith)
+      by (v ∷ []) z = rw add-zero
+      by (v ∷ (u ∷ vs)) z = absurd (omega arith)
+
   pub lay-even : (b′ : List ℕ) → t % 2 ≡ 0 → b′ ≡ push b q (2 * (t / 2)) (map (indexOf sh q) (take n ws)) → b′ ≡ push b q t (map (indexOf sh q) ws)
   lay-even b′ h f =
       let u : 2 * (t / 2) ≡ t = omega arith in

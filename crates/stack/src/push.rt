@@ -44,6 +44,10 @@ fn lay_blocks(meta: &mut [u32], shape: Shape, q: u32, top: u32, list: &[u32])
         return;
     }
     let inv = inverse_of(shape.block);
+    if n == 1 {
+        fields::slot::set_entry(meta, q, top, index_by(shape, inv, q, list[0]));
+        return;
+    }
     if top % 2 == 0 {
         lay_pairs(meta, shape, inv, q, top / 2, list, n);
         return;
