@@ -1,14 +1,16 @@
 -- The ways out of `run_of` and of the loop over the kinds. Assumes nothing.
 use Prim.Native.Nat.{ℕ, zero, suc, _+_, _-_, _≤_, _<_}
 use native.Mathlib.Omega.{arith}
+use native.Mathlib.Decide.{ℕ-discrete}
 use native.Mathlib.Numerals.{add-one}
-use mathlib.Core.Bool.{Bool, true, false, and-false}
+use mathlib.Core.Bool.{Bool, true, false, _&&_, and-true, and-false, and-assoc}
 use mathlib.Core.List.{List, [], _∷_}
-use mathlib.Core.Path.{_≡_, refl, sym}
+use mathlib.Core.Path.{_≡_, refl, sym, ap, _∙_}
+use lib.Bits.{bitOr, bitXor, or-zero-l, or-add-and, xor-add-and, xor-self, and-le-l, and-le-r}
 use lib.Dec.{eqb}
 use lib.ListN.{length, getD, drop}
 use lib.Seq.{drop-cons, drop-nil}
-use borrow.Author.Tests.{le-leb, lt-leb, lt-ltb, le-ltb}
+use borrow.Author.Tests.{le-leb, lt-leb, lt-ltb, le-ltb, eq-eqb, ne-eqb}
 use Rattle.words.specs.Word.{kindOf}
 use Rattle.classes.specs.declared.Shape.{Shape}
 use Rattle.fields.specs.Field.{arena, page, frontier, first, get}
@@ -60,24 +62,37 @@ drop-past (w ∷ ws) zero h = absurd (omega arith)
 drop-past (w ∷ ws) (suc i) h = drop-past ws i (omega arith)
 
 -- ---- number 9
-pub kind-test : (v k w kind : ℕ) → v ≡ w → k ≡ kindOf v → eqb k kind ≡ ofKind kind w
-unfolding ofKind
-kind-test v k w kind e h = rw (h, e)
+or-none : (a d : ℕ) → eqb (bitOr a d) 0 ≡ (eqb a 0 && eqb d 0)
+or-none zero d = rw (or-zero-l d)
+or-none (suc a) d = ne-eqb (bitOr (suc a) d) 0 (λ z. omega (arith, or-add-and (suc a) d, and-le-r (suc a) d)) ∙ sym (rw (ne-eqb (suc a) 0 (λ z. omega arith)))
 
-pub record KindInv (k : ℕ) (ws : List ℕ) (i : ℕ) : Type 0 where
+xor-none : (a k : ℕ) → eqb (bitXor a k) 0 ≡ eqb a k
+xor-none a k =
+    elim (ℕ-discrete a k) [
+      | yes z ↦ rw (eq-eqb a k z) (eq-eqb (bitXor a k) 0 (rw z (xor-self k)))
+      | no z ↦ rw (ne-eqb a k z) (ne-eqb (bitXor a k) 0 (λ y. z (omega (arith, xor-add-and a k, and-le-l a k, and-le-r a k))))
+    ]
+
+pub kind-test : (v k w kind : ℕ) → v ≡ w → k ≡ kindOf v → eqb (bitXor k kind) 0 ≡ ofKind kind w
+unfolding ofKind
+kind-test v k w kind e h = xor-none k kind ∙ rw (h, e)
+
+-- d has the bits by which the kinds before place i differ
+pub record KindInv (k : ℕ) (ws : List ℕ) (d i : ℕ) : Type 0 where
   pub within : i ≤ length ws
-  pub rest : every (ofKind k) (drop i ws) ≡ every (ofKind k) ws
+  pub rest : (eqb d 0 && every (ofKind k) (drop i ws)) ≡ every (ofKind k) ws
 
 module _ (k : ℕ) (ws : List ℕ) where
-  pub kind-starts : KindInv k ws 0
+  pub kind-starts : KindInv k ws 0 0
   kind-starts = record { within = omega arith; rest = refl }
 
-  module _ (i : ℕ) (v : KindInv k ws i) (t : Bool) (l : i < length ws) (e : t ≡ ofKind k (getD ws i 0)) where
-    pub kind-goes-on : t ≡ true → KindInv k ws (i + 1)
-    kind-goes-on h = record { within = omega arith; rest = rw add-one (rw (drop-cons ws i 0 l, ← e, h) at (v .rest)) }
+  pub kind-goes-on : (d i r : ℕ) → KindInv k ws d i → i < length ws → eqb r 0 ≡ ofKind k (getD ws i 0) → KindInv k ws (bitOr d r) (i + 1)
+  kind-goes-on d i r v l e =
+      let z : every (ofKind k) (drop i ws) ≡ (eqb r 0 && every (ofKind k) (drop (i + 1) ws)) = rw (add-one, e, drop-cons ws i 0 l) in
+      record {
+        within = omega arith;
+        rest = rw (or-none d r) (and-assoc (eqb d 0) (eqb r 0) _ ∙ ap (λ t. eqb d 0 && t) (sym z) ∙ v .rest);
+      }
 
-    pub kind-stops : t ≡ false → false ≡ every (ofKind k) ws
-    kind-stops h = rw (drop-cons ws i 0 l, ← e, h) at (v .rest)
-
-  pub kind-ends : (i : ℕ) → KindInv k ws i → length ws ≤ i → true ≡ every (ofKind k) ws
-  kind-ends i v l = rw (drop-past ws i l) at (v .rest)
+  pub kind-ends : (d i : ℕ) → KindInv k ws d i → length ws ≤ i → eqb d 0 ≡ every (ofKind k) ws
+  kind-ends d i v l = sym (and-true (eqb d 0)) ∙ (rw (drop-past ws i l) at (v .rest))

@@ -1,25 +1,26 @@
 // Number 9: the kind of every listed word.
 ghost use mathlib.Core.Path.{_≡_};
+ghost use lib.Dec.{eqb};
 ghost use Rattle.model.specs.Lists.{every};
 ghost use Rattle.model.specs.Release.{ofKind};
 use words::Word;
 
-fn is_kind(w: u32, kind: u32) -> bool
-    ensures { λ r. ⌜ r ≡ ofKind kind w ⌝ }
+// By which bits the word's kind differs.
+fn differs(w: u32, kind: u32) -> u32
+    ensures { λ r. ⌜ eqb r 0 ≡ ofKind kind w ⌝ }
 {
-    Word::of(w).kind() == kind
+    Word::of(w).kind() ^ kind
 }
 
+// The bits are gathered to the list's end: the loop has no other way out.
 pub fn all_of_kind(list: &[u32], kind: u32) -> bool
     ensures { λ r. ⌜ r ≡ every (ofKind kind) (now (list .entry)) ⌝ }
 {
+    let mut any = 0;
     let mut i = 0;
     while i < list.len() {
-        if is_kind(list[i], kind) {
-            i += 1;
-        } else {
-            return false;
-        }
+        any |= differs(list[i], kind);
+        i += 1;
     }
-    true
+    any == 0
 }

@@ -6,6 +6,7 @@ ghost use lib.ListN.{length, take};
 ghost use Rattle.classes.specs.Sound.{Sound};
 ghost use Rattle.fields.specs.Ranges.{maxPages};
 ghost use Rattle.words.specs.Word.{granuleOf};
+ghost use Rattle.stack.specs.Inverse.{inverse};
 ghost use Rattle.heap.specs.Release.{pageAt};
 ghost use Rattle.release.specs.Strike.{blockAt, runAt, restored, unstruck};
 ghost use Rattle.release.specs.Asks.{InAsks, ClassAsks, StruckOne, StruckIn, Struck, hasBit, RestoreAsks, RestAsks, Rest};
@@ -13,6 +14,7 @@ use super::Found;
 use classes::Shape;
 use pages::whole;
 use stack::index_of;
+use stack::inverse_of;
 use words::Word;
 
 // A word's granule, and the page that has it.
@@ -28,40 +30,40 @@ fn page_at(w: u32) -> u32
     granule_of(w) / 4096
 }
 
-// The index of the block of the run at q that the word is.
-fn block_at(shape: Shape, q: u32, w: u32) -> Found
+// The index of the block of the run at q that the word is; inv is the inverse of the block's granules.
+// A granule below the blocks wraps to one above them. What does not fill a block stands behind the point of the product.
+fn block_at(shape: Shape, inv: u64, q: u32, w: u32) -> Found
     requires { ⌜ Sound shape ⌝ }
     requires { ⌜ q < maxPages ⌝ }
+    requires { ⌜ inv ≡ inverse (shape .block) ⌝ }
     ensures { λ r. ⌜ r ≡ blockAt shape q w ⌝ }
 {
     let granule = granule_of(w);
-    let start = q * 4096 + shape.header;
-    if granule < start {
+    let x = std::num::wrapping_sub_u32(granule, q * 4096 + shape.header);
+    if x >= shape.capacity * shape.block {
         return Found::Nothing;
     }
-    let i = (granule - start) / shape.block;
-    if i * shape.block != granule - start {
+    let product = x as u64 * inv;
+    if product % 4294967296 >= inv {
         return Found::Nothing;
     }
-    if i >= shape.capacity {
-        return Found::Nothing;
-    }
-    Found::At(i)
+    Found::At((product >> 32) as u32)
 }
 
 // Whether the word is a block of the run at q that is out; it then no longer is.
-fn strike_one(meta: &mut [u32], shape: Shape, q: u32, w: u32) -> bool
+fn strike_one(meta: &mut [u32], shape: Shape, inv: u64, q: u32, w: u32) -> bool
     requires { ⌜ InAsks (now meta) shape q ⌝ }
+    requires { ⌜ inv ≡ inverse (shape .block) ⌝ }
     ensures { λ r. ⌜ StruckOne r (now (meta .exit)) (now (meta .entry)) shape q w ⌝ }
 {
-    let block = block_at(shape, q, w);
+    let block = block_at(shape, inv, q, w);
     let Found::At(i) = block else {
         return false;
     };
     if fields::out::bit(meta, q, i) != 1 {
         return false;
     }
-    fields::out::set_bit(meta, q, i, 0);
+    fields::out::unmark(meta, q, i);
     true
 }
 
@@ -71,9 +73,10 @@ pub fn strike_run(meta: &mut [u32], shape: Shape, q: u32, list: &[u32], from: us
     requires { ⌜ from ≤ length (now list) ⌝ }
     ensures { λ r. ⌜ StruckIn r (now (meta .exit)) (now (meta .entry)) shape q (now (list .entry)) from ⌝ }
 {
+    let inv = inverse_of(shape.block);
     let mut i = from;
     while i < list.len() {
-        if strike_one(meta, shape, q, list[i]) {
+        if strike_one(meta, shape, inv, q, list[i]) {
             i += 1;
         } else {
             return i;

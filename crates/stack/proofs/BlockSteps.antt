@@ -12,7 +12,9 @@ use Rattle.classes.specs.declared.Shape.{Shape}
 use Rattle.fields.specs.Field.{page, free, carved, get}
 use Rattle.model.specs.Page.{wordOf}
 use Rattle.pages.specs.Stack.{hasMore, blocksFrom, indexOf}
-use Rattle.pages.specs.Asks.{WordAsks}
+use Rattle.pages.specs.Asks.{WordAsks, IndexAsks}
+use Rattle.stack.specs.Inverse.{inverse}
+use Rattle.stack.proofs.InverseLaws.{divides}
 
 -- a block lies within its run
 pub inside : (sh : Shape) (q i : ℕ) → WordAsks sh q i → q * 4096 + (sh .header + i * sh .block) < 2 ^ 30
@@ -36,6 +38,14 @@ index-none sh q w x g e e′ h =
 pub index-done : (sh : Shape) (q w x g : ℕ) → x ≡ w → g ≡ granuleOf x → (g - (q * 4096 + sh .header)) / sh .block ≡ indexOf sh q w
 unfolding indexOf
 index-done sh q w x g e e′ = ap (λ z. (z - blocksFrom sh q) / sh .block) (e′ ∙ ap granuleOf e)
+
+-- a granule of the run, by the inverse
+pub index-near : (sh : Shape) (q w y g x m : ℕ) → IndexAsks sh q → m ≡ inverse (sh .block) → y ≡ w → g ≡ granuleOf y → (x + (q * 4096 + sh .header)) % 2 ^ 32 ≡ g → x < 2 ^ 16
+    → x * m / 2 ^ 32 ≡ indexOf sh q w
+unfolding indexOf
+index-near sh q w y g x m a e e₁ e₂ e₃ h =
+    let z : granuleOf w - blocksFrom sh q ≡ x = omega (arith, ap granuleOf e₁, a .below, a .sound .fits, a .sound .short) in
+    divides sh x m e h (a .sound) ∙ sym (ap (λ t. t / sh .block) z)
 
 module _ (b : List ℕ) (sh : Shape) (q : ℕ) where
   pub more-free : (f : ℕ) → f ≡ get b (page free q) → (f ≡ 0 → ⊥) → true ≡ hasMore b sh q

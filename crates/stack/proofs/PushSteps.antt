@@ -1,10 +1,11 @@
--- Blocks laid back one after another, from the list's last on. Assumes nothing.
-use Prim.Native.Nat.{ℕ, suc, _+_, _-_, _≤_}
+-- Blocks laid back one after another, from the list's last on, and two at a time. Assumes nothing.
+use Prim.Native.Nat.{ℕ, zero, suc, _+_, _-_, _*_, _/_, _%_, _≤_, _<_}
 use native.Mathlib.Omega.{arith}
-use mathlib.Core.List.{List, _∷_, map}
+use native.Mathlib.Nat.{add-zero}
+use mathlib.Core.List.{List, [], _∷_, _++_, map, map-append}
 use mathlib.Core.Path.{_≡_, refl, sym, ap, _∙_}
-use lib.ListN.{length, getD, drop, length-map, length-drop}
-use lib.Seq.{drop-cons, drop-length}
+use lib.ListN.{length, getD, take, drop, length-map, length-drop, length-append}
+use lib.Seq.{drop-cons, drop-length, length-take-le, take-length, take-suc, getD-take}
 use Rattle.classes.specs.declared.Shape.{Shape}
 use Rattle.fields.specs.Field.{page, slot, free, virgin, get, put}
 use Rattle.fields.proofs.Laws.{length-put}
@@ -42,6 +43,95 @@ module _ (b₀ : List ℕ) (sh : Shape) (q top : ℕ) (ws : List ℕ) where
 
   pub laying-done : (b : List ℕ) (i t : ℕ) → i ≡ 0 → Laying b i t → b ≡ push b₀ q top (map (indexOf sh q) ws)
   laying-done b i t h v = rw h at (v .laid)
+
+-- ---- two at a time
+module _ (b₀ : List ℕ) (sh : Shape) (q x : ℕ) (ws : List ℕ) (n : ℕ) where
+  pub record Pairing (b : List ℕ) (i t : ℕ) : Type 0 where
+    pub within : i ≤ n
+    pub height : 2 * t + i ≡ 2 * x + n
+    pub long : length b ≡ length b₀
+    pub laying : Laying b₀ sh q (2 * x) (take n ws) b i (2 * t)
+
+  module _ (enough : n ≤ length ws) where
+    pub pairing-none : Pairing b₀ n x
+    pairing-none =
+        record {
+          within = omega arith;
+          height = refl;
+          long = refl;
+          laying = rw (length-take-le n ws enough) at (laying-none b₀ sh q (2 * x) (take n ws));
+        }
+
+    module _ (b : List ℕ) (i t : ℕ) (v : Pairing b i t) where
+      -- one of them
+      one : (k j : ℕ) → 1 ≤ i → j ≡ i - 1 → k ≡ indexOf sh q (getD ws j 0) → Laying b₀ sh q (2 * x) (take n ws) (put b (slot q (2 * t)) k) (i - 1) (2 * t + 1)
+      one k j h e f =
+          let g : k ≡ indexOf sh q (getD (take n ws) (i - 1) 0) = f ∙ ap (indexOf sh q) (ap (λ z. getD ws z 0) e ∙ sym (getD-take n ws (i - 1) 0 (omega (arith, v .within)))) in
+          laying-more b₀ sh q (2 * x) (take n ws) b (put b (slot q (2 * t)) k) i (2 * t) k (λ z. omega arith) (v .laying) g refl
+
+      pub pairing-more : (b′ : List ℕ) (k l : ℕ) → 1 < i → k ≡ indexOf sh q (getD ws (i - 2 + 1) 0) → l ≡ indexOf sh q (getD ws (i - 2) 0)
+          → b′ ≡ put (put b (slot q (2 * t)) k) (slot q (2 * t + 1)) l → Pairing b′ (i - 2) (t + 1)
+      pairing-more b′ k l h e₁ e₂ e =
+          let c = put b (slot q (2 * t)) k in
+          let j : i - 1 - 1 ≡ i - 2 = omega arith in
+          let u : 2 * t + 1 + 1 ≡ 2 * (t + 1) = omega arith in
+          let g : l ≡ indexOf sh q (getD (take n ws) (i - 1 - 1) 0) = e₂ ∙ ap (indexOf sh q) (ap (λ z. getD ws z 0) (sym j) ∙ sym (getD-take n ws (i - 1 - 1) 0 (omega (arith, v .within)))) in
+          let y = laying-more b₀ sh q (2 * x) (take n ws) c b′ (i - 1) (2 * t + 1) l (λ z. omega arith) (one k (i - 2 + 1) (omega arith) (omega arith) e₁) g e in
+          record {
+            within = omega (arith, v .within);
+            height = omega (arith, v .height);
+            long = ap length e ∙ length-put c (slot q (2 * t + 1)) l ∙ length-put b (slot q (2 * t)) k ∙ v .long;
+            laying = rw (j, u) at y;
+          }
+
+      pub pairing-done : i ≡ 0 → b ≡ push b₀ q (2 * x) (map (indexOf sh q) (take n ws))
+      pairing-done h = laying-done b₀ sh q (2 * x) (take n ws) b i (2 * t) h (v .laying)
+
+      pub pairing-last : (b′ : List ℕ) (k : ℕ) → i ≤ 1 → (i ≡ 0 → ⊥) → k ≡ indexOf sh q (getD ws 0 0) → b′ ≡ put b (slot q (2 * t)) k
+          → b′ ≡ push b₀ q (2 * x) (map (indexOf sh q) (take n ws))
+      pairing-last b′ k h d e f =
+          f ∙ laying-done b₀ sh q (2 * x) (take n ws) (put b (slot q (2 * t)) k) (i - 1) (2 * t + 1) (omega arith) (one k 0 (omega arith) (omega arith) e)
+
+-- ---- one below them
+push-under : (b : List ℕ) (q t j : ℕ) (is : List ℕ) → push (put b (slot q t) j) q (t + 1) is ≡ push b q t (is ++ (j ∷ []))
+push-under b q t j [] = rw add-zero
+push-under b q t j (i ∷ is) =
+    let e : t + 1 + length is ≡ t + length (is ++ (j ∷ [])) = omega (arith, length-append is (j ∷ [])) in
+    rw (push-under b q t j is, e)
+
+module _ (b : List ℕ) (sh : Shape) (q t : ℕ) (ws : List ℕ) (n : ℕ) (e : n ≡ length ws) where
+  pub lay-none : n ≡ 0 → b ≡ push b q t (map (indexOf sh q) ws)
+  lay-none h = by ws (sym e ∙ h)
+    where
+      by : (vs : List ℕ) → length vs ≡ 0 → b ≡ push b q t (map (indexOf sh q) vs)
+      by [] z = refl
+      by (v ∷ vs) z = absurd (omega arith)
+
+  pub lay-one : (b′ : List ℕ) (k : ℕ) → n ≡ 1 → k ≡ indexOf sh q (getD ws 0 0) → b′ ≡ put b (slot q t) k → b′ ≡ push b q t (map (indexOf sh q) ws)
+  lay-one b′ k h f g = g ∙ ap (put b (slot q t)) f ∙ by ws (sym e ∙ h)
+    where
+      by : (vs : List ℕ) → length vs ≡ 1 → put b (slot q t) (indexOf sh q (getD vs 0 0)) ≡ push b q t (map (indexOf sh q) vs)
+      by [] z = absurd (omega arith)
+      by (v ∷ []) z = rw add-zero
+      by (v ∷ (u ∷ vs)) z = absurd (omega arith)
+
+  pub lay-even : (b′ : List ℕ) → t % 2 ≡ 0 → b′ ≡ push b q (2 * (t / 2)) (map (indexOf sh q) (take n ws)) → b′ ≡ push b q t (map (indexOf sh q) ws)
+  lay-even b′ h f =
+      let u : 2 * (t / 2) ≡ t = omega arith in
+      f ∙ ap (λ z. push b q z (map (indexOf sh q) (take n ws))) u ∙ ap (λ z. push b q t (map (indexOf sh q) z)) (ap (λ z. take z ws) e ∙ take-length ws)
+
+  pub lay-odd : (b₁ b₂ : List ℕ) (k : ℕ) → (n ≡ 0 → ⊥) → (t % 2 ≡ 0 → ⊥) → k ≡ indexOf sh q (getD ws (n - 1) 0) → b₁ ≡ put b (slot q t) k
+      → b₂ ≡ push b₁ q (2 * (t / 2 + 1)) (map (indexOf sh q) (take (n - 1) ws)) → b₂ ≡ push b q t (map (indexOf sh q) ws)
+  lay-odd b₁ b₂ k d o f e₁ e₂ =
+      let g = indexOf sh q in
+      let u : 2 * (t / 2 + 1) ≡ t + 1 = omega arith in
+      let m : suc (n - 1) ≡ length ws = omega arith in
+      let s : take (n - 1) ws ++ (getD ws (n - 1) 0 ∷ []) ≡ ws = sym (take-suc ws (n - 1) 0 (omega arith)) ∙ ap (λ z. take z ws) m ∙ take-length ws in
+      e₂
+      ∙ ap (λ z. push b₁ q z (map g (take (n - 1) ws))) u
+      ∙ ap (λ z. push z q (t + 1) (map g (take (n - 1) ws))) (e₁ ∙ ap (put b (slot q t)) f)
+      ∙ push-under b q t (g (getD ws (n - 1) 0)) (map g (take (n - 1) ws))
+      ∙ ap (push b q t) (sym (map-append g (take (n - 1) ws) (getD ws (n - 1) 0 ∷ [])) ∙ ap (map g) s)
 
 pub push-done : (b : List ℕ) (sh : Shape) (q t : ℕ) (ws b₁ b₂ b₃ : List ℕ) → t ≡ get b (page free q) → b₁ ≡ push b q t (map (indexOf sh q) ws) → b₂ ≡ put b₁ (page virgin q) 0
     → b₃ ≡ put b₂ (page free q) (t + length ws) → b₃ ≡ pushed b q (map (indexOf sh q) ws)

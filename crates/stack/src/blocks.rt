@@ -6,6 +6,7 @@ ghost use Rattle.fields.specs.Field.{words};
 ghost use Rattle.model.specs.Page.{wordOf};
 ghost use Rattle.pages.specs.Stack.{hasMore, indexOf};
 ghost use Rattle.pages.specs.Asks.{WordAsks, IndexAsks};
+ghost use Rattle.stack.specs.Inverse.{inverse};
 use classes::Shape;
 use words::Word;
 
@@ -42,6 +43,29 @@ pub fn index_of(shape: Shape, q: u32, w: u32) -> u32
         return 0;
     }
     (granule - start) / shape.block
+}
+
+// What a product is made with instead of a division by a block's granules.
+pub fn inverse_of(block: u32) -> u64
+    requires { ⌜ 1 ≤ block ⌝ }
+    ensures { λ r. ⌜ r ≡ inverse block ⌝ }
+{
+    (u32::MAX / block) as u64 + 1
+}
+
+// As `index_of`, with the inverse of the block's granules. A run is less than 2^16 granules long.
+pub fn index_by(shape: Shape, inv: u64, q: u32, w: u32) -> u32
+    requires { ⌜ IndexAsks shape q ⌝ }
+    requires { ⌜ inv ≡ inverse (shape .block) ⌝ }
+    ensures { λ r. ⌜ r ≡ indexOf shape q w ⌝ }
+{
+    let start = q * PAGE_GRANULES + shape.header;
+    let word = Word::of(w);
+    let x = std::num::wrapping_sub_u32(word.granule(), start);
+    if x < 65536 {
+        return ((x as u64 * inv) >> 32) as u32;
+    }
+    index_of(shape, q, w)
 }
 
 pub fn has_more(meta: &[u32], shape: Shape, q: u32) -> bool

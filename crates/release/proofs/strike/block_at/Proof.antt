@@ -1,4 +1,4 @@
-use Rattle.release.proofs.Decode.{multiple-fits, below-blocks, between-blocks, above-blocks, a-block}
+use Rattle.release.proofs.Decode.{near-fits, index-fits, past-blocks, between-blocks, a-block}
 use borrow.Author.Needs.{needs}
 use Rattle.release.proofs.strike.block_at.Statement.{statement}
 use Rattle.release.proofs.strike.block_at.Tie as tie
@@ -6,40 +6,48 @@ use Rattle.release.proofs.strike.block_at.Tie as tie
 granule-of-requires : tie.Need-granule-of-requires
 granule-of-requires c κs = search needs
 
-mul-start : tie.Need-mul-start
-mul-start c = search needs
+mul-wrapping-sub-u32 : tie.Need-mul-wrapping-sub-u32
+mul-wrapping-sub-u32 c = search needs
 
-add-start : tie.Need-add-start
-add-start c = search needs
+add-wrapping-sub-u32 : tie.Need-add-wrapping-sub-u32
+add-wrapping-sub-u32 c = search needs
+
+wrapping-sub-u32-requires : tie.Need-wrapping-sub-u32-requires
+wrapping-sub-u32-requires c κs = search needs
+
+mul-if1 : tie.Need-mul-if1
+mul-if1 c = search needs
 
 returns : tie.Need-returns
-returns c = search below-blocks
+returns c = search past-blocks
 
-div-i : tie.Need-div-i
-div-i c = search needs
+cast-product : tie.Need-cast-product
+cast-product c = search needs
 
-mul-if2 : tie.Need-mul-if2
-mul-if2 c = search multiple-fits
+mul-product : tie.Need-mul-product
+mul-product c = search near-fits
 
 returns-2 : tie.Need-returns-2
 returns-2 c = search between-blocks
 
-returns-3 : tie.Need-returns-3
-returns-3 c = search above-blocks
+cast-t9 : tie.Need-cast-t9
+cast-t9 c = search index-fits
 
-returns-4 : tie.Need-returns-4
-returns-4 c = search a-block
+returns-3 : tie.Need-returns-3
+returns-3 c = search a-block
 
 pub block-at-spec : {M : Type 1} → statement M
 block-at-spec =
     tie.close
     (tie.spec
     granule-of-requires
-    mul-start
-    add-start
+    mul-wrapping-sub-u32
+    add-wrapping-sub-u32
+    wrapping-sub-u32-requires
+    mul-if1
     returns
-    div-i
-    mul-if2
+    cast-product
+    mul-product
     returns-2
-    returns-3
-    returns-4)
+    cast-t9
+    returns-3)

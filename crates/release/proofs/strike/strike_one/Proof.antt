@@ -1,4 +1,4 @@
-use Rattle.release.proofs.Decode.{not-block, has-bit, not-out, was-out}
+use Rattle.release.proofs.Decode.{not-block, has-bit, bit-set, not-out, was-out}
 use borrow.Author.Needs.{needs}
 use Rattle.release.proofs.strike.strike_one.Statement.{statement}
 use Rattle.release.proofs.strike.strike_one.Tie as tie
@@ -24,8 +24,8 @@ same-length c = search needs
 returns-2 : tie.Need-returns-2
 returns-2 c = search not-out
 
-set-bit-requires : tie.Need-set-bit-requires
-set-bit-requires c κs = search has-bit
+unmark-requires : tie.Need-unmark-requires
+unmark-requires c κs = (search has-bit, search bit-set)
 
 same-length-2 : tie.Need-same-length-2
 same-length-2 c = search needs
@@ -44,6 +44,6 @@ strike-one-spec =
     bit-requires
     same-length
     returns-2
-    set-bit-requires
+    unmark-requires
     same-length-2
     returns-3)

@@ -1,15 +1,18 @@
+use borrow.Author.Needs.{needs}
 use Prim.Native.Nat.{_-_}
 use lib.ListN.{length}
-use borrow.Author.Needs.{needs}
 use Rattle.release.proofs.Steps.{RunInv, run-starts, run-goes-on, run-stops, run-ends}
 use Rattle.release.proofs.strike.strike_run.Statement.{statement}
 use Rattle.release.proofs.strike.strike_run.Tie as tie
 
 abbrev Inv-loop : tie.InvT-loop
-Inv-loop meta₀ shape q list from i₀ meta i = RunInv meta₀ shape q list from meta i
+Inv-loop meta₀ shape q list from inv i₀ meta i = RunInv meta₀ shape q list from meta i
 
 abbrev μ-loop : tie.MeasureT-loop
-μ-loop meta₀ shape q list from i₀ meta i = length list - i
+μ-loop meta₀ shape q list from inv i₀ meta i = length list - i
+
+inverse-of-requires : tie.Need-inverse-of-requires Inv-loop μ-loop
+inverse-of-requires c κs = search needs
 
 loop-holds : tie.Need-loop-holds Inv-loop μ-loop
 loop-holds c = search run-starts
@@ -23,12 +26,6 @@ shared-slice-read-strike-one c = search needs
 strike-one-requires : tie.Need-strike-one-requires Inv-loop μ-loop
 strike-one-requires c κs = search needs
 
-same-length : tie.Need-same-length Inv-loop μ-loop
-same-length c = search needs
-
-returns : tie.Need-returns Inv-loop μ-loop
-returns c = search run-stops
-
 add-i : tie.Need-add-i Inv-loop μ-loop
 add-i c = search needs
 
@@ -37,6 +34,12 @@ loop-less c = search needs
 
 loop-again : tie.Need-loop-again Inv-loop μ-loop
 loop-again c = search run-goes-on
+
+same-length : tie.Need-same-length Inv-loop μ-loop
+same-length c = search needs
+
+returns : tie.Need-returns Inv-loop μ-loop
+returns c = search run-stops
 
 same-length-2 : tie.Need-same-length-2 Inv-loop μ-loop
 same-length-2 c = search needs
@@ -50,6 +53,7 @@ strike-run-spec =
     (tie.spec
     Inv-loop
     μ-loop
+    inverse-of-requires
     loop-holds
     mul-strike-one
     shared-slice-read-strike-one

@@ -1,0 +1,105 @@
+-- A product with the inverse divides: x is below 2 ^ 16, and d at most 2 ^ 15. Assumes nothing.
+--     by-inverse      the quotient stands above the point
+--     behind-point, behind-point-not    what stands behind it is below the inverse exactly if there is no remainder
+use Prim.Native.Nat.{ℕ, suc, _+_, _-_, _*_, _/_, _%_, _^_, _≤_, _<_}
+use native.Mathlib.Omega.{arith}
+use native.Mathlib.Nat.{div-add-mod', div-le-self, mod-lt, mul-le-mul, mul-le-mul-right, lt-of-mul-lt-mul-right}
+use mathlib.Core.Path.{_≡_, refl, sym, ap, _∙_}
+use mir.Val.{Fits}
+use mir.Syntax.{w32, w64}
+use lib.Pow.{high, low}
+use Rattle.classes.specs.declared.Shape.{Shape}
+use Rattle.classes.specs.Sound.{Sound}
+use Rattle.stack.specs.Inverse.{inverse}
+
+-- what the inverse of d has too much, d times
+abbrev excess : ℕ → ℕ
+excess d = d - 1 - (2 ^ 32 - 1) % d
+
+too-much : (d : ℕ) → 1 ≤ d → inverse d * d ≡ 2 ^ 32 + excess d
+unfolding inverse
+too-much d h =
+    let a : (2 ^ 32 - 1) / d * d + (2 ^ 32 - 1) % d ≡ 2 ^ 32 - 1 = div-add-mod' (2 ^ 32 - 1) d in
+    let b : (2 ^ 32 - 1) % d < d = mod-lt (2 ^ 32 - 1) (omega arith) in
+    omega arith
+
+-- k the quotient and r the remainder of x
+module _ (d m e : ℕ) (h : m * d ≡ 2 ^ 32 + e) (he : e < d) (hd : d ≤ 2 ^ 15) (x k r : ℕ) (hx : k * d + r ≡ x) (hr : r < d) (small : x < 2 ^ 16) where
+  little : (k + 1) * e < m
+  little =
+      let a : (k + 1) * d ≤ 98303 = omega arith in
+      let z : e ≤ 32767 = omega arith in
+      let b : (k + 1) * d * e ≤ 98303 * 32767 = mul-le-mul a z in
+      let c : (k + 1) * e * d < m * d = omega arith in
+      lt-of-mul-lt-mul-right d c
+
+  product : x * m ≡ k * 2 ^ 32 + (k * e + r * m)
+  product =
+      let a : k * (m * d) ≡ k * (2 ^ 32 + e) = ap (λ z. k * z) h in
+      let b : x * m ≡ (k * d + r) * m = ap (λ z. z * m) (sym hx) in
+      omega arith
+
+  behind : k * e + r * m < 2 ^ 32
+  behind =
+      let a : suc r * m ≤ d * m = mul-le-mul-right m hr in
+      omega (arith, little)
+
+  quotient : x * m / 2 ^ 32 ≡ k
+  quotient = ap (λ z. z / 2 ^ 32) product ∙ high k 32 behind
+
+  rest : x * m % 2 ^ 32 ≡ k * e + r * m
+  rest = ap (λ z. z % 2 ^ 32) product ∙ low k 32 behind
+
+  rest-none : r ≡ 0 → x * m % 2 ^ 32 < m
+  rest-none z = let a : r * m ≡ 0 * m = ap (λ y. y * m) z in omega (arith, rest, little)
+
+  rest-some : 1 ≤ r → m ≤ x * m % 2 ^ 32
+  rest-some z = let a : 1 * m ≤ r * m = mul-le-mul-right m z in omega (arith, rest)
+
+module _ (x d : ℕ) (small : x < 2 ^ 16) (some : 1 ≤ d) (few : d ≤ 2 ^ 15) where
+  positive : 0 < d
+  positive = omega arith
+
+  pub by-inverse : x * inverse d / 2 ^ 32 ≡ x / d
+  by-inverse = quotient d (inverse d) (excess d) (too-much d some) (omega arith) few x (x / d) (x % d) (div-add-mod' x d) (mod-lt x positive) small
+
+  pub behind-point : x % d ≡ 0 → x * inverse d % 2 ^ 32 < inverse d
+  behind-point = rest-none d (inverse d) (excess d) (too-much d some) (omega arith) few x (x / d) (x % d) (div-add-mod' x d) (mod-lt x positive) small
+
+  pub past-point : 1 ≤ x % d → inverse d ≤ x * inverse d % 2 ^ 32
+  past-point = rest-some d (inverse d) (excess d) (too-much d some) (omega arith) few x (x / d) (x % d) (div-add-mod' x d) (mod-lt x positive) small
+
+-- ---- what the code asks
+pub part-fits : (d : ℕ) → Fits w64 ((2 ^ 32 - 1) / d)
+part-fits d = record { fits = omega (arith, div-le-self (2 ^ 32 - 1) d) }
+
+pub inverse-fits : (d : ℕ) → Fits w64 ((2 ^ 32 - 1) / d + 1)
+inverse-fits d = record { fits = omega (arith, div-le-self (2 ^ 32 - 1) d) }
+
+pub inverse-is : (d : ℕ) → (2 ^ 32 - 1) / d + 1 ≡ inverse d
+unfolding inverse
+inverse-is d = refl
+
+inverse-le : (d : ℕ) → inverse d ≤ 2 ^ 32
+unfolding inverse
+inverse-le d = omega (arith, div-le-self (2 ^ 32 - 1) d)
+
+-- a block is no longer than its run
+pub narrow : (sh : Shape) → Sound sh → sh .block ≤ 2 ^ 15
+narrow sh s =
+    let l : 1 * sh .block ≤ sh .capacity * sh .block = mul-le-mul-right (sh .block) (s .blocks) in
+    omega (arith, s .fits, s .short)
+
+module _ (sh : Shape) (x m : ℕ) (e : m ≡ inverse (sh .block)) (h : x < 2 ^ 16) where
+  pub product-fits : Fits w64 (x * m)
+  product-fits =
+      let a : x ≤ 65535 = omega arith in
+      let b : m ≤ 2 ^ 32 = omega (arith, inverse-le (sh .block)) in
+      let c : x * m ≤ 65535 * 2 ^ 32 = mul-le-mul a b in
+      record { fits = omega arith }
+
+  pub divides : Sound sh → x * m / 2 ^ 32 ≡ x / sh .block
+  divides s = rw e (by-inverse x (sh .block) h (s .wide) (narrow sh s))
+
+  pub quotient-fits : Sound sh → Fits w32 (x * m / 2 ^ 32)
+  quotient-fits s = record { fits = omega (arith, divides s, div-le-self x (sh .block)) }
