@@ -14,7 +14,7 @@ pub struct Scenario {
     make: fn(&mut Maker),
 }
 
-pub const SCENARIOS: [Scenario; 13] = [
+pub const SCENARIOS: [Scenario; 14] = [
     Scenario { name: "direct", weight: 300, needs: &[Kind::Commit], make: direct },
     Scenario { name: "lengths", weight: 120, needs: &[Kind::Commit], make: lengths },
     Scenario { name: "growth", weight: 120, needs: &[Kind::GrowFrontier], make: growth },
@@ -27,6 +27,7 @@ pub const SCENARIOS: [Scenario; 13] = [
     Scenario { name: "small stores", weight: 12, needs: &[Kind::TakeBlocks], make: small_stores },
     Scenario { name: "medium stores", weight: 8, needs: &[Kind::MediumTakeBlocks], make: medium_stores },
     Scenario { name: "chunks", weight: 60, needs: &[Kind::ReleaseBinChunks], make: chunks },
+    Scenario { name: "every fate", weight: 8, needs: &[Kind::ReleaseBinChunks], make: every_fate },
     Scenario { name: "chunk limit", weight: 2, needs: &[Kind::ReleaseBinChunks], make: chunk_limit },
 ];
 
@@ -399,6 +400,27 @@ fn chunks(maker: &mut Maker) {
             maker.class_step(Family::Small, class);
         }
         maker.look();
+    }
+}
+
+/// Every fate of small pages in few calls and few words: pages of 3 blocks, kept by both kinds of release, then 4 empty, 256
+/// cold, and more that go to the arena, by either.
+fn every_fate(maker: &mut Maker) {
+    const CLASS: u32 = 45;
+    const RUNS: u32 = 270;
+    maker.arena(RUNS + 2, RUNS + 2);
+    maker.reserve();
+    for _ in 0..RUNS {
+        maker.push(HOST_ALL, Intent::Take { family: Family::Small, class: CLASS });
+    }
+    maker.push(HOST_ALL, Intent::ReleaseBlocks { family: Family::Small, class: CLASS, portion: Portion::One });
+    maker.push(HOST_ALL, Intent::ReleaseChunks { class: CLASS, most: 4, portion: Portion::One });
+    for _ in 0..8 {
+        maker.add(Intent::ReleaseChunks { class: CLASS, most: 40, portion: Portion::All });
+    }
+    for _ in 0..30 {
+        maker.add(Intent::ReleaseBlocks { family: Family::Small, class: CLASS, portion: Portion::All });
+        maker.add(Intent::ReleaseChunks { class: CLASS, most: 3, portion: Portion::All });
     }
 }
 

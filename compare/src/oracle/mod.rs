@@ -100,9 +100,10 @@ impl Original {
         }
     }
 
-    /// The heap and its arena as `open` leaves them.
-    pub fn reopen(&mut self) {
-        arena::rebuild(self.pages as usize);
+    /// The heap and its arena as `open` leaves them, with so many pages.
+    pub fn reopen(&mut self, pages: u32) {
+        self.pages = pages;
+        arena::rebuild(pages as usize);
         *self.small = heap::GlobalHeap::new();
         *self.medium = heap::MediumHeap::new();
     }

@@ -4,6 +4,7 @@
 //! scenario's state and times a batch of calls for each row; both must answer the same. Of a row's rounds the lower
 //! quartile counts.
 
+mod fill;
 mod rounds;
 mod scenarios;
 mod sides;

@@ -1,10 +1,12 @@
 //! What is measured. A scenario is one variant with its rows, the calls it needs and a round written once for both sides.
 
+use super::fill;
 use super::rounds::{Clock, Round};
-use super::sides::{Class, Side};
+use super::sides::{Class, Side, PAGES};
 use crate::call::Kind;
 use crate::oracle;
 use crate::port;
+use crate::random::Random;
 use crate::words::{group_word, page_of, Family};
 
 #[derive(Clone, Copy)]
@@ -19,8 +21,23 @@ pub enum Scenario {
     Single { class: Class },
     /// Releases of all blocks of a page.
     Whole { class: Class },
+    /// Releases of so many blocks of a page.
+    Listed { class: Class, blocks: u32 },
+    /// Takes in an arena of so many pages.
+    Arena { class: Class, pages: u32 },
     /// Group releases: of so many pages so many blocks each.
-    Groups { class: Class, pages: u32, blocks: u32 },
+    Groups { class: Class, pages: u32, blocks: u32, order: Order },
+    /// A search that takes and gives back blocks of some classes, and now and then a run.
+    Fill,
+}
+
+/// In what order the blocks of a group release stand.
+#[derive(Clone, Copy, PartialEq, Eq)]
+pub enum Order {
+    /// Page by page.
+    Pages,
+    /// Any.
+    Mixed,
 }
 
 /// A line of the table.
@@ -30,6 +47,10 @@ pub struct Row {
 }
 
 const HOLES: [u32; 5] = [0, 10, 100, 1_000, 4_000];
+/// Blocks of a release, to see how its time grows with them.
+const LISTS: [u32; 5] = [8, 32, 128, 512, 2_048];
+/// Lengths of the arena, to see that a take's time does not grow with them.
+const ARENAS: [u32; 4] = [64, 1_024, 8_192, 65_536];
 
 pub fn all() -> Vec<Scenario> {
     let small = |class| Class(Family::Small, class);
@@ -39,9 +60,14 @@ pub fn all() -> Vec<Scenario> {
     let batches = [small(0), small(3), small(10), medium(0)].map(|class| Scenario::Batches { class });
     let single = [0, 10].map(|class| Scenario::Single { class: small(class) });
     let whole = [0, 10, 45].map(|class| Scenario::Whole { class: small(class) });
-    let group = |(pages, blocks)| Scenario::Groups { class: small(10), pages, blocks };
-    let groups = [(1, 8), (8, 8), (32, 64), (8, 314)].map(group);
-    remembered.into_iter().chain(no_fit).chain(batches).chain(single).chain(whole).chain(groups).collect()
+    let listed = LISTS.map(|blocks| Scenario::Listed { class: small(0), blocks });
+    let arena = ARENAS.map(|pages| Scenario::Arena { class: small(10), pages });
+    let group = |order| move |(pages, blocks)| Scenario::Groups { class: small(10), pages, blocks, order };
+    let in_order = [(1, 8), (8, 8), (8, 64), (32, 64), (128, 8), (512, 8), (8, 314)].map(group(Order::Pages));
+    let mixed = [(8, 8), (32, 64), (128, 8), (1_000, 4)].map(group(Order::Mixed));
+    let arena_calls = remembered.into_iter().chain(no_fit);
+    let list_calls = batches.into_iter().chain(single).chain(whole).chain(listed).chain(arena);
+    arena_calls.chain(list_calls).chain(in_order).chain(mixed).chain([Scenario::Fill]).collect()
 }
 
 /// Calls between two readings of the clock, where no scenario says otherwise.
@@ -54,7 +80,8 @@ impl Scenario {
         port::landed(match self {
             Scenario::Remembered { .. } | Scenario::NoFit { .. } => Kind::Commit,
             Scenario::Batches { .. } | Scenario::Single { .. } | Scenario::Whole { .. } => Kind::TakeBlocks,
-            Scenario::Groups { .. } => Kind::ReleaseBinChunks,
+            Scenario::Listed { .. } | Scenario::Arena { .. } => Kind::TakeBlocks,
+            Scenario::Groups { .. } | Scenario::Fill => Kind::ReleaseBinChunks,
         })
     }
 
@@ -81,15 +108,25 @@ impl Scenario {
             Scenario::Whole { class } => {
                 plain(&[format!("release of a whole page, {} blocks, {}", capacity(class), name(class))])
             }
-            Scenario::Groups { class, pages, blocks } => {
-                let retired = if blocks == capacity(class) { ", retired" } else { "" };
-                plain(&[format!("group release, {pages} × {blocks} blocks{retired}, {}", name(class))])
+            Scenario::Listed { class, blocks } => plain(&[format!("release of {blocks}, {}", name(class))]),
+            Scenario::Arena { class, pages } => {
+                let (blocks, name) = (oracle::batch(class.0, class.1), name(class));
+                plain(&[
+                    format!("take of {blocks}, carving, {name}, arena of {pages} pages"),
+                    format!("take of {blocks}, free list, {name}, arena of {pages} pages"),
+                ])
             }
+            Scenario::Groups { class, pages, blocks, order } => {
+                let retired = if blocks == capacity(class) { ", retired" } else { "" };
+                let mixed = if order == Order::Mixed { ", mixed" } else { "" };
+                plain(&[format!("group release, {pages} × {blocks} blocks{retired}{mixed}, {}", name(class))])
+            }
+            Scenario::Fill => plain(&[fill::row()]),
         }
     }
 
     pub fn round<S: Side>(&self, side: &mut S, clock: Clock) -> Round {
-        side.reopen();
+        side.reopen(if let Scenario::Arena { pages, .. } = *self { pages } else { PAGES });
         match *self {
             Scenario::Remembered { holes: 0 } => frontier(side, clock),
             Scenario::Remembered { holes } => remembered(side, clock, holes),
@@ -97,7 +134,10 @@ impl Scenario {
             Scenario::Batches { class } => batches(side, clock, class),
             Scenario::Single { class } => single(side, clock, class),
             Scenario::Whole { class } => whole(side, clock, class),
-            Scenario::Groups { class, pages, blocks } => groups(side, clock, class, pages, blocks),
+            Scenario::Listed { class, blocks } => listed(side, clock, class, blocks),
+            Scenario::Arena { class, .. } => arena(side, clock, class),
+            Scenario::Groups { class, pages, blocks, order } => groups(side, clock, class, [pages, blocks], order),
+            Scenario::Fill => fill::round(side, clock),
         }
     }
 }
@@ -174,7 +214,7 @@ fn carvings(class: Class) -> usize {
     }
 }
 
-fn time_takes<S: Side>(side: &mut S, clock: Clock, class: Class, number: usize) -> (Vec<Vec<u32>>, f64) {
+pub fn time_takes<S: Side>(side: &mut S, clock: Clock, class: Class, number: usize) -> (Vec<Vec<u32>>, f64) {
     let mut taken = vec![S::Taken::default(); number];
     let ((), time) = clock.time(number, || taken.iter_mut().for_each(|taken| side.take(class, taken)));
     (taken.iter().map(|taken| S::words(class, taken)).collect(), time)
@@ -242,13 +282,34 @@ fn whole<S: Side>(side: &mut S, clock: Clock, class: Class) -> Round {
     Round { times: vec![time], answers }
 }
 
+/// The page keeps the rest of its blocks out, so that it stays where it is.
+fn listed<S: Side>(side: &mut S, clock: Clock, class: Class, blocks: u32) -> Round {
+    let filled = fill(side, clock, class, PARKED).concat();
+    let pages: Vec<&[u32]> = filled.chunk_by(|&one, &other| page_of(one) == page_of(other)).collect();
+    let lists: Vec<Vec<u32>> = pages.iter().map(|page| page[..blocks as usize].to_vec()).collect();
+    let time = time_release(side, clock, class, &lists, false);
+    let mut answers = filled.clone();
+    answers.extend(time_takes(side, clock, class, 2).0.concat());
+    Round { times: vec![time], answers }
+}
+
+/// As `batches`, in an arena that is opened anew at its own length.
+fn arena<S: Side>(side: &mut S, clock: Clock, class: Class) -> Round {
+    let Round { times, answers } = batches(side, clock, class);
+    Round { times: times[..2].to_vec(), answers }
+}
+
 /// Of each page the same share for each call, as often as it goes.
-fn groups<S: Side>(side: &mut S, clock: Clock, class: Class, pages: u32, blocks: u32) -> Round {
+fn groups<S: Side>(side: &mut S, clock: Clock, class: Class, [pages, blocks]: [u32; 2], order: Order) -> Round {
     let filled = fill(side, clock, class, pages);
     let number = (capacity(class) / blocks).min(PARKED) as usize;
     let words = |call: usize| {
         let from = call * blocks as usize;
-        filled.iter().flat_map(|page| page[from..from + blocks as usize].to_vec()).collect::<Vec<u32>>()
+        let mut words: Vec<u32> = filled.iter().flat_map(|page| page[from..from + blocks as usize].to_vec()).collect();
+        if order == Order::Mixed {
+            Random::new(call as u64).shuffle(&mut words);
+        }
+        words
     };
     let group: Vec<u32> = filled.iter().map(|page| group_word(blocks, page_of(page[0]))).collect();
     let mut at_hand: Vec<S::Groups> = (0..number).map(|call| S::groups(&words(call), &group)).collect();

@@ -7,12 +7,14 @@
 use crate::memory::Reserved;
 use crate::oracle::{self, Chain, Chunks, Original};
 use crate::port;
-use crate::words::{book_words, Family, HOST_COMMIT, HOST_RESERVE, NO_PAGE, SMALL_BATCH};
+use crate::words::{book_words, Family, HOST_COMMIT, HOST_RESERVE, MAX_GROUPS, NO_PAGE, SMALL_BATCH};
 
 const HOST: u32 = HOST_RESERVE | HOST_COMMIT;
 
-/// The arena's length in every scenario.
+/// The arena's length where no scenario says otherwise.
 pub const PAGES: u32 = 8_192;
+/// And the longest one.
+const MOST_PAGES: u32 = 65_536;
 
 /// A family and a class of it.
 #[derive(Clone, Copy, PartialEq, Eq, Debug)]
@@ -26,8 +28,8 @@ pub trait Side {
     /// A list and its groups at hand.
     type Groups;
 
-    /// A heap on which nothing was asked yet.
-    fn reopen(&mut self);
+    /// A heap on which nothing was asked yet, with an arena of so many pages.
+    fn reopen(&mut self, pages: u32);
     /// First page, or none.
     fn commit(&mut self, pages: u64) -> u32;
     fn give(&mut self, first: u32, pages: u64);
@@ -39,6 +41,8 @@ pub trait Side {
     fn release_list(&mut self, class: Class, words: &[u32]);
     fn groups(words: &[u32], groups: &[u32]) -> Self::Groups;
     fn release_groups(&mut self, class: Class, groups: &mut Self::Groups);
+    /// A group release with the making of the chain, where it needs one.
+    fn release_grouped(&mut self, class: Class, words: &[u32], groups: &[u32]);
     /// Whether no call was refused since the opening.
     fn is_sound(&self) -> bool;
 }
@@ -47,7 +51,7 @@ pub struct OriginalSide(Original);
 
 impl OriginalSide {
     pub fn open() -> OriginalSide {
-        let mut original = Original::open(PAGES);
+        let mut original = Original::open(MOST_PAGES);
         original.keep_fates(false);
         OriginalSide(original)
     }
@@ -58,8 +62,8 @@ impl Side for OriginalSide {
     type List = Chain;
     type Groups = Chunks;
 
-    fn reopen(&mut self) {
-        self.0.reopen();
+    fn reopen(&mut self, pages: u32) {
+        self.0.reopen(pages);
     }
 
     #[inline]
@@ -105,6 +109,11 @@ impl Side for OriginalSide {
         self.0.release_chunks(class, HOST, groups);
     }
 
+    #[inline]
+    fn release_grouped(&mut self, class: Class, words: &[u32], groups: &[u32]) {
+        self.release_groups(class, &mut oracle::chunks(words, groups));
+    }
+
     fn is_sound(&self) -> bool {
         true
     }
@@ -118,13 +127,15 @@ impl Drop for OriginalSide {
 
 pub struct PortSide {
     book: Reserved,
+    /// Room for fates.
+    fates: Vec<u32>,
     /// The numbers that were returned, or-ed.
     refused: u32,
 }
 
 impl PortSide {
     pub fn open() -> PortSide {
-        PortSide { book: Reserved::new(book_words(PAGES)), refused: 0 }
+        PortSide { book: Reserved::new(book_words(MOST_PAGES)), fates: vec![0; MAX_GROUPS], refused: 0 }
     }
 
     fn book(&mut self) -> &mut [u32] {
@@ -154,8 +165,8 @@ impl Side for PortSide {
     type List = Vec<u32>;
     type Groups = Grouped;
 
-    fn reopen(&mut self) {
-        self.refused = port::open(self.book(), u64::from(PAGES));
+    fn reopen(&mut self, pages: u32) {
+        self.refused = port::open(self.book(), u64::from(pages));
     }
 
     #[inline]
@@ -204,6 +215,12 @@ impl Side for PortSide {
     fn release_groups(&mut self, Class(_, class): Class, at_hand: &mut Grouped) {
         let Grouped { words, groups, fates } = at_hand;
         self.refused |= port::plain_release_chunks(self.book(), [class, HOST], words, groups, fates);
+    }
+
+    #[inline]
+    fn release_grouped(&mut self, Class(_, class): Class, words: &[u32], groups: &[u32]) {
+        let book = self.book.words_mut();
+        self.refused |= port::plain_release_chunks(book, [class, HOST], words, groups, &mut self.fates);
     }
 
     fn is_sound(&self) -> bool {

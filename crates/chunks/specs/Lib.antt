@@ -1,1 +1,6 @@
 pub mod Pass
+pub mod PushAsks
+pub mod GiveAsks
+pub mod FairAsks
+pub mod PlaceAsks
+pub mod CallAsks

@@ -1,1 +1,8 @@
 // Group releases of small classes.
+mod call;
+mod fair;
+mod gives;
+mod place;
+mod push;
+
+pub use call::chunks_call;

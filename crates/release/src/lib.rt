@@ -10,6 +10,7 @@ pub use fair::row_fair;
 pub use fair::spot_of;
 pub use kinds::all_of_kind;
 pub use park::park_empty_page;
+pub use park::relist;
 pub use release::release_blocks;
 pub use release::release_call;
 

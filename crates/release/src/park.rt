@@ -23,7 +23,7 @@ fn unlist(meta: &mut [u32], c: u32, shape: Shape, q: u32)
 }
 
 // One with some out heads it if absent.
-fn relist(meta: &mut [u32], c: u32, q: u32)
+pub fn relist(meta: &mut [u32], c: u32, q: u32)
     requires { ⌜ LinkAsks (now meta) c q ⌝ }
     ensures { λ _. ⌜ now (meta .exit) ≡ relisted (now (meta .entry)) c q ⌝ }
 {

@@ -1,3 +1,4 @@
 mod DirectWays
 mod TakeWays
 mod ReleaseWays
+mod ChunkWays

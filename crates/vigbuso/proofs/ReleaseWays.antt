@@ -26,12 +26,15 @@ refusal : (k : ℕ) → (k ≡ 0 → ⊥) → (f : ℕ) → Refused k ≡ answer
 refusal zero d f = absurd (d refl)
 refusal (suc k) d f = refl
 
-pub release-asks : (b : List ℕ) (r low many c n : ℕ) (sh : Shape) → low + many ≤ 76 → r ≡ metaFault b → r ≡ 0 → c < many → n ≡ get b (arena size) → sh ≡ shapeOf (low + c) → ClassAsks n b (low + c) sh
-release-asks b r low many c n sh u e z j f w =
+pub class-asks : (b : List ℕ) (r c n : ℕ) (sh : Shape) → r ≡ metaFault b → r ≡ 0 → c < 76 → n ≡ get b (arena size) → sh ≡ shapeOf c → ClassAsks n b c sh
+class-asks b r c n sh e z j f w =
     let k = sound b r e z in
     let q = leb-true (words (get b (arena size))) (length b) (k .long) in
     let m = leb-true (get b (arena size)) 262144 (and-right (leb 1 (get b (arena size))) _ (k .sized)) in
-    record { known = omega arith; sound = rw w (shape-sound (low + c)); few = omega arith; long = omega arith }
+    record { known = j; sound = rw w (shape-sound c); few = omega arith; long = omega arith }
+
+pub release-asks : (b : List ℕ) (r low many c n : ℕ) (sh : Shape) → low + many ≤ 76 → r ≡ metaFault b → r ≡ 0 → c < many → n ≡ get b (arena size) → sh ≡ shapeOf (low + c) → ClassAsks n b (low + c) sh
+release-asks b r low many c n sh u e z j f w = class-asks b r (low + c) n sh e z (omega arith) f w
 
 module _ (b : List ℕ) (r : ℕ) (e : r ≡ metaFault b) (low many c h : ℕ) (l : List ℕ) where
   pub release-unfit : (r ≡ 0 → ⊥) → Answered (Refused r) b (releaseOn low many b c h l)

@@ -1,5 +1,6 @@
 // The exported C functions. Numbers and slices only; each is thin over a proved function.
 pub mod arena_calls;
+pub mod chunk_calls;
 pub mod lookup;
 pub mod release_calls;
 pub mod take_calls;

@@ -1,0 +1,113 @@
+//! A workload like a fill of a grid: a search goes down, takes blocks for the scores of each square, and gives them back
+//! when it turns, the latest first; now and then it holds a run of pages for a while.
+//!
+//! The search is rehearsed once on the side itself, so that every list stands ready when the clock starts. What an
+//! application does with its blocks is left out. A block that was used has lost its link, so the original makes each
+//! chain anew within the time.
+
+use super::rounds::{Clock, Round};
+use super::scenarios::time_takes;
+use super::sides::{Class, Side, PAGES};
+use crate::random::Random;
+use crate::words::{group_word, page_of, Family};
+
+/// Takes and releases of a search.
+const TURNS: usize = 600;
+/// How deep it goes.
+const DEEPEST: usize = 60;
+/// The classes of the scores: blocks of 16, 64 and 208 bytes.
+const CLASSES: [u32; 3] = [0, 3, 10];
+/// One turn in so many is a run's.
+const RUNS: u64 = 40;
+
+pub fn row() -> String {
+    format!("a fill: {TURNS} takes and releases of classes 0, 3, 10, with groups and runs; each")
+}
+
+/// A call of the search with its lists.
+enum Turn {
+    Take(Class),
+    Release(Class, Vec<u32>),
+    Groups(Class, Vec<u32>, Vec<u32>),
+    Commit,
+    Give(u32),
+}
+
+pub fn round<S: Side>(side: &mut S, clock: Clock) -> Round {
+    let (turns, answers) = rehearse(side, clock);
+    side.reopen(PAGES);
+    let mut taken = S::Taken::default();
+    let number = turns.len();
+    let ((), time) = clock.time(number, || turns.iter().for_each(|turn| take_turn(side, turn, &mut taken)));
+    let mut told = answers;
+    told.extend(CLASSES.iter().flat_map(|&class| time_takes(side, clock, small(class), 1).0.concat()));
+    Round { times: vec![time], answers: told }
+}
+
+fn small(class: u32) -> Class {
+    Class(Family::Small, class)
+}
+
+fn take_turn<S: Side>(side: &mut S, turn: &Turn, taken: &mut S::Taken) {
+    match turn {
+        Turn::Take(class) => side.take(*class, taken),
+        Turn::Release(class, words) => side.release_list(*class, words),
+        Turn::Groups(class, words, groups) => side.release_grouped(*class, words, groups),
+        Turn::Commit => {
+            side.commit(2);
+        }
+        Turn::Give(first) => side.give(*first, 2),
+    }
+}
+
+/// The search's calls, by the answers of a first run, and these answers.
+fn rehearse<S: Side>(side: &mut S, clock: Clock) -> (Vec<Turn>, Vec<u32>) {
+    let mut random = Random::new(1);
+    let (mut turns, mut answers) = (Vec::new(), Vec::new());
+    let (mut path, mut runs): (Vec<(Class, Vec<u32>)>, Vec<u32>) = (Vec::new(), Vec::new());
+    while turns.len() < TURNS {
+        if random.chance(1, RUNS) {
+            turns.push(run_turn(side, &mut runs));
+            continue;
+        }
+        let down = path.is_empty() || path.len() < DEEPEST && random.chance(11, 20);
+        if down {
+            let class = small(random.pick(&CLASSES));
+            let words = time_takes(side, clock, class, 1).0.concat();
+            answers.extend(&words);
+            path.push((class, words));
+            turns.push(Turn::Take(class));
+        } else if let Some((class, words)) = path.pop() {
+            let turn = back(class, words);
+            take_turn(side, &turn, &mut S::Taken::default());
+            turns.push(turn);
+        }
+    }
+    (turns, answers)
+}
+
+fn run_turn<S: Side>(side: &mut S, runs: &mut Vec<u32>) -> Turn {
+    if runs.len() < 3 {
+        runs.push(side.commit(2));
+        return Turn::Commit;
+    }
+    let first = runs.remove(0);
+    side.give(first, 2);
+    Turn::Give(first)
+}
+
+/// Blocks of one page go back by list, those of several by groups.
+fn back(class: Class, words: Vec<u32>) -> Turn {
+    let mut groups: Vec<(u32, u32)> = Vec::new();
+    for &word in &words {
+        match groups.iter_mut().find(|(page, _)| *page == page_of(word)) {
+            Some((_, count)) => *count += 1,
+            None => groups.push((page_of(word), 1)),
+        }
+    }
+    if groups.len() == 1 {
+        return Turn::Release(class, words);
+    }
+    let groups = groups.into_iter().map(|(page, count)| group_word(count, page)).collect();
+    Turn::Groups(class, words, groups)
+}

@@ -1,0 +1,233 @@
+-- The passes of a group release, once its listed blocks are struck. Assumes nothing.
+--     match-asks, fair-asks, settle-asks    what each pass asks follows from the tests before it
+--     mismatch, unfair, settled             the ways out of the passes
+use Prim.Native.Nat.{ℕ, _+_, _≤_, _<_}
+use native.Mathlib.Omega.{arith}
+use mathlib.Core.Bool.{Bool, true, false, cond, _&&_, _||_}
+use mathlib.Core.List.{List, [], _∷_, _++_}
+use mathlib.Core.Path.{_≡_, refl, sym, ap, _∙_}
+use lib.Dec.{eqb, ltb, leb}
+use lib.ListN.{length, drop, length-append}
+use borrow.Author.Tests.{lt-ltb, leb-true, le-leb, eq-eqb, eqb-true, eqb-false, ne-eqb}
+use Rattle.words.specs.Word.{countOf, pageOf}
+use Rattle.classes.specs.declared.Shape.{Shape}
+use Rattle.fields.specs.Field.{Field, arena, class, page, slot, region, off, frontier, state, holes, holePages, held, partial, empty, emptyCount, cold, coldCount, next, prev, free, carved, listed, get, words}
+use Rattle.fields.proofs.Changes.{Changes, changes-none, changes-put}
+use Rattle.model.specs.Lists.{All, every}
+use Rattle.model.proofs.Counts.{by-cases, and-l, and-r}
+use Rattle.arena.specs.Fair.{recordFair, giveFair}
+use Rattle.heap.specs.Release.{pageAt, pageFair, rowFair}
+use Rattle.heap.specs.Chunks.{chunkFits, chunksMatch, returnsAll, runsGiven, pagesGiven, chunksFair, giveRuns}
+use Rattle.release.specs.Fair.{linksFair}
+use Rattle.release.proofs.FairWays.{links-fair}
+use Rattle.tally.specs.Match.{MatchAsks, Matched}
+use Rattle.chunks.specs.Pass.{pushOne, pushAll, givesIn}
+use Rattle.chunks.specs.PushAsks.{wordsOn, PushAllAsks}
+use Rattle.chunks.specs.FairAsks.{ChunksFairAsks}
+use Rattle.chunks.specs.PlaceAsks.{placeFair, PlaceAsks, Placed}
+use Rattle.chunks.specs.GiveAsks.{givesFair, GiveChunksAsks}
+use Rattle.chunks.specs.CallAsks.{placed, settledTo, passes, StruckAsks, SettleAsks, ChunksAnswered}
+use Rattle.chunks.proofs.PushLaws.{push-free, on-here, on-other}
+use Rattle.chunks.proofs.GatherGives.{idle, ofClass, gives-count, gives-in, fates-length, all-changes}
+use Rattle.chunks.proofs.CallTests.{fair-pages, words-on, fits-count, fits-lands, match-apart, match-fits, chunks-below, slots-left, page-there}
+
+-- ---- the blocks back on their stacks: of the words that are tested, only FREE is another
+abbrev stacked : Field → Bool
+stacked f = eqb (region f) 6 || (eqb (region f) 4 && eqb (off f) 4)
+
+on-more : (w : ℕ) (ws : List ℕ) (q : ℕ) → wordsOn ws q ≤ wordsOn (w ∷ ws) q
+on-more w ws q = by-cases (eqb (pageAt w) q) (λ e. omega (arith, on-here w ws q e)) (λ e. omega (arith, on-other w ws q e))
+
+push-stacks : (b : List ℕ) (sh : Shape) (ws : List ℕ) → PushAllAsks b sh ws → Changes stacked b (pushAll b sh ws)
+unfolding pushAll pushOne
+push-stacks b sh [] a = changes-none stacked b
+push-stacks b sh (w ∷ ws) a =
+    let q = pageAt w in
+    let e = on-here w ws q (eq-eqb q q refl) in
+    let a′ : PushAllAsks b sh ws
+    = record { sound = a .sound; there = λ p h. a .there p (omega (arith, on-more w ws p)); slots = λ p h. omega (arith, a .slots p (omega (arith, on-more w ws p)), on-more w ws p) } in
+    let d = pushAll b sh ws in
+    let l : get (pushAll b sh ws) (page free (pageAt w)) < 4096 = rw (push-free b sh ws a′ q) (omega (arith, e, a .slots q (omega (arith, e)))) in
+    changes-put stacked b _ (page free q) _ refl refl (changes-put stacked b d (slot q (get d (page free q))) _ (lt-ltb _ 4096 l) refl (push-stacks b sh ws a′))
+
+eqb-turned : (x y : ℕ) → eqb x y ≡ eqb y x
+eqb-turned x y =
+    by-cases (eqb x y)
+    (λ e. e ∙ sym (eq-eqb y x (sym (eqb-true x y e))))
+    (λ e. e ∙ sym (ne-eqb y x (λ z. eqb-false x y e (sym z))))
+
+every-both : (t u v : ℕ → Bool) → ((g : ℕ) → t g ≡ true → u g ≡ true → v g ≡ true) → (gs : List ℕ) → every t gs ≡ true → every u gs ≡ true → every v gs ≡ true
+every-both t u v k [] e f = refl
+every-both t u v k (g ∷ gs) e f =
+    rw (k g (and-l (t g) (every t gs) e) (and-l (u g) (every u gs) f)) (every-both t u v k gs (and-r (t g) (every t gs) e) (and-r (u g) (every u gs) f))
+
+-- ---- what the passes ask
+module _ (n : ℕ) (b : List ℕ) (c : ℕ) (sh : Shape) (ws gs fs : List ℕ) (a : StruckAsks n b c sh ws gs fs) where
+  pub match-asks : MatchAsks n b ws gs
+  match-asks = record { few = a .call .class .few; long = a .call .class .long; chunks = a .chunks; pages = words-on n b c sh (a .call .single) ws (a .runs) }
+
+  module _ (m : chunksMatch b ws gs ≡ true) where
+    pub fair-asks : ChunksFairAsks n b c sh gs
+    fair-asks = record { class = a .call .class; below = chunks-below n b c sh (a .call .single) ws gs (a .runs) m; chunks = a .chunks; limit = a .call .limits .empties }
+
+    module _ (f : chunksFair n b c sh gs ≡ true) (h : ℕ) where
+      fair-low : get b (arena frontier) ≤ n
+      unfolding chunksFair
+      fair-low = leb-true (get b (arena frontier)) n (and-l (leb (get b (arena frontier)) n) _ f)
+
+      fair-rest : (every (λ g. pageFair b sh (countOf g) (pageOf g)) gs && (rowFair b c && cond (eqb (pagesGiven b c sh gs) 0) true (giveFair n b (pagesGiven b c sh gs)))) ≡ true
+      unfolding chunksFair
+      fair-rest = and-r (leb (get b (arena frontier)) n) _ f
+
+      pages : every (λ g. pageFair b sh (countOf g) (pageOf g)) gs ≡ true
+      pages = fair-pages n b c sh gs f
+
+      fair-row : rowFair b c ≡ true
+      fair-row = and-l (rowFair b c) _ (and-r (every (λ g. pageFair b sh (countOf g) (pageOf g)) gs) _ fair-rest)
+
+      fair-gives : cond (eqb (pagesGiven b c sh gs) 0) true (giveFair n b (pagesGiven b c sh gs)) ≡ true
+      fair-gives = and-r (rowFair b c) _ (and-r (every (λ g. pageFair b sh (countOf g) (pageOf g)) gs) _ fair-rest)
+
+      pushing : PushAllAsks b sh ws
+      pushing = record {
+        sound = a .call .class .sound;
+        there = page-there n b c sh (a .call .single) ws gs (a .runs) m (a .call .class .long);
+        slots = slots-left n b c sh (a .call .single) ws gs (a .runs) m pages (a .call .class .sound .few);
+      }
+
+      stack : Changes stacked b (pushAll b sh ws)
+      stack = push-stacks b sh ws pushing
+
+      hc : ltb c 76 ≡ true
+      hc = lt-ltb c 76 (a .call .class .known)
+
+      row-kept : rowFair (pushAll b sh ws) c ≡ rowFair b c
+      unfolding rowFair
+      row-kept =
+          let k = stack .kept in
+          rw (
+            k (arena frontier) refl refl,
+            k (class partial c) hc refl,
+            k (class empty c) hc refl,
+            k (class emptyCount c) hc refl,
+            k (class cold c) hc refl,
+            k (class coldCount c) hc refl,
+          )
+
+      links-kept : (q : ℕ) → linksFair (pushAll b sh ws) q ≡ linksFair b q
+      links-kept q =
+          let k = stack .kept in
+          rw (k (page listed q) refl refl, k (page next q) refl refl, k (page prev q) refl refl, k (arena frontier) refl refl)
+
+      placing : PlaceAsks (pushAll b sh ws) c sh gs fs
+      placing =
+          let e = stack .kept (arena frontier) refl refl in
+          record {
+            known = a .call .class .known;
+            sound = a .call .class .sound;
+            limits = a .call .limits;
+            few = rw e (omega (arith, fair-low, a .call .class .few));
+            long = rw (e, stack .long) (omega (arith, fair-low, a .call .class .long));
+            row = row-kept ∙ fair-row;
+            pages = every-both (chunkFits b ws) (λ g. pageFair b sh (countOf g) (pageOf g)) (λ g. placeFair (pushAll b sh ws) (pageOf g))
+                (λ g i j. rw (links-kept (pageOf g), e, lt-ltb (pageOf g) (get b (arena frontier)) (fits-lands n b c sh (a .call .single) ws gs (a .runs) m g i .low)) (links-fair b sh (countOf g) (pageOf g) j))
+                gs (match-fits n b c sh (a .call .single) ws gs (a .runs) m) pages;
+            room = a .fates;
+          }
+
+      -- a page has no block out after the passes exactly if its chunk returned all that it had
+      all-idle : (hs : List ℕ) → every (chunkFits b ws) hs ≡ true → All (λ g. idle (pushAll b sh ws) (pageOf g) ≡ returnsAll b g) hs
+      all-idle [] i = tt
+      all-idle (g ∷ hs) i =
+          let q = pageOf g in
+          let t = chunkFits b ws in
+          let k = fits-count n b c sh (a .call .single) ws gs (a .runs) m g (and-l (t g) (every t hs) i) in
+          let e : idle (pushAll b sh ws) (pageOf g) ≡ returnsAll b g
+          = rw (stack .kept (page carved q) refl refl, push-free b sh ws pushing q, k) (eqb-turned (get b (page carved q)) (get b (page free q) + wordsOn ws q)) in
+          (e, all-idle hs (and-r (t g) (every t hs) i))
+
+      book : List ℕ
+      book = placed b c sh h ws gs .book
+
+      fates : List ℕ
+      fates = placed b c sh h ws gs .fates ++ drop (length gs) fs
+
+      moved : Changes ofClass (pushAll b sh ws) (placed b c sh h ws gs .book)
+      moved = all-changes c hc sh (a .call .class .sound) h (pushAll b sh ws) gs
+
+      given-kept : (x : ℕ) → giveFair n (placed b c sh h ws gs .book) x ≡ giveFair n b x
+      unfolding giveFair recordFair
+      given-kept x =
+          let k = moved .kept in
+          let j = stack .kept in
+          rw (
+            k (arena frontier) refl refl ∙ j (arena frontier) refl refl,
+            k (arena state) refl refl ∙ j (arena state) refl refl,
+            k (arena holes) refl refl ∙ j (arena holes) refl refl,
+            k (arena holePages) refl refl ∙ j (arena holePages) refl refl,
+            k (arena held) refl refl ∙ j (arena held) refl refl,
+          )
+
+      runs-are : length (givesIn gs (placed b c sh h ws gs .fates ++ drop (length gs) fs)) ≡ runsGiven b sh gs (get b (class emptyCount c)) (get b (class coldCount c))
+      runs-are =
+          let s = a .call .class .sound in
+          ap length (sym (gives-in c hc sh s h (pushAll b sh ws) gs (drop (length gs) fs)))
+          ∙ gives-count c hc sh s h n b gs (match-apart n b c sh (a .call .single) ws gs (a .runs) m) (pushAll b sh ws) (le-leb (words n) (length (pushAll b sh ws)) (rw (stack .long) (a .call .class .long)))
+          (all-idle gs (match-fits n b c sh (a .call .single) ws gs (a .runs) m))
+          ∙ rw (stack .kept (class emptyCount c) hc refl, stack .kept (class coldCount c) hc refl)
+
+      giving : GiveChunksAsks n (placed b c sh h ws gs .book) sh gs (placed b c sh h ws gs .fates ++ drop (length gs) fs)
+      unfolding givesFair
+      giving = record {
+        few = a .call .class .few;
+        long = omega (arith, moved .long, stack .long, a .call .class .long);
+        single = a .call .single;
+        below = chunks-below n b c sh (a .call .single) ws gs (a .runs) m;
+        fates = omega (arith, length-append (placed b c sh h ws gs .fates) (drop (length gs) fs), fates-length c hc sh (a .call .class .sound) h (pushAll b sh ws) gs);
+        fair = rw (runs-are, given-kept (pagesGiven b c sh gs)) fair-gives;
+      }
+
+      pub settle-asks : SettleAsks n b c sh h ws gs fs
+      settle-asks = record { pushing = pushing; placing = placing; giving = giving }
+
+  -- ---- the ways out of the passes
+  module _ (h : ℕ) (t : Bool) (b′ : List ℕ) (k : Matched t b′ b ws gs) where
+    pub mismatch : t ≡ false → ChunksAnswered 11 b′ fs (passes n b c sh h ws gs fs)
+    unfolding passes
+    mismatch e = rw (sym (k .answer) ∙ e) (record { answer = refl; left = k .left; fates = refl })
+
+    module _ (e : t ≡ true) where
+      matches : chunksMatch b ws gs ≡ true
+      matches = sym (k .answer) ∙ e
+
+      pub fair-next : ChunksFairAsks n b′ c sh gs
+      fair-next = rw (k .left) (fair-asks matches)
+
+      module _ (u : Bool) (j : u ≡ chunksFair n b′ c sh gs) where
+        fairs : chunksFair n b c sh gs ≡ u
+        fairs = rw (← (k .left)) (sym j)
+
+        pub unfair : u ≡ false → ChunksAnswered 13 b′ fs (passes n b c sh h ws gs fs)
+        unfolding passes
+        unfair x = rw (matches, fairs ∙ x) (record { answer = refl; left = k .left; fates = refl })
+
+        pub settle-next : u ≡ true → SettleAsks n b′ c sh h ws gs fs
+        settle-next x = rw (k .left) (settle-asks matches (fairs ∙ x) h)
+
+        pub settled : (b″ fs″ : List ℕ) → u ≡ true → ChunksAnswered 0 b″ fs″ (settledTo (placed b′ c sh h ws gs) sh gs fs) → ChunksAnswered 0 b″ fs″ (passes n b c sh h ws gs fs)
+        unfolding passes
+        settled b″ fs″ x p = rw (matches, fairs ∙ x) (rw (k .left) at p)
+
+-- ---- one pass after the other
+module _ (n : ℕ) (b : List ℕ) (c : ℕ) (sh : Shape) (h : ℕ) (ws gs fs : List ℕ) (a : SettleAsks n b c sh h ws gs fs) (b₁ : List ℕ) (e : b₁ ≡ pushAll b sh ws) where
+  pub place-next : PlaceAsks b₁ c sh gs fs
+  place-next = rw e (a .placing)
+
+  module _ (b₂ fs₂ : List ℕ) (p : Placed b₂ fs₂ b₁ c sh h gs fs) where
+    pub give-next : GiveChunksAsks n b₂ sh gs fs₂
+    give-next = rw (p .left, p .fates, e) (a .giving)
+
+    pub settles : (b₃ : List ℕ) → b₃ ≡ giveRuns b₂ (sh .pages) (givesIn gs fs₂) → ChunksAnswered 0 b₃ fs₂ (settledTo (placed b c sh h ws gs) sh gs fs)
+    settles b₃ x =
+        let z = gives-in c (lt-ltb c 76 (a .placing .known)) sh (a .placing .sound) h (pushAll b sh ws) gs (drop (length gs) fs) in
+        record { answer = refl; left = x ∙ rw (p .left, p .fates, e, ← z); fates = p .fates ∙ rw e }

@@ -1,0 +1,218 @@
+-- Numbers 11 and 13 of a group release on the struck book: no test reads an out bit. And what the tests tell of the pages. Assumes nothing.
+--     match-kept, chunks-fair-kept    the tests are those of the book before
+--     lands                           the first page of a word's run, and of a chunk's, is the page itself, below the frontier
+--     chunks-land                     number 11 passed: the chunks' pages are pages of listed words
+--     slots-left                      number 13 passed: the pages' stacks have room for the listed blocks
+use Prim.Native.Nat.{ℕ, zero, suc, _+_, _≤_, _<_}
+use native.Mathlib.Omega.{arith}
+use mathlib.Core.Bool.{Bool, true, false, not, _&&_, true≢false, false≢true}
+use mathlib.Core.List.{List, [], _∷_, map}
+use mathlib.Core.Path.{_≡_, refl, ap, _∙_}
+use lib.Dec.{eqb, ltb, leb}
+use lib.ListN.{length}
+use borrow.Author.Tests.{ltb-true, lt-ltb, leb-true, eq-eqb, eqb-true, not-true}
+use Rattle.words.specs.Word.{countOf, pageOf}
+use Rattle.classes.specs.declared.Shape.{Shape}
+use Rattle.fields.specs.Field.{arena, class, page, frontier, state, holes, holePages, held, partial, empty, emptyCount, cold, coldCount, next, prev, free, carved, listed, virgin, get, words}
+use Rattle.fields.proofs.Changes.{Changes}
+use Rattle.model.specs.Lists.{every, elem, distinct}
+use Rattle.model.proofs.Counts.{by-cases, and-l, and-r}
+use Rattle.arena.specs.Fair.{recordFair, giveFair}
+use Rattle.pages.specs.Runs.{whole}
+use Rattle.heap.specs.Release.{pageAt, startOf, inRunOf, pageFair, rowFair}
+use Rattle.heap.specs.Chunks.{blocksOn, chunkFits, chunksMatch, returnsAll, runsGiven, pagesGiven, chunksFair}
+use Rattle.release.proofs.Bits.{isBit, every-same, start-kept}
+use Rattle.release.proofs.FairWays.{room-left, carved-low}
+use Rattle.tally.specs.Match.{onPage}
+use Rattle.chunks.specs.PushAsks.{wordsOn}
+
+-- ---- the tests read no out bit
+module _ (b b′ : List ℕ) (h : Changes isBit b b′) where
+  blocks-kept : (ws : List ℕ) (q : ℕ) → blocksOn b′ ws q ≡ blocksOn b ws q
+  unfolding blocksOn
+  blocks-kept [] q = refl
+  blocks-kept (w ∷ ws) q = rw (start-kept b b′ h w, blocks-kept ws q)
+
+  fits-kept : (ws : List ℕ) (g : ℕ) → chunkFits b′ ws g ≡ chunkFits b ws g
+  unfolding chunkFits
+  fits-kept ws g = rw (blocks-kept ws (pageOf g))
+
+  pub match-kept : (ws gs : List ℕ) → chunksMatch b′ ws gs ≡ chunksMatch b ws gs
+  unfolding chunksMatch
+  match-kept ws gs =
+      rw (every-same (chunkFits b′ ws) (chunkFits b ws) gs (fits-kept ws), every-same (λ w. elem (startOf b′ w) (map pageOf gs)) (λ w. elem (startOf b w) (map pageOf gs)) ws (λ w. rw (start-kept b b′ h w)))
+
+  page-kept : (sh : Shape) (m q : ℕ) → pageFair b′ sh m q ≡ pageFair b sh m q
+  unfolding pageFair
+  page-kept sh m q =
+      let k = h .kept in
+      rw (
+        k (arena frontier) refl refl,
+        k (page carved q) refl refl,
+        k (page free q) refl refl,
+        k (page listed q) refl refl,
+        k (page virgin q) refl refl,
+        k (page next q) refl refl,
+        k (page prev q) refl refl,
+      )
+
+  returns-kept : (g : ℕ) → returnsAll b′ g ≡ returnsAll b g
+  returns-kept g = rw (h .kept (page free (pageOf g)) refl refl, h .kept (page carved (pageOf g)) refl refl)
+
+  runs-kept : (sh : Shape) (gs : List ℕ) (e k : ℕ) → runsGiven b′ sh gs e k ≡ runsGiven b sh gs e k
+  unfolding runsGiven
+  runs-kept sh [] e k = refl
+  runs-kept sh (g ∷ gs) e k = rw (returns-kept g, runs-kept sh gs e k, runs-kept sh gs _ _)
+
+  give-kept : (n m : ℕ) → giveFair n b′ m ≡ giveFair n b m
+  unfolding giveFair recordFair
+  give-kept n m =
+      let k = h .kept in
+      rw (k (arena frontier) refl refl, k (arena state) refl refl, k (arena holes) refl refl, k (arena holePages) refl refl, k (arena held) refl refl)
+
+  module _ (c : ℕ) (hc : ltb c 76 ≡ true) where
+    row-kept : rowFair b′ c ≡ rowFair b c
+    unfolding rowFair
+    row-kept =
+        let k = h .kept in
+        rw (
+          k (arena frontier) refl refl,
+          k (class partial c) hc refl,
+          k (class empty c) hc refl,
+          k (class emptyCount c) hc refl,
+          k (class cold c) hc refl,
+          k (class coldCount c) hc refl,
+        )
+
+    given-kept : (sh : Shape) (gs : List ℕ) → pagesGiven b′ c sh gs ≡ pagesGiven b c sh gs
+    given-kept sh gs = rw (h .kept (class emptyCount c) hc refl, h .kept (class coldCount c) hc refl, runs-kept sh gs _ _)
+
+    pub chunks-fair-kept : (n : ℕ) (sh : Shape) (gs : List ℕ) → chunksFair n b′ c sh gs ≡ chunksFair n b c sh gs
+    unfolding chunksFair
+    chunks-fair-kept n sh gs =
+        rw (h .kept (arena frontier) refl refl, every-same (λ g. pageFair b′ sh (countOf g) (pageOf g)) (λ g. pageFair b sh (countOf g) (pageOf g)) gs (λ g. page-kept sh (countOf g) (pageOf g)), row-kept, given-kept sh gs, give-kept n _)
+
+-- ---- the pages' part of number 13
+pub fair-pages : (n : ℕ) (b : List ℕ) (c : ℕ) (sh : Shape) (gs : List ℕ) → chunksFair n b c sh gs ≡ true → every (λ g. pageFair b sh (countOf g) (pageOf g)) gs ≡ true
+unfolding chunksFair
+fair-pages n b c sh gs f = and-l (every (λ g. pageFair b sh (countOf g) (pageOf g)) gs) _ (and-r (leb (get b (arena frontier)) n) _ f)
+
+-- ---- where the listed words are, in a class whose runs are one page
+module _ (n : ℕ) (b : List ℕ) (c : ℕ) (sh : Shape) (one : sh .pages ≡ 1) where
+  module _ (w : ℕ) (r : inRunOf n b sh c w ≡ true) where
+    run-rest : (ltb (pageAt w) (get b (arena frontier)) && (leb (startOf b w) (pageAt w) && (ltb (pageAt w) (startOf b w + sh .pages) && whole n b sh c (startOf b w)))) ≡ true
+    unfolding inRunOf
+    run-rest = and-r (ltb (pageAt w) n) _ r
+
+    run-start : startOf b w ≡ pageAt w
+    run-start =
+        let x = and-r (ltb (pageAt w) (get b (arena frontier))) _ run-rest in
+        let l = leb-true (startOf b w) (pageAt w) (and-l (leb (startOf b w) (pageAt w)) _ x) in
+        let m = ltb-true (pageAt w) (startOf b w + sh .pages) (and-l (ltb (pageAt w) (startOf b w + sh .pages)) (whole n b sh c (startOf b w)) (and-r (leb (startOf b w) (pageAt w)) _ x)) in
+        omega arith
+
+    run-below : pageAt w < n
+    unfolding inRunOf
+    run-below = ltb-true (pageAt w) n (and-l (ltb (pageAt w) n) _ r)
+
+    run-low : pageAt w < get b (arena frontier)
+    run-low = ltb-true (pageAt w) (get b (arena frontier)) (and-l (ltb (pageAt w) (get b (arena frontier))) _ run-rest)
+
+  -- a page of the arena, below the frontier
+  pub record Lands (q : ℕ) : Type 0 where
+    pub below : q < n
+    pub low : q < get b (arena frontier)
+
+  pub words-on : (ws : List ℕ) → every (inRunOf n b sh c) ws ≡ true → every (onPage n b) ws ≡ true
+  unfolding onPage
+  words-on [] r = refl
+  words-on (w ∷ ws) r =
+      let t = inRunOf n b sh c in
+      let u = and-l (t w) (every t ws) r in
+      rw (lt-ltb (pageAt w) n (run-below w u), eq-eqb (startOf b w) (pageAt w) (run-start w u)) (words-on ws (and-r (t w) (every t ws) r))
+
+  pub on-words : (ws : List ℕ) → every (inRunOf n b sh c) ws ≡ true → (q : ℕ) → length (blocksOn b ws q) ≡ wordsOn ws q
+  unfolding blocksOn wordsOn
+  on-words [] r q = refl
+  on-words (w ∷ ws) r q =
+      let t = inRunOf n b sh c in
+      let e = run-start w (and-l (t w) (every t ws) r) in
+      let ih = on-words ws (and-r (t w) (every t ws) r) q in
+      by-cases (eqb (pageAt w) q)
+      (λ d. rw (e, d) (ap suc ih))
+      (λ d. rw (e, d) ih)
+
+  some-lands : (ws : List ℕ) → every (inRunOf n b sh c) ws ≡ true → (q : ℕ) → 1 ≤ wordsOn ws q → Lands q
+  unfolding wordsOn
+  some-lands [] r q h = absurd (omega arith)
+  some-lands (w ∷ ws) r q h =
+      let t = inRunOf n b sh c in
+      let u = and-l (t w) (every t ws) r in
+      by-cases (eqb (pageAt w) q)
+      (λ d. let e = eqb-true (pageAt w) q d in record { below = rw e at (run-below w u); low = rw e at (run-low w u) })
+      (λ d. some-lands ws (and-r (t w) (every t ws) r) q (rw d at h))
+
+  some-chunk : (ws : List ℕ) → every (inRunOf n b sh c) ws ≡ true → (qs : List ℕ) → every (λ w. elem (startOf b w) qs) ws ≡ true → (q : ℕ) → 1 ≤ wordsOn ws q → elem q qs ≡ true
+  unfolding wordsOn
+  some-chunk [] r qs e q h = absurd (omega arith)
+  some-chunk (w ∷ ws) r qs e q h =
+      let t = inRunOf n b sh c in
+      let u : ℕ → Bool = λ w. elem (startOf b w) qs in
+      by-cases (eqb (pageAt w) q)
+      (λ d. rw (run-start w (and-l (t w) (every t ws) r), eqb-true (pageAt w) q d) at (and-l (u w) (every u ws) e))
+      (λ d. some-chunk ws (and-r (t w) (every t ws) r) qs (and-r (u w) (every u ws) e) q (rw d at h))
+
+  -- ---- numbers 11 and 13 have passed
+  module _ (ws gs : List ℕ) (r : every (inRunOf n b sh c) ws ≡ true) (m : chunksMatch b ws gs ≡ true) where
+    pub match-apart : distinct (map pageOf gs) ≡ true
+    unfolding chunksMatch
+    match-apart = and-l (distinct (map pageOf gs)) (every (chunkFits b ws) gs && every (λ w. elem (startOf b w) (map pageOf gs)) ws) m
+
+    match-rest : (every (chunkFits b ws) gs && every (λ w. elem (startOf b w) (map pageOf gs)) ws) ≡ true
+    unfolding chunksMatch
+    match-rest = and-r (distinct (map pageOf gs)) (every (chunkFits b ws) gs && every (λ w. elem (startOf b w) (map pageOf gs)) ws) m
+
+    pub match-fits : every (chunkFits b ws) gs ≡ true
+    match-fits = and-l (every (chunkFits b ws) gs) (every (λ w. elem (startOf b w) (map pageOf gs)) ws) match-rest
+
+    pub fits-count : (g : ℕ) → chunkFits b ws g ≡ true → countOf g ≡ wordsOn ws (pageOf g)
+    unfolding chunkFits
+    fits-count g f = eqb-true (countOf g) (length (blocksOn b ws (pageOf g))) (and-r (not (eqb (countOf g) 0)) _ f) ∙ on-words ws r (pageOf g)
+
+    pub fits-lands : (g : ℕ) → chunkFits b ws g ≡ true → Lands (pageOf g)
+    unfolding chunkFits
+    fits-lands g f =
+        let z = not-true (eqb (countOf g) 0) (and-l (not (eqb (countOf g) 0)) (eqb (countOf g) (length (blocksOn b ws (pageOf g)))) f) in
+        some-lands ws r (pageOf g) (some (countOf g) (wordsOn ws (pageOf g)) z (fits-count g f))
+      where
+        some : (x y : ℕ) → eqb x 0 ≡ false → x ≡ y → 1 ≤ y
+        some zero y z e = absurd (true≢false z)
+        some (suc x) y z e = omega arith
+
+    -- what holds of every chunk that fits
+    every-fits : (t : ℕ → Bool) → ((g : ℕ) → chunkFits b ws g ≡ true → t g ≡ true) → (hs : List ℕ) → every (chunkFits b ws) hs ≡ true → every t hs ≡ true
+    every-fits t k [] e = refl
+    every-fits t k (g ∷ hs) e = rw (k g (and-l (chunkFits b ws g) (every (chunkFits b ws) hs) e)) (every-fits t k hs (and-r (chunkFits b ws g) (every (chunkFits b ws) hs) e))
+
+    pub chunks-below : every (λ g. ltb (pageOf g) n) gs ≡ true
+    chunks-below = every-fits (λ g. ltb (pageOf g) n) (λ g f. lt-ltb (pageOf g) n (fits-lands g f .below)) gs match-fits
+
+    module _ (f : every (λ g. pageFair b sh (countOf g) (pageOf g)) gs ≡ true) (few : sh .capacity ≤ 4096) where
+      room-at : (q : ℕ) (hs : List ℕ) → elem q (map pageOf hs) ≡ true → every (chunkFits b ws) hs ≡ true → every (λ g. pageFair b sh (countOf g) (pageOf g)) hs ≡ true
+          → get b (page free q) + wordsOn ws q ≤ 4096
+      room-at q [] e i j = absurd (false≢true e)
+      room-at q (g ∷ hs) e i j =
+          let t = chunkFits b ws in
+          let u : ℕ → Bool = λ g. pageFair b sh (countOf g) (pageOf g) in
+          by-cases (eqb q (pageOf g))
+          (λ d.
+          let p = pageOf g in
+          let k = and-l (u g) (every u hs) j in
+          rw (eqb-true q p d) (omega (arith, fits-count g (and-l (t g) (every t hs) i), room-left b sh (countOf g) p k, carved-low b sh (countOf g) p k)))
+          (λ d. room-at q hs (rw d at e) (and-r (t g) (every t hs) i) (and-r (u g) (every u hs) j))
+
+      pub slots-left : (q : ℕ) → 1 ≤ wordsOn ws q → get b (page free q) + wordsOn ws q ≤ 4096
+      slots-left q h = room-at q gs (some-chunk ws r (map pageOf gs) (and-r (every (chunkFits b ws) gs) (every (λ w. elem (startOf b w) (map pageOf gs)) ws) match-rest) q h) match-fits f
+
+    pub page-there : words n ≤ length b → (q : ℕ) → 1 ≤ wordsOn ws q → words (q + 1) ≤ length b
+    page-there l q h = omega (arith, some-lands ws r q h .below)

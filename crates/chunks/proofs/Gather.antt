@@ -1,0 +1,223 @@
+-- A group release in passes ends as the definition says (heap, specs/Chunks): the struck blocks back on their stacks, then the pages
+-- placed in the chunks' order, is the chunks settled one after the other. Of a class whose runs are one page. Assumes nothing.
+--     page-start     a word that is out is on the page that its run begins at
+--     strikes        all struck: their out bits are 0
+--     settle-as      settling, with each page's stack height and blocks as they were before the first chunk
+--     placed-as      the passes come to the same
+--     gathered       the passes on the struck book settle the chunks
+use Prim.Native.Nat.{ℕ, _+_, _≤_, _<_}
+use native.Mathlib.Omega.{arith}
+use mathlib.Core.Bool.{Bool, true, false, not, _&&_, true≢false}
+use mathlib.Core.List.{List, [], _∷_, _++_, map}
+use mathlib.Core.Path.{_≡_, refl, sym, ap, _∙_}
+use lib.Dec.{eqb, ltb, leb}
+use lib.ListN.{length, length-map}
+use borrow.Author.Tests.{lt-ltb, ltb-true, leb-true, eq-eqb, eqb-true, eqb-false, ne-eqb, not-true}
+use Rattle.words.specs.Word.{countOf, pageOf}
+use Rattle.classes.specs.declared.Shape.{Shape}
+use Rattle.classes.specs.Sound.{Sound}
+use Rattle.fields.specs.Field.{arena, page, slot, out, frontier, first, free, virgin, get, put, words}
+use Rattle.fields.proofs.Laws.{put-comm}
+use Rattle.fields.proofs.Changes.{Changes, changes-trans}
+use Rattle.model.specs.Lists.{All, every, elem, distinct}
+use Rattle.model.proofs.Counts.{by-cases, and-l, and-r}
+use Rattle.pages.specs.Runs.{whole}
+use Rattle.pages.specs.Stack.{marks, push, back, indexOf}
+use Rattle.pages.proofs.Downs.{small}
+use Rattle.heap.specs.Release.{pageAt, startOf, inRunOf, outAt, pageFair}
+use Rattle.heap.specs.Chunks.{blocksOn, chunkFits, chunksMatch, chunkBackAt, givesOf, Settled, settleChunks}
+use Rattle.release.specs.Strike.{bitOf, struckCount, struck}
+use Rattle.release.proofs.Bits.{every-same}
+use Rattle.release.proofs.StrikeLaws.{run-of-out, index-of-out, page-of-out}
+use Rattle.release.proofs.FairWays.{room-left, carved-low}
+use Rattle.chunks.specs.Pass.{pushAll, placeAt, placeAll}
+use Rattle.chunks.proofs.GatherPlace.{stirs, onBook, place-past, place-changes}
+use Rattle.chunks.proofs.GatherPush.{cleared, laid, laidAll, blocksOf, Fits, laid-changes, onPages, pushes}
+
+-- ---- the words that are out
+module _ (n c : ℕ) (sh : Shape) (s : Sound sh) (one : sh .pages ≡ 1) where
+  pub page-start : (b : List ℕ) (w : ℕ) → outAt n b c sh w ≡ true → startOf b w ≡ pageAt w
+  unfolding inRunOf
+  page-start b w o =
+      let p = pageAt w in
+      let r = and-r (ltb p (get b (arena frontier))) _ (and-r (ltb p n) _ (run-of-out n c sh s b w o)) in
+      let l = leb-true (startOf b w) p (and-l (leb (startOf b w) p) _ r) in
+      let m = ltb-true p (startOf b w + sh .pages) (and-l (ltb p (startOf b w + sh .pages)) (whole n b sh c (startOf b w)) (and-r (leb (startOf b w) p) _ r)) in
+      omega arith
+
+  pub strikes : (b : List ℕ) (ws : List ℕ) → struckCount n b c sh ws ≡ length ws → struck n b c sh ws ≡ cleared b sh ws
+  unfolding struckCount struck cleared
+  strikes b [] l = refl
+  strikes b (w ∷ ws) l = by (outAt n b c sh w) refl (strikes (put b (bitOf b sh w) 0) ws)
+    where
+      by : (t : Bool) → outAt n b c sh w ≡ t → (struckCount n (put b (bitOf b sh w) 0) c sh ws ≡ length ws → struck n (put b (bitOf b sh w) 0) c sh ws ≡ cleared (put b (bitOf b sh w) 0) sh ws)
+          → struck n b c sh (w ∷ ws) ≡ cleared b sh (w ∷ ws)
+      by true o z = rw o (z (omega (arith, rw o at l)) ∙ rw (page-start b w o))
+      by false o z = absurd (omega (arith, rw o at l))
+
+  -- each on its page, within the book, with a chunk
+  pub all-start : (b : List ℕ) (ws : List ℕ) → every (outAt n b c sh) ws ≡ true → every (λ w. eqb (startOf b w) (pageAt w)) ws ≡ true
+  all-start b [] o = refl
+  all-start b (w ∷ ws) o =
+      let z = page-start b w (and-l (outAt n b c sh w) (every (outAt n b c sh) ws) o) in
+      rw (eq-eqb (startOf b w) (pageAt w) z) (all-start b ws (and-r (outAt n b c sh w) (every (outAt n b c sh) ws) o))
+
+  all-on-pages : (b : List ℕ) (qs ws : List ℕ) → every (outAt n b c sh) ws ≡ true → every (λ w. elem (startOf b w) qs) ws ≡ true → every (onPages n sh qs) ws ≡ true
+  all-on-pages b qs [] o e = refl
+  all-on-pages b qs (w ∷ ws) o e =
+      let u = and-l (outAt n b c sh w) (every (outAt n b c sh) ws) o in
+      let z = page-start b w u in
+      let i : indexOf sh (pageAt w) w < 4096 = rw z at (index-of-out n c sh s b w u) in
+      let x : elem (pageAt w) qs ≡ true = rw z at (and-l (elem (startOf b w) qs) (every (λ w. elem (startOf b w) qs) ws) e) in
+      rw (lt-ltb (pageAt w) n (page-of-out n c sh s b w u), lt-ltb (indexOf sh (pageAt w) w) 4096 i, x)
+      (all-on-pages b qs ws (and-r (outAt n b c sh w) (every (outAt n b c sh) ws) o) (and-r (elem (startOf b w) qs) (every (λ w. elem (startOf b w) qs) ws) e))
+
+-- ---- a page's blocks
+low-blocks : (n : ℕ) (sh : Shape) (qs ws : List ℕ) (q : ℕ) → every (onPages n sh qs) ws ≡ true → every small (blocksOf sh ws q) ≡ true
+unfolding blocksOf
+low-blocks n sh qs [] q o = refl
+low-blocks n sh qs (w ∷ ws) q o =
+    let u = onPages n sh qs in
+    let ih = low-blocks n sh qs ws q (and-r (u w) (every u ws) o) in
+    let i : small (indexOf sh (pageAt w) w) ≡ true
+    = and-l (small (indexOf sh (pageAt w) w)) (elem (pageAt w) qs) (and-r (ltb (pageAt w) n) (small (indexOf sh (pageAt w) w) && elem (pageAt w) qs) (and-l (u w) (every u ws) o)) in
+    by-cases (eqb (pageAt w) q)
+    (λ e. let j : small (indexOf sh q w) ≡ true = rw (eqb-true (pageAt w) q e) at i in rw (e, j) ih)
+    (λ e. rw e ih)
+
+abbrev starts : List ℕ → List ℕ → Bool
+starts b ws = every (λ w. eqb (startOf b w) (pageAt w)) ws
+
+pub blocks-on : (sh : Shape) (b ws : List ℕ) (q : ℕ) → starts b ws ≡ true → map (indexOf sh q) (blocksOn b ws q) ≡ blocksOf sh ws q
+unfolding blocksOn blocksOf
+blocks-on sh b [] q e = refl
+blocks-on sh b (w ∷ ws) q e =
+    let z = eqb-true (startOf b w) (pageAt w) (and-l (eqb (startOf b w) (pageAt w)) (starts b ws) e) in
+    let ih = blocks-on sh b ws q (and-r (eqb (startOf b w) (pageAt w)) (starts b ws) e) in
+    by-cases (eqb (pageAt w) q)
+    (λ d. rw (z, d, ih))
+    (λ d. rw (z, d, ih))
+
+-- ---- one chunk: its blocks, then its page
+chunk-back : (b : List ℕ) (c : ℕ) (sh : Shape) (h q : ℕ) (is : List ℕ) → chunkBackAt b c sh h q is ≡ placeAt (laid b q (get b (page free q)) is) c sh h q
+unfolding chunkBackAt placeAt back laid
+chunk-back b c sh h q is =
+    let m = get b (page free q) in
+    rw (put-comm (push (marks b q 0 is) q m is) (page virgin q) (page free q) 0 (m + length is) refl refl refl)
+
+module _ (c : ℕ) (sh : Shape) (h : ℕ) (hc : ltb c 76 ≡ true) (few : sh .capacity ≤ 4096) where
+  -- ---- blocks of other pages may as well come back after it
+  module _ (q p : ℕ) (d : eqb p q ≡ false) where
+    place-marks : (is : List ℕ) → every small is ≡ true → (b : List ℕ) → placeAt (marks b p 0 is) c sh h q ≡ onBook (λ x. marks x p 0 is) (placeAt b c sh h q)
+    place-marks [] l b = refl
+    place-marks (i ∷ is) l b =
+        rw (place-past c q hc (out p i) 0 (and-l (small i) (every small is) l) (rw d) sh few (marks b p 0 is) h, place-marks is (and-r (small i) (every small is) l) b)
+
+    place-push : (m : ℕ) (is : List ℕ) → m + length is ≤ 4096 → (b : List ℕ) → placeAt (push b p m is) c sh h q ≡ onBook (λ x. push x p m is) (placeAt b c sh h q)
+    place-push m [] l b = refl
+    place-push m (i ∷ is) l b =
+        rw (place-past c q hc (slot p (m + length is)) i (lt-ltb (m + length is) 4096 (omega arith)) (rw d) sh few (push b p m is) h, place-push m is (omega arith) b)
+
+    place-laid : (m : ℕ) (is : List ℕ) → m + length is ≤ 4096 → every small is ≡ true → (b : List ℕ) → placeAt (laid b p m is) c sh h q ≡ onBook (λ x. laid x p m is) (placeAt b c sh h q)
+    unfolding laid
+    place-laid m is l low b =
+        rw (place-past c q hc (page free p) (m + length is) refl (rw d) sh few (push (marks b p 0 is) p m is) h, place-push m is l (marks b p 0 is), place-marks is low b)
+
+  module _ (k : ℕ → ℕ) (f : ℕ → List ℕ) where
+    place-lays : (q : ℕ) (ps : List ℕ) → elem q ps ≡ false → All (Fits k f) ps → (b : List ℕ) → placeAt (laidAll b k f ps) c sh h q ≡ onBook (λ x. laidAll x k f ps) (placeAt b c sh h q)
+    unfolding laidAll
+    place-lays q [] e a b = refl
+    place-lays q (p ∷ ps) e a b =
+        by-cases (eqb q p)
+        (λ d. absurd (true≢false (rw d at e)))
+        (λ d.
+        let x : eqb p q ≡ false = ne-eqb p q (λ z. eqb-false q p d (sym z)) in
+        rw (place-lays q ps (rw d at e) (a .1) (laid b p (k p) (f p)), place-laid q p x (k p) (f p) (a .0 .room) (a .0 .low) b))
+
+    -- ---- all chunks
+    settleAs : List ℕ → List ℕ → Settled
+    settleAs b [] = record { book = b; fates = []; gives = [] }
+    settleAs b (g ∷ gs) =
+        let r = placeAt (laid b (pageOf g) (k (pageOf g)) (f (pageOf g))) c sh h (pageOf g) in
+        let s = settleAs (r .book) gs in
+        record { book = s .book; fates = r .fate ∷ s .fates; gives = givesOf (pageOf g) (r .fate) ++ s .gives }
+
+    placed-as : (gs : List ℕ) → distinct (map pageOf gs) ≡ true → All (Fits k f) (map pageOf gs) → (b : List ℕ) → placeAll (laidAll b k f (map pageOf gs)) c sh h gs ≡ settleAs b gs
+    unfolding placeAll laidAll settleAs
+    placed-as [] u a b = refl
+    placed-as (g ∷ gs) u a b =
+        let q = pageOf g in
+        let e = not-true (elem q (map pageOf gs)) (and-l (not (elem q (map pageOf gs))) (distinct (map pageOf gs)) u) in
+        let d = laid b q (k q) (f q) in
+        rw (place-lays q (map pageOf gs) e (a .1) d, placed-as gs (and-r (not (elem q (map pageOf gs))) (distinct (map pageOf gs)) u) (a .1) (placeAt d c sh h q .book))
+
+  -- ---- what placing one page leaves to the others
+  module _ (q : ℕ) (b b′ : List ℕ) (z : Changes (stirs q) b b′) where
+    starts-kept : (ws : List ℕ) → starts b ws ≡ true → starts b′ ws ≡ true
+    unfolding startOf
+    starts-kept ws e = every-same _ _ ws (λ w. rw (z .kept (page first (pageAt w)) refl refl)) ∙ e
+
+    frees-kept : (k : ℕ → ℕ) (ps : List ℕ) → elem q ps ≡ false → All (λ p. get b (page free p) ≡ k p) ps → All (λ p. get b′ (page free p) ≡ k p) ps
+    frees-kept k [] e a = tt
+    frees-kept k (p ∷ ps) e a =
+        by-cases (eqb q p)
+        (λ d. absurd (true≢false (rw d at e)))
+        (λ d.
+        let x : eqb p q ≡ false = ne-eqb p q (λ z. eqb-false q p d (sym z)) in
+        (z .kept (page free p) refl (rw x) ∙ a .0, frees-kept k ps (rw d at e) (a .1)))
+
+  module _ (k : ℕ → ℕ) (ws : List ℕ) where
+    settle-as : (gs : List ℕ) → distinct (map pageOf gs) ≡ true → All (Fits k (blocksOf sh ws)) (map pageOf gs) → (b : List ℕ) → starts b ws ≡ true → All (λ q. get b (page free q) ≡ k q) (map pageOf gs)
+        → settleChunks b c sh h ws gs ≡ settleAs k (blocksOf sh ws) b gs
+    unfolding settleChunks settleAs
+    settle-as [] u a b e l = refl
+    settle-as (g ∷ gs) u a b e l =
+        let q = pageOf g in
+        let qs = map pageOf gs in
+        let is = blocksOf sh ws q in
+        let new = not-true (elem q qs) (and-l (not (elem q qs)) (distinct qs) u) in
+        let d = laid b q (k q) is in
+        let r : chunkBackAt b c sh h (pageOf g) (map (indexOf sh (pageOf g)) (blocksOn b ws (pageOf g))) ≡ placeAt (laid b (pageOf g) (k (pageOf g)) (blocksOf sh ws (pageOf g))) c sh h (pageOf g)
+        = ap (chunkBackAt b c sh h q) (blocks-on sh b ws q e) ∙ chunk-back b c sh h q is ∙ ap (λ m. placeAt (laid b q m is) c sh h q) (l .0) in
+        let z = changes-trans (stirs q) b d _ (laid-changes q (k q) is (a .0 .room) (a .0 .low) b) (place-changes c q hc sh few h d) in
+        let b′ = placeAt d c sh h q .book in
+        rw (r, settle-as gs (and-r (not (elem q qs)) (distinct qs) u) (a .1) b′ (starts-kept q b b′ z ws e) (frees-kept q b b′ z k qs new (l .1)))
+
+-- ---- the whole
+module _ (n : ℕ) (b : List ℕ) (c : ℕ) (sh : Shape) (ws : List ℕ) (s : Sound sh) (one : sh .pages ≡ 1) (hb : leb (words n) (length b) ≡ true) (outs : every (outAt n b c sh) ws ≡ true) where
+  length-on : (q : ℕ) → length (blocksOf sh ws q) ≡ length (blocksOn b ws q)
+  length-on q = ap length (sym (blocks-on sh b ws q (all-start n c sh s one b ws outs))) ∙ length-map (blocksOn b ws q) (indexOf sh q)
+
+  chunk-fits : (qs : List ℕ) (g : ℕ) → every (onPages n sh qs) ws ≡ true → chunkFits b ws g ≡ true → pageFair b sh (countOf g) (pageOf g) ≡ true → Fits (λ q. get b (page free q)) (blocksOf sh ws) (pageOf g)
+  unfolding chunkFits
+  chunk-fits qs g o m f =
+      let q = pageOf g in
+      let k = eqb-true (countOf g) (length (blocksOn b ws q)) (and-r (not (eqb (countOf g) 0)) (eqb (countOf g) (length (blocksOn b ws q))) m) in
+      record { room = omega (arith, k, length-on q, room-left b sh (countOf g) q f, carved-low b sh (countOf g) q f, s .few); low = low-blocks n sh qs ws q o }
+
+  pub chunks-fit : (qs gs : List ℕ) → every (onPages n sh qs) ws ≡ true → every (chunkFits b ws) gs ≡ true → every (λ g. pageFair b sh (countOf g) (pageOf g)) gs ≡ true
+      → All (Fits (λ q. get b (page free q)) (blocksOf sh ws)) (map pageOf gs)
+  chunks-fit qs [] o m f = tt
+  chunks-fit qs (g ∷ gs) o m f =
+      let t = chunkFits b ws in
+      let u : ℕ → Bool = λ g. pageFair b sh (countOf g) (pageOf g) in
+      (chunk-fits qs g o (and-l (t g) (every t gs) m) (and-l (u g) (every u gs) f), chunks-fit qs gs o (and-r (t g) (every t gs) m) (and-r (u g) (every u gs) f))
+
+  all-free : (qs : List ℕ) → All (λ q. get b (page free q) ≡ get b (page free q)) qs
+  all-free [] = tt
+  all-free (q ∷ qs) = (refl, all-free qs)
+
+  pub gathered : (h : ℕ) (gs : List ℕ) → ltb c 76 ≡ true → struckCount n b c sh ws ≡ length ws → chunksMatch b ws gs ≡ true → every (λ g. pageFair b sh (countOf g) (pageOf g)) gs ≡ true
+      → placeAll (pushAll (struck n b c sh ws) sh ws) c sh h gs ≡ settleChunks b c sh h ws gs
+  unfolding chunksMatch
+  gathered h gs hc k m f =
+      let qs = map pageOf gs in
+      let fits = every (chunkFits b ws) gs in
+      let chunked = every (λ w. elem (startOf b w) qs) ws in
+      let u = and-l (distinct qs) (fits && chunked) m in
+      let o = all-on-pages n c sh s one b qs ws outs (and-r fits chunked (and-r (distinct qs) (fits && chunked) m)) in
+      let a = chunks-fit qs gs o (and-l fits chunked (and-r (distinct qs) (fits && chunked) m)) f in
+      let height : ℕ → ℕ = λ q. get b (page free q) in
+      ap (λ d. placeAll d c sh h gs) (ap (λ d. pushAll d sh ws) (strikes n c sh s one b ws k) ∙ pushes sh n height qs u ws o a b hb (λ q. refl))
+      ∙ placed-as c sh h hc (s .few) height (blocksOf sh ws) gs u a b
+      ∙ sym (settle-as c sh h hc (s .few) height ws gs u a b (all-start n c sh s one b ws outs) (all-free qs))

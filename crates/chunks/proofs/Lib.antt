@@ -1,0 +1,12 @@
+pub mod GatherPlace
+pub mod GatherPush
+pub mod Gather
+pub mod GatherGives
+pub mod PushLaws
+pub mod GiveLaws
+pub mod FairWays
+pub mod PlaceKept
+pub mod PlaceSteps
+pub mod CallTests
+pub mod CallPasses
+pub mod CallWays

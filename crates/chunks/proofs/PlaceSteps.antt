@@ -1,0 +1,163 @@
+-- Placing one chunk's page, and the loop over the chunks. Assumes nothing.
+use Prim.Native.Nat.{ℕ, zero, suc, _+_, _-_, _≤_, _<_}
+use native.Mathlib.Omega.{arith}
+use native.Mathlib.Numerals.{add-one}
+use mir.Val.{Fits}
+use mir.Syntax.{w32}
+use mathlib.Core.Bool.{Bool, true, false, cond}
+use mathlib.Core.List.{List, [], _∷_, _++_, append-assoc}
+use mathlib.Core.Path.{_≡_, refl, sym, ap, _∙_}
+use lib.Dec.{ltb, leb}
+use lib.ListN.{length, getD, set, take, drop, length-set, take-append-drop}
+use lib.Seq.{drop-cons, drop-length, take-suc-set, drop-set-lt}
+use borrow.Author.Tests.{leb-true, lt-ltb, ltb-true, eq-eqb, ne-eqb}
+use Rattle.words.specs.Word.{pageOf}
+use Rattle.classes.specs.declared.Shape.{Shape}
+use Rattle.classes.specs.Sizes.{smallSizes, mediumSizes}
+use Rattle.classes.specs.Shape.{smallShape, mediumShape, shapeOf}
+use Rattle.fields.specs.Field.{arena, page, frontier, free, carved, virgin, words, get, put}
+use Rattle.fields.proofs.Laws.{and-left, and-right}
+use Rattle.model.specs.Lists.{every}
+use Rattle.model.specs.Page.{isMedium}
+use Rattle.model.specs.Release.{coldFate}
+use Rattle.pages.specs.Asks.{LinkAsks}
+use Rattle.heap.specs.Release.{relisted, unlisted, spotAt, parkAs, parkAt}
+use Rattle.heap.specs.Chunks.{emptied}
+use Rattle.release.specs.Fair.{linksFair}
+use Rattle.release.specs.Act.{ParkingAsks, Parked}
+use Rattle.chunks.specs.Pass.{placeAt, placeAll}
+use Rattle.chunks.specs.PlaceAsks.{Limits, placeFair, PlaceAsks, Placed}
+use Rattle.chunks.proofs.PlaceKept.{Steady, row-out, ties-out, steady-none, virgin-steady, emptied-steady, placed-steady, asks-kept}
+
+pub retired : (b b₁ b₂ : List ℕ) (q : ℕ) → b₁ ≡ put b (page carved q) 0 → b₂ ≡ put b₁ (page free q) 0 → b₂ ≡ emptied b q
+unfolding emptied
+retired b b₁ b₂ q e k = k ∙ rw e
+
+-- ---- one page
+cold-fate-low : (sh : Shape) → coldFate sh ≤ 2
+cold-fate-low sh = by (isMedium sh)
+  where
+    by : (t : Bool) → cond t 0 1 ≤ 2
+    by true = omega arith
+    by false = omega arith
+
+as-low : (b : List ℕ) (c : ℕ) (sh : Shape) (h q t : ℕ) → parkAs b c sh h q t .fate ≤ 2
+as-low b c sh h q zero = omega arith
+as-low b c sh h q (suc zero) = cold-fate-low sh
+as-low b c sh h q (suc (suc t)) = omega arith
+
+module _ (b : List ℕ) (c : ℕ) (sh : Shape) (h q : ℕ) where
+  fate-low : parkAt b c sh h q .fate ≤ 2
+  unfolding parkAt
+  fate-low = as-low (unlisted b c q) c sh h q (spotAt b c sh)
+
+  pub fate-fits : (m r : ℕ) (b′ : List ℕ) → leb m 4 ≡ true → Parked r b′ (parkAt b c sh h q) → Fits w32 (m + r)
+  fate-fits m r b′ l p = record { fits = omega (arith, leb-true m 4 l, p .fate, fate-low) }
+
+module _ (b : List ℕ) (c : ℕ) (sh : Shape) (h q : ℕ) (b₁ : List ℕ) (e : b₁ ≡ put b (page virgin q) 0) where
+  virgin-asks : ParkingAsks b c sh q → ParkingAsks b₁ c sh q
+  virgin-asks a =
+      let hc = lt-ltb c 76 (a .known) in
+      rw e (asks-kept b c sh q a _ (virgin-steady b c hc b (steady-none b c hc (row-out b c (a .row))) q))
+
+  pub place-asks : ParkingAsks b c sh q → (b₂ : List ℕ) → b₂ ≡ emptied b₁ q → ParkingAsks b₂ c sh q
+  place-asks a b₂ k =
+      let hc = lt-ltb c 76 (a .known) in
+      let a₁ = virgin-asks a in
+      rw k (asks-kept b₁ c sh q a₁ _ (emptied-steady b₁ c hc b₁ (steady-none b₁ c hc (row-out b₁ c (a₁ .row))) q))
+
+  pub head-asks : ParkingAsks b c sh q → LinkAsks b₁ c q
+  head-asks a =
+      let a₁ = virgin-asks a in
+      record { known = a .known; below = a .below; there = a₁ .there; head = omega (arith, a₁ .low, row-out b₁ c (a₁ .row) .head) }
+
+  module _ (x y : ℕ) (j : x ≡ get b₁ (page carved q)) (k : y ≡ get b₁ (page free q)) where
+    pub goes-retired : (b₂ b₃ : List ℕ) (r : ℕ) → x ≡ y → b₂ ≡ emptied b₁ q → Parked r b₃ (parkAt b₂ c sh h q) → Parked (4 + r) b₃ (placeAt b c sh h q)
+    unfolding placeAt
+    goes-retired b₂ b₃ r z l p = rw (← e, ← j, ← k, eq-eqb x y z, ← l) (record { fate = ap (λ f. 4 + f) (p .fate); left = p .left })
+
+    pub goes-partial : (b₂ : List ℕ) → (x ≡ y → ⊥) → b₂ ≡ relisted b₁ c q → Parked 0 b₂ (placeAt b c sh h q)
+    unfolding placeAt
+    goes-partial b₂ z p = rw (← e, ← j, ← k, ne-eqb x y z) (record { fate = refl; left = p })
+
+-- ---- the loop: what is left to place from here comes to what was asked at the start, and the fates before place i stand
+pub record PlaceInv (b : List ℕ) (c : ℕ) (sh : Shape) (h : ℕ) (gs fs b′ fs′ : List ℕ) (i : ℕ) : Type 0 where
+  pub within : i ≤ length gs
+  pub size : length fs′ ≡ length fs
+  pub steady : Steady b c b′
+  pub left : placeAll b′ c sh h (drop i gs) .book ≡ placeAll b c sh h gs .book
+  pub fates : take i fs′ ++ (placeAll b′ c sh h (drop i gs) .fates ++ drop (length gs) fs′) ≡ placeAll b c sh h gs .fates ++ drop (length gs) fs
+
+module _ (c : ℕ) (sh : Shape) (h : ℕ) (b′ b″ xs ys : List ℕ) (g q r : ℕ) (d : xs ≡ g ∷ ys) (e : q ≡ pageOf g) (p : Parked r b″ (placeAt b′ c sh h q)) where
+  next-book : placeAll b′ c sh h xs .book ≡ placeAll b″ c sh h ys .book
+  unfolding placeAll
+  next-book =
+      let z : placeAt b′ c sh h (pageOf g) .book ≡ b″ = rw (← e) (sym (p .left)) in
+      rw d (ap (λ x. placeAll x c sh h ys .book) z)
+
+  next-fates : placeAll b′ c sh h xs .fates ≡ r ∷ placeAll b″ c sh h ys .fates
+  unfolding placeAll
+  next-fates = rw (d, ← e, ← (p .left), ← (p .fate))
+
+one-more : (fs xs ys zs : List ℕ) (n i r : ℕ) → i < n → n ≤ length fs → xs ≡ r ∷ ys → take i fs ++ (xs ++ drop n fs) ≡ zs → take (i + 1) (set fs i r) ++ (ys ++ drop n (set fs i r)) ≡ zs
+one-more fs xs ys zs n i r l m e h =
+    rw (add-one i, take-suc-set fs i r (omega arith), drop-set-lt n fs i r l, append-assoc) (rw e at h)
+
+every-at : (P : ℕ → Bool) (xs : List ℕ) (i : ℕ) → i < length xs → every P xs ≡ true → P (getD xs i 0) ≡ true
+every-at P [] i l e = absurd (omega arith)
+every-at P (x ∷ xs) zero l e = and-left _ _ e
+every-at P (x ∷ xs) (suc i) l e = every-at P xs i (omega arith) (and-right (P x) _ e)
+
+module _ (b : List ℕ) (c : ℕ) (sh : Shape) (h : ℕ) (gs fs : List ℕ) (a : PlaceAsks b c sh gs fs) where
+  pub place-starts : PlaceInv b c sh h gs fs b fs 0
+  place-starts = record { within = omega arith; size = refl; steady = steady-none b c (lt-ltb c 76 (a .known)) (row-out b c (a .row)); left = refl; fates = refl }
+
+  module _ (b′ fs′ : List ℕ) (i : ℕ) (v : PlaceInv b c sh h gs fs b′ fs′ i) (l : i < length gs) (q : ℕ) (e : q ≡ pageOf (getD gs i 0)) where
+    fair : placeFair b q ≡ true
+    fair = rw e (every-at (λ g. placeFair b (pageOf g)) gs i l (a .pages))
+
+    low : q < get b (arena frontier)
+    low = ltb-true q (get b (arena frontier)) (and-left _ _ fair)
+
+    links : linksFair b q ≡ true
+    links = and-right (ltb q (get b (arena frontier))) _ fair
+
+    there : words (q + 1) ≤ length b
+    there = omega (arith, low, a .long)
+
+    pub turn-asks : ParkingAsks b′ c sh q
+    turn-asks =
+        asks-kept b c sh q
+        (record { known = a .known; sound = a .sound; below = omega (arith, low, a .few); there = there; low = a .long; links = links; row = a .row })
+        b′
+        (v .steady)
+
+    pub fate-place : i < length fs′
+    fate-place = omega (arith, v .size, a .room)
+
+    pub turn-goes-on : (b″ : List ℕ) (r : ℕ) → Parked r b″ (placeAt b′ c sh h q) → PlaceInv b c sh h gs fs b″ (set fs′ i r) (i + 1)
+    turn-goes-on b″ r p =
+        let d : drop i gs ≡ getD gs i 0 ∷ drop (i + 1) gs = rw add-one (drop-cons gs i 0 l) in
+        record {
+          within = omega arith;
+          size = length-set fs′ i r ∙ v .size;
+          steady = rw (p .left) (placed-steady b c (lt-ltb c 76 (a .known)) q low there sh (a .sound) h (a .limits) (ties-out b q links) b′ (v .steady));
+          left = sym (next-book c sh h b′ b″ (drop i gs) (drop (i + 1) gs) (getD gs i 0) q r d e p) ∙ v .left;
+          fates = one-more fs′ _ _ _ (length gs) i r l (omega (arith, v .size, a .room)) (next-fates c sh h b′ b″ (drop i gs) (drop (i + 1) gs) (getD gs i 0) q r d e p) (v .fates);
+        }
+
+  pub place-ends : (b′ fs′ : List ℕ) (i : ℕ) → PlaceInv b c sh h gs fs b′ fs′ i → length gs ≤ i → Placed b′ fs′ b c sh h gs fs
+  unfolding placeAll
+  place-ends b′ fs′ i v l =
+      let n : i ≡ length gs = omega (arith, v .within) in
+      let d : drop i gs ≡ [] = rw n (drop-length gs) in
+      record { left = rw d at (v .left); fates = sym (take-append-drop (length gs) fs′) ∙ rw (d, n) at (v .fates) }
+
+-- ---- every class's limits are in range
+pub class-limits : (c : ℕ) → Limits (shapeOf c)
+unfolding shapeOf smallShape mediumShape
+class-limits c = by (ltb c 64)
+  where
+    by : (t : Bool) → Limits (cond t (smallShape (getD smallSizes c 16384)) (mediumShape (getD mediumSizes (c - 64) 65472)))
+    by true = record { empties = omega arith; colds = omega arith }
+    by false = record { empties = omega arith; colds = omega arith }

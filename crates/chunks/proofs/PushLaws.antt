@@ -1,0 +1,155 @@
+-- Blocks pushed one after another, the list's last first.
+--     push-length     the book's length stays
+--     push-free       FREE of a page grows by the words on it
+-- Assumes nothing.
+use Prim.Native.Nat.{ℕ, zero, suc, _+_, _-_, _≤_, _<_}
+use native.Mathlib.Omega.{arith}
+use mir.Val.{Fits}
+use mir.Syntax.{w32}
+use mathlib.Core.Bool.{true, false}
+use mathlib.Core.List.{List, [], _∷_}
+use mathlib.Core.Path.{_≡_, refl, sym, ap, _∙_}
+use lib.Dec.{eqb, ltb}
+use lib.ListN.{length, getD, drop}
+use lib.Seq.{drop-cons, drop-length}
+use borrow.Author.Tests.{lt-ltb, le-leb, eqb-true, eq-eqb}
+use Rattle.classes.specs.declared.Shape.{Shape}
+use Rattle.fields.specs.Field.{page, slot, free, words, get, put, Has}
+use Rattle.fields.proofs.Laws.{get-put-same, get-put-other, length-put}
+use Rattle.model.proofs.Counts.{by-cases}
+use Rattle.heap.specs.Release.{pageAt}
+use Rattle.pages.specs.Stack.{indexOf}
+use Rattle.chunks.specs.Pass.{pushOne, pushAll}
+use Rattle.chunks.specs.PushAsks.{wordsOn, PushOneAsks, PushAllAsks}
+
+-- ---- one block
+pub one-length : (b : List ℕ) (q i : ℕ) → length (pushOne b q i) ≡ length b
+unfolding pushOne
+one-length b q i = simp length-put
+
+module _ (b : List ℕ) (q i : ℕ) (low : get b (page free q) < 4096) where
+  lower : ltb (get b (page free q)) 4096 ≡ true
+  lower = lt-ltb _ 4096 low
+
+  pub one-free : words (q + 1) ≤ length b → get (pushOne b q i) (page free q) ≡ get b (page free q) + 1
+  unfolding pushOne
+  one-free h =
+      get-put-same (q + 1) (put b (slot q (get b (page free q))) i) (page free q) (get b (page free q) + 1) (rw length-put (le-leb (words (q + 1)) (length b) h)) (lt-ltb q (q + 1) (omega arith)) refl
+
+  pub one-other : (p : ℕ) → eqb q p ≡ false → get (pushOne b q i) (page free p) ≡ get b (page free p)
+  unfolding pushOne
+  one-other p d =
+      get-put-other (put b (slot q (get b (page free q))) i) (page free q) (page free p) (get b (page free q) + 1) refl refl d
+      ∙ get-put-other b (slot q (get b (page free q))) (page free p) i lower refl refl
+
+module _ (b : List ℕ) (sh : Shape) (w q t : ℕ) (k : q ≡ pageAt w) (j : t ≡ get b (page free q)) where
+  module _ (a : PushOneAsks b sh w) where
+    below : t < 4096
+    below = rw (← k, ← j) at (a .slot)
+
+    pub slot-there : Has b (slot q t)
+    slot-there = omega (arith, below, rw (← k) at (a .there))
+
+    pub next-fits : Fits w32 (t + 1)
+    next-fits = record { fits = omega (arith, below) }
+
+  pub one-done : (i : ℕ) (b₁ b₂ : List ℕ) → i ≡ indexOf sh q w → b₁ ≡ put b (slot q t) i → b₂ ≡ put b₁ (page free q) (t + 1) → b₂ ≡ pushOne b (pageAt w) (indexOf sh (pageAt w) w)
+  unfolding pushOne
+  one-done i b₁ b₂ e e₁ e₂ = rw (e₂, e₁, e, j, k)
+
+-- ---- a list
+pub push-length : (b : List ℕ) (sh : Shape) (ws : List ℕ) → length (pushAll b sh ws) ≡ length b
+unfolding pushAll
+push-length b sh [] = refl
+push-length b sh (w ∷ ws) = one-length (pushAll b sh ws) (pageAt w) (indexOf sh (pageAt w) w) ∙ push-length b sh ws
+
+pub on-here : (w : ℕ) (ws : List ℕ) (q : ℕ) → eqb (pageAt w) q ≡ true → wordsOn (w ∷ ws) q ≡ suc (wordsOn ws q)
+unfolding wordsOn
+on-here w ws q e = rw e
+
+pub on-other : (w : ℕ) (ws : List ℕ) (q : ℕ) → eqb (pageAt w) q ≡ false → wordsOn (w ∷ ws) q ≡ wordsOn ws q
+unfolding wordsOn
+on-other w ws q e = rw e
+
+on-none : (q : ℕ) → wordsOn [] q ≡ 0
+unfolding wordsOn
+on-none q = refl
+
+on-more : (w : ℕ) (ws : List ℕ) (q : ℕ) → wordsOn ws q ≤ wordsOn (w ∷ ws) q
+on-more w ws q = by-cases (eqb (pageAt w) q) (λ e. omega (arith, on-here w ws q e)) (λ e. omega (arith, on-other w ws q e))
+
+-- the words after the first ask no more
+asks-tail : (b : List ℕ) (sh : Shape) (w : ℕ) (ws : List ℕ) → PushAllAsks b sh (w ∷ ws) → PushAllAsks b sh ws
+asks-tail b sh w ws a = record {
+  sound = a .sound;
+  there = λ q h. a .there q (omega (arith, on-more w ws q));
+  slots = λ q h. omega (arith, a .slots q (omega (arith, on-more w ws q)), on-more w ws q);
+}
+
+-- nor do those from any place on
+asks-drop : (b : List ℕ) (sh : Shape) (i : ℕ) (ws : List ℕ) → PushAllAsks b sh ws → PushAllAsks b sh (drop i ws)
+asks-drop b sh zero ws a = a
+asks-drop b sh (suc i) [] a = a
+asks-drop b sh (suc i) (w ∷ ws) a = asks-drop b sh i ws (asks-tail b sh w ws a)
+
+head-room : (b : List ℕ) (sh : Shape) (w : ℕ) (ws : List ℕ) → PushAllAsks b sh (w ∷ ws) → get b (page free (pageAt w)) + wordsOn ws (pageAt w) < 4096
+head-room b sh w ws a =
+    let e = on-here w ws (pageAt w) (eq-eqb (pageAt w) (pageAt w) refl) in
+    omega (arith, e, a .slots (pageAt w) (omega (arith, e)))
+
+head-there : (b : List ℕ) (sh : Shape) (w : ℕ) (ws : List ℕ) → PushAllAsks b sh (w ∷ ws) → words (pageAt w + 1) ≤ length b
+head-there b sh w ws a = a .there (pageAt w) (omega (arith, on-here w ws (pageAt w) (eq-eqb (pageAt w) (pageAt w) refl)))
+
+pub push-free : (b : List ℕ) (sh : Shape) (ws : List ℕ) → PushAllAsks b sh ws → (q : ℕ) → get (pushAll b sh ws) (page free q) ≡ get b (page free q) + wordsOn ws q
+unfolding pushAll
+push-free b sh [] a q = let z : wordsOn [] q ≡ 0 = on-none q in omega arith
+push-free b sh (w ∷ ws) a q =
+    let d = pushAll b sh ws in
+    let before = push-free b sh ws (asks-tail b sh w ws a) in
+    let low : get d (page free (pageAt w)) < 4096 = rw (before (pageAt w)) (head-room b sh w ws a) in
+    by-cases (eqb (pageAt w) q)
+    (λ e. let z = eqb-true (pageAt w) q e in
+    rw (on-here w ws q e, ← z) (one-free d (pageAt w) (indexOf sh (pageAt w) w) low (rw (push-length b sh ws) (head-there b sh w ws a)) ∙ omega (arith, before (pageAt w))))
+    (λ e. rw (on-other w ws q e) (one-other d (pageAt w) (indexOf sh (pageAt w) w) low q e ∙ before q))
+
+-- ---- the loop
+module _ (b₀ : List ℕ) (sh : Shape) (ws : List ℕ) where
+  -- those from place i on are pushed
+  pub record Pushing (b : List ℕ) (i : ℕ) : Type 0 where
+    pub within : i ≤ length ws
+    pub long : length b ≡ length b₀
+    pub laid : b ≡ pushAll b₀ sh (drop i ws)
+
+  pub pushing-none : Pushing b₀ (length ws)
+  unfolding pushAll
+  pushing-none = record { within = omega arith; long = refl; laid = ap (pushAll b₀ sh) (sym (drop-length ws)) }
+
+  module _ (b : List ℕ) (i : ℕ) (h : i ≡ 0 → ⊥) (v : Pushing b i) where
+    next : drop (i - 1) ws ≡ getD ws (i - 1) 0 ∷ drop i ws
+    next =
+        let back : suc (i - 1) ≡ i = omega arith in
+        drop-cons ws (i - 1) 0 (omega (arith, v .within)) ∙ ap (λ z. getD ws (i - 1) 0 ∷ drop z ws) back
+
+    pub pushing-asks : PushAllAsks b₀ sh ws → PushOneAsks b sh (getD ws (i - 1) 0)
+    pushing-asks a =
+        let w = getD ws (i - 1) 0 in
+        let k : PushAllAsks b₀ sh (w ∷ drop i ws) = rw next at (asks-drop b₀ sh (i - 1) ws a) in
+        let f = push-free b₀ sh (drop i ws) (asks-drop b₀ sh i ws a) (pageAt w) in
+        record {
+          sound = a .sound;
+          there = rw (v .long) (head-there b₀ sh w (drop i ws) k);
+          slot = rw (v .laid, f) (head-room b₀ sh w (drop i ws) k);
+        }
+
+    pub pushing-more : (b′ : List ℕ) → b′ ≡ pushOne b (pageAt (getD ws (i - 1) 0)) (indexOf sh (pageAt (getD ws (i - 1) 0)) (getD ws (i - 1) 0)) → Pushing b′ (i - 1)
+    unfolding pushAll
+    pushing-more b′ e =
+        let w = getD ws (i - 1) 0 in
+        record {
+          within = omega (arith, v .within);
+          long = ap length e ∙ one-length b (pageAt w) (indexOf sh (pageAt w) w) ∙ v .long;
+          laid = e ∙ ap (λ z. pushOne z (pageAt w) (indexOf sh (pageAt w) w)) (v .laid) ∙ ap (pushAll b₀ sh) (sym next);
+        }
+
+  pub pushing-done : (b : List ℕ) (i : ℕ) → i ≡ 0 → Pushing b i → b ≡ pushAll b₀ sh ws
+  pushing-done b i h v = rw h at (v .laid)

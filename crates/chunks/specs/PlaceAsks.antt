@@ -1,0 +1,39 @@
+-- What placing the chunks' pages asks of the words, and what it leaves. Assumes nothing.
+use Prim.Native.Nat.{ℕ, _<_, _≤_}
+use mathlib.Core.Bool.{Bool, true, _&&_}
+use mathlib.Core.List.{List, _++_}
+use mathlib.Core.Path.{_≡_}
+use lib.Dec.{ltb}
+use lib.ListN.{length, drop}
+use Rattle.words.specs.Word.{pageOf}
+use Rattle.classes.specs.declared.Shape.{Shape}
+use Rattle.classes.specs.Sound.{Sound}
+use Rattle.fields.specs.Field.{arena, frontier, words, get}
+use Rattle.fields.specs.Ranges.{maxPages, maxParked}
+use Rattle.model.specs.Lists.{every}
+use Rattle.heap.specs.Release.{rowFair}
+use Rattle.release.specs.Fair.{linksFair}
+use Rattle.chunks.specs.Pass.{placeAll}
+
+-- a store that is filled to its limit passes number 13
+pub record Limits (sh : Shape) : Type 0 where
+  pub empties : sh .empties ≤ maxParked
+  pub colds : sh .colds ≤ maxParked
+
+-- a page below the frontier, with the words that placing it reads in their ranges
+abbrev pub placeFair : List ℕ → ℕ → Bool
+placeFair b q = ltb q (get b (arena frontier)) && linksFair b q
+
+pub record PlaceAsks (b : List ℕ) (c : ℕ) (sh : Shape) (gs fs : List ℕ) : Type 0 where
+  pub known : c < 76
+  pub sound : Sound sh
+  pub limits : Limits sh
+  pub few : get b (arena frontier) ≤ maxPages
+  pub long : words (get b (arena frontier)) ≤ length b
+  pub row : rowFair b c ≡ true
+  pub pages : every (λ g. placeFair b (pageOf g)) gs ≡ true
+  pub room : length gs ≤ length fs
+
+pub record Placed (b′ fs′ b : List ℕ) (c : ℕ) (sh : Shape) (h : ℕ) (gs fs : List ℕ) : Type 0 where
+  pub left : b′ ≡ placeAll b c sh h gs .book
+  pub fates : fs′ ≡ placeAll b c sh h gs .fates ++ drop (length gs) fs

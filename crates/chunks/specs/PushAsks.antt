@@ -1,0 +1,25 @@
+-- What pushing the listed blocks asks: the page of every listed word is there, and its stack has room for the words on it.
+-- Assumes nothing.
+use Prim.Native.Nat.{ℕ, _+_, _<_, _≤_}
+use mathlib.Core.List.{List}
+use lib.Dec.{eqb}
+use lib.ListN.{length}
+use Rattle.classes.specs.declared.Shape.{Shape}
+use Rattle.classes.specs.Sound.{Sound}
+use Rattle.fields.specs.Field.{page, free, words, get}
+use Rattle.model.specs.Lists.{filter}
+use Rattle.heap.specs.Release.{pageAt}
+
+-- how many listed words have their granule on page q
+unfoldable pub wordsOn : List ℕ → ℕ → ℕ
+wordsOn ws q = length (filter (λ w. eqb (pageAt w) q) ws)
+
+pub record PushOneAsks (b : List ℕ) (sh : Shape) (w : ℕ) : Type 0 where
+  pub sound : Sound sh
+  pub there : words (pageAt w + 1) ≤ length b
+  pub slot : get b (page free (pageAt w)) < 4096
+
+pub record PushAllAsks (b : List ℕ) (sh : Shape) (ws : List ℕ) : Type 0 where
+  pub sound : Sound sh
+  pub there : (q : ℕ) → 1 ≤ wordsOn ws q → words (q + 1) ≤ length b
+  pub slots : (q : ℕ) → 1 ≤ wordsOn ws q → get b (page free q) + wordsOn ws q ≤ 4096

@@ -1,0 +1,30 @@
+// The runs that leave the class go to the arena.
+ghost use mathlib.Core.Path.{_≡_};
+ghost use Rattle.words.specs.Word.{pageOf};
+ghost use Rattle.heap.specs.Chunks.{givesOf, giveRuns};
+ghost use Rattle.chunks.specs.Pass.{givesIn};
+ghost use Rattle.chunks.specs.GiveAsks.{GiveChunkAsks, GiveChunksAsks};
+use classes::Shape;
+use words::Word;
+
+// The chunk's page, if its fate is 6.
+fn give_chunk(meta: &mut [u32], n: u32, pages: u32, chunk: u32, fate: u32)
+    requires { ⌜ GiveChunkAsks n (now meta) pages chunk fate ⌝ }
+    ensures { λ _. ⌜ now (meta .exit) ≡ giveRuns (now (meta .entry)) pages (givesOf (pageOf chunk) fate) ⌝ }
+{
+    if fate != 6 {
+        return;
+    }
+    runs::give::give(meta, n, Word::of(chunk).page(), pages);
+}
+
+pub fn give_chunks(meta: &mut [u32], n: u32, shape: Shape, chunks: &[u32], fates: &[u32])
+    requires { ⌜ GiveChunksAsks n (now meta) shape (now chunks) (now fates) ⌝ }
+    ensures { λ _. ⌜ now (meta .exit) ≡ giveRuns (now (meta .entry)) (shape .pages) (givesIn (now (chunks .entry)) (now (fates .entry))) ⌝ }
+{
+    let mut i = 0;
+    while i < chunks.len() {
+        give_chunk(meta, n, shape.pages, chunks[i], fates[i]);
+        i += 1;
+    }
+}

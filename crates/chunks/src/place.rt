@@ -1,0 +1,60 @@
+// Where the chunks' pages go once their blocks are back, in the chunks' order.
+ghost use mathlib.Core.Path.{_≡_};
+ghost use Rattle.words.specs.Word.{pageOf};
+ghost use Rattle.heap.specs.Chunks.{emptied};
+ghost use Rattle.release.specs.Fair.{PageAsks};
+ghost use Rattle.release.specs.Act.{ParkingAsks, Parked};
+ghost use Rattle.chunks.specs.Pass.{placeAt};
+ghost use Rattle.chunks.specs.PlaceAsks.{PlaceAsks, Placed};
+use classes::Shape;
+use release::park_empty_page;
+use release::relist;
+use words::Word;
+
+fn page_of(chunk: u32) -> u32
+    ensures { λ r. ⌜ r ≡ pageOf chunk ⌝ }
+{
+    Word::of(chunk).page()
+}
+
+// A retired page is carved anew when it is used again.
+fn retire(meta: &mut [u32], q: u32)
+    requires { ⌜ PageAsks (now meta) q ⌝ }
+    ensures { λ _. ⌜ now (meta .exit) ≡ emptied (now (meta .entry)) q ⌝ }
+{
+    fields::page::set_carved(meta, q, 0);
+    fields::page::set_free(meta, q, 0);
+}
+
+// A page with none out is retired and parked, which its fate tells; one with some out is a partial page.
+pub fn place_chunk(meta: &mut [u32], c: u32, shape: Shape, host: u32, q: u32) -> u32
+    requires { ⌜ ParkingAsks (now meta) c shape q ⌝ }
+    ensures { λ r. ⌜ Parked r (now (meta .exit)) (placeAt (now (meta .entry)) c shape host q) ⌝ }
+{
+    fields::page::set_virgin(meta, q, 0);
+    if fields::page::carved(meta, q) == fields::page::free(meta, q) {
+        retire(meta, q);
+        return 4 + park_empty_page(meta, c, shape, host, q);
+    }
+    relist(meta, c, q);
+    0
+}
+
+// The chunks' pages in their order; each one's fate stands at its chunk's place.
+pub fn place_chunks(
+    meta: &mut [u32],
+    c: u32,
+    shape: Shape,
+    host: u32,
+    chunks: &[u32],
+    fates: &mut [u32],
+)
+    requires { ⌜ PlaceAsks (now meta) c shape (now chunks) (now fates) ⌝ }
+    ensures { λ _. ⌜ Placed (now (meta .exit)) (now (fates .exit)) (now (meta .entry)) c shape host (now (chunks .entry)) (now (fates .entry)) ⌝ }
+{
+    let mut i = 0;
+    while i < chunks.len() {
+        fates[i] = place_chunk(meta, c, shape, host, page_of(chunks[i]));
+        i += 1;
+    }
+}

@@ -1,0 +1,62 @@
+// The test over both lists, with room for what stood in TALLY and for the counts.
+ghost use Prim.Native.Nat.{_≤_};
+ghost use lib.ListN.{length};
+ghost use Rattle.tally.specs.Match.{MatchAsks, Matched};
+ghost use Rattle.tally.specs.Asks.{RoomAsks};
+use super::counts::tallies_agree;
+use super::naming::all_pages;
+use super::naming::name_chunks;
+use super::naming::unname_chunks;
+
+// A page past the arena has no listed block, and a count of 0 is a mismatch.
+fn match_with(
+    meta: &mut [u32],
+    n: u32,
+    list: &[u32],
+    chunks: &[u32],
+    saved: &mut [u32],
+    counts: &mut [usize],
+) -> bool
+    requires { ⌜ MatchAsks n (now meta) (now list) (now chunks) ⌝ }
+    requires { ⌜ RoomAsks (now chunks) (now saved) (now counts) ⌝ }
+    ensures { λ r. ⌜ Matched r (now (meta .exit)) (now (meta .entry)) (now (list .entry)) (now (chunks .entry)) ⌝ }
+{
+    if all_pages(n, chunks) {
+        name_chunks(meta, chunks, saved);
+        let r = tallies_agree(meta, list, chunks, counts);
+        unname_chunks(meta, chunks, saved);
+        r
+    } else {
+        false
+    }
+}
+
+fn match_few(meta: &mut [u32], n: u32, list: &[u32], chunks: &[u32]) -> bool
+    requires { ⌜ MatchAsks n (now meta) (now list) (now chunks) ⌝ }
+    requires { ⌜ length (now chunks) ≤ 32 ⌝ }
+    ensures { λ r. ⌜ Matched r (now (meta .exit)) (now (meta .entry)) (now (list .entry)) (now (chunks .entry)) ⌝ }
+{
+    let mut saved: [u32; 32] = [0; 32];
+    let mut counts: [usize; 32] = [0; 32];
+    match_with(meta, n, list, chunks, &mut saved, &mut counts)
+}
+
+fn match_many(meta: &mut [u32], n: u32, list: &[u32], chunks: &[u32]) -> bool
+    requires { ⌜ MatchAsks n (now meta) (now list) (now chunks) ⌝ }
+    ensures { λ r. ⌜ Matched r (now (meta .exit)) (now (meta .entry)) (now (list .entry)) (now (chunks .entry)) ⌝ }
+{
+    let mut saved: [u32; 2056] = [0; 2056];
+    let mut counts: [usize; 2056] = [0; 2056];
+    match_with(meta, n, list, chunks, &mut saved, &mut counts)
+}
+
+pub fn chunks_match(meta: &mut [u32], n: u32, list: &[u32], chunks: &[u32]) -> bool
+    requires { ⌜ MatchAsks n (now meta) (now list) (now chunks) ⌝ }
+    ensures { λ r. ⌜ Matched r (now (meta .exit)) (now (meta .entry)) (now (list .entry)) (now (chunks .entry)) ⌝ }
+{
+    if chunks.len() <= 32 {
+        match_few(meta, n, list, chunks)
+    } else {
+        match_many(meta, n, list, chunks)
+    }
+}

@@ -1,0 +1,94 @@
+//! Document 01's examples on an arena of 64 pages, through the safe calls.
+
+use vigbuso::{class_for_size, medium_class_for_size, Block, Heap, Host, Run, Taken};
+
+fn heap() -> Heap {
+    Heap::open(64).expect("64 pages")
+}
+
+fn small(granules: &[u32]) -> Vec<Block> {
+    granules.iter().map(|&granule| Block::small(granule).expect("30 bits")).collect()
+}
+
+fn granules(taken: &Taken) -> Vec<u32> {
+    taken.iter().map(|block| block.granule()).collect()
+}
+
+fn first_page(heap: &mut Heap, host: Host, pages: u64) -> Option<u64> {
+    heap.commit(host, pages).expect("a run has such a length").map(|answer| answer.run.first)
+}
+
+fn give(heap: &mut Heap, first: u64, pages: u64) {
+    heap.release_run(Host::ALL, Run { first, pages }).expect("the run is held");
+}
+
+#[test]
+fn p1_to_p5_sizes() {
+    assert_eq!([0, 16_384, 16_385].map(class_for_size), [0, 45, 63]);
+    assert_eq!([18_432, 18_433, 65_472, 65_473].map(medium_class_for_size), [0, 1, 11, 11]);
+}
+
+#[test]
+fn p6_and_p7_a_take_a_release_and_a_take() {
+    let mut heap = heap();
+    let taken = heap.take(0, Host::ALL).expect("class 0");
+    assert_eq!(granules(&taken), (3..=66).rev().collect::<Vec<_>>());
+    assert!(taken.is_virgin());
+    assert_eq!(taken[0].word(), 1_073_741_890);
+
+    heap.release(0, Host::ALL, &small(&[10])).expect("granule 10 is out");
+    let taken = heap.take(0, Host::ALL).expect("class 0");
+    assert_eq!(granules(&taken), (67..=129).rev().chain([10]).collect::<Vec<_>>());
+    assert!(!taken.is_virgin());
+}
+
+#[test]
+fn p8_released_as_one_page() {
+    let mut heap = heap();
+    let taken = heap.take(45, Host::ALL).expect("class 45");
+    assert_eq!(granules(&taken), [2051, 1027, 3]);
+    heap.release(45, Host::ALL, &taken).expect("all on one page");
+    assert_eq!(granules(&heap.take(45, Host::ALL).expect("class 45")), [3, 1027, 2051]);
+}
+
+#[cfg(group_release)]
+#[test]
+fn p9_released_as_a_group() {
+    use vigbuso::{Chunk, Fate};
+
+    let mut heap = heap();
+    let taken = heap.take(45, Host::ALL).expect("class 45");
+    let fates = heap.release_chunks(45, Host::ALL, &taken, &Chunk::of(&taken)).expect("one group");
+    assert_eq!(fates, [Fate::KeptRetired]);
+    assert_eq!(granules(&heap.take(45, Host::ALL).expect("class 45")), [2051, 1027, 3]);
+}
+
+#[test]
+fn p10_a_medium_take() {
+    let taken = heap().medium_take(0, Host::ALL).expect("medium class 0");
+    let mut bytes: Vec<u64> = taken.iter().map(|block| block.byte_offset()).collect();
+    bytes.sort_unstable();
+    assert_eq!(bytes, (0..10).map(|i| 64 + 18_432 * i).collect::<Vec<_>>());
+}
+
+#[test]
+fn p11_equal_holes() {
+    let mut heap = heap();
+    assert_eq!(first_page(&mut heap, Host::ALL, 10), Some(0));
+    for first in [0, 4, 8] {
+        give(&mut heap, first, 2);
+    }
+    assert_eq!([(); 3].map(|()| first_page(&mut heap, Host::ALL, 2)), [Some(8), Some(0), Some(4)]);
+}
+
+#[test]
+fn p12_a_hole_that_is_not_granted() {
+    let mut heap = heap();
+    assert_eq!(first_page(&mut heap, Host::ALL, 4), Some(0));
+    give(&mut heap, 0, 4);
+    let without_commit = Host::from_bits(13).expect("four bits");
+    assert_eq!(first_page(&mut heap, without_commit, 2), None);
+    // The holes are (2, 2) and (0, 2) now, the second remembered; nothing is held.
+    assert_eq!(heap.report().expect("a reached book").idle, 64);
+    assert_eq!([(); 2].map(|()| first_page(&mut heap, Host::ALL, 2)), [Some(0), Some(2)]);
+}

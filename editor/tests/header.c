@@ -1,0 +1,122 @@
+/* Every function of include/vigbuso.h, called from C. Prints each difference; exit status 0 if there is none. */
+#include <stdio.h>
+#include <stdlib.h>
+
+#include "vigbuso.h"
+
+static int differences = 0;
+
+/* One comparison, with the line that it stands in. */
+#define IS(found, expected) is(__LINE__, #found, (uint64_t)(found), (uint64_t)(expected))
+
+static void is(int line, const char *what, uint64_t found, uint64_t expected) {
+    if (found != expected) {
+        printf("line %d: %s is %llu, not %llu\n", line, what, (unsigned long long)found, (unsigned long long)expected);
+        differences++;
+    }
+}
+
+enum { PAGES = 64, HOST = VIGBUSO_HOST_ALL };
+
+static const size_t words = VIGBUSO_BOOK_WORDS(PAGES);
+static uint32_t *book;
+
+static void lookups(void) {
+    IS(vigbuso_class_for_size(0), 0);
+    IS(vigbuso_class_for_size(16384), 45);
+    IS(vigbuso_class_for_size(UINT64_MAX), 63);
+    IS(vigbuso_medium_class_for_size(18433), 1);
+    IS(vigbuso_medium_class_for_size(65473), 11);
+}
+
+static void opening(void) {
+    IS(vigbuso_open(book, words, 0), VIGBUSO_ARENA_LENGTH);
+    IS(vigbuso_open(book, words - 1, PAGES), VIGBUSO_BOOK_TOO_SHORT);
+    IS(vigbuso_contains(book, words, 0, 1), 0);
+    IS(vigbuso_open(book, words, PAGES), 0);
+}
+
+static void small_blocks(void) {
+    uint32_t list[VIGBUSO_BATCH], count = 7, virgin = 7, fate = 7;
+    IS(vigbuso_take_blocks(book, words, 0, HOST, list, VIGBUSO_BATCH - 1, &count, &virgin), VIGBUSO_LIST_TOO_SHORT);
+    IS(count, 7);
+    IS(vigbuso_take_blocks(book, words, 0, HOST, list, VIGBUSO_BATCH, &count, &virgin), 0);
+    IS(count, 64);
+    IS(virgin, 1);
+    IS(list[0], 1073741890u);
+    IS(VIGBUSO_KIND(list[0]), VIGBUSO_SMALL);
+    IS(VIGBUSO_BYTE_OFFSET(list[0]), 66 * 16);
+    IS(VIGBUSO_PAGE(list[0]), 0);
+    IS(vigbuso_release_blocks(book, words, 0, HOST, list, 0, &fate), VIGBUSO_EMPTY_LIST);
+    IS(vigbuso_release_blocks(book, words, 0, 16, list, 3, &fate), VIGBUSO_HOST_WORD);
+    IS(fate, 7);
+    IS(vigbuso_release_blocks(book, words, 0, HOST, list, 3, &fate), 0);
+    IS(fate, VIGBUSO_KEPT);
+    IS(vigbuso_release_blocks(book, words, 0, HOST, list, 3, &fate), VIGBUSO_NOT_OUT);
+    IS(vigbuso_release_blocks(book, words, VIGBUSO_SMALL_CLASSES, HOST, list, 3, &fate), VIGBUSO_CLASS);
+}
+
+static void medium_blocks(void) {
+    uint32_t list[VIGBUSO_BATCH], count = 0, virgin = 0, fate = 7;
+    IS(vigbuso_medium_take_blocks(book, words, 0, HOST, list, VIGBUSO_BATCH, &count, &virgin), 0);
+    IS(count, 10);
+    IS(VIGBUSO_KIND(list[0]), VIGBUSO_MEDIUM);
+    IS(vigbuso_release_blocks(book, words, 0, HOST, list, count, &fate), VIGBUSO_WRONG_KIND);
+    IS(vigbuso_medium_release_blocks(book, words, 0, HOST, list, count, &fate), 0);
+    IS(fate, VIGBUSO_KEPT);
+}
+
+static void runs(void) {
+    uint32_t first = 0, fresh = 7, grown = 7;
+    IS(vigbuso_commit(book, words, HOST, 0, &first, &fresh), VIGBUSO_RUN_LENGTH);
+    IS(vigbuso_commit(book, words, HOST, 2, &first, &fresh), 0);
+    IS(fresh, 1);
+    IS(vigbuso_grow_frontier(book, words, HOST, first, 2, 3, &grown), 0);
+    IS(grown, 1);
+    IS(vigbuso_contains(book, words, (uint64_t)first * VIGBUSO_PAGE_BYTES, 3 * VIGBUSO_PAGE_BYTES), 1);
+    IS(vigbuso_release(book, words, HOST, first, 4), VIGBUSO_NOT_HELD);
+    IS(vigbuso_release(book, words, HOST, first, 3), 0);
+    IS(vigbuso_commit(book, words, HOST, PAGES, &first, &fresh), 0);
+    IS(first, VIGBUSO_NO_PAGE);
+    IS(fresh, 0);
+}
+
+/* After all the calls above: a page of class 0 and the three of a span are held, parked ones included. */
+static void report(void) {
+    uint64_t figures[5];
+    IS(vigbuso_report(book, words, figures), 0);
+    IS(figures[3], 4);
+    IS(figures[4], PAGES - 4);
+}
+
+#ifdef GROUP_RELEASE
+static void groups(void) {
+    uint32_t list[VIGBUSO_BATCH], count = 0, virgin = 0, fates[2] = {7, 7}, group;
+    IS(vigbuso_take_blocks(book, words, 45, HOST, list, VIGBUSO_BATCH, &count, &virgin), 0);
+    IS(count, 3);
+    group = VIGBUSO_GROUP_WORD(count, VIGBUSO_PAGE(list[0]));
+    IS(vigbuso_release_bin_chunks(book, words, 45, HOST, list, count, &group, 1, fates, 0), VIGBUSO_GROUPS);
+    IS(vigbuso_release_bin_chunks(book, words, 45, HOST, list, count, &group, 1, fates, 2), 0);
+    IS(fates[0], VIGBUSO_KEPT + VIGBUSO_RETIRED);
+    IS(fates[1], 7);
+}
+#endif
+
+int main(void) {
+    book = calloc(words, sizeof *book);
+    if (book == NULL) {
+        return 2;
+    }
+    lookups();
+    opening();
+    small_blocks();
+    medium_blocks();
+    runs();
+    report();
+#ifdef GROUP_RELEASE
+    groups();
+#endif
+    free(book);
+    printf("%d differences\n", differences);
+    return differences != 0;
+}

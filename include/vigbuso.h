@@ -1,0 +1,215 @@
+/*
+ * Vigbuso's block heap, for C.
+ *
+ * Link libvigbuso.a (`rt staticlib vigbuso` writes it to target/staticlib/). docs/CALLS.md describes the calls; document 01,
+ * the paper that it cites, states their rules.
+ *
+ * The book is a slice of 32-bit words that the caller lends to every call: a pointer, then a length in words of at least
+ * VIGBUSO_BOOK_WORDS(pages). The heap keeps all that it knows there and nothing elsewhere. It never reads or writes the
+ * arena's bytes, so they may stand anywhere.
+ *
+ * The two lookups and vigbuso_contains return their answer. Every other function returns 0 if it was carried out, otherwise
+ * the number of its refusal (enum vigbuso_refusal); the first that applies is returned. A refused call leaves the book, every
+ * list and every out-parameter as they were.
+ *
+ * Any number, any list and any book is accepted. What a call is lent must not overlap, and nobody else may write it
+ * during the call. No function keeps a pointer, allocates or blocks.
+ */
+#ifndef VIGBUSO_H
+#define VIGBUSO_H
+
+#include <stddef.h>
+#include <stdint.h>
+
+#ifdef __cplusplus
+extern "C" {
+#endif
+
+/* Bytes of a page, and of a granule: every block starts at a multiple of it. */
+#define VIGBUSO_PAGE_BYTES 65536u
+#define VIGBUSO_GRANULE_BYTES 16u
+
+/* The most pages of an arena. */
+#define VIGBUSO_MAX_PAGES 262144u
+
+/* Words that a book for an arena of so many pages has at least. */
+#define VIGBUSO_BOOK_WORDS(pages) ((size_t)40000 + (size_t)4112 * (size_t)(pages))
+
+/* Small classes are 0 to 63, medium ones 0 to 11. */
+#define VIGBUSO_SMALL_CLASSES 64u
+#define VIGBUSO_MEDIUM_CLASSES 12u
+
+/* The most blocks of one take: the length of a list that is long enough for every class. */
+#define VIGBUSO_BATCH 64u
+
+/* The most groups of a group release. */
+#define VIGBUSO_MAX_GROUPS 2056u
+
+/* What vigbuso_commit writes as first page for none. */
+#define VIGBUSO_NO_PAGE UINT32_MAX
+
+/* The host word: what the system answers within one call. */
+enum vigbuso_host {
+    VIGBUSO_HOST_RESERVATION = 1, /* the arena's reservation is granted */
+    VIGBUSO_HOST_COMMIT = 2,      /* a commit of pages is granted */
+    VIGBUSO_HOST_DISCARD = 4,     /* a discard is done */
+    VIGBUSO_HOST_ZEROES = 8,      /* a done discard leaves zeroes */
+    VIGBUSO_HOST_ALL = 15
+};
+
+/* The kind of a word, in its top two bits. A block word has its first granule, counted from the arena's start, in the
+ * others; a group word has a count in the next 12 bits and a page in the low 18. */
+enum vigbuso_kind { VIGBUSO_NONE = 0, VIGBUSO_SMALL = 1, VIGBUSO_MEDIUM = 2, VIGBUSO_GROUP = 3 };
+
+#define VIGBUSO_KIND(word) ((uint32_t)(word) >> 30)
+
+/* The first byte of a block, counted from the arena's start. */
+#define VIGBUSO_BYTE_OFFSET(word) ((uint64_t)((uint32_t)(word) & 0x3FFFFFFFu) * VIGBUSO_GRANULE_BYTES)
+
+/* The page of a block's first byte. */
+#define VIGBUSO_PAGE(word) (((uint32_t)(word) & 0x3FFFFFFFu) / (VIGBUSO_PAGE_BYTES / VIGBUSO_GRANULE_BYTES))
+
+/* The word of a group of count blocks on a page. */
+#define VIGBUSO_GROUP_WORD(count, page) (((uint32_t)VIGBUSO_GROUP << 30) | ((uint32_t)(count) << 18) | (uint32_t)(page))
+
+/* What a release did with the page or span; VIGBUSO_RETIRED is added to the fate of a group that returned all blocks which
+ * its page had out. */
+enum vigbuso_fate { VIGBUSO_KEPT = 0, VIGBUSO_COLD = 1, VIGBUSO_TO_ARENA = 2, VIGBUSO_RETIRED = 4 };
+
+/* Numbers of refusals, in checking order. */
+enum vigbuso_refusal {
+    VIGBUSO_ARENA_LENGTH = 1,   /* the arena length, given at opening or stored as the book's first word, is 0 (an empty
+                                   book reads so) or above 262,144 */
+    VIGBUSO_BOOK_TOO_SHORT = 2, /* the book is too short */
+    VIGBUSO_HOST_WORD = 3,      /* the host word exceeds 15 */
+    VIGBUSO_CLASS = 4,          /* the class is 64 or more, medium 12 or more */
+    VIGBUSO_LIST_TOO_SHORT = 5, /* the list lent to a take is shorter than 64, medium than one span's blocks */
+    VIGBUSO_RUN_LENGTH = 6,     /* a run has 0 pages or 2^48 or more, or growth isn't to more pages */
+    VIGBUSO_EMPTY_LIST = 7,     /* the release or group list is empty */
+    VIGBUSO_GROUPS = 8,         /* groups exceed 2,056, or the fate list is shorter than the groups */
+    VIGBUSO_WRONG_KIND = 9,     /* a word has the wrong kind */
+    VIGBUSO_NOT_OUT = 10,       /* a block is not out in this class, or stands twice */
+    VIGBUSO_OTHER_PAGE = 11,    /* a block is on another page or span than the first; for groups, a page twice, a count 0
+                                   or not the list's, a page missing */
+    VIGBUSO_NOT_HELD = 12,      /* the run handed to vigbuso_release or to growth isn't wholly held by the direct calls */
+    VIGBUSO_BOOK_WORD = 13      /* another book word that the call reads is out of its range, or a listed page yields no
+                                   block */
+};
+
+/*
+ * The small class for a size in bytes: the first whose blocks are not smaller; 63 above 16,384.
+ * Returns 0 to 63.
+ */
+uint32_t vigbuso_class_for_size(uint64_t size);
+
+/*
+ * The medium class for a size in bytes: the first whose blocks are not smaller; 11 at or below 16,384 and above 65,472.
+ * Returns 0 to 11.
+ */
+uint32_t vigbuso_medium_class_for_size(uint64_t size);
+
+/*
+ * Opens a heap on an arena of so many pages, 1 to 262,144. Every other call works on a book that was opened.
+ *   book   book_len words, written; VIGBUSO_BOOK_WORDS(pages) at least
+ * Returns 0, or 1, 2.
+ */
+uint32_t vigbuso_open(uint32_t *book, size_t book_len, uint64_t pages);
+
+/*
+ * Asks for a run of so many pages, to be used directly.
+ *   book   book_len words, written
+ *   first  the run's first page, or VIGBUSO_NO_PAGE for none
+ *   fresh  1 if it came from the frontier, 0 if from a hole or for none
+ * Returns 0, or 1, 2, 3, 6, 13.
+ */
+uint32_t vigbuso_commit(uint32_t *book, size_t book_len, uint32_t host, uint64_t pages, uint32_t *first, uint32_t *fresh);
+
+/*
+ * Grows a run of old_pages from page first on to new_pages, in place.
+ *   book   book_len words, written
+ *   grown  1, or 0 if the run does not end at the frontier, the arena is too short or the commit is not granted
+ * Returns 0, or 1, 2, 3, 6, 12, 13.
+ */
+uint32_t vigbuso_grow_frontier(uint32_t *book, size_t book_len, uint32_t host, uint64_t first, uint64_t old_pages,
+                               uint64_t new_pages, uint32_t *grown);
+
+/*
+ * Gives a run back to the arena whose pages are all held by vigbuso_commit and vigbuso_grow_frontier.
+ *   book   book_len words, written
+ * Returns 0, or 1, 2, 3, 6, 12, 13.
+ */
+uint32_t vigbuso_release(uint32_t *book, size_t book_len, uint32_t host, uint64_t first, uint64_t pages);
+
+/*
+ * Whether length bytes from byte offset on, counted from the arena's start, are in the arena; no before the reservation,
+ * where offset + length overflows, and on a book that 1, 2 or 13 would refuse.
+ *   book   book_len words, read
+ * Returns 1 for yes, 0 for no.
+ */
+uint32_t vigbuso_contains(const uint32_t *book, size_t book_len, uint64_t offset, uint64_t length);
+
+/*
+ * The arena's figures.
+ *   book     book_len words, read
+ *   figures  5 numbers: commits, reuses, abandoned, pages held, idle pages
+ * Returns 0, or 1, 2, 13.
+ */
+uint32_t vigbuso_report(const uint32_t *book, size_t book_len, uint64_t *figures);
+
+/*
+ * Takes up to 64 blocks of a small class.
+ *   book    book_len words, written
+ *   list    list_len words, 64 at least; the first *count are written, the latest popped first, the others kept
+ *   count   how many blocks came; 0 for none
+ *   virgin  1 if each came from a page not released to since it was last carved from the arena or from a cold page whose
+ *           discard zeroed it, else 0; 0 for none
+ * Returns 0, or 1, 2, 3, 4, 5, 13.
+ */
+uint32_t vigbuso_take_blocks(uint32_t *book, size_t book_len, uint32_t size_class, uint32_t host, uint32_t *list,
+                             size_t list_len, uint32_t *count, uint32_t *virgin);
+
+/*
+ * Takes up to one span's blocks, 8 to 10, of a medium class. The list needs room for one span's blocks; all else as
+ * vigbuso_take_blocks.
+ * Returns 0, or 1, 2, 3, 4, 5, 13.
+ */
+uint32_t vigbuso_medium_take_blocks(uint32_t *book, size_t book_len, uint32_t size_class, uint32_t host, uint32_t *list,
+                                    size_t list_len, uint32_t *count, uint32_t *virgin);
+
+/*
+ * Releases blocks of a small class that are all on one page.
+ *   book   book_len words, written
+ *   list   list_len block words, read; 1 at least
+ *   fate   the page's: VIGBUSO_KEPT, VIGBUSO_COLD or VIGBUSO_TO_ARENA
+ * Returns 0, or 1, 2, 3, 4, 7, 9, 10, 11, 13.
+ */
+uint32_t vigbuso_release_blocks(uint32_t *book, size_t book_len, uint32_t size_class, uint32_t host, const uint32_t *list,
+                                size_t list_len, uint32_t *fate);
+
+/*
+ * Releases blocks of a medium class that are all in one span.
+ *   book   book_len words, written
+ *   list   list_len block words, read; 1 at least
+ *   fate   the span's: VIGBUSO_KEPT, for cold too, or VIGBUSO_TO_ARENA
+ * Returns 0, or 1, 2, 3, 4, 7, 9, 10, 11, 13.
+ */
+uint32_t vigbuso_medium_release_blocks(uint32_t *book, size_t book_len, uint32_t size_class, uint32_t host,
+                                       const uint32_t *list, size_t list_len, uint32_t *fate);
+
+/*
+ * Releases blocks of a small class on several pages, with a group for each page that tells how many of them it has.
+ *   book    book_len words, written
+ *   list    list_len block words, read; 1 at least
+ *   groups  groups_len group words, read; 1 to 2,056
+ *   fates   fates_len words, groups_len at least; the first groups_len are written, in the groups' order, the others kept
+ * Returns 0, or 1, 2, 3, 4, 7, 8, 9, 10, 11, 13.
+ */
+uint32_t vigbuso_release_bin_chunks(uint32_t *book, size_t book_len, uint32_t size_class, uint32_t host,
+                                    const uint32_t *list, size_t list_len, const uint32_t *groups, size_t groups_len,
+                                    uint32_t *fates, size_t fates_len);
+
+#ifdef __cplusplus
+}
+#endif
+
+#endif
