@@ -1,0 +1,56 @@
+-- What the contract of each exported function says of a call is what the demands say of it. Assumes nothing.
+use Prim.Native.Nat.{ℕ}
+use mathlib.Core.List.{List}
+use mathlib.Core.Path.{_≡_, sym, _∙_}
+use Rattle.words.specs.Host.{digit}
+use Rattle.fields.specs.Outcome.{Did}
+use Rattle.model.specs.Calls as Calls
+use Rattle.direct.specs.Answer.{Releases}
+use Rattle.vigbuso.specs.Direct as Direct
+use Rattle.vigbuso.specs.Direct.{openOn, commitOn, CommitEnds, growOn, GrowEnds, containsOn, reportOn, ReportEnds}
+use Rattle.vigbuso.specs.Blocks as Blocks
+use Rattle.vigbuso.specs.Blocks.{takeOn, TakeEnds, ReleaseEnds, chunksOn, ChunksEnds}
+use Rattle.demands.specs.Contracts as Shows
+use Rattle.demands.proofs.Contracts.{shows-call}
+use Rattle.demands.proofs.Refusals.{open-refuses, commit-refuses, grow-refuses, give-refuses, report-refuses, take-refuses, release-refuses, chunks-refuses, contains-answers}
+use Rattle.witness.specs.Seen.{Opened, TakeSeen, ListSeen, ChunksSeen, CommitSeen, GrowSeen, GiveSeen, ContainsSeen, ReportSeen}
+
+module _ (b : List ℕ) (r : ℕ) (b′ : List ℕ) where
+  pub open-seen : (n : ℕ) → Did r b′ (openOn b n) → Opened n r b b′
+  open-seen n e = record { number = open-refuses b n r b′ e; opens = (λ z. sym (e .answer) ∙ z, λ z. e .answer ∙ z); book = e .left }
+
+  pub commit-seen : (h m q q′ f f′ : ℕ) → CommitEnds (commitOn b h m) r b′ q q′ f f′ → CommitSeen (Calls.commit h m) r b b′ q q′ f f′
+  commit-seen h m q q′ f f′ e = record { number = commit-refuses b h m r b′ q q′ f f′ e; replies = shows-call (Shows.commit h m r q q′ f f′ b′ e) }
+
+  pub grow-seen : (h q old new g g′ : ℕ) → GrowEnds (growOn b h q old new) r b′ g g′ → GrowSeen (Calls.growFrontier h q old new) r b b′ g g′
+  grow-seen h q old new g g′ e = record { number = grow-refuses b h q old new r b′ g g′ e; replies = shows-call (Shows.grow-frontier h q old new r g g′ b′ e) }
+
+  pub give-seen : (h q m : ℕ) → Releases r b′ (Direct.releaseOn b h q m) → GiveSeen (Calls.release h q m) r b b′
+  give-seen h q m e = record { number = give-refuses b h q m r b′ e; replies = shows-call (Shows.release h q m r b′ e) }
+
+  pub take-seen : (c h : ℕ) (l l′ : List ℕ) (k k′ v v′ : ℕ) → TakeEnds (takeOn 0 64 b c h l) r b′ l′ k k′ v v′
+      → TakeSeen (Calls.takeBlocks c h) r b b′ l l′ k k′ v v′
+  take-seen c h l l′ k k′ v v′ e = record { number = take-refuses 0 64 b c h l r b′ l′ k k′ v v′ e; replies = shows-call (Shows.take-blocks c h r k k′ v v′ b′ l l′ e) }
+
+  pub medium-take-seen : (c h : ℕ) (l l′ : List ℕ) (k k′ v v′ : ℕ) → TakeEnds (takeOn 64 12 b c h l) r b′ l′ k k′ v v′
+      → TakeSeen (Calls.mediumTakeBlocks c h) r b b′ l l′ k k′ v v′
+  medium-take-seen c h l l′ k k′ v v′ e = record { number = take-refuses 64 12 b c h l r b′ l′ k k′ v v′ e; replies = shows-call (Shows.medium-take-blocks c h r k k′ v v′ b′ l l′ e) }
+
+  pub release-seen : (c h : ℕ) (ws : List ℕ) (f f′ : ℕ) → ReleaseEnds (Blocks.releaseOn 0 64 b c h ws) r b′ f f′
+      → ListSeen (Calls.releaseBlocks c h ws) r b b′ f f′
+  release-seen c h ws f f′ e = record { number = release-refuses 0 64 b c h ws r b′ f f′ e; replies = shows-call (Shows.release-blocks c h r f f′ b′ ws e) }
+
+  pub medium-release-seen : (c h : ℕ) (ws : List ℕ) (f f′ : ℕ) → ReleaseEnds (Blocks.releaseOn 64 12 b c h ws) r b′ f f′
+      → ListSeen (Calls.mediumReleaseBlocks c h ws) r b b′ f f′
+  medium-release-seen c h ws f f′ e = record { number = release-refuses 64 12 b c h ws r b′ f f′ e; replies = shows-call (Shows.medium-release-blocks c h r f f′ b′ ws e) }
+
+  pub chunks-seen : (c h : ℕ) (ws gs fs fs′ : List ℕ) → ChunksEnds (chunksOn b c h ws gs fs) r b′ fs′
+      → ChunksSeen (Calls.releaseBinChunks c h ws gs) r b b′ fs fs′
+  chunks-seen c h ws gs fs fs′ e = record { number = chunks-refuses b c h ws gs fs r b′ fs′ e; replies = shows-call (Shows.release-bin-chunks c h r b′ ws gs fs fs′ e) }
+
+module _ (b : List ℕ) (r : ℕ) where
+  pub contains-seen : (o k : ℕ) → r ≡ digit (containsOn b o k) → ContainsSeen (Calls.contains o k) r b
+  contains-seen o k e = record { number = contains-answers b o k r e; replies = shows-call (Shows.contains o k r e) }
+
+  pub report-seen : (fs fs′ : List ℕ) → ReportEnds (reportOn b) r fs fs′ → ReportSeen r b fs fs′
+  report-seen fs fs′ e = record { number = report-refuses b r fs fs′ e; replies = shows-call (Shows.report r fs fs′ e) }

@@ -1,0 +1,68 @@
+-- What a caller sees of the exported functions, in the words of the demands (crate demands) and no longer of the contracts. Assumes
+-- nothing.
+--     Numbered    the number that a call answers is document 01's (demand 1)
+--     Seen        that, and the call's reply is the one that the histories of demands 2 and 3 are made of
+--     Opened      the same of an opening, which starts a history
+--     .. Seen     Seen, for what the functions of one shape are lent
+-- r is what the function returns; a name with ′ is what a lent slice or an out-parameter holds afterwards.
+use Prim.Native.Nat.{ℕ}
+use mathlib.Core.List.{List, []}
+use mathlib.Core.Logic.{_↔_}
+use mathlib.Core.Path.{_≡_}
+use lib.Dec.{eqb}
+use Rattle.model.specs.Calls as Calls
+use Rattle.model.specs.Calls.{Call, taken, fate, fates, released, contained}
+use Rattle.refinement.specs.Direct.{Reply, reply, reportedOf}
+use Rattle.demands.specs.Call.{call}
+use Rattle.demands.specs.Run.{Opens, bookAfter}
+use Rattle.demands.specs.Contracts.{runSeen}
+use Rattle.demands.specs.Refusals.{Refuses, Contains, openTable, commitTable, growTable, giveTable, reportTable, takeTable, releaseTable, chunksTable}
+
+-- Same: all that the call was lent to write is as it was
+abbrev pub Numbered : List ℕ → Call → ℕ → Type 0 → Type 0
+Numbered b (Calls.takeBlocks c h l) r Same = Refuses (takeTable 0 64 b c h l) r Same
+Numbered b (Calls.mediumTakeBlocks c h l) r Same = Refuses (takeTable 64 12 b c h l) r Same
+Numbered b (Calls.releaseBlocks c h ws) r Same = Refuses (releaseTable 0 64 b c h ws) r Same
+Numbered b (Calls.mediumReleaseBlocks c h ws) r Same = Refuses (releaseTable 64 12 b c h ws) r Same
+Numbered b (Calls.releaseBinChunks c h ws gs fs) r Same = Refuses (chunksTable b c h ws gs fs) r Same
+Numbered b (Calls.commit h m) r Same = Refuses (commitTable b h m) r Same
+Numbered b (Calls.growFrontier h q old new) r Same = Refuses (growTable b h q old new) r Same
+Numbered b (Calls.release h q m) r Same = Refuses (giveTable b h q m) r Same
+Numbered b (Calls.contains o k) r Same = Contains b r
+Numbered b Calls.report r Same = Refuses (reportTable b) r Same
+
+-- the call x on the book b returned r; w is what is read of its answer and its book
+pub record Seen (b : List ℕ) (x : Call) (r : ℕ) (w : Reply) (Same : Type 0) : Type 0 where
+  pub number : Numbered b x r Same
+  pub replies : w ≡ call b x
+
+pub record Opened (n r : ℕ) (b b′ : List ℕ) : Type 0 where
+  pub number : Refuses (openTable b n) r (b′ ≡ b)
+  pub opens : (r ≡ 0) ↔ Opens n b
+  pub book : b′ ≡ bookAfter n b []
+
+-- ---- the shapes
+abbrev pub TakeSeen : (List ℕ → Call) → ℕ → (b b′ l l′ : List ℕ) → (k k′ v v′ : ℕ) → Type 0
+TakeSeen x r b b′ l l′ k k′ v v′ = Seen b (x l) r (reply r (taken k′ l′ (eqb v′ 1)) b′) ((b′ ≡ b) × (l′ ≡ l) × (k′ ≡ k) × (v′ ≡ v))
+
+abbrev pub ListSeen : Call → ℕ → (b b′ : List ℕ) → (f f′ : ℕ) → Type 0
+ListSeen x r b b′ f f′ = Seen b x r (reply r (fate f′) b′) ((b′ ≡ b) × (f′ ≡ f))
+
+abbrev pub ChunksSeen : (List ℕ → Call) → ℕ → (b b′ fs fs′ : List ℕ) → Type 0
+ChunksSeen x r b b′ fs fs′ = Seen b (x fs) r (reply r (fates fs′) b′) ((b′ ≡ b) × (fs′ ≡ fs))
+
+abbrev pub CommitSeen : Call → ℕ → (b b′ : List ℕ) → (q q′ f f′ : ℕ) → Type 0
+CommitSeen x r b b′ q q′ f f′ = Seen b x r (reply r (runSeen q′ f′) b′) ((b′ ≡ b) × (q′ ≡ q) × (f′ ≡ f))
+
+abbrev pub GrowSeen : Call → ℕ → (b b′ : List ℕ) → (g g′ : ℕ) → Type 0
+GrowSeen x r b b′ g g′ = Seen b x r (reply r (Calls.grown (eqb g′ 1)) b′) ((b′ ≡ b) × (g′ ≡ g))
+
+abbrev pub GiveSeen : Call → ℕ → (b b′ : List ℕ) → Type 0
+GiveSeen x r b b′ = Seen b x r (reply r released b′) (b′ ≡ b)
+
+-- these two are lent the book to read
+abbrev pub ContainsSeen : Call → ℕ → List ℕ → Type 0
+ContainsSeen x r b = Seen b x r (reply 0 (contained (eqb r 1)) b) (Unit {0})
+
+abbrev pub ReportSeen : ℕ → (b fs fs′ : List ℕ) → Type 0
+ReportSeen r b fs fs′ = Seen b Calls.report r (reply r (reportedOf fs′) b) (fs′ ≡ fs)
