@@ -22,15 +22,6 @@ fn main() {
     println!("cargo:rustc-link-lib=static=vigbuso");
     // The test of the C header links the same archive.
     println!("cargo:rustc-env=VIGBUSO_ARCHIVE={}", archive.display());
-    println!("cargo:rustc-check-cfg=cfg(group_release)");
-    if has(&archive, b"vigbuso_release_bin_chunks") {
-        println!("cargo:rustc-cfg=group_release");
-    }
-}
-
-fn has(archive: &Path, name: &[u8]) -> bool {
-    let bytes = fs::read(archive).expect("the archive is read");
-    bytes.windows(name.len()).any(|window| window == name)
 }
 
 /// The repository's own archive, no older than what it is made of.

@@ -21,7 +21,6 @@
 
 use crate::{Block, Refusal};
 
-#[cfg(group_release)]
 use crate::Chunk;
 
 extern "C" {
@@ -79,7 +78,6 @@ extern "C" {
         list_len: usize,
         fate: *mut u32,
     ) -> u32;
-    #[cfg(group_release)]
     fn vigbuso_release_bin_chunks(
         book: *mut u32,
         book_len: usize,
@@ -201,7 +199,6 @@ pub(crate) fn release(book: &mut [u32], family: Family, class: u32, host: u32, l
 }
 
 /// Writes a fate for each group.
-#[cfg(group_release)]
 pub(crate) fn release_chunks(
     book: &mut [u32],
     class: u32,
@@ -282,7 +279,6 @@ mod tests {
         assert_eq!(book, before);
     }
 
-    #[cfg(group_release)]
     #[test]
     fn groups_want_a_fate_each() {
         let mut book = opened();

@@ -5,7 +5,6 @@ use std::fmt;
 use crate::ffi::{self, Family};
 use crate::{Block, Committed, Fate, Host, Refusal, Report, Run, Taken};
 
-#[cfg(group_release)]
 use crate::Chunk;
 
 /// The most pages of an arena.
@@ -178,7 +177,6 @@ impl Heap {
     /// # Errors
     ///
     /// As [`Heap::release`], and [`Refusal::Groups`] for more than [`Chunk::MOST`] chunks.
-    #[cfg(group_release)]
     pub fn release_chunks(
         &mut self,
         class: u32,

@@ -25,7 +25,7 @@
 //! |---|---|
 //! | [`Heap::open`], [`Heap::report`], [`Heap::contains`] | [`Heap::take`], [`Heap::medium_take`] |
 //! | [`Heap::commit`], [`Heap::grow_frontier`], [`Heap::release_run`] | [`Heap::release`], [`Heap::medium_release`] |
-#![cfg_attr(group_release, doc = "| | [`Heap::release_chunks`] |")]
+//! | | [`Heap::release_chunks`] |
 //!
 //! The code behind the methods is proved: what each call answers and leaves behind is a definition, and the library is
 //! built only if the code does just that. Document 01, which the comments cite, is the paper that states the heap's

@@ -51,7 +51,6 @@ fn p8_released_as_one_page() {
     assert_eq!(granules(&heap.take(45, Host::ALL).expect("class 45")), [3, 1027, 2051]);
 }
 
-#[cfg(group_release)]
 #[test]
 fn p9_released_as_a_group() {
     use vigbuso::{Chunk, Fate};

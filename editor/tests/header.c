@@ -89,7 +89,6 @@ static void report(void) {
     IS(figures[4], PAGES - 4);
 }
 
-#ifdef GROUP_RELEASE
 static void groups(void) {
     uint32_t list[VIGBUSO_BATCH], count = 0, virgin = 0, fates[2] = {7, 7}, group;
     IS(vigbuso_take_blocks(book, words, 45, HOST, list, VIGBUSO_BATCH, &count, &virgin), 0);
@@ -100,7 +99,6 @@ static void groups(void) {
     IS(fates[0], VIGBUSO_KEPT + VIGBUSO_RETIRED);
     IS(fates[1], 7);
 }
-#endif
 
 int main(void) {
     book = calloc(words, sizeof *book);
@@ -113,9 +111,7 @@ int main(void) {
     medium_blocks();
     runs();
     report();
-#ifdef GROUP_RELEASE
     groups();
-#endif
     free(book);
     printf("%d differences\n", differences);
     return differences != 0;

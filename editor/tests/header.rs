@@ -12,9 +12,6 @@ fn a_c_program_calls_every_function() {
     let program = Path::new(env!("CARGO_TARGET_TMPDIR")).join("header");
     let mut gcc = Command::new("gcc");
     gcc.args(FLAGS).arg("-I").arg(package.join("../include"));
-    if cfg!(group_release) {
-        gcc.arg("-DGROUP_RELEASE");
-    }
     gcc.arg(package.join("tests/header.c")).arg(env!("VIGBUSO_ARCHIVE")).arg("-o").arg(&program);
     let compiled = match gcc.output() {
         Err(error) if error.kind() == ErrorKind::NotFound => {

@@ -175,7 +175,6 @@ fn blocks_are_disjoint_when_the_arena_runs_out() {
     assert!(play(24, 2, 3_000).nothing_left > 0);
 }
 
-#[cfg(group_release)]
 #[test]
 fn a_group_release_returns_everything() {
     use vigbuso::Chunk;

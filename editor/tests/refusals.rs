@@ -77,7 +77,6 @@ fn runs() {
     refuses(Refusal::NotHeld, |s| s.heap.grow_frontier(Host::ALL, Run { pages: 3, ..s.run }, 4));
 }
 
-#[cfg(group_release)]
 #[test]
 fn groups() {
     use vigbuso::Chunk;

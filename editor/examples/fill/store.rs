@@ -6,7 +6,6 @@ use std::ops::Range;
 
 use vigbuso::{class_for_size, medium_class_for_size, Block, Heap, Host, Kind, Report, Run, PAGE_BYTES};
 
-#[cfg(group_release)]
 use vigbuso::Chunk;
 
 use crate::pages::{pages_of_block, pages_of_run, Holder, Pages};
@@ -102,20 +101,11 @@ impl Store {
     fn give_back(&mut self, (kind, class): Class, mut blocks: Vec<Block>) -> Outcome<()> {
         blocks.sort_unstable();
         match kind {
-            #[cfg(group_release)]
             Kind::Small => {
                 let chunks = Chunk::of(&blocks);
                 let fates = self.heap.release_chunks(class, HOST, &blocks, &chunks)?;
                 for (chunk, _) in chunks.iter().zip(fates).filter(|(_, fate)| fate.is_arena()) {
                     self.holders[chunk.page() as usize] = Holder::Hole;
-                }
-            }
-            #[cfg(not(group_release))]
-            Kind::Small => {
-                for list in blocks.chunk_by(|a, b| a.page() == b.page()) {
-                    if self.heap.release(class, HOST, list)?.is_arena() {
-                        self.holders[list[0].page() as usize] = Holder::Hole;
-                    }
                 }
             }
             Kind::Medium => {
