@@ -2,6 +2,8 @@
 // a call a line, as compare/src/history.rs writes them: a name, the arguments, and after `=` what the call returned and wrote.
 mod arena_calls;
 mod block_calls;
+mod chunk_calls;
+mod lists;
 mod text;
 
 use libc::STDIN_FILENO;
@@ -46,7 +48,7 @@ fn replay_line(text: &[u8], at: usize, meta: &mut [u32]) -> Step
     replay_blocks(text, at, end, meta)
 }
 
-// The takes and releases by list.
+// The takes and releases.
 fn replay_blocks(text: &[u8], at: usize, end: usize, meta: &mut [u32]) -> Step
     requires { ⌜ at < length (now text) ⌝ }
     requires { ⌜ Reached (length (now text)) at end ⌝ }
@@ -65,6 +67,9 @@ fn replay_blocks(text: &[u8], at: usize, end: usize, meta: &mut [u32]) -> Step
     }
     if letter == b'm' && long == 21 {
         return block_calls::release(text, end, meta, true);
+    }
+    if letter == b'r' && long == 18 {
+        return chunk_calls::release_chunks(text, end, meta);
     }
     text::answered(text, end, letter == b'#' || letter == b'\n')
 }
@@ -98,8 +103,8 @@ fn replay(text: &[u8], meta: &mut [u32]) -> Tally {
 }
 
 fn main() {
-    let mut text = io::large_buffer();
-    let mut meta = [0u32; 138688];
+    let mut text = [0u8; 393216];
+    let mut meta = [0u32; 1158464];
     let n = io::read_full(STDIN_FILENO, &mut text);
     let tally = replay(&text[..n], &mut meta);
     io::print_decimal(STDOUT_FILENO, tally.calls);

@@ -1,7 +1,7 @@
 use borrow.Author.Needs.{needs}
 use lib.Seq.{length-take-le}
-use Rattle.replay.proofs.block_calls.call_first.Statement.{statement}
-use Rattle.replay.proofs.block_calls.call_first.Tie as tie
+use Rattle.replay.proofs.block_calls.release_first.Statement.{statement}
+use Rattle.replay.proofs.block_calls.release_first.Tie as tie
 
 call-release-requires : tie.Need-call-release-requires
 call-release-requires c κs = search needs
@@ -24,8 +24,8 @@ same-length-2 c = search needs
 returns-2 : tie.Need-returns-2
 returns-2 c = search needs
 
-pub call-first-spec : {M : Type 1} → statement M
-call-first-spec =
+pub release-first-spec : {M : Type 1} → statement M
+release-first-spec =
     tie.close
     (tie.spec
     call-release-requires

@@ -3,8 +3,8 @@ use lib.ListN.{length}
 use mathlib.Core.Path.{_≡_}
 use borrow.Author.Needs.{needs}
 use Rattle.replay.specs.Text.{Reached}
-use Rattle.replay.proofs.block_calls.read_list.Statement.{statement}
-use Rattle.replay.proofs.block_calls.read_list.Tie as tie
+use Rattle.replay.proofs.lists.read_list.Statement.{statement}
+use Rattle.replay.proofs.lists.read_list.Tie as tie
 
 abbrev Inv-loop : tie.InvT-loop
 Inv-loop text at count list₀ next₀ i₀ list next i = (Reached (length text) at next) × (i ≤ count)
