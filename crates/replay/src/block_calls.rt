@@ -1,6 +1,7 @@
 // The takes and releases by list: each is read from `at` on, made, and its answer compared.
 use super::lists::clipped;
 use super::lists::kept;
+use super::lists::lent;
 use super::lists::listed;
 use super::lists::read_list;
 use super::text;
@@ -99,10 +100,8 @@ fn take_first(
     list: &mut [u32],
     long: usize,
 ) -> Taken {
-    if list.len() < long {
-        return call_take(meta, medium, class, host, list);
-    }
-    call_take(meta, medium, class, host, &mut list[..long])
+    let n = lent(list, long);
+    call_take(meta, medium, class, host, &mut list[..n])
 }
 
 struct Freed {
@@ -135,10 +134,8 @@ fn release_first(
     list: &[u32],
     long: usize,
 ) -> Freed {
-    if list.len() < long {
-        return call_release(meta, medium, class, host, list);
-    }
-    call_release(meta, medium, class, host, &list[..long])
+    let n = lent(list, long);
+    call_release(meta, medium, class, host, &list[..n])
 }
 
 pub fn release(text: &[u8], at: usize, meta: &mut [u32], medium: bool) -> Step
@@ -147,13 +144,11 @@ pub fn release(text: &[u8], at: usize, meta: &mut [u32], medium: bool) -> Step
 {
     let class = text::number_at(text, at);
     let host = text::number_at(text, class.next);
-    let many = text::number_at(text, host.next);
-    let long = clipped(many.value);
-    let words = read_list(text, many.next, long);
+    let words = read_list(text, host.next);
     let list = words.list;
     let id = text::low(class.value);
     let h = text::low(host.value);
-    let answer = release_first(meta, medium, id, h, &list, long);
+    let answer = release_first(meta, medium, id, h, &list, words.count);
     compare_fate(text, words.next, answer)
 }
 

@@ -1,6 +1,7 @@
-// The group release: it is read from `at` on, made, and its answer compared.
+// The group release: it is read from `at` on, made, and its answer compared. Each function reads a list of it and hands the call on.
 use super::lists::clipped;
 use super::lists::kept;
+use super::lists::lent;
 use super::lists::listed;
 use super::lists::read_list;
 use super::text;
@@ -9,39 +10,24 @@ ghost use Prim.Native.Nat.{_≤_};
 ghost use lib.ListN.{length};
 ghost use Rattle.replay.specs.Text.{Onward};
 
-// How many words, chunks and fates there are.
-struct Lengths {
-    words: usize,
-    chunks: usize,
-    fates: usize,
-}
-
-// With the lists' first words.
-fn release_first(
+// With the first places for fates.
+fn call_release(
     meta: &mut [u32],
     class: u32,
     host: u32,
     list: &[u32],
     chunks: &[u32],
     fates: &mut [u32],
-    long: Lengths,
+    long: usize,
 ) -> u32 {
-    if list.len() < long.words {
-        return 0;
-    }
-    if chunks.len() < long.chunks {
-        return 0;
-    }
-    if fates.len() < long.fates {
-        return 0;
-    }
+    let n = lent(fates, long);
     vigbuso::chunk_calls::vigbuso_release_bin_chunks(
         meta,
         class,
         host,
-        &list[..long.words],
-        &chunks[..long.chunks],
-        &mut fates[..long.fates],
+        list,
+        chunks,
+        &mut fates[..n],
     )
 }
 
@@ -60,42 +46,56 @@ fn compare_fates(text: &[u8], at: usize, code: u32, fates: &[u32], chunks: usize
     text::answered(text, told.next, due.value == 0 && told.same && rest)
 }
 
+// The places for fates come next.
+fn release_named(
+    text: &[u8],
+    at: usize,
+    meta: &mut [u32],
+    class: u32,
+    host: u32,
+    list: &[u32],
+    chunks: &[u32],
+) -> Step
+    requires { ⌜ at ≤ length (now text) ⌝ }
+    ensures { λ r. ⌜ Onward (length (now (text .entry))) at (r .next) ⌝ }
+{
+    let places = text::number_at(text, at);
+    let content = text::number_at(text, places.next);
+    let fill = text::low(content.value);
+    let mut fates: [u32; 256] = [fill; 256];
+    let long = clipped(places.value);
+    let code = call_release(meta, class, host, list, chunks, &mut fates, long);
+    compare_fates(text, content.next, code, &fates, chunks.len(), fill)
+}
+
+// The chunks come next.
+fn release_listed(
+    text: &[u8],
+    at: usize,
+    meta: &mut [u32],
+    class: u32,
+    host: u32,
+    list: &[u32],
+) -> Step
+    requires { ⌜ at ≤ length (now text) ⌝ }
+    ensures { λ r. ⌜ Onward (length (now (text .entry))) at (r .next) ⌝ }
+{
+    let groups = read_list(text, at);
+    let chunks = groups.list;
+    let n = lent(&chunks, groups.count);
+    release_named(text, groups.next, meta, class, host, list, &chunks[..n])
+}
+
 pub fn release_chunks(text: &[u8], at: usize, meta: &mut [u32]) -> Step
     requires { ⌜ at ≤ length (now text) ⌝ }
     ensures { λ r. ⌜ Onward (length (now (text .entry))) at (r .next) ⌝ }
 {
     let class = text::number_at(text, at);
     let host = text::number_at(text, class.next);
-    let many = text::number_at(text, host.next);
-    let words = read_list(text, many.next, clipped(many.value));
-    let groups = text::number_at(text, words.next);
-    let chunks = read_list(text, groups.next, clipped(groups.value));
-    let lent = text::number_at(text, chunks.next);
-    let content = text::number_at(text, lent.next);
-    let fill = text::low(content.value);
-    let mut fates: [u32; 256] = [fill; 256];
-    let long = Lengths {
-        words: clipped(many.value),
-        chunks: clipped(groups.value),
-        fates: clipped(lent.value),
-    };
+    let words = read_list(text, host.next);
     let list = words.list;
-    let named = chunks.list;
-    let code = release_first(
-        meta,
-        text::low(class.value),
-        text::low(host.value),
-        &list,
-        &named,
-        &mut fates,
-        long,
-    );
-    compare_fates(
-        text,
-        content.next,
-        code,
-        &fates,
-        clipped(groups.value),
-        fill,
-    )
+    let n = lent(&list, words.count);
+    let id = text::low(class.value);
+    let h = text::low(host.value);
+    release_listed(text, words.next, meta, id, h, &list[..n])
 }

@@ -3,6 +3,7 @@ use super::text;
 use super::text::Step;
 ghost use Prim.Native.Nat.{_≤_};
 ghost use lib.ListN.{length};
+ghost use Rattle.io.specs.Counts.{Counts};
 ghost use Rattle.replay.specs.Text.{Reached};
 
 // A list's length.
@@ -10,6 +11,13 @@ pub fn clipped(n: u64) -> usize
     ensures { λ r. ⌜ r ≤ 256 ⌝ }
 {
     if n < 256 { n as usize } else { 256 }
+}
+
+// How many of a list's words a call is lent, `long` of them where there are so many.
+pub fn lent(list: &[u32], long: usize) -> usize
+    ensures { λ r. ⌜ Counts r (now (list .entry)) ⌝ }
+{
+    if list.len() < long { list.len() } else { long }
 }
 
 // Whether so many entries of a list are the numbers of the text, and the place after them.
@@ -43,13 +51,15 @@ pub fn kept(list: &[u32], from: usize, fill: u32) -> bool {
     same
 }
 
-// A list of the text, and the place after it.
+// A list of the text: its words, how many, and the place after them.
 pub struct Words {
     pub list: [u32; 256],
+    pub count: usize,
     pub next: usize,
 }
 
-pub fn read_list(text: &[u8], at: usize, count: usize) -> Words
+// So many words from `at` on.
+fn read_words(text: &[u8], at: usize, count: usize) -> Words
     requires { ⌜ at ≤ length (now text) ⌝ }
     requires { ⌜ count ≤ 256 ⌝ }
     ensures { λ r. ⌜ Reached (length (now (text .entry))) at (r .next) ⌝ }
@@ -63,5 +73,15 @@ pub fn read_list(text: &[u8], at: usize, count: usize) -> Words
         next = word.next;
         i += 1;
     }
-    Words { list, next }
+    Words { list, count, next }
+}
+
+// The list at or after `at`, whose length stands before it.
+pub fn read_list(text: &[u8], at: usize) -> Words
+    requires { ⌜ at ≤ length (now text) ⌝ }
+    ensures { λ r. ⌜ Reached (length (now (text .entry))) at (r .next) ⌝ }
+{
+    let many = text::number_at(text, at);
+    let count = clipped(many.value);
+    read_words(text, many.next, count)
 }

@@ -10,6 +10,7 @@ use libc::STDIN_FILENO;
 use libc::STDOUT_FILENO;
 use text::Step;
 ghost use Prim.Native.Nat.{_<_};
+ghost use mathlib.Core.Path.{_≡_};
 ghost use lib.ListN.{length};
 ghost use Rattle.replay.specs.Text.{Onward, Reached};
 
@@ -102,9 +103,23 @@ fn replay(text: &[u8], meta: &mut [u32]) -> Tally {
     tally
 }
 
+// Room for the stored calls. That its length is said lets it be lent as a slice.
+fn room() -> [u8; 393216]
+    ensures { λ r. ⌜ 393216 ≡ length r ⌝ }
+{
+    [0; 393216]
+}
+
+// A book for 272 pages: the histories that have a class retire 260 pages and more need so many.
+fn book() -> [u32; 1158464]
+    ensures { λ r. ⌜ 1158464 ≡ length r ⌝ }
+{
+    [0; 1158464]
+}
+
 fn main() {
-    let mut text = [0u8; 393216];
-    let mut meta = [0u32; 1158464];
+    let mut text = room();
+    let mut meta = book();
     let n = io::read_full(STDIN_FILENO, &mut text);
     let tally = replay(&text[..n], &mut meta);
     io::print_decimal(STDOUT_FILENO, tally.calls);
