@@ -34,7 +34,7 @@ pub fn take(text: &[u8], at: usize, meta: &mut [u32], medium: bool) -> Step
     let n = five.values;
     let fill = text::low(n[3]);
     let long = clipped(n[2]);
-    let mut list: [u32; 256] = [fill; 256];
+    let mut list: [u32; 4096] = [fill; 4096];
     let answer = take_first(
         meta,
         medium,

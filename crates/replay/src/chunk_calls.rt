@@ -62,7 +62,7 @@ fn release_named(
     let places = text::number_at(text, at);
     let content = text::number_at(text, places.next);
     let fill = text::low(content.value);
-    let mut fates: [u32; 256] = [fill; 256];
+    let mut fates: [u32; 4096] = [fill; 4096];
     let long = clipped(places.value);
     let code = call_release(meta, class, host, list, chunks, &mut fates, long);
     compare_fates(text, content.next, code, &fates, chunks.len(), fill)

@@ -1,4 +1,4 @@
-// The lists of the stored calls. One has at most 256 words.
+// The lists of the stored calls. One has at most 4,096 words.
 use super::text;
 use super::text::Step;
 ghost use Prim.Native.Nat.{_≤_};
@@ -8,9 +8,9 @@ ghost use Rattle.replay.specs.Text.{Reached};
 
 // A list's length.
 pub fn clipped(n: u64) -> usize
-    ensures { λ r. ⌜ r ≤ 256 ⌝ }
+    ensures { λ r. ⌜ r ≤ 4096 ⌝ }
 {
-    if n < 256 { n as usize } else { 256 }
+    if n < 4096 { n as usize } else { 4096 }
 }
 
 // How many of a list's words a call is lent, `long` of them where there are so many.
@@ -53,7 +53,7 @@ pub fn kept(list: &[u32], from: usize, fill: u32) -> bool {
 
 // A list of the text: its words, how many, and the place after them.
 pub struct Words {
-    pub list: [u32; 256],
+    pub list: [u32; 4096],
     pub count: usize,
     pub next: usize,
 }
@@ -61,10 +61,10 @@ pub struct Words {
 // So many words from `at` on.
 fn read_words(text: &[u8], at: usize, count: usize) -> Words
     requires { ⌜ at ≤ length (now text) ⌝ }
-    requires { ⌜ count ≤ 256 ⌝ }
+    requires { ⌜ count ≤ 4096 ⌝ }
     ensures { λ r. ⌜ Reached (length (now (text .entry))) at (r .next) ⌝ }
 {
-    let mut list: [u32; 256] = [0; 256];
+    let mut list: [u32; 4096] = [0; 4096];
     let mut next = at;
     let mut i: usize = 0;
     while i < count {
