@@ -110,7 +110,7 @@ fn room() -> [u8; 393216]
     [0; 393216]
 }
 
-// A book for 272 pages: the histories that have a class retire 260 pages and more need so many.
+// A book for 272 pages, which the history with the fates 2 and 6 opens.
 fn book() -> [u32; 1158464]
     ensures { λ r. ⌜ 1158464 ≡ length r ⌝ }
 {
