@@ -1,71 +1,14 @@
-// The takes and releases by list: each is read from `at` on, made, and its answer compared. A take is lent 128 entries, whatever
-// the line says, and a release has at most 128.
+// The takes and releases by list: each is read from `at` on, made, and its answer compared.
+use super::lists::clipped;
+use super::lists::kept;
+use super::lists::lent;
+use super::lists::listed;
+use super::lists::read_list;
 use super::text;
 use super::text::Step;
 ghost use Prim.Native.Nat.{_≤_};
 ghost use lib.ListN.{length};
-ghost use Rattle.replay.specs.Text.{Reached, Onward};
-
-// A release's length.
-fn clipped(n: u64) -> usize
-    ensures { λ r. ⌜ r ≤ 128 ⌝ }
-{
-    if n < 128 { n as usize } else { 128 }
-}
-
-// Whether so many entries of a list are the numbers of the text, and the place after them.
-fn listed(text: &[u8], at: usize, list: &[u32], count: usize) -> Step
-    requires { ⌜ at ≤ length (now text) ⌝ }
-    ensures { λ r. ⌜ Reached (length (now (text .entry))) at (r .next) ⌝ }
-{
-    let mut next = at;
-    let mut same = true;
-    let mut i: usize = 0;
-    while i < list.len() {
-        if count <= i {
-            return Step { next, same };
-        }
-        let due = text::number_at(text, next);
-        same = same && text::wide(list[i]) == due.value;
-        next = due.next;
-        i += 1;
-    }
-    Step { next, same }
-}
-
-// Whether the entries from `from` on are still what they were.
-fn kept(list: &[u32], from: usize, fill: u32) -> bool {
-    let mut same = true;
-    let mut i = from;
-    while i < list.len() {
-        same = same && list[i] == fill;
-        i += 1;
-    }
-    same
-}
-
-// The list of a release, and the place after it.
-struct Words {
-    list: [u32; 128],
-    next: usize,
-}
-
-fn read_list(text: &[u8], at: usize, count: usize) -> Words
-    requires { ⌜ at ≤ length (now text) ⌝ }
-    requires { ⌜ count ≤ 128 ⌝ }
-    ensures { λ r. ⌜ Reached (length (now (text .entry))) at (r .next) ⌝ }
-{
-    let mut list: [u32; 128] = [0; 128];
-    let mut next = at;
-    let mut i: usize = 0;
-    while i < count {
-        let word = text::number_at(text, next);
-        list[i] = text::low(word.value);
-        next = word.next;
-        i += 1;
-    }
-    Words { list, next }
-}
+ghost use Rattle.replay.specs.Text.{Onward};
 
 // What a take answered, and its list, against the line from `at` on.
 fn took(text: &[u8], at: usize, list: &[u32], fill: u32, count: u32, virgin: u32) -> Step
@@ -90,8 +33,16 @@ pub fn take(text: &[u8], at: usize, meta: &mut [u32], medium: bool) -> Step
     let five = text::five_at(text, at);
     let n = five.values;
     let fill = text::low(n[3]);
-    let mut list: [u32; 128] = [fill; 128];
-    let answer = call_take(meta, medium, text::low(n[0]), text::low(n[1]), &mut list);
+    let long = clipped(n[2]);
+    let mut list: [u32; 4096] = [fill; 4096];
+    let answer = take_first(
+        meta,
+        medium,
+        text::low(n[0]),
+        text::low(n[1]),
+        &mut list,
+        long,
+    );
     if answer.code != 0 {
         return text::answered(text, five.next, answer.code as u64 == n[4]);
     }
@@ -140,6 +91,19 @@ fn call_take(meta: &mut [u32], medium: bool, class: u32, host: u32, list: &mut [
     }
 }
 
+// With the list's first places.
+fn take_first(
+    meta: &mut [u32],
+    medium: bool,
+    class: u32,
+    host: u32,
+    list: &mut [u32],
+    long: usize,
+) -> Taken {
+    let n = lent(list, long);
+    call_take(meta, medium, class, host, &mut list[..n])
+}
+
 struct Freed {
     code: u32,
     fate: u32,
@@ -161,8 +125,8 @@ fn call_release(meta: &mut [u32], medium: bool, class: u32, host: u32, list: &[u
     Freed { code, fate }
 }
 
-// With the list's first entries.
-fn call_first(
+// With the list's first words.
+fn release_first(
     meta: &mut [u32],
     medium: bool,
     class: u32,
@@ -170,10 +134,8 @@ fn call_first(
     list: &[u32],
     long: usize,
 ) -> Freed {
-    if list.len() < long {
-        return call_release(meta, medium, class, host, list);
-    }
-    call_release(meta, medium, class, host, &list[..long])
+    let n = lent(list, long);
+    call_release(meta, medium, class, host, &list[..n])
 }
 
 pub fn release(text: &[u8], at: usize, meta: &mut [u32], medium: bool) -> Step
@@ -182,13 +144,11 @@ pub fn release(text: &[u8], at: usize, meta: &mut [u32], medium: bool) -> Step
 {
     let class = text::number_at(text, at);
     let host = text::number_at(text, class.next);
-    let many = text::number_at(text, host.next);
-    let long = clipped(many.value);
-    let words = read_list(text, many.next, long);
+    let words = read_list(text, host.next);
     let list = words.list;
     let id = text::low(class.value);
     let h = text::low(host.value);
-    let answer = call_first(meta, medium, id, h, &list, long);
+    let answer = release_first(meta, medium, id, h, &list, words.count);
     compare_fate(text, words.next, answer)
 }
 

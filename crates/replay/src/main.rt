@@ -2,12 +2,15 @@
 // a call a line, as compare/src/history.rs writes them: a name, the arguments, and after `=` what the call returned and wrote.
 mod arena_calls;
 mod block_calls;
+mod chunk_calls;
+mod lists;
 mod text;
 
 use libc::STDIN_FILENO;
 use libc::STDOUT_FILENO;
 use text::Step;
 ghost use Prim.Native.Nat.{_<_};
+ghost use mathlib.Core.Path.{_≡_};
 ghost use lib.ListN.{length};
 ghost use Rattle.replay.specs.Text.{Onward, Reached};
 
@@ -46,7 +49,7 @@ fn replay_line(text: &[u8], at: usize, meta: &mut [u32]) -> Step
     replay_blocks(text, at, end, meta)
 }
 
-// The takes and releases by list.
+// The takes and releases.
 fn replay_blocks(text: &[u8], at: usize, end: usize, meta: &mut [u32]) -> Step
     requires { ⌜ at < length (now text) ⌝ }
     requires { ⌜ Reached (length (now text)) at end ⌝ }
@@ -65,6 +68,9 @@ fn replay_blocks(text: &[u8], at: usize, end: usize, meta: &mut [u32]) -> Step
     }
     if letter == b'm' && long == 21 {
         return block_calls::release(text, end, meta, true);
+    }
+    if letter == b'r' && long == 18 {
+        return chunk_calls::release_chunks(text, end, meta);
     }
     text::answered(text, end, letter == b'#' || letter == b'\n')
 }
@@ -97,9 +103,23 @@ fn replay(text: &[u8], meta: &mut [u32]) -> Tally {
     tally
 }
 
+// Room for the stored calls. That its length is said lets it be lent as a slice.
+fn room() -> [u8; 393216]
+    ensures { λ r. ⌜ 393216 ≡ length r ⌝ }
+{
+    [0; 393216]
+}
+
+// A book for 272 pages, which the history with the fates 2 and 6 opens.
+fn book() -> [u32; 1158464]
+    ensures { λ r. ⌜ 1158464 ≡ length r ⌝ }
+{
+    [0; 1158464]
+}
+
 fn main() {
-    let mut text = io::large_buffer();
-    let mut meta = [0u32; 138688];
+    let mut text = room();
+    let mut meta = book();
     let n = io::read_full(STDIN_FILENO, &mut text);
     let tally = replay(&text[..n], &mut meta);
     io::print_decimal(STDOUT_FILENO, tally.calls);

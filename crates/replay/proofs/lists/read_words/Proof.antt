@@ -3,8 +3,8 @@ use lib.ListN.{length}
 use mathlib.Core.Path.{_≡_}
 use borrow.Author.Needs.{needs}
 use Rattle.replay.specs.Text.{Reached}
-use Rattle.replay.proofs.block_calls.read_list.Statement.{statement}
-use Rattle.replay.proofs.block_calls.read_list.Tie as tie
+use Rattle.replay.proofs.lists.read_words.Statement.{statement}
+use Rattle.replay.proofs.lists.read_words.Tie as tie
 
 abbrev Inv-loop : tie.InvT-loop
 Inv-loop text at count list₀ next₀ i₀ list next i = (Reached (length text) at next) × (i ≤ count)
@@ -39,8 +39,8 @@ loop-again c = search needs
 returns : tie.Need-returns Inv-loop μ-loop
 returns c = search needs
 
-pub read-list-spec : {M : Type 1} → statement M
-read-list-spec =
+pub read-words-spec : {M : Type 1} → statement M
+read-words-spec =
     tie.close
     (tie.spec
     Inv-loop

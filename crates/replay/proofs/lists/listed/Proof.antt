@@ -3,8 +3,8 @@ use lib.ListN.{length}
 use mathlib.Core.Path.{_≡_}
 use borrow.Author.Needs.{needs}
 use Rattle.replay.specs.Text.{Reached}
-use Rattle.replay.proofs.block_calls.listed.Statement.{statement}
-use Rattle.replay.proofs.block_calls.listed.Tie as tie
+use Rattle.replay.proofs.lists.listed.Statement.{statement}
+use Rattle.replay.proofs.lists.listed.Tie as tie
 
 abbrev Inv-loop : tie.InvT-loop
 Inv-loop text at list count next₀ same₀ i₀ next same i = (Reached (length text) at next) × (i ≤ length list)

@@ -3,8 +3,8 @@ use lib.ListN.{length}
 use mathlib.Core.Path.{_≡_}
 use borrow.Author.Needs.{needs}
 use Rattle.replay.specs.Text.{Reached}
-use Rattle.replay.proofs.block_calls.kept.Statement.{statement}
-use Rattle.replay.proofs.block_calls.kept.Tie as tie
+use Rattle.replay.proofs.lists.kept.Statement.{statement}
+use Rattle.replay.proofs.lists.kept.Tie as tie
 
 abbrev Inv-loop : tie.InvT-loop
 Inv-loop list from fill same₀ i₀ same i = Unit {0}

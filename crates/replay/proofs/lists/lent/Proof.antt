@@ -1,0 +1,21 @@
+use Prim.Native.Nat.{ℕ, _≤_}
+use mathlib.Core.Path.{sym}
+use mathlib.Core.List.{List}
+use lib.ListN.{length}
+use lib.Seq.{length-take-le}
+use borrow.Author.Needs.{needs}
+use Rattle.io.specs.Counts.{Counts}
+use Rattle.replay.proofs.lists.lent.Statement.{statement}
+use Rattle.replay.proofs.lists.lent.Tie as tie
+
+counts : (n : ℕ) (xs : List ℕ) → n ≤ length xs → Counts n xs
+counts n xs h = (h, sym (length-take-le n xs h))
+
+returns : tie.Need-returns
+returns c = counts _ _ (search needs)
+
+returns-2 : tie.Need-returns-2
+returns-2 c = counts _ _ (search needs)
+
+pub lent-spec : {M : Type 1} → statement M
+lent-spec = tie.close (tie.spec returns returns-2)

@@ -1,0 +1,9 @@
+use Rattle.replay.proofs.Zeros.{zeros}
+use Rattle.replay.proofs.room.Statement.{statement}
+use Rattle.replay.proofs.room.Tie as tie
+
+returns : tie.Need-returns
+returns c = zeros 393216
+
+pub room-spec : {M : Type 1} → statement M
+room-spec = tie.close (tie.spec returns)
