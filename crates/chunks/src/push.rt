@@ -2,10 +2,12 @@
 ghost use mathlib.Core.Path.{_≡_};
 ghost use Rattle.heap.specs.Release.{pageAt};
 ghost use Rattle.pages.specs.Stack.{indexOf};
+ghost use Rattle.stack.specs.Inverse.{inverse};
 ghost use Rattle.chunks.specs.Pass.{pushOne, pushAll};
 ghost use Rattle.chunks.specs.PushAsks.{PushOneAsks, PushAllAsks};
 use classes::Shape;
-use stack::index_of;
+use stack::index_by;
+use stack::inverse_of;
 use words::Word;
 
 // The page that has the word's granule.
@@ -15,24 +17,34 @@ fn page_at(w: u32) -> u32
     Word::of(w).granule() / 4096
 }
 
-fn push_block(meta: &mut [u32], shape: Shape, w: u32)
+fn push_block(meta: &mut [u32], shape: Shape, inv: u64, w: u32)
     requires { ⌜ PushOneAsks (now meta) shape w ⌝ }
+    requires { ⌜ inv ≡ inverse (shape .block) ⌝ }
     ensures { λ _. ⌜ now (meta .exit) ≡ pushOne (now (meta .entry)) (pageAt w) (indexOf shape (pageAt w) w) ⌝ }
 {
     let q = page_at(w);
     let top = fields::page::free(meta, q);
-    fields::slot::set_entry(meta, q, top, index_of(shape, q, w));
+    fields::slot::set_entry(meta, q, top, index_by(shape, inv, q, w));
     fields::page::set_free(meta, q, top + 1);
 }
 
 // The list's last block first, so that of a page's blocks the list's first is on top.
-pub fn push_blocks(meta: &mut [u32], shape: Shape, list: &[u32])
+fn push_with(meta: &mut [u32], shape: Shape, inv: u64, list: &[u32])
     requires { ⌜ PushAllAsks (now meta) shape (now list) ⌝ }
+    requires { ⌜ inv ≡ inverse (shape .block) ⌝ }
     ensures { λ _. ⌜ now (meta .exit) ≡ pushAll (now (meta .entry)) shape (now (list .entry)) ⌝ }
 {
     let mut i = list.len();
     while i != 0 {
         i -= 1;
-        push_block(meta, shape, list[i]);
+        push_block(meta, shape, inv, list[i]);
     }
+}
+
+// One division for the whole list.
+pub fn push_blocks(meta: &mut [u32], shape: Shape, list: &[u32])
+    requires { ⌜ PushAllAsks (now meta) shape (now list) ⌝ }
+    ensures { λ _. ⌜ now (meta .exit) ≡ pushAll (now (meta .entry)) shape (now (list .entry)) ⌝ }
+{
+    push_with(meta, shape, inverse_of(shape.block), list);
 }

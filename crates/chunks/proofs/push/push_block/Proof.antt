@@ -9,8 +9,8 @@ page-at-requires c κs = search needs
 free-requires : tie.Need-free-requires
 free-requires c κs = search needs
 
-index-of-requires : tie.Need-index-of-requires
-index-of-requires c κs = search needs
+index-by-requires : tie.Need-index-by-requires
+index-by-requires c κs = search needs
 
 set-entry-requires : tie.Need-set-entry-requires
 set-entry-requires c κs = search slot-there
@@ -33,7 +33,7 @@ push-block-spec =
     (tie.spec
     page-at-requires
     free-requires
-    index-of-requires
+    index-by-requires
     set-entry-requires
     add-set-free
     set-free-requires

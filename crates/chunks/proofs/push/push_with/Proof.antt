@@ -1,13 +1,13 @@
 use borrow.Author.Needs.{needs}
 use Rattle.chunks.proofs.PushLaws.{Pushing, pushing-none, pushing-asks, pushing-more, pushing-done}
-use Rattle.chunks.proofs.push.push_blocks.Statement.{statement}
-use Rattle.chunks.proofs.push.push_blocks.Tie as tie
+use Rattle.chunks.proofs.push.push_with.Statement.{statement}
+use Rattle.chunks.proofs.push.push_with.Tie as tie
 
 abbrev Inv-loop : tie.InvT-loop
-Inv-loop meta₀ shape list i₀ meta i = Pushing meta₀ shape list meta i
+Inv-loop meta₀ shape inv list i₀ meta i = Pushing meta₀ shape list meta i
 
 abbrev μ-loop : tie.MeasureT-loop
-μ-loop meta₀ shape list i₀ meta i = i
+μ-loop meta₀ shape inv list i₀ meta i = i
 
 loop-holds : tie.Need-loop-holds Inv-loop μ-loop
 loop-holds c = search pushing-none
@@ -22,7 +22,7 @@ shared-slice-read-push-block : tie.Need-shared-slice-read-push-block Inv-loop μ
 shared-slice-read-push-block c = search needs
 
 push-block-requires : tie.Need-push-block-requires Inv-loop μ-loop
-push-block-requires c κs = search pushing-asks
+push-block-requires c κs = (search pushing-asks, search needs)
 
 loop-less : tie.Need-loop-less Inv-loop μ-loop
 loop-less c = search needs
@@ -36,8 +36,8 @@ same-length c = search needs
 returns : tie.Need-returns Inv-loop μ-loop
 returns c = search pushing-done
 
-pub push-blocks-spec : {M : Type 1} → statement M
-push-blocks-spec =
+pub push-with-spec : {M : Type 1} → statement M
+push-with-spec =
     tie.close
     (tie.spec
     Inv-loop
