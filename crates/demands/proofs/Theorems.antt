@@ -27,7 +27,7 @@ use Rattle.demands.proofs.Contracts as Contracts
 use Rattle.demands.proofs.Histories as Histories
 use Rattle.demands.proofs.Told.{told-answers, told-disjoint, told-iso}
 use Rattle.demands.proofs.Fits.{commit-fits, run-fits, memory-fits, take-yields}
-use Rattle.demands.proofs.Returns.{entry-returns}
+use Rattle.demands.proofs.Returns.{word-returns, list-out}
 use Rattle.demands.proofs.Held.{held-releases}
 
 -- what a caller sees of an exported function, by its contract, is the reply of `call`; of calls in turn from an opening, that of `run`
@@ -74,7 +74,8 @@ demand-2 n b o xs = record {
   runs = run-fits n b o xs;
   remembers = memory-fits n b o xs;
   takes = take-yields n b o xs;
-  returns = entry-returns n b o xs;
+  returns = word-returns n b o xs;
+  outs = list-out n b o xs;
   releases = held-releases n b o xs;
   apart = told-iso n b o xs (Model.iso-disjoint n (Calls.room n b o .few-pages) xs);
 }

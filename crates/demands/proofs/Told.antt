@@ -14,7 +14,7 @@ use Rattle.model.specs.Lists.{every}
 use Rattle.model.specs.Calls.{Call, Answer, names}
 use Rattle.model.specs.Heap.{Heap, step, newHeap}
 use Rattle.model.specs.History.{Event, eventsFrom, events, answersOf, isOf}
-use Rattle.model.specs.Entries.{Entry, Live, releases, directNext, directFrom, directAfter}
+use Rattle.model.specs.Entries.{Entry, Live, OutIn, releases, directNext, directFrom, directAfter}
 use Rattle.model.specs.Demands.{Disjoint, IsoDisjoint}
 use Rattle.model.proofs.Counts.{by-cases}
 use Rattle.refinement.specs.Direct.{Reply}
@@ -55,6 +55,11 @@ bare-live k [] e l = l
 bare-live k (v ∷ vs) e (inl p) = inl (p .0, sym (bare-kept e vs) ∙ p .1)
 bare-live k (v ∷ vs) e (inr l) = inr (bare-live (suc k) vs e l)
 
+live-bare : (k : ℕ) (vs : List Event) (e : Entry) → Live k vs e → Live k (bare vs) e
+live-bare k [] e l = l
+live-bare k (v ∷ vs) e (inl p) = inl (p .0, bare-kept e vs ∙ p .1)
+live-bare k (v ∷ vs) e (inr l) = inr (live-bare (suc k) vs e l)
+
 bare-direct : (f : ℕ → Bool) (vs : List Event) (x : ℕ) → directFrom f (bare vs) x ≡ directFrom f vs x
 bare-direct f [] x = refl
 bare-direct f (v ∷ vs) x = bare-direct (directNext (v .call) (v .answer) f) vs x
@@ -74,6 +79,12 @@ bare-iso n vs d = record {
 module _ (n : ℕ) (b : List ℕ) (o : Opens n b) (xs : List Call) where
   pub told-live : (e : Entry) → Live 0 (told n b xs) e → Live 0 (events n xs) e
   told-live e l = bare-live 0 (events n xs) e (rw (told-is n b o xs) at l)
+
+  pub told-out : (c w : ℕ) → OutIn (told n b xs) c w → OutIn (events n xs) c w
+  told-out c w e = record { entry = e .entry; live = told-live (e .entry) (e .live); class = e .class; word = e .word }
+
+  pub out-told : (c w : ℕ) → OutIn (events n xs) c w → OutIn (told n b xs) c w
+  out-told c w e = rw (told-is n b o xs) (record { entry = e .entry; live = live-bare 0 (events n xs) (e .entry) (e .live); class = e .class; word = e .word })
 
   pub told-direct : (x : ℕ) → directAfter (told n b xs) x ≡ directAfter (events n xs) x
   told-direct x = ap (λ (vs : List Event). directAfter vs x) (told-is n b o xs) ∙ bare-direct (λ y. false) (events n xs) x

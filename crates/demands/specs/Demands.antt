@@ -10,14 +10,14 @@ use Rattle.classes.specs.Shape.{shapeOf}
 use Rattle.model.specs.declared.Hole.{Hole}
 use Rattle.model.specs.Lists.{isNil}
 use Rattle.model.specs.Calls as Calls
-use Rattle.model.specs.Calls.{Call, Answer, Named, names, hostOf, blocksOf}
+use Rattle.model.specs.Calls.{Call, Answer, Named, names, hostOf, listOf, blocksOf}
 use Rattle.model.specs.HoleStore.{hole}
 use Rattle.model.specs.Arena.{Arena}
 use Rattle.model.specs.Class.{Class}
 use Rattle.model.specs.Chunks.{hostMax}
 use Rattle.model.specs.Heap.{badRun, answerRun, step}
 use Rattle.model.specs.History.{answers, events, heapAfter, callsOf, answersOf, runsOf}
-use Rattle.model.specs.Entries.{Entry, Live, directAfter}
+use Rattle.model.specs.Entries.{OutIn, AllOut, directAfter}
 use Rattle.model.specs.BestFit.{Commits, Remembers}
 use Rattle.model.specs.Demands.{Disjoint, IsoDisjoint}
 use Rattle.arena.specs.Load.{loadArena}
@@ -65,9 +65,12 @@ pub record Demand2 (n : ℕ) (b : List ℕ) (xs : List Call) : Type 0 where
   -- a take that is not refused answers a block, or its class has no page at hand and the arena no run for it
   pub takes : (x : Call) (c h : ℕ) (l : List ℕ) → names x ≡ some (record { class = c; request = Calls.take h l }) → next n b xs x .code ≡ 0
       → (isNil (blocksOf (next n b xs x .answer)) ≡ false) ⊎ (Spent (heapAfter n xs .classes c) × Commits n h (shapeOf c .pages) (loadArena (bookAfter n b xs)) none false)
-  -- an entry not yet released can be released: a release of its class with its word alone is not refused
-  pub returns : (e : Entry) → Live 0 (told n b xs) e → (x : Call) (h : ℕ) → h ≤ hostMax
-      → names x ≡ some (record { class = e .class; request = Calls.giveBack h (e .word ∷ []) }) → next n b xs x .code ≡ 0
+  -- number 10 by the history: a release of one block is not refused exactly if the block is out in the class, which is that an entry of
+  -- the class not yet released has its word
+  pub returns : (c w : ℕ) (x : Call) (h : ℕ) → h ≤ hostMax → names x ≡ some (record { class = c; request = Calls.giveBack h (w ∷ []) })
+      → (next n b xs x .code ≡ 0) ↔ OutIn (told n b xs) c w
+  -- and of any release that is not refused, by list or by groups, each block is out in the class, and none stands twice
+  pub outs : (x : Call) (d : Named) → names x ≡ some d → next n b xs x .code ≡ 0 → AllOut (told n b xs) (d .class) (listOf (d .request))
   -- a run can be released directly exactly if each of its pages is held by the direct calls
   pub releases : (h q m : ℕ) → h ≤ hostMax → badRun m ≡ false
       → (next n b xs (Calls.release h q m) .code ≡ 0) ↔ ((k : ℕ) → k < m → directAfter (told n b xs) (q + k) ≡ true)

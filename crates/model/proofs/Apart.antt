@@ -26,7 +26,7 @@ use Rattle.model.proofs.Counts.{by-cases, total-append}
 use Rattle.model.proofs.ArenaLaws.{above-at, covers-in}
 use Rattle.model.proofs.Pages.{all-append, outOf, on, GoodPage, words-once}
 use Rattle.model.proofs.Fold.{liveFrom, live-in}
-use Rattle.model.proofs.EntryCounts.{is, at}
+use Rattle.model.proofs.EntryCounts.{is, at, is-self, in-total}
 use Rattle.model.proofs.Accounts.{held-le, held-two, not-direct}
 use Rattle.model.proofs.HeapLaws.{Inv, kept}
 
@@ -146,20 +146,12 @@ module _ (sh : Shape) (ok : Sound sh) where
 
 -- one element of a measure's total of at most one
 module _ (f : Entry → ℕ) where
-  in-total : (a : Entry) (l : List Entry) → In a l → f a ≤ total f l
-  in-total a [] m = absurd m
-  in-total a (x ∷ l) (inl e) = omega (arith, ap f e)
-  in-total a (x ∷ l) (inr m) = omega (arith, in-total a l m)
-
   in-one : (a b : Entry) (l : List Entry) → In a l → In b l → total f l ≤ 1 → 1 ≤ f a → 1 ≤ f b → a ≡ b
   in-one a b [] m k one p q = absurd m
   in-one a b (x ∷ l) (inl m) (inl k) one p q = m ∙ sym k
-  in-one a b (x ∷ l) (inl m) (inr k) one p q = absurd (omega (arith, ap f m, in-total b l k))
-  in-one a b (x ∷ l) (inr m) (inl k) one p q = absurd (omega (arith, ap f k, in-total a l m))
+  in-one a b (x ∷ l) (inl m) (inr k) one p q = absurd (omega (arith, ap f m, in-total f b l k))
+  in-one a b (x ∷ l) (inr m) (inl k) one p q = absurd (omega (arith, ap f k, in-total f a l m))
   in-one a b (x ∷ l) (inr m) (inr k) one p q = in-one a b l m k (omega arith) p q
-
-is-self : (e : Entry) → is (e .class) (e .word) e ≡ 1
-is-self e = rw (eq-eqb (e .class) (e .class) refl, eq-eqb (e .word) (e .word) refl)
 
 at-self : (e : Entry) → at (e .call) (e .place) e ≡ 1
 at-self e = rw (eq-eqb (e .call) (e .call) refl, eq-eqb (e .place) (e .place) refl)

@@ -1,38 +1,31 @@
 -- What a class's call does to its pages and blocks: no page comes but the run given, none goes but those given back,
--- what a take answers goes out, and only what a release names comes in. Assumes nothing.
+-- what a take answers goes out, and what a release names, no more and no less, comes in. Assumes nothing.
 use Prim.Native.Nat.{ℕ, _+_, _≤_}
-use mathlib.Core.Path.{_≡_, refl, ap, subst}
-use mathlib.Core.List.{List, [], _∷_}
+use mathlib.Core.Path.{_≡_, refl}
+use mathlib.Core.List.{List, [], _∷_, map}
 use mathlib.Core.Option.{Option, none, some}
-use mathlib.Core.Bool.{Bool, true, false, cond, not, _&&_}
+use mathlib.Core.Bool.{Bool, true, false, cond, not, _&&_, false≢true}
 use native.Mathlib.Omega.{arith}
+use lib.Dec.{eqb, leb}
 use lib.Seq.{take-append-seam}
-use borrow.Author.Tests.{not-false}
+use borrow.Author.Tests.{eqb-true, eq-eqb, leb-true, leb-false, not-false}
 use Rattle.words.specs.Word.{pageOf}
 use Rattle.classes.specs.declared.Shape.{Shape}
 use Rattle.classes.specs.Sound.{Sound}
-use Rattle.model.specs.Lists.{All, count, every, distinct, total, covers, coversAll, coversRun}
+use Rattle.model.specs.Lists.{All, count, elem, every, distinct, total, covers, coversAll, coversRun}
 use Rattle.model.specs.Calls.{Request, take, giveBack, giveChunks, fate, fates, refused, blocksOf, releasedBy}
 use Rattle.model.specs.Page.{Page, isMedium, carve, isOut, noneOut, reused, returned, retire}
 use Rattle.model.specs.Class.{Class, lists, Cold, Result, Ask, done, asks, serve, refuse, Filled, fillFromList, served, thawed, onRun, takeFrom}
-use Rattle.model.specs.Release.{Found, find, Site, inPartial, inFull, orElse, mapFound, locate, Settled, park, parkEmpty, parkCold, letGo, markRetired, settle, outHere, onPage, siteOfFirst, releaseList}
-use Rattle.model.specs.Chunks.{startsAt, blocksOn, settleChunk, settleChunks, releaseChunks, answer}
+use Rattle.model.specs.Release.{Site, locate, Settled, park, parkEmpty, parkCold, letGo, markRetired, settle, outHere, onPage, siteOfFirst, releaseList}
+use Rattle.model.specs.Chunks.{startsAt, blocksOn, chunkFits, chunkedOn, chunked, settleChunk, settleChunks, releaseChunks, answer}
 use Rattle.model.specs.Ledger.{runsWith}
-use Rattle.model.proofs.Counts.{by-cases, and-r, every-count, filter-le, filter-passes, distinct-count, total-append, total-at}
-use Rattle.model.proofs.Find.{all-at, FoundLaws, found-law}
-use Rattle.model.proofs.Pages.{all-append, outOf, on, GoodPage, EmptyPage, carve-empty, carve-on, reused-empty, reused-on, thawed-empty, thawed-on, Fills, fills, return-good, return-moves, none-out-of, retire-empty, return-on, retire-on}
+use Rattle.model.proofs.Counts.{by-cases, and-r, every-count, filter-le, filter-passes, filter-keeps, distinct-count, total-append}
+use Rattle.model.proofs.Pages.{all-append, outOf, on, out-le, is-out, out-is, GoodPage, EmptyPage, carve-empty, carve-on, reused-empty, reused-on, thawed-empty, thawed-on, Fills, fills, return-good, return-moves, none-out-of, retire-empty, return-on, retire-on}
+use Rattle.model.proofs.Sites.{outs, outCount, outFrom, outAt, Once, GoodClass, SiteLaw, SiteLaws, locate-law, Tells, locate-tells, out-once, out-first}
 
--- does a cold run have page x; how often w is out in the class
+-- does a cold run have page x
 abbrev pub onCold : Shape → ℕ → Cold → ℕ
 onCold sh x c = covers (sh .pages) (c .first) x
-
-abbrev pub outCount : Shape → ℕ → Class → ℕ
-outCount sh w s = total (outOf sh w) (s .partial) + total (outOf sh w) (s .full)
-
-pub record GoodClass (sh : Shape) (s : Class) : Type 0 where
-  pub partial : All (GoodPage sh) (s .partial)
-  pub empty : All (EmptyPage sh) (s .empty)
-  pub full : All (GoodPage sh) (s .full)
 
 -- a call's result against the class before, the run given and the words released
 pub record Moves (sh : Shape) (s : Class) (g : Option ℕ) (lost : List ℕ) (r : Result) : Type 0 where
@@ -40,6 +33,7 @@ pub record Moves (sh : Shape) (s : Class) (g : Option ℕ) (lost : List ℕ) (r 
   pub pages : (x : ℕ) → runsWith sh x (r .class) + coversAll (sh .pages) (r .gives) x ≡ runsWith sh x s + coversRun (sh .pages) g x
   pub out : (w : ℕ) → count w lost ≡ 0 → outCount sh w s + count w (blocksOf (r .answer)) ≡ outCount sh w (r .class)
   pub quiet : (w : ℕ) → 1 ≤ count w lost → count w (blocksOf (r .answer)) ≡ 0
+  pub back : (w : ℕ) → 1 ≤ count w lost → outCount sh w (r .class) ≡ 0
 
 pub data Lawful (sh : Shape) (s : Class) (a : Request) : Ask → Type 0 where
   lawful-done : {r : Result} → Moves sh s none (releasedBy a (r .answer)) r → Lawful sh s a (done r)
@@ -51,7 +45,7 @@ module _ (sh : Shape) (s : Class) (good : GoodClass sh s) where
   lawful-cond a false x y p q = q refl
 
   refuse-moves : (n : ℕ) → Moves sh s none [] (record { class = s; answer = refused n; gives = [] })
-  refuse-moves n = record { good = good; pages = λ x. omega arith; out = λ w z. omega arith; quiet = λ w z. omega arith }
+  refuse-moves n = record { good = good; pages = λ x. omega arith; out = λ w z. omega arith; quiet = λ w z. omega arith; back = λ w z. absurd (omega arith) }
 
   lawful-refuse : (a : Request) (n : ℕ) → Lawful sh s a (refuse s n)
   lawful-refuse a n = lawful-done (refuse-moves n)
@@ -69,6 +63,7 @@ module _ (sh : Shape) (ok : Sound sh) where
     pages = λ x. rw total-append (omega (arith, hc x, r .pages x));
     out = λ w z. rw (total-append, take-append-seam) (omega (arith, ho w, r .out w));
     quiet = λ w z. absurd (omega arith);
+    back = λ w z. absurd (omega arith);
   }
 
   -- a take from one page p that had no block out, with the rest of the class beside it
@@ -82,7 +77,7 @@ module _ (sh : Shape) (ok : Sound sh) where
 
   run-moves : (h : ℕ) (l : List ℕ) (fs : List Page) → All (GoodPage sh) fs → (g : Option ℕ) → Moves sh (lists [] [] [] fs) g (releasedBy (take h l) (onRun sh l fs g .answer)) (onRun sh l fs g)
   unfolding onRun served
-  run-moves h l fs gf none = record { good = record { partial = tt; empty = tt; full = gf }; pages = λ x. omega arith; out = λ w z. omega arith; quiet = λ w z. omega arith }
+  run-moves h l fs gf none = record { good = record { partial = tt; empty = tt; full = gf }; pages = λ x. omega arith; out = λ w z. omega arith; quiet = λ w z. omega arith; back = λ w z. absurd (omega arith) }
   run-moves h l fs gf (some q) =
       one-moves (lists [] [] [] fs) (some q) l (sh .batch) (carve sh q true) [] [] fs (carve-empty sh ok (isMedium sh) q true) tt gf
       (λ x. omega (arith, carve-on sh ok (isMedium sh) q x true)) (λ w. omega arith)
@@ -103,79 +98,27 @@ module _ (sh : Shape) (ok : Sound sh) where
       lawful-done (cold-moves l c cs fs (good .full))
   take-lawful h l [] [] [] fs good = lawful-asks (run-moves h l fs (good .full))
 
-  -- a site: the class is its page and the rest, and another page may stand in its stead
-  record SiteLaw (s : Class) (x : Site) : Type 0 where
-    page : GoodPage sh (x .page)
-    rest : GoodClass sh (x .without)
-    pages-rest : (z : ℕ) → on sh z (x .page) + runsWith sh z (x .without) ≡ runsWith sh z s
-    out-rest : (w : ℕ) → outOf sh w (x .page) + outCount sh w (x .without) ≡ outCount sh w s
-    put : (p : Page) → GoodPage sh p → GoodClass sh (x .with p)
-    pages-put : (p : Page) (z : ℕ) → runsWith sh z (x .with p) ≡ on sh z p + runsWith sh z (x .without)
-    out-put : (p : Page) (w : ℕ) → outCount sh w (x .with p) ≡ outOf sh w p + outCount sh w (x .without)
-
-  abbrev SiteLaws : Class → Option Site → Type 0
-  SiteLaws s none = Unit {0}
-  SiteLaws s (some x) = SiteLaw s x
-
-  module _ (s : Class) (good : GoodClass sh s) where
-    in-partial : (t : Page → Bool) (o : Option Found) → FoundLaws t (s .partial) o → SiteLaws s (mapFound (inPartial s) o)
-    unfolding inPartial
-    in-partial t none h = tt
-    in-partial t (some f) h =
-        let all = all-at (GoodPage sh) (f .before) (f .page) (f .behind) .0 (subst (All (GoodPage sh)) (h .is) (good .partial)) in
-        record {
-          page = all .0;
-          rest = record { partial = all .1; empty = good .empty; full = good .full };
-          pages-rest = λ z. omega (arith, ap (total (on sh z)) (h .is), total-at (on sh z) (f .before) (f .page) (f .behind));
-          out-rest = λ w. omega (arith, ap (total (outOf sh w)) (h .is), total-at (outOf sh w) (f .before) (f .page) (f .behind));
-          put = λ p gp. record { partial = all-at (GoodPage sh) (f .before) p (f .behind) .1 (gp, all .1); empty = good .empty; full = good .full };
-          pages-put = λ p z. omega (arith, total-at (on sh z) (f .before) p (f .behind));
-          out-put = λ p w. omega (arith, total-at (outOf sh w) (f .before) p (f .behind));
-        }
-
-    in-full : (t : Page → Bool) (o : Option Found) → FoundLaws t (s .full) o → SiteLaws s (mapFound (inFull s) o)
-    unfolding inFull
-    in-full t none h = tt
-    in-full t (some f) h =
-        let all = all-at (GoodPage sh) (f .before) (f .page) (f .behind) .0 (subst (All (GoodPage sh)) (h .is) (good .full)) in
-        record {
-          page = all .0;
-          rest = record { partial = good .partial; empty = good .empty; full = all .1 };
-          pages-rest = λ z. omega (arith, ap (total (on sh z)) (h .is), total-at (on sh z) (f .before) (f .page) (f .behind));
-          out-rest = λ w. omega (arith, ap (total (outOf sh w)) (h .is), total-at (outOf sh w) (f .before) (f .page) (f .behind));
-          put = λ p gp. record { partial = (gp, good .partial); empty = good .empty; full = all .1 };
-          pages-put = λ p z. omega arith;
-          out-put = λ p w. omega arith;
-        }
-
-    or-else : (x y : Option Site) → SiteLaws s x → SiteLaws s y → SiteLaws s (orElse x y)
-    or-else none y p q = q
-    or-else (some x) y p q = p
-
-    locate-law : (t : Page → Bool) → SiteLaws s (locate t s)
-    unfolding locate
-    locate-law t = or-else (mapFound (inPartial s) (find t (s .partial))) (mapFound (inFull s) (find t (s .full))) (in-partial t (find t (s .partial)) (found-law t (s .partial))) (in-full t (find t (s .full)) (found-law t (s .full)))
-
-  -- what comes of one page's release of the words ws; of a page with no block out that is parked
-  record SettleLaw (s : Class) (ws : List ℕ) (b : Settled) : Type 0 where
+  -- what comes of a release of the words ws to the page whose run begins at `first`; of a page with no block out that is parked
+  record SettleLaw (s : Class) (first : ℕ) (ws : List ℕ) (b : Settled) : Type 0 where
     good : GoodClass sh (b .class)
     pages : (z : ℕ) → runsWith sh z (b .class) + coversAll (sh .pages) (b .gives) z ≡ runsWith sh z s
     out : (w : ℕ) → outCount sh w (b .class) + count w ws ≡ outCount sh w s
+    out-at : (q w : ℕ) → outAt sh q w (b .class) + cond (eqb first q) (count w ws) 0 ≡ outAt sh q w s
 
   record ParkLaw (s : Class) (p : Page) (b : Settled) : Type 0 where
     good : GoodClass sh (b .class)
     pages : (z : ℕ) → runsWith sh z (b .class) + coversAll (sh .pages) (b .gives) z ≡ on sh z p + runsWith sh z s
-    out : (w : ℕ) → outCount sh w (b .class) ≡ outCount sh w s
+    out : (f : Page → ℕ) → outs f (b .class) ≡ outs f s
 
   module _ (h : ℕ) (s : Class) (p : Page) (gs : GoodClass sh s) (gp : EmptyPage sh p) where
     to-empty : ParkLaw s p (parkEmpty s p)
-    to-empty = record { good = record { partial = gs .partial; empty = (gp, gs .empty); full = gs .full }; pages = λ z. omega arith; out = λ w. omega arith }
+    to-empty = record { good = record { partial = gs .partial; empty = (gp, gs .empty); full = gs .full }; pages = λ z. omega arith; out = λ f. omega arith }
 
     to-cold : ParkLaw s p (parkCold sh h s p)
-    to-cold = record { good = record { partial = gs .partial; empty = gs .empty; full = gs .full }; pages = λ z. omega arith; out = λ w. omega arith }
+    to-cold = record { good = record { partial = gs .partial; empty = gs .empty; full = gs .full }; pages = λ z. omega arith; out = λ f. omega arith }
 
     to-arena : ParkLaw s p (letGo s p)
-    to-arena = record { good = record { partial = gs .partial; empty = gs .empty; full = gs .full }; pages = λ z. omega arith; out = λ w. omega arith }
+    to-arena = record { good = record { partial = gs .partial; empty = gs .empty; full = gs .full }; pages = λ z. omega arith; out = λ f. omega arith }
 
     parked-cond : (b : Bool) (x y : Settled) → ParkLaw s p x → ParkLaw s p y → ParkLaw s p (cond b x y)
     parked-cond true x y k l = k
@@ -185,31 +128,43 @@ module _ (sh : Shape) (ok : Sound sh) where
     unfolding park
     park-law = search (parked-cond, to-empty, to-cold, to-arena)
 
-  module _ (h : ℕ) (s : Class) (ws : List ℕ) (x : Site) (law : SiteLaw s x) (once : (w : ℕ) → count w ws ≤ 1) (outs : (w : ℕ) → 1 ≤ count w ws → isOut sh w (x .page) ≡ true) where
+  module _ (h : ℕ) (s : Class) (ws : List ℕ) (x : Site) (law : SiteLaw sh s x) (once : (w : ℕ) → count w ws ≤ 1) (outs : (w : ℕ) → 1 ≤ count w ws → isOut sh w (x .page) ≡ true) where
     back-good : GoodPage sh (returned ws (x .page))
     back-good = return-good sh ok ws (x .page) (law .page) once outs
 
     back-moves : (w : ℕ) → outOf sh w (returned ws (x .page)) + count w ws ≡ outOf sh w (x .page)
     back-moves = return-moves sh ok ws (x .page) (law .page) once outs
 
-    parked : (p : Page) → ((z : ℕ) → on sh z p ≡ on sh z (x .page)) → EmptyPage sh p → noneOut sh (returned ws (x .page)) ≡ true → SettleLaw s ws (park sh h (x .without) p)
+    -- on the pages that begin at q
+    abbrev gone : ℕ → ℕ → ℕ
+    gone q w = cond (startsAt q (x .page)) (count w ws) 0
+
+    back-at : (q w : ℕ) → outFrom sh q w (returned ws (x .page)) + gone q w ≡ outFrom sh q w (x .page)
+    unfolding returned
+    back-at q w = by-cases (startsAt q (x .page)) (λ e. rw e (back-moves w)) (λ e. rw e)
+
+    none-at : noneOut sh (returned ws (x .page)) ≡ true → (q w : ℕ) → gone q w ≡ outFrom sh q w (x .page)
+    none-at e q w = by-cases (startsAt q (x .page)) (λ d. rw d (omega (arith, none-out-of sh ok w (returned ws (x .page)) e, back-moves w))) (λ d. rw d)
+
+    parked : (p : Page) → ((z : ℕ) → on sh z p ≡ on sh z (x .page)) → EmptyPage sh p → noneOut sh (returned ws (x .page)) ≡ true → SettleLaw s (x .page .first) ws (park sh h (x .without) p)
     parked p same gp e =
         let k = park-law h (x .without) p (law .rest) gp in
         record {
           good = k .good;
           pages = λ z. omega (arith, k .pages z, same z, law .pages-rest z);
-          out = λ w. omega (arith, k .out w, law .out-rest w, none-out-of sh ok w (returned ws (x .page)) e, back-moves w);
+          out = λ w. omega (arith, k .out (outOf sh w), law .out-rest (outOf sh w), none-out-of sh ok w (returned ws (x .page)) e, back-moves w);
+          out-at = λ q w. omega (arith, k .out (outFrom sh q w), law .out-rest (outFrom sh q w), none-at e q w);
         }
 
-    mark-law : (b : Settled) → SettleLaw s ws b → SettleLaw s ws (markRetired b)
-    mark-law b k = record { good = k .good; pages = k .pages; out = k .out }
+    mark-law : (b : Settled) → SettleLaw s (x .page .first) ws b → SettleLaw s (x .page .first) ws (markRetired b)
+    mark-law b k = record { good = k .good; pages = k .pages; out = k .out; out-at = k .out-at }
 
     leave : (retires : Bool) → noneOut sh (returned ws (x .page)) ≡ true
-        → SettleLaw s ws (cond retires (markRetired (park sh h (x .without) (retire (x .page)))) (park sh h (x .without) (returned ws (x .page))))
+        → SettleLaw s (x .page .first) ws (cond retires (markRetired (park sh h (x .without) (retire (x .page)))) (park sh h (x .without) (returned ws (x .page))))
     leave true e = mark-law _ (parked (retire (x .page)) (λ z. retire-on sh z (x .page)) (retire-empty sh ok (x .page)) e)
     leave false e = parked (returned ws (x .page)) (λ z. return-on sh z ws (x .page)) (record { good = back-good; none-out = λ w. none-out-of sh ok w (returned ws (x .page)) e }) e
 
-    settle-law : (retires : Bool) → SettleLaw s ws (settle sh h retires ws x)
+    settle-law : (retires : Bool) → SettleLaw s (x .page .first) ws (settle sh h retires ws x)
     unfolding settle
     settle-law retires =
         by-cases (noneOut sh (returned ws (x .page)))
@@ -217,29 +172,39 @@ module _ (sh : Shape) (ok : Sound sh) where
         (λ e. rw e (record {
           good = law .put (returned ws (x .page)) back-good;
           pages = λ z. omega (arith, law .pages-put (returned ws (x .page)) z, law .pages-rest z, return-on sh z ws (x .page));
-          out = λ w. omega (arith, law .out-put (returned ws (x .page)) w, law .out-rest w, back-moves w);
+          out = λ w. omega (arith, law .out-put (returned ws (x .page)) (outOf sh w), law .out-rest (outOf sh w), back-moves w);
+          out-at = λ q w. omega (arith, law .out-put (returned ws (x .page)) (outFrom sh q w), law .out-rest (outFrom sh q w), back-at q w);
         }))
 
   -- a release by list
-  settled-moves : (s : Class) (ws : List ℕ) (b : Settled) → SettleLaw s ws b → Moves sh s none ws (record { class = b .class; answer = fate (b .fate); gives = b .gives })
-  settled-moves s ws b k = record { good = k .good; pages = λ z. omega (arith, k .pages z); out = λ w z. omega (arith, k .out w); quiet = λ w z. refl }
+  settled-moves : (s : Class) (q : ℕ) (ws : List ℕ) (b : Settled) → GoodClass sh s → Once sh s → SettleLaw s q ws b → Moves sh s none ws (record { class = b .class; answer = fate (b .fate); gives = b .gives })
+  settled-moves s q ws b good one k = record {
+    good = k .good;
+    pages = λ z. omega (arith, k .pages z);
+    out = λ w z. omega (arith, k .out w);
+    quiet = λ w z. refl;
+    back = λ w z. omega (arith, k .out w, out-once sh ok s good one w);
+  }
 
-  module _ (h : ℕ) (s : Class) (ws : List ℕ) (good : GoodClass sh s) (d : distinct ws ≡ true) where
-    settle-lawful : (x : Site) → SiteLaw s x → every (λ w. isOut sh w (x .page)) ws ≡ true
+  module _ (h : ℕ) (s : Class) (ws : List ℕ) (good : GoodClass sh s) (one : Once sh s) (d : distinct ws ≡ true) where
+    settle-lawful : (x : Site) → SiteLaw sh s x → every (λ w. isOut sh w (x .page)) ws ≡ true
         → (let b = settle sh h false ws x in Lawful sh s (giveBack h ws) (done (record { class = b .class; answer = fate (b .fate); gives = b .gives })))
     settle-lawful x law e =
-        lawful-done (settled-moves s ws (settle sh h false ws x) (settle-law h s ws x law (λ w. distinct-count w ws d) (λ w. every-count (λ v. isOut sh v (x .page)) w ws e) false))
+        lawful-done (settled-moves s (x .page .first) ws (settle sh h false ws x) good one (settle-law h s ws x law (λ w. distinct-count w ws d) (λ w. every-count (λ v. isOut sh v (x .page)) w ws e) false))
 
-    page-lawful : (o : Option Site) → SiteLaws s o → Lawful sh s (giveBack h ws) (onPage sh h s ws o)
+    page-lawful : (o : Option Site) → SiteLaws sh s o → Lawful sh s (giveBack h ws) (onPage sh h s ws o)
     unfolding onPage
     page-lawful none law = lawful-refuse sh s good (giveBack h ws) 10
     page-lawful (some x) law = search (lawful-cond sh s good, lawful-refuse sh s good, settle-lawful x law)
 
-  -- a release by chunks
-  record ChunkLaw (s : Class) (ws : List ℕ) (t : Class) (gives : List ℕ) : Type 0 where
+  -- a release by chunks of the pages qs: none of its words is out on them afterwards, nor elsewhere if it was not
+  record ChunkLaw (s : Class) (ws qs : List ℕ) (t : Class) (gives : List ℕ) : Type 0 where
     good : GoodClass sh t
     pages : (z : ℕ) → runsWith sh z t + coversAll (sh .pages) gives z ≡ runsWith sh z s
     out : (w : ℕ) → count w ws ≡ 0 → outCount sh w t ≡ outCount sh w s
+    less : (q w : ℕ) → outAt sh q w t ≤ outAt sh q w s
+    elsewhere : (q w : ℕ) → outCount sh w t + outAt sh q w s ≤ outCount sh w s + outAt sh q w t
+    back : (q w : ℕ) → elem q qs ≡ true → 1 ≤ count w ws → outAt sh q w t ≡ 0
 
   -- a chunk's blocks are out on its page, and are the list's
   blocks-out : (ws : List ℕ) (p : Page) (w : ℕ) → 1 ≤ count w (blocksOn sh ws p) → isOut sh w p ≡ true
@@ -250,45 +215,123 @@ module _ (sh : Shape) (ok : Sound sh) where
   unfolding blocksOn
   blocks-le ws p w = filter-le _ w ws
 
-  chunk-law : (h : ℕ) (s : Class) (ws : List ℕ) → GoodClass sh s → distinct ws ≡ true → (o : Option Site) → SiteLaws s o → ChunkLaw s ws (settleChunk sh h s ws o .class) (settleChunk sh h s ws o .gives)
-  unfolding settleChunk
-  chunk-law h s ws good d none law = record { good = good; pages = λ z. omega arith; out = λ w z. refl }
-  chunk-law h s ws good d (some x) law =
-      let k = settle-law h s (blocksOn sh ws (x .page)) x law (λ w. omega (arith, blocks-le ws (x .page) w, distinct-count w ws d)) (blocks-out ws (x .page)) true in
-      record { good = k .good; pages = k .pages; out = λ w z. omega (arith, k .out w, blocks-le ws (x .page) w) }
+  blocks-all : (ws : List ℕ) (p : Page) (w : ℕ) → isOut sh w p ≡ true → count w (blocksOn sh ws p) ≡ count w ws
+  unfolding blocksOn
+  blocks-all ws p w e = filter-keeps (λ v. isOut sh v p) w ws e
 
-  chunks-law : (h : ℕ) (ws : List ℕ) → distinct ws ≡ true → (s : Class) (gs : List ℕ) → GoodClass sh s → ChunkLaw s ws (settleChunks sh h ws s gs .class) (settleChunks sh h ws s gs .gives)
-  unfolding settleChunks
-  chunks-law h ws d s [] good = record { good = good; pages = λ z. omega arith; out = λ w z. refl }
-  chunks-law h ws d s (g ∷ gs) good =
-      let k = chunk-law h s ws good d (locate (startsAt (pageOf g)) s) (locate-law s good (startsAt (pageOf g))) in
-      let r = chunks-law h ws d (settleChunk sh h s ws (locate (startsAt (pageOf g)) s) .class) gs (k .good) in
-      record {
-        good = r .good;
-        pages = λ z. rw total-append (omega (arith, k .pages z, r .pages z));
-        out = λ w z. omega (arith, k .out w z, r .out w z);
+  only : (r q : ℕ) → elem r (q ∷ []) ≡ true → r ≡ q
+  only r q e = by-cases (eqb r q) (λ b. eqb-true r q b) (λ b. absurd (false≢true (rw b at e)))
+
+  cond-le : (b : Bool) (n : ℕ) → cond b n 0 ≤ n
+  cond-le true n = omega arith
+  cond-le false n = omega arith
+
+  module _ (h : ℕ) (ws : List ℕ) (d : distinct ws ≡ true) where
+    module _ (s : Class) (good : GoodClass sh s) (one : Once sh s) (q : ℕ) where
+      chunk-back : (x : Site) (b : Settled) → SiteLaw sh s x → startsAt q (x .page) ≡ true → SettleLaw s (x .page .first) (blocksOn sh ws (x .page)) b
+          → (w : ℕ) → 1 ≤ count w ws → outAt sh q w (b .class) ≡ 0
+      chunk-back x b law e k w n =
+          let o = out-first sh ok s x law one q w e in
+          let m : outAt sh q w (b .class) + count w (blocksOn sh ws (x .page)) ≡ outAt sh q w s = rw e at (k .out-at q w) in
+          by-cases (leb 1 (outOf sh w (x .page)))
+          (λ u. omega (arith, out-le sh ok w (x .page), blocks-all ws (x .page) w (out-is sh ok w (x .page) (leb-true 1 (outOf sh w (x .page)) u))))
+          (λ u. omega (arith, leb-false 1 (outOf sh w (x .page)) u))
+
+      chunk-law : (o : Option Site) → SiteLaws sh s o → Tells (startsAt q) s o → ChunkLaw s ws (q ∷ []) (settleChunk sh h s ws o .class) (settleChunk sh h s ws o .gives)
+      unfolding settleChunk
+      chunk-law none law tells = record {
+        good = good;
+        pages = λ z. omega arith;
+        out = λ w z. refl;
+        less = λ r w. omega arith;
+        elsewhere = λ r w. omega arith;
+        back = λ r w e n. rw (only r q e) (tells (outOf sh w));
       }
+      chunk-law (some x) law tells =
+          let k = settle-law h s (blocksOn sh ws (x .page)) x law (λ w. omega (arith, blocks-le ws (x .page) w, distinct-count w ws d)) (blocks-out ws (x .page)) true in
+          record {
+            good = k .good;
+            pages = k .pages;
+            out = λ w z. omega (arith, k .out w, blocks-le ws (x .page) w);
+            less = λ r w. omega (arith, k .out-at r w);
+            elsewhere = λ r w. omega (arith, k .out w, k .out-at r w, cond-le (startsAt r (x .page)) (count w (blocksOn sh ws (x .page))));
+            back = λ r w e n. rw (only r q e) (chunk-back x _ law tells k w n);
+          }
 
-  chunks-moves : (s : Class) (ws l : List ℕ) (t : Class) (gives : List ℕ) → ChunkLaw s ws t gives → Moves sh s none ws (record { class = t; answer = fates l; gives = gives })
-  chunks-moves s ws l t gives k = record { good = k .good; pages = λ z. omega (arith, k .pages z); out = λ w z. omega (arith, k .out w z); quiet = λ w z. refl }
+    chunks-law : (s : Class) (gs : List ℕ) → GoodClass sh s → Once sh s → ChunkLaw s ws (map pageOf gs) (settleChunks sh h ws s gs .class) (settleChunks sh h ws s gs .gives)
+    unfolding settleChunks
+    chunks-law s [] good one = record {
+      good = good;
+      pages = λ z. omega arith;
+      out = λ w z. refl;
+      less = λ q w. omega arith;
+      elsewhere = λ q w. omega arith;
+      back = λ q w e n. absurd (false≢true e);
+    }
+    chunks-law s (g ∷ gs) good one =
+        let t = startsAt (pageOf g) in
+        let k = chunk-law s good one (pageOf g) (locate t s) (locate-law sh s good t) (locate-tells t s) in
+        let r = chunks-law (settleChunk sh h s ws (locate t s) .class) gs (k .good) (λ z. omega (arith, k .pages z, one z)) in
+        record {
+          good = r .good;
+          pages = λ z. rw total-append (omega (arith, k .pages z, r .pages z));
+          out = λ w z. omega (arith, k .out w z, r .out w z);
+          less = λ q w. omega (arith, k .less q w, r .less q w);
+          elsewhere = λ q w. omega (arith, k .elsewhere q w, r .elsewhere q w);
+          back = λ q w e n.
+              by-cases (eqb q (pageOf g))
+              (λ b. omega (arith, r .less q w, k .back q w (rw b) n))
+              (λ b. r .back q w (rw b at e) n);
+        }
+
+  -- number 11's "a page missing": each word is out on the page of a chunk
+  record OnChunk (s : Class) (gs : List ℕ) (w : ℕ) : Type 0 where
+    page : ℕ
+    listed : elem page (map pageOf gs) ≡ true
+    out : 1 ≤ outAt sh page w s
+
+  on-chunk : (s : Class) → GoodClass sh s → (gs : List ℕ) (w : ℕ) → chunked sh s gs w ≡ true → OnChunk s gs w
+  unfolding chunked
+  on-chunk s good gs w e = go (locate (isOut sh w) s) (locate-law sh s good (isOut sh w)) (locate-tells (isOut sh w) s) e
+    where
+      go : (o : Option Site) → SiteLaws sh s o → Tells (isOut sh w) s o → chunkedOn gs o ≡ true → OnChunk s gs w
+      go none law tells e = absurd (false≢true e)
+      go (some x) law tells e =
+          let same : cond (startsAt (x .page .first) (x .page)) (outOf sh w (x .page)) 0 ≡ outOf sh w (x .page) = rw (eq-eqb (x .page .first) (x .page .first) refl) in
+          record { page = x .page .first; listed = e; out = omega (arith, law .out-rest (outFrom sh (x .page .first) w), is-out sh ok w (x .page) tells) }
+
+  chunks-moves : (s : Class) (ws gs l : List ℕ) (t : Class) (gives : List ℕ) → GoodClass sh s → Once sh s → every (chunked sh s gs) ws ≡ true → ChunkLaw s ws (map pageOf gs) t gives
+      → Moves sh s none ws (record { class = t; answer = fates l; gives = gives })
+  chunks-moves s ws gs l t gives good one e k = record {
+    good = k .good;
+    pages = λ z. omega (arith, k .pages z);
+    out = λ w z. omega (arith, k .out w z);
+    quiet = λ w z. refl;
+    back = λ w z.
+        let c = on-chunk s good gs w (every-count (chunked sh s gs) w ws e z) in
+        omega (arith, out-once sh ok s good one w, k .elsewhere (c .page) w, k .back (c .page) w (c .listed) z);
+  }
 
   second : (a b : Bool) → not (a && b) ≡ false → b ≡ true
   second a b e = and-r a b (not-false (a && b) e)
 
-  first-law : (s : Class) (ws : List ℕ) → GoodClass sh s → SiteLaws s (siteOfFirst sh s ws)
+  first-law : (s : Class) (ws : List ℕ) → GoodClass sh s → SiteLaws sh s (siteOfFirst sh s ws)
   first-law s [] good = tt
-  first-law s (w ∷ ws) good = locate-law s good (isOut sh w)
+  first-law s (w ∷ ws) good = locate-law sh s good (isOut sh w)
 
-  module _ (s : Class) (good : GoodClass sh s) (h : ℕ) (ws : List ℕ) (passed : not (every (outHere sh s) ws && distinct ws) ≡ false) where
+  module _ (s : Class) (good : GoodClass sh s) (one : Once sh s) (h : ℕ) (ws : List ℕ) (passed : not (every (outHere sh s) ws && distinct ws) ≡ false) where
     list-lawful : Lawful sh s (giveBack h ws) (onPage sh h s ws (siteOfFirst sh s ws))
-    list-lawful = page-lawful h s ws good (second (every (outHere sh s) ws) (distinct ws) passed) (siteOfFirst sh s ws) (first-law s ws good)
+    list-lawful = page-lawful h s ws good one (second (every (outHere sh s) ws) (distinct ws) passed) (siteOfFirst sh s ws) (first-law s ws good)
 
-    chunks-lawful : (gs fs l : List ℕ) → Lawful sh s (giveChunks h ws gs fs) (done (record { class = settleChunks sh h ws s gs .class; answer = fates l; gives = settleChunks sh h ws s gs .gives }))
-    chunks-lawful gs fs l = lawful-done (chunks-moves s ws l (settleChunks sh h ws s gs .class) (settleChunks sh h ws s gs .gives) (chunks-law h ws (second (every (outHere sh s) ws) (distinct ws) passed) s gs good))
+    chunks-lawful : (gs fs l : List ℕ) → not (distinct (map pageOf gs) && (every (chunkFits sh s ws) gs && every (chunked sh s gs) ws)) ≡ false
+        → Lawful sh s (giveChunks h ws gs fs) (done (record { class = settleChunks sh h ws s gs .class; answer = fates l; gives = settleChunks sh h ws s gs .gives }))
+    chunks-lawful gs fs l placed =
+        let every-one = and-r (every (chunkFits sh s ws) gs) (every (chunked sh s gs) ws) (second (distinct (map pageOf gs)) (every (chunkFits sh s ws) gs && every (chunked sh s gs) ws) placed) in
+        lawful-done (chunks-moves s ws gs l (settleChunks sh h ws s gs .class) (settleChunks sh h ws s gs .gives) good one every-one (chunks-law h ws (second (every (outHere sh s) ws) (distinct ws) passed) s gs good one))
 
   -- every request of a class is lawful
-  pub answer-lawful : (s : Class) → GoodClass sh s → (a : Request) → Lawful sh s a (answer sh s a)
+  pub answer-lawful : (s : Class) → GoodClass sh s → Once sh s → (a : Request) → Lawful sh s a (answer sh s a)
   unfolding answer releaseList releaseChunks
-  answer-lawful s good (take h l) = search (lawful-cond sh s good, lawful-refuse sh s good, take-lawful h l (s .partial) (s .empty) (s .cold) (s .full) good)
-  answer-lawful s good (giveBack h ws) = search (lawful-cond sh s good, lawful-refuse sh s good, list-lawful s good h ws)
-  answer-lawful s good (giveChunks h ws gs fs) = search (lawful-cond sh s good, lawful-refuse sh s good, chunks-lawful s good h ws) depth 9
+  answer-lawful s good one (take h l) = search (lawful-cond sh s good, lawful-refuse sh s good, take-lawful h l (s .partial) (s .empty) (s .cold) (s .full) good)
+  answer-lawful s good one (giveBack h ws) = search (lawful-cond sh s good, lawful-refuse sh s good, list-lawful s good one h ws)
+  answer-lawful s good one (giveChunks h ws gs fs) = search (lawful-cond sh s good, lawful-refuse sh s good, chunks-lawful s good one h ws) depth 9

@@ -73,6 +73,16 @@ filter-passes t w (x ∷ s) h =
     (λ a. let h′ : 1 ≤ 0 + count w (filter t s) = rw (b, a) at h in filter-passes t w s (omega arith)))
     (λ b. filter-passes t w s (rw b at h))
 
+pub filter-keeps : (t : ℕ → Bool) (w : ℕ) (s : List ℕ) → t w ≡ true → count w (filter t s) ≡ count w s
+filter-keeps t w [] e = refl
+filter-keeps t w (x ∷ s) e =
+    let ih = filter-keeps t w s e in
+    by-cases (t x)
+    (λ b. rw b (omega arith))
+    (λ b. by-cases (eqb w x)
+    (λ a. absurd (true≢false (sym e ∙ ap t (eqb-true w x a) ∙ b)))
+    (λ a. rw (b, a) (omega arith)))
+
 pub distinct-count : (w : ℕ) (s : List ℕ) → distinct s ≡ true → count w s ≤ 1
 distinct-count w [] e = omega arith
 distinct-count w (x ∷ s) e =

@@ -1,14 +1,15 @@
 -- Counting entries: by class and word, and by call and place. Assumes nothing.
-use Prim.Native.Nat.{ℕ, suc, _≤_, _<_}
-use mathlib.Core.Path.{_≡_, refl, sym, _∙_}
+use Prim.Native.Nat.{ℕ, suc, _+_, _≤_, _<_}
+use mathlib.Core.Path.{_≡_, refl, sym, ap, _∙_}
 use mathlib.Core.List.{List, [], _∷_}
 use mathlib.Core.Bool.{Bool, true, false, cond, not, _&&_, true≢false}
+use mathlib.Core.Logic.{inl, inr}
 use native.Mathlib.Omega.{arith}
 use lib.Dec.{eqb}
-use borrow.Author.Tests.{eqb-true, eq-eqb, ne-eqb}
+use borrow.Author.Tests.{eqb-true, eqb-false, eq-eqb, ne-eqb, not-false}
 use Rattle.model.specs.Lists.{total, count, elem, filter}
-use Rattle.model.specs.Entries.{Entry, entriesFrom, hasWord}
-use Rattle.model.proofs.Counts.{by-cases, count-elem}
+use Rattle.model.specs.Entries.{Entry, In, entriesFrom, hasWord}
+use Rattle.model.proofs.Counts.{by-cases, and-l, and-r, elem-count, count-elem}
 
 -- 1 if the entry is of class c and has the word; 1 if it is place i of call k
 abbrev pub is : ℕ → ℕ → Entry → ℕ
@@ -44,6 +45,56 @@ entries-not k m c j i (x ∷ ws) n = let ih = entries-not k m c j (suc i) ws n i
 pub filter-total : {A : Type 0} (f : A → ℕ) (t : A → Bool) (l : List A) → total f (filter t l) ≤ total f l
 filter-total f t [] = omega arith
 filter-total f t (x ∷ l) = let ih = filter-total f t l in by-cases (t x) (λ e. rw e (omega arith)) (λ e. rw e (omega arith))
+
+-- what a test drops counts for nothing
+pub filter-same : {A : Type 0} (f : A → ℕ) (t : A → Bool) (l : List A) → ((x : A) → t x ≡ false → f x ≡ 0) → total f (filter t l) ≡ total f l
+filter-same f t [] h = refl
+filter-same f t (x ∷ l) h = let ih = filter-same f t l h in by-cases (t x) (λ e. rw e (omega arith)) (λ e. rw e (omega (arith, h x e)))
+
+-- entries with a word that is not released stay, and so do those of another class
+stays : (c d w : ℕ) (ws : List ℕ) (es : List Entry) → ((e : Entry) → hasWord c ws e ≡ true → is d w e ≡ 0) → total (is d w) (filter (λ e. not (hasWord c ws e)) es) ≡ total (is d w) es
+stays c d w ws es h = filter-same (is d w) (λ e. not (hasWord c ws e)) es (λ e r. h e (not-false (hasWord c ws e) r))
+
+pub word-stays : (c w : ℕ) (ws : List ℕ) (es : List Entry) → count w ws ≡ 0 → total (is c w) (filter (λ e. not (hasWord c ws e)) es) ≡ total (is c w) es
+word-stays c w ws es z =
+    stays c c w ws es (λ e r. by-cases (eqb w (e .word))
+    (λ b. absurd (let y : count w ws ≡ count (e .word) ws = ap (λ v. count v ws) (eqb-true w (e .word) b) in omega (arith, elem-count (e .word) ws (and-r (eqb (e .class) c) (elem (e .word) ws) r))))
+    (λ b. by-cases (eqb (e .class) c) (λ a. rw (a, b)) (λ a. rw a)))
+
+pub other-stays : (c d w : ℕ) (ws : List ℕ) (es : List Entry) → eqb d c ≡ false → total (is d w) (filter (λ e. not (hasWord c ws e)) es) ≡ total (is d w) es
+other-stays c d w ws es n =
+    stays c d w ws es (λ e r. by-cases (eqb (e .class) d)
+    (λ a. absurd (eqb-false d c n (sym (eqb-true (e .class) d a) ∙ eqb-true (e .class) c (and-l (eqb (e .class) c) (elem (e .word) ws) r))))
+    (λ a. rw a))
+
+pub is-self : (e : Entry) → is (e .class) (e .word) e ≡ 1
+is-self e = rw (eq-eqb (e .class) (e .class) refl, eq-eqb (e .word) (e .word) refl)
+
+pub in-total : (f : Entry → ℕ) (a : Entry) (l : List Entry) → In a l → f a ≤ total f l
+in-total f a [] m = absurd m
+in-total f a (x ∷ l) (inl e) = omega (arith, ap f e)
+in-total f a (x ∷ l) (inr m) = omega (arith, in-total f a l m)
+
+-- a word that is counted is an entry's
+pub record Has (c w : ℕ) (es : List Entry) : Type 0 where
+  pub entry : Entry
+  pub member : In entry es
+  pub of-class : entry .class ≡ c
+  pub of-word : entry .word ≡ w
+
+pub counted : (c w : ℕ) (es : List Entry) → 1 ≤ total (is c w) es → Has c w es
+counted c w [] h = absurd (omega arith)
+counted c w (e ∷ es) h =
+    by-cases (eqb (e .class) c && eqb w (e .word))
+    (λ a. record {
+      entry = e;
+      member = inl refl;
+      of-class = eqb-true (e .class) c (and-l (eqb (e .class) c) (eqb w (e .word)) a);
+      of-word = sym (eqb-true w (e .word) (and-r (eqb (e .class) c) (eqb w (e .word)) a));
+    })
+    (λ a. let l : 1 ≤ 0 + total (is c w) es = rw a at h in
+    let r = counted c w es (omega arith) in
+    record { entry = r .entry; member = inr (r .member); of-class = r .of-class; of-word = r .of-word })
 
 -- an entry of the class with a released word is gone
 has-word : (c w : ℕ) (ws : List ℕ) (e : Entry) → 1 ≤ count w ws → eqb (e .class) c ≡ true → w ≡ e .word → hasWord c ws e ≡ true

@@ -3,7 +3,7 @@ use Prim.Native.Nat.{ℕ, suc}
 use mathlib.Core.Path.{_≡_, refl}
 use mathlib.Core.List.{List, [], _∷_, _++_}
 use mathlib.Core.Option.{Option, none, some}
-use mathlib.Core.Logic.{inl, inr}
+use mathlib.Core.Logic.{_⊎_, inl, inr}
 use mathlib.Core.Bool.{Bool, true, not}
 use Rattle.model.specs.Lists.{filter, every}
 use Rattle.model.specs.Calls.{Answer, Named, names, blocksOf, releasedBy}
@@ -55,3 +55,50 @@ pub live-in : (k : ℕ) (e : Entry) (es : List Entry) (vs : List Event) → Live
 live-in k e es [] o = absurd o
 live-in k e es (v ∷ vs) (inl o) = stays-on (suc k) e (liveNext k (names (v .call)) (v .answer) es) vs (o .1) (comes k (names (v .call)) (v .answer) e es (o .0))
 live-in k e es (v ∷ vs) (inr o) = live-in (suc k) e (liveNext k (names (v .call)) (v .answer) es) vs o
+
+-- and back: what stands in the list at the end is an entry not yet released, or stood there and was not
+in-parts : (e : Entry) (s t : List Entry) → In e (s ++ t) → In e s ⊎ In e t
+in-parts e [] t m = inr m
+in-parts e (x ∷ s) t (inl p) = inl (inl p)
+in-parts e (x ∷ s) t (inr m) = elim (in-parts e s t m) [
+  | inl a ↦ inl (inr a)
+  | inr b ↦ inr b
+]
+
+filter-in : (f : Entry → Bool) (e : Entry) (s : List Entry) → In e (filter f s) → (f e ≡ true) × In e s
+filter-in f e [] m = absurd m
+filter-in f e (x ∷ s) m =
+    let more : In e (filter f s) → (f e ≡ true) × In e (x ∷ s) = λ n. let r = filter-in f e s n in (r .0, inr (r .1)) in
+    by-cases (f x)
+    (λ b. let y : (e ≡ x) ⊎ In e (filter f s) = rw b at m in
+    elim y [
+      | inl p ↦ (rw (p, b), inl p)
+      | inr n ↦ more n
+    ])
+    (λ b. more (rw b at m))
+
+stayed : (k : ℕ) (d : Option Named) (x : Answer) (e : Entry) (es : List Entry) → In e (liveNext k d x es) → ((not (releases d x e) ≡ true) × In e es) ⊎ In e (entriesOf k d x)
+stayed k none x e es m = inl (refl, m)
+stayed k (some d) x e es m =
+    let f : Entry → Bool = λ u. not (hasWord (d .class) (releasedBy (d .request) x) u) in
+    elim (in-parts e (filter f es) (entriesFrom k (d .class) 0 (blocksOf x)) m) [
+      | inl a ↦ inl (filter-in f e es a)
+      | inr b ↦ inr b
+    ]
+
+in-from : (k : ℕ) (e : Entry) (es : List Entry) (vs : List Event) → In e (liveFrom k es vs)
+    → (In e es × (every (λ u. not (releases (names (u .call)) (u .answer) e)) vs ≡ true)) ⊎ Live k vs e
+in-from k e es [] m = inl (m, refl)
+in-from k e es (v ∷ vs) m = elim (in-from (suc k) e (liveNext k (names (v .call)) (v .answer) es) vs m) [
+  | inl a ↦ elim (stayed k (names (v .call)) (v .answer) e es (a .0)) [
+    | inl s ↦ inl (s .1, rw (s .0, a .1))
+    | inr n ↦ inr (inl (n, a .1))
+  ]
+  | inr b ↦ inr (inr b)
+]
+
+pub in-live : (e : Entry) (vs : List Event) → In e (liveFrom 0 [] vs) → Live 0 vs e
+in-live e vs m = elim (in-from 0 e [] vs m) [
+  | inl a ↦ absurd (a .0)
+  | inr b ↦ b
+]

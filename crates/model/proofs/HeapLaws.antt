@@ -23,10 +23,11 @@ use Rattle.model.specs.Entries.{Entry, entriesFrom, hasWord, directNext,
 use Rattle.model.specs.Ledger.{inHoles, above, runsWith, heldBy, abandons, allAbandon, commitAbandons, growAbandons, offerAbandons, classAbandons, directAbandons, callAbandons, abandonedFrom}
 use Rattle.model.proofs.Counts.{by-cases, and-l, and-r, total-append}
 use Rattle.model.proofs.ArenaLaws.{idle, above-at, covers-le, give-law, give-frontier, give-all-law, give-all-frontier, CommitLaw, commit-law, grow-law, grow-bound}
-use Rattle.model.proofs.ClassLaws.{GoodClass, outCount, Moves, Lawful, lawful-done, lawful-asks, answer-lawful}
+use Rattle.model.proofs.Sites.{GoodClass, outCount}
+use Rattle.model.proofs.ClassLaws.{Moves, Lawful, lawful-done, lawful-asks, answer-lawful}
 use Rattle.model.proofs.Fold.{liveNext, liveFrom}
-use Rattle.model.proofs.EntryCounts.{is, at, entries-same, entries-other, entries-at, entries-not, filter-total, gone}
-use Rattle.model.proofs.Accounts.{Account, Balance, balance, Passes, drawn-direct, given-direct}
+use Rattle.model.proofs.EntryCounts.{is, at, entries-same, entries-other, entries-at, entries-not, filter-total, word-stays, other-stays, gone}
+use Rattle.model.proofs.Accounts.{held-le, Account, Balance, balance, Passes, drawn-direct, given-direct}
 
 -- of a heap after n calls, with the entries not yet released, the pages held by the direct calls as the answers tell, and how often
 -- each page was abandoned
@@ -37,8 +38,8 @@ pub record Inv (size n : ℕ) (H : Heap) (es : List Entry) (f : ℕ → Bool) (l
   pub good : (c : ℕ) → GoodClass (shapeOf c) (H .classes c)
   -- a page is in one run of the class that holds it, and in none of another
   pub mine : (c x : ℕ) → runsWith (shapeOf c) x (H .classes c) ≡ heldBy c (H .holder x)
-  -- an entry not released is out in its class
-  pub outs : (c w : ℕ) → total (is c w) es ≤ outCount (shapeOf c) w (H .classes c)
+  -- what is out in a class is its entries not released
+  pub outs : (c w : ℕ) → total (is c w) es ≡ outCount (shapeOf c) w (H .classes c)
   pub directs : (x : ℕ) → f x ≡ isDirect (H .holder x)
   -- entries are told apart by call and place, and none is of a later call
   pub once : (k i : ℕ) → total (at k i) es ≤ 1
@@ -114,17 +115,17 @@ module _ (size n : ℕ) (H : Heap) (es : List Entry) (f : ℕ → Bool) (l : ℕ
     abbrev keeps : Entry → Bool
     keeps e = not (hasWord c back e)
 
-    own-outs : (w : ℕ) → total (is c w) es′ ≤ outCount sh w (r .class)
+    own-outs : (w : ℕ) → total (is c w) es′ ≡ outCount sh w (r .class)
     own-outs w =
         rw total-append
         (by-cases (leb 1 (count w back))
-        (λ e. let h = leb-true 1 (count w back) e in omega (arith, gone c w back es h, entries-same n c w 0 came, z .moves .quiet w h))
-        (λ e. let h = leb-false 1 (count w back) e in omega (arith, filter-total (is c w) keeps es, entries-same n c w 0 came, z .moves .out w (omega arith), inv .outs c w)))
+        (λ e. let h = leb-true 1 (count w back) e in omega (arith, gone c w back es h, entries-same n c w 0 came, z .moves .quiet w h, z .moves .back w h))
+        (λ e. let h = leb-false 1 (count w back) e in omega (arith, word-stays c w back es (omega arith), entries-same n c w 0 came, z .moves .out w (omega arith), inv .outs c w)))
 
-    other-outs : (w d : ℕ) → eqb d c ≡ false → total (is d w) es′ ≤ outCount (shapeOf d) w (H .classes d)
+    other-outs : (w d : ℕ) → eqb d c ≡ false → total (is d w) es′ ≡ outCount (shapeOf d) w (H .classes d)
     other-outs w d e =
         rw total-append
-        (omega (arith, filter-total (is d w) keeps es, entries-other n c d w 0 came (ne-eqb c d (λ p. eqb-false d c e (sym p))), inv .outs d w))
+        (omega (arith, other-stays c d w back es e, entries-other n c d w 0 came (ne-eqb c d (λ p. eqb-false d c e (sym p))), inv .outs d w))
 
     still-once : (k i : ℕ) → total (at k i) es′ ≤ 1
     still-once k i =
@@ -148,7 +149,7 @@ module _ (size n : ℕ) (H : Heap) (es : List Entry) (f : ℕ → Bool) (l : ℕ
       bound = omega (arith, give-all-frontier (sh .pages) (r .gives) (g .arena), z .commits .bound (inv .bound));
       good = at-class (λ d s. GoodClass (shapeOf d) s) (H .classes) c (r .class) (z .moves .good) (λ d e. inv .good d);
       mine = λ d y. at-class (λ k s. runsWith (shapeOf k) y s ≡ heldBy k (after .heap .holder y)) (H .classes) c (r .class) (balanced y .mine) (λ k e. inv .mine k y ∙ sym (balanced y .others k e)) d;
-      outs = λ d w. at-class (λ k s. total (is k w) es′ ≤ outCount (shapeOf k) w s) (H .classes) c (r .class) (own-outs w) (other-outs w) d;
+      outs = λ d w. at-class (λ k s. total (is k w) es′ ≡ outCount (shapeOf k) w s) (H .classes) c (r .class) (own-outs w) (other-outs w) d;
       directs = λ y. inv .directs y ∙ sym (balanced y .directs);
       once = still-once;
       past = still-past;
@@ -277,7 +278,7 @@ module _ (size n : ℕ) (H : Heap) (es : List Entry) (f : ℕ → Bool) (l : ℕ
       let h = hostOf (d .request) in
       let q = answer (shapeOf c) (H .classes c) (d .request) in
       restate (class-inv c (d .request) q (offer size h (H .arena) q) (offerAbandons size h (H .arena) q)
-      (offered size h (shapeOf c) (H .classes c) (d .request) (H .arena) q (answer-lawful (shapeOf c) (shape-sound c) (H .classes c) (inv .good c) (d .request))))
+      (offered size h (shapeOf c) (H .classes c) (d .request) (H .arena) q (answer-lawful (shapeOf c) (shape-sound c) (H .classes c) (inv .good c) (λ y. omega (arith, inv .mine c y, held-le c (H .holder y), inv .one y)) (d .request))))
       (λ y. class-quiet x d e (route size H x (some d) .answer) y)
       (λ y. refl)
 

@@ -1,5 +1,5 @@
 -- What a page keeps: its blocks out are the carved ones that are not free, and pops and returns move them one by one. Assumes nothing.
-use Prim.Native.Nat.{ℕ, zero, suc, _+_, _-_, _≤_, _<_}
+use Prim.Native.Nat.{ℕ, zero, suc, _+_, _-_, _*_, _/_, _^_, _≤_, _<_}
 use mathlib.Core.Path.{_≡_, refl}
 use mathlib.Core.List.{List, [], _∷_, _++_}
 use mathlib.Core.Bool.{Bool, true, false, cond, not}
@@ -8,12 +8,14 @@ use native.Mathlib.Nat.{add-zero, add-suc, zero-add, mul-le-mul-right}
 use lib.Dec.{eqb, leb}
 use lib.ListN.{length}
 use borrow.Author.Tests.{eqb-true, ne-eqb, not-true, leb-true, leb-false}
+use Rattle.words.specs.Word.{kindBits}
 use Rattle.classes.specs.declared.Shape.{Shape}
 use Rattle.classes.specs.Sound.{Sound}
 use Rattle.model.specs.Lists.{All, count, elem, total, covers}
-use Rattle.model.specs.Page.{Page, wordOf, wordsFrom, isMedium, carveAs, carve, carvedWords, isOut, noneOut, hasMore, carvedNow, pop, returned, retire, reused}
+use Rattle.model.specs.Page.{Page, pageGranules, wordOf, wordsFrom, isMedium, carveAs, carve, carvedWords, isOut, noneOut, hasMore, carvedNow, pop, returned, retire, reused}
 use Rattle.model.specs.Class.{Cold, Filled, after, fillFromList, thawed}
 use Rattle.model.proofs.Counts.{by-cases, and-l, and-r, count-append, count-reverse, count-cut, elem-count, count-elem, every-count}
+use Rattle.model.proofs.Runs.{covers-in}
 
 pub all-append : {A : Type 0} (P : A → Type 0) (s t : List A) → All P s → All P t → All P (s ++ t)
 all-append P [] t h k = k
@@ -55,6 +57,46 @@ module _ (sh : Shape) (ok : Sound sh) where
       (by-cases (eqb w (wordOf sh q k))
       (λ e. rw e (let z = words-below q k w (let y = eqb-true w (wordOf sh q k) e in omega arith) in omega arith))
       (λ e. rw e (let ih = words-once q k w in omega arith)))
+
+  -- a word tells the page where its block begins, so it is out on no page but a run's that has that one
+  abbrev pub beginsOn : ℕ → ℕ
+  beginsOn w = (w - sh .kind * 2 ^ kindBits) / pageGranules
+
+  words-on : (q k w : ℕ) → k ≤ sh .capacity → count w (wordsFrom sh q 0 k) ≤ covers (sh .pages) q (beginsOn w)
+  unfolding wordOf
+  words-on q zero w l = omega arith
+  words-on q (suc k) w l =
+      rw zero-add
+      (by-cases (eqb w (wordOf sh q k))
+      (λ e. let y = eqb-true w (wordOf sh q k) e in
+      let m = mul-le-mul-right (sh .block) l in
+      let c : covers (sh .pages) q (beginsOn w) ≡ 1 = covers-in (sh .pages) q (beginsOn w) (omega arith) (omega (arith, ok .fits, ok .wide)) in
+      rw e (omega (arith, words-below q k w (omega arith))))
+      (λ e. rw e (let ih = words-on q k w (omega arith) in omega arith)))
+
+  pub out-on : (w : ℕ) (p : Page) → GoodPage sh p → outOf sh w p ≤ on sh (beginsOn w) p
+  unfolding carvedWords
+  out-on w p good = omega (arith, words-on (p .first) (p .carved) w (good .within))
+
+  pub out-le : (w : ℕ) (p : Page) → outOf sh w p ≤ 1
+  unfolding carvedWords
+  out-le w p = omega (arith, words-once (p .first) (p .carved) w)
+
+  -- the test and the number agree
+  pub is-out : (w : ℕ) (p : Page) → isOut sh w p ≡ true → 1 ≤ outOf sh w p
+  unfolding isOut
+  is-out w p e =
+      let a = elem-count w (carvedWords sh p) (and-l (elem w (carvedWords sh p)) (not (elem w (p .free))) e) in
+      let b = count-elem w (p .free) (not-true (elem w (p .free)) (and-r (elem w (carvedWords sh p)) (not (elem w (p .free))) e)) in
+      omega arith
+
+  pub out-is : (w : ℕ) (p : Page) → 1 ≤ outOf sh w p → isOut sh w p ≡ true
+  unfolding isOut carvedWords
+  out-is w p h =
+      let once = words-once (p .first) (p .carved) w in
+      let a : elem w (wordsFrom sh (p .first) 0 (p .carved)) ≡ true = by-cases (elem w (wordsFrom sh (p .first) 0 (p .carved))) (λ e. e) (λ e. absurd (omega (arith, count-elem w (wordsFrom sh (p .first) 0 (p .carved)) e))) in
+      let z : elem w (p .free) ≡ false = by-cases (elem w (p .free)) (λ e. absurd (omega (arith, elem-count w (p .free) e))) (λ e. e) in
+      rw (a, z)
 
   words-join : (q a k w : ℕ) → count w (wordsFrom sh q 0 (a + k)) ≡ count w (wordsFrom sh q a k) + count w (wordsFrom sh q 0 a)
   words-join q a zero w = rw add-zero (omega arith)

@@ -10,12 +10,13 @@ use Rattle.model.specs.Calls.{Call, Request}
 use Rattle.model.specs.Chunks.{answer}
 use Rattle.model.specs.Heap.{Heap}
 use Rattle.model.specs.History.{events}
-use Rattle.model.specs.Demands.{arenaMax, BestFit, Yielding, Conserved, Demand3, IsoDisjoint, Commute, StaysHome}
+use Rattle.model.specs.Demands.{arenaMax, BestFit, Yielding, Outs, Conserved, Demand3, IsoDisjoint, Commute, StaysHome}
 use Rattle.model.proofs.HistoryArena as Arenas
 use Rattle.model.proofs.Yields as Yields
 use Rattle.model.proofs.Conserved as Pages
 use Rattle.model.proofs.Alone as Alone
 use Rattle.model.proofs.Apart as Apart
+use Rattle.model.proofs.Outs as Blocks
 use Rattle.model.proofs.Commute as Calls
 
 -- Demand 2
@@ -24,6 +25,10 @@ best-fit = Arenas.best-fit
 
 pub yielding : (size : ℕ) (xs : List Call) → Yielding size xs
 yielding = Yields.yielding
+
+-- number 10 by the history
+pub outs : (size : ℕ) (xs : List Call) → Outs size xs
+outs = Blocks.outs
 
 -- every page is in exactly one place
 pub conserved : (size : ℕ) (xs : List Call) → Conserved size xs

@@ -4,18 +4,19 @@ use mathlib.Core.Path.{_≡_}
 use mathlib.Core.Logic.{_↔_}
 use mathlib.Core.List.{List, []}
 use mathlib.Core.Bool.{Bool, true, false}
-use mathlib.Core.Option.{none}
+use mathlib.Core.Option.{none, some}
 use lib.Dec.{eqb}
 use Rattle.classes.specs.Sizes.{pageBytes}
 use Rattle.classes.specs.Shape.{shapeOf}
 use Rattle.model.specs.Lists.{total, below}
-use Rattle.model.specs.Calls.{Call, Request, take, Answer}
+use Rattle.model.specs.Calls.{Call, Named, names, Request, take, listOf, Answer, isRefused}
 use Rattle.model.specs.Arena as Arenas
 use Rattle.model.specs.Class.{Class, Ask, done}
+use Rattle.model.specs.Release.{outHere}
 use Rattle.model.specs.Chunks.{answer}
-use Rattle.model.specs.Heap.{Heap, isHeld, isDirect, idlePages, classCall}
+use Rattle.model.specs.Heap.{Heap, isHeld, isDirect, idlePages, classCall, step}
 use Rattle.model.specs.History.{Event, events, heapAfter, callsOf, answersOf, runsOf}
-use Rattle.model.specs.Entries.{Entry, Live, HasByte, firstByte, blockBytes, directAfter}
+use Rattle.model.specs.Entries.{Entry, Live, OutIn, AllOut, HasByte, firstByte, blockBytes, directAfter}
 use Rattle.model.specs.Ledger.{inHoles, above, runsWith, heldBy, abandonedFrom}
 use Rattle.model.specs.BestFit.{Commits, Remembers}
 use Rattle.model.specs.Yields.{Listed, TakeYields}
@@ -34,6 +35,12 @@ pub record BestFit (size : ℕ) (xs : List Call) : Type 0 where
 pub record Yielding (size : ℕ) (xs : List Call) : Type 0 where
   pub listed : (c : ℕ) → Listed (shapeOf c) (heapAfter size xs .classes c)
   pub takes : (c h : ℕ) (l : List ℕ) → TakeYields (answer (shapeOf c) (heapAfter size xs .classes c) (take h l))
+
+-- Demand 2: number 10's "out in this class" is what the history tells, and a release that is not refused, by list or by groups, has no
+-- other word
+pub record Outs (size : ℕ) (xs : List Call) : Type 0 where
+  pub out : (c w : ℕ) → (outHere (shapeOf c) (heapAfter size xs .classes c) w ≡ true) ↔ OutIn (events size xs) c w
+  pub released : (x : Call) (d : Named) → names x ≡ some d → isRefused (step size (heapAfter size xs) x .answer) ≡ false → AllOut (events size xs) (d .class) (listOf (d .request))
 
 -- Conservation: every page is in exactly one place, and the report's figures count these places
 pub record Conserved (size : ℕ) (xs : List Call) : Type 0 where

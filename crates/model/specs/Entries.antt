@@ -10,7 +10,7 @@ use lib.Dec.{eqb}
 use Rattle.words.specs.Word.{granuleOf}
 use Rattle.classes.specs.Sizes.{granuleBytes}
 use Rattle.classes.specs.Shape.{shapeOf}
-use Rattle.model.specs.Lists.{every, elem, covers, coversRun}
+use Rattle.model.specs.Lists.{every, elem, distinct, covers, coversRun}
 use Rattle.model.specs.Calls as Calls
 use Rattle.model.specs.Calls.{Call, Answer, Named, names, blocksOf, releasedBy, isRefused}
 use Rattle.model.specs.History.{Event}
@@ -49,6 +49,18 @@ Live k [] e = ⊥
 Live k (v ∷ vs) e =
     (In e (entriesOf k (names (v .call)) (v .answer)) × (every (λ u. not (releases (names (u .call)) (u .answer) e)) vs ≡ true))
     ⊎ Live (suc k) vs e
+
+-- a block is out in a class, as the history tells it: an entry of the class not yet released has its word
+pub record OutIn (vs : List Event) (c w : ℕ) : Type 0 where
+  pub entry : Entry
+  pub live : Live 0 vs entry
+  pub class : entry .class ≡ c
+  pub word : entry .word ≡ w
+
+-- what number 10 asks of a list: each of its blocks is out in this class, and none stands twice
+pub record AllOut (vs : List Event) (c : ℕ) (ws : List ℕ) : Type 0 where
+  pub out : (w : ℕ) → elem w ws ≡ true → OutIn vs c w
+  pub once : distinct ws ≡ true
 
 -- "Its bytes are as many as its class's block size, from its word's granule × 16 on."
 abbrev pub firstByte : Entry → ℕ
