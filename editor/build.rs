@@ -45,9 +45,16 @@ fn own_folder() -> PathBuf {
 fn sources(root: &Path) -> Vec<PathBuf> {
     let list = root.join("crates.txt");
     let text = fs::read_to_string(&list).unwrap_or_else(|error| panic!("{}: {error}", list.display()));
-    let uses = text.lines().find_map(|line| line.strip_prefix("vigbuso:")).expect("crates.txt has the crate vigbuso");
-    let crates = ["vigbuso"].into_iter().chain(uses.split_whitespace());
-    crates.map(|name| root.join("crates").join(name)).chain([list]).collect()
+    let uses = |name: &str| {
+        text.lines().find_map(|line| line.strip_prefix(name)?.strip_prefix(':')).unwrap_or("").split_whitespace()
+    };
+    let mut crates = vec!["vigbuso"];
+    let mut at = 0;
+    while let Some(name) = crates.get(at).copied() {
+        crates.extend(uses(name).filter(|other| !crates.contains(other)).collect::<Vec<_>>());
+        at += 1;
+    }
+    crates.into_iter().map(|name| root.join("crates").join(name)).chain([list]).collect()
 }
 
 fn modified(path: &Path) -> Option<SystemTime> {

@@ -4,7 +4,6 @@ pub mod Record
 pub mod Fair
 pub mod Owners
 pub mod Plan
-pub mod Scan
 pub mod Calls
 pub mod Act
 pub mod Open

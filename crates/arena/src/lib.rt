@@ -1,7 +1,4 @@
-// The arena on the words: its steps as definitions in specs/, its record and its holes, lent as document 01 names them.
-pub mod holes;
-pub mod plans;
-pub mod record;
+// The arena on the words, as definitions, and the record and the plan that they speak of. There is no code here.
 
 // The arena's state, frontier and three counts, with the number of holes and of the pages in them.
 pub struct Arena {

@@ -16,8 +16,8 @@ use Rattle.fields.proofs.Changes.{Changes, changes-none, changes-put}
 use Rattle.model.specs.Lists.{All, every}
 use Rattle.model.proofs.Counts.{by-cases, and-l, and-r}
 use Rattle.arena.specs.Fair.{recordFair, giveFair}
-use Rattle.heap.specs.Release.{pageAt, pageFair, rowFair}
-use Rattle.heap.specs.Chunks.{chunkFits, chunksMatch, returnsAll, runsGiven, pagesGiven, chunksFair, giveRuns}
+use Rattle.calls.specs.Release.{pageAt, pageFair, rowFair}
+use Rattle.calls.specs.Chunks.{chunkFits, chunksMatch, returnsAll, runsGiven, pagesGiven, chunksFair, giveRuns}
 use Rattle.release.specs.Fair.{linksFair}
 use Rattle.release.proofs.FairWays.{links-fair}
 use Rattle.tally.specs.Match.{MatchAsks, Matched}

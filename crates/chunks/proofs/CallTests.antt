@@ -19,8 +19,8 @@ use Rattle.model.specs.Lists.{every, elem, distinct}
 use Rattle.model.proofs.Counts.{by-cases, and-l, and-r}
 use Rattle.arena.specs.Fair.{recordFair, giveFair}
 use Rattle.pages.specs.Runs.{whole}
-use Rattle.heap.specs.Release.{pageAt, startOf, inRunOf, pageFair, rowFair}
-use Rattle.heap.specs.Chunks.{blocksOn, chunkFits, chunksMatch, returnsAll, runsGiven, pagesGiven, chunksFair}
+use Rattle.calls.specs.Release.{pageAt, startOf, inRunOf, pageFair, rowFair}
+use Rattle.calls.specs.Chunks.{blocksOn, chunkFits, chunksMatch, returnsAll, runsGiven, pagesGiven, chunksFair}
 use Rattle.release.proofs.Bits.{isBit, every-same, start-kept}
 use Rattle.release.proofs.FairWays.{room-left, carved-low}
 use Rattle.tally.specs.Match.{onPage}

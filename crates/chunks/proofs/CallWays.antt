@@ -23,8 +23,8 @@ use Rattle.model.specs.Lists.{every, distinct, isNil}
 use Rattle.model.specs.Release.{ofKind}
 use Rattle.model.specs.Chunks.{chunksMax, hostMax}
 use Rattle.model.proofs.Counts.{by-cases, and-l, and-r}
-use Rattle.heap.specs.Release.{inRunOf, outAt}
-use Rattle.heap.specs.Chunks.{chunksMatch, chunksFair, settleChunks, ChunksReleased, chunksNone, releaseChunks, chunksCall}
+use Rattle.calls.specs.Release.{inRunOf, outAt}
+use Rattle.calls.specs.Chunks.{chunksMatch, chunksFair, settleChunks, ChunksReleased, chunksNone, releaseChunks, chunksCall}
 use Rattle.release.specs.Strike.{bitOf, struckCount, unstruck}
 use Rattle.release.specs.Asks.{RestoreAsks, Struck}
 use Rattle.release.proofs.Bits.{isBit, every-same, in-run-kept}

@@ -21,8 +21,8 @@ use Rattle.model.proofs.Counts.{by-cases, and-l, and-r}
 use Rattle.arena.specs.Fair.{giveFair}
 use Rattle.pages.specs.declared.Park.the-variants.{Empty, Cold}
 use Rattle.pages.specs.Runs.{flag}
-use Rattle.heap.specs.Release.{pageFair, rowFair, keepsEmpty, spotOf}
-use Rattle.heap.specs.Chunks.{returnsAll, runsGiven, pagesGiven, chunksFair}
+use Rattle.calls.specs.Release.{pageFair, rowFair, keepsEmpty, spotOf}
+use Rattle.calls.specs.Chunks.{returnsAll, runsGiven, pagesGiven, chunksFair}
 use Rattle.release.specs.Fair.{PageAsks}
 use Rattle.release.proofs.Ways.{drop-past}
 use Rattle.release.proofs.FairWays.{room-left, count-low}

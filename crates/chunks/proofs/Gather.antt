@@ -1,4 +1,4 @@
--- A group release in passes ends as the definition says (heap, specs/Chunks): the struck blocks back on their stacks, then the pages
+-- A group release in passes ends as the definition says (calls, specs/Chunks): the struck blocks back on their stacks, then the pages
 -- placed in the chunks' order, is the chunks settled one after the other. Of a class whose runs are one page. Assumes nothing.
 --     page-start     a word that is out is on the page that its run begins at
 --     strikes        all struck: their out bits are 0
@@ -24,8 +24,8 @@ use Rattle.model.proofs.Counts.{by-cases, and-l, and-r}
 use Rattle.pages.specs.Runs.{whole}
 use Rattle.pages.specs.Stack.{marks, push, back, indexOf}
 use Rattle.pages.proofs.Downs.{small}
-use Rattle.heap.specs.Release.{pageAt, startOf, inRunOf, outAt, pageFair}
-use Rattle.heap.specs.Chunks.{blocksOn, chunkFits, chunksMatch, chunkBackAt, givesOf, Settled, settleChunks}
+use Rattle.calls.specs.Release.{pageAt, startOf, inRunOf, outAt, pageFair}
+use Rattle.calls.specs.Chunks.{blocksOn, chunkFits, chunksMatch, chunkBackAt, givesOf, Settled, settleChunks}
 use Rattle.release.specs.Strike.{bitOf, struckCount, struck}
 use Rattle.release.proofs.Bits.{every-same}
 use Rattle.release.proofs.StrikeLaws.{run-of-out, index-of-out, page-of-out}

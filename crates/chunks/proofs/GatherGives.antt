@@ -29,8 +29,8 @@ use Rattle.pages.specs.Runs.{flag}
 use Rattle.pages.specs.Links.{top, tally, stow}
 use Rattle.pages.specs.Carve.{carveAnew}
 use Rattle.pages.proofs.Frames.{changes-stow}
-use Rattle.heap.specs.Release.{Released, released, unlisted, relisted, keepsEmpty, spotOf, spotAt, parkAs, parkAt}
-use Rattle.heap.specs.Chunks.{emptied, markRetired, givesOf, returnsAll, runsGiven}
+use Rattle.calls.specs.Release.{Released, released, unlisted, relisted, keepsEmpty, spotOf, spotAt, parkAs, parkAt}
+use Rattle.calls.specs.Chunks.{emptied, markRetired, givesOf, returnsAll, runsGiven}
 use Rattle.release.specs.Act.{coldVirgin}
 use Rattle.release.proofs.Parking.{unlisted-changes, relisted-changes, carve-changes}
 use Rattle.chunks.specs.Pass.{placeAt, placeAll, givesIn}

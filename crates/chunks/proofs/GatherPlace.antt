@@ -26,10 +26,10 @@ use Rattle.pages.specs.Stack.{downs, marks, push}
 use Rattle.pages.specs.Links.{pointNext, linked, cutOut, link, unlink, top, tally, stow}
 use Rattle.pages.specs.Carve.{stocked, carveAnew}
 use Rattle.pages.proofs.Downs.{small, length-downs}
-use Rattle.pages.proofs.CarveSteps.{stocked-le}
+use Rattle.pages.proofs.Frames.{stocked-le}
 use Rattle.pages.proofs.Frames.{changes-link, changes-unlink, changes-stow, changes-carve}
-use Rattle.heap.specs.Release.{Released, released, unlisted, relisted, parkAs, spotAt, parkAt}
-use Rattle.heap.specs.Chunks.{emptied, markRetired}
+use Rattle.calls.specs.Release.{Released, released, unlisted, relisted, parkAs, spotAt, parkAt}
+use Rattle.calls.specs.Chunks.{emptied, markRetired}
 use Rattle.release.specs.Act.{coldVirgin}
 use Rattle.chunks.specs.Pass.{placeAt}
 

@@ -23,7 +23,7 @@ use Rattle.pages.specs.Stack.{marks, push, indexOf}
 use Rattle.pages.proofs.Downs.{small}
 use Rattle.pages.proofs.Marks.{length-marks, marks-changes}
 use Rattle.pages.proofs.Pushes.{length-push, push-changes}
-use Rattle.heap.specs.Release.{pageAt}
+use Rattle.calls.specs.Release.{pageAt}
 use Rattle.release.proofs.Bits.{isBit}
 use Rattle.chunks.specs.Pass.{pushOne, pushAll}
 use Rattle.chunks.proofs.GatherPlace.{aside, stirs, stirs-own, own, past-put, past-push, past-marks}

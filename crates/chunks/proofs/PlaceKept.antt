@@ -29,8 +29,8 @@ use Rattle.pages.specs.declared.Park.the-variants.{Empty, Cold}
 use Rattle.pages.specs.Links.{pointNext, linked, cutOut, link, unlink, top, tally, stow}
 use Rattle.pages.specs.Carve.{carveAnew}
 use Rattle.pages.proofs.Frames.{changes-carve}
-use Rattle.heap.specs.Release.{rowFair, unlisted, relisted, released, keepsEmpty, spotOf, spotAt, parkAs, parkAt}
-use Rattle.heap.specs.Chunks.{emptied, markRetired}
+use Rattle.calls.specs.Release.{rowFair, unlisted, relisted, released, keepsEmpty, spotOf, spotAt, parkAs, parkAt}
+use Rattle.calls.specs.Chunks.{emptied, markRetired}
 use Rattle.release.specs.Fair.{linksFair}
 use Rattle.release.specs.Act.{coldVirgin, ParkingAsks}
 use Rattle.release.proofs.Parking.{unlisted-changes}

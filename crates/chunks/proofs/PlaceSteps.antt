@@ -21,8 +21,8 @@ use Rattle.model.specs.Lists.{every}
 use Rattle.model.specs.Page.{isMedium}
 use Rattle.model.specs.Release.{coldFate}
 use Rattle.pages.specs.Asks.{LinkAsks}
-use Rattle.heap.specs.Release.{relisted, unlisted, spotAt, parkAs, parkAt}
-use Rattle.heap.specs.Chunks.{emptied}
+use Rattle.calls.specs.Release.{relisted, unlisted, spotAt, parkAs, parkAt}
+use Rattle.calls.specs.Chunks.{emptied}
 use Rattle.release.specs.Fair.{linksFair}
 use Rattle.release.specs.Act.{ParkingAsks, Parked}
 use Rattle.chunks.specs.Pass.{placeAt, placeAll}

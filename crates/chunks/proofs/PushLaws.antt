@@ -17,7 +17,7 @@ use Rattle.classes.specs.declared.Shape.{Shape}
 use Rattle.fields.specs.Field.{page, slot, free, words, get, put, Has}
 use Rattle.fields.proofs.Laws.{get-put-same, get-put-other, length-put}
 use Rattle.model.proofs.Counts.{by-cases}
-use Rattle.heap.specs.Release.{pageAt}
+use Rattle.calls.specs.Release.{pageAt}
 use Rattle.pages.specs.Stack.{indexOf}
 use Rattle.chunks.specs.Pass.{pushOne, pushAll}
 use Rattle.chunks.specs.PushAsks.{wordsOn, PushOneAsks, PushAllAsks}

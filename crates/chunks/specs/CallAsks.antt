@@ -11,8 +11,8 @@ use Rattle.classes.specs.declared.Shape.{Shape}
 use Rattle.model.specs.Lists.{every, isNil}
 use Rattle.model.specs.Release.{ofKind}
 use Rattle.model.specs.Chunks.{chunksMax}
-use Rattle.heap.specs.Release.{inRunOf}
-use Rattle.heap.specs.Chunks.{chunksMatch, chunksFair, Settled, giveRuns, ChunksReleased, chunksNone}
+use Rattle.calls.specs.Release.{inRunOf}
+use Rattle.calls.specs.Chunks.{chunksMatch, chunksFair, Settled, giveRuns, ChunksReleased, chunksNone}
 use Rattle.release.specs.Asks.{ClassAsks}
 use Rattle.chunks.specs.Pass.{pushAll, placeAll}
 use Rattle.chunks.specs.PushAsks.{PushAllAsks}

@@ -16,8 +16,8 @@ use Rattle.fields.specs.Ranges.{maxParked}
 use Rattle.model.specs.Lists.{every}
 use Rattle.model.specs.Chunks.{chunksMax}
 use Rattle.pages.specs.Runs.{flag}
-use Rattle.heap.specs.Release.{pageFair, rowFair, spotOf}
-use Rattle.heap.specs.Chunks.{returnsAll}
+use Rattle.calls.specs.Release.{pageFair, rowFair, spotOf}
+use Rattle.calls.specs.Chunks.{returnsAll}
 use Rattle.release.specs.Asks.{ClassAsks}
 use Rattle.chunks.specs.declared.fair.Stores.{Stores}
 

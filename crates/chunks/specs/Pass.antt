@@ -1,5 +1,5 @@
 -- The act of a group release in passes over the list and the chunks, on a book whose listed blocks are struck (release, specs/Strike).
--- It ends as `settleChunks` (heap, specs/Chunks) says, which goes chunk by chunk. A small class's run is one page, so that a block's
+-- It ends as `settleChunks` (calls, specs/Chunks) says, which goes chunk by chunk. A small class's run is one page, so that a block's
 -- page is the one that has its granule. Assumes nothing.
 --     pushAll      the listed blocks back on their pages' stacks, the list's last first
 --     placeAt      where a chunk's page goes, once its blocks are back
@@ -13,8 +13,8 @@ use Rattle.words.specs.Word.{pageOf}
 use Rattle.classes.specs.declared.Shape.{Shape}
 use Rattle.fields.specs.Field.{page, slot, free, carved, virgin, get, put}
 use Rattle.pages.specs.Stack.{indexOf}
-use Rattle.heap.specs.Release.{pageAt, Released, released, relisted, parkAt}
-use Rattle.heap.specs.Chunks.{emptied, markRetired, givesOf, Settled}
+use Rattle.calls.specs.Release.{pageAt, Released, released, relisted, parkAt}
+use Rattle.calls.specs.Chunks.{emptied, markRetired, givesOf, Settled}
 
 -- block i on the stack of page q
 unfoldable pub pushOne : List ℕ → ℕ → ℕ → List ℕ

@@ -11,7 +11,7 @@ use Rattle.classes.specs.Sound.{Sound}
 use Rattle.fields.specs.Field.{arena, frontier, words, get}
 use Rattle.fields.specs.Ranges.{maxPages, maxParked}
 use Rattle.model.specs.Lists.{every}
-use Rattle.heap.specs.Release.{rowFair}
+use Rattle.calls.specs.Release.{rowFair}
 use Rattle.release.specs.Fair.{linksFair}
 use Rattle.chunks.specs.Pass.{placeAll}
 

@@ -8,7 +8,7 @@ use Rattle.classes.specs.declared.Shape.{Shape}
 use Rattle.classes.specs.Sound.{Sound}
 use Rattle.fields.specs.Field.{page, free, words, get}
 use Rattle.model.specs.Lists.{filter}
-use Rattle.heap.specs.Release.{pageAt}
+use Rattle.calls.specs.Release.{pageAt}
 
 -- how many listed words have their granule on page q
 unfoldable pub wordsOn : List ℕ → ℕ → ℕ

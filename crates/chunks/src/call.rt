@@ -1,5 +1,5 @@
 // A group release: the numbers in their order, each over both lists, and then the passes. A refusal leaves every word as it was.
-ghost use Rattle.heap.specs.Chunks.{releaseChunks, chunksCall};
+ghost use Rattle.calls.specs.Chunks.{releaseChunks, chunksCall};
 ghost use Rattle.chunks.specs.CallAsks.{placed, settledTo, passes, CallAsks, StrikeAsks, StruckAsks, SettleAsks, ChunksAnswered};
 use super::fair::chunks_fair;
 use super::gives::give_chunks;

@@ -1,6 +1,6 @@
 // Number 13 for a group release: the chunks' pages, the row, and the arena where runs go to it.
 ghost use mathlib.Core.Path.{_≡_};
-ghost use Rattle.heap.specs.Chunks.{returnsAll, runsGiven, pagesGiven, chunksFair};
+ghost use Rattle.calls.specs.Chunks.{returnsAll, runsGiven, pagesGiven, chunksFair};
 ghost use Rattle.model.specs.Lists.{every};
 ghost use Rattle.release.specs.Fair.{PageAsks};
 ghost use Rattle.words.specs.Word.{pageOf};

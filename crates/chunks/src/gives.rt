@@ -1,7 +1,7 @@
 // The runs that leave the class go to the arena.
 ghost use mathlib.Core.Path.{_≡_};
 ghost use Rattle.words.specs.Word.{pageOf};
-ghost use Rattle.heap.specs.Chunks.{givesOf, giveRuns};
+ghost use Rattle.calls.specs.Chunks.{givesOf, giveRuns};
 ghost use Rattle.chunks.specs.Pass.{givesIn};
 ghost use Rattle.chunks.specs.GiveAsks.{GiveChunkAsks, GiveChunksAsks};
 use classes::Shape;

@@ -1,7 +1,7 @@
 // Where the chunks' pages go once their blocks are back, in the chunks' order.
 ghost use mathlib.Core.Path.{_≡_};
 ghost use Rattle.words.specs.Word.{pageOf};
-ghost use Rattle.heap.specs.Chunks.{emptied};
+ghost use Rattle.calls.specs.Chunks.{emptied};
 ghost use Rattle.release.specs.Fair.{PageAsks};
 ghost use Rattle.release.specs.Act.{ParkingAsks, Parked};
 ghost use Rattle.chunks.specs.Pass.{placeAt};

@@ -1,6 +1,6 @@
 // The listed blocks, which are struck, back on their pages' stacks.
 ghost use mathlib.Core.Path.{_≡_};
-ghost use Rattle.heap.specs.Release.{pageAt};
+ghost use Rattle.calls.specs.Release.{pageAt};
 ghost use Rattle.pages.specs.Stack.{indexOf};
 ghost use Rattle.stack.specs.Inverse.{inverse};
 ghost use Rattle.chunks.specs.Pass.{pushOne, pushAll};

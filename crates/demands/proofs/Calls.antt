@@ -21,9 +21,9 @@ use Rattle.model.specs.Heap.{Heap}
 use Rattle.arena.specs.Fair.{recordFair}
 use Rattle.arena.specs.Calls.{reportCode}
 use Rattle.arena.specs.Open.{opened}
-use Rattle.heap.specs.Take.{takeCall}
-use Rattle.heap.specs.Release.{releaseCall}
-use Rattle.heap.specs.Chunks.{chunksCall}
+use Rattle.calls.specs.Take.{takeCall}
+use Rattle.calls.specs.Release.{releaseCall}
+use Rattle.calls.specs.Chunks.{chunksCall}
 use Rattle.direct.specs.Answer.{reportOf}
 use Rattle.vigbuso.specs.Direct as Direct
 use Rattle.vigbuso.specs.Direct.{openOn, commitOn, growOn, containsOn, reportOn, figuresOut}

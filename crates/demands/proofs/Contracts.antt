@@ -27,7 +27,7 @@ use Rattle.model.proofs.Counts.{by-cases, and-l, and-r}
 use Rattle.arena.specs.Load.{loadArena, loadStore}
 use Rattle.arena.specs.Fair.{holeFair, holesFair, recordFair, memoryFair, commitFair}
 use Rattle.arena.specs.Calls.{commitCall, commitFor}
-use Rattle.heap.specs.TakeAnswer.{answerOf}
+use Rattle.take.specs.TakeAnswer.{answerOf}
 use Rattle.release.specs.Act.{answerAs}
 use Rattle.runs.specs.Answer as Runs
 use Rattle.runs.specs.Answer.{commitCode}

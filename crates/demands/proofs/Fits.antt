@@ -29,7 +29,7 @@ use Rattle.model.specs.BestFit.{Commits, Remembers, from-hole, from-frontier, u
 use Rattle.model.specs.Yields.{TakeYields, refuses, yields, asks-first}
 use Rattle.model.proofs.Counts.{by-cases}
 use Rattle.model.proofs.Theorems.{best-fit, yielding}
-use Rattle.heap.specs.Take.{Took, takeCall}
+use Rattle.calls.specs.Take.{Took, takeCall}
 use Rattle.arena.specs.Load.{loadArena}
 use Rattle.refinement.specs.Classes.{takeReply}
 use Rattle.refinement.specs.Run.{callReply}

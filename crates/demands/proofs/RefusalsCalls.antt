@@ -23,10 +23,10 @@ use Rattle.arena.specs.Calls.{Committed, commitRefused, commitFor, commitCall, 
 use Rattle.pages.specs.declared.Park.{Park}
 use Rattle.pages.specs.declared.Park.the-variants.{Empty, Cold}
 use Rattle.pages.specs.Stack.{back, indexOf}
-use Rattle.heap.specs.Take.{Took, tookNone, walk, parkFair, fromPartial, fromPark, onRun, takeNew, takeBlocks, takeCall}
-use Rattle.heap.specs.Release as Back
-use Rattle.heap.specs.Release.{releasedNone, startOf, outAt, firstOf, unlisted, spotAt, giveBackAt, parkAs, parkAt, lastStep, releaseFair, releaseBlocks}
-use Rattle.heap.specs.Chunks.{ChunksReleased, chunksNone, chunksFair, releaseChunks, chunksCall}
+use Rattle.calls.specs.Take.{Took, tookNone, walk, parkFair, fromPartial, fromPark, onRun, takeNew, takeBlocks, takeCall}
+use Rattle.calls.specs.Release as Back
+use Rattle.calls.specs.Release.{releasedNone, startOf, outAt, firstOf, unlisted, spotAt, giveBackAt, parkAs, parkAt, lastStep, releaseFair, releaseBlocks}
+use Rattle.calls.specs.Chunks.{ChunksReleased, chunksNone, chunksFair, releaseChunks, chunksCall}
 use Rattle.direct.specs.declared.Report.{Report}
 use Rattle.direct.specs.Answer.{badGrowth, reportOf}
 use Rattle.vigbuso.specs.Direct as Direct

@@ -37,7 +37,7 @@ use Rattle.model.proofs.Sites.{Tells, locate-tells, here-out}
 use Rattle.model.proofs.Accounts.{held-le}
 use Rattle.model.proofs.HeapLaws.{kept}
 use Rattle.model.proofs.Theorems.{outs}
-use Rattle.heap.specs.Release.{Released, releaseCall}
+use Rattle.calls.specs.Release.{Released, releaseCall}
 use Rattle.refinement.specs.Releases.{listReply}
 use Rattle.refinement.specs.Run.{classReply, callReply}
 use Rattle.demands.specs.Run.{Opens, bookAfter, next, told}

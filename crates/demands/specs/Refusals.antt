@@ -28,9 +28,9 @@ use Rattle.arena.specs.Fair.{recordFair, commitFair, giveFair}
 use Rattle.arena.specs.Calls.{heldDirect}
 use Rattle.pages.specs.declared.Park.the-variants.{Empty, Cold}
 use Rattle.direct.specs.Answer.{badGrowth, Releases}
-use Rattle.heap.specs.Take.{walk, parkFair}
-use Rattle.heap.specs.Release.{startOf, outAt, firstOf, releaseFair}
-use Rattle.heap.specs.Chunks.{chunksMatch, chunksFair}
+use Rattle.calls.specs.Take.{walk, parkFair}
+use Rattle.calls.specs.Release.{startOf, outAt, firstOf, releaseFair}
+use Rattle.calls.specs.Chunks.{chunksMatch, chunksFair}
 use Rattle.vigbuso.specs.Direct as Direct
 use Rattle.vigbuso.specs.Direct.{openOn, commitOn, CommitEnds, growOn, GrowEnds, containsOn, reportOn, ReportEnds}
 use Rattle.vigbuso.specs.Blocks as Blocks

@@ -1,9 +1,10 @@
 -- What each step on a class's pages may change: everything but the fields at which a test fails is as it was. Assumes nothing.
 --     changes-linked .. changes-unstow, changes-name, changes-carve, changes-new, changes-pushed
 --     back-pushed      blocks that come back: their out bits, then the stack
+use Rattle.model.specs.Page.{isMedium}
 use Prim.Native.Nat.{ℕ, zero, suc, _+_, _-_, _*_, _/_, _≤_, _<_}
 use native.Mathlib.Omega.{arith}
-use mathlib.Core.Bool.{Bool, true}
+use mathlib.Core.Bool.{Bool, true, false, cond}
 use mathlib.Core.List.{List}
 use mathlib.Core.Path.{_≡_, refl}
 use lib.Dec.{ltb}
@@ -23,7 +24,13 @@ use Rattle.pages.specs.Carve.{stocked, carveAnew, outWords, newRun}
 use Rattle.pages.proofs.Downs.{small, length-downs}
 use Rattle.pages.proofs.Marks.{marks-kept}
 use Rattle.pages.proofs.Pushes.{push-changes}
-use Rattle.pages.proofs.CarveSteps.{stocked-le}
+
+pub stocked-le : (sh : Shape) (k : ℕ) → k ≡ stocked sh → sh .capacity ≤ 4096 → k ≤ 4096
+stocked-le sh k e h = rw e (go (isMedium sh))
+  where
+    go : (t : Bool) → cond t (sh .capacity) 0 ≤ 4096
+    go true = h
+    go false = omega arith
 
 module _ (t : Field → Bool) (b : List ℕ) (c q : ℕ) (hc : ltb c 76 ≡ true) where
   -- ---- the partial list

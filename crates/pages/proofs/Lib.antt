@@ -4,7 +4,4 @@ pub mod Marks
 pub mod Pushes
 pub mod Spliced
 pub mod Draws
-pub mod ListSteps
-pub mod RunSteps
-pub mod CarveSteps
 pub mod Frames

@@ -1,21 +1,4 @@
-// A class's runs on the words: its lists of pages, whose each page of a run is, and carving.
-mod carve;
-mod links;
-mod runs;
-mod stores;
-
-pub use carve::carve_anew;
-pub use carve::clear_out;
-pub use carve::new_run;
-pub use links::link_partial;
-pub use links::unlink_partial;
-pub use runs::name_run;
-pub use runs::whole;
-pub use stores::park_in;
-pub use stores::store_count;
-pub use stores::store_top;
-pub use stores::unpark;
-pub use stores::wake;
+// A class's pages and their blocks on the words, as definitions, and the stores that they speak of. There is no code here.
 
 // The stores of pages with no block out.
 pub enum Park {

@@ -19,8 +19,8 @@ use Rattle.model.specs.Chunks as Model
 use Rattle.model.specs.Chunks.{startsAt, fitsOn, chunkedOn, chunked}
 use Rattle.model.proofs.Counts.{by-cases, and-l, and-r}
 use Rattle.model.proofs.Find.{all-at}
-use Rattle.heap.specs.Release.{startOf, outAt}
-use Rattle.heap.specs.Chunks.{blocksOn, chunkFits, chunksMatch}
+use Rattle.calls.specs.Release.{startOf, outAt}
+use Rattle.calls.specs.Chunks.{blocksOn, chunkFits, chunksMatch}
 use Rattle.refinement.specs.Represents.{PageRep, StateRep}
 use Rattle.refinement.proofs.Basics.{Setting}
 use Rattle.refinement.proofs.Found.{Located, nowhere, inList, inNone, located, located-passes, found-at, placed-rep, same-page, out-here}

@@ -29,8 +29,8 @@ use Rattle.model.specs.Heap.{Heap, offer, finish, interact, classCall, heldPage
 use Rattle.model.specs.History.{heapAfter}
 use Rattle.model.proofs.Counts.{by-cases, and-l, and-r}
 use Rattle.model.proofs.Find.{pageIn, located-first}
-use Rattle.heap.specs.Release.{outAt, pageFair}
-use Rattle.heap.specs.Chunks.{blocksOn, chunksMatch, returnsAll, runsGiven, pagesGiven, chunksFair, settleChunks, giveRuns, ChunksReleased, chunksNone, releaseChunks, chunksCall}
+use Rattle.calls.specs.Release.{outAt, pageFair}
+use Rattle.calls.specs.Chunks.{blocksOn, chunksMatch, returnsAll, runsGiven, pagesGiven, chunksFair, settleChunks, giveRuns, ChunksReleased, chunksNone, releaseChunks, chunksCall}
 use Rattle.refinement.specs.Represents.{Represents}
 use Rattle.refinement.specs.Direct.{Agrees}
 use Rattle.refinement.specs.Releases.{chunksReply}

@@ -26,9 +26,9 @@ use Rattle.model.proofs.Counts.{by-cases, and-l, and-r, filter-le, distinct-cou
 use Rattle.model.proofs.Find.{firstOf, pageIn, located-first, Skips, partial-skips, full-skips}
 use Rattle.pages.specs.Runs.{flag}
 use Rattle.pages.specs.Stack.{indexOf}
-use Rattle.heap.specs.Release.{startOf, Released, keepsEmpty, spotOf}
-use Rattle.heap.specs.Chunks as Words
-use Rattle.heap.specs.Chunks.{blocksOn, returnsAll, runsGiven, chunkBackAt, givesOf, settleChunks}
+use Rattle.calls.specs.Release.{startOf, Released, keepsEmpty, spotOf}
+use Rattle.calls.specs.Chunks as Words
+use Rattle.calls.specs.Chunks.{blocksOn, returnsAll, runsGiven, chunkBackAt, givesOf, settleChunks}
 use Rattle.refinement.specs.Represents.{firsts}
 use Rattle.refinement.proofs.Basics.{Setting, setting-kept}
 use Rattle.refinement.proofs.Frames.{Only, only-owns, only-trans}

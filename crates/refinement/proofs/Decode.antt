@@ -25,7 +25,7 @@ use Rattle.model.proofs.Counts.{by-cases, and-l, and-r, elem-count, count-elem}
 use Rattle.model.proofs.Pages.{word-rises}
 use Rattle.pages.specs.Runs.{flag}
 use Rattle.pages.specs.Stack.{marked, blocksFrom, indexOf}
-use Rattle.heap.specs.Release.{pageAt, startOf, outIn, inRunOf, outAt}
+use Rattle.calls.specs.Release.{pageAt, startOf, outIn, inRunOf, outAt}
 use Rattle.refinement.specs.Represents.{PageRep}
 use Rattle.refinement.proofs.Basics.{Setting, flag-cases}
 use Rattle.refinement.proofs.Frames.{whole-says}

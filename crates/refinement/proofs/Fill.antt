@@ -20,7 +20,7 @@ use Rattle.model.proofs.Counts.{by-cases}
 use Rattle.pages.specs.Stack.{latest, draw, hasMore}
 use Rattle.pages.specs.Links.{unlink}
 use Rattle.pages.specs.declared.Park.{Park}
-use Rattle.heap.specs.Take.{Filled, filledNone, thenFilled, relist, fillFrom}
+use Rattle.calls.specs.Take.{Filled, filledNone, thenFilled, relist, fillFrom}
 use Rattle.refinement.specs.Represents.{PageRep, ClassRep}
 use Rattle.refinement.proofs.Basics.{Setting, setting-kept, flag-eqb}
 use Rattle.refinement.proofs.Frames.{ofClass, Only, only-trans}

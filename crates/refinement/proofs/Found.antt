@@ -23,7 +23,7 @@ use Rattle.model.proofs.Counts.{by-cases, and-l, and-r}
 use Rattle.model.proofs.Find.{all-at, FoundLaw}
 use Rattle.pages.specs.Runs.{flag, whole}
 use Rattle.pages.specs.declared.Park.the-variants.{Empty}
-use Rattle.heap.specs.Release.{startOf, outIn, inRunOf, outAt, unlisted, relisted}
+use Rattle.calls.specs.Release.{startOf, outIn, inRunOf, outAt, unlisted, relisted}
 use Rattle.refinement.specs.Represents.{PageRep, Parked, heads, ClassRep, StateRep}
 use Rattle.refinement.proofs.Basics.{Setting, bool-eq}
 use Rattle.refinement.proofs.Frames.{isData, ofClass, Only}

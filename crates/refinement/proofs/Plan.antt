@@ -21,7 +21,7 @@ use Rattle.pages.specs.Runs.{flag}
 use Rattle.pages.specs.Stack.{latest, hasMore}
 use Rattle.pages.specs.declared.Park.{Park}
 use Rattle.pages.specs.Links.{top}
-use Rattle.heap.specs.Take.{sound, walk, parkFair}
+use Rattle.calls.specs.Take.{sound, walk, parkFair}
 use Rattle.pages.proofs.Downs.{flag-cases}
 use Rattle.refinement.specs.Chain.{Segment, Line, Stack}
 use Rattle.refinement.specs.Represents.{Holds, PageRep, Parked, firsts}

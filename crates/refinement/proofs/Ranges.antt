@@ -9,7 +9,7 @@ use Rattle.fields.specs.Field.{arena, memory, class, hole, page, size, state, f
 use Rattle.fields.specs.Ranges.{inRange}
 use Rattle.arena.specs.Load.{loadHole}
 use Rattle.arena.specs.Fair.{recordFair, holeFair}
-use Rattle.heap.specs.Release.{rowFair}
+use Rattle.calls.specs.Release.{rowFair}
 
 -- the arena's record
 pub record-ranges : (b : List ℕ) → recordFair (get b (arena size)) b ≡ (inRange 0 b (arena state) && (inRange 0 b (arena frontier) && (inRange 0 b (arena holes) && (inRange 0 b (arena holePages) && inRange 0 b (arena held)))))

@@ -27,8 +27,8 @@ use Rattle.pages.specs.Stack.{marked, back, indexOf}
 use Rattle.pages.specs.declared.Park.the-variants.{Empty, Cold}
 use Rattle.pages.specs.Links.{stow}
 use Rattle.pages.specs.Carve.{carveAnew}
-use Rattle.heap.specs.Release.{Released, released, unlisted, relisted, keepsEmpty, spotOf, parkCold, parkAs, parkAt, giveBackAt}
-use Rattle.heap.specs.Chunks.{emptied, markRetired, chunkBackAt}
+use Rattle.calls.specs.Release.{Released, released, unlisted, relisted, keepsEmpty, spotOf, parkCold, parkAs, parkAt, giveBackAt}
+use Rattle.calls.specs.Chunks.{emptied, markRetired, chunkBackAt}
 use Rattle.refinement.specs.Represents.{PageRep, firsts, ClassRep}
 use Rattle.refinement.proofs.Basics.{Setting, setting-kept}
 use Rattle.refinement.proofs.Frames.{ofClass, Only, only-trans, data-owns, whole-kept, whole-in, whole-owner}

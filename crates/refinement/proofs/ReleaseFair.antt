@@ -21,7 +21,7 @@ use Rattle.model.specs.Release.{Site}
 use Rattle.pages.specs.Runs.{whole}
 use Rattle.pages.specs.declared.Park.the-variants.{Empty}
 use Rattle.arena.specs.Fair.{giveFair}
-use Rattle.heap.specs.Release.{pageFair, rowFair, spotAt, spotFair, releaseFair}
+use Rattle.calls.specs.Release.{pageFair, rowFair, spotAt, spotFair, releaseFair}
 use Rattle.refinement.specs.Chain.{In, Chain, Line}
 use Rattle.refinement.specs.Represents.{firsts, heads, ClassRep, Represents}
 use Rattle.refinement.proofs.Basics.{Setting, flag-small}

@@ -26,7 +26,7 @@ use Rattle.model.specs.Heap.{Heap, offer, finish, interact, classCall}
 use Rattle.model.specs.History.{heapAfter}
 use Rattle.model.proofs.Counts.{by-cases, and-l, and-r, distinct-count}
 use Rattle.pages.specs.Stack.{indexOf}
-use Rattle.heap.specs.Release.{startOf, outAt, Released, releasedNone, lastStep, giveBackAt, releaseFair, releaseBlocks, releaseCall}
+use Rattle.calls.specs.Release.{startOf, outAt, Released, releasedNone, lastStep, giveBackAt, releaseFair, releaseBlocks, releaseCall}
 use Rattle.refinement.specs.Represents.{Represents}
 use Rattle.refinement.specs.Direct.{Agrees}
 use Rattle.refinement.specs.Releases.{listReply}

@@ -26,7 +26,7 @@ use Rattle.pages.specs.Stack.{marked, marks, push, back, indexOf}
 use Rattle.pages.proofs.Downs.{every-below}
 use Rattle.pages.proofs.Marks.{marks-changes, marks-at}
 use Rattle.pages.proofs.Pushes.{length-push, push-changes, push-kept}
-use Rattle.heap.specs.Chunks.{emptied}
+use Rattle.calls.specs.Chunks.{emptied}
 use Rattle.refinement.specs.Represents.{Holds, PageRep}
 use Rattle.refinement.proofs.ArenaStore.{long-kept}
 use Rattle.refinement.proofs.Basics.{Setting, setting-kept, flag-le, flag-false, flag-cases}

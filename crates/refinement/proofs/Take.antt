@@ -15,7 +15,7 @@ use Rattle.model.specs.Class.{lists, Result, Ask, done, asks, fillFromList, ser
 use Rattle.pages.specs.declared.Park.{Park}
 use Rattle.pages.specs.declared.Park.the-variants.{Empty, Cold}
 use Rattle.pages.specs.Links.{other, unstow, wake}
-use Rattle.heap.specs.Take.{Took, Filled, took, fillFrom, fromPartial, fromPark, takeNew, takeBlocks}
+use Rattle.calls.specs.Take.{Took, Filled, took, fillFrom, fromPartial, fromPark, takeNew, takeBlocks}
 use Rattle.refinement.specs.Represents.{ClassRep, StateRep}
 use Rattle.refinement.proofs.Basics.{Setting, setting-kept}
 use Rattle.refinement.proofs.Frames.{Only, only-trans}

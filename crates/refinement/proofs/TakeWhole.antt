@@ -33,7 +33,7 @@ use Rattle.fields.proofs.Changes.{changes-none}
 use Rattle.pages.specs.declared.Park.the-variants.{Empty}
 use Rattle.pages.specs.Links.{link}
 use Rattle.pages.specs.Carve.{newRun}
-use Rattle.heap.specs.Take.{Took, tookNone, onRun, takeNew, takeCall}
+use Rattle.calls.specs.Take.{Took, tookNone, onRun, takeNew, takeCall}
 use Rattle.arena.specs.Calls.{committed}
 use Rattle.refinement.proofs.GiveClass.{arena-only}
 use Rattle.refinement.specs.Represents.{ClassRep, Represents}

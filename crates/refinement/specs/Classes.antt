@@ -1,6 +1,6 @@
 -- A class's take on the words as a call of the model. Assumes nothing.
 use Rattle.model.specs.Calls.{taken}
-use Rattle.heap.specs.Take.{Took}
+use Rattle.calls.specs.Take.{Took}
 use Rattle.refinement.specs.Direct.{Reply, reply}
 
 abbrev pub takeReply : Took → Reply

@@ -1,7 +1,7 @@
 -- A class's releases on the words as calls of the model. Assumes nothing.
 use Rattle.model.specs.Calls.{fate, fates}
-use Rattle.heap.specs.Release.{Released}
-use Rattle.heap.specs.Chunks.{ChunksReleased}
+use Rattle.calls.specs.Release.{Released}
+use Rattle.calls.specs.Chunks.{ChunksReleased}
 use Rattle.refinement.specs.Direct.{Reply, reply}
 
 abbrev pub listReply : Released → Reply

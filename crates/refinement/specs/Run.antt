@@ -9,9 +9,9 @@ use Rattle.classes.specs.Shape.{shapeOf}
 use Rattle.model.specs.Calls as Calls
 use Rattle.model.specs.Calls.{Call, Answer, Named, names, Request}
 use Rattle.arena.specs.Open.{opened}
-use Rattle.heap.specs.Take.{takeCall}
-use Rattle.heap.specs.Release.{releaseCall}
-use Rattle.heap.specs.Chunks.{chunksCall}
+use Rattle.calls.specs.Take.{takeCall}
+use Rattle.calls.specs.Release.{releaseCall}
+use Rattle.calls.specs.Chunks.{chunksCall}
 use Rattle.refinement.specs.Direct.{Reply, directReply}
 use Rattle.refinement.specs.Classes.{takeReply}
 use Rattle.refinement.specs.Releases.{listReply, chunksReply}

@@ -24,7 +24,7 @@ use Rattle.pages.specs.Stack.{push, pushed, indexOf}
 use Rattle.pages.specs.Carve.{carveAnew}
 use Rattle.pages.proofs.Pushes.{length-push}
 use Rattle.pages.proofs.Frames.{changes-stow, changes-pushed}
-use Rattle.heap.specs.Release.{pageFair, rowFair, relisted, released, unlisted, parkCold, parkAs, spotOf, spotAt, parkAt, spotFair, releaseFair, lastStep, keepsEmpty}
+use Rattle.calls.specs.Release.{pageFair, rowFair, relisted, released, unlisted, parkCold, parkAs, spotOf, spotAt, parkAt, spotFair, releaseFair, lastStep, keepsEmpty}
 use Rattle.release.specs.Fair.{linksFair}
 use Rattle.release.specs.Act.{settleAt, coldVirgin, ParkingAsks, BackAsks, SettleAsks, Parked}
 use Rattle.release.proofs.FairWays.{room-left, carved-low, links-fair, head-low}

@@ -15,7 +15,7 @@ use Rattle.fields.proofs.Changes.{Changes, changes-none, changes-put}
 use Rattle.model.specs.Lists.{every, below}
 use Rattle.pages.specs.Runs.{ofRun, whole}
 use Rattle.pages.specs.Stack.{blocksFrom, indexOf}
-use Rattle.heap.specs.Release.{pageAt, startOf, outIn, inRunOf}
+use Rattle.calls.specs.Release.{pageAt, startOf, outIn, inRunOf}
 use Rattle.release.specs.Strike.{isBlock, bitIn}
 use Rattle.release.specs.Asks.{hasBit}
 

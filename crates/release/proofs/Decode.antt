@@ -18,7 +18,7 @@ use Rattle.fields.specs.Ranges.{maxPages}
 use Rattle.pages.specs.Stack.{blocksFrom, indexOf}
 use Rattle.stack.specs.Inverse.{inverse}
 use Rattle.stack.proofs.InverseLaws.{behind-point, past-point, narrow, product-fits, divides, quotient-fits}
-use Rattle.heap.specs.Release.{outIn}
+use Rattle.calls.specs.Release.{outIn}
 use Rattle.release.specs.declared.Found.{Found}
 use Rattle.release.specs.declared.Found.the-variants.{At, Nothing}
 use Rattle.release.specs.Strike.{isBlock, found, blockAt, bitIn}

@@ -19,7 +19,7 @@ use Rattle.arena.specs.Fair.{giveFair}
 use Rattle.pages.specs.declared.Park.{Park}
 use Rattle.pages.specs.declared.Park.the-variants.{Empty, Cold}
 use Rattle.pages.specs.Links.{top, tally}
-use Rattle.heap.specs.Release.{pageFair, rowFair, keepsEmpty, spotOf, spotAt, spotFair, releaseFair}
+use Rattle.calls.specs.Release.{pageFair, rowFair, keepsEmpty, spotOf, spotAt, spotFair, releaseFair}
 use Rattle.release.specs.Fair.{blocksFair, flagsFair, linksFair, storeFair, FairAsks, SpotFairAsks}
 
 leb-sub : (m x y : ℕ) → y ≤ x → leb m (x - y) ≡ leb (y + m) x

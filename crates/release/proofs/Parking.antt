@@ -22,7 +22,7 @@ use Rattle.pages.specs.Asks.{UnlinkAsks, ParkAsks}
 use Rattle.pages.specs.Links.{link, unlink, stow, tally}
 use Rattle.pages.specs.Carve.{carveAnew}
 use Rattle.pages.proofs.Frames.{changes-link, changes-unlink, changes-carve}
-use Rattle.heap.specs.Release.{unlisted, relisted, parkCold, parkAs, spotAt, parkAt}
+use Rattle.calls.specs.Release.{unlisted, relisted, parkCold, parkAs, spotAt, parkAt}
 use Rattle.release.specs.Act.{coldVirgin, ParkingAsks, ColdAsks, Parked}
 use Rattle.release.proofs.FairWays.{count-low}
 

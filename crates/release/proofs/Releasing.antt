@@ -21,8 +21,8 @@ use Rattle.pages.specs.Runs.{whole}
 use Rattle.pages.specs.Stack.{marks, pushed, indexOf}
 use Rattle.pages.proofs.Downs.{small}
 use Rattle.pages.proofs.Frames.{back-pushed}
-use Rattle.heap.specs.Release as Heap
-use Rattle.heap.specs.Release.{startOf, firstOf, inRunOf, outIn, outAt, pageFair, rowFair, spotFair, releaseFair, relisted, released, parkAs, parkAt, spotAt, unlisted, giveBackAt, lastStep, releaseBlocks, releaseCall}
+use Rattle.calls.specs.Release as Heap
+use Rattle.calls.specs.Release.{startOf, firstOf, inRunOf, outIn, outAt, pageFair, rowFair, spotFair, releaseFair, relisted, released, parkAs, parkAt, spotAt, unlisted, giveBackAt, lastStep, releaseBlocks, releaseCall}
 use Rattle.release.specs.declared.Found.{Found}
 use Rattle.release.specs.declared.Found.the-variants.{At, Nothing}
 use Rattle.release.specs.declared.Released.{Released}

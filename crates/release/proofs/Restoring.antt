@@ -18,7 +18,7 @@ use Rattle.fields.proofs.Changes.{Changes}
 use Rattle.model.specs.Lists.{every}
 use Rattle.pages.specs.Asks.{IndexAsks}
 use Rattle.pages.specs.Stack.{indexOf}
-use Rattle.heap.specs.Release.{pageAt, startOf, outAt}
+use Rattle.calls.specs.Release.{pageAt, startOf, outAt}
 use Rattle.release.specs.Strike.{bitOf, struckCount, struck, restored, unstruck}
 use Rattle.release.specs.Asks.{hasBit, RestoreAsks, RestAsks, Rest, restCount, Struck}
 use Rattle.release.proofs.Bits.{isBit, put-bit, every-same, bit-kept}

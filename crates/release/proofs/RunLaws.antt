@@ -22,7 +22,7 @@ use Rattle.fields.proofs.Changes.{Changes, same-eq}
 use Rattle.model.specs.Lists.{every, below}
 use Rattle.pages.specs.Runs.{ofRun, whole}
 use Rattle.pages.specs.Stack.{marks, indexOf}
-use Rattle.heap.specs.Release.{pageAt, startOf, outIn, inRunOf, outAt}
+use Rattle.calls.specs.Release.{pageAt, startOf, outIn, inRunOf, outAt}
 use Rattle.release.specs.Strike.{isBlock, bitIn, countIn, struckIn, struckCount, struck}
 use Rattle.release.proofs.Bits.{isBit, put-bit, every-same, start-kept, whole-kept, out-in, from-block, at-block, below-capacity}
 

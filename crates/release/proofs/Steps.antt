@@ -16,7 +16,7 @@ use Rattle.classes.specs.Sound.{Sound}
 use Rattle.fields.specs.Ranges.{maxPages}
 use Rattle.fields.proofs.Laws.{and-left, and-right}
 use Rattle.pages.specs.Runs.{whole}
-use Rattle.heap.specs.Release.{pageAt, startOf, outIn, inRunOf, outAt}
+use Rattle.calls.specs.Release.{pageAt, startOf, outIn, inRunOf, outAt}
 use Rattle.release.specs.declared.Found.{Found}
 use Rattle.release.specs.declared.Found.the-variants.{At, Nothing}
 use Rattle.release.specs.Strike.{bitIn, runAt, countIn, struckIn, struckCount, struck}

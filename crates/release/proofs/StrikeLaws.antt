@@ -22,7 +22,7 @@ use Rattle.model.specs.Lists.{every, elem, distinct}
 use Rattle.model.specs.Release.{ofKind}
 use Rattle.pages.specs.Runs.{whole}
 use Rattle.pages.specs.Stack.{indexOf}
-use Rattle.heap.specs.Release.{pageAt, startOf, inRunOf, outAt}
+use Rattle.calls.specs.Release.{pageAt, startOf, inRunOf, outAt}
 use Rattle.release.specs.Strike.{isBlock, bitOf, struckCount, struck, restored, unstruck}
 use Rattle.release.specs.Asks.{hasBit}
 use Rattle.release.proofs.Bits.{isBit, put-bit, every-same, start-kept, in-run-kept, out-in, below-capacity, one-word, bit-kept}

@@ -17,7 +17,7 @@ use Rattle.fields.specs.Field.{arena, page, frontier, first, get}
 use Rattle.model.specs.Lists.{every}
 use Rattle.model.specs.Release.{ofKind}
 use Rattle.pages.specs.Runs.{whole}
-use Rattle.heap.specs.Release.{pageAt, startOf, inRunOf}
+use Rattle.calls.specs.Release.{pageAt, startOf, inRunOf}
 use Rattle.release.specs.declared.Found.the-variants.{At, Nothing}
 use Rattle.release.specs.Strike.{runAt}
 

@@ -18,8 +18,8 @@ use Rattle.model.specs.Page.{isMedium}
 use Rattle.model.specs.Release.{ofKind}
 use Rattle.pages.specs.Runs.{whole}
 use Rattle.pages.specs.Stack.{pushed}
-use Rattle.heap.specs.Release as Heap
-use Rattle.heap.specs.Release.{startOf, firstOf, pageFair, rowFair, releaseFair, released, relisted, parkAt}
+use Rattle.calls.specs.Release as Heap
+use Rattle.calls.specs.Release.{startOf, firstOf, pageFair, rowFair, releaseFair, released, relisted, parkAt}
 use Rattle.release.specs.declared.Released.{Released}
 use Rattle.release.specs.declared.Released.the-variants.{Refused, Fate}
 use Rattle.release.specs.Asks.{ClassAsks}

@@ -11,7 +11,7 @@ use Rattle.fields.specs.Field.{words, put}
 use Rattle.fields.specs.Ranges.{maxPages}
 use Rattle.model.specs.Lists.{every}
 use Rattle.pages.specs.Stack.{indexOf}
-use Rattle.heap.specs.Release.{pageAt, startOf, outIn}
+use Rattle.calls.specs.Release.{pageAt, startOf, outIn}
 use Rattle.release.specs.Strike.{bitIn, countIn, struckIn, struckCount, struck, unstruck}
 
 -- the run at q

@@ -13,7 +13,7 @@ use Rattle.fields.specs.Field.{arena, class, page, frontier, next, prev, free, 
 use Rattle.fields.specs.Ranges.{maxParked}
 use Rattle.pages.specs.declared.Park.{Park}
 use Rattle.pages.specs.Links.{top, tally}
-use Rattle.heap.specs.Release.{pageFair, rowFair}
+use Rattle.calls.specs.Release.{pageFair, rowFair}
 
 abbrev pub blocksFair : List ℕ → Shape → ℕ → ℕ → Bool
 blocksFair b sh m q = leb (get b (page carved q)) (sh .capacity) && leb (get b (page free q) + m) (get b (page carved q))

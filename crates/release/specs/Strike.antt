@@ -13,7 +13,7 @@ use Rattle.words.specs.Word.{granuleOf}
 use Rattle.classes.specs.declared.Shape.{Shape}
 use Rattle.fields.specs.Field.{Field, out, put}
 use Rattle.pages.specs.Stack.{blocksFrom, indexOf}
-use Rattle.heap.specs.Release.{startOf, outIn, inRunOf, outAt}
+use Rattle.calls.specs.Release.{startOf, outIn, inRunOf, outAt}
 use Rattle.release.specs.declared.Found.{Found}
 use Rattle.release.specs.declared.Found.the-variants.{At, Nothing}
 

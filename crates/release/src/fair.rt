@@ -5,7 +5,7 @@ ghost use Prim.Native.Nat.{_≤_, _<_};
 ghost use Rattle.classes.specs.Sound.{Sound};
 ghost use Rattle.fields.specs.Ranges.{maxParked};
 ghost use Rattle.pages.specs.Asks.{RowAsks};
-ghost use Rattle.heap.specs.Release.{pageFair, rowFair, keepsEmpty, spotOf, spotAt, spotFair, releaseFair};
+ghost use Rattle.calls.specs.Release.{pageFair, rowFair, keepsEmpty, spotOf, spotAt, spotFair, releaseFair};
 ghost use Rattle.release.specs.Fair.{blocksFair, flagsFair, linksFair, storeFair, PageAsks, SpotAsks, FairAsks, SpotFairAsks};
 use classes::Shape;
 use pages::Park;
@@ -67,10 +67,10 @@ fn store_fair(meta: &[u32], c: u32, park: Park) -> bool
     requires { ⌜ RowAsks (now meta) c ⌝ }
     ensures { λ r. ⌜ r ≡ storeFair (now (meta .entry)) c park ⌝ }
 {
-    if pages::store_top(meta, c, park) > fields::arena::frontier(meta) {
+    if lists::store_top(meta, c, park) > fields::arena::frontier(meta) {
         return false;
     }
-    pages::store_count(meta, c, park) <= 256
+    lists::store_count(meta, c, park) <= 256
 }
 
 pub fn row_fair(meta: &[u32], c: u32) -> bool
@@ -116,8 +116,8 @@ pub fn spot_at(meta: &[u32], c: u32, shape: Shape) -> u32
 {
     spot_of(
         shape,
-        pages::store_count(meta, c, Park::Empty),
-        pages::store_count(meta, c, Park::Cold),
+        lists::store_count(meta, c, Park::Empty),
+        lists::store_count(meta, c, Park::Cold),
     )
 }
 

@@ -4,7 +4,7 @@ ghost use mathlib.Core.List.{map};
 ghost use Rattle.model.specs.Release.{coldFate};
 ghost use Rattle.pages.specs.Asks.{LinkAsks};
 ghost use Rattle.pages.specs.Stack.{indexOf};
-ghost use Rattle.heap.specs.Release.{unlisted, relisted, parkCold, parkAt, lastStep};
+ghost use Rattle.calls.specs.Release.{unlisted, relisted, parkCold, parkAt, lastStep};
 ghost use Rattle.release.specs.Act.{coldVirgin, settleAt, ParkingAsks, ColdAsks, BackAsks, SettleAsks, Parked};
 use super::fair::spot_at;
 use classes::Shape;
@@ -18,7 +18,7 @@ fn unlist(meta: &mut [u32], c: u32, shape: Shape, q: u32)
     ensures { λ _. ⌜ now (meta .exit) ≡ unlisted (now (meta .entry)) c q ⌝ }
 {
     if fields::page::listed(meta, q) == 1 {
-        pages::unlink_partial(meta, c, q);
+        lists::unlink_partial(meta, c, q);
     }
 }
 
@@ -28,7 +28,7 @@ pub fn relist(meta: &mut [u32], c: u32, q: u32)
     ensures { λ _. ⌜ now (meta .exit) ≡ relisted (now (meta .entry)) c q ⌝ }
 {
     if fields::page::listed(meta, q) == 0 {
-        pages::link_partial(meta, c, q);
+        lists::link_partial(meta, c, q);
     }
 }
 
@@ -53,8 +53,8 @@ fn park_cold(meta: &mut [u32], c: u32, shape: Shape, host: u32, q: u32)
     requires { ⌜ ColdAsks (now meta) c shape q ⌝ }
     ensures { λ _. ⌜ now (meta .exit) ≡ parkCold (now (meta .entry)) c shape host q ⌝ }
 {
-    pages::carve_anew(meta, shape, q, cold_virgin(shape, host));
-    pages::park_in(meta, c, Park::Cold, q);
+    lists::carve_anew(meta, shape, q, cold_virgin(shape, host));
+    lists::park_in(meta, c, Park::Cold, q);
 }
 
 // Parks a page with none out; its fate. One for the arena stays in no list.
@@ -65,7 +65,7 @@ pub fn park_empty_page(meta: &mut [u32], c: u32, shape: Shape, host: u32, q: u32
     let spot = spot_at(meta, c, shape);
     unlist(meta, c, shape, q);
     if spot == 0 {
-        pages::park_in(meta, c, Park::Empty, q);
+        lists::park_in(meta, c, Park::Empty, q);
         return 0;
     }
     if spot == 1 {

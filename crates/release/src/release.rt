@@ -1,5 +1,5 @@
 // A release by list: the numbers in their order, and then the act. A refusal leaves every word as it was.
-ghost use Rattle.heap.specs.Release.{releaseBlocks, releaseCall};
+ghost use Rattle.calls.specs.Release.{releaseBlocks, releaseCall};
 ghost use Rattle.release.specs.Asks.{ClassAsks};
 ghost use Rattle.release.specs.Act.{RunAsks, Answered};
 use super::Found;

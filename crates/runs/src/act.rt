@@ -6,7 +6,7 @@ use super::owners;
 use super::store;
 use arena::Arena;
 use arena::Plan;
-use arena::record;
+use holes::record;
 use words::Host;
 ghost use mathlib.Core.Bool.{false};
 ghost use mathlib.Core.Path.{_≡_};

@@ -3,7 +3,7 @@ use super::load;
 use super::owners;
 use super::store;
 use arena::Arena;
-use arena::record;
+use holes::record;
 ghost use mathlib.Core.Path.{_≡_};
 ghost use Prim.Native.Nat.{_+_, _≤_, _<_, _^_};
 ghost use lib.ListN.{length};

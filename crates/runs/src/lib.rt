@@ -6,7 +6,7 @@ pub mod load;
 pub mod owners;
 mod store;
 
-use arena::plans;
+use holes::plans;
 ghost use mathlib.Core.Path.{_≡_};
 ghost use mathlib.Core.Bool.{true};
 ghost use Prim.Native.Nat.{_≤_};

@@ -14,7 +14,7 @@ use Rattle.fields.specs.Field.{page, tally, word, get, Has}
 use Rattle.fields.proofs.Laws.{and-left}
 use Rattle.model.specs.Lists.{every, count, below}
 use Rattle.model.proofs.Counts.{by-cases}
-use Rattle.heap.specs.Release.{pageAt}
+use Rattle.calls.specs.Release.{pageAt}
 use Rattle.tally.specs.Tally.{pageIn, tallyIn, ofChunk, chunkAt, hasChunk, runOn, agrees, fits, tallied}
 use Rattle.tally.specs.Asks.{wordThere, Counted, OneAsks, FitAsks}
 use Rattle.tally.proofs.Indices.{drop-past, every-same, every-get, below-last}

@@ -11,8 +11,8 @@ use Rattle.words.specs.Word.{countOf, pageOf}
 use Rattle.fields.specs.Field.{page, tally, words, get}
 use Rattle.fields.proofs.Laws.{and-left, and-right}
 use Rattle.model.specs.Lists.{every, elem, distinct, count, below}
-use Rattle.heap.specs.Release.{pageAt, startOf}
-use Rattle.heap.specs.Chunks.{blocksOn, chunkFits, chunksMatch}
+use Rattle.calls.specs.Release.{pageAt, startOf}
+use Rattle.calls.specs.Chunks.{blocksOn, chunkFits, chunksMatch}
 use Rattle.tally.specs.Match.{onPage}
 use Rattle.tally.specs.Tally.{isPage, pageIn, tallyIn, named, ofChunk, chunkAt, hasChunk, agrees, tallied}
 use Rattle.tally.proofs.Indices.{bool-eq, every-get, every-made, every-at, every-of, elem-at, elem-found, distinct-at, distinct-of}

@@ -10,7 +10,7 @@ use Rattle.words.specs.Word.{pageOf}
 use Rattle.fields.specs.Field.{page, tally, word, Has}
 use Rattle.model.specs.Lists.{every, count}
 use Rattle.model.specs.Chunks.{chunksMax}
-use Rattle.heap.specs.Release.{pageAt}
+use Rattle.calls.specs.Release.{pageAt}
 use Rattle.tally.specs.Tally.{tallyIn, named, Saved, chunkAt, hasChunk}
 
 -- TALLY of a chunk's page is in the book, and of a listed word's

@@ -1,4 +1,4 @@
--- Number 11 of a group release: what the test asks, and what it answers. The test itself is `chunksMatch` (heap, specs/Chunks).
+-- Number 11 of a group release: what the test asks, and what it answers. The test itself is `chunksMatch` (calls, specs/Chunks).
 -- n is the arena's length, ws the list, gs the chunks. Assumes nothing.
 use Prim.Native.Nat.{ℕ, _≤_}
 use mathlib.Core.Bool.{Bool, true, _&&_}
@@ -10,8 +10,8 @@ use Rattle.fields.specs.Field.{words}
 use Rattle.fields.specs.Ranges.{maxPages}
 use Rattle.model.specs.Lists.{every}
 use Rattle.model.specs.Chunks.{chunksMax}
-use Rattle.heap.specs.Release.{pageAt, startOf}
-use Rattle.heap.specs.Chunks.{chunksMatch}
+use Rattle.calls.specs.Release.{pageAt, startOf}
+use Rattle.calls.specs.Chunks.{chunksMatch}
 
 -- the word's page is in the arena, and is a run by itself
 unfoldable pub onPage : ℕ → List ℕ → ℕ → Bool

@@ -15,7 +15,7 @@ use lib.ListN.{length, getD}
 use Rattle.words.specs.Word.{countOf, pageOf}
 use Rattle.fields.specs.Field.{Field, page, tally, get, put}
 use Rattle.model.specs.Lists.{every, count, below}
-use Rattle.heap.specs.Release.{pageAt}
+use Rattle.calls.specs.Release.{pageAt}
 
 -- ---- naming
 unfoldable pub isPage : ℕ → ℕ → Bool

@@ -10,7 +10,7 @@ use Rattle.classes.specs.declared.Shape.{Shape}
 use Rattle.classes.specs.Shape.{shapeOf, smallShape}
 use Rattle.fields.specs.Field.{arena, size, get}
 use Rattle.fields.specs.Ranges.{metaFault}
-use Rattle.heap.specs.Chunks.{ChunksReleased, chunksCall}
+use Rattle.calls.specs.Chunks.{ChunksReleased, chunksCall}
 use Rattle.chunks.specs.CallAsks.{CallAsks, ChunksAnswered}
 use Rattle.chunks.proofs.PlaceSteps.{class-limits}
 use Rattle.vigbuso.specs.Blocks.{chunksOn, ChunksEnds}

@@ -14,8 +14,8 @@ use Rattle.fields.specs.Field.{arena, size, get, words}
 use Rattle.fields.specs.Ranges.{metaFault}
 use Rattle.fields.proofs.Laws.{and-right}
 use Rattle.fields.proofs.Sound.{sound}
-use Rattle.heap.specs.Release as Back
-use Rattle.heap.specs.Release.{releaseCall}
+use Rattle.calls.specs.Release as Back
+use Rattle.calls.specs.Release.{releaseCall}
 use Rattle.release.specs.declared.Released.{Released}
 use Rattle.release.specs.declared.Released.the-variants.{Refused, Fate}
 use Rattle.release.specs.Act.{answerAs, Answered}

@@ -13,12 +13,12 @@ use Rattle.fields.specs.Ranges.{metaFault}
 use Rattle.fields.proofs.Laws.{and-right}
 use Rattle.fields.proofs.Sound.{sound}
 use Rattle.classes.specs.Shape.{shapeOf}
-use Rattle.heap.specs.declared.take.Take.{Take}
-use Rattle.heap.specs.declared.take.Take.the-variants.{Refused, Took}
-use Rattle.heap.specs.Take as Heap
-use Rattle.heap.specs.Take.{takeCall}
-use Rattle.heap.specs.TakeAnswer.{answerOf, Takes}
-use Rattle.heap.specs.TakePlan.{CallAsks}
+use Rattle.take.specs.declared.call.Take.{Take}
+use Rattle.take.specs.declared.call.Take.the-variants.{Refused, Took}
+use Rattle.calls.specs.Take as Heap
+use Rattle.calls.specs.Take.{takeCall}
+use Rattle.take.specs.TakeAnswer.{answerOf, Takes}
+use Rattle.take.specs.TakePlan.{CallAsks}
 use Rattle.vigbuso.specs.Blocks.{takeOn, TakeEnds}
 use Rattle.vigbuso.proofs.DirectWays.{byte-digit}
 

@@ -12,14 +12,14 @@ use Rattle.classes.specs.Shape.{shapeOf}
 use Rattle.fields.specs.Field.{arena, size, get}
 use Rattle.fields.specs.Ranges.{metaFault}
 use Rattle.model.specs.Chunks.{hostMax}
-use Rattle.heap.specs.declared.take.Take.{Take}
-use Rattle.heap.specs.declared.take.Take.the-variants.{Refused, Took}
-use Rattle.heap.specs.Take as Heap
-use Rattle.heap.specs.Take.{tookNone, takeCall}
-use Rattle.heap.specs.TakeAnswer.{answerOf}
-use Rattle.heap.specs.Release as Back
-use Rattle.heap.specs.Release.{releasedNone, releaseCall}
-use Rattle.heap.specs.Chunks.{ChunksReleased, chunksNone, chunksCall}
+use Rattle.take.specs.declared.call.Take.{Take}
+use Rattle.take.specs.declared.call.Take.the-variants.{Refused, Took}
+use Rattle.calls.specs.Take as Heap
+use Rattle.calls.specs.Take.{tookNone, takeCall}
+use Rattle.take.specs.TakeAnswer.{answerOf}
+use Rattle.calls.specs.Release as Back
+use Rattle.calls.specs.Release.{releasedNone, releaseCall}
+use Rattle.calls.specs.Chunks.{ChunksReleased, chunksNone, chunksCall}
 use Rattle.release.specs.declared.Released.{Released}
 use Rattle.release.specs.declared.Released.the-variants.{Fate}
 use Rattle.release.specs.Act.{answerAs}

@@ -1,8 +1,8 @@
 // The takes. Any number, any list and any book is taken: numbers 1 to 4 stand before each call.
-use heap::take::Take;
+use take::call::Take;
 ghost use mathlib.Core.Path.{_≡_};
 ghost use Prim.Native.Nat.{_+_, _≤_};
-ghost use Rattle.heap.specs.TakeAnswer.{Takes};
+ghost use Rattle.take.specs.TakeAnswer.{Takes};
 ghost use Rattle.vigbuso.specs.Blocks.{takeOn, TakeEnds};
 
 const MAX_HOST: u32 = 15;
@@ -23,7 +23,7 @@ fn take_on(meta: &mut [u32], low: u32, many: u32, class: u32, host: u32, list: &
         return Take::Refused(4);
     }
     let size = fields::arena::size(meta);
-    heap::take::take_call(meta, size, low + class, host, list)
+    take::call::take_call(meta, size, low + class, host, list)
 }
 
 #[no_mangle]

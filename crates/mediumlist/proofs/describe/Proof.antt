@@ -5,9 +5,6 @@ use borrow.Author.Needs.{needs}
 use Rattle.mediumlist.proofs.describe.Statement.{statement}
 use Rattle.mediumlist.proofs.describe.Tie as tie
 
-medium-size-requires : tie.Need-medium-size-requires
-medium-size-requires c κs = search needs
-
 span-pages-for-requires : tie.Need-span-pages-for-requires
 span-pages-for-requires c κs = rw (c .medium-size .ensures) (medium-usable (c .before .args .class) .1)
 
@@ -19,6 +16,4 @@ unfolding lineOf
 returns c = rw (c .medium-capacity-for .ensures, c .before .span-pages-for .ensures, c .before .before .medium-size .ensures)
 
 pub describe-spec : {M : Type 1} → statement M
-describe-spec =
-    tie.close
-    (tie.spec medium-size-requires span-pages-for-requires medium-capacity-for-requires returns)
+describe-spec = tie.close (tie.spec (λ c κs. search needs) span-pages-for-requires medium-capacity-for-requires returns)

@@ -24,12 +24,6 @@ settle-chunks-requires c κs =
     let s = m .before .before .before .before .before .before in
     settle-next _ _ _ _ _ _ _ (s .pre) _ _ _ (m .chunks-match .ensures) (t .if1 .taken) _ (f .chunks-fair .ensures) (u .if2 .taken)
 
-same-length : tie.Need-same-length
-same-length c = search needs
-
-same-length-2 : tie.Need-same-length-2
-same-length-2 c = search needs
-
 returns : tie.Need-returns
 returns c =
     let x = c .before .before .before .before in
@@ -40,9 +34,6 @@ returns c =
     let s = m .before .before .before .before .before .before in
     settled _ _ _ _ _ _ _ (s .pre) _ _ _ (m .chunks-match .ensures) (t .if1 .taken) _ (f .chunks-fair .ensures) _ _ (u .if2 .taken) (x .settle-chunks .ensures)
 
-same-length-3 : tie.Need-same-length-3
-same-length-3 c = search needs
-
 returns-2 : tie.Need-returns-2
 returns-2 c =
     let u = c in
@@ -51,9 +42,6 @@ returns-2 c =
     let m = t .before .before .before in
     let s = m .before .before .before .before .before .before in
     unfair _ _ _ _ _ _ _ (s .pre) _ _ _ (m .chunks-match .ensures) (t .if1 .taken) _ (f .chunks-fair .ensures) (u .if2 .left)
-
-same-length-4 : tie.Need-same-length-4
-same-length-4 c = search needs
 
 returns-3 : tie.Need-returns-3
 returns-3 c =
@@ -66,13 +54,5 @@ pub pass-chunks-spec : {M : Type 1} → statement M
 pass-chunks-spec =
     tie.close
     (tie.spec
-    chunks-match-requires
-    chunks-fair-requires
-    settle-chunks-requires
-    same-length
-    same-length-2
-    returns
-    same-length-3
-    returns-2
-    same-length-4
-    returns-3)
+    chunks-match-requires chunks-fair-requires settle-chunks-requires (λ c. search needs) (λ c. search needs) returns (λ c. search needs) returns-2
+    (λ c. search needs) returns-3)

@@ -3,24 +3,6 @@ use borrow.Author.Needs.{needs}
 use Rattle.chunks.proofs.call.release_chunks.Statement.{statement}
 use Rattle.chunks.proofs.call.release_chunks.Tie as tie
 
-returns : tie.Need-returns
-returns c = search no-list
-
-returns-2 : tie.Need-returns-2
-returns-2 c = search no-chunks
-
-returns-3 : tie.Need-returns-3
-returns-3 c = search many-chunks
-
-returns-4 : tie.Need-returns-4
-returns-4 c = search few-fates
-
-all-of-kind-requires : tie.Need-all-of-kind-requires
-all-of-kind-requires c κs = search needs
-
-all-of-kind-requires-2 : tie.Need-all-of-kind-requires-2
-all-of-kind-requires-2 c κs = search needs
-
 strike-chunks-requires : tie.Need-strike-chunks-requires
 strike-chunks-requires c κs =
     let t = c .before .before in
@@ -33,15 +15,6 @@ strike-chunks-requires c κs =
     let w = x .before in
     let s = w .before .before .before .before .before in
     strike-asks _ _ _ _ 0 _ _ _ (w .if1 .left) (x .if2 .left) (y .if3 .left) (z .if4 .left) _ (k .all-of-kind .ensures) _ (r .if5 .taken) (m .all-of-kind2 .ensures) (t .if6 .taken) (s .pre)
-
-same-length : tie.Need-same-length
-same-length c = search needs
-
-same-length-2 : tie.Need-same-length-2
-same-length-2 c = search needs
-
-returns-5 : tie.Need-returns-5
-returns-5 c = search needs
 
 returns-6 : tie.Need-returns-6
 returns-6 c =
@@ -69,15 +42,5 @@ pub release-chunks-spec : {M : Type 1} → statement M
 release-chunks-spec =
     tie.close
     (tie.spec
-    returns
-    returns-2
-    returns-3
-    returns-4
-    all-of-kind-requires
-    all-of-kind-requires-2
-    strike-chunks-requires
-    same-length
-    same-length-2
-    returns-5
-    returns-6
-    returns-7)
+    (λ c. search no-list) (λ c. search no-chunks) (λ c. search many-chunks) (λ c. search few-fates) (λ c κs. search needs) (λ c κs. search needs)
+    strike-chunks-requires (λ c. search needs) (λ c. search needs) (λ c. search needs) returns-6 returns-7)

@@ -3,9 +3,6 @@ use borrow.Author.Needs.{needs}
 use Rattle.chunks.proofs.call.settle_chunks.Statement.{statement}
 use Rattle.chunks.proofs.call.settle_chunks.Tie as tie
 
-push-blocks-requires : tie.Need-push-blocks-requires
-push-blocks-requires c κs = search needs
-
 place-chunks-requires : tie.Need-place-chunks-requires
 place-chunks-requires c κs =
     let q = c .before .before .before .before in
@@ -19,12 +16,6 @@ give-chunks-requires c κs =
     let s = q .before .before .before .before .before .before in
     give-next _ _ _ _ _ _ _ _ (s .pre) _ (q .push-blocks .ensures) _ _ (p .place-chunks .ensures)
 
-same-length : tie.Need-same-length
-same-length c = search needs
-
-same-length-2 : tie.Need-same-length-2
-same-length-2 c = search needs
-
 returns : tie.Need-returns
 returns c =
     let g = c .before .before in
@@ -37,9 +28,4 @@ pub settle-chunks-spec : {M : Type 1} → statement M
 settle-chunks-spec =
     tie.close
     (tie.spec
-    push-blocks-requires
-    place-chunks-requires
-    give-chunks-requires
-    same-length
-    same-length-2
-    returns)
+    (λ c κs. search needs) place-chunks-requires give-chunks-requires (λ c. search needs) (λ c. search needs) returns)

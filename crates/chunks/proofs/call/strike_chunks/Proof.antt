@@ -3,18 +3,12 @@ use borrow.Author.Needs.{needs}
 use Rattle.chunks.proofs.call.strike_chunks.Statement.{statement}
 use Rattle.chunks.proofs.call.strike_chunks.Tie as tie
 
-strike-requires : tie.Need-strike-requires
-strike-requires c κs = search needs
-
 unstrike-requires : tie.Need-unstrike-requires
 unstrike-requires c κs =
     let i = c .before in
     let k = i .before .before .before in
     let s = k .before .before .before .before .before .before in
     (struck-low _ _ _ _ _ _ _ (s .pre) _ _ (k .strike .ensures), restore-asks _ _ _ _ _ _ _ (s .pre) _ _ (k .strike .ensures))
-
-same-length : tie.Need-same-length
-same-length c = search needs
 
 returns : tie.Need-returns
 returns c =
@@ -30,12 +24,6 @@ pass-chunks-requires c κs =
     let k = i .before .before .before in
     let s = k .before .before .before .before .before .before in
     struck-asks _ _ _ _ _ _ _ (s .pre) _ _ (k .strike .ensures) (i .if1 .left)
-
-same-length-2 : tie.Need-same-length-2
-same-length-2 c = search needs
-
-same-length-3 : tie.Need-same-length-3
-same-length-3 c = search needs
 
 returns-2 : tie.Need-returns-2
 returns-2 c =
@@ -55,12 +43,6 @@ unstrike-requires-2 c κs =
     let s = k .before .before .before .before .before .before in
     (struck-low _ _ _ _ _ _ _ (s .pre) _ _ (k .strike .ensures), restore-again _ _ _ _ _ _ _ (s .pre) _ _ (k .strike .ensures) (i .if1 .left) _ _ _ _ (p .pass-chunks .ensures) (j .if2 .left))
 
-same-length-4 : tie.Need-same-length-4
-same-length-4 c = search needs
-
-same-length-5 : tie.Need-same-length-5
-same-length-5 c = search needs
-
 returns-3 : tie.Need-returns-3
 returns-3 c =
     let u = c .before .before in
@@ -75,15 +57,5 @@ pub strike-chunks-spec : {M : Type 1} → statement M
 strike-chunks-spec =
     tie.close
     (tie.spec
-    strike-requires
-    unstrike-requires
-    same-length
-    returns
-    pass-chunks-requires
-    same-length-2
-    same-length-3
-    returns-2
-    unstrike-requires-2
-    same-length-4
-    same-length-5
-    returns-3)
+    (λ c κs. search needs) unstrike-requires (λ c. search needs) returns pass-chunks-requires (λ c. search needs) (λ c. search needs) returns-2
+    unstrike-requires-2 (λ c. search needs) (λ c. search needs) returns-3)

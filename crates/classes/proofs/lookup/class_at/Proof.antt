@@ -6,13 +6,10 @@ use borrow.Author.Needs.{needs}
 use Rattle.classes.proofs.lookup.class_at.Statement.{statement}
 use Rattle.classes.proofs.lookup.class_at.Tie as tie
 
-shared-slice-read-result : tie.Need-shared-slice-read-result
-shared-slice-read-result c = search needs
-
 returns : tie.Need-returns
 returns c =
     rw zero-add at
     (obeys-at classForSize 0 (c .before .args .lut .now) (c .before .args .place) (c .before .pre .1) (c .before .pre .0))
 
 pub class-at-spec : {M : Type 1} → statement M
-class-at-spec = tie.close (tie.spec shared-slice-read-result returns)
+class-at-spec = tie.close (tie.spec (λ c. search needs) returns)

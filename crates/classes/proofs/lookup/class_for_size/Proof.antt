@@ -8,27 +8,9 @@ use borrow.Author.Needs.{needs}
 use Rattle.classes.proofs.lookup.class_for_size.Statement.{statement}
 use Rattle.classes.proofs.lookup.class_for_size.Tie as tie
 
-sub-last : tie.Need-sub-last
-sub-last c = search needs
-
-small-size-requires : tie.Need-small-size-requires
-small-size-requires c κs = search needs
-
-cast-if1 : tie.Need-cast-if1
-cast-if1 c = search needs
-
-slice-aggregate-class-at : tie.Need-slice-aggregate-class-at
-slice-aggregate-class-at c = search needs
-
-add-class-at : tie.Need-add-class-at
-add-class-at c = search needs
-
 class-at-requires : tie.Need-class-at-requires
 unfolding smallSizes firstFit classForSize obeys
 class-at-requires c κs = (omega arith, refl)
-
-cast-result : tie.Need-cast-result
-cast-result c = search needs
 
 returns : tie.Need-returns
 unfolding smallSizes
@@ -44,12 +26,5 @@ pub class-for-size-spec : {M : Type 1} → statement M
 class-for-size-spec =
     tie.close
     (tie.spec
-    sub-last
-    small-size-requires
-    cast-if1
-    slice-aggregate-class-at
-    add-class-at
-    class-at-requires
-    cast-result
-    returns
-    returns-2)
+    (λ c. search needs) (λ c κs. search needs) (λ c. search needs) (λ c. search needs) (λ c. search needs) class-at-requires (λ c. search needs)
+    returns returns-2)

@@ -5,11 +5,8 @@ use borrow.Author.Needs.{needs}
 use Rattle.classes.proofs.lookup.medium_class_at.Statement.{statement}
 use Rattle.classes.proofs.lookup.medium_class_at.Tie as tie
 
-shared-slice-read-result : tie.Need-shared-slice-read-result
-shared-slice-read-result c = search needs
-
 returns : tie.Need-returns
 returns c = obeys-at mediumClassForSize 16385 (c .before .args .lut .now) (c .before .args .place) (c .before .pre .1) (c .before .pre .0)
 
 pub medium-class-at-spec : {M : Type 1} → statement M
-medium-class-at-spec = tie.close (tie.spec shared-slice-read-result returns)
+medium-class-at-spec = tie.close (tie.spec (λ c. search needs) returns)

@@ -10,31 +10,10 @@ use borrow.Author.Needs.{needs}
 use Rattle.classes.proofs.lookup.medium_class_for_size.Statement.{statement}
 use Rattle.classes.proofs.lookup.medium_class_for_size.Tie as tie
 
-sub-last : tie.Need-sub-last
-sub-last c = search needs
-
-sub-small-size : tie.Need-sub-small-size
-sub-small-size c = search needs
-
-small-size-requires : tie.Need-small-size-requires
-small-size-requires c κs = search needs
-
-cast-small : tie.Need-cast-small
-cast-small c = search needs
-
-medium-size-requires : tie.Need-medium-size-requires
-medium-size-requires c κs = search needs
-
-cast-if2 : tie.Need-cast-if2
-cast-if2 c = search needs
-
 returns : tie.Need-returns
 unfolding smallSizes mediumSizes
 returns c =
     sym (medium-outside (c .before .before .args .size) (⊎-elim (λ w. inl (omega arith)) (λ w. inr (omega (arith, ltb-true))) (c .if1 .came)))
-
-slice-aggregate-medium-class-at : tie.Need-slice-aggregate-medium-class-at
-slice-aggregate-medium-class-at c = search needs
 
 sub-medium-class-at : tie.Need-sub-medium-class-at
 unfolding smallSizes
@@ -48,9 +27,6 @@ medium-class-at-requires : tie.Need-medium-class-at-requires
 unfolding smallSizes mediumSizes firstFit mediumClassForSize obeys
 medium-class-at-requires c κs = (omega (arith, ltb-false), refl)
 
-cast-result : tie.Need-cast-result
-cast-result c = search needs
-
 returns-2 : tie.Need-returns-2
 unfolding smallSizes mediumSizes
 returns-2 c =
@@ -61,16 +37,5 @@ pub medium-class-for-size-spec : {M : Type 1} → statement M
 medium-class-for-size-spec =
     tie.close
     (tie.spec
-    sub-last
-    sub-small-size
-    small-size-requires
-    cast-small
-    medium-size-requires
-    cast-if2
-    returns
-    slice-aggregate-medium-class-at
-    sub-medium-class-at
-    sub-medium-class-at-2
-    medium-class-at-requires
-    cast-result
-    returns-2)
+    (λ c. search needs) (λ c. search needs) (λ c κs. search needs) (λ c. search needs) (λ c κs. search needs) (λ c. search needs) returns
+    (λ c. search needs) sub-medium-class-at sub-medium-class-at-2 medium-class-at-requires (λ c. search needs) returns-2)

@@ -4,16 +4,9 @@ use borrow.Author.Needs.{needs}
 use Rattle.classes.proofs.runs.medium_shape.Statement.{statement}
 use Rattle.classes.proofs.runs.medium_shape.Tie as tie
 
-medium-capacity-for-requires : tie.Need-medium-capacity-for-requires
-medium-capacity-for-requires c κs = search needs
-
-span-pages-for-requires : tie.Need-span-pages-for-requires
-span-pages-for-requires c κs = search needs
-
 returns : tie.Need-returns
 unfolding mediumShape
 returns c = rw (c .span-pages-for .ensures, c .before .medium-capacity-for .ensures)
 
 pub medium-shape-spec : {M : Type 1} → statement M
-medium-shape-spec =
-    tie.close (tie.spec medium-capacity-for-requires span-pages-for-requires returns)
+medium-shape-spec = tie.close (tie.spec (λ c κs. search needs) (λ c κs. search needs) returns)

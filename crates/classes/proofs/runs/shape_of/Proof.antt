@@ -6,14 +6,8 @@ use borrow.Author.Needs.{needs}
 use Rattle.classes.proofs.runs.shape_of.Statement.{statement}
 use Rattle.classes.proofs.runs.shape_of.Tie as tie
 
-small-size-requires : tie.Need-small-size-requires
-small-size-requires c κs = search needs
-
 small-shape-requires : tie.Need-small-shape-requires
 small-shape-requires c κs = rw (c .small-size .ensures) (small-usable (c .before .before .args .id) .0)
-
-medium-size-requires : tie.Need-medium-size-requires
-medium-size-requires c κs = search needs
 
 medium-shape-requires : tie.Need-medium-shape-requires
 medium-shape-requires c κs = rw (c .medium-size .ensures) (medium-usable _)
@@ -27,12 +21,4 @@ unfolding shapeOf
 returns-2 c = rw (c .medium-shape .ensures, c .before .medium-size .ensures, le-ltb (c .before .before .before .args .id) 64 (c .before .before .if1 .left))
 
 pub shape-of-spec : {M : Type 1} → statement M
-shape-of-spec =
-    tie.close
-    (tie.spec
-    small-size-requires
-    small-shape-requires
-    medium-size-requires
-    medium-shape-requires
-    returns
-    returns-2)
+shape-of-spec = tie.close (tie.spec (λ c κs. search needs) small-shape-requires (λ c κs. search needs) medium-shape-requires returns returns-2)

@@ -4,12 +4,9 @@ use borrow.Author.Needs.{needs}
 use Rattle.classes.proofs.runs.small_shape.Statement.{statement}
 use Rattle.classes.proofs.runs.small_shape.Tie as tie
 
-capacity-for-requires : tie.Need-capacity-for-requires
-capacity-for-requires c κs = search needs
-
 returns : tie.Need-returns
 unfolding smallShape
 returns c = rw (c .capacity-for .ensures)
 
 pub small-shape-spec : {M : Type 1} → statement M
-small-shape-spec = tie.close (tie.spec capacity-for-requires returns)
+small-shape-spec = tie.close (tie.spec (λ c κs. search needs) returns)

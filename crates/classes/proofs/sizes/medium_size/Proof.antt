@@ -7,15 +7,6 @@ use borrow.Author.Needs.{needs}
 use Rattle.classes.proofs.sizes.medium_size.Statement.{statement}
 use Rattle.classes.proofs.sizes.medium_size.Tie as tie
 
-mul-result : tie.Need-mul-result
-mul-result c = search needs
-
-array-read-result : tie.Need-array-read-result
-array-read-result c = search needs
-
-array-read-result-2 : tie.Need-array-read-result-2
-array-read-result-2 c = search needs
-
 returns : tie.Need-returns
 unfolding mediumSizes
 returns c = getD-within mediumSizes 0 65472 (c .before .args .class) (search needs)
@@ -25,5 +16,4 @@ unfolding mediumSizes
 returns-2 c = sym (List·getD-eq-default mediumSizes 65472 {n = c .before .args .class} (search needs))
 
 pub medium-size-spec : {M : Type 1} → statement M
-medium-size-spec =
-    tie.close (tie.spec mul-result array-read-result array-read-result-2 returns returns-2)
+medium-size-spec = tie.close (tie.spec (λ c. search needs) (λ c. search needs) (λ c. search needs) returns returns-2)

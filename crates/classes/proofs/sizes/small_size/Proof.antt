@@ -7,15 +7,6 @@ use borrow.Author.Needs.{needs}
 use Rattle.classes.proofs.sizes.small_size.Statement.{statement}
 use Rattle.classes.proofs.sizes.small_size.Tie as tie
 
-mul-result : tie.Need-mul-result
-mul-result c = search needs
-
-array-read-result : tie.Need-array-read-result
-array-read-result c = search needs
-
-array-read-result-2 : tie.Need-array-read-result-2
-array-read-result-2 c = search needs
-
 returns : tie.Need-returns
 unfolding smallSizes
 returns c = getD-within smallSizes 0 16384 (c .before .args .class) (search needs)
@@ -25,5 +16,4 @@ unfolding smallSizes
 returns-2 c = sym (List·getD-eq-default smallSizes 16384 {n = c .before .args .class} (search needs))
 
 pub small-size-spec : {M : Type 1} → statement M
-small-size-spec =
-    tie.close (tie.spec mul-result array-read-result array-read-result-2 returns returns-2)
+small-size-spec = tie.close (tie.spec (λ c. search needs) (λ c. search needs) (λ c. search needs) returns returns-2)

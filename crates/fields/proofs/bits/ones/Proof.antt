@@ -3,9 +3,6 @@ use Rattle.fields.proofs.Mark.{ones-some, ones-fit, ones-are}
 use Rattle.fields.proofs.bits.ones.Statement.{statement}
 use Rattle.fields.proofs.bits.ones.Tie as tie
 
-shl-result : tie.Need-shl-result
-shl-result c = search needs
-
 sub-result : tie.Need-sub-result
 sub-result c = ones-some _ (c .pre)
 
@@ -16,4 +13,4 @@ returns : tie.Need-returns
 returns c = ones-are _ (c .pre)
 
 pub ones-spec : {M : Type 1} → statement M
-ones-spec = tie.close (tie.spec shl-result sub-result cast-result returns)
+ones-spec = tie.close (tie.spec (λ c. search needs) sub-result cast-result returns)

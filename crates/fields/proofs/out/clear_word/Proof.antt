@@ -7,21 +7,6 @@ use Rattle.fields.proofs.Clear.{cleared}
 use Rattle.fields.proofs.out.clear_word.Statement.{statement}
 use Rattle.fields.proofs.out.clear_word.Tie as tie
 
-add-page-word : tie.Need-add-page-word
-add-page-word c = search needs
-
-page-word-requires : tie.Need-page-word-requires
-page-word-requires c κs = search needs
-
-mul-meta : tie.Need-mul-meta
-mul-meta c = search needs
-
-slice-write-meta : tie.Need-slice-write-meta
-slice-write-meta c = search needs
-
-same-length : tie.Need-same-length
-same-length c = search needs
-
 returns : tie.Need-returns
 returns c =
     let a = c .before .before .args in
@@ -30,6 +15,4 @@ returns c =
     (ap (λ i. set (a .meta .now) i 0) (omega (arith, c .page-word .ensures)))
 
 pub clear-word-spec : {M : Type 1} → statement M
-clear-word-spec =
-    tie.close
-    (tie.spec add-page-word page-word-requires mul-meta slice-write-meta same-length returns)
+clear-word-spec = tie.close (tie.spec (λ c. search needs) (λ c κs. search needs) (λ c. search needs) (λ c. search needs) (λ c. search needs) returns)

@@ -3,30 +3,12 @@ use borrow.Author.Needs.{needs}
 use Rattle.release.proofs.release.release_run.Statement.{statement}
 use Rattle.release.proofs.release.release_run.Tie as tie
 
-strike-run-requires : tie.Need-strike-run-requires
-strike-run-requires c κs = (search run-in, search needs)
-
-refuse-rest-requires : tie.Need-refuse-rest-requires
-refuse-rest-requires c κs = search rest-asks
-
-same-length : tie.Need-same-length
-same-length c = search needs
-
-returns : tie.Need-returns
-returns c = search refused-rest
-
-release-fair-requires : tie.Need-release-fair-requires
-release-fair-requires c κs = search fair-asks
-
 settle-requires : tie.Need-settle-requires
 settle-requires c κs =
     let tested = c .before .before in
     let all = tested .before .before in
     let struck = all .before .before .before in
     settle-asks _ _ _ _ _ _ (struck .before .before .before .before .pre) _ _ (struck .strike-run .ensures) (all .if1 .left) _ (tested .release-fair .ensures) (c .before .if2 .taken)
-
-same-length-2 : tie.Need-same-length-2
-same-length-2 c = search needs
 
 returns-2 : tie.Need-returns-2
 returns-2 c =
@@ -35,12 +17,6 @@ returns-2 c =
     let all = tested .before .before in
     let struck = all .before .before .before in
     settled _ _ _ _ _ _ (struck .before .before .before .before .pre) _ _ (struck .strike-run .ensures) (all .if1 .left) _ (tested .release-fair .ensures) _ _ _ (done .before .before .if2 .taken) (done .settle .ensures)
-
-unstrike-requires : tie.Need-unstrike-requires
-unstrike-requires c κs = (search struck-low, search restore-asks)
-
-same-length-3 : tie.Need-same-length-3
-same-length-3 c = search needs
 
 returns-3 : tie.Need-returns-3
 returns-3 c =
@@ -54,14 +30,5 @@ pub release-run-spec : {M : Type 1} → statement M
 release-run-spec =
     tie.close
     (tie.spec
-    strike-run-requires
-    refuse-rest-requires
-    same-length
-    returns
-    release-fair-requires
-    settle-requires
-    same-length-2
-    returns-2
-    unstrike-requires
-    same-length-3
-    returns-3)
+    (λ c κs. (search run-in, search needs)) (λ c κs. search rest-asks) (λ c. search needs) (λ c. search refused-rest) (λ c κs. search fair-asks)
+    settle-requires (λ c. search needs) returns-2 (λ c κs. (search struck-low, search restore-asks)) (λ c. search needs) returns-3)

@@ -11,35 +11,17 @@ Inv-loop meta₀ shape list count i₀ meta i = RestoreInv meta₀ shape list co
 abbrev μ-loop : tie.MeasureT-loop
 μ-loop meta₀ shape list count i₀ meta i = i
 
-loop-holds : tie.Need-loop-holds Inv-loop μ-loop
-loop-holds c = search restore-starts
-
-sub-i : tie.Need-sub-i Inv-loop μ-loop
-sub-i c = search needs
-
-mul-restore : tie.Need-mul-restore Inv-loop μ-loop
-mul-restore c = search needs
-
-shared-slice-read-restore : tie.Need-shared-slice-read-restore Inv-loop μ-loop
-shared-slice-read-restore c = search needs
-
 restore-requires : tie.Need-restore-requires Inv-loop μ-loop
 restore-requires c κs =
     let turn = c .before .before in
     let some : 0 < turn .before .loop .i = omega arith in
     (search needs, last-bit _ _ _ _ _ _ some (turn .before .loop .inv) (turn .before .before .before .before .pre .0))
 
-loop-less : tie.Need-loop-less Inv-loop μ-loop
-loop-less c = search needs
-
 loop-again : tie.Need-loop-again Inv-loop μ-loop
 loop-again c =
     let turn = c .before .before .before .before .before in
     let some : 0 < turn .before .loop .i = omega arith in
     restore-goes-on _ _ _ _ _ _ some (turn .before .loop .inv) (turn .before .before .before .before .pre .0) _ (c .before .before .restore .ensures)
-
-same-length : tie.Need-same-length Inv-loop μ-loop
-same-length c = search needs
 
 returns : tie.Need-returns Inv-loop μ-loop
 returns c =
@@ -50,14 +32,5 @@ pub unstrike-spec : {M : Type 1} → statement M
 unstrike-spec =
     tie.close
     (tie.spec
-    Inv-loop
-    μ-loop
-    loop-holds
-    sub-i
-    mul-restore
-    shared-slice-read-restore
-    restore-requires
-    loop-less
-    loop-again
-    same-length
-    returns)
+    Inv-loop μ-loop (λ c. search restore-starts) (λ c. search needs) (λ c. search needs) (λ c. search needs) restore-requires (λ c. search needs)
+    loop-again (λ c. search needs) returns)

@@ -3,17 +3,5 @@ use Rattle.runs.proofs.give.give_fair.Statement.{statement}
 use Rattle.runs.proofs.give.give_fair.Tie as tie
 use Rattle.runs.proofs.GiveWays.{fair-give, unfair-give}
 
-record-fair-requires : tie.Need-record-fair-requires
-record-fair-requires c κs = search needs
-
-held-requires : tie.Need-held-requires
-held-requires c κs = search needs
-
-returns : tie.Need-returns
-returns c = search fair-give
-
-returns-2 : tie.Need-returns-2
-returns-2 c = search unfair-give
-
 pub give-fair-spec : {M : Type 1} → statement M
-give-fair-spec = tie.close (tie.spec record-fair-requires held-requires returns returns-2)
+give-fair-spec = tie.close (tie.spec (λ c κs. search needs) (λ c κs. search needs) (λ c. search fair-give) (λ c. search unfair-give))

@@ -1,0 +1,108 @@
+-- A group release on the words (`release_bin_chunks`; a group is a chunk): the tests of numbers 7 to 11 and 13 in their order, each
+-- over both lists, then the chunks in order, then the runs that go to the arena. ws is the list, gs the chunks, fs the lent fates.
+-- Assumes nothing.
+use Prim.Native.Nat.{ℕ, zero, suc, _+_, _*_}
+use mathlib.Core.Bool.{Bool, true, false, cond, not, _&&_, _||_}
+use mathlib.Core.List.{List, [], _∷_, _++_, map}
+use lib.Dec.{eqb, ltb, leb}
+use lib.ListN.{length, drop}
+use Rattle.words.specs.Word.{chunkKind, countOf, pageOf}
+use Rattle.classes.specs.declared.Shape.{Shape}
+use Rattle.fields.specs.Field.{arena, class, page, frontier, emptyCount, coldCount, free, carved, get, put}
+use Rattle.model.specs.Lists.{isNil, filter, every, elem, distinct}
+use Rattle.model.specs.Release.{ofKind}
+use Rattle.model.specs.Chunks.{chunksMax, hostMax}
+use Rattle.arena.specs.Fair.{giveFair}
+use Rattle.arena.specs.Calls as Arena
+use Rattle.pages.specs.Runs.{flag}
+use Rattle.pages.specs.Stack.{back, indexOf}
+use Rattle.calls.specs.Release.{startOf, outAt, pageFair, rowFair, spotOf, Released, released, relisted, parkAt}
+
+-- a chunk's blocks: those of the list on its page, in the list's order
+unfoldable pub blocksOn : List ℕ → List ℕ → ℕ → List ℕ
+blocksOn b ws q = filter (λ w. eqb (startOf b w) q) ws
+
+-- ---- number 11: "a page twice, a count 0 or not the list's, a page missing"
+unfoldable pub chunkFits : List ℕ → List ℕ → ℕ → Bool
+chunkFits b ws g = not (eqb (countOf g) 0) && eqb (countOf g) (length (blocksOn b ws (pageOf g)))
+
+unfoldable pub chunksMatch : List ℕ → List ℕ → List ℕ → Bool
+chunksMatch b ws gs = distinct (map pageOf gs) && (every (chunkFits b ws) gs && every (λ w. elem (startOf b w) (map pageOf gs)) ws)
+
+-- ---- number 13: the pages and the row, and the arena where a run goes to it
+-- does the chunk return all blocks that its page has out
+abbrev pub returnsAll : List ℕ → ℕ → Bool
+returnsAll b g = eqb (get b (page free (pageOf g)) + countOf g) (get b (page carved (pageOf g)))
+
+-- how many runs go to the arena, with e empty and k cold pages before
+unfoldable pub runsGiven : List ℕ → Shape → List ℕ → ℕ → ℕ → ℕ
+runsGiven b sh [] e k = 0
+runsGiven b sh (g ∷ gs) e k =
+    let s = spotOf sh e k in
+    cond (returnsAll b g) (flag (eqb s 2) + runsGiven b sh gs (e + flag (eqb s 0)) (k + flag (eqb s 1))) (runsGiven b sh gs e k)
+
+abbrev pub pagesGiven : List ℕ → ℕ → Shape → List ℕ → ℕ
+pagesGiven b c sh gs = runsGiven b sh gs (get b (class emptyCount c)) (get b (class coldCount c)) * sh .pages
+
+unfoldable pub chunksFair : ℕ → List ℕ → ℕ → Shape → List ℕ → Bool
+chunksFair n b c sh gs =
+    leb (get b (arena frontier)) n
+    && (every (λ g. pageFair b sh (countOf g) (pageOf g)) gs
+    && (rowFair b c
+    && cond (eqb (pagesGiven b c sh gs) 0) true (giveFair n b (pagesGiven b c sh gs))))
+
+-- ---- the act
+unfoldable pub emptied : List ℕ → ℕ → List ℕ
+emptied b q = put (put b (page carved q) 0) (page free q) 0
+
+abbrev pub markRetired : Released → Released
+markRetired r = record { code = r .code; book = r .book; fate = 4 + r .fate }
+
+-- one chunk: blocks is come back to page q, which is retired if none is out then
+unfoldable pub chunkBackAt : List ℕ → ℕ → Shape → ℕ → ℕ → List ℕ → Released
+chunkBackAt b c sh h q is =
+    let d = back b q is in
+    cond (eqb (get d (page carved q)) (get d (page free q))) (markRetired (parkAt (emptied d q) c sh h q)) (released (relisted d c q) 0)
+
+-- the chunks in order: the book, the fates, and the runs for the arena
+pub record Settled : Type 0 where
+  pub book : List ℕ
+  pub fates : List ℕ
+  pub gives : List ℕ
+
+abbrev pub givesOf : ℕ → ℕ → List ℕ
+givesOf q fate = cond (eqb fate 6) (q ∷ []) []
+
+unfoldable pub settleChunks : List ℕ → ℕ → Shape → ℕ → List ℕ → List ℕ → Settled
+settleChunks b c sh h ws [] = record { book = b; fates = []; gives = [] }
+settleChunks b c sh h ws (g ∷ gs) =
+    let r = chunkBackAt b c sh h (pageOf g) (map (indexOf sh (pageOf g)) (blocksOn b ws (pageOf g))) in
+    let s = settleChunks (r .book) c sh h ws gs in
+    record { book = s .book; fates = r .fate ∷ s .fates; gives = givesOf (pageOf g) (r .fate) ++ s .gives }
+
+abbrev pub giveRuns : List ℕ → ℕ → List ℕ → List ℕ
+giveRuns b m [] = b
+giveRuns b m (q ∷ qs) = giveRuns (Arena.given b q m) m qs
+
+pub record ChunksReleased : Type 0 where
+  pub code : ℕ
+  pub book : List ℕ
+  pub fates : List ℕ  -- the lent fate list afterwards
+
+abbrev pub chunksNone : List ℕ → List ℕ → ℕ → ChunksReleased
+chunksNone b fs k = record { code = k; book = b; fates = fs }
+
+unfoldable pub releaseChunks : ℕ → List ℕ → ℕ → Shape → ℕ → List ℕ → List ℕ → List ℕ → ChunksReleased
+releaseChunks n b c sh h ws gs fs =
+    cond (isNil ws || isNil gs) (chunksNone b fs 7)
+    (cond (ltb chunksMax (length gs) || ltb (length fs) (length gs)) (chunksNone b fs 8)
+    (cond (not (every (ofKind (sh .kind)) ws && every (ofKind chunkKind) gs)) (chunksNone b fs 9)
+    (cond (not (every (outAt n b c sh) ws && distinct ws)) (chunksNone b fs 10)
+    (cond (not (chunksMatch b ws gs)) (chunksNone b fs 11)
+    (cond (not (chunksFair n b c sh gs)) (chunksNone b fs 13)
+    (let s = settleChunks b c sh h ws gs in
+    record { code = 0; book = giveRuns (s .book) (sh .pages) (s .gives); fates = s .fates ++ drop (length gs) fs }))))))
+
+-- from number 3 on
+unfoldable pub chunksCall : ℕ → List ℕ → ℕ → Shape → ℕ → List ℕ → List ℕ → List ℕ → ChunksReleased
+chunksCall n b c sh h ws gs fs = cond (ltb hostMax h) (chunksNone b fs 3) (releaseChunks n b c sh h ws gs fs)

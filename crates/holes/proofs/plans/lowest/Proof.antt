@@ -1,0 +1,15 @@
+use borrow.Author.Tests.{eq-eqb, ne-eqb}
+use Rattle.holes.specs.Scan.{plannedOf}
+use Rattle.holes.proofs.plans.lowest.Statement.{statement}
+use Rattle.holes.proofs.plans.lowest.Tie as tie
+
+returns : tie.Need-returns
+unfolding plannedOf
+returns c = simp (eq-eqb _ _ (c .if1 .taken))
+
+returns-2 : tie.Need-returns-2
+unfolding plannedOf
+returns-2 c = simp (ne-eqb _ _ (c .if1 .left))
+
+pub lowest-spec : {M : Type 1} → statement M
+lowest-spec = tie.close (tie.spec returns returns-2)

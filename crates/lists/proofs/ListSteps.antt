@@ -1,0 +1,74 @@
+-- The ways out of the functions on a class's lists. Assumes nothing.
+use Prim.Native.Nat.{ℕ, zero, suc, _+_, _-_}
+use native.Mathlib.Numerals.{sub-one}
+use mathlib.Core.Bool.{true}
+use mathlib.Core.List.{List}
+use mathlib.Core.Path.{_≡_, refl}
+use lib.Dec.{ltb}
+use lib.ListN.{length}
+use borrow.Author.Tests.{lt-ltb}
+use Rattle.fields.specs.Field.{ClassField, class, page, partial, next, prev, listed, get, put}
+use Rattle.fields.specs.Outcome.{putAt}
+use Rattle.fields.proofs.Laws.{get-put-other, length-put}
+use Rattle.pages.specs.declared.Park.{Park}
+use Rattle.pages.specs.declared.Park.the-variants.{Empty, Cold}
+use Rattle.pages.specs.Asks.{LinkAsks, WakeAsks}
+use Rattle.pages.specs.Links.{pointNext, linked, cutOut, link, unlink, top, tally, stow, unstow, wake}
+
+pub pointNext-none : (b b′ : List ℕ) (c code v : ℕ) → code ≡ 0 → b′ ≡ put b (class partial c) v → b′ ≡ pointNext b c code v
+pointNext-none b b′ c code v h e = rw h e
+
+pub pointNext-some : (b b′ : List ℕ) (c code v : ℕ) → (code ≡ 0 → ⊥) → b′ ≡ put b (page next (code - 1)) v → b′ ≡ pointNext b c code v
+pointNext-some b b′ c zero v h e = absurd (h refl)
+pointNext-some b b′ c (suc q) v h e = rw sub-one at e
+
+-- a field of the store that a match found
+pub read-told : (f : Park → ClassField) (b : List ℕ) (c r : ℕ) (k k′ : Park) → k ≡ k′ → r ≡ get b (class (f k′) c) → r ≡ get b (class (f k) c)
+read-told f b c r k k′ e h = rw e h
+
+pub put-told : (f : Park → ClassField) (b b′ : List ℕ) (c v : ℕ) (k k′ : Park) → k ≡ k′ → b′ ≡ put b (class (f k′) c) v → b′ ≡ put b (class (f k) c) v
+put-told f b b′ c v k k′ e h = rw e h
+
+-- a page that leaves a store: the partial list's head is as it was
+partial-unstow : (b : List ℕ) (c : ℕ) (k : Park) (q : ℕ) → ltb c 76 ≡ true → get (unstow b c k q) (class partial c) ≡ get b (class partial c)
+unfolding unstow
+partial-unstow b c Empty q h = simp get-put-other
+partial-unstow b c Cold q h = simp get-put-other
+
+length-unstow : (b : List ℕ) (c : ℕ) (k : Park) (q : ℕ) → length (unstow b c k q) ≡ length b
+unfolding unstow
+length-unstow b c k q = simp length-put
+
+pub wake-links : (b b₁ : List ℕ) (c : ℕ) (k : Park) (q : ℕ) → WakeAsks b c k q → b₁ ≡ unstow b c k q → LinkAsks b₁ c q
+wake-links b b₁ c k q h e =
+    let l = length-unstow b c k q in
+    let p = partial-unstow b c k q (lt-ltb c 76 (h .known)) in
+    record { known = h .known; below = h .below; there = rw (e, l) (h .there); head = rw (e, l, p) (h .head) }
+
+module _ (b : List ℕ) (c q : ℕ) where
+  pub entered : (h : ℕ) (b₁ b₂ b₃ b₄ : List ℕ) → h ≡ get b (class partial c) → b₁ ≡ put b (page next q) h → b₂ ≡ put b₁ (page prev q) 0 → b₃ ≡ putAt b₂ prev h (q + 1) → b₄ ≡ put b₃ (class partial c) (q + 1) → b₄ ≡ linked b c q
+  unfolding linked
+  entered h b₁ b₂ b₃ b₄ e e₁ e₂ e₃ e₄ = cc
+
+  pub link-done : (b₁ b₂ : List ℕ) → b₁ ≡ linked b c q → b₂ ≡ put b₁ (page listed q) 1 → b₂ ≡ link b c q
+  unfolding link
+  link-done b₁ b₂ e₁ e₂ = cc
+
+  pub cut-done : (x y : ℕ) (b₁ b₂ b₃ b₄ : List ℕ) → b₁ ≡ pointNext b c y x → b₂ ≡ putAt b₁ prev x y → b₃ ≡ put b₂ (page next q) 0 → b₄ ≡ put b₃ (page prev q) 0 → b₄ ≡ cutOut b c q x y
+  unfolding cutOut
+  cut-done x y b₁ b₂ b₃ b₄ e₁ e₂ e₃ e₄ = cc
+
+  pub unlink-done : (x y : ℕ) (b₁ b₂ : List ℕ) → x ≡ get b (page next q) → y ≡ get b (page prev q) → b₁ ≡ cutOut b c q x y → b₂ ≡ put b₁ (page listed q) 0 → b₂ ≡ unlink b c q
+  unfolding unlink
+  unlink-done x y b₁ b₂ e f e₁ e₂ = cc
+
+  pub stow-done : (k : Park) (t m : ℕ) (b₁ b₂ b₃ : List ℕ) → t ≡ get b (class (top k) c) → m ≡ get b (class (tally k) c) → b₁ ≡ put b (page next q) t → b₂ ≡ put b₁ (class (top k) c) (q + 1) → b₃ ≡ put b₂ (class (tally k) c) (m + 1) → b₃ ≡ stow b c k q
+  unfolding stow
+  stow-done k t m b₁ b₂ b₃ e f e₁ e₂ e₃ = cc
+
+  pub unstow-done : (k : Park) (x m : ℕ) (b₁ b₂ : List ℕ) → x ≡ get b (page next q) → m ≡ get b (class (tally k) c) → b₁ ≡ put b (class (top k) c) x → b₂ ≡ put b₁ (class (tally k) c) (m - 1) → b₂ ≡ unstow b c k q
+  unfolding unstow
+  unstow-done k x m b₁ b₂ e f e₁ e₂ = cc
+
+  pub wake-done : (k : Park) (b₁ b₂ : List ℕ) → b₁ ≡ unstow b c k q → b₂ ≡ link b₁ c q → b₂ ≡ wake b c k q
+  wake-done k b₁ b₂ e₁ e₂ = cc

@@ -1,0 +1,73 @@
+// Carving a run, and a run that the arena gave.
+ghost use mathlib.Core.Path.{_≡_};
+ghost use Prim.Native.Nat.{_*_};
+ghost use Rattle.fields.specs.Clear.{clearOut};
+ghost use Rattle.pages.specs.Runs.{flag};
+ghost use Rattle.pages.specs.Stack.{downs, push};
+ghost use Rattle.pages.specs.Carve.{stocked, carveAnew, newRun};
+ghost use Rattle.pages.specs.Asks.{StockAsks, CarveAsks, ClearAsks, NewAsks};
+use crate::runs::name_run;
+use classes::Shape;
+use words::Word;
+
+// Blocks 0 to k - 1 lie on the page's stack, the highest on top.
+fn stock(meta: &mut [u32], q: u32, k: u32)
+    requires { ⌜ StockAsks (now meta) q k ⌝ }
+    ensures { λ _. ⌜ now (meta .exit) ≡ push (now (meta .entry)) q 0 (downs 0 k) ⌝ }
+{
+    let mut i = 0;
+    while i < k {
+        fields::slot::set_entry(meta, q, i, i);
+        i += 1;
+    }
+}
+
+fn stocked(shape: Shape) -> u32
+    ensures { λ r. ⌜ r ≡ stocked shape ⌝ }
+{
+    if shape.kind == Word::MEDIUM {
+        shape.capacity
+    } else {
+        0
+    }
+}
+
+fn flag(v: bool) -> u32
+    ensures { λ r. ⌜ r ≡ flag v ⌝ }
+{
+    if v { 1 } else { 0 }
+}
+
+// A small page's blocks will be carved as they are wanted; a span's are all free.
+pub fn carve_anew(meta: &mut [u32], shape: Shape, q: u32, virgin: bool)
+    requires { ⌜ CarveAsks (now meta) shape q ⌝ }
+    ensures { λ _. ⌜ now (meta .exit) ≡ carveAnew (now (meta .entry)) shape q virgin ⌝ }
+{
+    let k = stocked(shape);
+    stock(meta, q, k);
+    fields::page::set_virgin(meta, q, flag(virgin));
+    fields::page::set_carved(meta, q, k);
+    fields::page::set_free(meta, q, k);
+}
+
+// The blocks of the first k words of out bits are not out.
+pub fn clear_out(meta: &mut [u32], q: u32, k: u32)
+    requires { ⌜ ClearAsks (now meta) q k ⌝ }
+    ensures { λ _. ⌜ now (meta .exit) ≡ clearOut (now (meta .entry)) q 0 (32 * k) ⌝ }
+{
+    let mut j = 0;
+    while j < k {
+        fields::out::clear_word(meta, q, j);
+        j += 1;
+    }
+}
+
+pub fn new_run(meta: &mut [u32], shape: Shape, q: u32)
+    requires { ⌜ NewAsks (now meta) shape q ⌝ }
+    ensures { λ _. ⌜ now (meta .exit) ≡ newRun (now (meta .entry)) shape q ⌝ }
+{
+    name_run(meta, q, shape.pages);
+    clear_out(meta, q, (shape.capacity + 31) / 32);
+    fields::page::set_listed(meta, q, 0);
+    carve_anew(meta, shape, q, true);
+}

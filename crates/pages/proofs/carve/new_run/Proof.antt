@@ -1,7 +1,0 @@
-use Rattle.pages.proofs.CarveSteps.{new-done}
-use borrow.Author.Needs.{needs}
-use Rattle.pages.proofs.carve.new_run.Statement.{statement}
-use Rattle.pages.proofs.carve.new_run.Tie as tie
-
-pub new-run-spec : {M : Type 1} → statement M
-new-run-spec = tie.close (tie.spec (λ c κs. search needs) (λ c. search needs) (λ c κs. search needs) (λ c κs. search needs) (λ c κs. search needs) (λ c. search needs) (λ c. search new-done))

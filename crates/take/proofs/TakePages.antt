@@ -1,0 +1,130 @@
+-- A page that a take's plan found sound: what the test says, and that other books with the same words of the page pass it too.
+--     Fair          what `sound` tests, by name
+--     Alike         two books agree on the owners and first pages, the frontier, and a page's counts, flag and stack
+--     sound-alike   the test passes on both, or on neither
+-- Assumes nothing.
+use Prim.Native.Nat.{ℕ, zero, suc, _+_, _-_, _≤_, _<_, min}
+use native.Mathlib.Omega.{arith}
+use mathlib.Core.Bool.{true, not, _||_}
+use mathlib.Core.List.{List}
+use mathlib.Core.Path.{_≡_, refl, _∙_}
+use lib.Dec.{eqb, ltb, leb}
+use lib.ListN.{length}
+use borrow.Author.Tests.{lt-ltb, ltb-true, leb-true, eq-eqb, eqb-true, eqb-false}
+use Rattle.classes.specs.declared.Shape.{Shape}
+use Rattle.fields.specs.Field.{arena, page, slot, frontier, owner, first, free, carved, listed, virgin, get}
+use Rattle.model.specs.Lists.{every, below}
+use Rattle.model.proofs.Counts.{by-cases, and-l, and-r}
+use Rattle.pages.specs.Runs.{ofRun, whole}
+use Rattle.pages.specs.Stack.{tops, latest, hasMore}
+use Rattle.pages.proofs.Tops.{tops-kept}
+use Rattle.pages.proofs.Draws.{latest-length}
+use Rattle.calls.specs.Take.{sound}
+
+pub record Fair (n : ℕ) (b : List ℕ) (c : ℕ) (sh : Shape) (l m q : ℕ) : Type 0 where
+  pub run : whole n b sh c q ≡ true
+  pub listing : eqb (get b (page listed q)) l ≡ true
+  pub stack : leb (get b (page free q)) (get b (page carved q)) ≡ true
+  pub within : leb (get b (page carved q)) (sh .capacity) ≡ true
+  pub clean : leb (get b (page virgin q)) 1 ≡ true
+  pub more : hasMore b sh q ≡ true
+  pub entries : every (λ i. ltb i (get b (page carved q))) (tops b q m (get b (page free q))) ≡ true
+
+pub sound-fair : (n : ℕ) (b : List ℕ) (c : ℕ) (sh : Shape) (l m q : ℕ) → sound n b c sh l m q ≡ true → Fair n b c sh l m q
+unfolding sound
+sound-fair n b c sh l m q e =
+    let e₁ = and-r (whole n b sh c q) _ e in
+    let e₂ = and-r (eqb (get b (page listed q)) l) _ e₁ in
+    let e₃ = and-r (leb (get b (page free q)) (get b (page carved q))) _ e₂ in
+    let e₄ = and-r (leb (get b (page carved q)) (sh .capacity)) _ e₃ in
+    let e₅ = and-r (leb (get b (page virgin q)) 1) _ e₄ in
+    record {
+      run = and-l _ _ e;
+      listing = and-l _ _ e₁;
+      stack = and-l _ _ e₂;
+      within = and-l _ _ e₃;
+      clean = and-l _ _ e₄;
+      more = and-l _ _ e₅;
+      entries = and-r (hasMore b sh q) _ e₅;
+    }
+
+pub fair-sound : (n : ℕ) (b : List ℕ) (c : ℕ) (sh : Shape) (l m q : ℕ) → Fair n b c sh l m q → sound n b c sh l m q ≡ true
+unfolding sound
+fair-sound n b c sh l m q f = rw (f .run, f .listing, f .stack, f .within, f .clean, f .more) (f .entries)
+
+-- ---- a run
+pub whole-below : (n : ℕ) (b : List ℕ) (c : ℕ) (sh : Shape) (q : ℕ) → whole n b sh c q ≡ true → q + sh .pages ≤ n
+unfolding whole
+whole-below n b c sh q e = leb-true (q + sh .pages) n (and-l _ _ e)
+
+-- ---- two books
+pub record Alike (b b′ : List ℕ) (q : ℕ) : Type 0 where
+  pub frontier : get b′ (arena frontier) ≡ get b (arena frontier)
+  pub owners : (x : ℕ) → get b′ (page owner x) ≡ get b (page owner x)
+  pub firsts : (x : ℕ) → get b′ (page first x) ≡ get b (page first x)
+  pub free : get b′ (page free q) ≡ get b (page free q)
+  pub carved : get b′ (page carved q) ≡ get b (page carved q)
+  pub virgin : get b′ (page virgin q) ≡ get b (page virgin q)
+  pub slots : (i : ℕ) → ltb i 4096 ≡ true → get b′ (slot q i) ≡ get b (slot q i)
+
+module _ (b b′ : List ℕ) (q : ℕ) (h : Alike b b′ q) where
+  run-alike : (c k : ℕ) → every (ofRun b′ c q) (below k) ≡ every (ofRun b c q) (below k)
+  run-alike c zero = refl
+  run-alike c (suc k) = rw (h .owners (q + k), h .firsts (q + k), run-alike c k)
+
+  pub whole-alike : (n c : ℕ) (sh : Shape) → whole n b′ sh c q ≡ whole n b sh c q
+  unfolding whole
+  whole-alike n c sh = rw (h .frontier, run-alike c (sh .pages))
+
+  pub tops-alike : (m t : ℕ) → t ≤ 4096 → tops b′ q m t ≡ tops b q m t
+  tops-alike m t l = tops-kept b b′ q m t (λ i h. h′ i (lt-ltb i 4096 (omega arith)))
+    where
+      h′ : (i : ℕ) → ltb i 4096 ≡ true → get b′ (slot q i) ≡ get b (slot q i)
+      h′ = h .slots
+
+  pub more-alike : (sh : Shape) → hasMore b′ sh q ≡ hasMore b sh q
+  unfolding hasMore
+  more-alike sh = rw (h .free, h .carved)
+
+  pub latest-alike : (sh : Shape) (m : ℕ) → get b (page free q) ≤ 4096 → latest b′ sh q m ≡ latest b sh q m
+  unfolding latest
+  latest-alike sh m l = rw (h .free, h .carved, tops-alike m (get b (page free q)) l)
+
+  pub fair-alike : (n c : ℕ) (sh : Shape) (l l′ m : ℕ) → sh .capacity ≤ 4096 → get b′ (page listed q) ≡ l′ → Fair n b c sh l m q → Fair n b′ c sh l′ m q
+  fair-alike n c sh l l′ m few e f =
+      let t : get b (page free q) ≤ 4096 = omega (arith, leb-true) in
+      record {
+        run = whole-alike n c sh ∙ f .run;
+        listing = eq-eqb (get b′ (page listed q)) l′ e;
+        stack = rw (h .free, h .carved) (f .stack);
+        within = rw (h .carved) (f .within);
+        clean = rw (h .virgin) (f .clean);
+        more = more-alike sh ∙ f .more;
+        entries = rw (h .free, h .carved, tops-alike m (get b (page free q)) t) (f .entries);
+      }
+
+-- ---- how many blocks a page gives
+pub positive : (x : ℕ) → (x ≡ 0 → ⊥) → 1 ≤ x
+positive x z = omega (arith, z)
+
+some-of : (m f r : ℕ) → 1 ≤ m → 1 ≤ f → 1 ≤ min m f + min (m - f) r
+some-of m f r l h = let z : 1 ≤ min m f = omega arith in omega arith
+
+some-new : (m k top : ℕ) → 1 ≤ m → k < top → 1 ≤ min m 0 + min (m - 0) (top - k)
+some-new m k top l h = omega arith
+
+gives : (m f k top : ℕ) → 1 ≤ m → (not (eqb f 0) || ltb k top) ≡ true → 1 ≤ min m f + min (m - f) (top - k)
+gives m f k top l e =
+    by-cases (eqb f 0)
+    (λ u. let v : ltb k top ≡ true = rw u at e in rw (eqb-true f 0 u) (some-new m k top l (ltb-true k top v)))
+    (λ u. some-of m f (top - k) l (positive f (eqb-false f 0 u)))
+
+pub latest-some : (b : List ℕ) (sh : Shape) (q m : ℕ) → (m ≡ 0 → ⊥) → hasMore b sh q ≡ true → 1 ≤ length (latest b sh q m)
+unfolding hasMore
+latest-some b sh q m z e = rw (latest-length b sh q m) (gives m (get b (page free q)) (get b (page carved q)) (sh .capacity) (positive m z) e)
+
+pub latest-most : (b : List ℕ) (sh : Shape) (q m : ℕ) → length (latest b sh q m) ≤ m
+latest-most b sh q m = rw (latest-length b sh q m) (most m (get b (page free q)) (sh .capacity - get b (page carved q)))
+  where
+    most : (m f r : ℕ) → min m f + min (m - f) r ≤ m
+    most m f r = omega arith

@@ -1,0 +1,17 @@
+use borrow.Author.Needs.{needs}
+use Rattle.take.proofs.TakeSteps.{call-host, call-short, call-asks, call-done}
+use Rattle.take.proofs.call.take_call.Statement.{statement}
+use Rattle.take.proofs.call.take_call.Tie as tie
+
+pub take-call-spec : {M : Type 1} → statement M
+take-call-spec =
+    tie.close
+    (tie.spec
+    (λ c. search call-host)
+    (λ c κs. search needs)
+    (λ c. search needs)
+    (λ c. search call-short)
+    (λ c κs. search call-asks)
+    (λ c. search needs)
+    (λ c. search needs)
+    (λ c. search call-done))

@@ -1,0 +1,17 @@
+use borrow.Author.Needs.{needs}
+use Rattle.take.proofs.PlanSteps.{sound-broken, sound-header, sound-tops, run-there, run-free, run-carved, header-tops}
+use Rattle.take.proofs.take_plan.page_sound.Statement.{statement}
+use Rattle.take.proofs.take_plan.page_sound.Tie as tie
+
+pub page-sound-spec : {M : Type 1} → statement M
+page-sound-spec =
+    tie.close
+    (tie.spec
+    (λ c κs. search needs)
+    (λ c. search sound-broken)
+    (λ c κs. search run-there)
+    (λ c. search sound-header)
+    (λ c κs. search run-free)
+    (λ c κs. search run-carved)
+    (λ c κs. search header-tops)
+    (λ c. search sound-tops))

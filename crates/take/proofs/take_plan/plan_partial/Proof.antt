@@ -1,0 +1,32 @@
+use borrow.Author.Needs.{needs}
+use Rattle.take.proofs.PlanSteps.{PlanInv, plan-starts, plan-again, plan-empty, plan-fails, plan-done, turn-most, turn-there, turn-next}
+use Rattle.take.proofs.take_plan.plan_partial.Statement.{statement}
+use Rattle.take.proofs.take_plan.plan_partial.Tie as tie
+
+abbrev Inv-loop : tie.InvT-loop
+Inv-loop meta n c shape code₀ prev₀ left₀ virgin₀ code prev left virgin = PlanInv n meta c shape code prev left virgin
+
+abbrev μ-loop : tie.MeasureT-loop
+μ-loop meta n c shape code₀ prev₀ left₀ virgin₀ code prev left virgin = left
+
+pub plan-partial-spec : {M : Type 1} → statement M
+plan-partial-spec =
+    tie.close
+    (tie.spec
+    Inv-loop
+    μ-loop
+    (λ c κs. search needs)
+    (λ c. search plan-starts)
+    (λ c. search needs)
+    (λ c. search plan-empty)
+    (λ c κs. search needs)
+    (λ c. search plan-fails)
+    (λ c. search turn-most)
+    (λ c. search needs)
+    (λ c κs. search turn-there)
+    (λ c. search needs)
+    (λ c κs. search turn-next)
+    (λ c. search needs)
+    (λ c. search plan-again)
+    (λ c κs. search needs)
+    (λ c. search plan-done))

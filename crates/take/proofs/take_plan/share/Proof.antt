@@ -1,0 +1,20 @@
+use borrow.Author.Needs.{needs}
+use Rattle.take.proofs.PlanSteps.{share-above, share-prev, share-unsound, share-some, sound-supply}
+use Rattle.take.proofs.take_plan.share.Statement.{statement}
+use Rattle.take.proofs.take_plan.share.Tie as tie
+
+pub share-spec : {M : Type 1} → statement M
+share-spec =
+    tie.close
+    (tie.spec
+    (λ c κs. search needs)
+    (λ c. search share-above)
+    (λ c. search needs)
+    (λ c κs. search needs)
+    (λ c. search share-prev)
+    (λ c. search needs)
+    (λ c κs. search needs)
+    (λ c. search share-unsound)
+    (λ c. search needs)
+    (λ c κs. sound-supply _ _ _ _ _ _ _ _ (c .before .before .before .before .before .before .before .pre .0) (c .before .page-sound .ensures) (c .if3 .left))
+    (λ c. search share-some))

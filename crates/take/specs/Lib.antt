@@ -1,0 +1,2 @@
+pub mod TakePlan
+pub mod TakeAnswer

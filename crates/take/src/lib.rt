@@ -1,0 +1,5 @@
+// The code of takes: planned, with every test, and then filled.
+pub mod call;
+mod take_fill;
+mod take_plan;
+mod tops;

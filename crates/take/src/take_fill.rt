@@ -1,0 +1,41 @@
+// The fill of a take: blocks from the partial list's head on, written from the last place down, so that the latest stands first.
+ghost use mathlib.Core.Path.{_≡_};
+ghost use Rattle.pages.specs.Asks.{UnlinkAsks};
+ghost use Rattle.calls.specs.Take.{relist};
+ghost use Rattle.take.specs.TakePlan.{fills, TurnAsks, GaveTurn, FillAsks, Filling};
+use classes::Shape;
+
+// A page that gave its last block leaves the list.
+fn relist(meta: &mut [u32], c: u32, shape: Shape, q: u32)
+    requires { ⌜ UnlinkAsks (now meta) c q ⌝ }
+    ensures { λ _. ⌜ now (meta .exit) ≡ relist (now (meta .entry)) c shape q ⌝ }
+{
+    if !stack::has_more(meta, shape, q) {
+        lists::unlink_partial(meta, c, q);
+    }
+}
+
+// Up to m blocks of the head page, to the list's places below `at`; how many.
+fn fill_page(meta: &mut [u32], c: u32, shape: Shape, list: &mut [u32], at: u32, m: u32) -> u32
+    requires { ⌜ TurnAsks (now meta) c shape (now list) at m ⌝ }
+    ensures { λ r. ⌜ GaveTurn r (now (meta .exit)) (now (list .exit)) (now (meta .entry)) c shape (now (list .entry)) at m ⌝ }
+{
+    let q = fields::class::partial(meta, c) - 1;
+    let j = stack::draw_blocks(meta, shape, q, list, at, m);
+    relist(meta, c, shape, q);
+    j
+}
+
+// The list's first `count` places, where the partial list gives just that many.
+pub fn fill(meta: &mut [u32], c: u32, shape: Shape, list: &mut [u32], count: u32)
+    requires { ⌜ FillAsks (now meta) c shape (now list) count ⌝ }
+    ensures { λ _. ⌜ Filling (now (meta .exit)) (now (list .exit)) (fills (now (meta .entry)) c shape) (now (list .entry)) ⌝ }
+{
+    let mut at = count;
+    let mut m = shape.batch;
+    while at != 0 {
+        let j = fill_page(meta, c, shape, list, at, m);
+        at -= j;
+        m -= j;
+    }
+}

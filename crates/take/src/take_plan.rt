@@ -1,0 +1,174 @@
+// The plan of a take: every test of number 13 over what the fill will read, and what the fill will give.
+ghost use mathlib.Core.Bool.{_&&_};
+ghost use mathlib.Core.Path.{_≡_};
+ghost use Prim.Native.Nat.{_+_, _<_, _≤_};
+ghost use lib.Dec.{eqb};
+ghost use lib.ListN.{length};
+ghost use Rattle.fields.specs.Field.{page, virgin, words, get};
+ghost use Rattle.pages.specs.Stack.{latest};
+ghost use Rattle.calls.specs.Take.{sound, parkFair};
+ghost use Rattle.take.specs.TakePlan.{TakeAsks, SupplyAsks, headerFair, share, walksFrom, fills, Foretold, ParkedAsks, woken};
+use crate::tops::tops_below;
+use classes::Shape;
+use pages::Park;
+
+// No store has more pages.
+const MAX_PARKED: u32 = 256;
+
+// Whether every test passed; then how many blocks the fill will give, and whether all are virgin.
+pub struct Plan {
+    pub fair: bool,
+    pub count: u32,
+    pub virgin: bool,
+}
+
+// How many blocks a page gives when m are wanted.
+pub fn supply(meta: &[u32], shape: Shape, q: u32, m: u32) -> u32
+    requires { ⌜ SupplyAsks (now meta) shape q ⌝ }
+    ensures { λ r. ⌜ r ≡ length (latest (now (meta .entry)) shape q m) ⌝ }
+{
+    let most = fields::page::free(meta, q) + (shape.capacity - fields::page::carved(meta, q));
+    if most < m { most } else { m }
+}
+
+// A page's own words are in their ranges, LISTED is l, and the page gives a block.
+fn header_fair(meta: &[u32], shape: Shape, l: u32, q: u32) -> bool
+    requires { ⌜ words (q + 1) ≤ length (now meta) ⌝ }
+    ensures { λ r. ⌜ r ≡ headerFair (now (meta .entry)) shape l q ⌝ }
+{
+    let carved = fields::page::carved(meta, q);
+    if fields::page::listed(meta, q) != l {
+        return false;
+    }
+    if fields::page::free(meta, q) > carved {
+        return false;
+    }
+    if carved > shape.capacity {
+        return false;
+    }
+    if fields::page::virgin(meta, q) > 1 {
+        return false;
+    }
+    stack::has_more(meta, shape, q)
+}
+
+// The run at q is the class's, in its ranges, and the m blocks wanted are on its stack or new.
+fn page_sound(meta: &[u32], n: u32, c: u32, shape: Shape, l: u32, m: u32, q: u32) -> bool
+    requires { ⌜ TakeAsks n (now meta) c shape ⌝ }
+    ensures { λ r. ⌜ r ≡ sound n (now (meta .entry)) c shape l m q ⌝ }
+{
+    if !lists::whole(meta, n, c, shape, q) {
+        return false;
+    }
+    if !header_fair(meta, shape, l, q) {
+        return false;
+    }
+    let free = fields::page::free(meta, q);
+    tops_below(meta, q, m, free, fields::page::carved(meta, q))
+}
+
+// The blocks that the walk finds on the page with a code, after the one with code `prev`; 0 where a test fails.
+fn share(meta: &[u32], n: u32, c: u32, shape: Shape, m: u32, code: u32, prev: u32) -> u32
+    requires { ⌜ TakeAsks n (now meta) c shape ⌝ }
+    requires { ⌜ 0 < code ⌝ }
+    ensures { λ r. ⌜ r ≡ share n (now (meta .entry)) c shape m code prev ⌝ }
+{
+    if code > fields::arena::frontier(meta) {
+        return 0;
+    }
+    if fields::page::prev(meta, code - 1) != prev {
+        return 0;
+    }
+    if !page_sound(meta, n, c, shape, 1, m, code - 1) {
+        return 0;
+    }
+    supply(meta, shape, code - 1, m)
+}
+
+fn still_virgin(meta: &[u32], q: u32, v: bool) -> bool
+    requires { ⌜ words (q + 1) ≤ length (now meta) ⌝ }
+    ensures { λ r. ⌜ r ≡ (v && eqb (get (now (meta .entry)) (page virgin q)) 1) ⌝ }
+{
+    v && fields::page::virgin(meta, q) == 1
+}
+
+// The partial list from its head on, as far as the take goes.
+pub fn plan_partial(meta: &[u32], n: u32, c: u32, shape: Shape) -> Plan
+    requires { ⌜ TakeAsks n (now meta) c shape ⌝ }
+    ensures { λ r. ⌜ Foretold r (walksFrom n (now (meta .entry)) c shape) (fills (now (meta .entry)) c shape) ⌝ }
+{
+    let mut code = fields::class::partial(meta, c);
+    let mut prev = 0;
+    let mut left = shape.batch;
+    let mut virgin = true;
+    while left != 0 {
+        if code == 0 {
+            return Plan {
+                fair: true,
+                count: shape.batch - left,
+                virgin,
+            };
+        }
+        let j = share(meta, n, c, shape, left, code, prev);
+        if j == 0 {
+            return Plan {
+                fair: false,
+                count: 0,
+                virgin: false,
+            };
+        }
+        left -= j;
+        virgin = still_virgin(meta, code - 1, virgin);
+        prev = code;
+        code = fields::page::next(meta, code - 1);
+    }
+    Plan {
+        fair: code <= fields::arena::frontier(meta),
+        count: shape.batch,
+        virgin,
+    }
+}
+
+// The newest page of a store is one that a take can use.
+fn park_fair(meta: &[u32], n: u32, c: u32, shape: Shape, park: Park) -> bool
+    requires { ⌜ ParkedAsks n (now meta) c shape park ⌝ }
+    ensures { λ r. ⌜ r ≡ parkFair n (now (meta .entry)) c shape park ⌝ }
+{
+    let code = lists::store_top(meta, c, park);
+    let frontier = fields::arena::frontier(meta);
+    if code > frontier {
+        return false;
+    }
+    let count = lists::store_count(meta, c, park);
+    if count == 0 {
+        return false;
+    }
+    if count > MAX_PARKED {
+        return false;
+    }
+    if !page_sound(meta, n, c, shape, 0, shape.batch, code - 1) {
+        return false;
+    }
+    fields::page::next(meta, code - 1) <= frontier
+}
+
+// The newest page of a store, as the partial list's only one.
+pub fn plan_parked(meta: &[u32], n: u32, c: u32, shape: Shape, park: Park) -> Plan
+    requires { ⌜ ParkedAsks n (now meta) c shape park ⌝ }
+    ensures { λ r. ⌜ Foretold r (parkFair n (now (meta .entry)) c shape park) (fills (woken (now (meta .entry)) c park) c shape) ⌝ }
+{
+    if !park_fair(meta, n, c, shape, park) {
+        return Plan {
+            fair: false,
+            count: 0,
+            virgin: false,
+        };
+    }
+    let q = lists::store_top(meta, c, park) - 1;
+    let count = supply(meta, shape, q, shape.batch);
+    Plan {
+        fair: true,
+        count,
+        virgin: fields::page::virgin(meta, q) == 1,
+    }
+}
