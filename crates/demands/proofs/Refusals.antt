@@ -17,7 +17,7 @@ use Rattle.classes.specs.Lookup.{classForSize, mediumClassForSize}
 use Rattle.classes.proofs.Meaning.{small-class, medium-class}
 use Rattle.fields.specs.Field.{arena, size, state, get}
 use Rattle.fields.specs.Ranges.{metaFault}
-use Rattle.model.specs.Lists.{any}
+use Rattle.model.specs.Lists.{any, every}
 use Rattle.model.specs.Arena.{contains, isReady}
 use Rattle.model.proofs.Counts.{by-cases, and-l, and-r}
 use Rattle.arena.specs.Load.{statusOf, loadArena}
@@ -28,7 +28,7 @@ use Rattle.take.specs.TakeAnswer as Takes
 use Rattle.release.specs.Act.{answerAs}
 use Rattle.vigbuso.specs.Direct.{firstOut, freshOut, grownOut, containsOn}
 use Rattle.vigbuso.specs.Blocks.{codeOut, countOut, virginOut, releaseCode, fateOut}
-use Rattle.demands.specs.Refusals.{Row, firstNumber, rises, Refuses, OpenRefuses, CommitRefuses, GrowRefuses, GiveRefuses, ReportRefuses, TakeRefuses, ReleaseRefuses, ChunksRefuses, containsTable, ContainsAnswers, SizeAnswers, Demand1}
+use Rattle.demands.specs.Refusals.{Row, firstNumber, checkingOrder, inOrder, Refuses, OpenRefuses, CommitRefuses, GrowRefuses, GiveRefuses, ReportRefuses, TakeRefuses, ReleaseRefuses, ChunksRefuses, containsTable, ContainsAnswers, SizeAnswers, Demand1}
 use Rattle.demands.proofs.RefusalsLaws.{Ends, book-turn}
 use Rattle.demands.proofs.RefusalsCalls.{open-table, commit-table, grow-table, give-table, report-table, take-table, release-table, chunks-table}
 
@@ -164,16 +164,20 @@ demand-1 = record {
 }
 
 -- ---- "refused exactly when one of these papers' numbers applies to it"
-none-applies : (k : ℕ) (rows : List Row) → rises k rows ≡ true → firstNumber rows ≡ 0 → any (λ row. row .1) rows ≡ false
-none-applies k [] u e = refl
-none-applies k (row ∷ rows) u e =
-    by-cases (row .1)
-    (λ f. absurd (let z = ltb-true k (row .0) (and-l (ltb k (row .0)) _ u) in let y : row .0 ≡ 0 = rw f at e in omega arith))
-    (λ f. rw f (none-applies (row .0) rows (and-r (ltb k (row .0)) _ u) (rw f at e)))
+none-applies : (ks : List ℕ) (rows : List Row) → every (ltb 0) ks ≡ true → inOrder ks rows ≡ true → firstNumber rows ≡ 0 → any (λ row. row .1) rows ≡ false
+none-applies ks [] p u e = refl
+none-applies [] (row ∷ rows) p u e = absurd (true≢false (sym u))
+none-applies (k ∷ ks) (row ∷ rows) p u e =
+    let p′ = and-r (ltb 0 k) _ p in
+    by-cases (eqb k (row .0))
+    (λ i. by-cases (row .1)
+    (λ f. absurd (let z = ltb-true 0 k (and-l (ltb 0 k) _ p) in let y : row .0 ≡ 0 = rw f at e in let x = eqb-true k (row .0) i in omega arith))
+    (λ f. rw f (none-applies ks rows p′ (rw i at u) (rw f at e))))
+    (λ i. none-applies ks (row ∷ rows) p′ (rw i at u) e)
 
 first-none : (rows : List Row) → any (λ row. row .1) rows ≡ false → firstNumber rows ≡ 0
 first-none [] e = refl
 first-none (row ∷ rows) e = by-cases (row .1) (λ f. absurd (true≢false (rw f at e))) (λ f. rw f (first-none rows (rw f at e)))
 
 pub refused-exactly : {rows : List Row} {r : ℕ} {Same : Type 0} → Refuses rows r Same → (r ≡ 0) ↔ (any (λ row. row .1) rows ≡ false)
-refused-exactly {rows} e = (λ z. none-applies 0 rows (e .order) (sym (e .number) ∙ z), λ z. e .number ∙ first-none rows z)
+refused-exactly {rows} e = (λ z. none-applies checkingOrder rows refl (e .order) (sym (e .number) ∙ z), λ z. e .number ∙ first-none rows z)

@@ -34,7 +34,9 @@ use Rattle.vigbuso.specs.Direct.{openOn, commitOn, growOn, reportOn, reportCode
 use Rattle.vigbuso.specs.Blocks as Blocks
 use Rattle.vigbuso.specs.Blocks.{takeOn, chunksOn}
 use Rattle.model.proofs.Counts.{by-cases}
-use Rattle.demands.specs.Refusals.{badHost, shortList, nothingListed, manyChunks, wrongKind, notOut, otherPage, chunksDiffer, notHeld, takeFair, openTable, commitTable, growTable, giveTable, reportTable, takeTable, releaseTable, chunksTable}
+use Rattle.demands.specs.Refusals.{badHost, shortList, nothingListed, manyChunks, wrongKind, notOut, otherPage, chunksDiffer, notHeld, openTable, commitTable, growTable, giveTable, reportTable, takeTable, releaseTable, chunksTable}
+use Rattle.demands.specs.Number13.{takeFair}
+use Rattle.demands.proofs.Ranges.{record-strays, commit-strays, give-strays, take-strays, release-strays, chunks-strays}
 use Rattle.demands.proofs.RefusalsLaws.{not-and, le-not-lt, Ends, ends, turn, unless, book-turn, choose, before}
 
 -- ---- opening
@@ -46,46 +48,50 @@ open-table b n = book-turn _ _ _ (λ k. Fields.ends k b) _ (λ k. refl) (λ k. r
 pub commit-table : (b : List ℕ) (h m : ℕ) → Ends {R = Committed} (λ o. o .code) (λ o. o .book ≡ b) (commitTable b h m) (commitOn b h m)
 unfolding commitOn metaFault commitCall commitFor
 commit-table b h m =
-    book-turn _ _ _ (commitRefused b) _ (λ k. refl) (λ k. refl)
+    rw (← (commit-strays b m))
+    (book-turn _ _ _ (commitRefused b) _ (λ k. refl) (λ k. refl)
     (turn _ _ (badHost h) 3 _ _ _ refl refl λ e.
     turn _ _ (badRun m) 6 _ _ _ refl refl λ e.
     unless _ _ (commitFair (get b (arena size)) b m) 13 _ _ _ refl refl λ e.
     ends _ _ _ refl)
     (get b (arena size))
-    b
+    b)
 
 pub grow-table : (b : List ℕ) (h q old new : ℕ) → Ends {R = Done} (λ o. o .code) (λ o. o .book ≡ b) (growTable b h q old new) (growOn b h q old new)
 unfolding growOn metaFault growCall
 grow-table b h q old new =
-    book-turn _ _ _ (doneRefused b) _ (λ k. refl) (λ k. refl)
+    rw (← (record-strays b))
+    (book-turn _ _ _ (doneRefused b) _ (λ k. refl) (λ k. refl)
     (turn _ _ (badHost h) 3 _ _ _ refl refl λ e.
     turn _ _ (badGrowth old new) 6 _ _ _ refl refl λ e.
     turn _ _ (notHeld (get b (arena size)) b q old) 12 _ _ _ refl refl λ e.
     turn _ _ (not (recordFair (get b (arena size)) b)) 13 _ _ _ refl refl λ e.
     ends _ _ _ refl)
     (get b (arena size))
-    b
+    b)
 
 pub give-table : (b : List ℕ) (h q m : ℕ) → Ends {R = Done} (λ o. o .code) (λ o. o .book ≡ b) (giveTable b h q m) (Direct.releaseOn b h q m)
 unfolding Direct.releaseOn metaFault Arena.releaseCall
 give-table b h q m =
-    book-turn _ _ _ (doneRefused b) _ (λ k. refl) (λ k. refl)
+    rw (← (give-strays b m))
+    (book-turn _ _ _ (doneRefused b) _ (λ k. refl) (λ k. refl)
     (turn _ _ (badHost h) 3 _ _ _ refl refl λ e.
     turn _ _ (badRun m) 6 _ _ _ refl refl λ e.
     turn _ _ (notHeld (get b (arena size)) b q m) 12 _ _ _ refl refl λ e.
     turn _ _ (not (giveFair (get b (arena size)) b m)) 13 _ _ _ refl refl λ e.
     ends _ _ _ refl)
     (get b (arena size))
-    b
+    b)
 
 pub report-table : (b fs : List ℕ) → Ends {R = Report} reportCode (λ o. figuresOut o fs ≡ fs) (reportTable b) (reportOn b)
 unfolding reportOn metaFault reportOf
 report-table b fs =
-    book-turn _ _ _ Report.Refused _ (λ k. refl) (λ k. refl)
+    rw (← (record-strays b))
+    (book-turn _ _ _ Report.Refused _ (λ k. refl) (λ k. refl)
     (unless _ _ (recordFair (get b (arena size)) b) 13 _ _ _ refl refl λ e.
     ends _ _ _ refl)
     (get b (arena size))
-    b
+    b)
 
 -- ---- takes
 module _ (n : ℕ) (b : List ℕ) (c : ℕ) (sh : Shape) (h : ℕ) (l : List ℕ) where
@@ -126,14 +132,15 @@ pub take-table : (low many : ℕ) (b : List ℕ) (c h : ℕ) (l : List ℕ) → 
 unfolding takeOn metaFault takeCall
 take-table low many b c h l =
     let sh = shapeOf (low + c) in
-    book-turn _ _ _ (tookNone b l) _ (λ k. refl) (λ k. (refl, refl))
+    rw (← (take-strays b (low + c) sh))
+    (book-turn _ _ _ (tookNone b l) _ (λ k. refl) (λ k. (refl, refl))
     (turn _ _ (badHost h) 3 _ _ _ refl (refl, refl) λ e.
     rw (le-not-lt many c, e)
     (unless _ _ (ltb c many) 4 _ _ _ refl (refl, refl) λ e.
     turn _ _ (shortList sh l) 5 _ _ _ refl (refl, refl) λ e.
     take-row (get b (arena size)) b (low + c) sh h l))
     (get b (arena size))
-    b
+    b)
 
 -- ---- releases by list
 park-code : (b : List ℕ) (c : ℕ) (sh : Shape) (h q s : ℕ) → parkAs b c sh h q s .code ≡ 0
@@ -161,7 +168,8 @@ release-table low many b c h ws =
     let sh = shapeOf (low + c) in
     let q = startOf b (firstOf ws) in
     let is = map (indexOf sh q) ws in
-    book-turn _ _ _ (releasedNone b) _ (λ k. refl) (λ k. refl)
+    rw (← (release-strays b (low + c) sh (length ws) q))
+    (book-turn _ _ _ (releasedNone b) _ (λ k. refl) (λ k. refl)
     (turn _ _ (badHost h) 3 _ _ _ refl refl λ e.
     rw (le-not-lt many c, e, not-and (every (outAt n b (low + c) sh) ws) (distinct ws))
     (unless _ _ (ltb c many) 4 _ _ _ refl refl λ e.
@@ -172,7 +180,7 @@ release-table low many b c h ws =
     turn _ _ (not (releaseFair n b (low + c) sh (length ws) q)) 13 _ _ _ refl refl λ e.
     ends _ _ _ (last-code sh q (giveBackAt b (low + c) sh h q is) ∙ back-code b (low + c) sh h q is)))
     n
-    b
+    b)
 
 -- ---- group releases
 pub chunks-table : (b : List ℕ) (c h : ℕ) (ws gs fs : List ℕ) → Ends {R = ChunksReleased} (λ o. o .code) (λ o. (o .book ≡ b) × (o .fates ≡ fs)) (chunksTable b c h ws gs fs) (chunksOn b c h ws gs fs)
@@ -180,7 +188,8 @@ unfolding chunksOn metaFault chunksCall releaseChunks
 chunks-table b c h ws gs fs =
     let n = get b (arena size) in
     let sh = shapeOf c in
-    book-turn _ _ _ (chunksNone b fs) _ (λ k. refl) (λ k. (refl, refl))
+    rw (← (chunks-strays b c sh gs))
+    (book-turn _ _ _ (chunksNone b fs) _ (λ k. refl) (λ k. (refl, refl))
     (turn _ _ (badHost h) 3 _ _ _ refl (refl, refl) λ e.
     rw (le-not-lt 64 c, e, not-and (every (ofKind (sh .kind)) ws) (every (ofKind chunkKind) gs), not-and (every (outAt n b c sh) ws) (distinct ws))
     (unless _ _ (ltb c 64) 4 _ _ _ refl (refl, refl) λ e.
@@ -192,4 +201,4 @@ chunks-table b c h ws gs fs =
     turn _ _ (not (chunksFair n b c sh gs)) 13 _ _ _ refl (refl, refl) λ e.
     ends _ _ _ refl))
     n
-    b
+    b)
