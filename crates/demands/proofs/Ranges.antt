@@ -10,8 +10,8 @@ use lib.ListN.{length}
 use borrow.Author.Tests.{leb-true, le-leb, lt-leb, ltb-true, ltb-false, eqb-true, eqb-false, eq-eqb, ne-eqb}
 use Rattle.words.specs.Word.{countOf, pageOf}
 use Rattle.classes.specs.declared.Shape.{Shape}
-use Rattle.fields.specs.Field.{arena, memory, class, hole, page, size, state, frontier, holes, holePages, held, start, pages, partial, empty, emptyCount, cold, coldCount, owner, first, next, prev, free, carved, listed, virgin, get}
-use Rattle.model.specs.Lists.{every, any, below}
+use Rattle.fields.specs.Field.{arena, memory, class, hole, page, size, frontier, holes, holePages, held, pages, partial, empty, cold, free, carved, listed, get}
+use Rattle.model.specs.Lists.{every, below}
 use Rattle.model.specs.HoleStore.{rememberedMax}
 use Rattle.model.proofs.Counts.{by-cases}
 use Rattle.arena.specs.Load.{loadHoles}
@@ -25,7 +25,7 @@ use Rattle.pages.specs.declared.Park.the-variants.{Empty, Cold}
 use Rattle.calls.specs.Take.{sound, walk, parkFair}
 use Rattle.calls.specs.Release.{pageFair, rowFair, spotAt, spotFair, releaseFair}
 use Rattle.calls.specs.Chunks.{pagesGiven, chunksFair}
-use Rattle.demands.specs.Ranges.{Link, partialOf, emptyOf, coldOf, nextOf, prevOf, linkField, Use, stateKnown, frontierFits, holesFew, holePagesFew, heldFits, heldGives, memoryFits, holeSome, holeEnds, code, visited, emptyFew, emptyTaken, coldFew, coldTaken, ownerIs, firstIs, prevIs, listedYes, listedNo, freeFits, entryCarved, freeWith, listedFlag, carvedFits, virginFlag, inRange, fits, strays}
+use Rattle.demands.specs.Ranges.{Link, partialOf, emptyOf, coldOf, nextOf, prevOf, linkField, Use, stateKnown, frontierFits, holesFew, holePagesFew, heldFits, memoryFits, holeEnds, code, visited, emptyTaken, coldFew, coldTaken, ownerIs, firstIs, prevIs, listedYes, listedNo, freeFits, carvedFits, virginFlag, inRange, fits, strays}
 use Rattle.demands.specs.Number13.{takeFair, Number13}
 use Rattle.demands.specs.Reads.{countReads, recordReads, holeReads, commitReads, giveReads, runReads, entryReads, pageReads, walkReads, walkVisits, parkReads, takeReads, takeVisits, supply, yields, yieldAll, barren, backReads, rowReads, releaseReads, backsReads, chunksReads}
 use Rattle.demands.proofs.RefusalsLaws.{not-and}
@@ -166,7 +166,7 @@ module _ (b : List ℕ) (sh : Shape) (q : ℕ) where
   less : (m f r : ℕ) → m - (min m f + min (m - f) r) ≡ m - (f + r)
   less m f r = omega arith
 
-  wanted : (m : ℕ) → m - length (latest b sh q m) ≡ m - supply b sh q
+  pub wanted : (m : ℕ) → m - length (latest b sh q m) ≡ m - supply b sh q
   wanted m = rw (latest-length b sh q m) (less m (get b (page free q)) (sh .capacity - get b (page carved q)))
 
   more : hasMore b sh q ≡ yields b sh q

@@ -7,7 +7,7 @@
 -- b is the book, n the arena's length in it, c a class, sh its shape, h the host word, ws a list of blocks, gs of groups, fs the lent
 -- fates. Each condition says by itself when its number applies, also where an earlier number answers first.
 use Prim.Native.Nat.{ℕ, _+_, _≤_}
-use mathlib.Core.Bool.{Bool, true, false, cond, not, _&&_, _||_}
+use mathlib.Core.Bool.{Bool, true, false, cond, not, _||_}
 use mathlib.Core.List.{List, [], _∷_}
 use mathlib.Core.Path.{_≡_}
 use lib.Dec.{eqb, ltb, leb}
