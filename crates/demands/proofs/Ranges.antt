@@ -2,7 +2,7 @@
 -- Assumes nothing.
 use Prim.Native.Nat.{ℕ, zero, suc, _+_, _-_, _≤_, min}
 use native.Mathlib.Omega.{arith}
-use mathlib.Core.Bool.{Bool, true, false, cond, not, _&&_, _||_}
+use mathlib.Core.Bool.{Bool, true, false, cond, not, _&&_, _||_, and-true, and-false, and-assoc, and-comm}
 use mathlib.Core.List.{List, [], _∷_, _++_}
 use mathlib.Core.Path.{_≡_, refl, sym, ap, _∙_}
 use lib.Dec.{eqb, ltb, leb}
@@ -10,12 +10,12 @@ use lib.ListN.{length}
 use borrow.Author.Tests.{leb-true, le-leb, lt-leb, ltb-true, ltb-false, eqb-true, eqb-false, eq-eqb, ne-eqb}
 use Rattle.words.specs.Word.{countOf, pageOf}
 use Rattle.classes.specs.declared.Shape.{Shape}
-use Rattle.fields.specs.Field.{arena, memory, class, hole, page, size, frontier, holes, holePages, held, pages, partial, empty, cold, free, carved, listed, get}
+use Rattle.fields.specs.Field.{arena, class, hole, page, size, frontier, holes, holePages, held, pages, partial, empty, cold, free, carved, listed, get}
 use Rattle.model.specs.Lists.{every, below}
 use Rattle.model.specs.HoleStore.{rememberedMax}
 use Rattle.model.proofs.Counts.{by-cases}
 use Rattle.arena.specs.Load.{loadHoles}
-use Rattle.arena.specs.Fair.{recordFair, holeFair, holesFair, commitFair, giveFair}
+use Rattle.arena.specs.Fair.{recordFair, holeFair, holesFair, memoryFair, commitFair, giveFair}
 use Rattle.pages.specs.Runs.{ofRun, whole}
 use Rattle.pages.specs.Stack.{tops, latest, hasMore}
 use Rattle.pages.proofs.Draws.{latest-length}
@@ -31,25 +31,11 @@ use Rattle.demands.specs.Reads.{countReads, recordReads, holeReads, comm
 use Rattle.demands.proofs.RefusalsLaws.{not-and}
 
 -- ---- conjunctions
-and-assoc : (x y z : Bool) → ((x && y) && z) ≡ (x && (y && z))
-and-assoc true y z = refl
-and-assoc false y z = refl
-
-and-comm : (x y : Bool) → (x && y) ≡ (y && x)
-and-comm true true = refl
-and-comm true false = refl
-and-comm false true = refl
-and-comm false false = refl
-
 and-left : (x y z : Bool) → (x && (y && z)) ≡ (y && (x && z))
 and-left true true z = refl
 and-left true false z = refl
 and-left false true z = refl
 and-left false false z = refl
-
-and-true : (x : Bool) → (x && true) ≡ x
-and-true true = refl
-and-true false = refl
 
 ruleset sorts = (and-assoc, and-comm, and-left)
 
@@ -83,7 +69,7 @@ module _ (b : List ℕ) where
   holes-ranges i zero = refl
   holes-ranges i (suc k) = rw (holes-ranges (suc i) k) (hole-as (leb 1 (get b (hole pages i))) (leb (get b (hole pages i)) (get b (arena holePages))) (inRange b (holeEnds i)) (fits b (holeReads (suc i) k)))
 
-  memory-ranges : (m : ℕ) → cond (leb m rememberedMax) (leb (get b (memory m)) 4096) true ≡ fits b (cond (leb m rememberedMax) (memoryFits m ∷ []) [])
+  memory-ranges : (m : ℕ) → memoryFair b m ≡ fits b (cond (leb m rememberedMax) (memoryFits m ∷ []) [])
   unfolding fits
   memory-ranges m = by-cases (leb m rememberedMax) (λ e. rw (e, and-true (inRange b (memoryFits m)))) (λ e. rw e)
 
@@ -148,10 +134,6 @@ module _ (b : List ℕ) (c : ℕ) (sh : Shape) where
       )
 
 -- ---- takes: a page that a take comes to
-and-false : (x : Bool) → (x && false) ≡ false
-and-false true = refl
-and-false false = refl
-
 page-as : (v o l f c i h e : Bool) → ((v && o) && (l && (f && (c && (i && (h && e)))))) ≡ ((v && (l && (f && (c && (i && (o && e)))))) && h)
 page-as v o l f c i h e = simp sorts
 
