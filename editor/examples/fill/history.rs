@@ -70,7 +70,7 @@ impl History {
             self.run = longer;
             return Ok(true);
         }
-        let longer = store.commit(2 * self.run.pages as usize)?;
+        let longer = store.commit(MOST.min(2 * self.run.pages) as usize)?;
         if let Some(longer) = longer {
             store.copy_run(self.run, longer);
             store.release_run(self.run)?;

@@ -32,6 +32,7 @@ pub struct Done {
     pub reads: usize,
     pub tally: Tally,
     pub report: Report,
+    /// As they were when the search came to its end.
     pub pages: Pages,
     pub history: Vec<Sample>,
 }
@@ -55,7 +56,7 @@ impl Job {
         let mut store = Store::open(self.pages)?;
         let search = Search::new(&self.grid, &self.words, &mut store)?;
         let mut search = search.ok_or_else(|| format!("{} pages are too few to begin with", self.pages))?;
-        let stop = search.run(&mut store, self.turns, watch)?;
+        let (stop, pages) = search.run(&mut store, self.turns, watch)?;
         let done = Done {
             best: search.best(&store)?,
             stop,
@@ -65,7 +66,7 @@ impl Job {
             reads: store.reads(),
             tally: store.tally().clone(),
             report: store.report()?,
-            pages: store.pages()?,
+            pages,
         };
         search.release(&mut store)?;
         store.close()?;

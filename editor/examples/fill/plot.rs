@@ -5,13 +5,13 @@ use super::svg::{Colour, Rect, Svg};
 
 const MARGIN: usize = 24;
 /// Above the first panel: the title.
-const HEAD: usize = 40;
+const HEAD: usize = 28;
 /// Left of the panels: numbers.
 const SIDE: usize = 44;
 const WIDTH: usize = 760;
 const HEIGHT: usize = 150;
 /// Above each panel: what it shows. Below the last: numbers.
-const ABOVE: usize = 28;
+const ABOVE: usize = 40;
 const BELOW: usize = 44;
 
 const BLUE: Colour = Colour(40, 110, 180);

@@ -1,5 +1,6 @@
 //! The search: the open slot with the fewest words that fit goes first, its most promising words first. It goes on after a
-//! fill, for a better one, and turns back where no word fits or none could make a better fill.
+//! fill, for a better one, and turns back where no word fits or none could make a better fill. It goes in rounds: in the
+//! first a choice tries two words, in each further round one more, so that early choices are not stuck with for long.
 //!
 //! Each open slot has a record of the words that still fit into it, each choice one of its candidates and their scores. A
 //! word that is placed narrows the slots that it crosses: they get new records, which are freed as the search turns back.
@@ -11,6 +12,7 @@ use super::candidates::{self, Candidate};
 use super::grid::{Crossing, Grid};
 use super::history::{History, Sample};
 use super::index::Index;
+use super::pages::Pages;
 use super::store::{Record, Store};
 use super::words::{Word, Words};
 use super::Outcome;
@@ -63,9 +65,13 @@ pub struct Search<'a> {
     fills: usize,
     history: History,
     turns: usize,
+    /// How many words a choice tries in this round, and whether one had more.
+    tries: usize,
+    cut_short: bool,
 }
 
-type Flow = ControlFlow<Stop>;
+/// Whether the search goes on, or why not and with which pages.
+type Flow = ControlFlow<(Stop, Pages)>;
 
 /// Takes the value out, or says that there was no room for it.
 macro_rules! or_full {
@@ -89,15 +95,36 @@ impl<'a> Search<'a> {
             domains.push(or_full!(domain(store, list, &Bits::below(list.len()))?));
         }
         let standing = vec![None; domains.len()];
-        Ok(Some(Search { grid, words, index, domains, standing, best, best_score: None, fills: 0, history, turns: 0 }))
+        Ok(Some(Search {
+            grid,
+            words,
+            index,
+            domains,
+            standing,
+            best,
+            best_score: None,
+            fills: 0,
+            history,
+            turns: 0,
+            tries: 0,
+            cut_short: false,
+        }))
     }
 
-    /// Searches until it has turned back so many times, tried everything or has no room left.
-    pub fn run(&mut self, store: &mut Store, turns: usize, watch: &mut dyn FnMut(&Progress)) -> Outcome<Stop> {
-        match self.descend(store, 0, &mut Limit { turns, watch })? {
-            ControlFlow::Break(stop) => Ok(stop),
-            ControlFlow::Continue(()) => Ok(Stop::Tried),
+    /// Searches until it has turned back so many times, tried everything or has no room left. Answers why it came to an
+    /// end, and the pages as they were then.
+    pub fn run(&mut self, store: &mut Store, turns: usize, watch: &mut dyn FnMut(&Progress)) -> Outcome<(Stop, Pages)> {
+        let mut limit = Limit { turns, watch };
+        for tries in 2.. {
+            (self.tries, self.cut_short) = (tries, false);
+            if let ControlFlow::Break(end) = self.descend(store, 0, &mut limit)? {
+                return Ok(end);
+            }
+            if !self.cut_short {
+                break;
+            }
         }
+        Ok((Stop::Tried, store.pages()?))
     }
 
     /// Fills the open slots as well as it can, and leaves them as they were.
@@ -124,7 +151,7 @@ impl<'a> Search<'a> {
             return Ok(ControlFlow::Continue(()));
         }
         let Some(record) = store.put(&candidates::to_bytes(candidates))? else {
-            return Ok(ControlFlow::Break(Stop::Full));
+            return stop(store, Stop::Full);
         };
         let flow = self.try_each(store, score, (slot, record), limit)?;
         store.free(record)?;
@@ -139,9 +166,13 @@ impl<'a> Search<'a> {
         (slot, record): (usize, Record),
         limit: &mut Limit,
     ) -> Outcome<Flow> {
-        for place in candidates::places(record.bytes()) {
+        for (place, tried) in candidates::places(record.bytes()).zip(0..) {
             let candidate = candidates::from_bytes(store.get(record, place)?);
             if !self.is_better(candidate.at_most) {
+                break;
+            }
+            if tried == self.tries {
+                self.cut_short = true;
                 break;
             }
             let flow = self.try_word(store, score, (slot, candidate.number), limit)?;
@@ -165,7 +196,7 @@ impl<'a> Search<'a> {
         let mut before = Vec::new();
         let flow = match self.narrow(store, slot, &word.letters, &mut before)? {
             true => self.descend(store, score + u32::from(word.score), limit)?,
-            false => ControlFlow::Break(Stop::Full),
+            false => stop(store, Stop::Full)?,
         };
         for (other, domain) in before {
             let narrowed = std::mem::replace(&mut self.domains[other], domain);
@@ -269,7 +300,10 @@ impl<'a> Search<'a> {
         self.history.note(store, self.turns, standing)?;
         let (turns, best) = (self.turns, self.best_score);
         (limit.watch)(&Progress { turns, standing, best, blocks_out: store.tally().out });
-        Ok(if turns < limit.turns { ControlFlow::Continue(()) } else { ControlFlow::Break(Stop::Turns) })
+        match turns < limit.turns {
+            true => Ok(ControlFlow::Continue(())),
+            false => stop(store, Stop::Turns),
+        }
     }
 
     pub fn turns(&self) -> usize {
@@ -305,6 +339,11 @@ impl<'a> Search<'a> {
 struct Limit<'a> {
     turns: usize,
     watch: &'a mut dyn FnMut(&Progress),
+}
+
+/// Breaks the search off, while all its records are there.
+fn stop(store: &Store, stop: Stop) -> Outcome<Flow> {
+    Ok(ControlFlow::Break((stop, store.pages()?)))
 }
 
 /// A record of the words that fit; none if there is no room for it.

@@ -87,7 +87,7 @@ impl Svg {
         let points: Vec<String> = points.iter().map(|(x, y)| format!("{x},{y}")).collect();
         let (points, colour) = (points.join(" "), colour.code());
         self.add(format_args!(
-            "<polygon points=\"{points}\" fill=\"{colour}\" stroke=\"{colour}\" stroke-linejoin=\"round\"/>"
+            "<polygon points=\"{points}\" fill=\"{colour}\" stroke=\"{colour}\" stroke-width=\"1.5\" stroke-linejoin=\"round\"/>"
         ));
     }
 
