@@ -37,7 +37,7 @@ score 598: 30 words out of 12713
 ";
 
 fn job(turns: usize, pages: usize) -> Job {
-    Job::new(&Arguments { turns, pages, ..Arguments::default() }).expect("the default grid and words")
+    Job::new(&Arguments { pages, turns, ..Arguments::default() }).expect("the default grid and words")
 }
 
 fn large(turns: usize) -> Job {
@@ -103,7 +103,7 @@ fn a_longer_search_is_no_worse() {
 #[test]
 fn everything_is_tried_in_a_tiny_grid() {
     let grid = Grid::parse(". . .\n. # .\n. . .").expect("a grid");
-    let words = Words::parse("cat 5\ncow 6\ntip 7\nwig 1\nwip 2\npat 90").expect("words");
+    let words = Words::parse("cat 5\ncow 6\ntip 7\nwig 1\npat 90").expect("words");
     let job = Job { grid, words, ..job(1_000, 32) };
     let done = run(&job);
     assert_eq!((done.stop, done.best.is_none()), (Stop::Tried, true));
@@ -161,7 +161,7 @@ fn spans_are_one_field_and_neighbours_have_other_colours() {
     let svg = picture::svg(&done.pages);
     let medium = ">29552</text>";
     assert_eq!(svg.matches(medium).count(), 1, "a span of four pages has one label");
-    assert!(picture::text(&done.pages).contains("-"));
+    assert!(picture::text(&done.pages).contains('-'));
     let legend = svg.rsplit("class=\"size\"").next().expect("the legend comes last");
     let colours: Vec<&str> = legend.split(" fill=\"#").skip(1).map(|rest| &rest[..6]).collect();
     let parts = |colour: &str| [0, 2, 4].map(|at| i32::from_str_radix(&colour[at..at + 2], 16).expect("a colour"));

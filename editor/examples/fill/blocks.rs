@@ -29,7 +29,7 @@ impl Class {
     pub fn for_size(bytes: usize) -> Option<Class> {
         match bytes {
             0..=16_384 => Some(Class(Kind::Small, class_for_size(bytes as u64))),
-            ..=Class::MAX_BYTES => Some(Class(Kind::Medium, medium_class_for_size(bytes as u64))),
+            16_385..=Class::MAX_BYTES => Some(Class(Kind::Medium, medium_class_for_size(bytes as u64))),
             _ => None,
         }
     }

@@ -1,5 +1,9 @@
 //! The parts of the fill example. `fill.rs` runs them from the command line, `tests/fill.rs` one by one.
 
+// Pages, bytes and turns of an arena that is in memory are far below the limits of `usize` and `u32`.
+#![allow(clippy::cast_possible_truncation)]
+#![allow(clippy::similar_names)]
+
 pub mod arguments;
 pub mod bits;
 pub mod blocks;

@@ -3,7 +3,7 @@
 use std::collections::BTreeMap;
 
 use super::blocks::PAGE_BYTES;
-use super::pages::{Holder, Page, Pages};
+use super::pages::{Holder, Pages};
 use super::svg::{Colour, Rect, Svg, WHITE};
 
 /// Pages in a row.
@@ -11,6 +11,15 @@ const ROW: usize = 16;
 
 /// A letter for each page, sixteen to a line, those of a span or run joined by a dash, and what they stand for.
 pub fn text(pages: &Pages) -> String {
+    let symbols = symbols(pages);
+    let rows = (0..pages.all().len()).step_by(ROW).map(|row| text_row(pages, &symbols, row));
+    let entry =
+        |(holder, number): (Holder, usize)| format!("    {} {:32}{number:>4}\n", symbols[&holder], holder.name());
+    let legend = pages.holders().into_iter().map(entry);
+    std::iter::once(format!("{}\n", title(pages))).chain(rows).chain(legend).collect()
+}
+
+fn symbols(pages: &Pages) -> BTreeMap<Holder, char> {
     let mut letters = ('a'..='z').chain('A'..='Z').chain('0'..='9').cycle();
     let mut symbol = |holder| match holder {
         Holder::Direct => '=',
@@ -18,20 +27,16 @@ pub fn text(pages: &Pages) -> String {
         Holder::Fresh => '.',
         Holder::Class(..) => letters.next().expect("the letters go round"),
     };
-    let symbols: BTreeMap<Holder, char> = pages.holders().iter().map(|&(holder, _)| (holder, symbol(holder))).collect();
-    let mut text = format!("{}\n", title(pages));
-    for (page, Page { holder, .. }) in pages.all().iter().enumerate() {
-        if page % ROW == 0 {
-            text += &format!("{page:>5}  ");
-        }
-        text.push(symbols[holder]);
-        let last = page % ROW == ROW - 1 || page + 1 == pages.all().len();
-        text.push(if last { '\n' } else { [' ', '-'][usize::from(pages.joined(page))] });
-    }
-    for (holder, number) in pages.holders() {
-        text += &format!("    {} {:32}{number:>4}\n", symbols[&holder], holder.name());
-    }
-    text
+    pages.holders().iter().map(|&(holder, _)| (holder, symbol(holder))).collect()
+}
+
+fn text_row(pages: &Pages, symbols: &BTreeMap<Holder, char>, first: usize) -> String {
+    let symbol = |page: usize| {
+        let before = if page > first && pages.joined(page - 1) { '-' } else { ' ' };
+        [before, symbols[&pages.all()[page].holder]]
+    };
+    let row: String = (first..pages.all().len().min(first + ROW)).flat_map(symbol).collect();
+    format!("{first:>5} {row}\n")
 }
 
 fn title(pages: &Pages) -> String {

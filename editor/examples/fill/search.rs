@@ -136,7 +136,7 @@ impl<'a> Search<'a> {
         };
         match flow {
             ControlFlow::Continue(()) => self.turn_back(store, limit),
-            stop => Ok(stop),
+            ControlFlow::Break(end) => Ok(ControlFlow::Break(end)),
         }
     }
 
@@ -194,9 +194,10 @@ impl<'a> Search<'a> {
         let word = &self.list(slot)[number];
         self.standing[slot] = Some(number);
         let mut before = Vec::new();
-        let flow = match self.narrow(store, slot, &word.letters, &mut before)? {
-            true => self.descend(store, score + u32::from(word.score), limit)?,
-            false => stop(store, Stop::Full)?,
+        let flow = if self.narrow(store, slot, &word.letters, &mut before)? {
+            self.descend(store, score + u32::from(word.score), limit)?
+        } else {
+            stop(store, Stop::Full)?
         };
         for (other, domain) in before {
             let narrowed = std::mem::replace(&mut self.domains[other], domain);
@@ -300,9 +301,10 @@ impl<'a> Search<'a> {
         self.history.note(store, self.turns, standing)?;
         let (turns, best) = (self.turns, self.best_score);
         (limit.watch)(&Progress { turns, standing, best, blocks_out: store.tally().out });
-        match turns < limit.turns {
-            true => Ok(ControlFlow::Continue(())),
-            false => stop(store, Stop::Turns),
+        if turns < limit.turns {
+            Ok(ControlFlow::Continue(()))
+        } else {
+            stop(store, Stop::Turns)
         }
     }
 
