@@ -8,8 +8,7 @@ use mathlib.Core.Bool.{Bool, true, false, cond, not, _&&_, _||_}
 use lib.Dec.{eqb, leb, ltb}
 use Rattle.fields.specs.Field.{arena, page, owner, size, state, frontier, holes, holePages, held, commits, commitsHigh, reuses, reusesHigh, abandoned, abandonedHigh, get, put}
 use Rattle.model.specs.Lists.{every, below}
-use Rattle.model.specs.Chunks.{hostMax}
-use Rattle.model.specs.Heap.{badRun, direct}
+use Rattle.model.specs.Heap.{badRun, badGrowth, direct}
 use Rattle.model.specs.Arena as Model
 use Rattle.model.specs.Arena.{Arena, Given, Grown}
 use Rattle.arena.specs.Load.{loadArena, wide}
@@ -44,9 +43,9 @@ commitFor n b h m w =
 unfoldable pub given : List ℕ → ℕ → ℕ → List ℕ
 given b q m = put (own (storeArena b (Model.give m q (loadArena b))) q m 0) (arena held) (get b (arena held) - m)
 
--- ---- the direct calls, from number 3 on
+-- ---- the direct calls, from number 6 on
 unfoldable pub commitCall : ℕ → List ℕ → ℕ → ℕ → Committed
-commitCall n b h m = cond (ltb hostMax h) (commitRefused b 3) (cond (badRun m) (commitRefused b 6) (commitFor n b h m (ownerCode direct)))
+commitCall n b h m = cond (badRun m) (commitRefused b 6) (commitFor n b h m (ownerCode direct))
 
 -- number 12: the run lies below LENGTH and FRONTIER, and each page of it says that the direct calls hold it
 unfoldable pub everyDirect : List ℕ → ℕ → ℕ → Bool
@@ -74,19 +73,17 @@ grownBook b g e m = put (ownRun (advance b (g .arena)) (grownBy (g .grew) e) m (
 unfoldable pub growCall : ℕ → List ℕ → ℕ → ℕ → ℕ → ℕ → Done
 growCall n b h q old new =
     let g = Model.grow n h (q + old) (new - old) (loadArena b) in
-    cond (ltb hostMax h) (doneRefused b 3)
-    (cond (badRun old || (badRun new || leb new old)) (doneRefused b 6)
+    cond (badGrowth old new) (doneRefused b 6)
     (cond (not (heldDirect n b q old)) (doneRefused b 12)
     (cond (not (recordFair n b)) (doneRefused b 13)
-    (record { code = 0; book = grownBook b g (q + old) (new - old); yes = g .grew }))))
+    (record { code = 0; book = grownBook b g (q + old) (new - old); yes = g .grew })))
 
-unfoldable pub releaseCall : ℕ → List ℕ → ℕ → ℕ → ℕ → Done
-releaseCall n b h q m =
-    cond (ltb hostMax h) (doneRefused b 3)
-    (cond (badRun m) (doneRefused b 6)
+unfoldable pub releaseCall : ℕ → List ℕ → ℕ → ℕ → Done
+releaseCall n b q m =
+    cond (badRun m) (doneRefused b 6)
     (cond (not (heldDirect n b q m)) (doneRefused b 12)
     (cond (not (giveFair n b m)) (doneRefused b 13)
-    (record { code = 0; book = given b q m; yes = true }))))
+    (record { code = 0; book = given b q m; yes = true })))
 
 unfoldable pub containsCall : ℕ → List ℕ → ℕ → ℕ → Bool
 containsCall n b o k = Model.contains n o k (loadArena b)

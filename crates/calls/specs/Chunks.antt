@@ -11,7 +11,7 @@ use Rattle.classes.specs.declared.Shape.{Shape}
 use Rattle.fields.specs.Field.{arena, class, page, frontier, emptyCount, coldCount, free, carved, get, put}
 use Rattle.model.specs.Lists.{isNil, filter, every, elem, distinct}
 use Rattle.model.specs.Release.{ofKind}
-use Rattle.model.specs.Chunks.{chunksMax, hostMax}
+use Rattle.model.specs.Chunks.{chunksMax}
 use Rattle.arena.specs.Fair.{giveFair}
 use Rattle.arena.specs.Calls as Arena
 use Rattle.pages.specs.Runs.{flag}
@@ -102,7 +102,3 @@ releaseChunks n b c sh h ws gs fs =
     (cond (not (chunksFair n b c sh gs)) (chunksNone b fs 13)
     (let s = settleChunks b c sh h ws gs in
     record { code = 0; book = giveRuns (s .book) (sh .pages) (s .gives); fates = s .fates ++ drop (length gs) fs }))))))
-
--- from number 3 on
-unfoldable pub chunksCall : ℕ → List ℕ → ℕ → Shape → ℕ → List ℕ → List ℕ → List ℕ → ChunksReleased
-chunksCall n b c sh h ws gs fs = cond (ltb hostMax h) (chunksNone b fs 3) (releaseChunks n b c sh h ws gs fs)

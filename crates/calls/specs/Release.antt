@@ -17,7 +17,6 @@ use Rattle.fields.specs.Field.{arena, class, page, out, frontier, partial, empt
 use Rattle.model.specs.Lists.{every, distinct, isNil}
 use Rattle.model.specs.Page.{pageGranules, isMedium}
 use Rattle.model.specs.Release.{ofKind, coldFate}
-use Rattle.model.specs.Chunks.{hostMax}
 use Rattle.arena.specs.Fair.{giveFair}
 use Rattle.arena.specs.Calls as Arena
 use Rattle.pages.specs.Runs.{whole}
@@ -141,7 +140,3 @@ releaseBlocks n b c sh h ws =
     (cond (not (every (λ w. eqb (startOf b w) q) ws)) (releasedNone b 11)
     (cond (not (releaseFair n b c sh (length ws) q)) (releasedNone b 13)
     (lastStep sh q (giveBackAt b c sh h q (map (indexOf sh q) ws)))))))
-
--- from number 3 on
-unfoldable pub releaseCall : ℕ → List ℕ → ℕ → Shape → ℕ → List ℕ → Released
-releaseCall n b c sh h ws = cond (ltb hostMax h) (releasedNone b 3) (releaseBlocks n b c sh h ws)

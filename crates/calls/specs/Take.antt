@@ -15,7 +15,6 @@ use Rattle.classes.specs.declared.Shape.{Shape}
 use Rattle.fields.specs.Field.{arena, class, page, frontier, partial, empty, cold, next, prev, free, carved, listed, virgin, get, put}
 use Rattle.model.specs.Lists.{every}
 use Rattle.model.specs.Page.{wordOf}
-use Rattle.model.specs.Chunks.{hostMax}
 use Rattle.arena.specs.Calls.{Committed, commitFor}
 use Rattle.pages.specs.Runs.{whole}
 use Rattle.pages.specs.Stack.{tops, latest, draw, hasMore}
@@ -120,6 +119,6 @@ takeBlocks n b c sh h l =
     (cond (not (eqb (get b (class cold c)) 0)) (fromPark n b c sh Cold l)
     (takeNew n b c sh h l))))
 
--- a class's take from number 3 on
+-- a class's take from number 5 on
 unfoldable pub takeCall : ℕ → List ℕ → ℕ → Shape → ℕ → List ℕ → Took
-takeCall n b c sh h l = cond (ltb hostMax h) (tookNone b l 3) (cond (ltb (length l) (sh .batch)) (tookNone b l 5) (takeBlocks n b c sh h l))
+takeCall n b c sh h l = cond (ltb (length l) (sh .batch)) (tookNone b l 5) (takeBlocks n b c sh h l)

@@ -21,10 +21,10 @@ use Rattle.fields.specs.Ranges.{maxPages}
 use Rattle.fields.proofs.Changes.{Changes}
 use Rattle.model.specs.Lists.{every, distinct, isNil}
 use Rattle.model.specs.Release.{ofKind}
-use Rattle.model.specs.Chunks.{chunksMax, hostMax}
+use Rattle.model.specs.Chunks.{chunksMax}
 use Rattle.model.proofs.Counts.{by-cases, and-l, and-r}
 use Rattle.calls.specs.Release.{inRunOf, outAt}
-use Rattle.calls.specs.Chunks.{chunksMatch, chunksFair, settleChunks, ChunksReleased, chunksNone, releaseChunks, chunksCall}
+use Rattle.calls.specs.Chunks.{chunksMatch, chunksFair, settleChunks, ChunksReleased, chunksNone, releaseChunks}
 use Rattle.release.specs.Strike.{bitOf, struckCount, unstruck}
 use Rattle.release.specs.Asks.{RestoreAsks, Struck}
 use Rattle.release.proofs.Bits.{isBit, every-same, in-run-kept}
@@ -209,14 +209,6 @@ module _ (n : ℕ) (b : List ℕ) (c : ℕ) (sh : Shape) (h : ℕ) where
 
               pub strike-asks : t ≡ true → CallAsks n b c sh → StrikeAsks n b c sh ws gs fs
               strike-asks e a = record { call = a; some = both-some x y; chunks = u; fates = v; kinds = rw (← i, p, ← j, e) }
-
-    pub bad-host : 15 < h → ChunksAnswered 3 b fs (chunksCall n b c sh h ws gs fs)
-    unfolding chunksCall
-    bad-host l = rw (lt-ltb hostMax h l) (record { answer = refl; left = refl; fates = refl })
-
-    pub good-host : (r : ℕ) (b′ fs′ : List ℕ) → h ≤ 15 → ChunksAnswered r b′ fs′ (releaseChunks n b c sh h ws gs fs) → ChunksAnswered r b′ fs′ (chunksCall n b c sh h ws gs fs)
-    unfolding chunksCall
-    good-host r b′ fs′ l a = rw (le-ltb hostMax h l) a
 
 -- ---- the classes that have group releases
 pub small-asks : (n : ℕ) (b : List ℕ) (c : ℕ) → c < 64 → n ≤ maxPages → words n ≤ length b → CallAsks n b c (shapeOf c)

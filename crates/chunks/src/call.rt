@@ -1,5 +1,5 @@
 // A group release: the numbers in their order, each over both lists, and then the passes. A refusal leaves every word as it was.
-ghost use Rattle.calls.specs.Chunks.{releaseChunks, chunksCall};
+ghost use Rattle.calls.specs.Chunks.{releaseChunks};
 ghost use Rattle.chunks.specs.CallAsks.{placed, settledTo, passes, CallAsks, StrikeAsks, StruckAsks, SettleAsks, ChunksAnswered};
 use super::fair::chunks_fair;
 use super::gives::give_chunks;
@@ -83,7 +83,7 @@ fn strike_chunks(
 }
 
 // Numbers 7, 8 and 9, and those after them.
-fn release_chunks(
+pub fn release_chunks(
     meta: &mut [u32],
     n: u32,
     c: u32,
@@ -115,24 +115,4 @@ fn release_chunks(
         return 9;
     }
     9
-}
-
-// From number 3 on.
-pub fn chunks_call(
-    meta: &mut [u32],
-    n: u32,
-    c: u32,
-    shape: Shape,
-    host: u32,
-    list: &[u32],
-    chunks: &[u32],
-    fates: &mut [u32],
-) -> u32
-    requires { ⌜ CallAsks n (now meta) c shape ⌝ }
-    ensures { λ r. ⌜ ChunksAnswered r (now (meta .exit)) (now (fates .exit)) (chunksCall n (now (meta .entry)) c shape host (now (list .entry)) (now (chunks .entry)) (now (fates .entry))) ⌝ }
-{
-    if host > 15 {
-        return 3;
-    }
-    release_chunks(meta, n, c, shape, host, list, chunks, fates)
 }

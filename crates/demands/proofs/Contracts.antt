@@ -7,10 +7,10 @@ use mathlib.Core.Bool.{Bool, true, false}
 use mathlib.Core.List.{List, [], _∷_}
 use mathlib.Core.Option.{Option, none, some}
 use mathlib.Core.Path.{_≡_, refl, sym, ap, ap₂, _∙_, subst}
-use lib.Dec.{eqb, leb, ltb}
+use lib.Dec.{eqb, leb}
 use lib.ListN.{length}
 use borrow.Author.Tests.{eqb-true, ne-eqb, leb-true}
-use Rattle.words.specs.Host.{digit}
+use Rattle.words.specs.Host.{digit, badHost}
 use Rattle.fields.specs.Field.{arena, size, state, frontier, holePages, get}
 use Rattle.fields.specs.Ranges.{maxPages, metaFault}
 use Rattle.fields.specs.Outcome.{Did}
@@ -18,7 +18,6 @@ use Rattle.model.specs.declared.Hole.{Hole}
 use Rattle.model.specs.Lists.{every}
 use Rattle.model.specs.Calls as Calls
 use Rattle.model.specs.Calls.{Call, taken, fate}
-use Rattle.model.specs.Chunks.{hostMax}
 use Rattle.model.specs.HoleStore.{holeAt}
 use Rattle.model.specs.Heap.{answerRun, badRun}
 use Rattle.model.specs.BestFit.{Commits, from-hole, from-frontier, unusable, ungranted, exhausted}
@@ -32,6 +31,7 @@ use Rattle.release.specs.Act.{answerAs}
 use Rattle.runs.specs.Answer as Runs
 use Rattle.runs.specs.Answer.{commitCode}
 use Rattle.direct.specs.Answer.{grownAs, growCode, reportOf}
+use Rattle.vigbuso.specs.Faults.{callFault}
 use Rattle.vigbuso.specs.Direct.{openOn, commitOn, firstOut, freshOut, grownOut, reportOn, ReportEnds}
 use Rattle.vigbuso.specs.Blocks.{codeOut, countOut, virginOut, releaseCode, fateOut}
 use Rattle.refinement.specs.Direct.{Reply, reply, reportedOf}
@@ -110,16 +110,16 @@ sized b u = room-of (get b (arena size)) b (eqb-true (metaFault b) 0 u) .few-pag
 
 -- ---- the calls
 commit-low : (b : List ℕ) (h m p : ℕ) → commitOn b h m .code ≡ 0 → commitOn b h m .run ≡ some p → eqb p 4294967295 ≡ false
-unfolding commitOn commitCall commitFor
+unfolding commitOn commitCall commitFor callFault
 commit-low b h m p c e =
     by-cases (eqb (metaFault b) 0)
-    (λ u. by-cases (ltb hostMax h) (λ v. absurd (none-some (rw (u, v) at e))) (λ v.
+    (λ u. by-cases (badHost h) (λ v. absurd (none-some (rw (u, v) at e))) (λ v.
     by-cases (badRun m) (λ w. absurd (none-some (rw (u, v, w) at e))) (λ w.
     by-cases (commitFair (get b (arena size)) b m)
     (λ x. let z : p ≤ get b (arena size) = run-low (get b (arena size)) b m x (commits (get b (arena size)) h m (loadArena b)) p (rw (u, v, w, x) at e) in
     ne-eqb p 4294967295 (λ y. omega (arith, y, z, sized b u)))
     (λ x. absurd (none-some (rw (u, v, w, x) at e))))))
-    (λ u. absurd (none-some (rw u at e)))
+    (λ u. absurd (none-some (rw (u, u) at e)))
 
 report-says : (b fs fs′ : List ℕ) (r : ℕ) → ReportEnds (reportOn b) r fs fs′ → reply r (reportedOf fs′) b ≡ call b Calls.report
 unfolding call reportOn reportOf

@@ -12,17 +12,18 @@ use mathlib.Core.Path.{_≡_, refl, sym, _∙_}
 use lib.Dec.{ltb}
 use lib.ListN.{length}
 use borrow.Author.Tests.{le-ltb}
+use Rattle.words.specs.Host.{hostMax, badHost}
 use Rattle.classes.specs.declared.Shape.{Shape}
 use Rattle.classes.specs.Shape.{shapeOf}
 use Rattle.model.specs.Lists.{isNil}
 use Rattle.model.specs.Calls as Calls
-use Rattle.model.specs.Calls.{Call, Named, names, hostOf, Request, blocksOf, isRefused}
+use Rattle.model.specs.Calls.{Call, Named, names, hostIn, wayOf, hostOf, Request, blocksOf, isRefused}
 use Rattle.model.specs.Page.{Page}
 use Rattle.model.specs.Arena as Arenas
 use Rattle.model.specs.Arena.{Arena}
 use Rattle.model.specs.Class.{Class, Cold, Result, Ask, done, asks, serve, takeFrom}
 use Rattle.model.specs.Release.{Site, onPage, releaseList}
-use Rattle.model.specs.Chunks.{releaseChunks, answer, hostMax}
+use Rattle.model.specs.Chunks.{releaseChunks, answer}
 use Rattle.model.specs.Heap.{badRun, runWith, asked, offer, finish, interact, classCall, commitCall, directCall, step}
 use Rattle.model.specs.History.{heapAfter}
 use Rattle.model.specs.BestFit.{Commits, Remembers, from-hole, from-frontier, unusable, ungranted, exhausted}
@@ -80,9 +81,8 @@ module _ (sh : Shape) (m : ℕ) (k : Option ℕ → Result) where
   answer-spent : (s : Class) (h : ℕ) (l : List ℕ) → answer sh s (Calls.take h l) ≡ asks m k → Spent s
   unfolding answer
   answer-spent s h l e =
-      by-cases (ltb hostMax h) (λ t. absurd (done-asks (rw t at e)))
-      (λ t. by-cases (ltb (length l) (sh .batch)) (λ u. absurd (done-asks (rw (t, u) at e)))
-      (λ u. let r = take-spent l (s .partial) (s .empty) (s .cold) (s .full) (rw (t, u) at e) in record { partial = r .0; empty = r .1; cold = r .2 }))
+      by-cases (ltb (length l) (sh .batch)) (λ u. absurd (done-asks (rw u at e)))
+      (λ u. let r = take-spent l (s .partial) (s .empty) (s .cold) (s .full) (rw u at e) in record { partial = r .0; empty = r .1; cold = r .2 })
 
 -- ---- what the arena answers it
 some-none : {q : ℕ} → _≡_ {A = Option ℕ} (some q) none → ⊥
@@ -132,7 +132,7 @@ module _ (n : ℕ) (b : List ℕ) (o : Opens n b) (xs : List Call) where
   memory-fits = rw loads (best-fit n xs .remembers)
 
   pub commit-fits : (h m : ℕ) → h ≤ hostMax → badRun m ≡ false → CommitFits n h m (loadArena (bookAfter n b xs)) (next n b xs (Calls.commit h m) .answer)
-  unfolding step directCall commitCall
+  unfolding step wayOf directCall commitCall
   commit-fits h m low good = record {
     run = Arenas.commit n h m (heapAfter n xs .arena) .run;
     fresh = Arenas.commit n h m (heapAfter n xs .arena) .fresh;
@@ -142,20 +142,25 @@ module _ (n : ℕ) (b : List ℕ) (o : Opens n b) (xs : List Call) where
 
   pub run-fits : (x : Call) (d : Named) → names x ≡ some d
       → RunFits n (hostOf (d .request)) (shapeOf (d .class) .pages) (loadArena (bookAfter n b xs)) (step n (heapAfter n xs) x .run)
-  unfolding step classCall interact finish
+  unfolding step wayOf classCall interact finish
   run-fits x d e =
-      rw (e, loads) (offer-fits n (hostOf (d .request)) (shapeOf (d .class) .pages) (heapAfter n xs .arena) (best-fit n xs .commits (hostOf (d .request)) (shapeOf (d .class) .pages))
+      by-cases (badHost (hostIn x)) (λ t. rw t nothing) λ t.
+      rw (t, e, loads) (offer-fits n (hostOf (d .request)) (shapeOf (d .class) .pages) (heapAfter n xs .arena) (best-fit n xs .commits (hostOf (d .request)) (shapeOf (d .class) .pages))
       (answer-asks (shapeOf (d .class)) (heapAfter n xs .classes (d .class)) (d .request)))
 
   -- the answer to a take is the class's, after what the arena gives it
   module _ (x : Call) (c h : ℕ) (l : List ℕ) (e : names x ≡ some (record { class = c; request = Calls.take h l })) where
-    served : next n b xs x .answer ≡ serve (takeAsk n xs c h l) (offer n h (heapAfter n xs .arena) (takeAsk n xs c h l) .run) .answer
-    unfolding step classCall interact finish
-    served = next-agrees n b o xs x .answer ∙ rw e
+    good-host : next n b xs x .code ≡ 0 → badHost (hostIn x) ≡ false
+    unfolding callReply wayOf
+    good-host z = by-cases (badHost (hostIn x)) (λ t. absurd (let y = rw (next-is n b o xs x, t) at z in omega arith)) (λ t. t)
 
-    unrefused : next n b xs x .code ≡ 0 → isRefused (next n b xs x .answer) ≡ false
-    unfolding callReply
-    unrefused z = rw (next-is n b o xs x, e) (taken-unrefused (takeCall n (bookAfter n b xs) c (shapeOf c) h l) (rw (next-is n b o xs x, e) at z))
+    served : badHost (hostIn x) ≡ false → next n b xs x .answer ≡ serve (takeAsk n xs c h l) (offer n h (heapAfter n xs .arena) (takeAsk n xs c h l) .run) .answer
+    unfolding step wayOf classCall interact finish
+    served t = next-agrees n b o xs x .answer ∙ rw (t, e)
+
+    unrefused : badHost (hostIn x) ≡ false → next n b xs x .code ≡ 0 → isRefused (next n b xs x .answer) ≡ false
+    unfolding callReply wayOf
+    unrefused t z = rw (next-is n b o xs x, t, e) (taken-unrefused (takeCall n (bookAfter n b xs) c (shapeOf c) h l) (rw (next-is n b o xs x, t, e) at z))
 
     spent : {A : Type 0} {m : ℕ} {a : Arena} → A ⊎ (((k : Option ℕ → Result) × (takeAsk n xs c h l ≡ asks m k)) × Commits n h m a none false)
         → A ⊎ (Spent (heapAfter n xs .classes c) × Commits n h m a none false)
@@ -165,6 +170,7 @@ module _ (n : ℕ) (b : List ℕ) (o : Opens n b) (xs : List Call) where
     pub take-yields : next n b xs x .code ≡ 0
         → (isNil (blocksOf (next n b xs x .answer)) ≡ false) ⊎ (Spent (heapAfter n xs .classes c) × Commits n h (shapeOf c .pages) (loadArena (bookAfter n b xs)) none false)
     take-yields z =
-        rw (loads, served)
+        let t = good-host z in
+        rw (loads, served t)
         (spent (offer-yields n h (shapeOf c .pages) (heapAfter n xs .arena) (best-fit n xs .commits h (shapeOf c .pages)) (answer-asks (shapeOf c) (heapAfter n xs .classes c) (Calls.take h l))
-        (yielding n xs .takes c h l) (rw served at (unrefused z))))
+        (yielding n xs .takes c h l) (rw (served t) at (unrefused t z))))

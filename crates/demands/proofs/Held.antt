@@ -8,10 +8,10 @@ use mathlib.Core.Logic.{_↔_}
 use mathlib.Core.Path.{_≡_, refl, sym, _∙_}
 use lib.Dec.{eqb, leb}
 use borrow.Author.Tests.{eqb-true, le-leb, le-ltb}
+use Rattle.words.specs.Host.{hostMax}
 use Rattle.model.specs.Lists.{every, below}
 use Rattle.model.specs.Calls as Calls
-use Rattle.model.specs.Calls.{Call, isRefused}
-use Rattle.model.specs.Chunks.{hostMax}
+use Rattle.model.specs.Calls.{Call, wayOf, isRefused}
 use Rattle.model.specs.Heap.{Holder, nobody, direct, class, isDirect, isHeld, badRun, heldDirect, releaseCall, directCall, step}
 use Rattle.model.specs.History.{heapAfter}
 use Rattle.model.specs.Entries.{directAfter}
@@ -70,11 +70,11 @@ module _ (n : ℕ) (xs : List Call) (h q m : ℕ) (low : h ≤ hostMax) (good : 
 
   -- with a host word and a run that are in order, the test of 12 decides
   step-held : heldDirect n (heapAfter n xs) q m ≡ true → isRefused (step n (heapAfter n xs) (Calls.release h q m) .answer) ≡ false
-  unfolding step directCall releaseCall
+  unfolding step wayOf directCall releaseCall
   step-held e = rw (le-ltb hostMax h low, good, e)
 
   step-not : heldDirect n (heapAfter n xs) q m ≡ false → isRefused (step n (heapAfter n xs) (Calls.release h q m) .answer) ≡ true
-  unfolding step directCall releaseCall
+  unfolding step wayOf directCall releaseCall
   step-not e = rw (le-ltb hostMax h low, good, e)
 
 module _ (n : ℕ) (b : List ℕ) (o : Opens n b) (xs : List Call) where

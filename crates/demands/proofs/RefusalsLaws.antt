@@ -57,6 +57,12 @@ module _ {R : Type 0} (code : R → ℕ) (Same : R → Type 0) where
     pub book-turn : (n : ℕ) (b : List ℕ) → Ends code Same ((1, badLength n) ∷ (2, tooShort n b) ∷ rows) (cond (eqb (lengthFault n (length b)) 0) o (x (lengthFault n (length b))))
     book-turn n b = rw (sized n, le-not-lt (words n) (length b)) (fault (badLength n) (tooShort n b))
 
+-- a test of number k after those of the number f: as numbers, and as the chain
+pub chain : {R : Type 0} (f k : ℕ) (t : Bool) (x : ℕ → R) (o : R) → eqb k 0 ≡ false
+    → cond (eqb (cond (eqb f 0) (cond t k 0) f) 0) o (x (cond (eqb f 0) (cond t k 0) f)) ≡ cond (eqb f 0) (cond t (x k) o) (x f)
+chain f k true x o d = by-cases (eqb f 0) (λ e. rw (e, d)) (λ e. rw (e, e))
+chain f k false x o d = by-cases (eqb f 0) (λ e. rw e) (λ e. rw (e, e))
+
 -- one row alone, where a choice is made before its test
 module _ {R : Type 0} (code : R → ℕ) (Same : R → Type 0) (k : ℕ) where
   pub choose : (t i j : Bool) (x y : R) → Ends code Same ((k, not i) ∷ []) x → Ends code Same ((k, not j) ∷ []) y → Ends code Same ((k, not (cond t i j)) ∷ []) (cond t x y)

@@ -5,13 +5,14 @@
 use Prim.Native.Nat.{ℕ, zero, suc, _+_, _-_, _*_, _^_, _≤_, _<_}
 use native.Mathlib.Omega.{arith}
 use native.Mathlib.Nat.{mul-le-mul-right}
-use mathlib.Core.Bool.{true, false, false≢true}
+use mathlib.Core.Bool.{Bool, true, false, false≢true}
 use mathlib.Core.List.{List, [], _∷_}
 use mathlib.Core.Logic.{_↔_}
-use mathlib.Core.Option.{Option, none, some}
-use mathlib.Core.Path.{_≡_, refl, sym}
+use mathlib.Core.Option.{Option, none, some, Option·none-ne-some}
+use mathlib.Core.Path.{_≡_, refl, sym, ap}
 use lib.Dec.{eqb, leb, ltb}
 use borrow.Author.Tests.{eq-eqb, eqb-true, leb-true, leb-false, ltb-true, ltb-false, le-ltb}
+use Rattle.words.specs.Host.{hostMax, badHost}
 use Rattle.words.specs.Word.{kindBits}
 use Rattle.words.proofs.RoundTrip.{kind-block}
 use Rattle.classes.specs.declared.Shape.{Shape}
@@ -21,11 +22,11 @@ use Rattle.classes.proofs.Shapes.{shape-sound}
 use Rattle.fields.specs.Ranges.{maxPages}
 use Rattle.model.specs.Lists.{All, total, every, isSome}
 use Rattle.model.specs.Calls as Calls
-use Rattle.model.specs.Calls.{Call, Named, names, Request, listOf, isRefused}
+use Rattle.model.specs.Calls.{Call, Named, named, names, hostIn, wayOf, hostOf, Request, listOf, isRefused}
 use Rattle.model.specs.Page.{Page, wordOf, wordsFrom, pageGranules, carvedWords, isOut}
 use Rattle.model.specs.Class.{Class, serve}
 use Rattle.model.specs.Release.{Site, locate, ofKind, outHere, onPage, releaseList}
-use Rattle.model.specs.Chunks.{answer, hostMax}
+use Rattle.model.specs.Chunks.{answer}
 use Rattle.model.specs.Heap.{offer, finish, interact, classCall, step}
 use Rattle.model.specs.History.{events, heapAfter}
 use Rattle.model.specs.Entries.{OutIn, AllOut}
@@ -37,13 +38,30 @@ use Rattle.model.proofs.Sites.{Tells, locate-tells, here-out}
 use Rattle.model.proofs.Accounts.{held-le}
 use Rattle.model.proofs.HeapLaws.{kept}
 use Rattle.model.proofs.Theorems.{outs}
-use Rattle.calls.specs.Release.{Released, releaseCall}
+use Rattle.calls.specs.Release.{Released, releaseBlocks}
 use Rattle.refinement.specs.Releases.{listReply}
 use Rattle.refinement.specs.Run.{classReply, callReply}
 use Rattle.demands.specs.Run.{Opens, bookAfter, next, told}
 use Rattle.demands.proofs.Calls.{room}
 use Rattle.demands.proofs.Histories.{next-is, next-agrees}
 use Rattle.demands.proofs.Told.{told-out, out-told}
+
+-- ---- a call of a class brings its request's host word
+named-host : (t : Bool) (c : ℕ) (r : Request) (d : Named) → named t c r ≡ some d → hostOf r ≡ hostOf (d .request)
+named-host true c r d e = let z : record { class = c; request = r } ≡ d = cc in ap (λ (x : Named). hostOf (x .request)) z
+named-host false c r d e = absurd (Option·none-ne-some d e)
+
+host-of : (x : Call) (d : Named) → names x ≡ some d → hostIn x ≡ hostOf (d .request)
+host-of (Calls.takeBlocks c h l) d e = named-host (ltb c 64) c _ d e
+host-of (Calls.mediumTakeBlocks c h l) d e = named-host (ltb c 12) (64 + c) _ d e
+host-of (Calls.releaseBlocks c h ws) d e = named-host (ltb c 64) c _ d e
+host-of (Calls.mediumReleaseBlocks c h ws) d e = named-host (ltb c 12) (64 + c) _ d e
+host-of (Calls.releaseBinChunks c h ws gs fs) d e = named-host (ltb c 64) c _ d e
+host-of (Calls.commit h m) d e = absurd (Option·none-ne-some d e)
+host-of (Calls.growFrontier h q old new) d e = absurd (Option·none-ne-some d e)
+host-of (Calls.release h q m) d e = absurd (Option·none-ne-some d e)
+host-of (Calls.contains o k) d e = absurd (Option·none-ne-some d e)
+host-of Calls.report d e = absurd (Option·none-ne-some d e)
 
 -- ---- a page
 module _ (sh : Shape) (ok : Sound sh) where
@@ -86,9 +104,9 @@ module _ (sh : Shape) (s : Class) (w h : ℕ) where
   page-unrefused none t e g = absurd (false≢true e)
   page-unrefused (some x) t e g = rw t
 
-  alone-unrefused : h ≤ hostMax → ofKind (sh .kind) w ≡ true → outHere sh s w ≡ true → (g : Option ℕ) → isRefused (serve (answer sh s (Calls.giveBack h (w ∷ []))) g .answer) ≡ false
+  alone-unrefused : ofKind (sh .kind) w ≡ true → outHere sh s w ≡ true → (g : Option ℕ) → isRefused (serve (answer sh s (Calls.giveBack h (w ∷ []))) g .answer) ≡ false
   unfolding answer releaseList outHere
-  alone-unrefused low kind e g = rw (le-ltb hostMax h low, kind, e) (page-unrefused (locate (isOut sh w) s) (locate-tells (isOut sh w) s) e g)
+  alone-unrefused kind e g = rw (kind, e) (page-unrefused (locate (isOut sh w) s) (locate-tells (isOut sh w) s) e g)
 
 -- ---- the heap after a history
 module _ (n : ℕ) (small : n ≤ maxPages) (xs : List Call) where
@@ -115,10 +133,10 @@ module _ (n : ℕ) (small : n ≤ maxPages) (xs : List Call) where
 
   step-returns : (c w : ℕ) → OutIn (events n xs) c w → (x : Call) (h : ℕ) → h ≤ hostMax
       → names x ≡ some (record { class = c; request = Calls.giveBack h (w ∷ []) }) → isRefused (step n (heapAfter n xs) x .answer) ≡ false
-  unfolding step classCall interact finish
+  unfolding step wayOf classCall interact finish
   step-returns c w o x h low d =
       let e = outs n xs .out c w .1 o in
-      rw d (alone-unrefused (shapeOf c) (class c) w h low (out-kind c w e) e (offer n h (heapAfter n xs .arena) (answer (shapeOf c) (class c) (Calls.giveBack h (w ∷ []))) .run))
+      rw (host-of x _ d, le-ltb hostMax h low, d) (alone-unrefused (shapeOf c) (class c) w h (out-kind c w e) e (offer n h (heapAfter n xs .arena) (answer (shapeOf c) (class c) (Calls.giveBack h (w ∷ []))) .run))
 
 -- ---- on the words
 list-unrefused : (w : Released) → isRefused (listReply w .answer) ≡ false → listReply w .code ≡ 0
@@ -131,19 +149,21 @@ class-unrefused n b c (Calls.giveChunks h ws gs fs) e = rw e
 
 module _ (n : ℕ) (b : List ℕ) (o : Opens n b) (xs : List Call) where
   pub list-out : (x : Call) (d : Named) → names x ≡ some d → next n b xs x .code ≡ 0 → AllOut (told n b xs) (d .class) (listOf (d .request))
-  unfolding callReply
+  unfolding callReply wayOf
   list-out x d e z =
-      let u : isRefused (next n b xs x .answer) ≡ false = rw (next-is n b o xs x, e) (class-unrefused n (bookAfter n b xs) (d .class) (d .request) (rw (next-is n b o xs x, e) at z)) in
+      by-cases (badHost (hostIn x)) (λ t. absurd (let y = rw (next-is n b o xs x, t) at z in omega arith)) λ t.
+      let u : isRefused (next n b xs x .answer) ≡ false = rw (next-is n b o xs x, t, e) (class-unrefused n (bookAfter n b xs) (d .class) (d .request) (rw (next-is n b o xs x, t, e) at z)) in
       let r = outs n xs .released x d e (rw (next-agrees n b o xs x .answer) at u) in
       record { out = λ w m. out-told n b o xs (d .class) w (r .out w m); once = r .once }
 
   out-returns : (c w : ℕ) → OutIn (told n b xs) c w → (x : Call) (h : ℕ) → h ≤ hostMax
       → names x ≡ some (record { class = c; request = Calls.giveBack h (w ∷ []) }) → next n b xs x .code ≡ 0
-  unfolding callReply
+  unfolding callReply wayOf
   out-returns c w e x h low d =
+      let t : badHost (hostIn x) ≡ false = rw (host-of x _ d) (le-ltb hostMax h low) in
       let r = step-returns n (room n b o .few-pages) xs c w (told-out n b o xs c w e) x h low d in
       let z : isRefused (next n b xs x .answer) ≡ false = rw (next-agrees n b o xs x .answer) r in
-      rw (next-is n b o xs x, d) (list-unrefused (releaseCall n (bookAfter n b xs) c (shapeOf c) h (w ∷ [])) (rw (next-is n b o xs x, d) at z))
+      rw (next-is n b o xs x, t, d) (list-unrefused (releaseBlocks n (bookAfter n b xs) c (shapeOf c) h (w ∷ [])) (rw (next-is n b o xs x, t, d) at z))
 
   pub word-returns : (c w : ℕ) (x : Call) (h : ℕ) → h ≤ hostMax → names x ≡ some (record { class = c; request = Calls.giveBack h (w ∷ []) })
       → (next n b xs x .code ≡ 0) ↔ OutIn (told n b xs) c w

@@ -6,6 +6,7 @@ use mathlib.Core.List.{List, [], _∷_}
 use mathlib.Core.Logic.{_⊎_, _↔_}
 use mathlib.Core.Option.{Option, none, some}
 use mathlib.Core.Path.{_≡_}
+use Rattle.words.specs.Host.{hostMax}
 use Rattle.classes.specs.Shape.{shapeOf}
 use Rattle.model.specs.declared.Hole.{Hole}
 use Rattle.model.specs.Lists.{isNil}
@@ -14,7 +15,6 @@ use Rattle.model.specs.Calls.{Call, Answer, Named, names, hostOf, listOf, block
 use Rattle.model.specs.HoleStore.{hole}
 use Rattle.model.specs.Arena.{Arena}
 use Rattle.model.specs.Class.{Class}
-use Rattle.model.specs.Chunks.{hostMax}
 use Rattle.model.specs.Heap.{badRun, answerRun, step}
 use Rattle.model.specs.History.{answers, events, heapAfter, callsOf, answersOf, runsOf}
 use Rattle.model.specs.Entries.{OutIn, AllOut, directAfter}

@@ -13,7 +13,7 @@ use mathlib.Core.Path.{_≡_}
 use lib.Dec.{eqb, ltb, leb}
 use lib.ListN.{length}
 use Rattle.words.specs.Word.{chunkKind}
-use Rattle.words.specs.Host.{digit}
+use Rattle.words.specs.Host.{badHost, digit}
 use Rattle.classes.specs.declared.Shape.{Shape}
 use Rattle.classes.specs.Shape.{shapeOf}
 use Rattle.classes.specs.Lookup.{classForSize, mediumClassForSize}
@@ -21,11 +21,11 @@ use Rattle.fields.specs.Field.{arena, size, words, get}
 use Rattle.fields.specs.Outcome.{Did}
 use Rattle.fields.specs.Ranges.{maxPages}
 use Rattle.model.specs.Lists.{isNil, every, distinct}
-use Rattle.model.specs.Heap.{badRun}
+use Rattle.model.specs.Heap.{badRun, badGrowth}
 use Rattle.model.specs.Release.{ofKind}
-use Rattle.model.specs.Chunks.{chunksMax, hostMax}
+use Rattle.model.specs.Chunks.{chunksMax}
 use Rattle.arena.specs.Calls.{heldDirect}
-use Rattle.direct.specs.Answer.{badGrowth, Releases}
+use Rattle.direct.specs.Answer.{Releases}
 use Rattle.calls.specs.Release.{startOf, outAt, firstOf}
 use Rattle.calls.specs.Chunks.{chunksMatch}
 use Rattle.vigbuso.specs.Direct as Direct
@@ -44,9 +44,7 @@ badLength n = eqb n 0 || ltb maxPages n
 abbrev pub tooShort : ℕ → List ℕ → Bool
 tooShort n b = ltb (length b) (words n)
 
--- 3. "The host word exceeds 15."
-abbrev pub badHost : ℕ → Bool
-badHost h = ltb hostMax h
+-- 3. "The host word exceeds 15.": `badHost`
 
 -- 4. "The class is 64 or more, medium 12 or more."
 abbrev pub noClass : ℕ → ℕ → Bool

@@ -9,10 +9,10 @@ use lib.Dec.{eqb, leb}
 use lib.ListN.{length, set, length-set}
 use mir.Val.{Fits}
 use mir.Syntax.{w32, w64}
-use borrow.Author.Tests.{lt-ltb, le-ltb, le-leb, lt-leb, leb-true, leb-false, eq-eqb, ne-eqb}
+use borrow.Author.Tests.{lt-ltb, le-leb, lt-leb, leb-true, leb-false, eq-eqb, ne-eqb}
 use Rattle.words.specs.Host.{commitGranted}
 use Rattle.fields.specs.Field.{arena, state, held, get}
-use Rattle.model.specs.Heap.{badRun}
+use Rattle.model.specs.Heap.{badRun, badGrowth}
 use Rattle.model.specs.Arena as Model
 use Rattle.model.proofs.Counts.{by-cases, and-l}
 use Rattle.arena.specs.declared.Arena.{Arena}
@@ -30,7 +30,7 @@ use Rattle.arena.specs.Calls.{commitFor, commitCall, given, heldDirect, release
 use Rattle.arena.specs.Act.{endNone, endRun, endGiven, settle, fromFrontier, growWith, growActs, ranYes, clamped}
 use Rattle.runs.specs.Asks.{GiveIn, BookIn}
 use Rattle.runs.specs.Answer.{answerOf, Answers}
-use Rattle.direct.specs.Answer.{grownAs, growCommit, Grew, Grows, fairGrow, badGrowth, Releases, heldRelease, figuresOf, reportOf}
+use Rattle.direct.specs.Answer.{grownAs, growCommit, Grew, Grows, fairGrow, Releases, heldRelease, figuresOf, reportOf}
 use Rattle.arena.proofs.Acts.{fair-record, grow-acts}
 use Rattle.arena.proofs.PlanLaws.{clamp-commit, clamp-grow, clamped-le}
 
@@ -174,22 +174,17 @@ module _ (n : ℕ) (b : List ℕ) (q m : ℕ) where
   unfolding heldRelease
   released-not t e v = rw (← e, v) (record { code = refl; book = refl })
 
-  module _ (h : ℕ) where
-    pub release-host : 15 < h → Releases 3 b (releaseCall n b h q m)
-    unfolding releaseCall
-    release-host l = rw (lt-ltb 15 h l) (record { code = refl; book = refl })
+  pub release-bad : (t : Bool) → t ≡ badRun m → t ≡ true → Releases 6 b (releaseCall n b q m)
+  unfolding releaseCall
+  release-bad t e v = rw (← e, v) (record { code = refl; book = refl })
 
-    pub release-bad : (t : Bool) → h ≤ 15 → t ≡ badRun m → t ≡ true → Releases 6 b (releaseCall n b h q m)
-    unfolding releaseCall
-    release-bad t l e v = rw (le-ltb 15 h l, ← e, v) (record { code = refl; book = refl })
+  pub release-not : (t u : Bool) → t ≡ badRun m → t ≡ false → u ≡ heldDirect n b q m → u ≡ false → Releases 12 b (releaseCall n b q m)
+  unfolding releaseCall
+  release-not t u e v f w = rw (← e, v, ← f, w) (record { code = refl; book = refl })
 
-    pub release-not : (t u : Bool) → h ≤ 15 → t ≡ badRun m → t ≡ false → u ≡ heldDirect n b q m → u ≡ false → Releases 12 b (releaseCall n b h q m)
-    unfolding releaseCall
-    release-not t u l e v f w = rw (le-ltb 15 h l, ← e, v, ← f, w) (record { code = refl; book = refl })
-
-    pub release-held : (t u : Bool) (r : ℕ) (x : List ℕ) → h ≤ 15 → t ≡ badRun m → t ≡ false → u ≡ heldDirect n b q m → u ≡ true → Releases r x (heldRelease n b q m) → Releases r x (releaseCall n b h q m)
-    unfolding releaseCall heldRelease
-    release-held t u r x l e v f w k = rw (le-ltb 15 h l, ← e, v, ← f, w) k
+  pub release-held : (t u : Bool) (r : ℕ) (x : List ℕ) → t ≡ badRun m → t ≡ false → u ≡ heldDirect n b q m → u ≡ true → Releases r x (heldRelease n b q m) → Releases r x (releaseCall n b q m)
+  unfolding releaseCall heldRelease
+  release-held t u r x e v f w k = rw (← e, v, ← f, w) k
 
 -- ---- growth
 module _ (n : ℕ) (b : List ℕ) (h e m : ℕ) where
@@ -222,40 +217,32 @@ module _ (n : ℕ) (b : List ℕ) (h e m : ℕ) where
       (λ t. rw t)
 
 module _ (n : ℕ) (b : List ℕ) (h q old new : ℕ) where
-  pub grow-host : 15 < h → Grew (Grow.Refused 3) b (growCall n b h q old new)
+  pub grow-bad : (t : Bool) → t ≡ badGrowth old new → t ≡ true → Grew (Grow.Refused 6) b (growCall n b h q old new)
   unfolding growCall
-  grow-host l = rw (lt-ltb 15 h l) (record { answer = refl; book = refl })
+  grow-bad t e v = rw (← e, v) (record { answer = refl; book = refl })
 
-  pub grow-bad : (t : Bool) → h ≤ 15 → t ≡ badGrowth old new → t ≡ true → Grew (Grow.Refused 6) b (growCall n b h q old new)
+  pub grow-not : (t u : Bool) → t ≡ badGrowth old new → t ≡ false → u ≡ heldDirect n b q old → u ≡ false → Grew (Grow.Refused 12) b (growCall n b h q old new)
   unfolding growCall
-  grow-bad t l e v = rw (le-ltb 15 h l, ← e, v) (record { answer = refl; book = refl })
+  grow-not t u e v f w = rw (← e, v, ← f, w) (record { answer = refl; book = refl })
 
-  pub grow-not : (t u : Bool) → h ≤ 15 → t ≡ badGrowth old new → t ≡ false → u ≡ heldDirect n b q old → u ≡ false → Grew (Grow.Refused 12) b (growCall n b h q old new)
-  unfolding growCall
-  grow-not t u l e v f w = rw (le-ltb 15 h l, ← e, v, ← f, w) (record { answer = refl; book = refl })
-
-  pub grow-held : (t u : Bool) (m : ℕ) (r : Grow) (x : List ℕ) → BookIn b n → h ≤ 15 → t ≡ badGrowth old new → t ≡ false → u ≡ heldDirect n b q old → u ≡ true → m ≡ clamped (new - old)
+  pub grow-held : (t u : Bool) (m : ℕ) (r : Grow) (x : List ℕ) → BookIn b n → t ≡ badGrowth old new → t ≡ false → u ≡ heldDirect n b q old → u ≡ true → m ≡ clamped (new - old)
       → Grows r x (fairGrow n b h (q + old) m) → Grew r x (growCall n b h q old new)
   unfolding growCall fairGrow
-  grow-held t u m r x k l e v f w g y =
+  grow-held t u m r x k e v f w g y =
       by-cases (recordFair n b)
       (λ z. let i = rw (z, g, clamp-grow n b (k .small) h (q + old) 77 (new - old)) at y in
       let j = grow-acts n b (le-leb _ _ (k .long)) (fair-record n b z) h (new - old) (q + old) in
-      rw (le-ltb 15 h l, ← e, v, ← f, w, z) (record { answer = i .answer ∙ rw (grow-code n b h (q + old) (new - old), j .yes); book = i .book ∙ sym (j .book) }))
+      rw (← e, v, ← f, w, z) (record { answer = i .answer ∙ rw (grow-code n b h (q + old) (new - old), j .yes); book = i .book ∙ sym (j .book) }))
       (λ z. let i = rw z at y in
-      rw (le-ltb 15 h l, ← e, v, ← f, w, z) (record { answer = i .answer; book = i .book }))
+      rw (← e, v, ← f, w, z) (record { answer = i .answer; book = i .book }))
 
 -- ---- a commit
 module _ (n : ℕ) (b : List ℕ) (h m : ℕ) where
-  pub commit-host : 15 < h → Answers (Refused 3) b (commitCall n b h m)
+  pub commit-bad : (t : Bool) → t ≡ badRun m → t ≡ true → Answers (Refused 6) b (commitCall n b h m)
   unfolding commitCall
-  commit-host l = rw (lt-ltb 15 h l) (record { answer = refl; book = refl })
+  commit-bad t e v = rw (← e, v) (record { answer = refl; book = refl })
 
-  pub commit-bad : (t : Bool) → h ≤ 15 → t ≡ badRun m → t ≡ true → Answers (Refused 6) b (commitCall n b h m)
+  pub commit-goes : (t : Bool) (r : ℕ) (s : Commit) (x : List ℕ) → BookIn b n → t ≡ badRun m → t ≡ false → r ≡ clamped m → Answers s x (commitFor n b h r 77) → Answers s x (commitCall n b h m)
   unfolding commitCall
-  commit-bad t l e v = rw (le-ltb 15 h l, ← e, v) (record { answer = refl; book = refl })
-
-  pub commit-goes : (t : Bool) (r : ℕ) (s : Commit) (x : List ℕ) → BookIn b n → h ≤ 15 → t ≡ badRun m → t ≡ false → r ≡ clamped m → Answers s x (commitFor n b h r 77) → Answers s x (commitCall n b h m)
-  unfolding commitCall
-  commit-goes t r s x k l e v f a =
-      rw (le-ltb 15 h l, ← e, v) (rw (f, clamp-commit n b (le-leb _ _ (k .long)) (k .small) h 77 m) at a)
+  commit-goes t r s x k e v f a =
+      rw (← e, v) (rw (f, clamp-commit n b (le-leb _ _ (k .long)) (k .small) h 77 m) at a)

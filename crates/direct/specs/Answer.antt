@@ -4,11 +4,9 @@
 -- Assumes nothing.
 use Prim.Native.Nat.{ℕ, zero, suc, _+_, _-_}
 use mathlib.Core.List.{List}
-use mathlib.Core.Bool.{Bool, true, false, cond, not, _||_}
+use mathlib.Core.Bool.{Bool, true, false, cond, not}
 use mathlib.Core.Path.{_≡_}
-use lib.Dec.{leb}
 use Rattle.fields.specs.Field.{arena, frontier, holePages, held, commits, commitsHigh, reuses, reusesHigh, abandoned, abandonedHigh, get}
-use Rattle.model.specs.Heap.{badRun}
 use Rattle.runs.specs.declared.Commit.{Commit}
 use Rattle.runs.specs.declared.Commit.the-variants.{Refused, Run, Nothing}
 use Rattle.direct.specs.declared.Grow.{Grow}
@@ -48,10 +46,6 @@ pub record Grows (r : Grow) (b : List ℕ) (o : Committed) : Type 0 where
 
 unfoldable pub fairGrow : ℕ → List ℕ → ℕ → ℕ → ℕ → Committed
 fairGrow n b h e m = cond (recordFair n b) (growActs n b h e m 77) (commitRefused b 13)
-
--- number 6 for a growth
-abbrev pub badGrowth : ℕ → ℕ → Bool
-badGrowth old new = badRun old || (badRun new || leb new old)
 
 -- a release
 pub record Releases (r : ℕ) (b : List ℕ) (o : Done) : Type 0 where

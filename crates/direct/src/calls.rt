@@ -1,4 +1,4 @@
-// The direct calls, from number 3 on: the book is long enough for an arena of `size` pages.
+// The direct calls, from number 6 on: the book is long enough for an arena of `size` pages.
 use super::Figures;
 use super::Grow;
 use super::Report;
@@ -11,13 +11,13 @@ use runs::owners;
 ghost use mathlib.Core.Path.{_≡_};
 ghost use mathlib.Core.Bool.{true};
 ghost use Prim.Native.Nat.{_+_, _-_, _≤_, _<_};
-ghost use Rattle.model.specs.Heap.{badRun};
+ghost use Rattle.model.specs.Heap.{badRun, badGrowth};
 ghost use Rattle.arena.specs.Fair.{recordFair};
 ghost use Rattle.arena.specs.Calls.{commitCall, releaseCall, growCall, containsCall};
 ghost use Rattle.arena.specs.Act.{clamped, growActs};
 ghost use Rattle.runs.specs.Asks.{BookIn};
 ghost use Rattle.runs.specs.Answer.{Answers};
-ghost use Rattle.direct.specs.Answer.{growCommit, Releases, Grows, Grew, fairGrow, badGrowth, figuresOf, reportOf, heldRelease};
+ghost use Rattle.direct.specs.Answer.{growCommit, Releases, Grows, Grew, fairGrow, figuresOf, reportOf, heldRelease};
 
 fn bad_run(pages: u64) -> bool
     ensures { λ r. ⌜ r ≡ badRun pages ⌝ }
@@ -42,9 +42,6 @@ pub fn commit(meta: &mut [u32], size: u32, host: u32, pages: u64) -> Commit
     requires { ⌜ BookIn (now meta) size ⌝ }
     ensures { λ r. ⌜ Answers r (now (meta .exit)) (commitCall size (now (meta .entry)) host pages) ⌝ }
 {
-    if 15 < host {
-        return Commit::Refused(3);
-    }
     if bad_run(pages) {
         return Commit::Refused(6);
     }
@@ -63,13 +60,10 @@ fn release_held(meta: &mut [u32], size: u32, first: u32, pages: u32) -> u32
     13
 }
 
-pub fn release(meta: &mut [u32], size: u32, host: u32, first: u64, pages: u64) -> u32
+pub fn release(meta: &mut [u32], size: u32, first: u64, pages: u64) -> u32
     requires { ⌜ BookIn (now meta) size ⌝ }
-    ensures { λ r. ⌜ Releases r (now (meta .exit)) (releaseCall size (now (meta .entry)) host first pages) ⌝ }
+    ensures { λ r. ⌜ Releases r (now (meta .exit)) (releaseCall size (now (meta .entry)) first pages) ⌝ }
 {
-    if 15 < host {
-        return 3;
-    }
     if bad_run(pages) {
         return 6;
     }
@@ -132,9 +126,6 @@ pub fn grow_frontier(meta: &mut [u32], size: u32, host: u32, first: u64, old: u6
     requires { ⌜ BookIn (now meta) size ⌝ }
     ensures { λ r. ⌜ Grew r (now (meta .exit)) (growCall size (now (meta .entry)) host first old new) ⌝ }
 {
-    if 15 < host {
-        return Grow::Refused(3);
-    }
     if bad_growth(old, new) {
         return Grow::Refused(6);
     }

@@ -16,7 +16,7 @@ use Rattle.classes.specs.Sound.{Sound}
 use Rattle.classes.proofs.Shapes.{shape-sound}
 use Rattle.model.specs.Lists.{All, elem, every, distinct, isNil}
 use Rattle.model.specs.Calls as Calls
-use Rattle.model.specs.Calls.{Call, Request, Named, names, blocksOf, fates}
+use Rattle.model.specs.Calls.{Call, Request, Way, turned, straight, toClass, wayOf, blocksOf, fates}
 use Rattle.model.specs.Page.{Page, isMedium, wordsFrom, carveAs, carve, isOut, noneOut, hasMore, carvedNow, pop, returned, retire, reused}
 use Rattle.model.specs.Class.{Class, lists, Cold, Result, Ask, done, asks, serve, refuse, after, fillFromList, served, thawed, onRun, takeFrom}
 use Rattle.model.specs.Release.{Found, Site, Settled, find, inPartial, inFull, orElse, mapFound, locate, park, parkEmpty, parkCold, letGo, markRetired, settle, onPage, siteOfFirst, releaseList}
@@ -316,10 +316,11 @@ module _ (sh : Shape) (ok : Sound sh) where
 abbrev AllListed : Heap → Type 0
 AllListed H = (c : ℕ) → Listed (shapeOf c) (H .classes c)
 
-route-listed : (size : ℕ) (H : Heap) → AllListed H → (x : Call) (d : Option Named) → AllListed (route size H x d .heap)
+route-listed : (size : ℕ) (H : Heap) → AllListed H → (x : Call) (w : Way) → AllListed (route size H x w .heap)
 unfolding classCall interact finish
-route-listed size H y x none c = rw (direct-keeps size H x .kept) (y c)
-route-listed size H y x (some d) c =
+route-listed size H y x turned c = y c
+route-listed size H y x straight c = rw (direct-keeps size H x .kept) (y c)
+route-listed size H y x (toClass d) c =
     let k = d .class in
     update-all (H .classes) (λ j s. Listed (shapeOf j) s) k _
     (serve-keeps (shapeOf k) (shape-sound k) (answer (shapeOf k) (H .classes k) (d .request)) _ (answer-keeps (shapeOf k) (shape-sound k) (H .classes k) (y k) (d .request)))
@@ -328,7 +329,7 @@ route-listed size H y x (some d) c =
 pub history-listed : (size : ℕ) (H : Heap) → AllListed H → (xs : List Call) → AllListed (heapFrom size H xs)
 unfolding step
 history-listed size H y [] = y
-history-listed size H y (x ∷ xs) = history-listed size (step size H x .heap) (route-listed size H y x (names x)) xs
+history-listed size H y (x ∷ xs) = history-listed size (step size H x .heap) (route-listed size H y x (wayOf x)) xs
 
 after-listed : (size : ℕ) (xs : List Call) → AllListed (heapAfter size xs)
 unfolding newHeap

@@ -68,12 +68,8 @@ releaseChunks sh h s ws gs fs =
     (cond (not (distinct (map pageOf gs) && (every (chunkFits sh s ws) gs && every (chunked sh s gs) ws))) (refuse s 11)
     (let b = settleChunks sh h ws s gs in done (record { class = b .class; answer = fates (b .fates ++ drop (length gs) fs); gives = b .gives }))))))
 
--- the highest host word
-abbrev pub hostMax : ℕ
-hostMax = 15
-
--- one request of a class: number 3 first, then 5 for a take
+-- one request of a class, from number 5 on
 unfoldable pub answer : Shape → Class → Request → Ask
-answer sh s (take h l) = cond (ltb hostMax h) (refuse s 3) (cond (ltb (length l) (sh .batch)) (refuse s 5) (takeFrom sh l (s .partial) (s .empty) (s .cold) (s .full)))
-answer sh s (giveBack h ws) = cond (ltb hostMax h) (refuse s 3) (releaseList sh h s ws)
-answer sh s (giveChunks h ws gs fs) = cond (ltb hostMax h) (refuse s 3) (releaseChunks sh h s ws gs fs)
+answer sh s (take h l) = cond (ltb (length l) (sh .batch)) (refuse s 5) (takeFrom sh l (s .partial) (s .empty) (s .cold) (s .full))
+answer sh s (giveBack h ws) = releaseList sh h s ws
+answer sh s (giveChunks h ws gs fs) = releaseChunks sh h s ws gs fs

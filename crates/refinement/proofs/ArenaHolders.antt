@@ -10,13 +10,14 @@ use borrow.Author.Tests.{ltb-true, lt-ltb}
 use Rattle.classes.specs.Shape.{shapeOf}
 use Rattle.model.specs.Lists.{covers, coversAll, coversRun}
 use Rattle.model.specs.Calls as Calls
-use Rattle.model.specs.Calls.{Call, Request, Named, named, names, hostOf}
+use Rattle.model.specs.Calls.{Call, Request, Named, named, names, Way, hostOf}
 use Rattle.model.specs.Arena.{commit, grow}
 use Rattle.model.specs.Class.{serve}
 use Rattle.model.specs.Chunks.{answer}
 use Rattle.model.specs.Heap.{Heap, Holder, Outcome, nobody, direct, class, passTo, newHeap, offer, finish, interact, classCall, commitCall, growCall, releaseCall, unchanged, directCall, route, step}
 use Rattle.model.specs.History.{heapFrom, heapAfter}
 use Rattle.model.proofs.Counts.{by-cases}
+use Rattle.model.proofs.Ways.{Goes, is-turned, is-straight, is-class, goes}
 
 abbrev pub isKnown : Holder → Bool
 isKnown nobody = true
@@ -102,13 +103,14 @@ module _ (n : ℕ) (H : Heap) (k : Known (H .holder)) where
       let w = passTo (class c) (coversRun (sh .pages) (g .run)) (H .holder) in
       record { known = known-passed nobody (coversAll (sh .pages) (serve q (g .run) .gives)) w refl (known-passed (class c) (coversRun (sh .pages) (g .run)) (H .holder) e k) }
 
-  route-known : (x : Call) (d : Option Named) → names x ≡ d → KnownAfter (route n H x d)
-  route-known x none e = direct-known x
-  route-known x (some d) e = class-known (d .class) (d .request) (names-below x d e)
+  route-known : (x : Call) {w : Way} → Goes x w → KnownAfter (route n H x w)
+  route-known x (is-turned t) = same _
+  route-known x (is-straight t e) = direct-known x
+  route-known x (is-class d t e) = class-known (d .class) (d .request) (names-below x d e)
 
   pub known-step : (x : Call) → Known (step n H x .heap .holder)
   unfolding step
-  known-step x = route-known x (names x) refl .known
+  known-step x = route-known x (goes x) .known
 
 known-from : (n : ℕ) (H : Heap) (xs : List Call) → Known (H .holder) → Known (heapFrom n H xs .holder)
 known-from n H [] k = k

@@ -24,13 +24,13 @@ use Rattle.model.specs.Page.{isMedium, noneOut, reused, returned}
 use Rattle.model.specs.Class.{Ask, done, refuse, thawed}
 use Rattle.model.specs.Release.{Site, locate, ofKind}
 use Rattle.model.specs.Chunks as Model
-use Rattle.model.specs.Chunks.{startsAt, fitsOn, chunked, chunksMax, answer, hostMax}
+use Rattle.model.specs.Chunks.{startsAt, fitsOn, chunked, chunksMax, answer}
 use Rattle.model.specs.Heap.{Heap, offer, finish, interact, classCall, heldPages}
 use Rattle.model.specs.History.{heapAfter}
 use Rattle.model.proofs.Counts.{by-cases, and-l, and-r}
 use Rattle.model.proofs.Find.{pageIn, located-first}
 use Rattle.calls.specs.Release.{outAt, pageFair}
-use Rattle.calls.specs.Chunks.{blocksOn, chunksMatch, returnsAll, runsGiven, pagesGiven, chunksFair, settleChunks, giveRuns, ChunksReleased, chunksNone, releaseChunks, chunksCall}
+use Rattle.calls.specs.Chunks.{blocksOn, chunksMatch, returnsAll, runsGiven, pagesGiven, chunksFair, settleChunks, giveRuns, ChunksReleased, chunksNone, releaseChunks}
 use Rattle.refinement.specs.Represents.{Represents}
 use Rattle.refinement.specs.Direct.{Agrees}
 use Rattle.refinement.specs.Releases.{chunksReply}
@@ -225,11 +225,11 @@ module _ (n : ℕ) (hn : n ≤ maxPages) (b : List ℕ) (H : Heap) (R : Represen
         (λ e. let u = not-false (every (outAt n b c sh) ws && distinct ws) e in
         past-ten k (and-l (every (outAt n b c sh) ws) (distinct ws) u) (and-r (every (outAt n b c sh) ws) (distinct ws) u))))))
 
-    pub chunks-whole : Agrees (Represents n) (chunksReply (chunksCall n b c (shapeOf c) h ws gs fs)) (classCall n H c (Calls.giveChunks h ws gs fs))
-    unfolding chunksCall classCall answer
-    chunks-whole = agrees-cond (ltb hostMax h) _ _ _ _ (λ e. denied 3 refl (λ z. omega arith)) (λ e. chunks-agree)
+    pub chunks-whole : Agrees (Represents n) (chunksReply (releaseChunks n b c (shapeOf c) h ws gs fs)) (classCall n H c (Calls.giveChunks h ws gs fs))
+    unfolding classCall answer
+    chunks-whole = chunks-agree
 
 -- after every history on an arena of n pages
 pub chunks-after : (n : ℕ) → n ≤ maxPages → (xs : List Call) (b : List ℕ) → Represents n b (heapAfter n xs) → (c : ℕ) → ltb c 64 ≡ true → (h : ℕ) (ws gs fs : List ℕ)
-    → Agrees (Represents n) (chunksReply (chunksCall n b c (shapeOf c) h ws gs fs)) (classCall n (heapAfter n xs) c (Calls.giveChunks h ws gs fs))
+    → Agrees (Represents n) (chunksReply (releaseChunks n b c (shapeOf c) h ws gs fs)) (classCall n (heapAfter n xs) c (Calls.giveChunks h ws gs fs))
 chunks-after n hn xs b R c hs h ws gs fs = chunks-whole n hn b (heapAfter n xs) R (reached-after n xs) c hs h ws gs fs

@@ -4,7 +4,7 @@
 --     direct-agrees     every call that names no class, in the arena's part
 --     direct-represents    the same for the whole book
 -- Assumes nothing.
-use Prim.Native.Nat.{ℕ, zero, suc, _+_, _-_, _≤_, _<_}
+use Prim.Native.Nat.{ℕ, suc, _+_, _-_, _≤_, _<_}
 use native.Mathlib.Omega.{arith}
 use mathlib.Core.Bool.{Bool, true, false, cond, not, _&&_, _||_, true≢false, false≢true}
 use mathlib.Core.List.{List}
@@ -18,11 +18,10 @@ use Rattle.fields.specs.Field.{arena, page, owner, get}
 use Rattle.fields.proofs.Changes.{Changes, changes-none}
 use Rattle.model.specs.Lists.{every, below, covers, inRun}
 use Rattle.model.specs.Calls as Calls
-use Rattle.model.specs.Calls.{Call, Answer, refused, released}
-use Rattle.model.specs.Chunks.{hostMax}
+use Rattle.model.specs.Calls.{Call, Answer, refused}
 use Rattle.model.specs.Arena as Model
 use Rattle.model.specs.Heap as Heaps
-use Rattle.model.specs.Heap.{Heap, Holder, Outcome, nobody, direct, class, isDirect, isHeld, badRun, unchanged, directCall, reportOf}
+use Rattle.model.specs.Heap.{Heap, Holder, Outcome, nobody, direct, class, isDirect, isHeld, badRun, badGrowth, unchanged, directCall, reportOf}
 use Rattle.model.proofs.Counts.{by-cases, and-l, and-r}
 use Rattle.model.proofs.ArenaTidy.{tidy-commit, tidy-grow}
 use Rattle.pages.specs.Runs.{whole}
@@ -136,8 +135,7 @@ module _ (n : ℕ) (b : List ℕ) (H : Heap) (rep : ArenaRep n b H) (r : Reached
   settle-commit : (h m : ℕ) → Settled (commitReply (commitCall n b h m)) (directCall n H (Calls.commit h m))
   unfolding commitCall directCall Heaps.commitCall
   settle-commit h m =
-      settle-cond commitReply (ltb hostMax h) _ _ _ _ (λ e. settle-refused 3 (λ z. omega arith))
-      (λ e. settle-cond commitReply (badRun m) _ _ _ _ (λ d. settle-refused 6 (λ z. omega arith))
+      settle-cond commitReply (badRun m) _ _ _ _ (λ d. settle-refused 6 (λ z. omega arith))
       (λ d. let one = good-run m d in
       let g = Model.commit n h m (H .arena) in
       rw (commit-for n b H rep r h m 77)
@@ -149,16 +147,15 @@ module _ (n : ℕ) (b : List ℕ) (H : Heap) (rep : ArenaRep n b H) (r : Reached
           runs = λ sh d x l hd. commit-whole n b H rep r h m one direct refl sh d x l (direct-other d hd);
         };
         classes = refl;
-      })))
+      }))
 
-  longer : (old new : ℕ) → (badRun old || (badRun new || leb new old)) ≡ false → 1 ≤ new - old
+  longer : (old new : ℕ) → badGrowth old new ≡ false → 1 ≤ new - old
   longer old new e = omega (arith, leb-false new old (or-right (badRun new) (leb new old) (or-right (badRun old) (badRun new || leb new old) e)))
 
   settle-grow : (h q old new : ℕ) → Settled (growReply (growCall n b h q old new)) (directCall n H (Calls.growFrontier h q old new))
   unfolding growCall directCall Heaps.growCall
   settle-grow h q old new =
-      settle-cond growReply (ltb hostMax h) _ _ _ _ (λ e. settle-refused 3 (λ z. omega arith))
-      (λ e. settle-cond growReply (badRun old || (badRun new || leb new old)) _ _ _ _ (λ d. settle-refused 6 (λ z. omega arith))
+      settle-cond growReply (badGrowth old new) _ _ _ _ (λ d. settle-refused 6 (λ z. omega arith))
       (λ d. rw (held-direct q old (good-run old (or-left (badRun old) (badRun new || leb new old) d)))
       (settle-cond growReply (not (Heaps.heldDirect n H q old)) _ _ _ _ (λ c. settle-refused 12 (λ z. omega arith))
       (λ c. let one = longer old new d in
@@ -172,18 +169,17 @@ module _ (n : ℕ) (b : List ℕ) (H : Heap) (rep : ArenaRep n b H) (r : Reached
           runs = λ sh d x l hd. grow-whole n b H rep r h (new - old) one (q + old) sh d x l hd;
         };
         classes = refl;
-      })))))
+      }))))
 
   direct-not : (d : ℕ) (w : Holder) → ltb d 76 ≡ true → isDirect w ≡ true → isOf d w ≡ false
   direct-not d nobody hd e = absurd (false≢true e)
   direct-not d direct hd e = direct-other d hd
   direct-not d (class c) hd e = absurd (false≢true e)
 
-  settle-release : (h q m : ℕ) → Settled (releaseReply (releaseCall n b h q m)) (directCall n H (Calls.release h q m))
+  settle-release : (h q m : ℕ) → Settled (releaseReply (releaseCall n b q m)) (directCall n H (Calls.release h q m))
   unfolding releaseCall directCall Heaps.releaseCall
   settle-release h q m =
-      settle-cond releaseReply (ltb hostMax h) _ _ _ _ (λ e. settle-refused 3 (λ z. omega arith))
-      (λ e. settle-cond releaseReply (badRun m) _ _ _ _ (λ d. settle-refused 6 (λ z. omega arith))
+      settle-cond releaseReply (badRun m) _ _ _ _ (λ d. settle-refused 6 (λ z. omega arith))
       (λ d. let one = good-run m d in
       rw (held-direct q m one)
       (settle-cond releaseReply (not (Heaps.heldDirect n H q m)) _ _ _ _ (λ c. settle-refused 12 (λ z. omega arith))
@@ -198,7 +194,7 @@ module _ (n : ℕ) (b : List ℕ) (H : Heap) (rep : ArenaRep n b H) (r : Reached
           runs = λ sh d x l hd. give-whole n b H rep r q m one k sh d x l (λ y e. direct-not d (H .holder y) hd (run-direct q m one t y e));
         };
         classes = refl;
-      })))))
+      }))))
 
   settle-contains : (o k : ℕ) → Settled (reply 0 (Calls.contained (containsCall n b o k)) b) (directCall n H (Calls.contains o k))
   unfolding containsCall directCall
@@ -219,19 +215,13 @@ module _ (n : ℕ) (b : List ℕ) (H : Heap) (rep : ArenaRep n b H) (r : Reached
       )
       (settle-same 0 (λ z. omega arith) (Calls.reported (a .commits) (a .reuses) (a .abandoned) (Heaps.heldPages n H) (Heaps.idlePages n a)))
 
-  settle-noclass : (h : ℕ) → Settled (reply (cond (ltb hostMax h) 3 4) released b) (Heaps.noClass H h)
-  settle-noclass h =
-      by-cases (ltb hostMax h)
-      (λ e. rw e (settle-refused 3 (λ z. omega arith)))
-      (λ e. rw e (settle-refused 4 (λ z. omega arith)))
-
   settle-direct : (x : Call) → Settled (directReply n b x) (directCall n H x)
   unfolding directReply directCall
-  settle-direct (Calls.takeBlocks c h l) = settle-noclass h
-  settle-direct (Calls.mediumTakeBlocks c h l) = settle-noclass h
-  settle-direct (Calls.releaseBlocks c h ws) = settle-noclass h
-  settle-direct (Calls.mediumReleaseBlocks c h ws) = settle-noclass h
-  settle-direct (Calls.releaseBinChunks c h ws gs fs) = settle-noclass h
+  settle-direct (Calls.takeBlocks c h l) = settle-refused 4 (λ z. omega arith)
+  settle-direct (Calls.mediumTakeBlocks c h l) = settle-refused 4 (λ z. omega arith)
+  settle-direct (Calls.releaseBlocks c h ws) = settle-refused 4 (λ z. omega arith)
+  settle-direct (Calls.mediumReleaseBlocks c h ws) = settle-refused 4 (λ z. omega arith)
+  settle-direct (Calls.releaseBinChunks c h ws gs fs) = settle-refused 4 (λ z. omega arith)
   settle-direct (Calls.commit h m) = settle-commit h m
   settle-direct (Calls.growFrontier h q old new) = settle-grow h q old new
   settle-direct (Calls.release h q m) = settle-release h q m

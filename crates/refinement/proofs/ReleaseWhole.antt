@@ -21,12 +21,12 @@ use Rattle.model.specs.Calls.{Call, fate}
 use Rattle.model.specs.Page.{isOut}
 use Rattle.model.specs.Class.{Ask, done, refuse}
 use Rattle.model.specs.Release.{Site, Settled, locate, ofKind, outHere, onPage, releaseList}
-use Rattle.model.specs.Chunks.{answer, hostMax}
+use Rattle.model.specs.Chunks.{answer}
 use Rattle.model.specs.Heap.{Heap, offer, finish, interact, classCall}
 use Rattle.model.specs.History.{heapAfter}
 use Rattle.model.proofs.Counts.{by-cases, and-l, and-r, distinct-count}
 use Rattle.pages.specs.Stack.{indexOf}
-use Rattle.calls.specs.Release.{startOf, outAt, Released, releasedNone, lastStep, giveBackAt, releaseFair, releaseBlocks, releaseCall}
+use Rattle.calls.specs.Release.{startOf, outAt, Released, releasedNone, lastStep, giveBackAt, releaseFair, releaseBlocks}
 use Rattle.refinement.specs.Represents.{Represents}
 use Rattle.refinement.specs.Direct.{Agrees}
 use Rattle.refinement.specs.Releases.{listReply}
@@ -120,14 +120,11 @@ module _ (n : ℕ) (hn : n ≤ maxPages) (b : List ℕ) (H : Heap) (R : Represen
   list-agrees w x (did q (goes {b′ = b′} {s = t} p e r o)) =
       record { answer = refl; fair = λ z. omega arith; heap = all-given n b H R ok c hc b′ o t (p ∷ []) r (q ∷ []) (ap (λ x. x ∷ []) e) }
 
-  pub release-whole : (ws : List ℕ) → Agrees (Represents n) (listReply (releaseCall n b c (shapeOf c) h ws)) (classCall n H c (Calls.giveBack h ws))
-  unfolding releaseCall classCall answer
-  release-whole ws =
-      by-cases (ltb hostMax h)
-      (λ e. rw e (list-agrees (releasedNone b 3) (refuse (H .classes c) 3) (denied 3 refl (λ z. omega arith))))
-      (λ e. rw e (list-agrees _ _ (release-rep ws)))
+  pub release-whole : (ws : List ℕ) → Agrees (Represents n) (listReply (releaseBlocks n b c (shapeOf c) h ws)) (classCall n H c (Calls.giveBack h ws))
+  unfolding classCall answer
+  release-whole ws = list-agrees _ _ (release-rep ws)
 
 -- after every history on an arena of n pages
 pub release-after : (n : ℕ) → n ≤ maxPages → (xs : List Call) (b : List ℕ) → Represents n b (heapAfter n xs) → (c : ℕ) → ltb c 76 ≡ true → (h : ℕ) (ws : List ℕ)
-    → Agrees (Represents n) (listReply (releaseCall n b c (shapeOf c) h ws)) (classCall n (heapAfter n xs) c (Calls.giveBack h ws))
+    → Agrees (Represents n) (listReply (releaseBlocks n b c (shapeOf c) h ws)) (classCall n (heapAfter n xs) c (Calls.giveBack h ws))
 release-after n hn xs b R c hc h ws = release-whole n hn b (heapAfter n xs) R (reached-after n xs) c hc h ws

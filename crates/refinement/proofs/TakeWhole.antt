@@ -23,7 +23,7 @@ use Rattle.model.specs.Page.{Page, isMedium, wordsFrom, carve, carveAs}
 use Rattle.model.specs.Arena.{commit, Given}
 use Rattle.model.specs.Class as Model
 use Rattle.model.specs.Class.{lists, Result, Ask, done, asks, refuse, fillFromList, served}
-use Rattle.model.specs.Chunks.{answer, hostMax}
+use Rattle.model.specs.Chunks.{answer}
 use Rattle.model.specs.Heap.{Heap, class, passTo, offer, finish, interact, classCall, Outcome}
 use Rattle.model.specs.History.{heapAfter}
 use Rattle.model.specs.Yields.{Listed}
@@ -149,13 +149,11 @@ module _ (n : ℕ) (b : List ℕ) (H : Heap) (R : Represents n b H) (ok : Reache
       → Agrees (Represents n) (takeReply (takeCall n b c (shapeOf c) h l)) (classCall n H c (Calls.take h l))
   unfolding takeCall classCall answer
   take-whole y h l =
-      by-cases (ltb hostMax h)
-      (λ e. rw e (turned h l 3 refl (λ z. omega arith)))
-      (λ e. by-cases (ltb (length l) (shapeOf c .batch))
-      (λ u. rw (e, u) (turned h l 5 refl (λ z. omega arith)))
-      (λ u. rw (e, u) (own-agrees h l _ _
+      by-cases (ltb (length l) (shapeOf c .batch))
+      (λ u. rw u (turned h l 5 refl (λ z. omega arith)))
+      (λ u. rw u (own-agrees h l _ _
       (take-own (setting-of n b H R c hc) l h (H .classes c .partial) (H .classes c .empty) (H .classes c .cold) (H .classes c .full)
-      (frontier-in n b H R ok) (y .partial) (R .classes c hc)))))
+      (frontier-in n b H R ok) (y .partial) (R .classes c hc))))
 
 -- after every history on an arena of n pages
 pub take-after : (n : ℕ) (xs : List Call) (b : List ℕ) → Represents n b (heapAfter n xs) → (c : ℕ) → ltb c 76 ≡ true → (h : ℕ) (l : List ℕ)

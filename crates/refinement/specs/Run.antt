@@ -4,30 +4,29 @@
 --     run           the answers of a history, from an opening on a book
 use Prim.Native.Nat.{ℕ}
 use mathlib.Core.List.{List, [], _∷_}
-use mathlib.Core.Option.{Option, none, some}
 use Rattle.classes.specs.Shape.{shapeOf}
 use Rattle.model.specs.Calls as Calls
-use Rattle.model.specs.Calls.{Call, Answer, Named, names, Request}
+use Rattle.model.specs.Calls.{Call, Answer, Way, turned, straight, toClass, wayOf, Request}
 use Rattle.arena.specs.Open.{opened}
 use Rattle.calls.specs.Take.{takeCall}
-use Rattle.calls.specs.Release.{releaseCall}
-use Rattle.calls.specs.Chunks.{chunksCall}
-use Rattle.refinement.specs.Direct.{Reply, directReply}
+use Rattle.calls.specs.Release.{releaseBlocks}
+use Rattle.calls.specs.Chunks.{releaseChunks}
+use Rattle.refinement.specs.Direct.{Reply, turnedReply, directReply}
 use Rattle.refinement.specs.Classes.{takeReply}
 use Rattle.refinement.specs.Releases.{listReply, chunksReply}
 
 abbrev pub classReply : ℕ → List ℕ → ℕ → Request → Reply
 classReply n b c (Calls.take h l) = takeReply (takeCall n b c (shapeOf c) h l)
-classReply n b c (Calls.giveBack h ws) = listReply (releaseCall n b c (shapeOf c) h ws)
-classReply n b c (Calls.giveChunks h ws gs fs) = chunksReply (chunksCall n b c (shapeOf c) h ws gs fs)
+classReply n b c (Calls.giveBack h ws) = listReply (releaseBlocks n b c (shapeOf c) h ws)
+classReply n b c (Calls.giveChunks h ws gs fs) = chunksReply (releaseChunks n b c (shapeOf c) h ws gs fs)
 
--- by the class that the call names, if it names one
-abbrev pub replyAs : ℕ → List ℕ → Call → Option Named → Reply
-replyAs n b x none = directReply n b x
-replyAs n b x (some d) = classReply n b (d .class) (d .request)
+abbrev pub replyAs : ℕ → List ℕ → Call → Way → Reply
+replyAs n b x turned = turnedReply b 3
+replyAs n b x straight = directReply n b x
+replyAs n b x (toClass d) = classReply n b (d .class) (d .request)
 
 unfoldable pub callReply : ℕ → List ℕ → Call → Reply
-callReply n b x = replyAs n b x (names x)
+callReply n b x = replyAs n b x (wayOf x)
 
 -- the replies of a history, and the book after it
 abbrev pub repliesFrom : ℕ → List ℕ → List Call → List Reply

@@ -7,7 +7,7 @@ use mathlib.Core.Path.{_≡_, refl, sym, ap, _∙_}
 use lib.Dec.{eqb, leb}
 use lib.ListN.{length, getD, take, drop}
 use lib.Seq.{take-add, drop-length}
-use borrow.Author.Tests.{eqb-true, le-leb, lt-ltb, le-ltb, eq-eqb}
+use borrow.Author.Tests.{eqb-true, le-leb, lt-ltb, eq-eqb}
 use Rattle.classes.specs.declared.Shape.{Shape}
 use Rattle.classes.specs.Sound.{Sound}
 use Rattle.fields.specs.Field.{arena, class, page, frontier, state, holes, holePages, held, partial, empty, emptyCount, cold, coldCount, next, prev, free, carved, listed, virgin, get, put, words}
@@ -22,7 +22,7 @@ use Rattle.pages.specs.Stack.{marks, pushed, indexOf}
 use Rattle.pages.proofs.Downs.{small}
 use Rattle.pages.proofs.Frames.{back-pushed}
 use Rattle.calls.specs.Release as Heap
-use Rattle.calls.specs.Release.{startOf, firstOf, inRunOf, outIn, outAt, pageFair, rowFair, spotFair, releaseFair, relisted, released, parkAs, parkAt, spotAt, unlisted, giveBackAt, lastStep, releaseBlocks, releaseCall}
+use Rattle.calls.specs.Release.{startOf, firstOf, inRunOf, outIn, outAt, pageFair, rowFair, spotFair, releaseFair, relisted, released, parkAs, parkAt, spotAt, unlisted, giveBackAt, lastStep, releaseBlocks}
 use Rattle.release.specs.declared.Found.{Found}
 use Rattle.release.specs.declared.Found.the-variants.{At, Nothing}
 use Rattle.release.specs.declared.Released.{Released}
@@ -266,12 +266,3 @@ module _ (n : ℕ) (b : List ℕ) (c : ℕ) (sh : Shape) (h : ℕ) where
     run-asks (w ∷ ws) f q a d k x e y =
         let z = found-at (inRunOf n b sh c w) (startOf b w) q (sym y ∙ e) in
         record { class = a; run = rw (z .1) (run-whole n b c sh w (z .0)); start = sym (z .1); some = refl; kinds = sym k ∙ x }
-
-  -- ---- number 3
-  pub bad-host : (ws : List ℕ) → 15 < h → Answered (Refused 3) b (releaseCall n b c sh h ws)
-  unfolding releaseCall
-  bad-host ws l = rw (lt-ltb 15 h l) (record { answer = refl; left = refl })
-
-  pub good-host : (ws : List ℕ) (r : Released) (b′ : List ℕ) → h ≤ 15 → Answered r b′ (releaseBlocks n b c sh h ws) → Answered r b′ (releaseCall n b c sh h ws)
-  unfolding releaseCall
-  good-host ws r b′ l a = rw (le-ltb 15 h l) a

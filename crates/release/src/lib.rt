@@ -12,7 +12,6 @@ pub use kinds::all_of_kind;
 pub use park::park_empty_page;
 pub use park::relist;
 pub use release::release_blocks;
-pub use release::release_call;
 
 // A page or a block, or none.
 pub enum Found {

@@ -271,17 +271,13 @@ module _ (n : ℕ) (b : List ℕ) (c : ℕ) (sh : Shape) (h : ℕ) (l : List ℕ
 
 -- ---- the call
 module _ (n : ℕ) (b : List ℕ) (c h : ℕ) (l : List ℕ) where
-  pub call-host : 15 < h → Takes (Answer.Refused 3) b l (takeCall n b c (shapeOf c) h l)
+  pub call-short : (sh : Shape) → sh ≡ shapeOf c → length l < sh .batch → Takes (Answer.Refused 5) b l (takeCall n b c (shapeOf c) h l)
   unfolding takeCall
-  call-host u = rw (lt-ltb 15 h u) (record { answer = refl; meta = refl; list = refl })
-
-  pub call-short : (sh : Shape) → h ≤ 15 → sh ≡ shapeOf c → length l < sh .batch → Takes (Answer.Refused 5) b l (takeCall n b c (shapeOf c) h l)
-  unfolding takeCall
-  call-short sh u e s = rw (le-ltb 15 h u, ← e, lt-ltb (length l) (sh .batch) s) (record { answer = refl; meta = refl; list = refl })
+  call-short sh e s = rw (← e, lt-ltb (length l) (sh .batch) s) (record { answer = refl; meta = refl; list = refl })
 
   pub call-asks : (sh : Shape) → CallAsks n b c → sh ≡ shapeOf c → sh .batch ≤ length l → BlocksAsks n b c sh l
   call-asks sh a e s = record { known = a .known; shape = rw e (shape-sound c); few = a .few; long = a .long; places = s }
 
-  pub call-done : (sh : Shape) (r : Taken.Take) (b′ l′ : List ℕ) → h ≤ 15 → sh ≡ shapeOf c → sh .batch ≤ length l → Takes r b′ l′ (takeBlocks n b c sh h l) → Takes r b′ l′ (takeCall n b c (shapeOf c) h l)
+  pub call-done : (sh : Shape) (r : Taken.Take) (b′ l′ : List ℕ) → sh ≡ shapeOf c → sh .batch ≤ length l → Takes r b′ l′ (takeBlocks n b c sh h l) → Takes r b′ l′ (takeCall n b c (shapeOf c) h l)
   unfolding takeCall
-  call-done sh r b′ l′ u e s t = rw (le-ltb 15 h u, ← e, le-ltb (length l) (sh .batch) s) t
+  call-done sh r b′ l′ e s t = rw (← e, le-ltb (length l) (sh .batch) s) t

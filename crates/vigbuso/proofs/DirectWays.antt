@@ -28,16 +28,20 @@ use Rattle.arena.specs.Open.{opened}
 use Rattle.runs.specs.Asks.{BookIn}
 use Rattle.runs.specs.Answer.{answerOf, Answers}
 use Rattle.direct.specs.Answer.{grownAs, Grew, Releases, reportOf}
+use Rattle.vigbuso.specs.Faults.{callFault}
 use Rattle.vigbuso.specs.Direct.{openOn, commitOn, CommitEnds, growOn, GrowEnds, releaseOn, containsOn, reportOn, ReportEnds}
 
 -- ---- numbers 1 and 2
-module _ (b : List ℕ) (r : ℕ) (e : r ≡ metaFault b) (z : r ≡ 0) where
+pub none-before : (b : List ℕ) (r : ℕ) → r ≡ metaFault b → r ≡ 0 → metaFault b ≡ 0
+none-before b r e z = sym e ∙ z
+
+module _ (b : List ℕ) (z : metaFault b ≡ 0) where
   pub has-size : Has b (arena size)
-  has-size = let k = leb-true (words (get b (arena size))) (length b) (sound b r e z .long) in omega arith
+  has-size = let k = leb-true (words (get b (arena size))) (length b) (sound b 0 (sym z) refl .long) in omega arith
 
   pub book-in : (n : ℕ) → n ≡ get b (arena size) → BookIn b n
   book-in n f =
-      let k = sound b r e z in
+      let k = sound b 0 (sym z) refl in
       let l = leb-true (words (get b (arena size))) (length b) (k .long) in
       let m = leb-true (get b (arena size)) 262144 (and-right (leb 1 (get b (arena size))) _ (k .sized)) in
       record { long = omega arith; small = omega arith }
@@ -77,31 +81,32 @@ module _ (b : List ℕ) (n r : ℕ) (e : r ≡ lengthFault n (length b)) where
     open-done x f = rw (← e, eq-eqb r 0 z) (record { answer = refl; left = f })
 
 -- ---- the calls
+module _ (b : List ℕ) (h r : ℕ) (e : r ≡ callFault b h) where
+  pub commit-refused : (m : ℕ) → (r ≡ 0 → ⊥) → Answers (Refused r) b (commitOn b h m)
+  unfolding commitOn
+  commit-refused m d = rw (← e, ne-eqb r 0 d) (record { answer = refusal r d; book = refl })
+
+  pub commit-goes : (m n : ℕ) (s : Commit) (x : List ℕ) → r ≡ 0 → n ≡ get b (arena size) → Answers s x (commitCall n b h m) → Answers s x (commitOn b h m)
+  unfolding commitOn
+  commit-goes m n s x z f k = rw (← e, eq-eqb r 0 z) (rw f at k)
+
+  pub grow-refused : (q old new : ℕ) → (r ≡ 0 → ⊥) → Grew (Grow.Refused r) b (growOn b h q old new)
+  unfolding growOn
+  grow-refused q old new d = rw (← e, ne-eqb r 0 d) (record { answer = grow-refusal r d; book = refl })
+
+  pub grow-goes : (q old new n : ℕ) (s : Grow) (x : List ℕ) → r ≡ 0 → n ≡ get b (arena size) → Grew s x (growCall n b h q old new) → Grew s x (growOn b h q old new)
+  unfolding growOn
+  grow-goes q old new n s x z f k = rw (← e, eq-eqb r 0 z) (rw f at k)
+
+  pub release-refused : (q m : ℕ) → (r ≡ 0 → ⊥) → Releases r b (releaseOn b h q m)
+  unfolding releaseOn
+  release-refused q m d = rw (← e, ne-eqb r 0 d) (record { code = refl; book = refl })
+
+  pub release-goes : (q m n s : ℕ) (x : List ℕ) → r ≡ 0 → n ≡ get b (arena size) → Releases s x (releaseCall n b q m) → Releases s x (releaseOn b h q m)
+  unfolding releaseOn
+  release-goes q m n s x z f k = rw (← e, eq-eqb r 0 z) (rw f at k)
+
 module _ (b : List ℕ) (r : ℕ) (e : r ≡ metaFault b) where
-  pub commit-refused : (h m : ℕ) → (r ≡ 0 → ⊥) → Answers (Refused r) b (commitOn b h m)
-  unfolding commitOn
-  commit-refused h m d = rw (← e, ne-eqb r 0 d) (record { answer = refusal r d; book = refl })
-
-  pub commit-goes : (h m n : ℕ) (s : Commit) (x : List ℕ) → r ≡ 0 → n ≡ get b (arena size) → Answers s x (commitCall n b h m) → Answers s x (commitOn b h m)
-  unfolding commitOn
-  commit-goes h m n s x z f k = rw (← e, eq-eqb r 0 z) (rw f at k)
-
-  pub grow-refused : (h q old new : ℕ) → (r ≡ 0 → ⊥) → Grew (Grow.Refused r) b (growOn b h q old new)
-  unfolding growOn
-  grow-refused h q old new d = rw (← e, ne-eqb r 0 d) (record { answer = grow-refusal r d; book = refl })
-
-  pub grow-goes : (h q old new n : ℕ) (s : Grow) (x : List ℕ) → r ≡ 0 → n ≡ get b (arena size) → Grew s x (growCall n b h q old new) → Grew s x (growOn b h q old new)
-  unfolding growOn
-  grow-goes h q old new n s x z f k = rw (← e, eq-eqb r 0 z) (rw f at k)
-
-  pub release-refused : (h q m : ℕ) → (r ≡ 0 → ⊥) → Releases r b (releaseOn b h q m)
-  unfolding releaseOn
-  release-refused h q m d = rw (← e, ne-eqb r 0 d) (record { code = refl; book = refl })
-
-  pub release-goes : (h q m n s : ℕ) (x : List ℕ) → r ≡ 0 → n ≡ get b (arena size) → Releases s x (releaseCall n b h q m) → Releases s x (releaseOn b h q m)
-  unfolding releaseOn
-  release-goes h q m n s x z f k = rw (← e, eq-eqb r 0 z) (rw f at k)
-
   pub contains-refused : (o k : ℕ) → (r ≡ 0 → ⊥) → false ≡ containsOn b o k
   unfolding containsOn
   contains-refused o k d = rw (← e, ne-eqb r 0 d)

@@ -1,3 +1,4 @@
+mod FaultWays
 mod DirectWays
 mod TakeWays
 mod ReleaseWays

@@ -1,5 +1,5 @@
 -- The exported calls that go straight to the arena, on any book and any numbers: the answer, the book and the out-parameters
--- afterwards, refusals included. Numbers 1 and 2 come first; then the call is one on an arena of the length that the book holds.
+-- afterwards, refusals included. Numbers 1 to 3 come first; then the call is one on an arena of the length that the book holds.
 -- Assumes nothing.
 use Prim.Native.Nat.{ℕ}
 use mathlib.Core.List.{List, [], _∷_}
@@ -21,6 +21,7 @@ use Rattle.arena.specs.Calls.{Committed, commitRefused, commitCall, Done, doneR
 use Rattle.arena.specs.Open.{opened}
 use Rattle.runs.specs.Answer.{commitAnswer, commitCode}
 use Rattle.direct.specs.Answer.{grownAs, growCode, reportOf}
+use Rattle.vigbuso.specs.Faults.{callFault}
 
 -- ---- opening
 unfoldable pub openOn : List ℕ → ℕ → Outcome
@@ -28,7 +29,7 @@ openOn b n = cond (eqb (lengthFault n (length b)) 0) (ends 0 (opened n b)) (ends
 
 -- ---- commit: for none, the first page is the greatest number
 unfoldable pub commitOn : List ℕ → ℕ → ℕ → Committed
-commitOn b h m = cond (eqb (metaFault b) 0) (commitCall (get b (arena size)) b h m) (commitRefused b (metaFault b))
+commitOn b h m = cond (eqb (callFault b h) 0) (commitCall (get b (arena size)) b h m) (commitRefused b (callFault b h))
 
 abbrev pub firstOut : Commit → ℕ → ℕ
 firstOut (Refused k) old = old
@@ -49,7 +50,7 @@ pub record CommitEnds (o : Committed) (r : ℕ) (b : List ℕ) (q q′ f f′ : 
 
 -- ---- growth
 unfoldable pub growOn : List ℕ → ℕ → ℕ → ℕ → ℕ → Done
-growOn b h q old new = cond (eqb (metaFault b) 0) (growCall (get b (arena size)) b h q old new) (doneRefused b (metaFault b))
+growOn b h q old new = cond (eqb (callFault b h) 0) (growCall (get b (arena size)) b h q old new) (doneRefused b (callFault b h))
 
 abbrev pub grownOut : Grow → ℕ → ℕ
 grownOut (Grow.Refused k) old = old
@@ -63,7 +64,7 @@ pub record GrowEnds (o : Done) (r : ℕ) (b : List ℕ) (g g′ : ℕ) : Type 0 
 
 -- ---- release
 unfoldable pub releaseOn : List ℕ → ℕ → ℕ → ℕ → Done
-releaseOn b h q m = cond (eqb (metaFault b) 0) (releaseCall (get b (arena size)) b h q m) (doneRefused b (metaFault b))
+releaseOn b h q m = cond (eqb (callFault b h) 0) (releaseCall (get b (arena size)) b q m) (doneRefused b (callFault b h))
 
 -- ---- contains, as a number: no on a book that 1 or 2 would refuse
 unfoldable pub containsOn : List ℕ → ℕ → ℕ → Bool

@@ -1,4 +1,5 @@
-// The calls that go straight to the arena. Any number and any book is taken: numbers 1 and 2 stand before each call.
+// The calls that go straight to the arena. Any number and any book is taken: numbers 1 to 3 stand before each call.
+use crate::faults::call_fault;
 use direct::Grow;
 use direct::Report;
 use runs::Commit;
@@ -24,7 +25,7 @@ pub extern "C" fn vigbuso_open(meta: &mut [u32], pages: u64) -> u32
 fn commit_on(meta: &mut [u32], host: u32, pages: u64) -> Commit
     ensures { λ r. ⌜ Answers r (now (meta .exit)) (commitOn (now (meta .entry)) host pages) ⌝ }
 {
-    let fault = fields::fault::meta_fault(meta);
+    let fault = call_fault(meta, host);
     if fault != 0 {
         return Commit::Refused(fault);
     }
@@ -60,7 +61,7 @@ pub extern "C" fn vigbuso_commit(
 fn grow_on(meta: &mut [u32], host: u32, first: u64, old: u64, new: u64) -> Grow
     ensures { λ r. ⌜ Grew r (now (meta .exit)) (growOn (now (meta .entry)) host first old new) ⌝ }
 {
-    let fault = fields::fault::meta_fault(meta);
+    let fault = call_fault(meta, host);
     if fault != 0 {
         return Grow::Refused(fault);
     }
@@ -96,12 +97,12 @@ pub extern "C" fn vigbuso_grow_frontier(
 pub extern "C" fn vigbuso_release(meta: &mut [u32], host: u32, first: u64, pages: u64) -> u32
     ensures { λ r. ⌜ Releases r (now (meta .exit)) (releaseOn (now (meta .entry)) host first pages) ⌝ }
 {
-    let fault = fields::fault::meta_fault(meta);
+    let fault = call_fault(meta, host);
     if fault != 0 {
         return fault;
     }
     let size = fields::arena::size(meta);
-    direct::calls::release(meta, size, host, first, pages)
+    direct::calls::release(meta, size, first, pages)
 }
 
 fn contains_on(meta: &[u32], offset: u64, length: u64) -> bool
