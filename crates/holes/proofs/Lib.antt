@@ -1,8 +1,11 @@
 mod Again
 mod Big
+mod Calling
 mod Choosing
 mod Filled
 mod Laid
 mod Least
 mod Loading
 mod Planning
+mod Proving
+mod Walk
