@@ -1,10 +1,10 @@
-mod Again
-mod Big
 mod Calling
 mod Choosing
 mod Filled
 mod Laid
 mod Least
+mod Lending
+mod Literal
 mod Loading
 mod Planning
 mod Proving

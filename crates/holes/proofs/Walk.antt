@@ -1,7 +1,7 @@
 -- What the walks by hand of this crate share: the names of the logic that they use, the laws of what is passed by value and of what is lent, and a slice's machine value.
 --     number, truth, unit, aHole, aBest, aPlan, anArena, aGain     plain data
 --     byValue, lent, lentMut, recordMut                     a parameter: plain data, a `&[T]`, a `&mut [T]`, a `&mut Arena`
---     machine, Lent, scaled                                 a slice's machine value, what a `&[T]` owns, and that an element's offset fits
+--     holeVals, machine, Lent, scaled                       a hole's and a slice's machine values, what a `&[T]` owns, and that an element's offset fits
 -- Assumes nothing.
 use mir.Syntax.{Width}
 use denote.Exit.{yes}
@@ -106,6 +106,9 @@ module _ {n : ℕ} where
     recordMut = record { stay = stay-ref (j ∷ []) ok (plain (λ _. R)); goes = λ 𝓤 H A W. goes-ref 𝓤 H A W n j ok (plain (λ _. R)); vals = λ κs. ptr-vals; tells = λ κs. mut-tells (nameOf (j ∷ [])) (meetAt n (j ∷ []) ok κs) R }
 
 -- ---- a lent slice
+abbrev pub holeVals : hole.the-row .Denot → List Val
+holeVals h = aHole .low h ∷ []
+
 abbrev pub machine : {X : Type 0} → RefT (List X) → Val
 machine s = sliceVal (s .ptr) (length (s .now))
 

@@ -50,7 +50,7 @@ use Rattle.arena.specs.Load.{loadHoles}
 use Rattle.arena.specs.Fair.{holeFair}
 use Rattle.arena.specs.Plan.{planOf}
 use Rattle.holes.specs.Scan.{pickedOf, plannedOf, cutOf, cutBest}
-use Rattle.holes.proofs.Again.{lend-mut, back-mut, lend-shr, back-shr}
+use Rattle.holes.proofs.Lending.{lend-mut, back-mut, lend-shr, back-shr}
 use Rattle.holes.proofs.Planning.{plan-is, picked-within}
 use Rattle.model.specs.declared.Hole.{Hole}
 use Rattle.holes.specs.declared.holes.Best.{Best}

@@ -49,7 +49,7 @@ use Rattle.fields.specs.Field.{hole, start, word}
 use Rattle.arena.specs.Load.{loadHoles}
 use Rattle.arena.specs.Plan.{planOf}
 use Rattle.holes.specs.Scan.{noHole}
-use Rattle.holes.proofs.Big.{big-lit}
+use Rattle.holes.proofs.Literal.{big-lit}
 use Rattle.holes.proofs.Filled.{filled, copies, copies-length, fills, filled-own}
 use Rattle.holes.proofs.Laid.{laid, lifted}
 use Rattle.model.specs.declared.Hole.{Hole}
