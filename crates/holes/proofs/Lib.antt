@@ -8,4 +8,5 @@ mod Literal
 mod Loading
 mod Planning
 mod Proving
+mod Sized
 mod Walk

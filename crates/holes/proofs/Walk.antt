@@ -35,7 +35,8 @@ pub use base.Fml.{GName, Lft, Share, Fml, ftrue, fsep, fat, froom, fdies, flft, 
 pub use borrow.Author.Tests.{ltb-true, ltb-false}
 pub use prog.Memory.{Memory}
 pub use prog.Routine.{Routine}
-pub use prog.Wp.{Heap, Out, Env, afterSeq, afterBlock, afterTurn, Wp, atReturn, WpFn, Tables}
+unfoldable pub use prog.Wp.{afterTurn}
+pub use prog.Wp.{Heap, Out, Env, afterSeq, afterBlock, Wp, atReturn, WpFn, Tables}
 pub use ghost.Atoms.{Atoms}
 pub use contract.Monad.{Fun}
 pub use contract.Running.{givenOf, tables, tablesOf}
@@ -59,10 +60,12 @@ pub use denote.Slice.{sliceTy, sliceVal, ShrSlice, MutSlice, Room, heres, codedH
 pub use denote.Steps.{only, opens, closes, owned, peeks, nothing}
 pub use denote.Struct.Steps.{spelt}
 pub use denote.Triple.Entry.{Args, Vals, onEntry}
+pub use denote.Triple.Bound.{Bound}
 pub use denote.Triple.Spec.{Meets}
 pub use denote.Triple.Walked.{says, needs}
 pub use borrow.Table.OneValue.{part-in-at, part-out-at}
 pub use Rattle.holes.proofs.Calling.{Plain, arg, holds, asks, asks-lent, asks-new, asks-both, calls, calls-plain, calls-lent}
+pub use Rattle.holes.proofs.Least.{by-test}
 pub use Rattle.holes.proofs.Proving.{Takens, Ends, ends, known, shown}
 
 -- ---- plain data
@@ -118,8 +121,3 @@ Lent κ R s = ShrSlice (named 0) κ R .own s (machine s ∷ [])
 -- the byte offset of an element of eight bytes fits
 pub scaled : {n i : ℕ} → n * 8 < 2 ^ 63 → i < n → i * 8 < 2 ^ 64
 scaled g l = omega arith
-
--- by the answer of a test
-pub by-test : {P : Type 1} (t : Bool) → (t ≡ true → P) → (t ≡ false → P) → P
-by-test true f g = f refl
-by-test false f g = g refl
