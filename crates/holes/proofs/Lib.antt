@@ -6,6 +6,7 @@ mod Least
 mod Lending
 mod Literal
 mod Loading
+mod Looping
 mod Planning
 mod Proving
 mod Sized

@@ -2,7 +2,7 @@
 -- `hole_from` a copy with its lifetime's token, which comes back. The holes' borrow is closed where the loop's test is reached, at the list of that turn; a turn opens it,
 -- stores one hole, and closes it. The variant is what is left of the count.
 -- Assumes nothing.
-use Rattle.holes.proofs.Walk.{_≡_, refl, sym, ap, subst, _∙_, ℕ, _+_, _-_, _<_, _≤_, _^_, arith, Bool, true, false, _&&_, List, [], _∷_, InvImage·wf, ltb, length, set, take, length-set, Nat·lt-wfRel, URA, fullShare, Ty, named, imm, mut, loop, w32, w64, tyInt, tyBool, tyPtr, tyRef, Val, vbool, vint, vptr, SProp, ent, id⊢, GName, Lft, Share, Fml, ftrue, fat, froom, fdies, flft, fobs, fbor, ltb-true, ltb-false, Memory, Routine, afterTurn, Heap, Out, Env, afterSeq, afterBlock, Wp, atReturn, WpFn, Tables, Atoms, Fun, givenOf, tables, tablesOf, Given, Item, Sq, runs, anyQ, atRet, ‵, _⊛_, ⋆, _$_, _∵_, !, qed, by, move, drop, split, join, rewrite, fsplit, fjoin, suffices, frame, done, whole, sub, look-in, look, init, store, store-raw, forget, stop, hop, fld, from, load, lit, true-lit, of-opd, un, bin, and-then, no-more, first, blocks, stays, leaves-loop, exec, assigns, assigns-last, land, returns, enter, alloc1, alloc0, params1, pass1, pass0, free1, free0, Below, again, loops, fmOf, RattleType, owns, Is, shows, pointee, mem, pureI, u32, bool, place-is, elem-out, elem-put, opens-slice, closes-slice, Held, RefT, now, sliceTy, sliceVal, ShrSlice, MutSlice, Room, heres, codedHoleys, at-slice, shr-slice-lawful, shr-slice-copy, owned, Args, Vals, onEntry, Meets, says, needs, arg, holds, asks, asks-lent, calls-plain, calls-lent, by-test, Takens, Ends, ends, known, shown, number, truth, aHole, byValue, lent, lentMut, holeVals, machine, Lent, scaled}
+use Rattle.holes.proofs.Walk.{_≡_, refl, sym, ap, subst, _∙_, ℕ, _+_, _-_, _<_, _≤_, _^_, arith, Bool, true, false, _&&_, List, [], _∷_, ltb, length, set, take, length-set, URA, fullShare, Ty, named, imm, mut, w32, w64, tyInt, tyBool, tyPtr, tyRef, Val, vbool, vint, vptr, SProp, ent, id⊢, GName, Lft, Share, Fml, ftrue, fat, froom, fdies, flft, fobs, fbor, ltb-true, ltb-false, Memory, Routine, afterTurn, Heap, Env, WpFn, Tables, Atoms, Fun, givenOf, tables, tablesOf, Given, Item, Sq, runs, atRet, ‵, _⊛_, ⋆, _$_, _∵_, !, qed, by, move, drop, split, join, rewrite, fsplit, fjoin, suffices, frame, done, whole, sub, look-in, look, init, store, store-raw, forget, stop, hop, fld, from, load, lit, true-lit, of-opd, un, bin, and-then, no-more, first, blocks, stays, leaves-loop, exec, assigns, assigns-last, land, returns, enter, alloc1, alloc0, params1, pass1, pass0, free1, free0, again, fmOf, RattleType, owns, Is, shows, pointee, mem, pureI, u32, bool, place-is, elem-out, elem-put, opens-slice, closes-slice, Held, RefT, now, sliceTy, sliceVal, ShrSlice, MutSlice, Room, heres, codedHoleys, at-slice, shr-slice-lawful, shr-slice-copy, owned, Args, Vals, onEntry, Meets, says, needs, arg, holds, asks, asks-lent, calls-plain, calls-lent, by-test, Takens, Ends, ends, known, shown, number, truth, aHole, byValue, lent, lentMut, holeVals, machine, Lent, scaled}
 use lib.Dec.{lit<}
 use lib.ListN.{drop as keep-from}
 use Rattle.fields.specs.Field.{hole, start, pages, word as wordAt}
@@ -11,6 +11,7 @@ use Rattle.model.specs.Lists.{every}
 use Rattle.arena.specs.Load.{loadHole, loadHoles}
 use Rattle.arena.specs.Fair.{holeFair}
 use Rattle.holes.specs.Scan.{noHole}
+use Rattle.holes.proofs.Looping.{Nearer, OneTurn, loop-from}
 use Rattle.holes.proofs.Loading.{load-step, fair-step, rest-step}
 use Rattle.model.proofs.Hole as T
 use Rattle.holes.proofs.holes.hole_from
@@ -74,8 +75,8 @@ module _ {M : Type 1} (𝓤 : URA M) (H : Heap 𝓤) (A : Atoms 𝓤) (W : Given
     rest : keep-from i hs ≡ keep-from i ys
     so-far : fair ≡ every ok (loadHoles (now m) 0 i)
 
-  abbrev Less : Turn → Turn → Type 0
-  Less t′ t = count - t′ .i < count - t .i
+  abbrev left : Turn → ℕ
+  left t = count - t .i
 
   -- the turn after one that stores r and answers y
   abbrev next : (t : Turn) (r : Hole) (y : Bool) → t .i < count → r ≡ loadHole (now m) (t .i) → y ≡ (t .fair && ok r) → Turn
@@ -118,10 +119,10 @@ module _ {M : Type 1} (𝓤 : URA M) (H : Heap 𝓤) (A : Atoms 𝓤) (W : Given
     abbrev I : Turn → List (Item 𝓤)
     I t = Ctx (t .i) (t .hs) (t .fair)
 
-    abbrev Left : Out → SProp 𝓤
-    Left = afterBlock 𝓤 H (afterSeq 𝓤 H (Wp 𝓤 H (𝓣 .C) (𝓣 .Λ) En body.t-4 (atReturn 𝓤 H En Post)) (atReturn 𝓤 H En Post))
+    abbrev Turned : Turn → Type 1
+    Turned = OneTurn W 𝓣 En body.turn-1 body.t-4 Post left I
 
-    more : (t : Turn) → ltb (t .i) count ≡ true → Sq W (I t) (runs (𝓣 .C) (𝓣 .Λ) En body.turn-1 (anyQ (afterTurn 𝓤 H (Below 𝓤 H A Less I t) Left)))
+    more : (t : Turn) → ltb (t .i) count ≡ true → Turned t
     unfolding afterTurn
     more t test =
         let l : t .i < count = ltb-true _ _ test in
@@ -155,9 +156,9 @@ module _ {M : Type 1} (𝓤 : URA M) (H : Heap 𝓤) (A : Atoms 𝓤) (W : Given
         land ! (from ! (stop !)) (store ! 18 refl (tt, tt)) $
         assigns-last ! (bin ! (load ! (from ! (stop !)) (look ! 16 refl)) (lit ! tt) (record { fits = next-fits })) (from ! (stop !)) (store ! 16 refl (tt, record { fits = next-fits })) $
         forget ! 6 refl $ forget ! 8 refl $ forget ! 10 refl $ forget ! 12 refl $ forget ! 14 refl $ move ! (3 ∷ 4 ∷ []) $
-        again ! Less I t (next t r y l e₁ e₂) (omega arith))))
+        again ! (Nearer left) I t (next t r y l e₁ e₂) (omega arith))))
 
-    leaves : (t : Turn) → ltb (t .i) count ≡ false → Sq W (I t) (runs (𝓣 .C) (𝓣 .Λ) En body.turn-1 (anyQ (afterTurn 𝓤 H (Below 𝓤 H A Less I t) Left)))
+    leaves : (t : Turn) → ltb (t .i) count ≡ false → Turned t
     unfolding afterTurn
     leaves t test =
         assigns ! (bin ! (load ! (from ! (stop !)) (look ! 16 refl)) (load ! (from ! (stop !)) (look ! 24 refl)) tt) (from ! (stop !)) (init ! 12 refl (tt, tt)) $
@@ -169,15 +170,12 @@ module _ {M : Type 1} (𝓤 : URA M) (H : Heap 𝓤) (A : Atoms 𝓤) (W : Given
         move ! (16 ∷ 17 ∷ []) $ free1 ! $ move ! (14 ∷ 15 ∷ []) $ free1 ! $ move ! (12 ∷ 13 ∷ []) $ free1 ! $ move ! (10 ∷ 11 ∷ []) $ free1 ! $ move ! (8 ∷ 9 ∷ []) $ free1 ! $ move ! (6 ∷ 7 ∷ []) $ free1 ! $ free0 ! $
         by ! (exits t (ltb-false _ _ test))
 
-    turns : (t : Turn) → Sq W (I t) (runs (𝓣 .C) (𝓣 .Λ) En body.turn-1 (anyQ (afterTurn 𝓤 H (Below 𝓤 H A Less I t) Left)))
+    turns : (t : Turn) → Turned t
     turns t = by-test (ltb (t .i) count) (more t) (leaves t)
-
-    loop-from : (t : Turn) → Sq W (I t) (runs (𝓣 .C) (𝓣 .Λ) En (loop body.turn-1) (anyQ Left))
-    loop-from t = loops ! 𝓣 Less (InvImage·wf (λ (t : Turn). count - t .i) (Nat·lt-wfRel .wf)) I turns t
 
     goes-on : Sq W (Ctx 0 ys true) (runs (𝓣 .C) (𝓣 .Λ) En body.t-3 (atRet En Post))
     unfolding loadHoles
-    goes-on = first ! $ blocks ! $ loop-from (record { i = 0; hs = ys; fair = true; len = refl; up-to = omega arith; loaded = refl; rest = refl; so-far = refl })
+    goes-on = first ! $ blocks ! $ loop-from W 𝓣 En body.turn-1 body.t-4 Post left I turns (record { i = 0; hs = ys; fair = true; len = refl; up-to = omega arith; loaded = refl; rest = refl; so-far = refl })
 
   walk : Is (ShrSlice (named 0) κ u32) m (machine m ∷ []) → ent 𝓤 (onEntry 𝓤 H A f.signature (κ, (κ′, tt)) (q, (q′, tt)) x at)
       (WpFn 𝓤 H (𝓣 .C) (𝓣 .Λ) f.Code.function (machine m ∷ v ∷ vint w32 count ∷ vint w32 total ∷ vint w32 frontier ∷ []) Post)

@@ -1,7 +1,7 @@
 -- `holes::holes::scan` meets its contract: a walk of its MIR, by hand, with a loop. The loop's invariant is over a record `Turn`: the index, the key that says the least fit of the holes before
 -- it, and the facts of them; the variant is what is left of the count. The loop's test is a call of `going`. The slice is Copy, so a turn hands `weigh` a copy with the lifetime's token, which comes back.
 -- Assumes nothing.
-use Rattle.holes.proofs.Walk.{_≡_, refl, sym, subst, _∙_, ℕ, _+_, _-_, _<_, _≤_, _^_, arith, Bool, true, false, _&&_, List, [], _∷_, InvImage·wf, ltb, leb, length, getD, take, Nat·lt-wfRel, URA, fullShare, Ty, named, imm, loop, w32, w64, tyInt, tyBool, tyRef, Val, vbool, vint, SProp, ent, id⊢, Lft, Share, Fml, ftrue, fat, froom, fdies, flft, ltb-true, Memory, Routine, afterTurn, Heap, Out, Env, afterSeq, afterBlock, Wp, atReturn, WpFn, Tables, Atoms, Fun, givenOf, tables, tablesOf, Given, Item, Sq, runs, anyQ, atRet, ‵, _⊛_, ⋆, _$_, _∵_, !, qed, by, move, rewrite, fsplit, fjoin, suffices, frame, done, look, init, store, forget, stop, from, load, lit, neg-lit, of-opd, bin, and-then, no-more, first, blocks, stays, leaves-loop, exec, assigns, assigns-last, land, returns, enter, alloc1, alloc0, params1, pass1, pass0, free1, free0, Below, again, loops, fmOf, RattleType, owns, Is, pointee, mem, u32, RefT, now, sliceTy, ShrSlice, shr-slice-lawful, shr-slice-copy, owned, Args, Vals, onEntry, Meets, says, needs, arg, holds, asks, asks-lent, calls-plain, calls-lent, by-test, Takens, Ends, ends, known, shown, number, truth, aBest, byValue, lent, machine, Lent}
+use Rattle.holes.proofs.Walk.{_≡_, refl, sym, subst, _∙_, ℕ, _+_, _-_, _<_, _≤_, _^_, arith, Bool, true, false, _&&_, List, [], _∷_, ltb, leb, length, getD, take, URA, fullShare, Ty, named, imm, w32, w64, tyInt, tyBool, tyRef, Val, vbool, vint, SProp, ent, id⊢, Lft, Share, Fml, ftrue, fat, froom, fdies, flft, ltb-true, Memory, Routine, afterTurn, Heap, Env, WpFn, Tables, Atoms, Fun, givenOf, tables, tablesOf, Given, Item, Sq, runs, atRet, ‵, _⊛_, ⋆, _$_, _∵_, !, qed, by, move, rewrite, fsplit, fjoin, suffices, frame, done, look, init, store, forget, stop, from, load, lit, neg-lit, of-opd, bin, and-then, no-more, first, blocks, stays, leaves-loop, exec, assigns, assigns-last, land, returns, enter, alloc1, alloc0, params1, pass1, pass0, free1, free0, again, fmOf, RattleType, owns, Is, pointee, mem, u32, RefT, now, sliceTy, ShrSlice, shr-slice-lawful, shr-slice-copy, owned, Args, Vals, onEntry, Meets, says, needs, arg, holds, asks, asks-lent, calls-plain, calls-lent, by-test, Takens, Ends, ends, known, shown, number, truth, aBest, byValue, lent, machine, Lent}
 use lib.Dec.{lit<}
 use lib.Seq.{length-take-le}
 use Rattle.model.specs.HoleStore.{leastFit}
@@ -9,6 +9,7 @@ use Rattle.holes.specs.Scan.{noHole, bestOf, noKey, betterOf, bestAt}
 use Rattle.model.specs.declared.Hole.{Hole}
 use Rattle.holes.specs.declared.holes.Best.{Best}
 use Rattle.holes.proofs.Choosing.{both-true}
+use Rattle.holes.proofs.Looping.{Nearer, OneTurn, loop-from}
 use Rattle.holes.proofs.Least.{Says, key-start, key-step, key-stop, key-end}
 use Rattle.model.proofs.Hole as T
 use Rattle.holes.proofs.holes.Best as B
@@ -61,8 +62,8 @@ module _ {M : Type 1} (𝓤 : URA M) (H : Heap 𝓤) (A : Atoms 𝓤) (W : Given
     up-to : i ≤ count
     same : Says need u (leastFit need (take i (now s)))
 
-  abbrev Less : Turn → Turn → Type 0
-  Less t′ t = count - t′ .i < count - t .i
+  abbrev left : Turn → ℕ
+  left t = count - t .i
 
   abbrev test : Turn → Bool
   test t = ltb (t .i) count && leb (t .i) (t .u)
@@ -101,12 +102,11 @@ module _ {M : Type 1} (𝓤 : URA M) (H : Heap 𝓤) (A : Atoms 𝓤) (W : Given
     abbrev I : Turn → List (Item 𝓤)
     I t = Ctx (t .i) (t .u)
 
-    -- when the loop is left, the rest of the body runs
-    abbrev Left : Out → SProp 𝓤
-    Left = afterBlock 𝓤 H (afterSeq 𝓤 H (Wp 𝓤 H (𝓣 .C) (𝓣 .Λ) En body.t-4 (atReturn 𝓤 H En Post)) (atReturn 𝓤 H En Post))
+    abbrev Turned : Turn → Type 1
+    Turned = OneTurn W 𝓣 En body.turn-1 body.t-4 Post left I
 
     -- a turn that weighs a hole
-    more : (t : Turn) → test t ≡ true → Sq W (I t) (runs (𝓣 .C) (𝓣 .Λ) En body.turn-1 (anyQ (afterTurn 𝓤 H (Below 𝓤 H A Less I t) Left)))
+    more : (t : Turn) → test t ≡ true → Turned t
     unfolding afterTurn
     more t on =
         let l : t .i < count = ltb-true _ _ (both-true (ltb (t .i) count) (leb (t .i) (t .u)) on .0) in
@@ -123,10 +123,10 @@ module _ {M : Type 1} (𝓤 : URA M) (H : Heap 𝓤) (A : Atoms 𝓤) (W : Given
         (number w64) (λ r. Weighed t r) (λ r ws. id⊢ 𝓤 _) (and-then ! (load ! (from ! (stop !)) (look ! 13 refl)) (and-then ! (load ! (from ! (stop !)) (look ! 9 refl)) (and-then ! (load ! (from ! (stop !)) (look ! 5 refl)) (and-then ! (load ! (from ! (stop !)) (look ! 7 refl)) (no-more !))))) (λ r is w.
         land ! (from ! (stop !)) (store ! 7 refl (tt, record { fits = is .1 })) $
         assigns-last ! (bin ! (load ! (from ! (stop !)) (look ! 5 refl)) (lit ! tt) (record { fits = next-fits })) (from ! (stop !)) (store ! 5 refl (tt, record { fits = next-fits })) $ forget ! 3 refl $
-        again ! Less I t (record { i = t .i + 1; u = r; u-fits = is .1; up-to = omega arith; same = weighed-is t r l w }) (omega arith)))
+        again ! (Nearer left) I t (record { i = t .i + 1; u = r; u-fits = is .1; up-to = omega arith; same = weighed-is t r l w }) (omega arith)))
 
     -- the turn that leaves the loop, and the rest of the body
-    leaves : (t : Turn) → test t ≡ false → Sq W (I t) (runs (𝓣 .C) (𝓣 .Λ) En body.turn-1 (anyQ (afterTurn 𝓤 H (Below 𝓤 H A Less I t) Left)))
+    leaves : (t : Turn) → test t ≡ false → Turned t
     unfolding afterTurn
     leaves t on =
         let g : t .i < 2 ^ 32 = omega (arith, t .up-to) in
@@ -141,15 +141,11 @@ module _ {M : Type 1} (𝓤 : URA M) (H : Heap 𝓤) (A : Atoms 𝓤) (W : Given
         move ! (15 ∷ 16 ∷ []) $ free1 ! $ move ! (13 ∷ 14 ∷ []) $ free1 ! $ move ! (11 ∷ 12 ∷ []) $ free1 ! $ move ! (9 ∷ 10 ∷ []) $ free1 ! $ move ! (7 ∷ 8 ∷ []) $ free1 ! $ move ! (5 ∷ 6 ∷ []) $ free1 ! $ move ! (3 ∷ 4 ∷ []) $ free1 ! $ free0 ! $
         by ! (exits r is (best-is t r on e′))))
 
-    turns : (t : Turn) → Sq W (I t) (runs (𝓣 .C) (𝓣 .Λ) En body.turn-1 (anyQ (afterTurn 𝓤 H (Below 𝓤 H A Less I t) Left)))
+    turns : (t : Turn) → Turned t
     turns t = by-test (test t) (more t) (leaves t)
 
-    -- the loop and what follows it, from any turn
-    loop-from : (t : Turn) → Sq W (I t) (runs (𝓣 .C) (𝓣 .Λ) En (loop body.turn-1) (anyQ Left))
-    loop-from t = loops ! 𝓣 Less (InvImage·wf (λ (t : Turn). count - t .i) (Nat·lt-wfRel .wf)) I turns t
-
     goes-on : Sq W (Ctx 0 noKey) (runs (𝓣 .C) (𝓣 .Λ) En body.t-3 (atRet En Post))
-    goes-on = first ! $ blocks ! $ loop-from (record { i = 0; u = noKey; u-fits = lit< tt; up-to = omega arith; same = key-start (now s) count within count-fits need need-fits })
+    goes-on = first ! $ blocks ! $ loop-from W 𝓣 En body.turn-1 body.t-4 Post left I turns (record { i = 0; u = noKey; u-fits = lit< tt; up-to = omega arith; same = key-start (now s) count within count-fits need need-fits })
 
   walk : Is (ShrSlice (named 0) κ R) s (machine s ∷ []) → ent 𝓤 (onEntry 𝓤 H A f.signature (κ, tt) (q, tt) x at) (WpFn 𝓤 H (𝓣 .C) (𝓣 .Λ) f.Code.function (machine s ∷ vint w32 count ∷ vint w32 need ∷ []) Post)
   walk p =
