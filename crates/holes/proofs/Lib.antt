@@ -1,8 +1,13 @@
-mod Again
-mod Big
+mod Calling
 mod Choosing
 mod Filled
 mod Laid
 mod Least
+mod Lending
+mod Literal
 mod Loading
+mod Looping
 mod Planning
+mod Proving
+mod Sized
+mod Walk

@@ -11,19 +11,18 @@ use mathlib.Core.Option.{Option, none, some}
 use lib.Dec.{eqb, ltb}
 use lib.ListN.{length, getD, set, take, length-take}
 use lib.Seq.{getD-take, take-take, take-set-lt, take-set-le, set-out, length-take-le}
-use borrow.Author.Tests.{ltb-true, ltb-false, lt-ltb, le-ltb, ne-eqb}
+use borrow.Author.Tests.{ltb-true, ltb-false, ne-eqb}
 use Rattle.model.specs.declared.Hole.{Hole}
 use Rattle.model.specs.Lists.{every}
 use Rattle.model.specs.HoleStore as Model
-use Rattle.model.specs.HoleStore.{Fit, holeAt, setAt, lastHole, withoutLast, removeAt, nearer, leastFit, chooseIn}
+use Rattle.model.specs.HoleStore.{Fit, holeAt, lastHole, withoutLast, nearer, leastFit, chooseIn}
 use Rattle.arena.specs.declared.Plan.{Plan}
-use Rattle.holes.specs.declared.holes.Best.{Best}
 use Rattle.arena.specs.Load.{indexCode, loadHoles}
 use Rattle.arena.specs.Fair.{holeFair}
 use Rattle.arena.specs.Plan.{chosen, cutHoles, noPlan, planAt, planOf}
 use Rattle.holes.specs.Scan.{noHole, bestOf, holeOf, storedOf, drawnOf, pickedOf, plannedOf, cutOf, leftOf, cutBest}
 use Rattle.holes.proofs.Least.{by-test, exact, lowest-least}
-use Rattle.holes.proofs.Choosing.{hole-at-get, set-at-set, choice-within, chosen-within, stored-within}
+use Rattle.holes.proofs.Choosing.{hole-at-get, set-at-set, chosen-within, stored-within}
 
 -- ---- lists
 last-get : (hs : List Hole) → lastHole hs ≡ getD hs (length hs - 1) noHole

@@ -20,7 +20,6 @@ use denote.RattleType.{RattleType}
 use denote.Memory.{mem, shares}
 use denote.Index.{row, whole-in, whole-out, opens-slice, closes-slice}
 use denote.Lend.{Held, lends-slice, slice-back, lends-shr-slice}
-use denote.Ref.{RefT}
 use denote.Slice.{sliceVal, ShrSlice, MutSlice, Room, heres, codedHoleys, finally}
 
 module _ {M : Type 1} {𝓤 : URA M} {H : Heap 𝓤} {A : Atoms 𝓤} {K : Type 0} {W : Given 𝓤 H A} {Γ : List (Item 𝓤)} {G : Goal 𝓤 H} where
