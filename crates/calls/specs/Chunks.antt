@@ -14,7 +14,7 @@ use Rattle.model.specs.Release.{ofKind}
 use Rattle.model.specs.Chunks.{chunksMax, hostMax}
 use Rattle.arena.specs.Fair.{giveFair}
 use Rattle.arena.specs.Calls as Arena
-use Rattle.pages.specs.Runs.{flag}
+use Rattle.words.specs.Host.{digit}
 use Rattle.pages.specs.Stack.{back, indexOf}
 use Rattle.calls.specs.Release.{startOf, outAt, pageFair, rowFair, spotOf, Released, released, relisted, parkAt}
 
@@ -39,7 +39,7 @@ unfoldable pub runsGiven : List ℕ → Shape → List ℕ → ℕ → ℕ → �
 runsGiven b sh [] e k = 0
 runsGiven b sh (g ∷ gs) e k =
     let s = spotOf sh e k in
-    cond (returnsAll b g) (flag (eqb s 2) + runsGiven b sh gs (e + flag (eqb s 0)) (k + flag (eqb s 1))) (runsGiven b sh gs e k)
+    cond (returnsAll b g) (digit (eqb s 2) + runsGiven b sh gs (e + digit (eqb s 0)) (k + digit (eqb s 1))) (runsGiven b sh gs e k)
 
 abbrev pub pagesGiven : List ℕ → ℕ → Shape → List ℕ → ℕ
 pagesGiven b c sh gs = runsGiven b sh gs (get b (class emptyCount c)) (get b (class coldCount c)) * sh .pages

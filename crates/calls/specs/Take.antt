@@ -19,7 +19,7 @@ use Rattle.model.specs.Chunks.{hostMax}
 use Rattle.arena.specs.Calls.{Committed, commitFor}
 use Rattle.pages.specs.Runs.{whole}
 use Rattle.pages.specs.Stack.{tops, latest, draw, hasMore}
-use Rattle.pages.specs.Links.{link, unlink, top, tally, wake}
+use Rattle.pages.specs.Links.{link, unlink, top, stored, wake}
 use Rattle.pages.specs.declared.Park.{Park}
 use Rattle.pages.specs.declared.Park.the-variants.{Empty, Cold}
 use Rattle.pages.specs.Carve.{newRun}
@@ -59,8 +59,8 @@ unfoldable pub parkFair : ℕ → List ℕ → ℕ → Shape → Park → Bool
 parkFair n b c sh k =
     let q = get b (class (top k) c) - 1 in
     leb (get b (class (top k) c)) (get b (arena frontier))
-    && (not (eqb (get b (class (tally k) c)) 0)
-    && (leb (get b (class (tally k) c)) 256
+    && (not (eqb (get b (class (stored k) c)) 0)
+    && (leb (get b (class (stored k) c)) 256
     && (sound n b c sh 0 (sh .batch) q && leb (get b (page next q)) (get b (arena frontier)))))
 
 -- ---- the act

@@ -20,7 +20,7 @@ use Rattle.model.specs.Lists.{every}
 use Rattle.model.proofs.Counts.{by-cases, and-l, and-r}
 use Rattle.arena.specs.Fair.{giveFair}
 use Rattle.pages.specs.declared.Park.the-variants.{Empty, Cold}
-use Rattle.pages.specs.Runs.{flag}
+use Rattle.words.specs.Host.{digit}
 use Rattle.calls.specs.Release.{pageFair, rowFair, keepsEmpty, spotOf}
 use Rattle.calls.specs.Chunks.{returnsAll, runsGiven, pagesGiven, chunksFair}
 use Rattle.release.specs.Fair.{PageAsks}
@@ -105,7 +105,7 @@ spot-room sh e k h =
     (λ t. ltb-true e (sh .empties) (and-l _ _ t))
     (λ t. by-cases (ltb k (sh .colds)) (λ u. absurd (let z = rw (t, u) at h in omega arith)) (λ u. absurd (let z = rw (t, u) at h in omega arith)))
 
-flag-low : (t : Bool) → flag t ≤ 1
+flag-low : (t : Bool) → digit t ≤ 1
 flag-low true = omega arith
 flag-low false = omega arith
 
@@ -196,7 +196,7 @@ runs-few b sh [] e k = omega arith
 runs-few b sh (g ∷ gs) e k =
     let s = spotOf sh e k in
     by-cases (returnsAll b g)
-    (λ t. rw t (omega (arith, flag-low (eqb s 2), runs-few b sh gs (e + flag (eqb s 0)) (k + flag (eqb s 1)))))
+    (λ t. rw t (omega (arith, flag-low (eqb s 2), runs-few b sh gs (e + digit (eqb s 0)) (k + digit (eqb s 1)))))
     (λ t. rw t (omega (arith, runs-few b sh gs e k)))
 
 -- ---- the give

@@ -25,8 +25,8 @@ use Rattle.model.specs.Release.{coldFate}
 use Rattle.model.proofs.Counts.{by-cases, and-l, and-r}
 use Rattle.pages.specs.declared.Park.{Park}
 use Rattle.pages.specs.declared.Park.the-variants.{Empty, Cold}
-use Rattle.pages.specs.Runs.{flag}
-use Rattle.pages.specs.Links.{top, tally, stow}
+use Rattle.words.specs.Host.{digit}
+use Rattle.pages.specs.Links.{top, stored, stow}
 use Rattle.pages.specs.Carve.{carveAnew}
 use Rattle.pages.proofs.Frames.{changes-stow}
 use Rattle.calls.specs.Release.{Released, released, unlisted, relisted, keepsEmpty, spotOf, spotAt, parkAs, parkAt}
@@ -38,9 +38,9 @@ use Rattle.chunks.proofs.GatherPlace.{stirs, place-changes}
 
 -- where t tells whether the page has no block out, and k is its spot then
 pub record Adds (c q e k : ℕ) (t : Bool) (spot : ℕ) (r : Released) : Type 0 where
-  pub empty : get (r .book) (class emptyCount c) ≡ cond t (e + flag (eqb spot 0)) e
-  pub cold : get (r .book) (class coldCount c) ≡ cond t (k + flag (eqb spot 1)) k
-  pub gives : length (givesOf q (r .fate)) ≡ cond t (flag (eqb spot 2)) 0
+  pub empty : get (r .book) (class emptyCount c) ≡ cond t (e + digit (eqb spot 0)) e
+  pub cold : get (r .book) (class coldCount c) ≡ cond t (k + digit (eqb spot 1)) k
+  pub gives : length (givesOf q (r .fate)) ≡ cond t (digit (eqb spot 2)) 0
 
 abbrev notEmpties : Field → Bool
 notEmpties f = not (eqb (region f) 2 && eqb (off f) 2)
@@ -65,11 +65,11 @@ cold-stays sh q = by (isMedium sh)
     by false = refl
 
 module _ (n c q : ℕ) (hc : ltb c 76 ≡ true) where
-  stow-counts : (b : List ℕ) (p : Park) → leb (words n) (length b) ≡ true → get (stow b c p q) (class (tally p) c) ≡ get b (class (tally p) c) + 1
+  stow-counts : (b : List ℕ) (p : Park) → leb (words n) (length b) ≡ true → get (stow b c p q) (class (stored p) c) ≡ get b (class (stored p) c) + 1
   unfolding stow
   stow-counts b p hb =
       let b₁ = put b (page next q) (get b (class (top p) c)) in
-      get-put-same n (put b₁ (class (top p) c) (q + 1)) (class (tally p) c) _ (rw (length-put b₁ (class (top p) c) (q + 1), length-put b (page next q) (get b (class (top p) c))) hb) hc refl
+      get-put-same n (put b₁ (class (top p) c) (q + 1)) (class (stored p) c) _ (rw (length-put b₁ (class (top p) c) (q + 1), length-put b (page next q) (get b (class (top p) c))) hb) hc refl
 
   module _ (sh : Shape) (s : Sound sh) (h : ℕ) where
     as-adds : (b : List ℕ) → leb (words n) (length b) ≡ true → (spot : ℕ) → spot ≤ 2
@@ -104,11 +104,11 @@ module _ (n c q : ℕ) (hc : ltb c 76 ≡ true) where
         d₁ : List ℕ
         d₁ = put (put d₀ (page carved q) 0) (page free q) 0
 
-        same : (k : Park) → get d₁ (class (tally k) c) ≡ get b (class (tally k) c)
+        same : (k : Park) → get d₁ (class (stored k) c) ≡ get b (class (stored k) c)
         same k =
-            get-put-other (put d₀ (page carved q) 0) (page free q) (class (tally k) c) 0 refl hc refl
-            ∙ get-put-other d₀ (page carved q) (class (tally k) c) 0 refl hc refl
-            ∙ get-put-other b (page virgin q) (class (tally k) c) 0 refl hc refl
+            get-put-other (put d₀ (page carved q) 0) (page free q) (class (stored k) c) 0 refl hc refl
+            ∙ get-put-other d₀ (page carved q) (class (stored k) c) 0 refl hc refl
+            ∙ get-put-other b (page virgin q) (class (stored k) c) 0 refl hc refl
 
         by : (t : Bool) → Adds c q (get b (class emptyCount c)) (get b (class coldCount c)) t (spotAt b c sh) (cond t (markRetired (parkAs (unlisted d₁ c q) c sh h q (spotAt d₁ c sh))) (released (relisted d₀ c q) 0))
         by true =

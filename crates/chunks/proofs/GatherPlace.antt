@@ -21,9 +21,9 @@ use Rattle.model.specs.Lists.{every}
 use Rattle.model.proofs.Counts.{and-l, and-r}
 use Rattle.pages.specs.declared.Park.{Park}
 use Rattle.pages.specs.declared.Park.the-variants.{Empty, Cold}
-use Rattle.pages.specs.Runs.{flag}
+use Rattle.words.specs.Host.{digit}
 use Rattle.pages.specs.Stack.{downs, marks, push}
-use Rattle.pages.specs.Links.{pointNext, linked, cutOut, link, unlink, top, tally, stow}
+use Rattle.pages.specs.Links.{pointNext, linked, cutOut, link, unlink, top, stored, stow}
 use Rattle.pages.specs.Carve.{stocked, carveAnew}
 use Rattle.pages.proofs.Downs.{small, length-downs}
 use Rattle.pages.proofs.Frames.{stocked-le}
@@ -121,8 +121,8 @@ module _ (c q : ℕ) (hc : ltb c 76 ≡ true) (f : Field) (v : ℕ) (of : ok f �
   stow-past : (b : List ℕ) (k : Park) → stow (put b f v) c k q ≡ put (stow b c k q) f v
   unfolding stow
   stow-past b k =
-      rw (idle b (class (top k) c) hc refl, idle b (class (tally k) c) hc refl)
-      (past _ _ (class (tally k) c) _ hc refl
+      rw (idle b (class (top k) c) hc refl, idle b (class (stored k) c) hc refl)
+      (past _ _ (class (stored k) c) _ hc refl
       (past _ _ (class (top k) c) _ hc refl
       (past b _ (page next q) _ refl refl refl)))
 
@@ -138,7 +138,7 @@ module _ (c q : ℕ) (hc : ltb c 76 ≡ true) (f : Field) (v : ℕ) (of : ok f �
         let l : 0 + length (downs 0 k) ≤ 4096 = omega (arith, length-downs 0 k, stocked-le sh k refl few) in
         past _ _ (page free q) k refl (own q)
         (past _ _ (page carved q) k refl (own q)
-        (past _ _ (page virgin q) (flag z) refl refl
+        (past _ _ (page virgin q) (digit z) refl refl
         (past-push (aside q) f v of tf b _ q 0 (downs 0 k) (λ i. own q) l refl)))
 
     as-past : (b : List ℕ) (h s : ℕ) → parkAs (put b f v) c sh h q s ≡ onBook after (parkAs b c sh h q s)

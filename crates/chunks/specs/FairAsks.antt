@@ -15,7 +15,7 @@ use Rattle.fields.specs.Field.{page, free, carved, words, get}
 use Rattle.fields.specs.Ranges.{maxParked}
 use Rattle.model.specs.Lists.{every}
 use Rattle.model.specs.Chunks.{chunksMax}
-use Rattle.pages.specs.Runs.{flag}
+use Rattle.words.specs.Host.{digit}
 use Rattle.calls.specs.Release.{pageFair, rowFair, spotOf}
 use Rattle.calls.specs.Chunks.{returnsAll}
 use Rattle.release.specs.Asks.{ClassAsks}
@@ -25,7 +25,7 @@ abbrev pub chunkFair : List ℕ → Shape → ℕ → Bool
 chunkFair b sh g = pageFair b sh (countOf g) (pageOf g)
 
 abbrev pub spotted : Stores → ℕ → Stores
-spotted s k = record { empties = s .empties + flag (eqb k 0); colds = s .colds + flag (eqb k 1); runs = s .runs + flag (eqb k 2) }
+spotted s k = record { empties = s .empties + digit (eqb k 0); colds = s .colds + digit (eqb k 1); runs = s .runs + digit (eqb k 2) }
 
 unfoldable pub counted : List ℕ → Shape → ℕ → Stores → Stores
 counted b sh g s = cond (returnsAll b g) (spotted s (spotOf sh (s .empties) (s .colds))) s

@@ -14,7 +14,7 @@ use lib.ListN.{length}
 use borrow.Author.Tests.{lt-ltb, le-ltb, ltb-true, ltb-false, eq-eqb, eqb-true, eqb-false}
 use Rattle.model.specs.Lists.{every, count}
 use Rattle.model.proofs.Counts.{by-cases, and-l, and-r}
-use Rattle.pages.specs.Runs.{flag}
+use Rattle.words.specs.Host.{digit}
 use Rattle.pages.specs.Stack.{downs}
 
 abbrev pub small : ℕ → Bool
@@ -49,24 +49,24 @@ pub every-below : (m n : ℕ) → m ≤ n → (s : List ℕ) → every (λ i. lt
 every-below m n h = every-mono (λ i. ltb i m) (λ i. ltb i n) (λ i e. lt-ltb i n (omega (arith, ltb-true i m e)))
 
 -- ---- counts
-pub flag-true : (a b : ℕ) → a < b → flag (ltb a b) ≡ 1
+pub flag-true : (a b : ℕ) → a < b → digit (ltb a b) ≡ 1
 flag-true a b h = rw (lt-ltb a b h)
 
-pub flag-false : (a b : ℕ) → b ≤ a → flag (ltb a b) ≡ 0
+pub flag-false : (a b : ℕ) → b ≤ a → digit (ltb a b) ≡ 0
 flag-false a b h = rw (le-ltb a b h)
 
-pub flag-le : (t : Bool) → flag t ≤ 1
+pub flag-le : (t : Bool) → digit t ≤ 1
 flag-le true = omega arith
 flag-le false = omega arith
 
 -- by cases on a test of two numbers, with its value as a number
-pub flag-cases {ℓ} : {P : Type ℓ} (a b : ℕ) → (a < b → flag (ltb a b) ≡ 1 → P) → (b ≤ a → flag (ltb a b) ≡ 0 → P) → P
+pub flag-cases {ℓ} : {P : Type ℓ} (a b : ℕ) → (a < b → digit (ltb a b) ≡ 1 → P) → (b ≤ a → digit (ltb a b) ≡ 0 → P) → P
 flag-cases a b f g = by-cases (ltb a b) (λ e. f (ltb-true a b e) (rw e)) (λ e. g (ltb-false a b e) (rw e))
 
 pub eq-cases {ℓ} : {P : Type ℓ} (a b : ℕ) → (a ≡ b → _≡_ {A = ℕ} (cond (eqb a b) 1 0) 1 → P) → ((a ≡ b → ⊥) → _≡_ {A = ℕ} (cond (eqb a b) 1 0) 0 → P) → P
 eq-cases a b f g = by-cases (eqb a b) (λ e. f (eqb-true a b e) (rw e)) (λ e. g (eqb-false a b e) (rw e))
 
-pub count-downs : (j a k : ℕ) → count j (downs a k) + flag (ltb j a) ≡ flag (ltb j (a + k))
+pub count-downs : (j a k : ℕ) → count j (downs a k) + digit (ltb j a) ≡ digit (ltb j (a + k))
 count-downs j a zero = rw add-zero (omega arith)
 count-downs j a (suc k) =
     let ih = count-downs j a k in

@@ -17,9 +17,10 @@ use Rattle.fields.proofs.Outcome.{changes-putAt}
 use Rattle.fields.proofs.Clear.{changes-clear}
 use Rattle.model.specs.Lists.{every}
 use Rattle.pages.specs.declared.Park.{Park}
-use Rattle.pages.specs.Runs.{flag, nameRun}
+use Rattle.words.specs.Host.{digit}
+use Rattle.pages.specs.Runs.{nameRun}
 use Rattle.pages.specs.Stack.{downs, marks, pushed, back}
-use Rattle.pages.specs.Links.{pointNext, linked, cutOut, link, unlink, top, tally, stow, unstow}
+use Rattle.pages.specs.Links.{pointNext, linked, cutOut, link, unlink, top, stored, stow, unstow}
 use Rattle.pages.specs.Carve.{stocked, carveAnew, outWords, newRun}
 use Rattle.pages.proofs.Downs.{small, length-downs}
 use Rattle.pages.proofs.Marks.{marks-kept}
@@ -62,15 +63,15 @@ module _ (t : Field → Bool) (b : List ℕ) (c q : ℕ) (hc : ltb c 76 ≡ true
       (changes-putAt t b _ prev x y hx (point-changes y x hh hy))))
 
   -- ---- the stores
-  module _ (k : Park) (ht : t (class (top k) c) ≡ true) (hk : t (class (tally k) c) ≡ true) where
+  module _ (k : Park) (ht : t (class (top k) c) ≡ true) (hk : t (class (stored k) c) ≡ true) where
     pub changes-unstow : Changes t b (unstow b c k q)
     unfolding unstow
-    changes-unstow = changes-put t b _ (class (tally k) c) _ hc hk (changes-put t b b (class (top k) c) _ hc ht (changes-none t b))
+    changes-unstow = changes-put t b _ (class (stored k) c) _ hc hk (changes-put t b b (class (top k) c) _ hc ht (changes-none t b))
 
     pub changes-stow : t (page next q) ≡ true → Changes t b (stow b c k q)
     unfolding stow
     changes-stow hn =
-        changes-put t b _ (class (tally k) c) _ hc hk
+        changes-put t b _ (class (stored k) c) _ hc hk
         (changes-put t b _ (class (top k) c) _ hc ht (changes-put t b b (page next q) _ refl hn (changes-none t b)))
 
 -- ---- runs and carving
@@ -94,7 +95,7 @@ module _ (t : Field → Bool) (b : List ℕ) (q : ℕ) (hf : t (page free q) ≡
       let l : 0 + length (downs 0 k) ≤ 4096 = omega (arith, length-downs 0 k, stocked-le sh k refl h) in
       changes-put t b _ (page free q) k refl hf
       (changes-put t b _ (page carved q) k refl hk
-      (changes-put t b _ (page virgin q) (flag v) refl hv (push-changes b q 0 t hs (downs 0 k) l)))
+      (changes-put t b _ (page virgin q) (digit v) refl hv (push-changes b q 0 t hs (downs 0 k) l)))
 
 pub changes-new : (t : Field → Bool) (b : List ℕ) (sh : Shape) (q : ℕ) → sh .capacity ≤ 4096
     → t (page free q) ≡ true → t (page virgin q) ≡ true → ((i : ℕ) → t (slot q i) ≡ true) → t (page carved q) ≡ true → t (page listed q) ≡ true

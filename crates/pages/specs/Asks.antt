@@ -13,7 +13,7 @@ use Rattle.fields.specs.Field.{class, page, partial, next, prev, words, get}
 use Rattle.fields.specs.Ranges.{maxPages, maxParked}
 use Rattle.model.specs.Lists.{every}
 use Rattle.pages.specs.declared.Park.{Park}
-use Rattle.pages.specs.Links.{tally}
+use Rattle.pages.specs.Links.{stored}
 use Rattle.pages.specs.Stack.{tops, latest}
 
 -- ---- the class's lists
@@ -44,19 +44,19 @@ pub record ParkAsks (b : List ℕ) (c : ℕ) (k : Park) (q : ℕ) : Type 0 where
   pub known : c < 76
   pub below : q < maxPages
   pub there : words (q + 1) ≤ length b
-  pub few : get b (class (tally k) c) ≤ maxParked
+  pub few : get b (class (stored k) c) ≤ maxParked
 
 pub record UnparkAsks (b : List ℕ) (c : ℕ) (k : Park) (q : ℕ) : Type 0 where
   pub known : c < 76
   pub there : words (q + 1) ≤ length b
-  pub some : 1 ≤ get b (class (tally k) c)
+  pub some : 1 ≤ get b (class (stored k) c)
 
 pub record WakeAsks (b : List ℕ) (c : ℕ) (k : Park) (q : ℕ) : Type 0 where
   pub known : c < 76
   pub below : q < maxPages
   pub there : words (q + 1) ≤ length b
   pub head : words (get b (class partial c)) ≤ length b
-  pub some : 1 ≤ get b (class (tally k) c)
+  pub some : 1 ≤ get b (class (stored k) c)
 
 -- ---- runs
 -- the m pages from q on, which may be anything else

@@ -6,7 +6,8 @@ use Rattle.classes.specs.declared.Shape.{Shape}
 use Rattle.fields.specs.Field.{page, free, carved, listed, virgin, put}
 use Rattle.fields.specs.Clear.{clearOut}
 use Rattle.model.specs.Page.{isMedium}
-use Rattle.pages.specs.Runs.{flag, nameRun}
+use Rattle.words.specs.Host.{digit}
+use Rattle.pages.specs.Runs.{nameRun}
 use Rattle.pages.specs.Stack.{downs, push}
 
 -- how many blocks carving links at once: a span's all, a small page's none
@@ -15,7 +16,7 @@ stocked sh = cond (isMedium sh) (sh .capacity) 0
 
 unfoldable pub carveAnew : List ℕ → Shape → ℕ → Bool → List ℕ
 carveAnew b sh q v =
-    put (put (put (push b q 0 (downs 0 (stocked sh))) (page virgin q) (flag v)) (page carved q) (stocked sh)) (page free q) (stocked sh)
+    put (put (put (push b q 0 (downs 0 (stocked sh))) (page virgin q) (digit v)) (page carved q) (stocked sh)) (page free q) (stocked sh)
 
 -- the words of out bits that blocks below the capacity have
 abbrev pub outWords : Shape → ℕ

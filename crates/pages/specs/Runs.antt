@@ -9,9 +9,9 @@ use Rattle.classes.specs.declared.Shape.{Shape}
 use Rattle.fields.specs.Field.{arena, page, owner, first, frontier, get, put}
 use Rattle.model.specs.Lists.{every, below}
 
-abbrev pub flag : Bool → ℕ
-flag true = 1
-flag false = 0
+abbrev pub digit : Bool → ℕ
+digit true = 1
+digit false = 0
 
 abbrev pub ofRun : List ℕ → ℕ → ℕ → ℕ → Bool
 ofRun b c q k = eqb (get b (page owner (q + k))) (suc c) && eqb (get b (page first (q + k))) q

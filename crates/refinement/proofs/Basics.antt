@@ -11,7 +11,7 @@ use Rattle.classes.specs.declared.Shape.{Shape}
 use Rattle.classes.specs.Sound.{Sound}
 use Rattle.fields.specs.Field.{words}
 use Rattle.model.specs.Lists.{every, below}
-use Rattle.pages.specs.Runs.{flag}
+use Rattle.words.specs.Host.{digit}
 pub use Rattle.pages.proofs.Downs.{flag-true, flag-false, flag-le, flag-cases, eq-cases}
 
 pub record Setting (n : ℕ) (b : List ℕ) (c : ℕ) (sh : Shape) : Type 0 where
@@ -36,11 +36,11 @@ pub or-left : (s t : Bool) → s ≡ true → (s || t) ≡ true
 or-left true t e = refl
 or-left false t e = absurd (true≢false (sym e))
 
-pub flag-eqb : (v : Bool) → eqb (flag v) 1 ≡ v
+pub flag-eqb : (v : Bool) → eqb (digit v) 1 ≡ v
 flag-eqb true = refl
 flag-eqb false = refl
 
-pub flag-small : (t : Bool) → leb (flag t) 1 ≡ true
+pub flag-small : (t : Bool) → leb (digit t) 1 ≡ true
 flag-small true = refl
 flag-small false = refl
 

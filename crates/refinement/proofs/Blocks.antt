@@ -14,7 +14,7 @@ use Rattle.classes.specs.declared.Shape.{Shape}
 use Rattle.model.specs.Lists.{every, count, total, below}
 use Rattle.model.specs.Page.{wordOf, wordsFrom}
 use Rattle.model.proofs.Counts.{by-cases}
-use Rattle.pages.specs.Runs.{flag}
+use Rattle.words.specs.Host.{digit}
 use Rattle.pages.specs.Stack.{tops, downs}
 use Rattle.pages.proofs.Downs.{flag-true, flag-false, flag-cases, eq-cases}
 pub use Rattle.pages.proofs.Downs.{length-downs, count-downs}
@@ -55,15 +55,15 @@ words-downs sh q a zero = refl
 words-downs sh q a (suc k) = ap (λ l. wordOf sh q (a + k) ∷ l) (words-downs sh q a k)
 
 -- from 0 on
-pub count-downs-zero : (j k : ℕ) → count j (downs 0 k) ≡ flag (ltb j k)
-count-downs-zero j k = omega (arith, count-downs j 0 k, flag-false j 0 (omega arith), ap (λ z. flag (ltb j z)) (zero-add k))
+pub count-downs-zero : (j k : ℕ) → count j (downs 0 k) ≡ digit (ltb j k)
+count-downs-zero j k = omega (arith, count-downs j 0 k, flag-false j 0 (omega arith), ap (λ z. digit (ltb j z)) (zero-add k))
 
 -- ---- how long a list is by its counts
 total-plus : (f g : ℕ → ℕ) (l : List ℕ) → total (λ x. f x + g x) l ≡ total f l + total g l
 total-plus f g [] = omega arith
 total-plus f g (x ∷ l) = let ih = total-plus f g l in omega arith
 
-total-one : (x m : ℕ) → total (λ i. cond (eqb i x) 1 0) (below m) ≡ flag (ltb x m)
+total-one : (x m : ℕ) → total (λ i. cond (eqb i x) 1 0) (below m) ≡ digit (ltb x m)
 total-one x zero = sym (flag-false x 0 (omega arith))
 total-one x (suc m) =
     let ih = total-one x m in
@@ -88,7 +88,7 @@ total-below : (f : ℕ → ℕ) (m : ℕ) → ((i : ℕ) → f i ≤ 1) → tota
 total-below f zero h = omega arith
 total-below f (suc m) h = omega (arith, h m, total-below f m h)
 
-pub few-counts : (xs : List ℕ) (k : ℕ) → ((i : ℕ) → count i xs ≤ flag (ltb i k)) → length xs ≤ k
+pub few-counts : (xs : List ℕ) (k : ℕ) → ((i : ℕ) → count i xs ≤ digit (ltb i k)) → length xs ≤ k
 few-counts xs k h =
     omega (
       arith,

@@ -24,7 +24,7 @@ use Rattle.model.specs.Chunks as Model
 use Rattle.model.specs.Chunks.{startsAt, settleChunk, AllSettled}
 use Rattle.model.proofs.Counts.{by-cases, and-l, and-r, filter-le, distinct-count}
 use Rattle.model.proofs.Find.{firstOf, pageIn, located-first, Skips, partial-skips, full-skips}
-use Rattle.pages.specs.Runs.{flag}
+use Rattle.words.specs.Host.{digit}
 use Rattle.pages.specs.Stack.{indexOf}
 use Rattle.calls.specs.Release.{startOf, Released, keepsEmpty, spotOf}
 use Rattle.calls.specs.Chunks as Words
@@ -38,9 +38,9 @@ use Rattle.refinement.proofs.Release.{Limits, SettledRep, stays, goes, 
 
 -- what settling a page adds, where e empty and k cold pages were: a page to the store that the spot names, or a run for the arena
 record Adds (e k spot : ℕ) (gone : Bool) (y : Settled) : Type 0 where
-  empty : length (y .class .empty) ≡ cond gone (e + flag (eqb spot 0)) e
-  cold : length (y .class .cold) ≡ cond gone (k + flag (eqb spot 1)) k
-  gives : length (y .gives) ≡ cond gone (flag (eqb spot 2)) 0
+  empty : length (y .class .empty) ≡ cond gone (e + digit (eqb spot 0)) e
+  cold : length (y .class .cold) ≡ cond gone (k + digit (eqb spot 1)) k
+  gives : length (y .gives) ≡ cond gone (digit (eqb spot 2)) 0
 
 -- ---- the model's settling of one page
 module _ (sh : Shape) (h : ℕ) where

@@ -23,7 +23,7 @@ use Rattle.model.specs.Page.{Page, wordOf, wordsFrom, isOut, carvedWords}
 use Rattle.model.specs.Release.{ofKind}
 use Rattle.model.proofs.Counts.{by-cases, and-l, and-r, elem-count, count-elem}
 use Rattle.model.proofs.Pages.{word-rises}
-use Rattle.pages.specs.Runs.{flag}
+use Rattle.words.specs.Host.{digit}
 use Rattle.pages.specs.Stack.{marked, blocksFrom, indexOf}
 use Rattle.calls.specs.Release.{pageAt, startOf, outIn, inRunOf, outAt}
 use Rattle.refinement.specs.Represents.{PageRep}
@@ -166,7 +166,7 @@ module _ {n : ℕ} {b : List ℕ} {c : ℕ} {sh : Shape} (s : Setting n b c sh) 
         let t = which (s .shape) (p .first) (p .carved) w (elem-count w (carvedWords sh p) (and-l (elem w (carvedWords sh p)) (not (elem w (p .free))) e)) in
         let f = count-elem w (p .free) (not-true (elem w (p .free)) (and-r (elem w (carvedWords sh p)) (not (elem w (p .free))) e)) in
         let z : count (t .0) (r .stack) ≡ 0 = sym (free-count (t .0)) ∙ ap (λ v. count v (p .free)) (sym (t .2)) ∙ f in
-        let y : flag (ltb (t .0) (p .carved)) ≡ 1 = ap flag (lt-ltb (t .0) (p .carved) (t .1)) in
+        let y : digit (ltb (t .0) (p .carved)) ≡ 1 = ap digit (lt-ltb (t .0) (p .carved) (t .1)) in
         record { index = t .0; inside = omega (arith, t .1, r .holds .within); names = t .2; set = omega (arith, r .holds .outs (t .0)) }
 
     module _ (t : Sits b sh (p .first) w) where
@@ -180,7 +180,7 @@ module _ {n : ℕ} {b : List ℕ} {c : ℕ} {sh : Shape} (s : Setting n b c sh) 
           (ap not (count-not w (p .free) (ap (λ z. count z (p .free)) (t .names) ∙ free-count i ∙ none i u e (t .set)))))
           (λ u e. absurd (omega (arith, r .holds .outs (t .index), t .set)))
         where
-          none : (i : ℕ) → i < p .carved → flag (ltb i (p .carved)) ≡ 1 → marked b sh (p .first) i ≡ 1 → count i (r .stack) ≡ 0
+          none : (i : ℕ) → i < p .carved → digit (ltb i (p .carved)) ≡ 1 → marked b sh (p .first) i ≡ 1 → count i (r .stack) ≡ 0
           none i u e m = omega (arith, r .holds .outs i)
 
       pub sits-start : startOf b w ≡ p .first

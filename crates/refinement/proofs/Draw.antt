@@ -18,7 +18,7 @@ use Rattle.model.specs.Lists.{every, count, isNil}
 use Rattle.model.specs.Page as Model
 use Rattle.model.specs.Page.{Page, wordOf, pop}
 use Rattle.model.proofs.Counts.{by-cases, count-append, count-reverse, count-cut}
-use Rattle.pages.specs.Runs.{flag}
+use Rattle.words.specs.Host.{digit}
 use Rattle.pages.specs.Stack.{marked, downs, marks, carvedNow, latest, draw, hasMore}
 use Rattle.pages.proofs.Downs.{flag-le, flag-false, length-downs, count-downs, every-below}
 use Rattle.pages.proofs.Draws.{draw-changes, draw-free, draw-carved}
@@ -73,7 +73,7 @@ module _ {n : ℕ} {b : List ℕ} {c : ℕ} {sh : Shape} (s : Setting n b c sh) 
       marked-kept (marks b q 1 (latest b sh q m)) _ sh q j (λ e. let o = in-row s j e in simp get-put-other)
       ∙ marks-at n b (s .long) q hq 1 refl sh (s .shape .few) (latest b sh q m) latest-fit j
 
-  draw-outs : (j : ℕ) → marked (draw b sh q m) sh q j + count j (drop m xs) ≡ flag (ltb j (k + min (m - length xs) (sh .capacity - k)))
+  draw-outs : (j : ℕ) → marked (draw b sh q m) sh q j + count j (drop m xs) ≡ digit (ltb j (k + min (m - length xs) (sh .capacity - k)))
   draw-outs j =
       let o = h .outs j in
       let d = count-downs j k (min (m - length xs) (sh .capacity - k)) in

@@ -24,7 +24,7 @@ use Rattle.model.proofs.Find.{all-at}
 use Rattle.pages.specs.Runs.{whole}
 use Rattle.pages.specs.declared.Park.{Park}
 use Rattle.pages.specs.declared.Park.the-variants.{Empty, Cold}
-use Rattle.pages.specs.Links.{linked, unlinked, link, unlink, other, top, tally, stow, unstow}
+use Rattle.pages.specs.Links.{linked, unlinked, link, unlink, other, top, stored, stow, unstow}
 use Rattle.pages.proofs.Downs.{flag-le}
 use Rattle.refinement.specs.Chain.{In, Chain}
 use Rattle.refinement.specs.Represents.{PageRep, Parked, firsts, heads, ClassRep}
@@ -33,7 +33,7 @@ use Rattle.refinement.proofs.Basics.{Setting}
 use Rattle.refinement.proofs.Lists.{in-left, in-count, itself, off, not-in, firsts-append, firsts-at, heads-at, all-along, first-page, last-page, part}
 use Rattle.refinement.proofs.Frames.{isData, ofClass, Only, data-owns, whole-kept, whole-owner, whole-in}
 use Rattle.refinement.proofs.Kept.{Body, Ties, rep-kept, rep-moved, parked-kept, stack-kept, chain-kept, class-now, listed-whole}
-use Rattle.refinement.proofs.Links.{isLink, isStow, link-lets, class-lets, link-changes, unlink-changes, link-owns, link-body, link-listing, link-next, link-top, link-tally, stow-lets, class-lets-stow, stow-changes, unstow-changes, stow-owns, stow-body, stow-listing, stow-ties, stow-partial, stow-top, stow-tally}
+use Rattle.refinement.proofs.Links.{isLink, isStow, link-lets, class-lets, link-changes, unlink-changes, link-owns, link-body, link-listing, link-next, link-top, link-stored, stow-lets, class-lets-stow, stow-changes, unstow-changes, stow-owns, stow-body, stow-listing, stow-ties, stow-partial, stow-top, stow-stored}
 use Rattle.refinement.proofs.Linked.{chain-linked, chain-unlinked, stack-stowed, stack-unstowed}
 
 -- ---- the four lists put in another order
@@ -136,8 +136,8 @@ module _ {n : ℕ} {b : List ℕ} {c : ℕ} {sh : Shape} (s : Setting n b c sh) 
       let split = all-at (PageRep n sh b c 1) ss p ts .0 (r .partials) in
       record {
         chain = rw (firsts-at ss p p′ ts same) (chain-kept (h .kept (class partial c) hc refl) (λ x j. ties x) (r .chain));
-        store = stack-kept (h .kept (class (top k) c) hc refl) (h .kept (class (tally k) c) hc refl) (λ x j. ties x .fore) (r .store);
-        beside = stack-kept (h .kept (class (top (other k)) c) hc refl) (h .kept (class (tally (other k)) c) hc refl) (λ x j. ties x .fore) (r .beside);
+        store = stack-kept (h .kept (class (top k) c) hc refl) (h .kept (class (stored k) c) hc refl) (λ x j. ties x .fore) (r .store);
+        beside = stack-kept (h .kept (class (top (other k)) c) hc refl) (h .kept (class (stored (other k)) c) hc refl) (λ x j. ties x .fore) (r .beside);
         partials = all-at (PageRep n sh b′ c 1) ss p′ ts .1 (new, reps-off (s .shape) o 1 (ss ++ ts) (omega arith) (split .1));
         parked = parked-off (s .shape) o xs (omega arith) (r .parked);
         parkeds = parked-off (s .shape) o ys (omega arith) (r .parkeds);
@@ -198,9 +198,9 @@ module _ {n : ℕ} {b : List ℕ} {c : ℕ} {sh : Shape} (s : Setting n b c sh) 
       (λ d. away (in-left z (firsts ss) (p .first ∷ firsts ts) (last-page (firsts ss) z (sym (pa .before) ∙ d)))) in
       record {
         chain = rw (firsts-append ss ts) (chain-unlinked n b (s .long) c q (s .row) (firsts ss) (firsts ts) ch);
-        store = stack-kept (link-top c q x y h (s .row) k) (link-tally c q x y h (s .row) k)
+        store = stack-kept (link-top c q x y h (s .row) k) (link-stored c q x y h (s .row) k)
             (λ z m. beyond z (omega (arith, r .runs z, flag-le (whole n b sh c z), in-count z (firsts xs) m))) (r .store);
-        beside = stack-kept (link-top c q x y h (s .row) (other k)) (link-tally c q x y h (s .row) (other k))
+        beside = stack-kept (link-top c q x y h (s .row) (other k)) (link-stored c q x y h (s .row) (other k))
             (λ z m. beyond z (omega (arith, r .runs z, flag-le (whole n b sh c z), in-count z (firsts ys) m))) (r .beside);
         partials = reps-off (s .shape) o 1 (ss ++ ts) (omega arith) (split .1);
         parked = parked-off (s .shape) o xs (omega arith) (r .parked);
@@ -237,8 +237,8 @@ module _ {n : ℕ} {b : List ℕ} {c : ℕ} {sh : Shape} (s : Setting n b c sh) 
       = λ z zs e m. link-next c q x 0 h z (off q (firsts zs) e z m) (λ d. omega arith) in
       record {
         chain = chain-linked n b (s .long) c q (s .row) hq (firsts ps) (not-in q (firsts ps) none) (r .chain);
-        store = stack-kept (link-top c q x 0 h (s .row) k) (link-tally c q x 0 h (s .row) k) (λ z m. beyond z xs (omega arith) m) (r .store);
-        beside = stack-kept (link-top c q x 0 h (s .row) (other k)) (link-tally c q x 0 h (s .row) (other k)) (λ z m. beyond z ys (omega arith) m) (r .beside);
+        store = stack-kept (link-top c q x 0 h (s .row) k) (link-stored c q x 0 h (s .row) k) (λ z m. beyond z xs (omega arith) m) (r .store);
+        beside = stack-kept (link-top c q x 0 h (s .row) (other k)) (link-stored c q x 0 h (s .row) (other k)) (λ z m. beyond z ys (omega arith) m) (r .beside);
         partials = (
           rep-moved (s .shape) (link-body c q x 0 h q) (listing-set n (linked b c q) b q 1 (s .long) hq (h .long)) (o .same q ∙ r .fulls .0 .holds .run) (r .fulls .0),
           reps-off (s .shape) o 1 ps none (r .partials),
@@ -269,7 +269,7 @@ module _ {n : ℕ} {b : List ℕ} {c : ℕ} {sh : Shape} (s : Setting n b c sh) 
       record {
         chain = chain-kept (stow-partial k c q h (s .row)) (λ z m. stow-ties k c q h z (off q (firsts ps) (omega arith) z m)) (r .chain);
         store = stack-unstowed n b (s .long) c q (s .row) (whole-in n b (s .shape) c q run) k (firsts xs) (r .store);
-        beside = stack-kept (stow-top k c q h (s .row)) (stow-tally k c q h (s .row)) (λ z m. stow-ties k c q h z (off q (firsts ys) (omega arith) z m) .fore) (r .beside);
+        beside = stack-kept (stow-top k c q h (s .row)) (stow-stored k c q h (s .row)) (λ z m. stow-ties k c q h z (off q (firsts ys) (omega arith) z m) .fore) (r .beside);
         partials = reps-off (s .shape) o 1 ps (omega arith) (r .partials);
         parked = parked-off (s .shape) o xs (omega arith) (r .parked .1);
         parkeds = parked-off (s .shape) o ys (omega arith) (r .parkeds);
@@ -293,7 +293,7 @@ module _ {n : ℕ} {b : List ℕ} {c : ℕ} {sh : Shape} (s : Setting n b c sh) 
       record {
         chain = chain-kept (stow-partial k c q h (s .row)) (λ z m. stow-ties k c q h z (off q (firsts ps) (omega arith) z m)) (r .chain);
         store = stack-stowed n b (s .long) c q (s .row) (whole-in n b (s .shape) c q run) k (firsts xs) (not-in q (firsts xs) (omega arith)) few (r .store);
-        beside = stack-kept (stow-top k c q h (s .row)) (stow-tally k c q h (s .row)) (λ z m. stow-ties k c q h z (off q (firsts ys) (omega arith) z m) .fore) (r .beside);
+        beside = stack-kept (stow-top k c q h (s .row)) (stow-stored k c q h (s .row)) (λ z m. stow-ties k c q h z (off q (firsts ys) (omega arith) z m) .fore) (r .beside);
         partials = reps-off (s .shape) o 1 ps (omega arith) (r .partials);
         parked = (parked-kept (s .shape) (stow-body k c q h q) (stow-listing k c q h q) (o .same q ∙ run) idle, parked-off (s .shape) o xs (omega arith) (r .parked));
         parkeds = parked-off (s .shape) o ys (omega arith) (r .parkeds);

@@ -17,7 +17,7 @@ use Rattle.model.specs.Lists.{All, count, every, isNil}
 use Rattle.model.specs.Page as Page
 use Rattle.model.specs.Page.{Page, wordOf}
 use Rattle.model.proofs.Counts.{by-cases, count-cut}
-use Rattle.pages.specs.Runs.{flag}
+use Rattle.words.specs.Host.{digit}
 use Rattle.pages.specs.Stack.{latest, hasMore}
 use Rattle.pages.specs.declared.Park.{Park}
 use Rattle.pages.specs.Links.{top}
@@ -83,7 +83,7 @@ module _ (n : ℕ) (b : List ℕ) {sh : Shape} (ok : Sound sh) (c : ℕ) where
       by-cases (ltb (p .carved) (sh .capacity))
       (λ e. or-right (not (isNil (p .free))) (ltb (p .carved) (sh .capacity)) e)
       (λ e. let z = ltb-false (p .carved) (sh .capacity) e in
-      let f : flag (ltb 0 (p .carved)) ≡ 1 = ap flag (lt-ltb 0 (p .carved) (omega (arith, ok .blocks))) in
+      let f : digit (ltb 0 (p .carved)) ≡ 1 = ap digit (lt-ltb 0 (p .carved) (omega (arith, ok .blocks))) in
       or-left (not (isNil (p .free))) (ltb (p .carved) (sh .capacity))
       (named (p .first) (p .free) (r .rep .stack) (r .rep .names) (omega (arith, r .rep .holds .outs 0, r .idle 0))))
     where

@@ -21,7 +21,7 @@ use Rattle.model.specs.Page.{Page, wordOf, wordsFrom, isOut, carvedWords, noneO
 use Rattle.model.proofs.Counts.{by-cases, and-l, and-r, count-append, elem-count, every-count}
 use Rattle.model.proofs.Pages.{GoodPage}
 use Rattle.model.proofs.Used.{none-out-count}
-use Rattle.pages.specs.Runs.{flag}
+use Rattle.words.specs.Host.{digit}
 use Rattle.pages.specs.Stack.{marked, marks, push, back, indexOf}
 use Rattle.pages.proofs.Downs.{every-below}
 use Rattle.pages.proofs.Marks.{marks-changes, marks-at}
@@ -84,7 +84,7 @@ module _ {n : ℕ} {b : List ℕ} {c : ℕ} {sh : Shape} (s : Setting n b c sh) 
       marked-kept cleared (back b q is) sh q j (λ e. let o = in-row s j e in simp get-put-other (push-kept cleared q (get b (page free q)) is room (out q j) o refl))
       ∙ marks-at n b (s .long) q hq 0 refl sh (s .shape .few) is back-fit j
 
-  back-outs : (j : ℕ) → marked (back b q is) sh q j + count j (is ++ xs) ≡ flag (ltb j k)
+  back-outs : (j : ℕ) → marked (back b q is) sh q j + count j (is ++ xs) ≡ digit (ltb j k)
   back-outs j =
       let o = h .outs j in
       let u = outs j in

@@ -10,7 +10,7 @@ use mathlib.Core.Path.{_≡_}
 use lib.ListN.{length}
 use Rattle.fields.specs.Field.{class, page, partial, next, prev, get}
 use Rattle.pages.specs.declared.Park.{Park}
-use Rattle.pages.specs.Links.{top, tally}
+use Rattle.pages.specs.Links.{top, stored}
 
 abbrev pub In : ℕ → List ℕ → Type 0
 In x [] = ⊥
@@ -35,5 +35,5 @@ Line b h (x ∷ xs) = (h ≡ suc x) × Line b (get b (page next x)) xs
 
 pub record Stack (b : List ℕ) (c : ℕ) (k : Park) (xs : List ℕ) : Type 0 where
   pub line : Line b (get b (class (top k) c)) xs
-  pub number : get b (class (tally k) c) ≡ length xs
+  pub number : get b (class (stored k) c) ≡ length xs
   pub few : length xs ≤ 256

@@ -18,7 +18,7 @@ use Rattle.fields.proofs.Laws.{and-left, and-right}
 use Rattle.arena.specs.Fair.{giveFair}
 use Rattle.pages.specs.declared.Park.{Park}
 use Rattle.pages.specs.declared.Park.the-variants.{Empty, Cold}
-use Rattle.pages.specs.Links.{top, tally}
+use Rattle.pages.specs.Links.{top, stored}
 use Rattle.calls.specs.Release.{pageFair, rowFair, keepsEmpty, spotOf, spotAt, spotFair, releaseFair}
 use Rattle.release.specs.Fair.{blocksFair, flagsFair, linksFair, storeFair, FairAsks, SpotFairAsks}
 
@@ -93,21 +93,21 @@ module _ (b : List ℕ) (c : ℕ) (p : Park) (x f : ℕ) (e : x ≡ get b (class
   pub far-top : f < x → false ≡ storeFair b c p
   far-top h = rw (← e, ← u, lt-leb x f h)
 
-  pub store-told : (y : ℕ) → x ≤ f → y ≡ get b (class (tally p) c) → leb y 256 ≡ storeFair b c p
+  pub store-told : (y : ℕ) → x ≤ f → y ≡ get b (class (stored p) c) → leb y 256 ≡ storeFair b c p
   store-told y h k = rw (← e, ← u, ← k, le-leb x f h)
 
 module _ (b : List ℕ) (c : ℕ) where
   pub row-parts : rowFair b c ≡ (leb (get b (class partial c)) (get b (arena frontier)) && (storeFair b c Empty && storeFair b c Cold))
   unfolding rowFair
-  row-parts = ap (λ t. leb (get b (class partial c)) (get b (arena frontier)) && t) (sym (and-assoc (leb (get b (class (top Empty) c)) (get b (arena frontier))) (leb (get b (class (tally Empty) c)) maxParked) (storeFair b c Cold)))
+  row-parts = ap (λ t. leb (get b (class partial c)) (get b (arena frontier)) && t) (sym (and-assoc (leb (get b (class (top Empty) c)) (get b (arena frontier))) (leb (get b (class (stored Empty) c)) maxParked) (storeFair b c Cold)))
 
-  pub count-low : (p : Park) → rowFair b c ≡ true → get b (class (tally p) c) ≤ maxParked
+  pub count-low : (p : Park) → rowFair b c ≡ true → get b (class (stored p) c) ≤ maxParked
   count-low Empty e =
       let h = and-right (leb (get b (class partial c)) (get b (arena frontier))) _ (sym row-parts ∙ e) in
-      leb-true (get b (class (tally Empty) c)) maxParked (and-right (leb (get b (class (top Empty) c)) (get b (arena frontier))) _ (and-left (storeFair b c Empty) _ h))
+      leb-true (get b (class (stored Empty) c)) maxParked (and-right (leb (get b (class (top Empty) c)) (get b (arena frontier))) _ (and-left (storeFair b c Empty) _ h))
   count-low Cold e =
       let h = and-right (leb (get b (class partial c)) (get b (arena frontier))) _ (sym row-parts ∙ e) in
-      leb-true (get b (class (tally Cold) c)) maxParked (and-right (leb (get b (class (top Cold) c)) (get b (arena frontier))) _ (and-right (storeFair b c Empty) _ h))
+      leb-true (get b (class (stored Cold) c)) maxParked (and-right (leb (get b (class (top Cold) c)) (get b (arena frontier))) _ (and-right (storeFair b c Empty) _ h))
 
   pub head-low : rowFair b c ≡ true → get b (class partial c) ≤ get b (arena frontier)
   head-low e = leb-true (get b (class partial c)) (get b (arena frontier)) (and-left _ _ (sym row-parts ∙ e))
@@ -148,10 +148,10 @@ module _ (sh : Shape) (e : ℕ) where
     unfolding spotOf
     spot-arena h l = rw (← x, h, le-ltb k (sh .colds) l)
 
-pub spot-there : (b : List ℕ) (c : ℕ) (sh : Shape) (x y : ℕ) → x ≡ get b (class (tally Empty) c) → y ≡ get b (class (tally Cold) c) → (r : ℕ) → r ≡ spotOf sh x y → r ≡ spotAt b c sh
+pub spot-there : (b : List ℕ) (c : ℕ) (sh : Shape) (x y : ℕ) → x ≡ get b (class (stored Empty) c) → y ≡ get b (class (stored Cold) c) → (r : ℕ) → r ≡ spotOf sh x y → r ≡ spotAt b c sh
 spot-there b c sh x y e k r h = h ∙ rw (e, k)
 
-pub empties-low : (b : List ℕ) (c x : ℕ) → x ≡ get b (class (tally Empty) c) → rowFair b c ≡ true → x ≤ maxParked
+pub empties-low : (b : List ℕ) (c x : ℕ) → x ≡ get b (class (stored Empty) c) → rowFair b c ≡ true → x ≤ maxParked
 empties-low b c x e h = rw e (count-low b c Empty h)
 
 -- ---- the give, and all tests

@@ -19,7 +19,7 @@ use Rattle.model.specs.Release.{coldFate}
 use Rattle.pages.specs.declared.Park.{Park}
 use Rattle.pages.specs.declared.Park.the-variants.{Empty, Cold}
 use Rattle.pages.specs.Asks.{UnlinkAsks, ParkAsks}
-use Rattle.pages.specs.Links.{link, unlink, stow, tally}
+use Rattle.pages.specs.Links.{link, unlink, stow, stored}
 use Rattle.pages.specs.Carve.{carveAnew}
 use Rattle.pages.proofs.Frames.{changes-link, changes-unlink, changes-carve}
 use Rattle.calls.specs.Release.{unlisted, relisted, parkCold, parkAs, spotAt, parkAt}
@@ -105,7 +105,7 @@ module _ (b : List ℕ) (c : ℕ) (sh : Shape) (h q : ℕ) where
 
 -- ---- by the spot
 module _ (b : List ℕ) (c : ℕ) (sh : Shape) (h q : ℕ) (a : ParkingAsks b c sh q) (s : ℕ) (e : s ≡ spotAt b c sh) (b′ : List ℕ) (k : b′ ≡ unlisted b c q) where
-  count-kept : (p : Park) → get b′ (class (tally p) c) ≤ maxParked
+  count-kept : (p : Park) → get b′ (class (stored p) c) ≤ maxParked
   count-kept Empty = rw k (rw (unlisted-changes b c q (a .known) .kept (class emptyCount c) (lt-ltb c 76 (a .known)) refl) (count-low b c Empty (a .row)))
   count-kept Cold = rw k (rw (unlisted-changes b c q (a .known) .kept (class coldCount c) (lt-ltb c 76 (a .known)) refl) (count-low b c Cold (a .row)))
 

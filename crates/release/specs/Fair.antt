@@ -12,7 +12,7 @@ use Rattle.classes.specs.Sound.{Sound}
 use Rattle.fields.specs.Field.{arena, class, page, frontier, next, prev, free, carved, listed, virgin, words, get}
 use Rattle.fields.specs.Ranges.{maxParked}
 use Rattle.pages.specs.declared.Park.{Park}
-use Rattle.pages.specs.Links.{top, tally}
+use Rattle.pages.specs.Links.{top, stored}
 use Rattle.calls.specs.Release.{pageFair, rowFair}
 
 abbrev pub blocksFair : List ℕ → Shape → ℕ → ℕ → Bool
@@ -25,7 +25,7 @@ abbrev pub linksFair : List ℕ → ℕ → Bool
 linksFair b q = cond (eqb (get b (page listed q)) 1) (leb (get b (page next q)) (get b (arena frontier)) && leb (get b (page prev q)) (get b (arena frontier))) true
 
 abbrev pub storeFair : List ℕ → ℕ → Park → Bool
-storeFair b c k = leb (get b (class (top k) c)) (get b (arena frontier)) && leb (get b (class (tally k) c)) maxParked
+storeFair b c k = leb (get b (class (top k) c)) (get b (arena frontier)) && leb (get b (class (stored k) c)) maxParked
 
 -- ---- what is asked
 pub record PageAsks (b : List ℕ) (q : ℕ) : Type 0 where

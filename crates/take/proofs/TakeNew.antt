@@ -19,7 +19,8 @@ use Rattle.model.specs.Lists as Lists
 use Rattle.model.specs.Lists.{every}
 use Rattle.model.specs.Page.{isMedium}
 use Rattle.model.proofs.Counts.{by-cases}
-use Rattle.pages.specs.Runs.{flag, ofRun, whole, nameRun}
+use Rattle.words.specs.Host.{digit}
+use Rattle.pages.specs.Runs.{ofRun, whole, nameRun}
 use Rattle.pages.specs.Stack.{tops, downs, push, hasMore}
 use Rattle.pages.specs.Carve.{stocked, carveAnew, newRun, outWords}
 use Rattle.pages.proofs.Downs.{length-downs, downs-below, every-append, every-below}
@@ -60,7 +61,7 @@ module _ (n : ℕ) (b : List ℕ) (hb : leb (words n) (length b) ≡ true) (sh :
   unfolding pushed
   pushed-long = rw (length-push b q 0 (downs 0 k)) hb
 
-  carve-is : carveAnew b sh q v ≡ put (put (put pushed (page virgin q) (flag v)) (page carved q) k) (page free q) k
+  carve-is : carveAnew b sh q v ≡ put (put (put pushed (page virgin q) (digit v)) (page carved q) k) (page free q) k
   unfolding carveAnew pushed
   carve-is = refl
 
@@ -70,7 +71,7 @@ module _ (n : ℕ) (b : List ℕ) (hb : leb (words n) (length b) ≡ true) (sh :
   pub carve-carved : get (carveAnew b sh q v) (page carved q) ≡ k
   carve-carved = let h = pushed-long in rw carve-is (simp (get-put-other, get-put-same n, length-put, h))
 
-  pub carve-virgin : get (carveAnew b sh q v) (page virgin q) ≡ flag v
+  pub carve-virgin : get (carveAnew b sh q v) (page virgin q) ≡ digit v
   carve-virgin = let h = pushed-long in rw carve-is (simp (get-put-other, get-put-same n))
 
   carve-slot : (i : ℕ) → ltb i 4096 ≡ true → get (carveAnew b sh q v) (slot q i) ≡ get pushed (slot q i)

@@ -13,7 +13,7 @@ use Rattle.fields.proofs.Laws.{get-put-other}
 use Rattle.fields.proofs.Changes.{Changes}
 use Rattle.model.proofs.Counts.{and-l, and-r}
 use Rattle.pages.specs.Stack.{latest}
-use Rattle.pages.specs.Links.{top, tally, unstow}
+use Rattle.pages.specs.Links.{top, stored, unstow}
 use Rattle.pages.specs.declared.Park.{Park}
 use Rattle.pages.specs.declared.Park.the-variants.{Empty, Cold}
 use Rattle.pages.specs.Asks.{WakeAsks}
@@ -30,11 +30,11 @@ module _ (n : ℕ) (b : List ℕ) (c : ℕ) (sh : Shape) (k : Park) where
   unfolding parkFair
   fair-above x f e e′ h = rw (← e, ← e′, lt-leb x f h)
 
-  pub fair-none : (m : ℕ) → m ≡ get b (class (tally k) c) → m ≡ 0 → false ≡ parkFair n b c sh k
+  pub fair-none : (m : ℕ) → m ≡ get b (class (stored k) c) → m ≡ 0 → false ≡ parkFair n b c sh k
   unfolding parkFair
   fair-none m e h = simp (← e, h, and-false)
 
-  pub fair-many : (m : ℕ) → m ≡ get b (class (tally k) c) → 256 < m → false ≡ parkFair n b c sh k
+  pub fair-many : (m : ℕ) → m ≡ get b (class (stored k) c) → 256 < m → false ≡ parkFair n b c sh k
   unfolding parkFair
   fair-many m e h = simp (← e, lt-leb m 256 h, and-false)
 
@@ -42,7 +42,7 @@ module _ (n : ℕ) (b : List ℕ) (c : ℕ) (sh : Shape) (k : Park) where
   unfolding parkFair
   fair-unsound x s e e′ h = simp (← e, ← e′, not-true s h, and-false)
 
-  pub fair-next : (x f m : ℕ) (s : Bool) (y : ℕ) → x ≡ get b (class (top k) c) → f ≡ get b (arena frontier) → x ≤ f → m ≡ get b (class (tally k) c) → (m ≡ 0 → ⊥) → m ≤ 256
+  pub fair-next : (x f m : ℕ) (s : Bool) (y : ℕ) → x ≡ get b (class (top k) c) → f ≡ get b (arena frontier) → x ≤ f → m ≡ get b (class (stored k) c) → (m ≡ 0 → ⊥) → m ≤ 256
       → s ≡ sound n b c sh 0 (sh .batch) (x - 1) → not s ≡ false → y ≡ get b (page next (x - 1)) → leb y f ≡ parkFair n b c sh k
   unfolding parkFair
   fair-next x f m s y e₁ e₂ h₁ e₃ h₂ h₃ e₄ h₄ e₅ =
@@ -85,7 +85,7 @@ module _ (n : ℕ) (b : List ℕ) (c : ℕ) (sh : Shape) (k : Park) (a : ParkedA
   hc : ltb c 76 ≡ true
   hc = lt-ltb c 76 (a .asks .known)
 
-  some-pages : get b (class (tally k) c) ≡ 0 → ⊥
+  some-pages : get b (class (stored k) c) ≡ 0 → ⊥
   unfolding parkFair
   some-pages z = let t = and-l _ _ (and-r (leb (get b (class (top k) c)) (get b (arena frontier))) _ p) in eqb-false _ _ (not-true _ t) z
 
@@ -94,8 +94,8 @@ module _ (n : ℕ) (b : List ℕ) (c : ℕ) (sh : Shape) (k : Park) (a : ParkedA
   parked-fair =
       sound-fair n b c sh 0 (sh .batch) newest
       (and-l _ _
-      (and-r (leb (get b (class (tally k) c)) 256) _
-      (and-r (not (eqb (get b (class (tally k) c)) 0)) _
+      (and-r (leb (get b (class (stored k) c)) 256) _
+      (and-r (not (eqb (get b (class (stored k) c)) 0)) _
       (and-r (leb (get b (class (top k) c)) (get b (arena frontier))) _ p))))
 
   below-top : get b (class (top k) c) ≤ get b (arena frontier)
