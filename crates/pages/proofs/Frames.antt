@@ -1,6 +1,6 @@
 -- What each step on a class's pages may change: everything but the fields at which a test fails is as it was. Assumes nothing.
 --     changes-linked .. changes-unstow, changes-name, changes-carve, changes-new, changes-pushed
---     back-pushed      blocks that come back: their out bits, then the stack
+--     back-free        blocks that come back leave FREE until they are counted
 use Rattle.model.specs.Page.{isMedium}
 use Prim.Native.Nat.{ℕ, zero, suc, _+_, _-_, _*_, _/_, _≤_, _<_}
 use native.Mathlib.Omega.{arith}
@@ -19,7 +19,7 @@ use Rattle.model.specs.Lists.{every}
 use Rattle.pages.specs.declared.Park.{Park}
 use Rattle.words.specs.Host.{digit}
 use Rattle.pages.specs.Runs.{nameRun}
-use Rattle.pages.specs.Stack.{downs, marks, pushed, back}
+use Rattle.pages.specs.Stack.{downs, marks, pushed}
 use Rattle.pages.specs.Links.{pointNext, linked, cutOut, link, unlink, top, stored, stow, unstow}
 use Rattle.pages.specs.Carve.{stocked, carveAnew, outWords, newRun}
 use Rattle.pages.proofs.Downs.{small, length-downs}
@@ -110,6 +110,5 @@ changes-new t b sh q h hf hv hs hk hl ho hn =
     (changes-carve t (put b₂ (page listed q) 0) q hf hv hs sh true hk h)
 
 -- ---- blocks that come back
-pub back-pushed : (b : List ℕ) (q : ℕ) (is : List ℕ) → every small is ≡ true → back b q is ≡ pushed (marks b q 0 is) q is
-unfolding back pushed
-back-pushed b q is s = let e : get (marks b q 0 is) (page free q) ≡ get b (page free q) = marks-kept b q 0 is s (page free q) refl refl in rw e
+pub back-free : (b : List ℕ) (q : ℕ) (is : List ℕ) → every small is ≡ true → get (marks b q 0 is) (page free q) ≡ get b (page free q)
+back-free b q is s = marks-kept b q 0 is s (page free q) refl refl

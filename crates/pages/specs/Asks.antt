@@ -58,6 +58,10 @@ pub record WakeAsks (b : List ℕ) (c : ℕ) (k : Park) (q : ℕ) : Type 0 where
   pub head : words (get b (class partial c)) ≤ length b
   pub some : 1 ≤ get b (class (stored k) c)
 
+-- ---- a page's header
+pub record PageAsks (b : List ℕ) (q : ℕ) : Type 0 where
+  pub there : words (q + 1) ≤ length b
+
 -- ---- runs
 -- the m pages from q on, which may be anything else
 pub record OfRunAsks (b : List ℕ) (c q m : ℕ) : Type 0 where

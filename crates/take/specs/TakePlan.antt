@@ -112,7 +112,7 @@ pub record TurnAsks (b : List ℕ) (c : ℕ) (sh : Shape) (l : List ℕ) (at m :
 -- it answered r, and left the book b′ and the list l′
 pub record GaveTurn (r : ℕ) (b′ l′ b : List ℕ) (c : ℕ) (sh : Shape) (l : List ℕ) (at m : ℕ) : Type 0 where
   pub count : r ≡ length (latest b sh (get b (class partial c) - 1) m)
-  pub meta : b′ ≡ relist (draw b sh (get b (class partial c) - 1) m) c sh (get b (class partial c) - 1)
+  pub book : b′ ≡ relist (draw b sh (get b (class partial c) - 1) m) c sh (get b (class partial c) - 1)
   pub list : l′ ≡ spliced l (at - length (latest b sh (get b (class partial c) - 1) m)) (map (wordOf sh (get b (class partial c) - 1)) (latest b sh (get b (class partial c) - 1) m))
 
 -- the walk passes, whatever the arena's length, and `at` is what the fill yields
@@ -124,5 +124,5 @@ pub record FillAsks (b : List ℕ) (c : ℕ) (sh : Shape) (l : List ℕ) (at : �
   pub places : at ≤ length l
 
 pub record Filling (b′ l′ : List ℕ) (f : Filled) (l : List ℕ) : Type 0 where
-  pub meta : b′ ≡ f .book
+  pub book : b′ ≡ f .book
   pub list : l′ ≡ f .blocks ++ drop (length (f .blocks)) l

@@ -36,15 +36,15 @@ take-asks b r low many c n u e z j f =
 module _ (b : List ℕ) (r : ℕ) (e : r ≡ metaFault b) (low many c h : ℕ) (l : List ℕ) where
   pub take-unfit : (r ≡ 0 → ⊥) → Takes (Refused r) b l (takeOn low many b c h l)
   unfolding takeOn
-  take-unfit d = rw (← e, ne-eqb r 0 d) (record { answer = refusal r d _ _; meta = refl; list = refl })
+  take-unfit d = rw (← e, ne-eqb r 0 d) (record { answer = refusal r d _ _; book = refl; list = refl })
 
   pub take-host : r ≡ 0 → 15 < h → Takes (Refused 3) b l (takeOn low many b c h l)
   unfolding takeOn
-  take-host z k = rw (← e, eq-eqb r 0 z, lt-ltb 15 h k) (record { answer = refl; meta = refl; list = refl })
+  take-host z k = rw (← e, eq-eqb r 0 z, lt-ltb 15 h k) (record { answer = refl; book = refl; list = refl })
 
   pub take-no-class : r ≡ 0 → h ≤ 15 → many ≤ c → Takes (Refused 4) b l (takeOn low many b c h l)
   unfolding takeOn
-  take-no-class z k j = rw (← e, eq-eqb r 0 z, le-ltb 15 h k, le-ltb c many j) (record { answer = refl; meta = refl; list = refl })
+  take-no-class z k j = rw (← e, eq-eqb r 0 z, le-ltb 15 h k, le-ltb c many j) (record { answer = refl; book = refl; list = refl })
 
   pub take-goes : (n : ℕ) (s : Take) (x y : List ℕ) → r ≡ 0 → h ≤ 15 → c < many → n ≡ get b (arena size)
       → Takes s x y (takeCall n b (low + c) (shapeOf (low + c)) h l) → Takes s x y (takeOn low many b c h l)
@@ -53,7 +53,7 @@ module _ (b : List ℕ) (r : ℕ) (e : r ≡ metaFault b) (low many c h : ℕ) (
 
 module _ (t : Heap.Took) (x y : List ℕ) (s : Take) (k : Takes s x y t) where
   pub take-ends-refused : (c m v : ℕ) → s ≡ Refused c → TakeEnds t c x y m m v v
-  take-ends-refused c m v e = let z = sym (k .answer) ∙ e in record { code = rw z; book = k .meta; list = k .list; count = rw z; virgin = rw z }
+  take-ends-refused c m v e = let z = sym (k .answer) ∙ e in record { code = rw z; book = k .book; list = k .list; count = rw z; virgin = rw z }
 
   pub take-ends-took : (j m v : ℕ) (g : Bool) → s ≡ Took j g → TakeEnds t 0 x y m j v (boolByte g)
-  take-ends-took j m v g e = let z = sym (k .answer) ∙ e in record { code = rw z; book = k .meta; list = k .list; count = rw z; virgin = rw z (byte-digit g) }
+  take-ends-took j m v g e = let z = sym (k .answer) ∙ e in record { code = rw z; book = k .book; list = k .list; count = rw z; virgin = rw z (byte-digit g) }
