@@ -1,5 +1,5 @@
 -- Placing a chunk's page leaves the words that placing another reads in their ranges: each code written is the page's own, 0, or one that
--- passed its test, and a store's count grows only below its limit. Assumes nothing.
+-- passed its test, and a store's count grows only below its limit.
 --     Row, Ties       what `rowFair` and `linksFair` test, as bounds
 --     Steady b c b′   b′ has the length and FRONTIER of b, the class's row is in range, and so are a page's links wherever they were in b
 --     put-code ..     one write keeps a steady book so
@@ -29,10 +29,14 @@ use Rattle.pages.specs.declared.Park.the-variants.{Empty, Cold}
 use Rattle.pages.specs.Links.{pointNext, linked, cutOut, link, unlink, top, stored, stow}
 use Rattle.pages.specs.Carve.{carveAnew}
 use Rattle.pages.proofs.Frames.{changes-carve}
-use Rattle.calls.specs.Release.{rowFair, unlisted, relisted, released, keepsEmpty, spotOf, spotAt, parkAs, parkAt}
-use Rattle.calls.specs.Chunks.{emptied, markRetired}
-use Rattle.release.specs.Fair.{linksFair}
+use Rattle.model.specs.declared.Spot.{Spot}
+use Rattle.model.specs.declared.Spot.the-variants.{ToEmpty, ToCold, ToArena}
+use Rattle.model.specs.Spot.{isEmpty, isCold}
+use Rattle.calls.specs.Release.{rowFair, unlisted, relisted, released, spotAt, parkedIn, parkAt, emptied, markRetired}
+use Rattle.pages.specs.Fair.{linksFair, storeFair}
 use Rattle.release.specs.Act.{coldVirgin, ParkingAsks}
+use Rattle.release.proofs.FairWays.{count-low}
+use Rattle.release.proofs.Spots.{empty-room, cold-room}
 use Rattle.release.proofs.Parking.{unlisted-changes}
 use Rattle.chunks.specs.Pass.{placeAt}
 use Rattle.chunks.specs.PlaceAsks.{Limits}
@@ -58,12 +62,12 @@ module _ (b : List ℕ) (c : ℕ) where
   row-out e =
       let f = get b (arena frontier) in
       let e₁ = and-right (leb (get b (class partial c)) f) _ e in
-      let e₂ = and-right (leb (get b (class (top Empty) c)) f) _ e₁ in
-      let e₃ = and-right (leb (get b (class (stored Empty) c)) maxParked) _ e₂ in
+      let e₂ = and-left (storeFair b c Empty) _ e₁ in
+      let e₃ = and-right (storeFair b c Empty) _ e₁ in
       record {
         head = leb-true _ f (and-left _ _ e);
-        tops = λ k. elim k [ Empty ↦ leb-true _ f (and-left _ _ e₁) | Cold ↦ leb-true _ f (and-left _ _ e₃) ];
-        counts = λ k. elim k [ Empty ↦ leb-true _ maxParked (and-left _ _ e₂) | Cold ↦ leb-true _ maxParked (and-right (leb (get b (class (top Cold) c)) f) _ e₃) ];
+        tops = λ k. elim k [ Empty ↦ leb-true _ f (and-left _ _ e₂) | Cold ↦ leb-true _ f (and-left _ _ e₃) ];
+        counts = λ k. count-low b c k e;
       }
 
 module _ (b : List ℕ) (x : ℕ) where
@@ -320,34 +324,15 @@ module _ (b : List ℕ) (c : ℕ) (hc : ltb c 76 ≡ true) (q : ℕ) (hq : q < g
       put-count b c hc _ s₂ k (get b′ (class (stored k) c) + 1) (omega arith)
 
 -- ---- a page with none out
-module _ (sh : Shape) (e k : ℕ) where
-  empty-room : spotOf sh e k ≡ 0 → e < sh .empties
-  unfolding spotOf
-  empty-room h = by (keepsEmpty sh e) refl (ltb k (sh .colds)) h
-    where
-      by : (t : Bool) → keepsEmpty sh e ≡ t → (u : Bool) → _≡_ {A = ℕ} (cond t 0 (cond u 1 2)) 0 → e < sh .empties
-      by true z u h = ltb-true e (sh .empties) (and-left _ _ z)
-      by false z true h = absurd (omega arith)
-      by false z false h = absurd (omega arith)
-
-  cold-room : spotOf sh e k ≡ 1 → k < sh .colds
-  unfolding spotOf
-  cold-room h = by (keepsEmpty sh e) (ltb k (sh .colds)) refl h
-    where
-      by : (t u : Bool) → ltb k (sh .colds) ≡ u → _≡_ {A = ℕ} (cond t 0 (cond u 1 2)) 1 → k < sh .colds
-      by true u z h = absurd (omega arith)
-      by false true z h = ltb-true k (sh .colds) z
-      by false false z h = absurd (omega arith)
-
 module _ (b : List ℕ) (c : ℕ) (hc : ltb c 76 ≡ true) (q : ℕ) (hq : q < get b (arena frontier)) (there : words (q + 1) ≤ length b) (sh : Shape) (so : Sound sh) (h : ℕ) where
-  as-steady : (b′ : List ℕ) → Steady b c b′ → (t : ℕ) → (t ≡ 0 → get b′ (class (stored Empty) c) < maxParked) → (t ≡ 1 → get b′ (class (stored Cold) c) < maxParked)
-      → Steady b c (parkAs b′ c sh h q t .book)
-  as-steady b′ s zero e k = stow-steady b c hc q hq there b′ s Empty (e refl)
-  as-steady b′ s (suc zero) e k =
+  as-steady : (b′ : List ℕ) → Steady b c b′ → (t : Spot) → (isEmpty t ≡ true → get b′ (class (stored Empty) c) < maxParked) → (isCold t ≡ true → get b′ (class (stored Cold) c) < maxParked)
+      → Steady b c (parkedIn b′ c sh h q t)
+  as-steady b′ s ToEmpty e k = stow-steady b c hc q hq there b′ s Empty (e refl)
+  as-steady b′ s ToCold e k =
       let d = carveAnew b′ sh q (coldVirgin sh h) in
       let m : Changes isBody b′ d = changes-carve isBody b′ q refl refl (λ i. refl) sh (coldVirgin sh h) refl (so .few) in
       stow-steady b c hc q hq there d (still-steady b c hc b′ s d m) Cold (rw (m .kept (class (stored Cold) c) hc refl) (k refl))
-  as-steady b′ s (suc (suc t)) e k = s
+  as-steady b′ s ToArena e k = s
 
   park-steady : Limits sh → Ties b q → (b′ : List ℕ) → Steady b c b′ → Steady b c (parkAt b′ c sh h q .book)
   unfolding parkAt

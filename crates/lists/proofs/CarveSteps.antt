@@ -1,4 +1,4 @@
--- The ways out of the functions that carve, and what their loops keep. Assumes nothing.
+-- The ways out of the functions that carve, and what their loops keep.
 use Prim.Native.Nat.{ℕ, _+_, _-_, _*_, _/_, _≤_, _<_}
 use native.Mathlib.Omega.{arith}
 use native.Mathlib.Numerals.{add-one}
@@ -17,7 +17,7 @@ use Rattle.words.specs.Host.{digit}
 use Rattle.pages.specs.Runs.{nameRun}
 use Rattle.pages.specs.Stack.{downs, push}
 use Rattle.pages.specs.Asks.{StockAsks, CarveAsks}
-use Rattle.pages.specs.Carve.{stocked, carveAnew, newRun}
+use Rattle.pages.specs.Carve.{stocked, carveAnew, bareRun, newRun}
 use Rattle.pages.proofs.Downs.{length-downs}
 use Rattle.pages.proofs.Frames.{stocked-le}
 
@@ -88,5 +88,5 @@ unfolding carveAnew
 carve-done b sh q v k f b₁ b₂ b₃ b₄ e e₁ e′ e₂ e₃ e₄ = rw (e₄, e₃, e₂, e₁, e′, e)
 
 pub new-done : (b : List ℕ) (sh : Shape) (q : ℕ) (b₁ b₂ b₃ b₄ : List ℕ) → b₁ ≡ nameRun b q q (sh .pages) → b₂ ≡ clearOut b₁ q 0 (32 * ((sh .capacity + 31) / 32)) → b₃ ≡ put b₂ (page listed q) 0 → b₄ ≡ carveAnew b₃ sh q true → b₄ ≡ newRun b sh q
-unfolding newRun
+unfolding newRun bareRun
 new-done b sh q b₁ b₂ b₃ b₄ e₁ e₂ e₃ e₄ = cc

@@ -1,4 +1,4 @@
--- The ways out of the functions on a class's lists. Assumes nothing.
+-- The ways out of the functions on a class's lists.
 use Prim.Native.Nat.{ℕ, zero, suc, _+_, _-_}
 use native.Mathlib.Numerals.{sub-one}
 use mathlib.Core.Bool.{true}

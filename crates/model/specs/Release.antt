@@ -1,4 +1,4 @@
--- Releases by list, and what becomes of a page (document 01, "Blocks out and back"). Assumes nothing.
+-- Releases by list, and what becomes of a page (document 01, "Blocks out and back").
 use Prim.Native.Nat.{ℕ}
 use mathlib.Core.List.{List, [], _∷_, _++_}
 use mathlib.Core.Option.{Option, none, some}

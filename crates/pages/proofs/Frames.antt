@@ -1,4 +1,4 @@
--- What each step on a class's pages may change: everything but the fields at which a test fails is as it was. Assumes nothing.
+-- What each step on a class's pages may change: everything but the fields at which a test fails is as it was.
 --     changes-linked .. changes-unstow, changes-name, changes-carve, changes-new, changes-pushed
 --     back-free        blocks that come back leave FREE until they are counted
 use Rattle.model.specs.Page.{isMedium}
@@ -21,7 +21,7 @@ use Rattle.words.specs.Host.{digit}
 use Rattle.pages.specs.Runs.{nameRun}
 use Rattle.pages.specs.Stack.{downs, marks, pushed}
 use Rattle.pages.specs.Links.{pointNext, linked, cutOut, link, unlink, top, stored, stow, unstow}
-use Rattle.pages.specs.Carve.{stocked, carveAnew, outWords, newRun}
+use Rattle.pages.specs.Carve.{stocked, carveAnew, outWords, bareRun, newRun}
 use Rattle.pages.proofs.Downs.{small, length-downs}
 use Rattle.pages.proofs.Marks.{marks-kept}
 use Rattle.pages.proofs.Pushes.{push-changes}
@@ -100,7 +100,7 @@ module _ (t : Field → Bool) (b : List ℕ) (q : ℕ) (hf : t (page free q) ≡
 pub changes-new : (t : Field → Bool) (b : List ℕ) (sh : Shape) (q : ℕ) → sh .capacity ≤ 4096
     → t (page free q) ≡ true → t (page virgin q) ≡ true → ((i : ℕ) → t (slot q i) ≡ true) → t (page carved q) ≡ true → t (page listed q) ≡ true
     → ((i : ℕ) → t (out q i) ≡ true) → ((y : ℕ) → q ≤ y → y < q + sh .pages → t (page first y) ≡ true) → Changes t b (newRun b sh q)
-unfolding newRun
+unfolding newRun bareRun
 changes-new t b sh q h hf hv hs hk hl ho hn =
     let b₁ = nameRun b q q (sh .pages) in
     let b₂ = clearOut b₁ q 0 (32 * outWords sh) in

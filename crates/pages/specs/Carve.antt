@@ -1,4 +1,4 @@
--- Carving a run, and a new run from the arena. Assumes nothing.
+-- Carving a run, and a new run from the arena.
 use Prim.Native.Nat.{ℕ, _+_, _*_, _/_}
 use mathlib.Core.Bool.{Bool, true, cond}
 use mathlib.Core.List.{List}
@@ -22,6 +22,10 @@ carveAnew b sh q v =
 abbrev pub outWords : Shape → ℕ
 outWords sh = (sh .capacity + 31) / 32
 
--- a run that the arena gave: it names its first page, no block is out, it is in no list, and it is carved
+-- a run that the arena gave: it names its first page, no block is out, and it is in no list
+unfoldable pub bareRun : List ℕ → Shape → ℕ → List ℕ
+bareRun b sh q = put (clearOut (nameRun b q q (sh .pages)) q 0 (32 * outWords sh)) (page listed q) 0
+
+-- and it is carved
 unfoldable pub newRun : List ℕ → Shape → ℕ → List ℕ
-newRun b sh q = carveAnew (put (clearOut (nameRun b q q (sh .pages)) q 0 (32 * outWords sh)) (page listed q) 0) sh q true
+newRun b sh q = carveAnew (bareRun b sh q) sh q true

@@ -1,4 +1,4 @@
--- A class's lists of pages. A page is stored as its code, page + 1, and 0 is none. Assumes nothing.
+-- A class's lists of pages. A page is stored as its code, page + 1, and 0 is none.
 --     link, unlink     into the partial list at its head, and out of it, wherever the page stands
 --     stow, unstow     onto the empty or the cold store, and the newest page off it
 use Prim.Native.Nat.{ℕ, zero, suc, _+_, _-_}

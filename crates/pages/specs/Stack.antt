@@ -1,4 +1,4 @@
--- The stack of a page's free blocks, its out bits, and what it gives and takes back. Blocks are indices here. Assumes nothing.
+-- The stack of a page's free blocks, its out bits, and what it gives and takes back. Blocks are indices here.
 --     marked    the out bit of block i, 0 at and above the capacity
 --     tops      the top n entries of a stack whose top stands below t, the topmost first
 --     marks     the out bits of the listed blocks set to v, the list's last first
@@ -21,6 +21,10 @@ use Rattle.words.specs.Word.{granuleOf}
 use Rattle.classes.specs.declared.Shape.{Shape}
 use Rattle.fields.specs.Field.{page, slot, out, free, carved, virgin, get, put}
 use Rattle.model.specs.Page.{pageGranules, wordOf}
+
+-- slots of a page's stack, and out bits: no shape has more blocks
+abbrev pub pageSlots : ℕ
+pageSlots = 4096
 
 unfoldable pub marked : List ℕ → Shape → ℕ → ℕ → ℕ
 marked b sh q i = cond (ltb i (sh .capacity)) (get b (out q i)) 0

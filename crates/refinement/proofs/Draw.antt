@@ -1,4 +1,4 @@
--- A page that gives blocks: the words do what the model's `pop` says. Assumes nothing.
+-- A page that gives blocks: the words do what the model's `pop` says.
 --     draw-holds     the words of the run afterwards
 --     pop-rep        the page afterwards is the model's
 --     pop-blocks     the blocks are the model's
@@ -20,7 +20,7 @@ use Rattle.model.specs.Page.{Page, wordOf, pop}
 use Rattle.model.proofs.Counts.{by-cases, count-append, count-reverse, count-cut}
 use Rattle.words.specs.Host.{digit}
 use Rattle.pages.specs.Stack.{marked, downs, marks, carvedNow, latest, draw, hasMore}
-use Rattle.pages.proofs.Downs.{flag-le, flag-false, length-downs, count-downs, every-below}
+use Rattle.pages.proofs.Downs.{digit-le, digit-false, length-downs, count-downs, every-below}
 use Rattle.pages.proofs.Draws.{draw-changes, draw-free, draw-carved}
 use Rattle.pages.proofs.Marks.{marks-at}
 use Rattle.refinement.specs.Represents.{Holds, PageRep}
@@ -49,8 +49,8 @@ module _ {n : ℕ} {b : List ℕ} {c : ℕ} {sh : Shape} (s : Setting n b c sh) 
         count-cut j m xs,
         h .outs j,
         count-downs j k (min (m - length xs) (sh .capacity - k)),
-        flag-false j (k + min (m - length xs) (sh .capacity - k)) (omega (arith, h .within)),
-        flag-false j k (omega (arith, h .within)),
+        digit-false j (k + min (m - length xs) (sh .capacity - k)) (omega (arith, h .within)),
+        digit-false j k (omega (arith, h .within)),
       ))
 
   changes : (t : Field → Bool) → t (page free q) ≡ true → t (page carved q) ≡ true → ((i : ℕ) → t (out q i) ≡ true) → Changes t b (draw b sh q m)
@@ -79,7 +79,7 @@ module _ {n : ℕ} {b : List ℕ} {c : ℕ} {sh : Shape} (s : Setting n b c sh) 
       let d = count-downs j k (min (m - length xs) (sh .capacity - k)) in
       let u = count-cut j m xs in
       let w = latest-count j in
-      let f = flag-le (ltb j (k + min (m - length xs) (sh .capacity - k))) in
+      let f = digit-le (ltb j (k + min (m - length xs) (sh .capacity - k))) in
       by-cases (eqb (count j (latest b sh q m)) 0)
       (λ e. let z = eqb-true (count j (latest b sh q m)) 0 e in rw (draw-marked j, e) (omega arith))
       (λ e. let z = eqb-false (count j (latest b sh q m)) 0 e in rw (draw-marked j, e) (omega (arith, z)))

@@ -1,4 +1,4 @@
--- The page that a word is on: what the model finds is what the words say. Assumes nothing.
+-- The page that a word is on: what the model finds is what the words say.
 --     Located         what `locate` finds, and where
 --     Away, Placed    a class with pages in no list that wait for the arena, and a page of it at its site
 --     same-page       on a page of the class a block is out exactly if the words name that page

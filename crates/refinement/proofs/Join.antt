@@ -1,5 +1,5 @@
 -- The classes after a commit for a class: with no run every class is as before; with one, the class has a page more, in no list, and
--- the others are as before. Assumes nothing.
+-- the others are as before.
 use Prim.Native.Nat.{ℕ, suc, _+_, _≤_}
 use native.Mathlib.Omega.{arith}
 use native.Mathlib.Decide.{ℕ-discrete}

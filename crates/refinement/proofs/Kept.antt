@@ -1,4 +1,4 @@
--- What of the representation a change leaves alone. Assumes nothing.
+-- What of the representation a change leaves alone.
 --     Body, Ties      the words of a page's blocks are as they were; so are its links
 --     Keeps           a page of a class is as it was, and the class's
 --     class-now       a class whose row and listed pages are as they were, with other pages in no list

@@ -1,4 +1,4 @@
--- The linked lists after a page came in or went out. Assumes nothing.
+-- The linked lists after a page came in or went out.
 --     chain-linked, chain-unlinked     the partial list, with a page at its head, and without one of its pages
 --     stack-stowed, stack-unstowed     a store, with a page on top, and without its newest
 use Prim.Native.Nat.{ℕ, zero, suc, _+_, _-_, _<_}

@@ -1,4 +1,4 @@
--- Which fields a page's move into a list and out of it writes. Assumes nothing.
+-- Which fields a page's move into a list and out of it writes.
 --     isLink        linking q and unlinking it between pages of the codes x behind it and y before it: their links, its own, the
 --                   head of the list, and whether q is listed
 --     isStow        a store's row, and NEXT of q

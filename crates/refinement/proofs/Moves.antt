@@ -1,5 +1,4 @@
 -- A class's page gets other blocks, and moves between a list and none. The pages in no list are the place between any two moves.
--- Assumes nothing.
 --     at-partial, at-full              a page with other blocks, in the partial list and in no list
 --     from-partial, to-partial         out of the partial list, from any place, and to its head
 --     from-store, to-store             off a store's top, and onto it
@@ -25,7 +24,7 @@ use Rattle.pages.specs.Runs.{whole}
 use Rattle.pages.specs.declared.Park.{Park}
 use Rattle.pages.specs.declared.Park.the-variants.{Empty, Cold}
 use Rattle.pages.specs.Links.{linked, unlinked, link, unlink, other, top, stored, stow, unstow}
-use Rattle.pages.proofs.Downs.{flag-le}
+use Rattle.pages.proofs.Downs.{digit-le}
 use Rattle.refinement.specs.Chain.{In, Chain}
 use Rattle.refinement.specs.Represents.{PageRep, Parked, firsts, heads, ClassRep}
 use Rattle.refinement.proofs.ArenaStore.{long-kept}
@@ -130,7 +129,7 @@ module _ {n : ℕ} {b : List ℕ} {c : ℕ} {sh : Shape} (s : Setting n b c sh) 
       let o = data-off in
       let ties = data-ties q h in
       let u = r .runs q in
-      let z = flag-le (whole n b sh c q) in
+      let z = digit-le (whole n b sh c q) in
       let y = heads-at q ss p ts in
       let i = itself q in
       let split = all-at (PageRep n sh b c 1) ss p ts .0 (r .partials) in
@@ -162,7 +161,7 @@ module _ {n : ℕ} {b : List ℕ} {c : ℕ} {sh : Shape} (s : Setting n b c sh) 
       twice : ClassRep n b c sh k ps xs ys (p ∷ fs) → (x : ℕ) → x ≡ p .first → 1 ≤ heads x ps + heads x xs + heads x ys + heads x fs → ⊥
       twice r x e m =
           let i : _≡_ {A = ℕ} (cond (eqb x (p .first)) 1 0) 1 = rw (eq-eqb x (p .first) e) in
-          omega (arith, r .runs x, flag-le (whole n b sh c x))
+          omega (arith, r .runs x, digit-le (whole n b sh c x))
 
 -- ---- a page moves between the partial list, or a store, and none
 listing-set : (n : ℕ) (b b₀ : List ℕ) (q v : ℕ) → leb (words n) (length b₀) ≡ true → ltb q n ≡ true → length (put b (page listed q) v) ≡ length b₀
@@ -187,7 +186,7 @@ module _ {n : ℕ} {b : List ℕ} {c : ℕ} {sh : Shape} (s : Setting n b c sh) 
         listing = link-listing c q x y h;
       } in
       let u = r .runs q in
-      let f = flag-le (whole n b sh c q) in
+      let f = digit-le (whole n b sh c q) in
       let j = heads-at q ss p ts in
       let i = itself q in
       let split = all-at (PageRep n sh b c 1) ss p ts .0 (r .partials) in
@@ -199,9 +198,9 @@ module _ {n : ℕ} {b : List ℕ} {c : ℕ} {sh : Shape} (s : Setting n b c sh) 
       record {
         chain = rw (firsts-append ss ts) (chain-unlinked n b (s .long) c q (s .row) (firsts ss) (firsts ts) ch);
         store = stack-kept (link-top c q x y h (s .row) k) (link-stored c q x y h (s .row) k)
-            (λ z m. beyond z (omega (arith, r .runs z, flag-le (whole n b sh c z), in-count z (firsts xs) m))) (r .store);
+            (λ z m. beyond z (omega (arith, r .runs z, digit-le (whole n b sh c z), in-count z (firsts xs) m))) (r .store);
         beside = stack-kept (link-top c q x y h (s .row) (other k)) (link-stored c q x y h (s .row) (other k))
-            (λ z m. beyond z (omega (arith, r .runs z, flag-le (whole n b sh c z), in-count z (firsts ys) m))) (r .beside);
+            (λ z m. beyond z (omega (arith, r .runs z, digit-le (whole n b sh c z), in-count z (firsts ys) m))) (r .beside);
         partials = reps-off (s .shape) o 1 (ss ++ ts) (omega arith) (split .1);
         parked = parked-off (s .shape) o xs (omega arith) (r .parked);
         parkeds = parked-off (s .shape) o ys (omega arith) (r .parkeds);
@@ -229,7 +228,7 @@ module _ {n : ℕ} {b : List ℕ} {c : ℕ} {sh : Shape} (s : Setting n b c sh) 
         listing = link-listing c q x 0 h;
       } in
       let u = r .runs q in
-      let f = flag-le (whole n b sh c q) in
+      let f = digit-le (whole n b sh c q) in
       let i = itself q in
       let hq = whole-in n b (s .shape) c q (r .fulls .0 .holds .run) in
       let none : heads (p .first) ps ≡ 0 = omega arith in
@@ -263,7 +262,7 @@ module _ {n : ℕ} {b : List ℕ} {c : ℕ} {sh : Shape} (s : Setting n b c sh) 
       let h = unstow-changes (isStow k c q) b c q (s .row) k (stow-lets k c q) in
       let o = stow-off q h in
       let u = r .runs q in
-      let f = flag-le (whole n b sh c q) in
+      let f = digit-le (whole n b sh c q) in
       let i = itself q in
       let run = r .parked .0 .rep .holds .run in
       record {
@@ -287,7 +286,7 @@ module _ {n : ℕ} {b : List ℕ} {c : ℕ} {sh : Shape} (s : Setting n b c sh) 
       let h = stow-changes (isStow k c q) b c q (s .row) k (stow-lets k c q) in
       let o = stow-off q h in
       let u = r .runs q in
-      let f = flag-le (whole n b sh c q) in
+      let f = digit-le (whole n b sh c q) in
       let i = itself q in
       let run = idle .rep .holds .run in
       record {

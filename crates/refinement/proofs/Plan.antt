@@ -1,4 +1,4 @@
--- On a represented book every test of a take's plan passes. Assumes nothing.
+-- On a represented book every test of a take's plan passes.
 --     page-sound      a page of the class that has a block is in its ranges
 --     walk-passes     the walk over the partial list
 --     park-passes     the newest page of a store
@@ -21,11 +21,12 @@ use Rattle.words.specs.Host.{digit}
 use Rattle.pages.specs.Stack.{latest, hasMore}
 use Rattle.pages.specs.declared.Park.{Park}
 use Rattle.pages.specs.Links.{top}
-use Rattle.calls.specs.Take.{sound, walk, parkFair}
-use Rattle.pages.proofs.Downs.{flag-cases}
+use Rattle.pages.specs.Fair.{headerFair}
+use Rattle.calls.specs.Take.{pageReady, sound, walk, parkFair}
+use Rattle.pages.proofs.Downs.{digit-cases}
 use Rattle.refinement.specs.Chain.{Segment, Line, Stack}
 use Rattle.refinement.specs.Represents.{Holds, PageRep, Parked, firsts}
-use Rattle.refinement.proofs.Basics.{or-left, or-right, flag-small}
+use Rattle.refinement.proofs.Basics.{or-left, or-right, digit-small}
 use Rattle.refinement.proofs.Frames.{whole-below}
 use Rattle.refinement.proofs.Blocks.{few-counts, every-counts, tops-take}
 use Rattle.refinement.proofs.Draw.{more-is}
@@ -33,14 +34,14 @@ use Rattle.refinement.proofs.Fill.{AllMore, pred}
 
 module _ {n : ℕ} {sh : Shape} {b : List ℕ} {c l q : ℕ} {xs : List ℕ} {k : ℕ} {v : Bool} (h : Holds n sh b c l q xs k v) where
   pub stack-below : (i : ℕ) → k ≤ i → count i xs ≡ 0
-  stack-below i u = flag-cases i k (λ w e. absurd (omega arith)) (λ w e. omega (arith, h .outs i))
+  stack-below i u = digit-cases i k (λ w e. absurd (omega arith)) (λ w e. omega (arith, h .outs i))
 
   -- FREE is at most CARVED
   pub stack-fits : length xs ≤ k
   stack-fits = few-counts xs k (λ i. omega (arith, h .outs i))
 
   pub page-sound : (m : ℕ) → hasMore b sh q ≡ true → sound n b c sh l m q ≡ true
-  unfolding sound
+  unfolding sound pageReady headerFair
   page-sound m g =
       rw (
         h .run,
@@ -51,9 +52,9 @@ module _ {n : ℕ} {sh : Shape} {b : List ℕ} {c l q : ℕ} {xs : List ℕ} {k 
         g,
         tops-take b q m xs (h .slots),
         eq-eqb l l refl,
-        le-leb (length xs) k stack-fits,
+        le-leb (length xs + 0) k (omega (arith, stack-fits)),
         le-leb k (sh .capacity) (h .within),
-        flag-small v,
+        digit-small v,
       )
       (every-counts k (take m xs) (λ i u. omega (arith, count-cut i m xs, stack-below i u)))
 

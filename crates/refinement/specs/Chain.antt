@@ -1,4 +1,4 @@
--- A class's lists of pages, linked through the words. A page is stored as its code, page + 1, and 0 is none. Assumes nothing.
+-- A class's lists of pages, linked through the words. A page is stored as its code, page + 1, and 0 is none.
 --     Segment b y h xs e   the pages xs are linked from a place whose first page has code h and whose page before has code y, and the
 --                          last is followed by code e
 --     Chain                the partial list, doubly linked

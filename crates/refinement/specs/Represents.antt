@@ -1,4 +1,4 @@
--- The words stand for the model's heap. Assumes nothing.
+-- The words stand for the model's heap.
 --     Holds        the words of one run
 --     PageRep      they stand for a page of the model
 --     ClassRep     the words of one class

@@ -1,4 +1,4 @@
--- Blocks given, and more; free ones and new ones together. Assumes nothing.
+-- Blocks given, and more; free ones and new ones together.
 use Prim.Native.Nat.{ℕ, suc, _+_, _-_, _≤_, _<_, min}
 use native.Mathlib.Omega.{arith}
 use native.Mathlib.Numerals.{add-one}

@@ -1,4 +1,4 @@
--- The ways out of the takes. Assumes nothing.
+-- The ways out of the takes.
 use Prim.Native.Nat.{ℕ, zero, suc, _+_, _-_, _≤_, _<_}
 use native.Mathlib.Omega.{arith}
 use native.Mathlib.Numerals.{add-one}

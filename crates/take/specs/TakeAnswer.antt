@@ -1,4 +1,4 @@
--- What a take answers, and that the code answered so. Assumes nothing.
+-- What a take answers, and that the code answered so.
 use Prim.Native.Nat.{ℕ, zero, suc}
 use mathlib.Core.Bool.{Bool}
 use mathlib.Core.List.{List}
