@@ -1,4 +1,4 @@
--- The passes of a group release, once its listed blocks are struck. Assumes nothing.
+-- The passes of a group release, once its listed blocks are struck.
 --     match-asks, fair-asks, settle-asks    what each pass asks follows from the tests before it
 --     mismatch, unfair, settled             the ways out of the passes
 use Prim.Native.Nat.{ℕ, _+_, _≤_, _<_}
@@ -16,9 +16,10 @@ use Rattle.fields.proofs.Changes.{Changes, changes-none, changes-put}
 use Rattle.model.specs.Lists.{All, every}
 use Rattle.model.proofs.Counts.{by-cases, and-l, and-r}
 use Rattle.arena.specs.Fair.{recordFair, giveFair}
-use Rattle.calls.specs.Release.{pageAt, pageFair, rowFair}
+use Rattle.pages.specs.Stack.{pageAt}
+use Rattle.calls.specs.Release.{pageFair, rowFair}
 use Rattle.calls.specs.Chunks.{chunkFits, chunksMatch, returnsAll, runsGiven, pagesGiven, chunksFair, giveRuns}
-use Rattle.release.specs.Fair.{linksFair}
+use Rattle.pages.specs.Fair.{linksFair}
 use Rattle.release.proofs.FairWays.{links-fair}
 use Rattle.tally.specs.Match.{MatchAsks, Matched}
 use Rattle.chunks.specs.Pass.{pushOne, pushAll, givesIn}
@@ -27,16 +28,13 @@ use Rattle.chunks.specs.FairAsks.{ChunksFairAsks}
 use Rattle.chunks.specs.PlaceAsks.{placeFair, PlaceAsks, Placed}
 use Rattle.chunks.specs.GiveAsks.{givesFair, GiveChunksAsks}
 use Rattle.chunks.specs.CallAsks.{placed, settledTo, passes, StruckAsks, SettleAsks, ChunksAnswered}
-use Rattle.chunks.proofs.PushLaws.{push-free, on-here, on-other}
+use Rattle.chunks.proofs.PushLaws.{push-free, on-here, on-other, on-more}
 use Rattle.chunks.proofs.GatherGives.{idle, ofClass, gives-count, gives-in, fates-length, all-changes}
 use Rattle.chunks.proofs.CallTests.{fair-pages, words-on, fits-count, fits-lands, match-apart, match-fits, chunks-below, slots-left, page-there}
 
 -- ---- the blocks back on their stacks: of the words that are tested, only FREE is another
 abbrev stacked : Field → Bool
 stacked f = eqb (region f) 6 || (eqb (region f) 4 && eqb (off f) 4)
-
-on-more : (w : ℕ) (ws : List ℕ) (q : ℕ) → wordsOn ws q ≤ wordsOn (w ∷ ws) q
-on-more w ws q = by-cases (eqb (pageAt w) q) (λ e. omega (arith, on-here w ws q e)) (λ e. omega (arith, on-other w ws q e))
 
 push-stacks : (b : List ℕ) (sh : Shape) (ws : List ℕ) → PushAllAsks b sh ws → Changes stacked b (pushAll b sh ws)
 unfolding pushAll pushOne

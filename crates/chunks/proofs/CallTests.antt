@@ -1,4 +1,4 @@
--- Numbers 11 and 13 of a group release on the struck book: no test reads an out bit. And what the tests tell of the pages. Assumes nothing.
+-- Numbers 11 and 13 of a group release on the struck book: no test reads an out bit. And what the tests tell of the pages.
 --     match-kept, chunks-fair-kept    the tests are those of the book before
 --     lands                           the first page of a word's run, and of a chunk's, is the page itself, below the frontier
 --     chunks-land                     number 11 passed: the chunks' pages are pages of listed words
@@ -19,15 +19,17 @@ use Rattle.model.specs.Lists.{every, elem, distinct}
 use Rattle.model.proofs.Counts.{by-cases, and-l, and-r}
 use Rattle.arena.specs.Fair.{recordFair, giveFair}
 use Rattle.pages.specs.Runs.{whole}
-use Rattle.calls.specs.Release.{pageAt, startOf, inRunOf, pageFair, rowFair}
+use Rattle.pages.specs.Stack.{pageAt}
+use Rattle.calls.specs.Release.{startOf, inRunOf, pageFair, rowFair}
 use Rattle.calls.specs.Chunks.{blocksOn, chunkFits, chunksMatch, returnsAll, runsGiven, pagesGiven, chunksFair}
-use Rattle.release.proofs.Bits.{isBit, every-same, start-kept}
-use Rattle.release.proofs.FairWays.{room-left, carved-low}
+use Rattle.pages.proofs.Marks.{isMark}
+use Rattle.release.proofs.Bits.{every-same, start-kept}
+use Rattle.release.proofs.FairWays.{page-room, page-carved}
 use Rattle.tally.specs.Match.{onPage}
 use Rattle.chunks.specs.PushAsks.{wordsOn}
 
 -- ---- the tests read no out bit
-module _ (b b′ : List ℕ) (h : Changes isBit b b′) where
+module _ (b b′ : List ℕ) (h : Changes isMark b b′) where
   blocks-kept : (ws : List ℕ) (q : ℕ) → blocksOn b′ ws q ≡ blocksOn b ws q
   unfolding blocksOn
   blocks-kept [] q = refl
@@ -208,7 +210,7 @@ module _ (n : ℕ) (b : List ℕ) (c : ℕ) (sh : Shape) (one : sh .pages ≡ 1)
           (λ d.
           let p = pageOf g in
           let k = and-l (u g) (every u hs) j in
-          rw (eqb-true q p d) (omega (arith, fits-count g (and-l (t g) (every t hs) i), room-left b sh (countOf g) p k, carved-low b sh (countOf g) p k)))
+          rw (eqb-true q p d) (omega (arith, fits-count g (and-l (t g) (every t hs) i), page-room b sh (countOf g) p k, page-carved b sh (countOf g) p k)))
           (λ d. room-at q hs (rw d at e) (and-r (t g) (every t hs) i) (and-r (u g) (every u hs) j))
 
       pub slots-left : (q : ℕ) → 1 ≤ wordsOn ws q → get b (page free q) + wordsOn ws q ≤ 4096

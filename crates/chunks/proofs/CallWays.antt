@@ -1,4 +1,4 @@
--- The ways through a group release: number 10 by striking, and the numbers before it. Assumes nothing.
+-- The ways through a group release: number 10 by striking, and the numbers before it.
 --     not-out, struck-asks       short of all struck, and all struck
 --     released, refused          what the passes answered, and the struck blocks set again where they refused
 --     no-list .. bad-host        numbers 7, 8, 9 and 3
@@ -27,22 +27,14 @@ use Rattle.calls.specs.Release.{inRunOf, outAt}
 use Rattle.calls.specs.Chunks.{chunksMatch, chunksFair, settleChunks, ChunksReleased, chunksNone, releaseChunks}
 use Rattle.release.specs.Strike.{bitOf, struckCount, unstruck}
 use Rattle.release.specs.Asks.{RestoreAsks, Struck}
-use Rattle.release.proofs.Bits.{isBit, every-same, in-run-kept}
+use Rattle.pages.proofs.Marks.{isMark}
+use Rattle.release.proofs.Bits.{every-same, in-run-kept}
 use Rattle.release.proofs.StrikeLaws.{run-of-out, strikes-all, restores, struck-changes, restorable}
+use Rattle.release.proofs.Restoring.{struck-within}
 use Rattle.chunks.specs.CallAsks.{placed, settledTo, passes, CallAsks, StrikeAsks, StruckAsks, ChunksAnswered}
 use Rattle.chunks.proofs.PlaceSteps.{class-limits}
 use Rattle.chunks.proofs.Gather.{gathered}
 use Rattle.chunks.proofs.CallTests.{match-kept, chunks-fair-kept, fair-pages}
-
--- ---- number 10
-struck-within : (n : ℕ) (b : List ℕ) (c : ℕ) (sh : Shape) (ws : List ℕ) → struckCount n b c sh ws ≤ length ws
-unfolding struckCount
-struck-within n b c sh [] = omega arith
-struck-within n b c sh (w ∷ ws) = by (outAt n b c sh w) (struck-within n (put b (bitOf b sh w) 0) c sh ws)
-  where
-    by : (t : Bool) → struckCount n (put b (bitOf b sh w) 0) c sh ws ≤ length ws → cond t (suc (struckCount n (put b (bitOf b sh w) 0) c sh ws)) 0 ≤ suc (length ws)
-    by true z = omega arith
-    by false z = omega arith
 
 -- from number 11 on, as the definition has it
 abbrev from11 : ℕ → List ℕ → ℕ → Shape → ℕ → List ℕ → List ℕ → List ℕ → ChunksReleased
@@ -77,7 +69,7 @@ module _ (n : ℕ) (b : List ℕ) (c : ℕ) (sh : Shape) (ws gs fs : List ℕ) (
     k-is : k ≡ struckCount n b c sh ws
     k-is = z .answer ∙ omega arith
 
-    changes : Changes isBit b d
+    changes : Changes isMark b d
     changes = rw (z .left) (struck-changes n c sh sound b ws)
 
     pub struck-low : k ≤ length ws

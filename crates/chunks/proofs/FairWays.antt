@@ -1,4 +1,4 @@
--- Number 13's tests of a group release: the loops over the chunks, and the ways out. Assumes nothing.
+-- Number 13's tests of a group release: the loops over the chunks, and the ways out.
 use Prim.Native.Nat.{ℕ, zero, suc, _+_, _-_, _*_, _≤_, _<_}
 use native.Mathlib.Omega.{arith}
 use native.Mathlib.Numerals.{add-one}
@@ -20,12 +20,17 @@ use Rattle.model.specs.Lists.{every}
 use Rattle.model.proofs.Counts.{by-cases, and-l, and-r}
 use Rattle.arena.specs.Fair.{giveFair}
 use Rattle.pages.specs.declared.Park.the-variants.{Empty, Cold}
-use Rattle.pages.specs.Runs.{flag}
-use Rattle.calls.specs.Release.{pageFair, rowFair, keepsEmpty, spotOf}
+use Rattle.words.specs.Host.{digit}
+use Rattle.model.specs.declared.Spot.{Spot}
+use Rattle.model.specs.declared.Spot.the-variants.{ToEmpty, ToCold, ToArena}
+use Rattle.model.specs.Spot.{spotOf, isEmpty, isCold, isArena}
+use Rattle.pages.proofs.Downs.{digit-le}
+use Rattle.calls.specs.Release.{pageFair, rowFair}
 use Rattle.calls.specs.Chunks.{returnsAll, runsGiven, pagesGiven, chunksFair}
-use Rattle.release.specs.Fair.{PageAsks}
+use Rattle.pages.specs.Asks.{PageAsks}
 use Rattle.release.proofs.Ways.{drop-past}
-use Rattle.release.proofs.FairWays.{room-left, count-low}
+use Rattle.release.proofs.FairWays.{page-room, count-low}
+use Rattle.release.proofs.Spots.{empty-room}
 use Rattle.chunks.specs.declared.fair.Stores.{Stores}
 use Rattle.chunks.specs.GiveAsks.{givesFair}
 use Rattle.chunks.specs.FairAsks.{chunkFair, spotted, counted, PagesAsks, ReturnsAsks, SpottedAsks, CountAsks, RunsAsks, PagesGivenAsks, ChunksFairAsks}
@@ -82,48 +87,26 @@ module _ (b : List ℕ) (g v q x y : ℕ) (a : ReturnsAsks b g) (e₁ : v ≡ g)
       rw (e₆, e₅, f, c) (same-test (countOf g) x y room)
 
 -- ---- the counts
-module _ (s : Stores) (k : ℕ) where
-  pub spot-empty : k ≡ 0 → record { empties = s .empties + 1; colds = s .colds; runs = s .runs } ≡ spotted s k
+module _ (s : Stores) (k : Spot) where
+  pub spot-empty : k ≡ ToEmpty → record { empties = s .empties + 1; colds = s .colds; runs = s .runs } ≡ spotted s k
   spot-empty h = rw h (simp add-zero)
 
-  pub spot-cold : k ≡ 1 → record { empties = s .empties; colds = s .colds + 1; runs = s .runs } ≡ spotted s k
+  pub spot-cold : k ≡ ToCold → record { empties = s .empties; colds = s .colds + 1; runs = s .runs } ≡ spotted s k
   spot-cold h = rw h (simp add-zero)
 
-  pub spot-arena : SpottedAsks s k → (k ≡ 0 → ⊥) → (k ≡ 1 → ⊥) → record { empties = s .empties; colds = s .colds; runs = s .runs + 1 } ≡ spotted s k
-  spot-arena a h l = let z : k ≡ 2 = omega (arith, a .spot) in rw z (simp add-zero)
-
-spot-low : (sh : Shape) (e k : ℕ) → spotOf sh e k ≤ 2
-unfolding spotOf
-spot-low sh e k =
-    by-cases (keepsEmpty sh e) (λ t. rw t (omega arith)) (λ t. by-cases (ltb k (sh .colds)) (λ u. rw (t, u) (omega arith)) (λ u. rw (t, u) (omega arith)))
-
--- the empty store grows only below its limit
-spot-room : (sh : Shape) (e k : ℕ) → spotOf sh e k ≡ 0 → e < sh .empties
-unfolding spotOf
-spot-room sh e k h =
-    by-cases (keepsEmpty sh e)
-    (λ t. ltb-true e (sh .empties) (and-l _ _ t))
-    (λ t. by-cases (ltb k (sh .colds)) (λ u. absurd (let z = rw (t, u) at h in omega arith)) (λ u. absurd (let z = rw (t, u) at h in omega arith)))
-
-flag-low : (t : Bool) → flag t ≤ 1
-flag-low true = omega arith
-flag-low false = omega arith
+  pub spot-arena : k ≡ ToArena → record { empties = s .empties; colds = s .colds; runs = s .runs + 1 } ≡ spotted s k
+  spot-arena h = rw h (simp add-zero)
 
 module _ (b : List ℕ) (sh : Shape) (g : ℕ) (s : Stores) where
-  pub spotted-asks : (k : ℕ) → CountAsks b sh g s → k ≡ spotOf sh (s .empties) (s .colds) → SpottedAsks s k
-  spotted-asks k a e = record {
-    spot = rw e (spot-low sh (s .empties) (s .colds));
-    empties = omega (arith, a .empties);
-    colds = a .colds;
-    runs = a .runs;
-  }
+  pub spotted-asks : CountAsks b sh g s → SpottedAsks s
+  spotted-asks a = record { empties = omega (arith, a .empties); colds = a .colds; runs = a .runs }
 
   module _ (r : Bool) (e : r ≡ returnsAll b g) where
     pub count-none : r ≡ false → s ≡ counted b sh g s
     unfolding counted
     count-none h = rw (← e, h)
 
-    pub count-one : r ≡ true → (k : ℕ) → k ≡ spotOf sh (s .empties) (s .colds) → (t : Stores) → t ≡ spotted s k → t ≡ counted b sh g s
+    pub count-one : r ≡ true → (k : Spot) → k ≡ spotOf sh (s .empties) (s .colds) → (t : Stores) → t ≡ spotted s k → t ≡ counted b sh g s
     unfolding counted
     count-one h k j t z = z ∙ rw (← e, h, j)
 
@@ -132,16 +115,16 @@ module _ (b : List ℕ) (sh : Shape) (g : ℕ) (s : Stores) where
   counted-empties l h =
       let k = spotOf sh (s .empties) (s .colds) in
       by-cases (returnsAll b g)
-      (λ t. rw t (by-cases (eqb k 0) (λ u. rw u (omega (arith, spot-room sh (s .empties) (s .colds) (eqb-true k 0 u)))) (λ u. rw u (omega arith))))
+      (λ t. rw t (by-cases (isEmpty k) (λ u. rw u (omega (arith, empty-room sh (s .empties) (s .colds) u))) (λ u. rw u (omega arith))))
       (λ t. rw t h)
 
   counted-colds : counted b sh g s .colds ≤ s .colds + 1
   unfolding counted
-  counted-colds = by-cases (returnsAll b g) (λ t. rw t (omega (arith, flag-low (eqb (spotOf sh (s .empties) (s .colds)) 1)))) (λ t. rw t (omega arith))
+  counted-colds = by-cases (returnsAll b g) (λ t. rw t (omega (arith, digit-le (isCold (spotOf sh (s .empties) (s .colds)))))) (λ t. rw t (omega arith))
 
   counted-runs : counted b sh g s .runs ≤ s .runs + 1
   unfolding counted
-  counted-runs = by-cases (returnsAll b g) (λ t. rw t (omega (arith, flag-low (eqb (spotOf sh (s .empties) (s .colds)) 2)))) (λ t. rw t (omega arith))
+  counted-runs = by-cases (returnsAll b g) (λ t. rw t (omega (arith, digit-le (isArena (spotOf sh (s .empties) (s .colds)))))) (λ t. rw t (omega arith))
 
   counted-rest : (gs : List ℕ) → counted b sh g s .runs + runsGiven b sh gs (counted b sh g s .empties) (counted b sh g s .colds) ≡ s .runs + runsGiven b sh (g ∷ gs) (s .empties) (s .colds)
   unfolding counted runsGiven
@@ -168,7 +151,7 @@ module _ (n : ℕ) (b : List ℕ) (sh : Shape) (gs : List ℕ) (e k : ℕ) where
             sound = a .sound;
             chunk = record {
               there = page-there n b gs (a .pages) i l .there;
-              room = room-left b sh (countOf g) (pageOf g) (every-at (chunkFair b sh) gs i (a .fair) l);
+              room = page-room b sh (countOf g) (pageOf g) (every-at (chunkFair b sh) gs i (a .fair) l);
             };
             empties = v .empties;
             colds = omega (arith, v .colds, a .chunks);
@@ -196,7 +179,7 @@ runs-few b sh [] e k = omega arith
 runs-few b sh (g ∷ gs) e k =
     let s = spotOf sh e k in
     by-cases (returnsAll b g)
-    (λ t. rw t (omega (arith, flag-low (eqb s 2), runs-few b sh gs (e + flag (eqb s 0)) (k + flag (eqb s 1)))))
+    (λ t. rw t (omega (arith, digit-le (isArena s), runs-few b sh gs (e + digit (isEmpty s)) (k + digit (isCold s)))))
     (λ t. rw t (omega (arith, runs-few b sh gs e k)))
 
 -- ---- the give

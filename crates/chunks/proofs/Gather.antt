@@ -1,5 +1,5 @@
 -- A group release in passes ends as the definition says (calls, specs/Chunks): the struck blocks back on their stacks, then the pages
--- placed in the chunks' order, is the chunks settled one after the other. Of a class whose runs are one page. Assumes nothing.
+-- placed in the chunks' order, is the chunks settled one after the other. Of a class whose runs are one page.
 --     page-start     a word that is out is on the page that its run begins at
 --     strikes        all struck: their out bits are 0
 --     settle-as      settling, with each page's stack height and blocks as they were before the first chunk
@@ -22,14 +22,14 @@ use Rattle.fields.proofs.Changes.{Changes, changes-trans}
 use Rattle.model.specs.Lists.{All, every, elem, distinct}
 use Rattle.model.proofs.Counts.{by-cases, and-l, and-r}
 use Rattle.pages.specs.Runs.{whole}
-use Rattle.pages.specs.Stack.{marks, push, back, indexOf}
+use Rattle.pages.specs.Stack.{marks, push, back, indexOf, pageAt}
 use Rattle.pages.proofs.Downs.{small}
-use Rattle.calls.specs.Release.{pageAt, startOf, inRunOf, outAt, pageFair}
+use Rattle.calls.specs.Release.{startOf, inRunOf, outAt, pageFair}
 use Rattle.calls.specs.Chunks.{blocksOn, chunkFits, chunksMatch, chunkBackAt, givesOf, Settled, settleChunks}
 use Rattle.release.specs.Strike.{bitOf, struckCount, struck}
 use Rattle.release.proofs.Bits.{every-same}
 use Rattle.release.proofs.StrikeLaws.{run-of-out, index-of-out, page-of-out}
-use Rattle.release.proofs.FairWays.{room-left, carved-low}
+use Rattle.release.proofs.FairWays.{page-room, page-carved}
 use Rattle.chunks.specs.Pass.{pushAll, placeAt, placeAll}
 use Rattle.chunks.proofs.GatherPlace.{stirs, onBook, place-past, place-changes}
 use Rattle.chunks.proofs.GatherPush.{cleared, laid, laidAll, blocksOf, Fits, laid-changes, onPages, pushes}
@@ -193,7 +193,7 @@ module _ (n : ℕ) (b : List ℕ) (c : ℕ) (sh : Shape) (ws : List ℕ) (s : So
   chunk-fits qs g o m f =
       let q = pageOf g in
       let k = eqb-true (countOf g) (length (blocksOn b ws q)) (and-r (not (eqb (countOf g) 0)) (eqb (countOf g) (length (blocksOn b ws q))) m) in
-      record { room = omega (arith, k, length-on q, room-left b sh (countOf g) q f, carved-low b sh (countOf g) q f, s .few); low = low-blocks n sh qs ws q o }
+      record { room = omega (arith, k, length-on q, page-room b sh (countOf g) q f, page-carved b sh (countOf g) q f, s .few); low = low-blocks n sh qs ws q o }
 
   pub chunks-fit : (qs gs : List ℕ) → every (onPages n sh qs) ws ≡ true → every (chunkFits b ws) gs ≡ true → every (λ g. pageFair b sh (countOf g) (pageOf g)) gs ≡ true
       → All (Fits (λ q. get b (page free q)) (blocksOf sh ws)) (map pageOf gs)

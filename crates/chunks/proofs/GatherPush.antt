@@ -4,7 +4,6 @@
 --     laidAll       to several pages; h has their stacks' heights, f each one's blocks
 --     blocksOf      a page's blocks of the list
 --     pushes        the words' blocks, one by one, are the pages' blocks, page by page
--- Assumes nothing.
 use Prim.Native.Nat.{ℕ, suc, _+_, _≤_}
 use native.Mathlib.Omega.{arith}
 use mathlib.Core.Bool.{Bool, true, false, not, _&&_, true≢false, false≢true}
@@ -19,12 +18,10 @@ use Rattle.fields.proofs.Laws.{get-put-same, get-put-other, put-comm, put-put-s
 use Rattle.fields.proofs.Changes.{Changes, changes-put, changes-trans, same-eq}
 use Rattle.model.specs.Lists.{All, every, elem, filter, distinct}
 use Rattle.model.proofs.Counts.{by-cases, and-l, and-r}
-use Rattle.pages.specs.Stack.{marks, push, indexOf}
+use Rattle.pages.specs.Stack.{marks, push, indexOf, pageAt}
 use Rattle.pages.proofs.Downs.{small}
-use Rattle.pages.proofs.Marks.{length-marks, marks-changes}
+use Rattle.pages.proofs.Marks.{isMark, length-marks, marks-changes}
 use Rattle.pages.proofs.Pushes.{length-push, push-changes}
-use Rattle.calls.specs.Release.{pageAt}
-use Rattle.release.proofs.Bits.{isBit}
 use Rattle.chunks.specs.Pass.{pushOne, pushAll}
 use Rattle.chunks.proofs.GatherPlace.{aside, stirs, stirs-own, own, past-put, past-push, past-marks}
 
@@ -72,8 +69,8 @@ module _ (q m : ℕ) (is : List ℕ) (room : m + length is ≤ 4096) (low : ever
   laid-bit : (p i : ℕ) → small i ≡ true → (b : List ℕ) → laid (put b (out p i) 0) q m is ≡ put (laid b q m is) (out p i) 0
   unfolding laid
   laid-bit p i hi b =
-      past-put isBit (out p i) 0 hi refl _ _ (page free q) (m + length is) refl refl
-      (past-push isBit (out p i) 0 hi refl _ _ q m is (λ j. refl) room (marks-bit b p i q 0 is hi low))
+      past-put isMark (out p i) 0 hi refl _ _ (page free q) (m + length is) refl refl
+      (past-push isMark (out p i) 0 hi refl _ _ q m is (λ j. refl) room (marks-bit b p i q 0 is hi low))
 
   pub laid-changes : (b : List ℕ) → Changes (stirs q) b (laid b q m is)
   unfolding laid
@@ -104,7 +101,7 @@ module _ (n : ℕ) (b : List ℕ) (hb : leb (words n) (length b) ≡ true) (q m 
       let hy : leb (words n) (length y) ≡ true
       = rw (length-put (put x (out q i) 0) (slot q k) i, length-put x (out q i) 0, length-push (marks b q 0 is) q m is, length-marks b q 0 is) hb in
       let e : push (put (marks b q 0 is) (out q i) 0) q m is ≡ put x (out q i) 0
-      = past-push isBit (out q i) 0 hi refl (marks b q 0 is) _ q m is (λ j. refl) (omega arith) refl in
+      = past-push isMark (out q i) 0 hi refl (marks b q 0 is) _ q m is (λ j. refl) (omega arith) refl in
       let l : put (put (put x (page free q) k) (out q i) 0) (slot q k) i ≡ put y (page free q) k
       = past-put ofPage (page free q) k refl refl (put x (out q i) 0) _ (slot q k) i hk refl (past-put ofPage (page free q) k refl refl x _ (out q i) 0 hi refl refl) in
       let z : m + suc (length is) ≡ k + 1 = omega arith in

@@ -2,7 +2,6 @@
 --     given-length     the book's length stays
 --     given-fair       a give of m pages leaves a book that is fair for the rest
 --     gives-append     runs of two lists
--- Assumes nothing.
 use Prim.Native.Nat.{ℕ, suc, _+_, _-_, _*_, _≤_, _<_}
 use native.Mathlib.Omega.{arith}
 use native.Mathlib.Numerals.{add-one}

@@ -1,4 +1,4 @@
--- A group release in passes: from number 11 on, what its functions ask, and what they answer. Assumes nothing.
+-- A group release in passes: from number 11 on, what its functions ask, and what they answer.
 --     passes           numbers 11 and 13, and the act, on a book whose listed blocks are struck; a refusal leaves them struck
 --     ChunksAnswered   a call answered a number, and left the book and the fates
 use Prim.Native.Nat.{ℕ, _≤_}

@@ -9,6 +9,7 @@ use classes::Shape;
 use release::all_of_kind;
 use release::strike::strike;
 use release::strike::unstrike;
+use tally::MAX_CHUNKS;
 use tally::chunks_match;
 use words::Word;
 
@@ -102,7 +103,7 @@ pub fn release_chunks(
     if chunks.len() == 0 {
         return 7;
     }
-    if chunks.len() > 2056 {
+    if chunks.len() > MAX_CHUNKS {
         return 8;
     }
     if fates.len() < chunks.len() {

@@ -1,4 +1,4 @@
--- The ways out of the functions on runs, and what their loops keep. Assumes nothing.
+-- The ways out of the functions on runs, and what their loops keep.
 use Prim.Native.Nat.{ℕ, zero, suc, _+_, _-_, _≤_, _<_}
 use native.Mathlib.Omega.{arith}
 use native.Mathlib.Numerals.{add-one, sub-one}

@@ -12,11 +12,13 @@ use borrow.Author.Tests.{eqb-true, eq-eqb, leb-true, leb-false, not-false}
 use Rattle.words.specs.Word.{pageOf}
 use Rattle.classes.specs.declared.Shape.{Shape}
 use Rattle.classes.specs.Sound.{Sound}
+use Rattle.model.specs.declared.Spot.{Spot}
+use Rattle.model.specs.declared.Spot.the-variants.{ToEmpty, ToCold, ToArena}
 use Rattle.model.specs.Lists.{All, count, elem, every, distinct, total, covers, coversAll, coversRun}
 use Rattle.model.specs.Calls.{Request, take, giveBack, giveChunks, fate, fates, refused, blocksOf, releasedBy}
 use Rattle.model.specs.Page.{Page, isMedium, carve, isOut, noneOut, reused, returned, retire}
 use Rattle.model.specs.Class.{Class, lists, Cold, Result, Ask, done, asks, serve, refuse, Filled, fillFromList, served, thawed, onRun, takeFrom}
-use Rattle.model.specs.Release.{Site, locate, Settled, park, parkEmpty, parkCold, letGo, markRetired, settle, outHere, onPage, siteOfFirst, releaseList}
+use Rattle.model.specs.Release.{Site, locate, Settled, spotIn, park, parkIn, markRetired, settle, outHere, onPage, siteOfFirst, releaseList}
 use Rattle.model.specs.Chunks.{startsAt, blocksOn, chunkFits, chunkedOn, chunked, settleChunk, settleChunks, releaseChunks, answer}
 use Rattle.model.specs.Ledger.{runsWith}
 use Rattle.model.proofs.Counts.{by-cases, and-r, every-count, filter-le, filter-passes, filter-keeps, distinct-count, total-append}
@@ -111,22 +113,14 @@ module _ (sh : Shape) (ok : Sound sh) where
     out : (f : Page → ℕ) → outs f (b .class) ≡ outs f s
 
   module _ (h : ℕ) (s : Class) (p : Page) (gs : GoodClass sh s) (gp : EmptyPage sh p) where
-    to-empty : ParkLaw s p (parkEmpty s p)
-    to-empty = record { good = record { partial = gs .partial; empty = (gp, gs .empty); full = gs .full }; pages = λ z. omega arith; out = λ f. omega arith }
-
-    to-cold : ParkLaw s p (parkCold sh h s p)
-    to-cold = record { good = record { partial = gs .partial; empty = gs .empty; full = gs .full }; pages = λ z. omega arith; out = λ f. omega arith }
-
-    to-arena : ParkLaw s p (letGo s p)
-    to-arena = record { good = record { partial = gs .partial; empty = gs .empty; full = gs .full }; pages = λ z. omega arith; out = λ f. omega arith }
-
-    parked-cond : (b : Bool) (x y : Settled) → ParkLaw s p x → ParkLaw s p y → ParkLaw s p (cond b x y)
-    parked-cond true x y k l = k
-    parked-cond false x y k l = l
+    park-in : (t : Spot) → ParkLaw s p (parkIn sh h s p t)
+    park-in ToEmpty = record { good = record { partial = gs .partial; empty = (gp, gs .empty); full = gs .full }; pages = λ z. omega arith; out = λ f. omega arith }
+    park-in ToCold = record { good = record { partial = gs .partial; empty = gs .empty; full = gs .full }; pages = λ z. omega arith; out = λ f. omega arith }
+    park-in ToArena = record { good = record { partial = gs .partial; empty = gs .empty; full = gs .full }; pages = λ z. omega arith; out = λ f. omega arith }
 
     park-law : ParkLaw s p (park sh h s p)
     unfolding park
-    park-law = search (parked-cond, to-empty, to-cold, to-arena)
+    park-law = park-in (spotIn sh s)
 
   module _ (h : ℕ) (s : Class) (ws : List ℕ) (x : Site) (law : SiteLaw sh s x) (once : (w : ℕ) → count w ws ≤ 1) (outs : (w : ℕ) → 1 ≤ count w ws → isOut sh w (x .page) ≡ true) where
     back-good : GoodPage sh (returned ws (x .page))

@@ -14,12 +14,14 @@ use Rattle.classes.specs.declared.Shape.{Shape}
 use Rattle.classes.specs.Shape.{shapeOf}
 use Rattle.classes.specs.Sound.{Sound}
 use Rattle.classes.proofs.Shapes.{shape-sound}
+use Rattle.model.specs.declared.Spot.{Spot}
+use Rattle.model.specs.declared.Spot.the-variants.{ToEmpty, ToCold, ToArena}
 use Rattle.model.specs.Lists.{All, elem, every, distinct, isNil}
 use Rattle.model.specs.Calls as Calls
 use Rattle.model.specs.Calls.{Call, Request, Way, turned, straight, toClass, wayOf, blocksOf, fates}
 use Rattle.model.specs.Page.{Page, isMedium, wordsFrom, carveAs, carve, isOut, noneOut, hasMore, carvedNow, pop, returned, retire, reused}
 use Rattle.model.specs.Class.{Class, lists, Cold, Result, Ask, done, asks, serve, refuse, after, fillFromList, served, thawed, onRun, takeFrom}
-use Rattle.model.specs.Release.{Found, Site, Settled, find, inPartial, inFull, orElse, mapFound, locate, park, parkEmpty, parkCold, letGo, markRetired, settle, onPage, siteOfFirst, releaseList}
+use Rattle.model.specs.Release.{Found, Site, Settled, find, inPartial, inFull, orElse, mapFound, locate, spotIn, park, parkIn, markRetired, settle, onPage, siteOfFirst, releaseList}
 use Rattle.model.specs.Chunks.{startsAt, blocksOn, fitsOn, chunkFits, settleChunk, settleChunks, releaseChunks, answer}
 use Rattle.model.specs.Heap.{Heap, step, route, classCall, interact, finish, newHeap}
 use Rattle.model.specs.History.{heapFrom, heapAfter}
@@ -194,22 +196,14 @@ module _ (sh : Shape) (ok : Sound sh) where
     skip : (u : Page → Bool) → firstOf u (b .class) ≡ firstOf u s
 
   module _ (h : ℕ) (s : Class) (p : Page) (y : Listed sh s) (m : Again p) where
-    to-empty : Parked s (parkEmpty s p)
-    to-empty = record { listed = record { partial = y .partial; empty = (m, y .empty) }; skip = λ u. refl }
-
-    to-cold : Parked s (parkCold sh h s p)
-    to-cold = record { listed = record { partial = y .partial; empty = y .empty }; skip = λ u. refl }
-
-    to-arena : Parked s (letGo s p)
-    to-arena = record { listed = y; skip = λ u. refl }
-
-    parked-cond : (b : Bool) (x z : Settled) → Parked s x → Parked s z → Parked s (cond b x z)
-    parked-cond true x z k l = k
-    parked-cond false x z k l = l
+    park-in : (t : Spot) → Parked s (parkIn sh h s p t)
+    park-in ToEmpty = record { listed = record { partial = y .partial; empty = (m, y .empty) }; skip = λ u. refl }
+    park-in ToCold = record { listed = record { partial = y .partial; empty = y .empty }; skip = λ u. refl }
+    park-in ToArena = record { listed = y; skip = λ u. refl }
 
     parked : Parked s (park sh h s p)
     unfolding park
-    parked = search (parked-cond, to-empty, to-cold, to-arena)
+    parked = park-in (spotIn sh s)
 
   -- one page's release, of at least one block: every other page is found as before
   record SettledLaw (s : Class) (q : ℕ) (b : Settled) : Type 0 where

@@ -1,4 +1,4 @@
--- Group releases (`release_bin_chunks`; a group is a chunk here), and one request of a class. Assumes nothing.
+-- Group releases (`release_bin_chunks`; a group is a chunk here), and one request of a class.
 use Prim.Native.Nat.{ℕ, _+_}
 use mathlib.Core.List.{List, [], _∷_, _++_, map}
 use mathlib.Core.Option.{Option, none, some}

@@ -1,5 +1,5 @@
 -- A run of a class with its blocks: carving, popping, returning (document 01, "Blocks out and back"). A small class's run is one
--- page, a medium one's a span; `Page` is either. Assumes nothing.
+-- page, a medium one's a span; `Page` is either.
 use Prim.Native.Nat.{ℕ, zero, suc, _+_, _-_, _*_, min}
 use mathlib.Core.List.{List, [], _∷_, _++_, reverse}
 use mathlib.Core.Bool.{Bool, true, false, cond, not, _&&_, _||_}

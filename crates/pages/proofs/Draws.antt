@@ -1,4 +1,4 @@
--- What a page gives, and the page after it. Assumes nothing.
+-- What a page gives, and the page after it.
 --     latest-length     how many blocks: the free ones that are wanted, and new ones
 --     latest-below      they are blocks of the class
 --     draw-changes      only FREE, CARVED and out bits are changed

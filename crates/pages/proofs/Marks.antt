@@ -1,4 +1,4 @@
--- Out bits of listed blocks set or cleared. Assumes nothing.
+-- Out bits of listed blocks set or cleared.
 --     length-marks, marks-append
 --     marks-changes, marks-kept    nothing else is changed
 --     marks-get, marks-at          what is read of a block's bit

@@ -1,4 +1,4 @@
--- Blocks laid on a page's stack. Assumes nothing.
+-- Blocks laid on a page's stack.
 --     length-push, push-changes, push-kept
 --     push-under     entries below the old top are as they were
 --     tops-push      what was laid on is on top

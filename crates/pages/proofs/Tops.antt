@@ -1,4 +1,4 @@
--- The top entries of a page's stack. Assumes nothing.
+-- The top entries of a page's stack.
 --     length-tops    how many there are
 --     tops-cut       there are no more than the stack has
 --     popped-more    one more popped, in the order of a list that has the latest first

@@ -1,4 +1,4 @@
--- A group release's test of number 11 on the words is the model's. Assumes nothing.
+-- A group release's test of number 11 on the words is the model's.
 --     same-blocks      a chunk's blocks are the model's
 --     chunks-same      number 11
 use Prim.Native.Nat.{ℕ, _≤_}

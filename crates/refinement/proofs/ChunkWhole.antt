@@ -1,5 +1,5 @@
 -- A group release, whole: on a book that stands for a reached heap it has the model's answer, is never refused by number 13, and
--- leaves a book that stands for the model's next heap. n is at most the longest arena, c a small class. Assumes nothing.
+-- leaves a book that stands for the model's next heap. n is at most the longest arena, c a small class.
 --     chunks-fair      number 13's tests pass
 --     chunks-whole     every group release, refused or not, of any fates, the gives included
 --     chunks-after     the same after any history

@@ -1,4 +1,4 @@
--- The page that a word is on: what the model finds is what the words say. Assumes nothing.
+-- The page that a word is on: what the model finds is what the words say.
 --     Located         what `locate` finds, and where
 --     Away, Placed    a class with pages in no list that wait for the arena, and a page of it at its site
 --     same-page       on a page of the class a block is out exactly if the words name that page
@@ -21,7 +21,8 @@ use Rattle.model.specs.Class.{Class, thawed}
 use Rattle.model.specs.Release.{Found, Site, prepend, find, inPartial, inFull, orElse, mapFound, locate, ofKind, outHere}
 use Rattle.model.proofs.Counts.{by-cases, and-l, and-r}
 use Rattle.model.proofs.Find.{all-at, FoundLaw}
-use Rattle.pages.specs.Runs.{flag, whole}
+use Rattle.words.specs.Host.{digit}
+use Rattle.pages.specs.Runs.{whole}
 use Rattle.pages.specs.declared.Park.the-variants.{Empty}
 use Rattle.calls.specs.Release.{startOf, outIn, inRunOf, outAt, unlisted, relisted}
 use Rattle.refinement.specs.Represents.{PageRep, Parked, heads, ClassRep, StateRep}
@@ -203,7 +204,7 @@ module _ {n : ℕ} {b : List ℕ} {c : ℕ} {sh : Shape} (s : Setting n b c sh) 
       seen u none (nowhere h₁ h₂) =
           let q = startOf b w in
           let z = r .runs (startOf b w) in
-          let y : flag (whole n b sh c (startOf b w)) ≡ 1 = ap flag u in
+          let y : digit (whole n b sh c (startOf b w)) ≡ 1 = ap digit u in
           let xs = map (reused sh) (t .empty) in
           let ys = map (thawed sh) (t .cold) in
           absurd (none-of (heads q (t .partial)) (heads q xs) (heads q ys) (heads q (t .full)) (z ∙ y)

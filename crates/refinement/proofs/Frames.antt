@@ -1,4 +1,4 @@
--- Whose a run is, which fields are whose, and what depends on which. Assumes nothing.
+-- Whose a run is, which fields are whose, and what depends on which.
 --     Whole        what `whole` says, page by page
 --     home b f     the class, and one, to which a field belongs; 0 for the arena's. OWNER and FIRST are the arena's
 --     Only         a change of one class's fields only

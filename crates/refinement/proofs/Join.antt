@@ -1,5 +1,5 @@
 -- The classes after a commit for a class: with no run every class is as before; with one, the class has a page more, in no list, and
--- the others are as before. Assumes nothing.
+-- the others are as before.
 use Prim.Native.Nat.{ℕ, suc, _+_, _≤_}
 use native.Mathlib.Omega.{arith}
 use native.Mathlib.Decide.{ℕ-discrete}
@@ -25,7 +25,8 @@ use Rattle.model.proofs.Counts.{and-l, and-r}
 use Rattle.model.proofs.ArenaTidy.{tidy-commit}
 use Rattle.model.proofs.ArenaLaws.{commit-law}
 use Rattle.model.proofs.IdlePages.{commit-below}
-use Rattle.pages.specs.Runs.{flag, whole}
+use Rattle.words.specs.Host.{digit}
+use Rattle.pages.specs.Runs.{whole}
 use Rattle.pages.specs.declared.Park.{Park}
 use Rattle.pages.specs.Carve.{newRun}
 use Rattle.arena.specs.Calls.{committed}
@@ -194,8 +195,8 @@ module _ (n : ℕ) (b : List ℕ) (H : Heap) (R : Represents n b H) (ok : Reache
         (λ x l. let w = listed-whole (shape-sound c) r x l in new-keeps x (apart c x w) (same c x (λ z. apart c x w) ∙ w))
         (r .fulls) (new-rep s₁ q (lt-ltb q n (omega (arith, within, one))) whole-now, tt)
         (λ x. elim (ℕ-discrete x q) [
-          | yes z ↦ (let now : flag (whole n new (shapeOf c) c x) ≡ 1 = ap flag (ap (whole n new (shapeOf c) c) z ∙ whole-now) in
-              let old : flag (whole n b (shapeOf c) c x) ≡ 0 = ap flag (ap (whole n b (shapeOf c) c) z ∙ not-before c) in
+          | yes z ↦ (let now : digit (whole n new (shapeOf c) c x) ≡ 1 = ap digit (ap (whole n new (shapeOf c) c) z ∙ whole-now) in
+              let old : digit (whole n b (shapeOf c) c x) ≡ 0 = ap digit (ap (whole n b (shapeOf c) c) z ∙ not-before c) in
               let here : _≡_ {A = ℕ} (cond (eqb x (carve (shapeOf c) q true .first)) 1 0) 1 = rw (eq-eqb x (carve (shapeOf c) q true .first) (z ∙ sym start)) in
               omega (arith, r .runs x))
           | no z ↦ (let there : _≡_ {A = ℕ} (cond (eqb x (carve (shapeOf c) q true .first)) 1 0) 0 = rw (ne-eqb x (carve (shapeOf c) q true .first) (λ t. z (t ∙ start))) in

@@ -1,4 +1,4 @@
--- Lists of pages: distinct ones, linked ones, and how often a page stands in one. Assumes nothing.
+-- Lists of pages: distinct ones, linked ones, and how often a page stands in one.
 --     Middle           what a list of distinct pages with p inside tells
 --     segment-kept     a segment whose links are as they were
 --     part, join       a segment parted at a page, and two segments joined

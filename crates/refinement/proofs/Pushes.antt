@@ -1,4 +1,4 @@
--- Blocks laid on a page's stack, and a run carved anew. Assumes nothing.
+-- Blocks laid on a page's stack, and a run carved anew.
 --     push-slots     the stack with a list laid on it
 --     anew-holds     a run that has no block out, carved anew
 --     carve-rep      it is the model's carved page
@@ -20,7 +20,7 @@ use Rattle.model.proofs.Counts.{and-l, and-r}
 use Rattle.pages.specs.Runs.{whole}
 use Rattle.pages.specs.Stack.{marked, downs, push}
 use Rattle.pages.specs.Carve.{stocked, carveAnew}
-use Rattle.pages.proofs.Downs.{flag-false, length-downs, small}
+use Rattle.pages.proofs.Downs.{digit-false, length-downs, small}
 use Rattle.pages.proofs.Pushes.{length-push, push-kept}
 use Rattle.pages.proofs.Frames.{changes-carve}
 use Rattle.refinement.specs.Represents.{Slots, Holds, PageRep}
@@ -92,7 +92,7 @@ module _ {n : ℕ} {b : List ℕ} {c : ℕ} {sh : Shape} (s : Setting n b c sh) 
       let b₁ = push b q 0 (downs 0 (stocked sh)) in
       let hb₁ = long-kept n b (push b q 0 (downs 0 (stocked sh))) (length-push b q 0 (downs 0 (stocked sh))) (s .long) in
       let low : every (fits sh) (downs 0 (stocked sh)) ≡ true
-      = every-counts (sh .capacity) (downs 0 (stocked sh)) (λ j z. omega (arith, count-downs-zero j (stocked sh), flag-false j (stocked sh) (omega (arith, stocked-in sh)))) in
+      = every-counts (sh .capacity) (downs 0 (stocked sh)) (λ j z. omega (arith, count-downs-zero j (stocked sh), digit-false j (stocked sh) (omega (arith, stocked-in sh)))) in
       record {
         run = run;
         listing = simp get-put-other (push-kept b q 0 (downs 0 (stocked sh)) room (page listed q) refl refl ∙ listing);

@@ -1,5 +1,5 @@
 -- A release by list, whole: on a book that stands for a reached heap it has the model's answer, is never refused by number 13, and
--- leaves a book that stands for the model's next heap. n is at most the longest arena. Assumes nothing.
+-- leaves a book that stands for the model's next heap. n is at most the longest arena.
 --     release-rep       refused by both with one number, or settled alike
 --     release-whole     every release by list, refused or not, of any fate, the give included
 --     release-after     the same after any history

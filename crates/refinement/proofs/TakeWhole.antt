@@ -1,5 +1,5 @@
 -- A take, whole: on a book that stands for a reached heap it has the model's answer, is never refused by number 13, and leaves a book
--- that stands for the model's next heap. Assumes nothing.
+-- that stands for the model's next heap.
 --     take-new       a take that asks the arena, with a run or none
 --     take-whole     every take, refused or not, from any source
 --     take-after     the same after any history

@@ -1,4 +1,4 @@
--- Every call and every history on the words is the model's. n is at most the longest arena. Assumes nothing.
+-- Every call and every history on the words is the model's. n is at most the longest arena.
 --     call-whole         any call on a book that stands for a heap after a history
 --     run-answers        a history's answers are the model's, from an opening on any book that is long enough
 --     run-represents     the book after it stands for the model's heap

@@ -1,4 +1,4 @@
--- The listed blocks come back to their page, and the arena is the last step. Assumes nothing.
+-- The listed blocks come back to their page, and the arena is the last step.
 use Prim.Native.Nat.{ℕ, zero, suc, _+_, _≤_, _<_}
 use native.Mathlib.Omega.{arith}
 use mathlib.Core.Bool.{Bool, true, false, cond, not, _&&_, _||_}
@@ -12,8 +12,9 @@ use Rattle.classes.specs.Sound.{Sound}
 use Rattle.fields.specs.Field.{Field, ArenaField, arena, class, page, region, off, frontier, state, holes, holePages, held, partial, empty, emptyCount, cold, coldCount, next, prev, free, carved, listed, virgin, get, put, words}
 use Rattle.fields.proofs.Laws.{and-left, and-right, get-put-same, length-put}
 use Rattle.fields.proofs.Changes.{Changes}
-use Rattle.model.specs.Page.{isMedium}
-use Rattle.model.specs.Release.{coldFate}
+use Rattle.model.specs.declared.Spot.{Spot}
+use Rattle.model.specs.declared.Spot.the-variants.{ToEmpty, ToCold, ToArena}
+use Rattle.model.specs.Spot.{isArena}
 use Rattle.arena.specs.Fair.{recordFair, giveFair}
 use Rattle.arena.specs.Calls.{given}
 use Rattle.runs.specs.Asks.{GiveIn}
@@ -24,10 +25,11 @@ use Rattle.pages.specs.Stack.{push, pushed, indexOf}
 use Rattle.pages.specs.Carve.{carveAnew}
 use Rattle.pages.proofs.Pushes.{length-push}
 use Rattle.pages.proofs.Frames.{changes-stow, changes-pushed}
-use Rattle.calls.specs.Release.{pageFair, rowFair, relisted, released, unlisted, parkCold, parkAs, spotOf, spotAt, parkAt, spotFair, releaseFair, lastStep, keepsEmpty}
-use Rattle.release.specs.Fair.{linksFair}
+use Rattle.calls.specs.Release.{pageFair, rowFair, relisted, released, unlisted, parkCold, parkedIn, spotAt, parkAt, spotFair, releaseFair, lastStep}
+use Rattle.pages.specs.Fair.{linksFair}
 use Rattle.release.specs.Act.{settleAt, coldVirgin, ParkingAsks, BackAsks, SettleAsks, Parked}
-use Rattle.release.proofs.FairWays.{room-left, carved-low, links-fair, head-low}
+use Rattle.release.proofs.Spots.{arena-alone}
+use Rattle.release.proofs.FairWays.{page-room, page-carved, links-fair, head-low}
 use Rattle.release.proofs.Parking.{unlisted-changes, relisted-changes, carve-changes}
 
 -- ---- the page with its blocks back: of the words that are tested, only FREE and VIRGIN are other ones
@@ -66,10 +68,10 @@ module _ (b : List ℕ) (q : ℕ) (is : List ℕ) (l : get b (page free q) + len
 
 module _ (b : List ℕ) (c : ℕ) (sh : Shape) (h q : ℕ) (ws : List ℕ) where
   slots-left : BackAsks b c sh q ws → get b (page free q) + length (map (indexOf sh q) ws) ≤ 4096
-  slots-left a = rw (length-map ws (indexOf sh q)) (omega (arith, room-left b sh (length ws) q (a .page), carved-low b sh (length ws) q (a .page), a .sound .few))
+  slots-left a = rw (length-map ws (indexOf sh q)) (omega (arith, page-room b sh (length ws) q (a .page), page-carved b sh (length ws) q (a .page), a .sound .few))
 
   pub push-asks : BackAsks b c sh q ws → PushAsks b sh q ws
-  push-asks a = record { sound = a .sound; below = a .below; there = a .there; slots = omega (arith, room-left b sh (length ws) q (a .page), carved-low b sh (length ws) q (a .page), a .sound .few) }
+  push-asks a = record { sound = a .sound; below = a .below; there = a .there; slots = omega (arith, page-room b sh (length ws) q (a .page), page-carved b sh (length ws) q (a .page), a .sound .few) }
 
   module _ (b′ : List ℕ) (e : b′ ≡ pushed b q (map (indexOf sh q) ws)) where
     pub park-asks : BackAsks b c sh q ws → ParkingAsks b′ c sh q
@@ -123,14 +125,14 @@ module _ (c : ℕ) (sh : Shape) (h q : ℕ) (hc : c < 76) (s : Sound sh) (k : Ar
       changes-stow notArena (carveAnew b sh q (coldVirgin sh h)) c q (lt-ltb c 76 hc) Cold refl refl refl .kept (arena k) refl refl
       ∙ carve-changes b c sh h q (coldVirgin sh h) s .kept (arena k) refl refl
 
-  as-kept : (b : List ℕ) (t : ℕ) → get (parkAs b c sh h q t .book) (arena k) ≡ get b (arena k)
-  as-kept b zero = stow-kept b
-  as-kept b (suc zero) = cold-kept b
-  as-kept b (suc (suc t)) = refl
+  in-kept : (b : List ℕ) (t : Spot) → get (parkedIn b c sh h q t) (arena k) ≡ get b (arena k)
+  in-kept b ToEmpty = stow-kept b
+  in-kept b ToCold = cold-kept b
+  in-kept b ToArena = refl
 
   park-kept : (b : List ℕ) → get (parkAt b c sh h q .book) (arena k) ≡ get b (arena k)
   unfolding parkAt
-  park-kept b = as-kept (unlisted b c q) (spotAt b c sh) ∙ unlisted-changes b c q hc .kept (arena k) refl refl
+  park-kept b = in-kept (unlisted b c q) (spotAt b c sh) ∙ unlisted-changes b c q hc .kept (arena k) refl refl
 
   settle-kept : (b is : List ℕ) → get b (page free q) + length is ≤ 4096 → get (settleAt b c sh h q is .book) (arena k) ≡ get b (arena k)
   unfolding settleAt
@@ -140,28 +142,7 @@ module _ (c : ℕ) (sh : Shape) (h q : ℕ) (hc : c < 76) (s : Sound sh) (k : Ar
       by true = park-kept (pushed b q is)
       by false = relisted-changes (pushed b q is) c q hc .kept (arena k) refl refl
 
--- ---- fate 2 is a page that number 13 was tested for
-spot-le : (sh : Shape) (e k : ℕ) → spotOf sh e k ≤ 2
-unfolding spotOf
-spot-le sh e k = by (keepsEmpty sh e) (ltb k (sh .colds))
-  where
-    by : (t u : Bool) → cond t 0 (cond u 1 2) ≤ 2
-    by true u = omega arith
-    by false true = omega arith
-    by false false = omega arith
-
-cold-fate-low : (sh : Shape) → coldFate sh ≤ 1
-cold-fate-low sh = by (isMedium sh)
-  where
-    by : (t : Bool) → cond t 0 1 ≤ 1
-    by true = omega arith
-    by false = omega arith
-
-as-two : (b : List ℕ) (c : ℕ) (sh : Shape) (h q s : ℕ) → s ≤ 2 → parkAs b c sh h q s .fate ≡ 2 → s ≡ 2
-as-two b c sh h q zero l e = absurd (omega (arith, e))
-as-two b c sh h q (suc zero) l e = absurd (omega (arith, e, cold-fate-low sh))
-as-two b c sh h q (suc (suc s)) l e = omega arith
-
+-- ---- a run whose fate is the arena is one that number 13 was tested for
 module _ (n : ℕ) (b : List ℕ) (c : ℕ) (sh : Shape) (q m : ℕ) (e : releaseFair n b c sh m q ≡ true) where
   pub fair-low : get b (arena frontier) ≤ n
   unfolding releaseFair
@@ -177,9 +158,9 @@ module _ (n : ℕ) (b : List ℕ) (c : ℕ) (sh : Shape) (q m : ℕ) (e : releas
   pub fair-row : rowFair b c ≡ true
   fair-row = and-left (rowFair b c) _ (and-right (pageFair b sh m q) _ fair-rest)
 
-  fair-spot : get b (page free q) + m ≡ get b (page carved q) → spotAt b c sh ≡ 2 → giveFair n b (sh .pages) ≡ true
+  fair-spot : get b (page free q) + m ≡ get b (page carved q) → isArena (spotAt b c sh) ≡ true → giveFair n b (sh .pages) ≡ true
   unfolding spotFair
-  fair-spot x y = rw (eq-eqb _ _ x, eq-eqb _ _ y) at (and-right (rowFair b c) _ (and-right (pageFair b sh m q) _ fair-rest))
+  fair-spot x y = rw (eq-eqb _ _ x, y) at (and-right (rowFair b c) _ (and-right (pageFair b sh m q) _ fair-rest))
 
 module _ (n : ℕ) (b : List ℕ) (c : ℕ) (sh : Shape) (h q : ℕ) (ws : List ℕ) where
   pub back-asks : SettleAsks n b c sh q ws → BackAsks b c sh q ws
@@ -208,8 +189,8 @@ module _ (n : ℕ) (b : List ℕ) (c : ℕ) (sh : Shape) (h q : ℕ) (ws : List 
           let u : get d (page free q) ≡ get b (page free q) + length is = rw z (free-now b q is l (back-asks a .there)) in
           let v : get d (page carved q) ≡ get b (page carved q) = rw z (push-changes b q is l .kept (page carved q) refl refl) in
           let s : spotAt d c sh ≡ spotAt b c sh = rw z (spot-kept b q is l c (a .class .known) sh) in
-          let g = as-two (unlisted d c q) c sh h q (spotAt d c sh) (spot-le sh _ _) y in
-          fair-spot n b c sh q (length ws) (a .fair) (omega (arith, eqb-true (get d (page carved q)) (get d (page free q)) x, u, v, length-map ws (indexOf sh q))) (sym s ∙ g)
+          let g = arena-alone sh (spotAt d c sh) y in
+          fair-spot n b c sh q (length ws) (a .fair) (omega (arith, eqb-true (get d (page carved q)) (get d (page free q)) x, u, v, length-map ws (indexOf sh q))) (ap isArena (sym s) ∙ g)
       by d z false x y = absurd (omega (arith, y))
 
   module _ (r : ℕ) (b′ : List ℕ) (p : Parked r b′ (settleAt b c sh h q (map (indexOf sh q) ws))) where

@@ -1,4 +1,4 @@
--- The ways out of `block_at` and `strike_one`. Assumes nothing.
+-- The ways out of `block_at` and `strike_one`.
 use Prim.Native.Nat.{ℕ, zero, suc, _+_, _-_, _*_, _/_, _%_, _^_, _≤_, _<_}
 use native.Mathlib.Omega.{arith}
 use native.Mathlib.Nat.{div-add-mod', mul-le-mul-right, lt-of-mul-lt-mul-right}
@@ -15,13 +15,13 @@ use Rattle.classes.specs.declared.Shape.{Shape}
 use Rattle.classes.specs.Sound.{Sound}
 use Rattle.fields.specs.Field.{out, get, put, words, Has}
 use Rattle.fields.specs.Ranges.{maxPages}
-use Rattle.pages.specs.Stack.{blocksFrom, indexOf}
+use Rattle.pages.specs.Stack.{blocksFrom, indexOf, isBlock}
 use Rattle.stack.specs.Inverse.{inverse}
 use Rattle.stack.proofs.InverseLaws.{behind-point, past-point, narrow, product-fits, divides, quotient-fits}
 use Rattle.calls.specs.Release.{outIn}
 use Rattle.release.specs.declared.Found.{Found}
 use Rattle.release.specs.declared.Found.the-variants.{At, Nothing}
-use Rattle.release.specs.Strike.{isBlock, found, blockAt, bitIn}
+use Rattle.release.specs.Strike.{found, blockAt, bitIn}
 use Rattle.release.specs.Asks.{StruckOne}
 use Rattle.release.proofs.Bits.{out-in, from-block, at-block, below-capacity}
 

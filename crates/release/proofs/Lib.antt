@@ -1,6 +1,7 @@
 pub mod Bits
 pub mod Decode
 pub mod Ways
+pub mod Spots
 pub mod FairWays
 pub mod StrikeLaws
 pub mod RunLaws

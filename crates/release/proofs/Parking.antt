@@ -1,4 +1,4 @@
--- What parking a page asks, keeps and answers. Assumes nothing.
+-- What parking a page asks, keeps and answers.
 --     moves         the fields that the act changes before a store takes the page: no count of a store, nothing of the arena
 use Prim.Native.Nat.{ℕ, zero, suc, _≤_, _<_}
 use native.Mathlib.Omega.{arith}
@@ -11,19 +11,21 @@ use borrow.Author.Tests.{leb-true, lt-ltb, eq-eqb, ne-eqb}
 use Rattle.words.specs.Host.{discardZeroed}
 use Rattle.classes.specs.declared.Shape.{Shape}
 use Rattle.classes.specs.Sound.{Sound}
-use Rattle.fields.specs.Field.{Field, arena, class, page, region, off, frontier, emptyCount, coldCount, next, prev, listed, get}
+use Rattle.fields.specs.Field.{Field, ok, arena, class, page, region, off, frontier, emptyCount, coldCount, next, prev, listed, get}
 use Rattle.fields.specs.Ranges.{maxParked}
 use Rattle.fields.proofs.Laws.{and-left, and-right}
 use Rattle.fields.proofs.Changes.{Changes, changes-none}
-use Rattle.model.specs.Release.{coldFate}
+use Rattle.model.specs.declared.Spot.{Spot}
+use Rattle.model.specs.declared.Spot.the-variants.{ToEmpty, ToCold, ToArena}
+use Rattle.model.specs.Spot.{fateOf}
 use Rattle.pages.specs.declared.Park.{Park}
 use Rattle.pages.specs.declared.Park.the-variants.{Empty, Cold}
 use Rattle.pages.specs.Asks.{UnlinkAsks, ParkAsks}
-use Rattle.pages.specs.Links.{link, unlink, stow, tally}
+use Rattle.pages.specs.Links.{link, unlink, stow, stored}
 use Rattle.pages.specs.Carve.{carveAnew}
 use Rattle.pages.proofs.Frames.{changes-link, changes-unlink, changes-carve}
-use Rattle.calls.specs.Release.{unlisted, relisted, parkCold, parkAs, spotAt, parkAt}
-use Rattle.release.specs.Act.{coldVirgin, ParkingAsks, ColdAsks, Parked}
+use Rattle.calls.specs.Release.{unlisted, relisted, parkCold, parkedIn, spotAt, parkAt}
+use Rattle.release.specs.Act.{coldVirgin, ParkingAsks, ColdAsks, StoreAsks, Parked}
 use Rattle.release.proofs.FairWays.{count-low}
 
 abbrev pub moves : Field → Bool
@@ -79,10 +81,10 @@ module _ (sh : Shape) (h : ℕ) where
   pub page-virgin : (v : ℕ) (r : Bool) → (sh .kind ≡ 2 → ⊥) → v ≡ h → r ≡ discardZeroed v → r ≡ coldVirgin sh h
   page-virgin v r d e k = rw (ne-eqb (sh .kind) 2 d) (k ∙ rw e (sym (and-true (discardZeroed h))))
 
-  pub span-kept : sh .kind ≡ 2 → 0 ≡ coldFate sh
+  pub span-kept : sh .kind ≡ 2 → 0 ≡ fateOf sh ToCold
   span-kept e = rw (eq-eqb (sh .kind) 2 e)
 
-  pub page-cold : (sh .kind ≡ 2 → ⊥) → 1 ≡ coldFate sh
+  pub page-cold : (sh .kind ≡ 2 → ⊥) → 1 ≡ fateOf sh ToCold
   page-cold d = rw (ne-eqb (sh .kind) 2 d)
 
 module _ (b : List ℕ) (c : ℕ) (sh : Shape) (h q : ℕ) where
@@ -104,33 +106,50 @@ module _ (b : List ℕ) (c : ℕ) (sh : Shape) (h q : ℕ) where
     parked-cold b″ x k = k ∙ rw (e, x)
 
 -- ---- by the spot
-module _ (b : List ℕ) (c : ℕ) (sh : Shape) (h q : ℕ) (a : ParkingAsks b c sh q) (s : ℕ) (e : s ≡ spotAt b c sh) (b′ : List ℕ) (k : b′ ≡ unlisted b c q) where
-  count-kept : (p : Park) → get b′ (class (tally p) c) ≤ maxParked
-  count-kept Empty = rw k (rw (unlisted-changes b c q (a .known) .kept (class emptyCount c) (lt-ltb c 76 (a .known)) refl) (count-low b c Empty (a .row)))
-  count-kept Cold = rw k (rw (unlisted-changes b c q (a .known) .kept (class coldCount c) (lt-ltb c 76 (a .known)) refl) (count-low b c Cold (a .row)))
+module _ (sh : Shape) (s : Spot) where
+  pub fate-empty : s ≡ ToEmpty → 0 ≡ fateOf sh s
+  fate-empty e = rw e
 
-  long-kept : length b′ ≡ length b
-  long-kept = rw k (unlisted-changes b c q (a .known) .long)
+  pub fate-cold : (r : ℕ) → s ≡ ToCold → r ≡ fateOf sh ToCold → r ≡ fateOf sh s
+  fate-cold r e k = rw e k
 
-  pub empty-there : ParkAsks b′ c Empty q
-  empty-there = record { known = a .known; below = a .below; there = omega (arith, long-kept, a .there); few = count-kept Empty }
+  pub fate-arena : s ≡ ToArena → 2 ≡ fateOf sh s
+  fate-arena e = rw e
 
-  pub cold-asks : ColdAsks b′ c sh q
-  cold-asks = record { known = a .known; sound = a .sound; below = a .below; there = omega (arith, long-kept, a .there); few = count-kept Cold }
+module _ (b : List ℕ) (c : ℕ) (sh : Shape) (h q : ℕ) where
+  module _ (a : StoreAsks b c sh q) where
+    pub empty-there : ParkAsks b c Empty q
+    empty-there = record { known = a .known; below = a .below; there = a .there; few = a .few Empty }
 
-  pub goes-empty : (b″ : List ℕ) → s ≡ 0 → b″ ≡ stow b′ c Empty q → Parked 0 b″ (parkAt b c sh h q)
-  unfolding parkAt
-  goes-empty b″ x l = rw (← e, x) (record { fate = refl; left = l ∙ rw k })
+    pub cold-asks : ColdAsks b c sh q
+    cold-asks = record { known = a .known; sound = a .sound; below = a .below; there = a .there; few = a .few Cold }
 
-  pub goes-cold : (b″ : List ℕ) (r : ℕ) → s ≡ 1 → b″ ≡ parkCold b′ c sh h q → r ≡ coldFate sh → Parked r b″ (parkAt b c sh h q)
-  unfolding parkAt
-  goes-cold b″ r x l j = rw (← e, x) (record { fate = j; left = l ∙ rw k })
+  module _ (s : Spot) where
+    pub goes-empty : (b′ : List ℕ) → s ≡ ToEmpty → b′ ≡ stow b c Empty q → b′ ≡ parkedIn b c sh h q s
+    goes-empty b′ e k = rw e k
 
-  pub goes-on : (s ≡ 0 → ⊥) → (s ≡ 1 → ⊥) → Parked 2 b′ (parkAt b c sh h q)
-  unfolding parkAt
-  goes-on x y = rw (← e) (by s x y)
+    pub goes-cold : (b′ : List ℕ) → s ≡ ToCold → b′ ≡ parkCold b c sh h q → b′ ≡ parkedIn b c sh h q s
+    goes-cold b′ e k = rw e k
+
+    pub goes-on : s ≡ ToArena → b ≡ parkedIn b c sh h q s
+    goes-on e = rw e
+
+module _ (b : List ℕ) (c : ℕ) (sh : Shape) (h q : ℕ) (b′ : List ℕ) (k : b′ ≡ unlisted b c q) where
+  pub store-asks : ParkingAsks b c sh q → StoreAsks b′ c sh q
+  store-asks a =
+      let u = unlisted-changes b c q (a .known) in
+      record {
+        known = a .known;
+        sound = a .sound;
+        below = a .below;
+        there = rw k (omega (arith, u .long, a .there));
+        few = λ p. rw k (count-kept (u .kept) p);
+      }
     where
-      by : (s : ℕ) → (s ≡ 0 → ⊥) → (s ≡ 1 → ⊥) → Parked 2 b′ (parkAs (unlisted b c q) c sh h q s)
-      by zero x y = absurd (x refl)
-      by (suc zero) x y = absurd (y refl)
-      by (suc (suc j)) x y = record { fate = refl; left = k }
+      count-kept : ((f : Field) → ok f ≡ true → moves f ≡ false → get (unlisted b c q) f ≡ get b f) → (p : Park) → get (unlisted b c q) (class (stored p) c) ≤ maxParked
+      count-kept u Empty = rw (u (class emptyCount c) (lt-ltb c 76 (a .known)) refl) (count-low b c Empty (a .row))
+      count-kept u Cold = rw (u (class coldCount c) (lt-ltb c 76 (a .known)) refl) (count-low b c Cold (a .row))
+
+  pub parked-at : (s : Spot) (r : ℕ) (b″ : List ℕ) → s ≡ spotAt b c sh → b″ ≡ parkedIn b′ c sh h q s → r ≡ fateOf sh s → Parked r b″ (parkAt b c sh h q)
+  unfolding parkAt
+  parked-at s r b″ e l j = rw (← e) (record { fate = j; left = l ∙ rw k })

@@ -1,4 +1,4 @@
--- The ways out of a release. Assumes nothing.
+-- The ways out of a release.
 use Prim.Native.Nat.{ℕ, zero, suc, _+_, _≤_, _<_}
 use native.Mathlib.Omega.{arith}
 use mathlib.Core.Bool.{Bool, true, false, cond, _&&_}
@@ -20,7 +20,6 @@ use Rattle.arena.specs.Calls.{given}
 use Rattle.pages.specs.Runs.{whole}
 use Rattle.pages.specs.Stack.{marks, pushed, indexOf}
 use Rattle.pages.proofs.Downs.{small}
-use Rattle.pages.proofs.Frames.{back-pushed}
 use Rattle.calls.specs.Release as Heap
 use Rattle.calls.specs.Release.{startOf, firstOf, inRunOf, outIn, outAt, pageFair, rowFair, spotFair, releaseFair, relisted, released, parkAs, parkAt, spotAt, unlisted, giveBackAt, lastStep, releaseBlocks}
 use Rattle.release.specs.declared.Found.{Found}
@@ -31,7 +30,8 @@ use Rattle.release.specs.Strike.{bitIn, runAt, countIn, struckIn, struck
 use Rattle.release.specs.Asks.{InAsks, ClassAsks, hasBit, RestoreAsks, RestAsks, Rest, StruckIn}
 use Rattle.release.specs.Fair.{FairAsks}
 use Rattle.release.specs.Act.{settleAt, SettleAsks, RunAsks, Parked, Answered}
-use Rattle.release.proofs.Bits.{isBit, every-same, bit-kept, whole-kept}
+use Rattle.pages.proofs.Marks.{isMark}
+use Rattle.release.proofs.Bits.{every-same, bit-kept, whole-kept}
 use Rattle.release.proofs.Decode.{none-found, found-at}
 use Rattle.release.proofs.StrikeLaws.{strikes-all, restores, has-bits}
 use Rattle.release.proofs.RunLaws.{run-changes, run-struck, run-count, one-run, all-in-run, indices-low, run-marks, within-arena}
@@ -39,7 +39,7 @@ use Rattle.release.proofs.Steps.{run-whole, count-within}
 use Rattle.release.proofs.Restoring.{every-append}
 
 -- ---- number 13's tests read no out bit
-module _ (b b′ : List ℕ) (h : Changes isBit b b′) where
+module _ (b b′ : List ℕ) (h : Changes isMark b b′) where
   fair-kept : (n c : ℕ) (sh : Shape) (m q : ℕ) → c < 76 → releaseFair n b′ c sh m q ≡ releaseFair n b c sh m q
   unfolding releaseFair pageFair rowFair spotFair giveFair recordFair
   fair-kept n c sh m q hc =
@@ -65,15 +65,15 @@ module _ (b b′ : List ℕ) (h : Changes isBit b b′) where
       )
 
 -- ---- the words of one run, struck
-in-changes : (n c : ℕ) (sh : Shape) (s : Sound sh) (q : ℕ) (b : List ℕ) (ws : List ℕ) → whole n b sh c q ≡ true → Changes isBit b (struckIn b sh q ws)
+in-changes : (n c : ℕ) (sh : Shape) (s : Sound sh) (q : ℕ) (b : List ℕ) (ws : List ℕ) → whole n b sh c q ≡ true → Changes isMark b (struckIn b sh q ws)
 unfolding struckIn
-in-changes n c sh s q b [] h = changes-none isBit b
+in-changes n c sh s q b [] h = changes-none isMark b
 in-changes n c sh s q b (w ∷ ws) h = by (outIn b sh q w) refl (λ k. in-changes n c sh s q (put b (bitIn sh q w) 0) ws (whole-kept b (put b (bitIn sh q w) 0) k n sh c q ∙ h))
   where
-    by : (t : Bool) → outIn b sh q w ≡ t → (Changes isBit b (put b (bitIn sh q w) 0) → Changes isBit (put b (bitIn sh q w) 0) (struckIn (put b (bitIn sh q w) 0) sh q ws))
-        → Changes isBit b (struckIn b sh q (w ∷ ws))
-    by true o z = let k = run-changes n c sh s q b h w o in rw o (changes-trans isBit b (put b (bitIn sh q w) 0) _ k (z k))
-    by false o z = rw o (changes-none isBit b)
+    by : (t : Bool) → outIn b sh q w ≡ t → (Changes isMark b (put b (bitIn sh q w) 0) → Changes isMark (put b (bitIn sh q w) 0) (struckIn (put b (bitIn sh q w) 0) sh q ws))
+        → Changes isMark b (struckIn b sh q (w ∷ ws))
+    by true o z = let k = run-changes n c sh s q b h w o in rw o (changes-trans isMark b (put b (bitIn sh q w) 0) _ k (z k))
+    by false o z = rw o (changes-none isMark b)
 
 nothing-left : (n : ℕ) (b : List ℕ) (c : ℕ) (sh : Shape) (ws : List ℕ) → ws ≡ [] → b ≡ struck n b c sh ws
 unfolding struck
@@ -107,11 +107,6 @@ module _ (n : ℕ) (b : List ℕ) (c : ℕ) (sh : Shape) (h : ℕ) (ws : List �
           carried-out r b′ e v p = rw (z, k, o, y, u, e) (record { answer = rw v (ap Fate (p .fate)); left = p .left })
 
 -- ---- an act refuses nothing
-as-code : (b : List ℕ) (c : ℕ) (sh : Shape) (h q s : ℕ) → parkAs b c sh h q s .code ≡ 0
-as-code b c sh h q zero = refl
-as-code b c sh h q (suc zero) = refl
-as-code b c sh h q (suc (suc s)) = refl
-
 last-code : (sh : Shape) (q : ℕ) (o : Heap.Released) → o .code ≡ 0 → lastStep sh q o .code ≡ 0
 last-code sh q o e = by (eqb (o .fate) 2) (given (o .book) q (sh .pages))
   where
@@ -124,12 +119,12 @@ unfolding settleAt parkAt
 settle-code b c sh h q is = by (pushed b q is) (eqb (get (pushed b q is) (page carved q)) (get (pushed b q is) (page free q)))
   where
     by : (d : List ℕ) (t : Bool) → cond t (parkAs (unlisted d c q) c sh h q (spotAt d c sh)) (released (relisted d c q) 0) .code ≡ 0
-    by d true = as-code (unlisted d c q) c sh h q (spotAt d c sh)
+    by d true = refl
     by d false = refl
 
-give-back-settles : (b : List ℕ) (c : ℕ) (sh : Shape) (h q : ℕ) (is : List ℕ) → every small is ≡ true → giveBackAt b c sh h q is ≡ settleAt (marks b q 0 is) c sh h q is
-unfolding giveBackAt settleAt
-give-back-settles b c sh h q is l = rw (back-pushed b q is l)
+give-back-settles : (b : List ℕ) (c : ℕ) (sh : Shape) (h q : ℕ) (is : List ℕ) → giveBackAt b c sh h q is ≡ settleAt (marks b q 0 is) c sh h q is
+unfolding giveBackAt settleAt back
+give-back-settles b c sh h q is = refl
 
 -- ---- the run of the first word, with so many of the listed words struck in it
 module _ (n : ℕ) (b : List ℕ) (c : ℕ) (sh : Shape) (q : ℕ) (ws : List ℕ) (a : RunAsks n b c sh q ws) where
@@ -143,7 +138,7 @@ module _ (n : ℕ) (b : List ℕ) (c : ℕ) (sh : Shape) (q : ℕ) (ws : List �
   hb : leb (words n) (length b) ≡ true
   hb = le-leb (words n) (length b) (a .class .long)
 
-  changes : Changes isBit b (struckIn b sh q ws)
+  changes : Changes isMark b (struckIn b sh q ws)
   changes = in-changes n c sh (a .class .sound) q b ws (a .run)
 
   prefix-bits : every (hasBit (struckIn b sh q ws) sh) (take (countIn b sh q ws) ws) ≡ true
@@ -231,7 +226,7 @@ module _ (n : ℕ) (b : List ℕ) (c : ℕ) (sh : Shape) (q : ℕ) (ws : List �
         settled h r b″ x p =
             let is = map (indexOf sh q) ws in
             let m : settleAt b′ c sh h q is ≡ giveBackAt b c sh h q is =
-            rw (s .left, run-marks sh (a .class .sound) q b ws all-struck) (sym (give-back-settles b c sh h q is (indices-low sh (a .class .sound) q b ws all-struck))) in
+            rw (s .left, run-marks sh (a .class .sound) q b ws all-struck) (sym (give-back-settles b c sh h q is)) in
             carried-out n b c sh h ws (a .some) (a .kinds) all-out q (a .start) all-start r b″ (sym fair-is ∙ x)
             (last-code sh q (giveBackAt b c sh h q is) (rw (← m) (settle-code b′ c sh h q is))) (rw m at p)
 

@@ -1,4 +1,4 @@
--- The struck blocks' bits are set again: the loop of `unstrike`, and `refuse_rest`. Assumes nothing.
+-- The struck blocks' bits are set again: the loop of `unstrike`, and `refuse_rest`.
 use Prim.Native.Nat.{ℕ, zero, suc, _+_, _-_, _≤_, _<_}
 use native.Mathlib.Omega.{arith}
 use native.Mathlib.Numerals.{sub-one}
@@ -17,11 +17,12 @@ use Rattle.fields.proofs.Laws.{and-left, and-right}
 use Rattle.fields.proofs.Changes.{Changes}
 use Rattle.model.specs.Lists.{every}
 use Rattle.pages.specs.Asks.{IndexAsks}
-use Rattle.pages.specs.Stack.{indexOf}
-use Rattle.calls.specs.Release.{pageAt, startOf, outAt}
+use Rattle.pages.specs.Stack.{indexOf, pageAt}
+use Rattle.calls.specs.Release.{startOf, outAt}
 use Rattle.release.specs.Strike.{bitOf, struckCount, struck, restored, unstruck}
 use Rattle.release.specs.Asks.{hasBit, RestoreAsks, RestAsks, Rest, restCount, Struck}
-use Rattle.release.proofs.Bits.{isBit, put-bit, every-same, bit-kept}
+use Rattle.pages.proofs.Marks.{isMark}
+use Rattle.release.proofs.Bits.{put-bit, every-same, bit-kept}
 use Rattle.release.proofs.StrikeLaws.{struck-changes, restorable}
 
 -- ---- one word
@@ -38,7 +39,7 @@ module _ (b : List ℕ) (sh : Shape) (w : ℕ) (e : hasBit b sh w ≡ true) wher
   unfolding hasBit
   bit-index = ltb-true (indexOf sh (startOf b w) w) 4096 (and-right (leb (words (startOf b w + 1)) (length b)) _ (and-right (ltb (startOf b w) maxPages) _ (and-right (leb (words (pageAt w + 1)) (length b)) _ e)))
 
-  restored-changes : Changes isBit b (restored b sh w)
+  restored-changes : Changes isMark b (restored b sh w)
   unfolding restored
   restored-changes = put-bit b (startOf b w) (indexOf sh (startOf b w) w) 1 bit-index
 
@@ -116,7 +117,7 @@ module _ (b : List ℕ) (sh : Shape) (ws : List ℕ) (count : ℕ) where
         }
 
 -- ---- what is left of a refused list
-struck-within : (n : ℕ) (b : List ℕ) (c : ℕ) (sh : Shape) (ws : List ℕ) → struckCount n b c sh ws ≤ length ws
+pub struck-within : (n : ℕ) (b : List ℕ) (c : ℕ) (sh : Shape) (ws : List ℕ) → struckCount n b c sh ws ≤ length ws
 unfolding struckCount
 struck-within n b c sh [] = omega arith
 struck-within n b c sh (w ∷ ws) = by (outAt n b c sh w) (struck-within n (put b (bitOf b sh w) 0) c sh ws)

@@ -3,7 +3,6 @@
 --     run-count, run-struck    striking goes on behind the words that the run has
 --     one-run, all-in-run      number 11: all words are in the run exactly if striking in it strikes all
 --     run-marks       all struck: the out bits of the listed blocks are 0
--- Assumes nothing.
 use Prim.Native.Nat.{ℕ, zero, suc, _+_, _-_, _*_, _≤_, _<_}
 use native.Mathlib.Omega.{arith}
 use native.Mathlib.Decide.{ℕ-discrete}
@@ -21,10 +20,11 @@ use Rattle.fields.proofs.Laws.{and-left, and-right, put-comm}
 use Rattle.fields.proofs.Changes.{Changes, same-eq}
 use Rattle.model.specs.Lists.{every, below}
 use Rattle.pages.specs.Runs.{ofRun, whole}
-use Rattle.pages.specs.Stack.{marks, indexOf}
-use Rattle.calls.specs.Release.{pageAt, startOf, outIn, inRunOf, outAt}
-use Rattle.release.specs.Strike.{isBlock, bitIn, countIn, struckIn, struckCount, struck}
-use Rattle.release.proofs.Bits.{isBit, put-bit, every-same, start-kept, whole-kept, out-in, from-block, at-block, below-capacity}
+use Rattle.pages.specs.Stack.{marks, indexOf, pageAt, isBlock}
+use Rattle.calls.specs.Release.{startOf, outIn, inRunOf, outAt}
+use Rattle.release.specs.Strike.{bitIn, countIn, struckIn, struckCount, struck}
+use Rattle.pages.proofs.Marks.{isMark}
+use Rattle.release.proofs.Bits.{put-bit, every-same, start-kept, whole-kept, out-in, from-block, at-block, below-capacity}
 
 every-below : (t : ℕ → Bool) (m k : ℕ) → every t (below m) ≡ true → k < m → t k ≡ true
 every-below t zero k e h = absurd (omega arith)
@@ -97,7 +97,7 @@ module _ (n c : ℕ) (sh : Shape) (s : Sound sh) (q : ℕ) where
     unfolding outAt
     run-out w o = rw (run-start w o, block-in-run w (is-block w o), o)
 
-    pub run-changes : (w : ℕ) → outIn b sh q w ≡ true → Changes isBit b (put b (bitIn sh q w) 0)
+    pub run-changes : (w : ℕ) → outIn b sh q w ≡ true → Changes isMark b (put b (bitIn sh q w) 0)
     run-changes w o = put-bit b q (indexOf sh q w) 0 (omega (arith, below-capacity sh q w (is-block w o), s .few))
 
     whole-after : (w : ℕ) → outIn b sh q w ≡ true → whole n (put b (bitIn sh q w) 0) sh c q ≡ true
@@ -134,7 +134,7 @@ module _ (n c : ℕ) (sh : Shape) (s : Sound sh) (q : ℕ) where
   unfolding outAt
   out-elsewhere b w e o = rw (e, o) (and-false (inRunOf n b sh c w))
 
-  starts-after : (b b′ : List ℕ) (ws : List ℕ) → Changes isBit b b′ → starts b′ ws ≡ starts b ws
+  starts-after : (b b′ : List ℕ) (ws : List ℕ) → Changes isMark b b′ → starts b′ ws ≡ starts b ws
   starts-after b b′ ws k = every-same _ _ ws (λ v. rw (start-kept b b′ k v))
 
   pub one-run : (b : List ℕ) (ws : List ℕ) → whole n b sh c q ≡ true → starts b ws ≡ true → struckCount n b c sh ws ≡ countIn b sh q ws

@@ -1,5 +1,4 @@
 -- The loops of `strike_run`, `strike` and `unstrike`: what is known at the head, how a turn goes on, and the ways out.
--- Assumes nothing.
 use Prim.Native.Nat.{ℕ, suc, _+_, _≤_, _<_}
 use native.Mathlib.Omega.{arith}
 use native.Mathlib.Numerals.{add-one}
@@ -16,7 +15,8 @@ use Rattle.classes.specs.Sound.{Sound}
 use Rattle.fields.specs.Ranges.{maxPages}
 use Rattle.fields.proofs.Laws.{and-left, and-right}
 use Rattle.pages.specs.Runs.{whole}
-use Rattle.calls.specs.Release.{pageAt, startOf, outIn, inRunOf, outAt}
+use Rattle.pages.specs.Stack.{pageAt}
+use Rattle.calls.specs.Release.{startOf, outIn, inRunOf, outAt}
 use Rattle.release.specs.declared.Found.{Found}
 use Rattle.release.specs.declared.Found.the-variants.{At, Nothing}
 use Rattle.release.specs.Strike.{bitIn, runAt, countIn, struckIn, struckCount, struck}

@@ -1,4 +1,4 @@
--- The ways out of `run_of` and of the loop over the kinds. Assumes nothing.
+-- The ways out of `run_of` and of the loop over the kinds.
 use Prim.Native.Nat.{ℕ, zero, suc, _+_, _-_, _≤_, _<_}
 use native.Mathlib.Omega.{arith}
 use native.Mathlib.Decide.{ℕ-discrete}
@@ -17,7 +17,8 @@ use Rattle.fields.specs.Field.{arena, page, frontier, first, get}
 use Rattle.model.specs.Lists.{every}
 use Rattle.model.specs.Release.{ofKind}
 use Rattle.pages.specs.Runs.{whole}
-use Rattle.calls.specs.Release.{pageAt, startOf, inRunOf}
+use Rattle.pages.specs.Stack.{pageAt}
+use Rattle.calls.specs.Release.{startOf, inRunOf}
 use Rattle.release.specs.declared.Found.the-variants.{At, Nothing}
 use Rattle.release.specs.Strike.{runAt}
 

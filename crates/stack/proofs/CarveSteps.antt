@@ -1,4 +1,4 @@
--- New blocks given: their words, and their out bits word by word. Assumes nothing.
+-- New blocks given: their words, and their out bits word by word.
 use Prim.Native.Nat.{ℕ, zero, suc, _+_, _-_, _*_, _/_, _%_, _≤_, _<_, min}
 use native.Mathlib.Omega.{arith}
 use native.Mathlib.Nat.{add-zero}

@@ -1,4 +1,4 @@
--- Blocks given, and more; free ones and new ones together. Assumes nothing.
+-- Blocks given, and more; free ones and new ones together.
 use Prim.Native.Nat.{ℕ, suc, _+_, _-_, _≤_, _<_, min}
 use native.Mathlib.Omega.{arith}
 use native.Mathlib.Numerals.{add-one}
@@ -104,6 +104,6 @@ module _ (b : List ℕ) (sh : Shape) (q : ℕ) (l : List ℕ) (at m f k p r : �
       let more : k + r ≡ get b (page carved q) + carvedNow b sh q m = rw (← ef, ← ek) (ap (λ z. k + z) now-is) in
       record {
         count = sym latest-length;
-        meta = e₃ ∙ ap (λ z. put z (page carved q) (k + r)) (e₂ ∙ ap (λ z. put z (page free q) (f - p)) outs ∙ ap (put (marks b q 1 xs) (page free q)) left) ∙ ap (put (put (marks b q 1 xs) (page free q) (get b (page free q) - m)) (page carved q)) more;
+        book = e₃ ∙ ap (λ z. put z (page carved q) (k + r)) (e₂ ∙ ap (λ z. put z (page free q) (f - p)) outs ∙ ap (put (marks b q 1 xs) (page free q)) left) ∙ ap (put (put (marks b q 1 xs) (page free q) (get b (page free q) - m)) (page carved q)) more;
         list = g .list ∙ ap (λ z. spliced l (at - length z) (map (wordOf sh q) z)) (sym latest-is);
       }

@@ -1,4 +1,4 @@
--- Blocks given from the stack: some of them and then others, two a turn. Assumes nothing.
+-- Blocks given from the stack: some of them and then others, two a turn.
 use Prim.Native.Nat.{ℕ, zero, suc, _+_, _-_, _*_, _/_, _%_, _≤_, _<_}
 use native.Mathlib.Omega.{arith}
 use native.Mathlib.Nat.{zero-add, suc-add}

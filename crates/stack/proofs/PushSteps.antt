@@ -1,4 +1,4 @@
--- Blocks laid back one after another, from the list's last on, and two at a time. Assumes nothing.
+-- Blocks laid back one after another, from the list's last on, and two at a time.
 use Prim.Native.Nat.{ℕ, zero, suc, _+_, _-_, _*_, _/_, _%_, _≤_, _<_}
 use native.Mathlib.Omega.{arith}
 use native.Mathlib.Nat.{add-zero}

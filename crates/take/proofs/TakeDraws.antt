@@ -1,7 +1,6 @@
 -- A page that gives blocks, on any words that passed the plan's tests.
 --     latest-small   the blocks that it gives have out bits
 --     draw-full      a page that still gives blocks gave all that were wanted
--- Assumes nothing.
 use Prim.Native.Nat.{ℕ, _+_, _-_, _≤_, _<_, min}
 use native.Mathlib.Omega.{arith}
 use mathlib.Core.Bool.{true, not, _||_}

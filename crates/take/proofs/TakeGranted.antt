@@ -2,7 +2,6 @@
 -- owner's, and no class's row is changed.
 --     Granted           that
 --     commit-granted    a commit's
--- Assumes nothing.
 use Prim.Native.Nat.{ℕ, zero, suc, _+_, _-_, _≤_, _<_}
 use native.Mathlib.Omega.{arith}
 use native.Mathlib.Nat.{add-zero}

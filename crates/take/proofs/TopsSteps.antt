@@ -1,4 +1,4 @@
--- The entries of a page's stack from one place on below another, and the ways out of the functions that test them. Assumes nothing.
+-- The entries of a page's stack from one place on below another, and the ways out of the functions that test them.
 --     fit         each of the topmost n of a stack of t is below k
 --     fit-split   those above a place, and those below it
 use Prim.Native.Nat.{ℕ, zero, suc, _+_, _-_, _*_, _/_, _≤_, _<_}

@@ -5,7 +5,6 @@
 --     Step          what one turn of a passing walk tests
 --     tail-kept     a walk past the second page does not see that the first one is cut out
 --     head-kept     the second page, once it heads the list
--- Assumes nothing.
 use Prim.Native.Nat.{ℕ, zero, suc, _+_, _-_, _≤_}
 use native.Mathlib.Omega.{arith}
 use mathlib.Core.Bool.{Bool, true, false, cond, _&&_, _||_, true≢false}

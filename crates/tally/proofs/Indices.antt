@@ -1,4 +1,4 @@
--- Lists by index: tests of every element, and the pages of a list of chunks. Assumes nothing.
+-- Lists by index: tests of every element, and the pages of a list of chunks.
 use Prim.Native.Nat.{ℕ, zero, suc, _-_, _≤_, _<_}
 use native.Mathlib.Omega.{arith}
 use native.Mathlib.Numerals.{sub-one}

@@ -1,4 +1,4 @@
--- The test on the named book is `chunksMatch` on the book at entry. Assumes nothing.
+-- The test on the named book is `chunksMatch` on the book at entry.
 use Prim.Native.Nat.{ℕ, _+_, _≤_, _<_}
 use native.Mathlib.Omega.{arith}
 use mathlib.Core.Bool.{Bool, true, false, cond, not, _&&_, and-false, and-true, true≢false}
@@ -11,7 +11,8 @@ use Rattle.words.specs.Word.{countOf, pageOf}
 use Rattle.fields.specs.Field.{page, tally, words, get}
 use Rattle.fields.proofs.Laws.{and-left, and-right}
 use Rattle.model.specs.Lists.{every, elem, distinct, count, below}
-use Rattle.calls.specs.Release.{pageAt, startOf}
+use Rattle.pages.specs.Stack.{pageAt}
+use Rattle.calls.specs.Release.{startOf}
 use Rattle.calls.specs.Chunks.{blocksOn, chunkFits, chunksMatch}
 use Rattle.tally.specs.Match.{onPage}
 use Rattle.tally.specs.Tally.{isPage, pageIn, tallyIn, named, ofChunk, chunkAt, hasChunk, agrees, tallied}

@@ -1,5 +1,4 @@
 -- Naming and back: TALLY of a chunk's page finds a chunk with that page, and what stood there written back is the book at entry.
--- Assumes nothing.
 use Prim.Native.Nat.{ℕ, zero, suc, _≤_, _<_}
 use native.Mathlib.Omega.{arith}
 use mathlib.Core.Bool.{Bool, true, false}

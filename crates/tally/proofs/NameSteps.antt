@@ -1,4 +1,4 @@
--- The loops and ways out of all_pages, name_chunks and unname_chunks. Assumes nothing.
+-- The loops and ways out of all_pages, name_chunks and unname_chunks.
 use Prim.Native.Nat.{ℕ, zero, suc, _+_, _-_, _≤_, _<_}
 use native.Mathlib.Omega.{arith}
 use native.Mathlib.Numerals.{add-one, sub-one}

@@ -1,4 +1,4 @@
--- The ways out of the exported group release. Assumes nothing.
+-- The ways out of the exported group release.
 use Prim.Native.Nat.{ℕ}
 use native.Mathlib.Omega.{arith}
 use mathlib.Core.Bool.{true}

@@ -1,4 +1,4 @@
--- The ways out of the exported releases by list. Assumes nothing.
+-- The ways out of the exported releases by list.
 use Prim.Native.Nat.{ℕ, zero, suc, _+_, _≤_, _<_}
 use native.Mathlib.Omega.{arith}
 use mathlib.Core.List.{List}

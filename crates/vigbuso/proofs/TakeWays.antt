@@ -1,4 +1,4 @@
--- The ways out of the exported takes. Assumes nothing.
+-- The ways out of the exported takes.
 use Prim.Native.Nat.{ℕ, zero, suc, _+_, _≤_}
 use native.Mathlib.Omega.{arith}
 use mathlib.Core.Bool.{Bool}
@@ -31,7 +31,7 @@ take-asks b h r low many c n u e z f =
 module _ (b : List ℕ) (h many c r : ℕ) (e : r ≡ classFault b h many c) (low : ℕ) (l : List ℕ) where
   pub take-unfit : (r ≡ 0 → ⊥) → Takes (Refused r) b l (takeOn low many b c h l)
   unfolding takeOn
-  take-unfit d = rw (← e, ne-eqb r 0 d) (record { answer = refusal r d _ _; meta = refl; list = refl })
+  take-unfit d = rw (← e, ne-eqb r 0 d) (record { answer = refusal r d _ _; book = refl; list = refl })
 
   pub take-goes : (n : ℕ) (s : Take) (x y : List ℕ) → r ≡ 0 → n ≡ get b (arena size)
       → Takes s x y (takeCall n b (low + c) (shapeOf (low + c)) h l) → Takes s x y (takeOn low many b c h l)
@@ -40,7 +40,7 @@ module _ (b : List ℕ) (h many c r : ℕ) (e : r ≡ classFault b h many c) (lo
 
 module _ (t : Heap.Took) (x y : List ℕ) (s : Take) (k : Takes s x y t) where
   pub take-ends-refused : (c m v : ℕ) → s ≡ Refused c → TakeEnds t c x y m m v v
-  take-ends-refused c m v e = let z = sym (k .answer) ∙ e in record { code = rw z; book = k .meta; list = k .list; count = rw z; virgin = rw z }
+  take-ends-refused c m v e = let z = sym (k .answer) ∙ e in record { code = rw z; book = k .book; list = k .list; count = rw z; virgin = rw z }
 
   pub take-ends-took : (j m v : ℕ) (g : Bool) → s ≡ Took j g → TakeEnds t 0 x y m j v (boolByte g)
-  take-ends-took j m v g e = let z = sym (k .answer) ∙ e in record { code = rw z; book = k .meta; list = k .list; count = rw z; virgin = rw z (byte-digit g) }
+  take-ends-took j m v g e = let z = sym (k .answer) ∙ e in record { code = rw z; book = k .book; list = k .list; count = rw z; virgin = rw z (byte-digit g) }

@@ -1,7 +1,6 @@
 -- The exported takes and releases, by list and by groups, on any book, any numbers and any list: the answer, the book, the list and the
 -- out-parameters afterwards, refusals included. Numbers 1 to 4 come first; then it is a call of the class, on an arena of the length
 -- that the book holds.
--- Assumes nothing.
 use Prim.Native.Nat.{ℕ, _+_}
 use mathlib.Core.List.{List}
 use mathlib.Core.Bool.{Bool, true, false, cond}

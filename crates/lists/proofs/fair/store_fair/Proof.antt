@@ -1,7 +1,7 @@
-use Rattle.release.proofs.FairWays.{far-top, store-told}
+use Rattle.lists.proofs.FairSteps.{far-top, store-told}
 use borrow.Author.Needs.{needs}
-use Rattle.release.proofs.fair.store_fair.Statement.{statement}
-use Rattle.release.proofs.fair.store_fair.Tie as tie
+use Rattle.lists.proofs.fair.store_fair.Statement.{statement}
+use Rattle.lists.proofs.fair.store_fair.Tie as tie
 
 pub store-fair-spec : {M : Type 1} → statement M
 store-fair-spec =

@@ -1,0 +1,10 @@
+use Rattle.release.proofs.Parking.{fate-empty, fate-cold, fate-arena}
+use borrow.Author.Needs.{needs}
+use Rattle.release.proofs.park.fate_of.Statement.{statement}
+use Rattle.release.proofs.park.fate_of.Tie as tie
+
+pub fate-of-spec : {M : Type 1} → statement M
+fate-of-spec =
+    tie.close
+    (tie.spec
+    (λ c. search needs) (λ c. search needs) (λ c. search needs) (λ c. search fate-empty) (λ c. search fate-cold) (λ c. search fate-arena))
