@@ -46,6 +46,9 @@ pub enum Answer {
     Broken(String),
 }
 
+/// A call with the answer that is due.
+pub type Due = (Call, Answer);
+
 /// The calls as they are counted: the names of CALLS.md without their prefix.
 #[derive(Clone, Copy, PartialEq, Eq, PartialOrd, Ord, Debug)]
 pub enum Kind {

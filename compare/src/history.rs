@@ -17,8 +17,7 @@
 
 use std::fmt::Write;
 
-use crate::call::{Answer, Call, Kind, Lent};
-use crate::run::Due;
+use crate::call::{Answer, Call, Due, Kind, Lent};
 use crate::words::{Family, NO_PAGE};
 
 #[derive(Clone, PartialEq, Eq, Debug)]

@@ -1,86 +1,78 @@
 //! The port, through the C boundary of CALLS.md.
-//!
-//! A part of the calls whose feature is off is not linked: `landed` says which may be asked.
 
-use crate::call::{Answer, Call, Kind, Lent};
+use crate::call::{Answer, Call, Lent};
 use crate::memory::{Fence, Fenced};
 use crate::words::{Family, NO_PAGE};
 
-/// Declares exported functions of a part; where its feature is off, names that nobody may call.
-macro_rules! exported {
-    ($part:ident, $feature:literal, $(fn $name:ident($($argument:ident: $type:ty),*);)*) => {
-        #[allow(dead_code, clippy::too_many_arguments)]
-        mod $part {
-            #[cfg(feature = $feature)]
-            extern "C" {
-                $(pub fn $name($($argument: $type),*) -> u32;)*
-            }
-            $(
-                #[cfg(not(feature = $feature))]
-                pub unsafe fn $name($(_: $type),*) -> u32 {
-                    unreachable!(concat!("feature ", $feature, " is off"))
-                }
-            )*
-        }
-        use $part::*;
-    };
-}
-
-exported! { lookups, "lookups",
-    fn vigbuso_class_for_size(size: u64);
-    fn vigbuso_medium_class_for_size(size: u64);
-}
-
-exported! { arena, "arena",
-    fn vigbuso_open(book: *mut u32, words: usize, pages: u64);
-    fn vigbuso_commit(book: *mut u32, words: usize, host: u32, pages: u64, first: *mut u32, fresh: *mut u32);
+// The folder is the build script's.
+#[link(name = "vigbuso", kind = "static")]
+extern "C" {
+    fn vigbuso_class_for_size(size: u64) -> u32;
+    fn vigbuso_medium_class_for_size(size: u64) -> u32;
+    fn vigbuso_open(book: *mut u32, words: usize, pages: u64) -> u32;
+    fn vigbuso_commit(book: *mut u32, words: usize, host: u32, pages: u64, first: *mut u32, fresh: *mut u32) -> u32;
     fn vigbuso_grow_frontier(
-        book: *mut u32, words: usize, host: u32, first: u64, old_pages: u64, new_pages: u64, grown: *mut u32
-    );
-    fn vigbuso_release(book: *mut u32, words: usize, host: u32, first: u64, pages: u64);
-    fn vigbuso_contains(book: *const u32, words: usize, offset: u64, length: u64);
-    fn vigbuso_report(book: *const u32, words: usize, figures: *mut u64);
-}
-
-exported! { blocks, "blocks",
+        book: *mut u32,
+        words: usize,
+        host: u32,
+        first: u64,
+        old_pages: u64,
+        new_pages: u64,
+        grown: *mut u32,
+    ) -> u32;
+    fn vigbuso_release(book: *mut u32, words: usize, host: u32, first: u64, pages: u64) -> u32;
+    fn vigbuso_contains(book: *const u32, words: usize, offset: u64, length: u64) -> u32;
+    fn vigbuso_report(book: *const u32, words: usize, figures: *mut u64) -> u32;
     fn vigbuso_take_blocks(
-        book: *mut u32, words: usize, class: u32, host: u32,
-        list: *mut u32, len: usize, count: *mut u32, virgin: *mut u32
-    );
+        book: *mut u32,
+        words: usize,
+        class: u32,
+        host: u32,
+        list: *mut u32,
+        len: usize,
+        count: *mut u32,
+        virgin: *mut u32,
+    ) -> u32;
     fn vigbuso_medium_take_blocks(
-        book: *mut u32, words: usize, class: u32, host: u32,
-        list: *mut u32, len: usize, count: *mut u32, virgin: *mut u32
-    );
+        book: *mut u32,
+        words: usize,
+        class: u32,
+        host: u32,
+        list: *mut u32,
+        len: usize,
+        count: *mut u32,
+        virgin: *mut u32,
+    ) -> u32;
     fn vigbuso_release_blocks(
-        book: *mut u32, words: usize, class: u32, host: u32, list: *const u32, len: usize, fate: *mut u32
-    );
+        book: *mut u32,
+        words: usize,
+        class: u32,
+        host: u32,
+        list: *const u32,
+        len: usize,
+        fate: *mut u32,
+    ) -> u32;
     fn vigbuso_medium_release_blocks(
-        book: *mut u32, words: usize, class: u32, host: u32, list: *const u32, len: usize, fate: *mut u32
-    );
-}
-
-exported! { chunks, "chunks",
+        book: *mut u32,
+        words: usize,
+        class: u32,
+        host: u32,
+        list: *const u32,
+        len: usize,
+        fate: *mut u32,
+    ) -> u32;
     fn vigbuso_release_bin_chunks(
-        book: *mut u32, words: usize, class: u32, host: u32, list: *const u32, len: usize,
-        groups: *const u32, number: usize, fates: *mut u32, room: usize
-    );
-}
-
-/// Whether calls of this kind are linked.
-pub const fn landed(kind: Kind) -> bool {
-    match kind {
-        Kind::Commit | Kind::GrowFrontier | Kind::Release | Kind::Contains | Kind::Report => {
-            cfg!(feature = "arena")
-        }
-        Kind::TakeBlocks | Kind::MediumTakeBlocks | Kind::ReleaseBlocks | Kind::MediumReleaseBlocks => {
-            cfg!(feature = "blocks")
-        }
-        Kind::ReleaseBinChunks => cfg!(feature = "chunks"),
-    }
-}
-
-pub const fn lookups_landed() -> bool {
-    cfg!(feature = "lookups")
+        book: *mut u32,
+        words: usize,
+        class: u32,
+        host: u32,
+        list: *const u32,
+        len: usize,
+        groups: *const u32,
+        number: usize,
+        fates: *mut u32,
+        room: usize,
+    ) -> u32;
 }
 
 pub fn class_for_size(size: u64) -> u32 {

@@ -2,7 +2,6 @@
 
 use std::sync::Mutex;
 
-use crate::boundaries;
 use crate::call::{Answer, Call, Lent};
 use crate::generate::{self, SCENARIOS};
 use crate::history::{self, History};
@@ -94,24 +93,6 @@ fn runs_p11_and_p12() {
     assert_eq!(answers(&[&calls[..], &again].concat())[4..], [run_at(8, false), run_at(0, false), run_at(4, false)]);
     let calls = [commit(grants, 4), give(0, 4), commit(refuses, 2), commit(grants, 2), commit(grants, 2)];
     assert_eq!(answers(&calls)[2..], [Answer::NoRun, run_at(0, false), run_at(2, false)]);
-}
-
-/// What `boundaries` asks for is what the original answers.
-#[test]
-fn boundaries_on_the_original() {
-    let _alone = ORIGINAL.lock().unwrap_or_else(|poisoned| poisoned.into_inner());
-    for (name, example) in boundaries::EXAMPLES.map(|example| (example.name, example.run)) {
-        let mut reference = None;
-        let seen = example(&mut |asked| match asked {
-            boundaries::Asked::Opening(pages) => {
-                reference = None;
-                reference = Some(Reference::open(pages));
-                Answer::Released
-            }
-            boundaries::Asked::Call(call) => reference.as_mut().expect("an opening comes first").answer(call),
-        });
-        assert!(seen.is_ok(), "{name}: {seen:?}");
-    }
 }
 
 /// A history of every scenario, read back from its text.

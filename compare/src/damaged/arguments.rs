@@ -4,7 +4,6 @@ use std::collections::{BTreeMap, VecDeque};
 
 use crate::call::{Answer, Call, Kind, Lent};
 use crate::oracle;
-use crate::port;
 use crate::random::Random;
 use crate::words::{block_word, group_word, page_of, Family, HOST_ALL, HOST_COMMIT, MAX_GROUPS, PAGE_BYTES, RUN_LIMIT};
 
@@ -14,7 +13,6 @@ const KEPT: usize = 600;
 pub struct Pool {
     pages: u32,
     classes: Vec<(Family, u32)>,
-    kinds: Vec<Kind>,
     /// Blocks that were taken, with their class.
     words: VecDeque<(Family, u32, u32)>,
     runs: VecDeque<(u64, u64)>,
@@ -28,8 +26,7 @@ impl Pool {
             _ => (Family::Small, random.between(40, 46) as u32),
         });
         let classes = classes.collect();
-        let kinds = Kind::ALL.into_iter().filter(|&kind| port::landed(kind)).collect();
-        Pool { pages, classes, kinds, words: VecDeque::new(), runs: VecDeque::new() }
+        Pool { pages, classes, words: VecDeque::new(), runs: VecDeque::new() }
     }
 
     pub fn pages(&self) -> u32 {
@@ -61,7 +58,7 @@ impl Pool {
             1 => random.below(80) as u32,
             _ => class,
         };
-        let kind = random.pick(&self.kinds);
+        let kind = random.pick(&Kind::ALL);
         match kind {
             Kind::TakeBlocks | Kind::MediumTakeBlocks => {
                 Call::Take { family, class, host, lent: list(random, family, class) }

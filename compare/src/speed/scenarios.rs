@@ -5,7 +5,6 @@ use super::rounds::{Clock, Round};
 use super::sides::{Class, Side, PAGES};
 use crate::call::Kind;
 use crate::oracle;
-use crate::port;
 use crate::random::Random;
 use crate::words::{group_word, page_of, Family};
 
@@ -76,15 +75,6 @@ const BATCH: usize = 8;
 const REPEATS: usize = 4;
 
 impl Scenario {
-    pub fn landed(&self) -> bool {
-        port::landed(match self {
-            Scenario::Remembered { .. } | Scenario::NoFit { .. } => Kind::Commit,
-            Scenario::Batches { .. } | Scenario::Single { .. } | Scenario::Whole { .. } => Kind::TakeBlocks,
-            Scenario::Listed { .. } | Scenario::Arena { .. } => Kind::TakeBlocks,
-            Scenario::Groups { .. } | Scenario::Fill => Kind::ReleaseBinChunks,
-        })
-    }
-
     /// In the order of the round's times.
     pub fn rows(&self) -> Vec<Row> {
         let with = |holes, calls: &[&str]| {
