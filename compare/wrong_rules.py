@@ -274,7 +274,8 @@ class Heaps:
     def boundaries(self):
         """The boundary tests that fail."""
         settings = dict(os.environ, LD_LIBRARY_PATH=str(self.library))
-        answer = run([self.work / "boundaries"], self.work, env=settings, timeout=600)
+        # The stand-in's book has no words but one.
+        answer = run([self.work / "boundaries", "--skip", "ranges::"], self.work, env=settings, timeout=600)
         failed = re.findall(r"^test (\S+) \.\.\. FAILED", answer.stdout, re.M)
         return failed if failed or answer.returncode == 0 else [f"status {answer.returncode}"]
 
@@ -297,12 +298,13 @@ class Models:
         return self.folder / name
 
     def check(self, crate):
-        """Where `rt dev` refuses, or nothing."""
+        """What `rt dev` refuses, by name; what only rests on it is left out."""
         answer = run(["rt", "dev", crate], self.folder)
-        if answer.returncode == 0:
-            return ""
-        errors = [line for line in answer.stdout.splitlines() if re.search(r"error|failed|cannot|antt:\d+", line)]
-        return (errors or answer.stdout.strip().splitlines()[-1:])[0]
+        errors = re.findall(r"error: `([^`]+)`: (.*)", answer.stdout)
+        names = dict.fromkeys(name for name, why in errors if "not admitted" not in why)
+        if answer.returncode == 0 or names:
+            return list(names)
+        return answer.stdout.strip().splitlines()[-1:]
 
 
 def try_heaps(rules, work):
@@ -330,7 +332,8 @@ def try_models(rules, work):
     for rule in rules:
         if rule.model:
             with Edited(models.place, rule.model):
-                print(f"{rule.name}\n    {rule.crate}: {models.check(rule.crate)[:300] or 'passes'}", flush=True)
+                refused = models.check(rule.crate)
+            print(f"{rule.name}\n    {rule.crate}: {', '.join(refused) or 'passes'}", flush=True)
 
 
 def main():

@@ -98,8 +98,10 @@ fn answered<T>(number: u32, value: T) -> Answer<T> {
 /// The blocks of a take, as granules counted from the arena's start, and virgin.
 pub type Taken = (Vec<u32>, bool);
 
+#[derive(Clone)]
 pub struct Heap {
-    book: Vec<u32>,
+    /// Written by the heap; docs/RANGES.md says what stands where.
+    pub book: Vec<u32>,
 }
 
 // SAFETY of every call below: the book, the lists and the out-parameters are lent for the call, with their own lengths.
@@ -137,9 +139,13 @@ impl Heap {
 
     /// Commits, reuses, abandoned, pages held, idle pages.
     pub fn report(&self) -> [u64; 5] {
+        self.try_report().expect("a reached book")
+    }
+
+    pub fn try_report(&self) -> Answer<[u64; 5]> {
         let mut figures = [0; 5];
         let number = unsafe { vigbuso_report(self.book.as_ptr(), self.book.len(), figures.as_mut_ptr()) };
-        answered(number, figures).expect("a reached book")
+        answered(number, figures)
     }
 
     pub fn take(&mut self, family: Family, class: u32, host: u32) -> Answer<Taken> {

@@ -6,4 +6,5 @@ mod chunks;
 mod heap;
 mod holes;
 mod parks;
+mod ranges;
 mod runs;
