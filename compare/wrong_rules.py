@@ -29,8 +29,19 @@ from dataclasses import dataclass, field
 
 ROOT = pathlib.Path(__file__).resolve().parent.parent
 ORIGINAL = pathlib.Path(os.environ.get("VIGBUSO_ORIGINAL", ROOT.parent / "shared/docs/src"))
-SPECS = "crates/model/specs/"
-SHAPE = [("crates/classes/specs/Shape.antt"), ("crates/classes/src/runs.rt")]
+
+# Where the definitions are.
+ARENA = "crates/model/specs/Arena.antt"
+CHUNKS = "crates/model/specs/Chunks.antt"
+CLASS = "crates/model/specs/Class.antt"
+HEAP = "crates/model/specs/Heap.antt"
+HOLES = "crates/model/specs/HoleStore.antt"
+PAGE = "crates/model/specs/Page.antt"
+RELEASE = "crates/model/specs/Release.antt"
+RANGES = "crates/demands/specs/Ranges.antt"
+# A class's limits are in its shape, by definition and in code.
+SHAPE = "crates/classes/specs/Shape.antt"
+SHAPE_CODE = "crates/classes/src/runs.rt"
 
 
 @dataclass
@@ -46,167 +57,372 @@ class Rule:
     alike: str = ""
 
 
-def empty_or_cold(name, const, old, new, shape, value):
-    """A limit of the stores, in the original and in the shape of a class, definition and code alike."""
-    spec, code = SHAPE
-    fields, was, now = shape, *value
+def at(column, *lines):
+    return "\n".join(" " * column + line for line in lines)
+
+
+def limit(name, heap, *shape):
+    """A limit of the stores: a constant of the original, and places in the shape, definition and code alike."""
+    const, old, new = heap
+    in_code = lambda text: at(8, *(part.strip().replace(" = ", ": ") + "," for part in text.split(";"))).strip()
     return Rule(
         name,
         heap=[("heap.rs", f"const {const} = {old};", f"const {const} = {new};")],
-        model=[(spec, fields.format(was), fields.format(now))] + [(code, *pair) for pair in code_limits(fields, was, now)],
+        model=[(SHAPE, *shape), (SHAPE_CODE, *map(in_code, shape))],
     )
-
-
-def code_limits(fields, was, now):
-    """The same change in the shape that the code writes: `empties = 4; emptypages = 4` as lines."""
-    lines = lambda text: ",\n        ".join(part.strip().replace(" = ", ": ") for part in text.strip("; ").split(";"))
-    return [(lines(fields.format(was)), lines(fields.format(now)))]
 
 
 RULES = [
     Rule(
         "a reuse is counted for a fresh run",
-        heap=[("arena.rs", "                        self.commits.fetch_add(1, Ordering::Relaxed);\n                        return (base as *mut u8, true);",
-               "                        self.commits.fetch_add(1, Ordering::Relaxed);\n                        self.reuses.fetch_add(1, Ordering::Relaxed);\n                        return (base as *mut u8, true);")],
-        model=[(SPECS + "Arena.antt", "reuses = cond fresh (a .reuses) (more (a .reuses))", "reuses = more (a .reuses)")],
+        heap=[
+            (
+                "arena.rs",
+                at(24, "return (base as *mut u8, true);"),
+                at(24, "self.reuses.fetch_add(1, Ordering::Relaxed);", "return (base as *mut u8, true);"),
+            )
+        ],
+        model=[(ARENA, "reuses = cond fresh (a .reuses) (more (a .reuses))", "reuses = more (a .reuses)")],
     ),
     Rule(
         "a refused reservation does not disable",
-        heap=[("arena.rs", "            if raw == usize::MAX {\n                self.state.store(2, Ordering::Release);", "            if raw == usize::MAX {\n                self.state.store(0, Ordering::Release);")],
-        model=[(SPECS + "Arena.antt", "(given (withStatus disabled a) none false)", "(given a none false)")],
+        heap=[
+            (
+                "arena.rs",
+                "if raw == usize::MAX {\n" + at(16, "self.state.store(2, Ordering::Release);"),
+                "if raw == usize::MAX {\n" + at(16, "self.state.store(0, Ordering::Release);"),
+            )
+        ],
+        model=[(ARENA, "(given (withStatus disabled a) none false)", "(given a none false)")],
     ),
     Rule(
         "a cold span is virgin",
-        heap=[("heap.rs", "                (*span).init(mclass, pages);\n                (*span).flags &= !FLAG_VIRGIN;\n                virgin = false;", "                (*span).init(mclass, pages);\n                virgin = true;")],
-        model=[(SPECS + "Class.antt", "(c .zeroed && not (isMedium sh))", "(c .zeroed)")],
+        heap=[
+            (
+                "heap.rs",
+                at(16, "(*span).init(mclass, pages);", "(*span).flags &= !FLAG_VIRGIN;", "virgin = false;"),
+                at(16, "(*span).init(mclass, pages);", "virgin = true;"),
+            )
+        ],
+        model=[(CLASS, "(c .zeroed && not (isMedium sh))", "(c .zeroed)")],
     ),
     Rule(
         "a done discard zeroes without bit 3",
-        heap=[("sys/unix.rs", "        zeroed: ok && dontneed_zeroes(),", "        zeroed: ok,")],
-        model=[(SPECS + "Release.antt", "use Rattle.words.specs.Host.{discardZeroed}", "use Rattle.words.specs.Host.{discardDone}"),
-               (SPECS + "Release.antt", "zeroed = discardZeroed h", "zeroed = discardDone h")],
+        heap=[("sys/unix.rs", "zeroed: ok && dontneed_zeroes(),", "zeroed: ok,")],
+        model=[
+            (RELEASE, "use Rattle.words.specs.Host.{discardZeroed}", "use Rattle.words.specs.Host.{discardDone}"),
+            (RELEASE, "zeroed = discardZeroed h", "zeroed = discardDone h"),
+        ],
     ),
     Rule(
         "a cold span is answered as 1",
-        heap=[("heap.rs", "enum SpanFate {\n    Keep,\n    Unmap(usize),", "enum SpanFate {\n    Keep,\n    Cold,\n    Unmap(usize),"),
-              ("heap.rs", "            sys::discard(span.cast::<u8>(), span_bytes);\n            SpanFate::Keep", "            sys::discard(span.cast::<u8>(), span_bytes);\n            SpanFate::Cold"),
-              ("heap.rs", "        SpanFate::Keep => {}\n        SpanFate::Unmap(bytes) => {\n            // Arena-owned slices park in holes (no syscall, counters stay\n            // balanced); legacy", "        SpanFate::Keep | SpanFate::Cold => {}\n        SpanFate::Unmap(bytes) => {\n            // Arena-owned slices park in holes (no syscall, counters stay\n            // balanced); legacy"),
-              ("compare/seams/parts.rs", "SpanFate::Keep => 0,", "SpanFate::Keep => 0,\\n        SpanFate::Cold => 1,")],
-        model=[(SPECS + "Release.antt", "coldFate sh = cond (isMedium sh) 0 1", "coldFate sh = 1")],
+        heap=[
+            ("heap.rs", "enum SpanFate {\n    Keep,\n    Unmap(usize),", "enum SpanFate {\n    Keep,\n    Cold,\n    Unmap(usize),"),
+            (
+                "heap.rs",
+                at(12, "sys::discard(span.cast::<u8>(), span_bytes);", "SpanFate::Keep"),
+                at(12, "sys::discard(span.cast::<u8>(), span_bytes);", "SpanFate::Cold"),
+            ),
+            ("heap.rs", at(8, "SpanFate::Keep => {}", "SpanFate::Unmap"), at(8, "SpanFate::Keep | SpanFate::Cold => {}", "SpanFate::Unmap")),
+            ("compare/seams/parts.rs", "SpanFate::Keep => 0,", "SpanFate::Keep => 0,\\n        SpanFate::Cold => 1,"),
+        ],
+        model=[(RELEASE, "coldFate sh = cond (isMedium sh) 0 1", "coldFate sh = 1")],
     ),
     Rule(
         "virgin goes by the first page only",
-        heap=[("heap.rs", "        if (*page).flags & FLAG_VIRGIN == 0 {\n            *virgin = false;\n        }\n        let before", "        if *count == 0 && (*page).flags & FLAG_VIRGIN == 0 {\n            *virgin = false;\n        }\n        let before")],
-        model=[(SPECS + "Class.antt", "virgin = v && f .virgin;", "virgin = v;")],
+        heap=[
+            (
+                "heap.rs",
+                at(8, "if (*page).flags & FLAG_VIRGIN == 0 {", "    *virgin = false;", "}", "let before"),
+                at(8, "if *count == 0 && (*page).flags & FLAG_VIRGIN == 0 {", "    *virgin = false;", "}", "let before"),
+            )
+        ],
+        model=[(CLASS, "virgin = v && f .virgin;", "virgin = v;")],
         alike="a virgin page enters an empty list only, so it stands behind all others",
     ),
     Rule(
         "several pages' blocks stand in reverse page order",
-        heap=[("compare/src/oracle/mod.rs", "        (words_of_chain(family, chain, count), virgin)",
-               "        let mut pages: Vec<Vec<u32>> = Vec::new();\n        for word in words_of_chain(family, chain, count) {\n            match pages.last_mut() {\n                Some(page) if self.run_of(family, page[0]) == self.run_of(family, word) => page.push(word),\n                _ => pages.push(vec![word]),\n            }\n        }\n        pages.reverse();\n        (pages.concat(), virgin)")],
-        model=[(SPECS + "Class.antt", "blocks = f .blocks ++ x .blocks;", "blocks = x .blocks ++ f .blocks;")],
+        heap=[
+            (
+                "compare/src/oracle/mod.rs",
+                at(8, "(words_of_chain(family, chain, count), virgin)"),
+                at(
+                    8,
+                    "let mut pages: Vec<Vec<u32>> = Vec::new();",
+                    "for word in words_of_chain(family, chain, count) {",
+                    "    match pages.last_mut() {",
+                    "        Some(page) if self.run_of(family, page[0]) == self.run_of(family, word) => page.push(word),",
+                    "        _ => pages.push(vec![word]),",
+                    "    }",
+                    "}",
+                    "pages.reverse();",
+                    "(pages.concat(), virgin)",
+                ),
+            )
+        ],
+        model=[(CLASS, "blocks = f .blocks ++ x .blocks;", "blocks = x .blocks ++ f .blocks;")],
     ),
-    empty_or_cold("5 empty pages", "EMPTY_PAGE_CACHE_PER_CLASS: u32", 4, 5, "empties = {0}; emptypages = {0};", (4, 5)),
-    Rule(
+    limit(
+        "5 empty pages",
+        ("EMPTY_PAGE_CACHE_PER_CLASS: u32", "4", "5"),
+        "empties = 4; emptypages = 4",
+        "empties = 5; emptypages = 5",
+    ),
+    limit(
         "128 cold pages",
-        heap=[("heap.rs", "const MAX_COLD_PAGE_SLOTS: usize = 256;", "const MAX_COLD_PAGE_SLOTS: usize = 128;")],
-        model=[(SHAPE[0], "emptypages = 4; colds = 256", "emptypages = 4; colds = 128"),
-               (SHAPE[1], "emptypages: 4,\n        colds: 256,", "emptypages: 4,\n        colds: 128,")],
+        ("MAX_COLD_PAGE_SLOTS: usize", "256", "128"),
+        "emptypages = 4; colds = 256",
+        "emptypages = 4; colds = 128",
     ),
-    Rule(
+    limit(
         "128 cold spans",
-        heap=[("heap.rs", "const MAX_COLD_SPAN_SLOTS: usize = 256;", "const MAX_COLD_SPAN_SLOTS: usize = 128;")],
-        model=[(SHAPE[0], "emptypages = 128; colds = 256", "emptypages = 128; colds = 128"),
-               (SHAPE[1], "emptypages: 128,\n        colds: 256,", "emptypages: 128,\n        colds: 128,")],
+        ("MAX_COLD_SPAN_SLOTS: usize", "256", "128"),
+        "emptypages = 128; colds = 256",
+        "emptypages = 128; colds = 128",
     ),
-    empty_or_cold("16 empty spans", "EMPTY_SPAN_CACHE_PER_CLASS: u32", 32, 16, "empties = {0};", (32, 16)),
-    empty_or_cold("144 pages of empty spans", "MAX_EMPTY_SPAN_BYTES_PER_CLASS: usize", "8 * 1024 * 1024", "9 * 1024 * 1024", "emptypages = {0};", (128, 144)),
+    limit("16 empty spans", ("EMPTY_SPAN_CACHE_PER_CLASS: u32", "32", "16"), "empties = 32", "empties = 16"),
+    limit(
+        "144 pages of empty spans",
+        ("MAX_EMPTY_SPAN_BYTES_PER_CLASS: usize", "8 * 1024 * 1024", "9 * 1024 * 1024"),
+        "emptypages = 128",
+        "emptypages = 144",
+    ),
     Rule(
         "2,057 groups pass",
-        heap=[("compare/src/words.rs", "MAX_GROUPS: usize = 2_056", "MAX_GROUPS: usize = 2_057"),
-              ("heap.rs", "const MAX_PAGE_RELEASE_GROUPS: usize = 2056;", "const MAX_PAGE_RELEASE_GROUPS: usize = 2057;")],
-        model=[(SPECS + "Chunks.antt", "chunksMax = 2056", "chunksMax = 2057")],
+        heap=[
+            ("compare/src/words.rs", "MAX_GROUPS: usize = 2_056", "MAX_GROUPS: usize = 2_057"),
+            ("heap.rs", "MAX_PAGE_RELEASE_GROUPS: usize = 2056;", "MAX_PAGE_RELEASE_GROUPS: usize = 2057;"),
+        ],
+        model=[(CHUNKS, "chunksMax = 2056", "chunksMax = 2057")],
+    ),
+    Rule(
+        "groups are treated in reverse order",
+        heap=[
+            (
+                "heap.rs",
+                at(12, "for (i, g) in chunks.iter().enumerate() {", "    let fate = if g.n"),
+                at(12, "for (i, g) in chunks.iter().enumerate().rev() {", "    let fate = if g.n"),
+            )
+        ],
+        model=[
+            (
+                CHUNKS,
+                at(
+                    4,
+                    "let b = settleChunk sh h s ws (locate (startsAt (pageOf g)) s) in",
+                    "let r = settleChunks sh h ws (b .class) gs in",
+                    "record { class = r .class;",
+                ),
+                at(
+                    4,
+                    "let r = settleChunks sh h ws s gs in",
+                    "let b = settleChunk sh h (r .class) ws (locate (startsAt (pageOf g)) (r .class)) in",
+                    "record { class = b .class;",
+                ),
+            )
+        ],
+    ),
+    Rule(
+        "a group's chain is turned round",
+        heap=[
+            (
+                "heap.rs",
+                at(
+                    24,
+                    "if g.head.is_null() {",
+                    "    g.head = cursor;",
+                    "} else {",
+                    "    *g.tail.cast::<*mut u8>() = cursor;",
+                    "}",
+                    "g.tail = cursor;",
+                    "*cursor.cast::<*mut u8>() = ptr::null_mut();",
+                ),
+                at(
+                    24,
+                    "if g.head.is_null() {",
+                    "    g.tail = cursor;",
+                    "}",
+                    "*cursor.cast::<*mut u8>() = g.head;",
+                    "g.head = cursor;",
+                ),
+            )
+        ],
+        model=[
+            (CHUNKS, "{List, [], _∷_, _++_, map}", "{List, [], _∷_, _++_, map, reverse}"),
+            (CHUNKS, "settle sh h true (blocksOn sh ws (x .page)) x", "settle sh h true (reverse (blocksOn sh ws (x .page))) x"),
+        ],
+    ),
+    Rule(
+        "a released list goes behind the free list",
+        heap=[
+            (
+                "heap.rs",
+                at(4, "*tail.cast::<*mut u8>() = (*page).free_head;", "(*page).free_head = head;"),
+                at(
+                    4,
+                    "*tail.cast::<*mut u8>() = ptr::null_mut();",
+                    "let mut link: *mut *mut u8 = &mut (*page).free_head;",
+                    "while !(*link).is_null() {",
+                    "    link = (*link).cast();",
+                    "}",
+                    "*link = head;",
+                ),
+            )
+        ],
+        model=[(PAGE, "free = ws ++ p .free;", "free = p .free ++ ws;")],
+    ),
+    Rule(
+        "a page enters the partial list at its tail",
+        heap=[
+            (
+                "heap.rs",
+                at(4, "(*p).next = *list;", "if !(*list).is_null() {", "    (**list).prev = p;", "}", "*list = p;"),
+                at(
+                    4,
+                    "(*p).next = ptr::null_mut();",
+                    "let mut link: *mut *mut PageHeader = list;",
+                    "while !(*link).is_null() {",
+                    "    (*p).prev = *link;",
+                    "    link = &mut (**link).next;",
+                    "}",
+                    "*link = p;",
+                ),
+            )
+        ],
+        model=[(RELEASE, "with = λ p. lists (p ∷ s .partial)", "with = λ p. lists (s .partial ++ p ∷ [])")],
+    ),
+    Rule(
+        "empty pages come first in first out",
+        heap=[
+            (
+                "heap.rs",
+                at(8, "(*page).next = list.empty;", "list.empty = page;"),
+                at(
+                    8,
+                    "(*page).next = ptr::null_mut();",
+                    "let mut link: *mut *mut PageHeader = &mut list.empty;",
+                    "while !(*link).is_null() {",
+                    "    link = &mut (**link).next;",
+                    "}",
+                    "*link = page;",
+                ),
+            )
+        ],
+        model=[(RELEASE, "(p ∷ s .empty) (s .cold)", "(s .empty ++ p ∷ []) (s .cold)")],
+    ),
+    Rule(
+        "cold pages come oldest first",
+        heap=[
+            (
+                "heap.rs",
+                at(16, "list.cold_len -= 1;", "let cidx = list.cold_len as usize;", "let page ="),
+                at(
+                    16,
+                    "let all = list.cold_len as usize;",
+                    "list.cold[..all].rotate_left(1);",
+                    "list.cold_zeroed[..all].rotate_left(1);",
+                    "list.cold_decommitted[..all].rotate_left(1);",
+                    "list.cold_len -= 1;",
+                    "let cidx = list.cold_len as usize;",
+                    "let page =",
+                ),
+            )
+        ],
+        model=[
+            (
+                RELEASE,
+                "(record { first = p .first; zeroed = discardZeroed h } ∷ s .cold)",
+                "(s .cold ++ record { first = p .first; zeroed = discardZeroed h } ∷ [])",
+            )
+        ],
     ),
     Rule(
         "a run may have 2 to the 48th pages",
         heap=[("compare/src/words.rs", "RUN_LIMIT: u64 = 1 << 48;", "RUN_LIMIT: u64 = (1 << 48) + 1;")],
-        model=[(SPECS + "Heap.antt", "leb (2 ^ 48) n", "ltb (2 ^ 48) n")],
+        model=[(HEAP, "leb (2 ^ 48) n", "ltb (2 ^ 48) n")],
+    ),
+    Rule(
+        "a host word of 16",
+        heap=[("compare/src/words.rs", "HOST_ALL: u32 = 15;", "HOST_ALL: u32 = 16;")],
+        model=[(CHUNKS, "hostMax = 15", "hostMax = 16")],
     ),
     Rule(
         "`contains` before the reservation",
-        heap=[("compare/src/oracle/mod.rs", "        arena::contains(address(offset as usize), length as usize)", "        offset.checked_add(length).is_some_and(|end| end <= u64::from(self.pages) * PAGE_BYTES as u64)")],
-        model=[(SPECS + "Arena.antt", "contains size o b a = isReady (a .status) && (", "contains size o b a = (")],
+        heap=[
+            (
+                "compare/src/oracle/mod.rs",
+                "arena::contains(address(offset as usize), length as usize)",
+                "offset.checked_add(length).is_some_and(|end| end <= u64::from(self.pages) * PAGE_BYTES as u64)",
+            )
+        ],
+        model=[(ARENA, "contains size o b a = isReady (a .status) && (", "contains size o b a = (")],
     ),
     Rule(
         "`contains` is no at the arena's end",
-        heap=[("arena.rs", "Some(top) => start <= b && top <= end && b >= start,", "Some(top) => start <= b && top <= end && b < end,")],
-        model=[(SPECS + "Arena.antt", "leb (o + b) (size * pageBytes))", "(leb (o + b) (size * pageBytes) && ltb o (size * pageBytes)))")],
+        heap=[("arena.rs", "start <= b && top <= end && b >= start", "start <= b && top <= end && b < end")],
+        model=[(ARENA, "leb (o + b) (size * pageBytes))", "(leb (o + b) (size * pageBytes) && ltb o (size * pageBytes)))")],
     ),
     Rule(
         "the report's commits and reuses are exchanged",
         heap=[("compare/src/reference.rs", "let [commits, reuses, abandoned] =", "let [reuses, commits, abandoned] =")],
-        model=[(SPECS + "Heap.antt", "reported (H .arena .commits) (H .arena .reuses)", "reported (H .arena .reuses) (H .arena .commits)")],
+        model=[(HEAP, "reported (H .arena .commits) (H .arena .reuses)", "reported (H .arena .reuses) (H .arena .commits)")],
     ),
     Rule(
         "the report's reuses and abandoned are exchanged",
         heap=[("compare/src/reference.rs", "let [commits, reuses, abandoned] =", "let [commits, abandoned, reuses] =")],
-        model=[(SPECS + "Heap.antt", "(H .arena .reuses) (H .arena .abandoned)", "(H .arena .abandoned) (H .arena .reuses)")],
+        model=[(HEAP, "(H .arena .reuses) (H .arena .abandoned)", "(H .arena .abandoned) (H .arena .reuses)")],
     ),
     Rule(
         "the report's held and idle pages are exchanged",
-        heap=[("compare/src/reference.rs", "self.ledger.held(), original.idle_pages()", "original.idle_pages(), self.ledger.held()")],
-        model=[(SPECS + "Heap.antt", "(heldPages size H) (idlePages size (H .arena))", "(idlePages size (H .arena)) (heldPages size H)")],
+        heap=[
+            (
+                "compare/src/reference.rs",
+                "self.ledger.held(), original.idle_pages()",
+                "original.idle_pages(), self.ledger.held()",
+            )
+        ],
+        model=[(HEAP, "(heldPages size H) (idlePages size (H .arena))", "(idlePages size (H .arena)) (heldPages size H)")],
     ),
     Rule(
         "a cut's remainder is remembered at its length's lowest index",
-        heap=[("arena.rs", "                        holes.exact[remainder] = i as u16;", "                        holes.refresh_exact(remainder);")],
-        model=[(SPECS + "HoleStore.antt", "(remember (x .pages - n) (some i) (refresh (x .pages) hs (s .memory)))", "(refresh (x .pages - n) hs (refresh (x .pages) hs (s .memory)))")],
+        heap=[("arena.rs", "holes.exact[remainder] = i as u16;", "holes.refresh_exact(remainder);")],
+        model=[(HOLES, "(remember (x .pages - n) (some i) (", "(refresh (x .pages - n) hs (")],
     ),
     Rule(
         "the holes behind a used-up one move up",
-        heap=[("arena.rs", "                    holes.entries[i] = holes.entries[last];", "                    holes.entries.copy_within(i + 1..last + 1, i);")],
-        model=[(SPECS + "HoleStore.antt", "removeAt i hs = setAt i (lastHole hs) (withoutLast hs)", "removeAt i [] = []\nremoveAt zero (h ∷ hs) = hs\nremoveAt (suc i) (h ∷ hs) = h ∷ removeAt i hs")],
+        heap=[("arena.rs", "holes.entries[i] = holes.entries[last];", "holes.entries.copy_within(i + 1..last + 1, i);")],
+        model=[
+            (
+                HOLES,
+                "removeAt i hs = setAt i (lastHole hs) (withoutLast hs)",
+                "removeAt i [] = []\nremoveAt zero (h ∷ hs) = hs\nremoveAt (suc i) (h ∷ hs) = h ∷ removeAt i hs",
+            )
+        ],
+    ),
+    Rule(
+        "lengths are remembered up to 127",
+        heap=[("arena.rs", "EXACT_BUCKET_MAX: usize = 128;", "EXACT_BUCKET_MAX: usize = 127;")],
+        model=[(HOLES, "rememberedMax = 128", "rememberedMax = 127")],
+    ),
+    Rule(
+        "lengths are remembered up to 129",
+        heap=[("arena.rs", "EXACT_BUCKET_MAX: usize = 128;", "EXACT_BUCKET_MAX: usize = 129;")],
+        model=[(HOLES, "rememberedMax = 128", "rememberedMax = 129")],
+    ),
+    Rule(
+        "4,095 holes",
+        heap=[("arena.rs", "HOLE_SLOTS: usize = 4096;", "HOLE_SLOTS: usize = 4095;")],
+        model=[(HOLES, "holeSlots = 4096", "holeSlots = 4095")],
     ),
     Rule(
         "a total of just 65,536 pages is abandoned",
         heap=[("arena.rs", "holes.bytes + bytes <= HOLE_CAP_BYTES", "holes.bytes + bytes < HOLE_CAP_BYTES")],
-        model=[(SPECS + "HoleStore.antt", "leb (s .total + n) holePagesMax", "ltb (s .total + n) holePagesMax")],
+        model=[(HOLES, "leb (s .total + n) holePagesMax", "ltb (s .total + n) holePagesMax")],
     ),
-    Rule(
-        "a released list goes behind the free list",
-        heap=[("heap.rs", "    *tail.cast::<*mut u8>() = (*page).free_head;\n    (*page).free_head = head;",
-               "    *tail.cast::<*mut u8>() = ptr::null_mut();\n    let mut link: *mut *mut u8 = &mut (*page).free_head;\n    while !(*link).is_null() {\n        link = (*link).cast();\n    }\n    *link = head;")],
-        model=[(SPECS + "Page.antt", "free = ws ++ p .free;", "free = p .free ++ ws;")],
-    ),
-    Rule(
-        "empty pages come first in first out",
-        heap=[("heap.rs", "        (*page).next = list.empty;\n        list.empty = page;",
-               "        (*page).next = ptr::null_mut();\n        let mut link: *mut *mut PageHeader = &mut list.empty;\n        while !(*link).is_null() {\n            link = &mut (**link).next;\n        }\n        *link = page;")],
-        model=[(SPECS + "Release.antt", "(p ∷ s .empty) (s .cold)", "(s .empty ++ p ∷ []) (s .cold)")],
-    ),
-    Rule(
-        "cold pages come oldest first",
-        heap=[("heap.rs", "                list.cold_len -= 1;\n                let cidx = list.cold_len as usize;\n                let page = list.cold[cidx];",
-               "                let all = list.cold_len as usize;\n                list.cold[..all].rotate_left(1);\n                list.cold_zeroed[..all].rotate_left(1);\n                list.cold_decommitted[..all].rotate_left(1);\n                list.cold_len -= 1;\n                let cidx = list.cold_len as usize;\n                let page = list.cold[cidx];")],
-        model=[(SPECS + "Release.antt", "(record { first = p .first; zeroed = discardZeroed h } ∷ s .cold)", "(s .cold ++ record { first = p .first; zeroed = discardZeroed h } ∷ [])")],
-    ),
-    Rule(
-        "a page enters the partial list at its tail",
-        heap=[("heap.rs", "    (*p).prev = ptr::null_mut();\n    (*p).next = *list;\n    if !(*list).is_null() {\n        (**list).prev = p;\n    }\n    *list = p;\n",
-               "    (*p).prev = ptr::null_mut();\n    (*p).next = ptr::null_mut();\n    let mut link: *mut *mut PageHeader = list;\n    while !(*link).is_null() {\n        (*p).prev = *link;\n        link = &mut (**link).next;\n    }\n    *link = p;\n")],
-        model=[(SPECS + "Release.antt", "with = λ p. lists (p ∷ s .partial)", "with = λ p. lists (s .partial ++ p ∷ [])")],
-    ),
-    Rule(
-        "a group's chain is turned round",
-        heap=[("heap.rs", "                        if g.head.is_null() {\n                            g.head = cursor;\n                        } else {\n                            *g.tail.cast::<*mut u8>() = cursor;\n                        }\n                        g.tail = cursor;\n                        *cursor.cast::<*mut u8>() = ptr::null_mut();",
-               "                        if g.head.is_null() {\n                            g.tail = cursor;\n                        }\n                        *cursor.cast::<*mut u8>() = g.head;\n                        g.head = cursor;")],
-        model=[(SPECS + "Chunks.antt", "{List, [], _∷_, _++_, map}", "{List, [], _∷_, _++_, map, reverse}"),
-               (SPECS + "Chunks.antt", "settle sh h true (blocksOn sh ws (x .page)) x", "settle sh h true (reverse (blocksOn sh ws (x .page))) x")],
-    ),
-    # What a word may hold is no rule of the heap's answers on reached books: only the table has it.
-    Rule("VIRGIN up to 7", model=[("crates/demands/specs/Ranges.antt", "range b (virginFlag p) = upTo 1", "range b (virginFlag p) = upTo 7")], crate="demands"),
-    Rule("LISTED up to 9", model=[("crates/demands/specs/Ranges.antt", "range b (listedFlag p) = upTo 1", "range b (listedFlag p) = upTo 9")], crate="demands"),
-    Rule("MEMORY up to 5,000", model=[("crates/demands/specs/Ranges.antt", "range b (memoryFits n) = upTo holeSlots", "range b (memoryFits n) = upTo 5000")], crate="demands"),
+    # What a word may hold shows in no history: the table of ranges has it, and editor/tests/boundaries/ranges.rs.
+    Rule("VIRGIN up to 7", model=[(RANGES, "(virginFlag p) = upTo 1", "(virginFlag p) = upTo 7")], crate="demands"),
+    Rule("LISTED up to 9", model=[(RANGES, "(listedFlag p) = upTo 1", "(listedFlag p) = upTo 9")], crate="demands"),
+    Rule("MEMORY up to 5,000", model=[(RANGES, "(memoryFits n) = upTo holeSlots", "(memoryFits n) = upTo 5000")], crate="demands"),
 ]
 
 
@@ -330,10 +546,11 @@ def try_heaps(rules, work):
 def try_models(rules, work):
     models = Models(work)
     for rule in rules:
-        if rule.model:
-            with Edited(models.place, rule.model):
-                refused = models.check(rule.crate)
-            print(f"{rule.name}\n    {rule.crate}: {', '.join(refused) or 'passes'}", flush=True)
+        if not rule.model:
+            continue
+        with Edited(models.place, rule.model):
+            refused = models.check(rule.crate)
+        print(f"{rule.name}\n    {rule.crate}: {', '.join(refused) or 'passes'}", flush=True)
 
 
 def main():

@@ -16,7 +16,7 @@ use self::arguments::Pool;
 use self::book::Twins;
 use self::damage::Damage;
 use crate::arguments::Arguments;
-use crate::call::{Answer, Call, Kind};
+use crate::call::{Answer, Call};
 use crate::history;
 use crate::random::Random;
 use crate::tally::Tally;

@@ -1,9 +1,8 @@
-//! What is measured. A scenario is one variant with its rows, the calls it needs and a round written once for both sides.
+//! What is measured. A scenario is one variant with its rows and a round written once for both sides.
 
 use super::fill;
 use super::rounds::{Clock, Round};
 use super::sides::{Class, Side, PAGES};
-use crate::call::Kind;
 use crate::oracle;
 use crate::random::Random;
 use crate::words::{group_word, page_of, Family};

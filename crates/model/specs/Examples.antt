@@ -2,7 +2,7 @@
 -- on an arena of 64 pages. docs/RULES.md says which rule each row holds. Assumes nothing.
 use Prim.Native.Nat.{ℕ, zero, suc, _+_, _-_, _*_, _/_, _^_}
 use mathlib.Core.List.{List, [], _∷_, _++_, map}
-use mathlib.Core.Option.{none}
+use mathlib.Core.Option.{Option, none, some}
 use mathlib.Core.Bool.{Bool, true, false}
 use lib.ListN.{length, replicate}
 use Rattle.words.specs.Word.{smallKind, mediumKind, blockWord, chunkWord}
@@ -12,7 +12,7 @@ use Rattle.classes.specs.Examples as Lookups
 use Rattle.model.specs.declared.Hole.{Hole}
 use Rattle.model.specs.Lists.{below}
 use Rattle.model.specs.Calls.{Call, takeBlocks, mediumTakeBlocks, releaseBlocks, releaseBinChunks, commit, release, contains, report, Answer, refused, taken, fate, fates, run, noRun, released, contained, reported}
-use Rattle.model.specs.HoleStore.{hole, store, accepts}
+use Rattle.model.specs.HoleStore.{hole, store, choose, accepts}
 use Rattle.model.specs.Page.{Page, carveAs}
 use Rattle.model.specs.Class.{Class, newClass, lists, Ask, serve, takeFrom}
 use Rattle.model.specs.Release.{Settled, park}
@@ -20,12 +20,14 @@ use Rattle.model.specs.Chunks.{releaseChunks}
 use Rattle.model.specs.History.{answers, heapAfter}
 
 -- what is told: the class of a size; of a history, each call's answer, and the holes stored after the last; an emptied run's fate, and
--- how many empty and cold ones its class then has; whether a given run is stored; or a class's answer that needs no arena
+-- how many empty and cold ones its class then has; whether a given run is stored; the hole that is chosen; or a class's answer that
+-- needs no arena
 pub data Told : Type 0 where
   lookup : (class : ℕ) → Told
   history : (answers : List Answer) (holes : List Hole) → Told
   parked : (fate empty cold : ℕ) → Told
   stored : Bool → Told
+  chosen : Option ℕ → Told
   answered : Answer → Told
 
 pub record Example : Type 0 where
@@ -51,6 +53,10 @@ onPark c e k t = record {
 -- n pages are given to a store of so many holes with so many pages
 unfoldable pub onGive : ℕ → ℕ → ℕ → Bool → Example
 onGive n holes pages b = record { found = stored (accepts n (store (replicate holes (hole 0 1)) pages (λ k. none))); expected = stored b }
+
+-- which of two holes of n pages is chosen, where the second is remembered
+unfoldable pub onChoice : ℕ → ℕ → Example
+onChoice n i = record { found = chosen (choose n (store (hole 0 n ∷ hole n n ∷ []) (n + n) (λ k. some 1)) .index); expected = chosen (some i) }
 
 unfoldable pub onClass : Ask → Answer → Example
 onClass q z = record { found = answered (serve q none .answer); expected = answered z }
@@ -113,6 +119,9 @@ rules =
     -- "2 to the 48th or more"
     ∷ onNewHeap (commit 15 (2 ^ 48 - 1) ∷ commit 15 (2 ^ 48) ∷ [])
     (noRun ∷ refused 6 ∷ []) []
+    -- "The host word exceeds 15."
+    ∷ onNewHeap (commit 16 1 ∷ takeBlocks 0 16 (lent 64) ∷ [])
+    (refused 3 ∷ refused 3 ∷ []) []
     -- "these counts, pages held, and idle pages": a fresh run is no reuse
     ∷ onNewHeap (commit 15 5 ∷ commit 15 4 ∷ release 15 0 5 ∷ commit 15 1 ∷ report ∷ [])
     (run 0 true ∷ run 5 true ∷ released ∷ run 0 false ∷ reported 3 1 0 5 59 ∷ []) (hole 1 4 ∷ [])
@@ -122,6 +131,9 @@ rules =
     -- "A used-up hole is replaced by the last one."
     ∷ onNewHeap (commit 15 8 ∷ release 15 0 1 ∷ release 15 2 1 ∷ release 15 4 1 ∷ release 15 6 1 ∷ commit 15 1 ∷ commit 15 1 ∷ [])
     (run 0 true ∷ released ∷ released ∷ released ∷ released ∷ run 6 false ∷ run 0 false ∷ []) (hole 4 1 ∷ hole 2 1 ∷ [])
+    -- "remembers per length up to 128 an index"
+    ∷ onChoice 128 1
+    ∷ onChoice 129 0
     -- "if 4,096 holes are stored or the total would pass 65,536 pages"
     ∷ onGive 1 4095 4095 true
     ∷ onGive 1 4096 4096 false
@@ -136,6 +148,9 @@ rules =
     -- "others keep the chain's order"
     ∷ onNewHeap (take45 ∷ releaseBinChunks 45 15 (smalls (2051 ∷ 3 ∷ [])) (chunkWord 2 0 ∷ []) (9 ∷ 9 ∷ []) ∷ take45 ∷ [])
     (taken45 0 true ∷ fates (0 ∷ 9 ∷ []) ∷ taken 2 (smalls (3 ∷ 2051 ∷ []) ++ lent 62) false ∷ []) []
+    -- "treats groups in order": the second's page heads the partial list
+    ∷ onNewHeap (take45 ∷ take45 ∷ releaseBinChunks 45 15 (smalls (2051 ∷ 6147 ∷ [])) (chunkWord 1 0 ∷ chunkWord 1 1 ∷ []) (9 ∷ 9 ∷ []) ∷ take45 ∷ [])
+    (taken45 0 true ∷ taken45 4096 true ∷ fates (0 ∷ 0 ∷ []) ∷ taken 2 (smalls (2051 ∷ 6147 ∷ []) ++ lent 62) false ∷ []) []
     -- "last in first out", "the newest cold page"; virgin "from a cold page whose discard zeroed it": not with host word 7
     ∷ onNewHeap (map (λ q. take45) (below 6) ++ map (λ q. give45 15 (threeOf (q * 4096))) (5 ∷ 4 ∷ 3 ∷ 2 ∷ 1 ∷ []) ++ give45 7 (threeOf 0) ∷ map (λ q. take45) (below 6))
     (map (λ q. taken45 (q * 4096) true) (0 ∷ 1 ∷ 2 ∷ 3 ∷ 4 ∷ 5 ∷ []) ++ fate 0 ∷ fate 0 ∷ fate 0 ∷ fate 0 ∷ fate 1 ∷ fate 1 ∷ map (λ q. back45 (q * 4096)) (2 ∷ 3 ∷ 4 ∷ 5 ∷ []) ++ taken45 0 false ∷ taken45 4096 true ∷ []) []
