@@ -1,11 +1,11 @@
-//! What becomes of a page or span that is empty: 4 pages or 32 spans of at most 128 pages are kept, then 256 are cold, then the
-//! arena has it; and the order in which they come back.
+//! What becomes of a page or span that is empty: 4 pages or 32 spans of at most 128 pages are kept, then 256 are cold, then
+//! the arena has it; and the order in which they come back.
 
 use crate::heap::{Family, Heap, ALL, NO_DISCARD, NO_ZEROES};
 
 const PAGE_GRANULES: u32 = 4_096;
 
-/// Takes from a new heap that empty so many runs, and releases of each in turn, in the order that it was answered; the fates.
+/// So many runs taken whole from a new heap, then each released in turn, in the order that it was answered; the fates.
 fn fill_and_empty(heap: &mut Heap, family: Family, class: u32, runs: usize) -> Vec<u32> {
     let taken: Vec<Vec<u32>> = (0..runs).map(|_| all(heap, family, class)).collect();
     taken.iter().map(|blocks| heap.give(family, class, ALL, blocks).expect("a run's blocks")).collect()

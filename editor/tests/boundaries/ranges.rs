@@ -1,5 +1,5 @@
-//! Number 13: the highest value of a word's range passes, the next is refused. docs/RANGES.md has words and ranges; here they
-//! are written down again, as the library's own tables would err with it.
+//! Number 13: the highest value of a word's range passes, the next is refused. docs/RANGES.md has words and ranges; here
+//! they are written down once more, so that a range that is wrong everywhere else shows.
 
 use crate::heap::{Answer, Family, Heap, ALL};
 
