@@ -190,7 +190,7 @@ RULES = [
     Rule(
         "2,057 groups pass",
         heap=[
-            ("compare/src/words.rs", "MAX_GROUPS: usize = 2_056", "MAX_GROUPS: usize = 2_057"),
+            ("compare/src/words.rs", "MAX_CHUNKS: usize = 2_056", "MAX_CHUNKS: usize = 2_057"),
             ("heap.rs", "MAX_PAGE_RELEASE_GROUPS: usize = 2056;", "MAX_PAGE_RELEASE_GROUPS: usize = 2057;"),
         ],
         model=[(CHUNKS, "chunksMax = 2056", "chunksMax = 2057")],

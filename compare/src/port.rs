@@ -68,7 +68,7 @@ extern "C" {
         host: u32,
         list: *const u32,
         len: usize,
-        groups: *const u32,
+        chunks: *const u32,
         number: usize,
         fates: *mut u32,
         room: usize,
@@ -97,13 +97,13 @@ const ROOM: usize = 1 << 18;
 /// Where the lists of a call stand, each against an unmapped page.
 pub struct Room {
     list: Fenced,
-    groups: Fenced,
+    chunks: Fenced,
     lent: Fenced,
 }
 
 impl Room {
     pub fn new(fence: Fence) -> Room {
-        Room { list: Fenced::new(ROOM, fence), groups: Fenced::new(ROOM, fence), lent: Fenced::new(ROOM, fence) }
+        Room { list: Fenced::new(ROOM, fence), chunks: Fenced::new(ROOM, fence), lent: Fenced::new(ROOM, fence) }
     }
 }
 
@@ -132,10 +132,11 @@ pub fn ask(book: &mut [u32], room: &mut Room, call: &Call) -> Answer {
             let placed = placed(&mut room.list, list);
             only_read(release_blocks(book, *family, [*class, *host], placed), &[(placed, list)])
         }
-        Call::ReleaseChunks { class, host, list, groups, lent } => {
-            let (words, chunks) = (placed(&mut room.list, list), placed(&mut room.groups, groups));
-            let answer = release_chunks(book, [*class, *host], words, chunks, filled(&mut room.lent, lent), lent);
-            only_read(answer, &[(words, list), (chunks, groups)])
+        Call::ReleaseChunks { class, host, list, chunks, lent } => {
+            let (words, placed_chunks) = (placed(&mut room.list, list), placed(&mut room.chunks, chunks));
+            let answer =
+                release_chunks(book, [*class, *host], words, placed_chunks, filled(&mut room.lent, lent), lent);
+            only_read(answer, &[(words, list), (placed_chunks, chunks)])
         }
         Call::Commit { host, pages } => commit(book, *host, *pages),
         Call::Grow { host, first, old, new } => grow(book, *host, [*first, *old, *new]),
@@ -226,7 +227,7 @@ pub fn plain_release_chunks(
     book: &mut [u32],
     [class, host]: [u32; 2],
     list: &[u32],
-    groups: &[u32],
+    chunks: &[u32],
     fates: &mut [u32],
 ) -> u32 {
     // SAFETY: slices are lent for the call.
@@ -238,8 +239,8 @@ pub fn plain_release_chunks(
             host,
             list.as_ptr(),
             list.len(),
-            groups.as_ptr(),
-            groups.len(),
+            chunks.as_ptr(),
+            chunks.len(),
             fates.as_mut_ptr(),
             fates.len(),
         )
@@ -250,19 +251,19 @@ fn release_chunks(
     book: &mut [u32],
     class_and_host: [u32; 2],
     list: &[u32],
-    groups: &[u32],
+    chunks: &[u32],
     fates: &mut [u32],
     lent: &Lent,
 ) -> Answer {
-    let number = plain_release_chunks(book, class_and_host, list, groups, fates);
+    let number = plain_release_chunks(book, class_and_host, list, chunks, fates);
     let kept = |from: usize| fates[from..].iter().all(|&entry| entry == lent.fill);
     if number != 0 {
         return refusal(number, kept(0));
     }
-    if groups.len() > fates.len() || !kept(groups.len()) {
+    if chunks.len() > fates.len() || !kept(chunks.len()) {
         return Answer::Broken("an entry past the groups' fates changed, or the fate list is shorter".into());
     }
-    Answer::Fates(fates[..groups.len()].to_vec())
+    Answer::Fates(fates[..chunks.len()].to_vec())
 }
 
 /// What is returned, first page and fresh.

@@ -228,13 +228,13 @@ pub unsafe extern "C" fn vigbuso_release_bin_chunks(
     host: u32,
     blocks: *const u32,
     len: usize,
-    groups: *const u32,
+    chunks: *const u32,
     number: usize,
     fates: *mut u32,
     room: usize,
 ) -> u32 {
-    let (list, groups) = (list(blocks, len), list(groups, number));
-    let call = Call::ReleaseChunks { class, host, list, groups, lent: Lent { len: room, fill: 0 } };
+    let (list, chunks) = (list(blocks, len), list(chunks, number));
+    let call = Call::ReleaseChunks { class, host, list, chunks, lent: Lent { len: room, fill: 0 } };
     returned(ask(book, call), |answer| {
         let Answer::Fates(seen) = answer else { unreachable!("groups answer fates") };
         fates.copy_from(seen.as_ptr(), seen.len());

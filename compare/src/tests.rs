@@ -11,7 +11,7 @@ use crate::random::Random;
 use crate::reference::Reference;
 use crate::run;
 use crate::shrink::shrink;
-use crate::words::{block_word, group_word, Family, HOST_ALL};
+use crate::words::{block_word, chunk_word, Family, HOST_ALL};
 
 /// The original has one arena for the process.
 static ORIGINAL: Mutex<()> = Mutex::new(());
@@ -70,15 +70,15 @@ fn blocks_p6_to_p10() {
         answers(&[take(Family::Small, 45), release(45, &[2051, 1027, 3]), take(Family::Small, 45)]),
         [taken(three.clone(), true), Answer::Fate(0), taken(back, false)]
     );
-    let groups = Call::ReleaseChunks {
+    let chunks = Call::ReleaseChunks {
         class: 45,
         host: HOST_ALL,
         list: three.clone(),
-        groups: vec![group_word(3, 0)],
+        chunks: vec![chunk_word(3, 0)],
         lent: Lent { len: 1, fill: 9 },
     };
     assert_eq!(
-        answers(&[take(Family::Small, 45), groups, take(Family::Small, 45)]),
+        answers(&[take(Family::Small, 45), chunks, take(Family::Small, 45)]),
         [taken(three.clone(), true), Answer::Fates(vec![4]), taken(three, false)]
     );
     let spans = (0..10).map(|block| block_word(Family::Medium, 4 + block * 1_152)).collect();
