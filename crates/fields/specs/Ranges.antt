@@ -10,21 +10,9 @@ use mathlib.Core.List.{List}
 use mathlib.Core.Path.{_≡_}
 use lib.Dec.{leb, ltb}
 use lib.ListN.{length}
+use Rattle.words.specs.Limits.{holeSlots, holePagesMax}
+pub use Rattle.words.specs.Limits.{maxPages, maxParked}
 use Rattle.fields.specs.Field.{ArenaField, ClassField, HoleField, PageField, Field, arena, memory, class, hole, page, out, slot, size, state, frontier, holes, holePages, commits, commitsHigh, reuses, reusesHigh, abandoned, abandonedHigh, held, partial, empty, emptyCount, cold, coldCount, start, pages, owner, first, next, prev, free, carved, listed, virgin, tally, words, get}
-
--- document 01's limits
-abbrev pub maxPages : ℕ
-maxPages = 262144
-
-abbrev pub maxHoles : ℕ
-maxHoles = 4096
-
-abbrev pub maxHolePages : ℕ
-maxHolePages = 65536
-
--- the largest limit of a store, empty or cold, over all classes
-abbrev pub maxParked : ℕ
-maxParked = 256
 
 -- any value; 0 to n; m to n; 0 to n - 1; at most n with m more
 pub data Range : Type 0 where
@@ -45,8 +33,8 @@ abbrev pub arenaRange : List ℕ → ArenaField → Range
 arenaRange b size = between 1 maxPages
 arenaRange b state = upTo 2
 arenaRange b frontier = upTo (get b (arena size))
-arenaRange b holes = upTo maxHoles
-arenaRange b holePages = upTo maxHolePages
+arenaRange b holes = upTo holeSlots
+arenaRange b holePages = upTo holePagesMax
 arenaRange b commits = any
 arenaRange b commitsHigh = any
 arenaRange b reuses = any
@@ -79,7 +67,7 @@ pageRange capacity b p tally = any
 
 abbrev pub range : ℕ → List ℕ → Field → Range
 range capacity b (arena k) = arenaRange b k
-range capacity b (memory n) = upTo maxHoles
+range capacity b (memory n) = upTo holeSlots
 range capacity b (class k c) = classRange b k
 range capacity b (hole k i) = holeRange b i k
 range capacity b (page k p) = pageRange capacity b p k

@@ -1,8 +1,17 @@
 // The heap on plain values: definitions in specs/, theorems in proofs/.
-// The one type here is what the model shares with the code above it.
+// The types here are what the model shares with the code above it.
 
 // A run of free pages below the frontier.
 pub struct Hole {
     pub first: u32,
     pub pages: u32,
+}
+
+// A report's figures: three counts, pages held, idle pages.
+pub struct Figures {
+    pub commits: u64,
+    pub reuses: u64,
+    pub abandoned: u64,
+    pub held: u64,
+    pub idle: u64,
 }
