@@ -14,26 +14,31 @@ use mathlib.Core.Path.{_≡_, refl, sym, ap, _∙_, subst}
 use lib.Dec.{ltb, leb}
 use lib.ListN.{length, length-append}
 use borrow.Author.Tests.{lt-ltb, ltb-true, le-ltb, eq-eqb, ne-eqb, le-leb, lt-leb, leb-true}
+use Rattle.words.specs.Limits.{holeSlots, holePagesMax, rememberedMax}
 use Rattle.words.specs.Host.{reservationGranted, commitGranted}
 use Rattle.fields.specs.Field.{arena, state, frontier, holes, holePages, held, get, put, words}
 use Rattle.fields.proofs.Laws.{put-get}
 use Rattle.model.specs.declared.Hole.{Hole}
+use Rattle.model.specs.Lists.{isSome}
 use Rattle.model.specs.HoleStore as Model
 use Rattle.model.specs.HoleStore.{Memory, holeAt, lastHole, setAt, removeAt, lowest, refresh, remember, cutFrom, takeAt, accepts, append, Choice, chooseIn}
 use Rattle.model.specs.Arena as Arenas
 use Rattle.model.specs.Arena.{Arena, Status, ready, disabled, Given, give, drawFrom, draw, grant, commitReady, commitAs, commit}
+use Rattle.model.specs.Heap.{direct}
 use Rattle.model.proofs.Counts.{by-cases, and-l, and-r}
+use Rattle.model.proofs.HoleLists.{set-length}
+use Rattle.model.proofs.ArenaLaws.{give-frontier}
 use Rattle.arena.specs.declared.Arena.{Arena as Record}
 use Rattle.arena.specs.declared.Plan.{Plan}
 use Rattle.arena.specs.Load.{statusOf, statusCode, indexOf, indexCode, loadHole, loadHoles, recall, loadStore, loadArena}
 use Rattle.arena.specs.Store.{storeHole, storeStore, storeArena}
 use Rattle.arena.specs.Record.{recordOf, storeRecord, advanced, counted}
 use Rattle.arena.specs.Fair.{recordFair, memoryFair, holesFair, commitFair}
-use Rattle.arena.specs.Owners.{own}
+use Rattle.arena.specs.Owners.{ownerCode, own}
 use Rattle.arena.specs.Plan.{cutHoles, noPlan, planAt, planOf}
 use Rattle.arena.specs.Calls.{Committed, advance, committed, commitFor, given, grownBy, grownBook}
-use Rattle.arena.specs.Act.{rememberWord, recallWord, withState, withHoles, appendWords, giveWords, giveRecord, cutWords, usedWords, drawWords, drawRecord, forgetWord, endNone, endRun, endGiven, settle, fromFrontier, commitDrawn, commitPlanned, planned, commitRead, commitRecalled, commitActs, givenWith, giveActs, growWith, growActs, ranYes}
-use Rattle.arena.proofs.StoreLaws.{hole-length, loaded-length, loaded-last, removed-length, set-length, remember-twice, store-loaded, store-remembered, store-set, store-appended, store-removed}
+use Rattle.arena.specs.Act.{rememberWord, recallWord, withState, withHoles, appendWords, giveWords, giveRecord, cutWords, usedWords, drawWords, drawRecord, forgetWord, endNone, endRun, endGiven, settle, fromFrontier, commitDrawn, commitPlanned, planned, commitRead, commitRecalled, commitActs, givenWith, giveActs, growWith, growActs}
+use Rattle.arena.proofs.StoreLaws.{hole-length, loaded-length, loaded-last, removed-length, remember-twice, store-loaded, store-remembered, store-set, store-appended, store-removed}
 use Rattle.arena.proofs.Choice.{Choosing, empty, recalled, exact, longer, short, choosing, choice-of}
 use Rattle.arena.proofs.Frames.{isOwner, arena-changes, own-changes, own-twice}
 use Rattle.fields.proofs.Changes.{changes-none}
@@ -78,7 +83,7 @@ append-top m q a = rw length-append
 give-own : (n : ℕ) (b : List ℕ) → leb (words n) (length b) ≡ true → (m q : ℕ) (a : Arena) → Stands b (give m q a) (giveWords (storeStore b (a .store)) (summary a) m q) (giveRecord (summary a) m)
 unfolding give accepts giveWords appendWords giveRecord
 give-own n b hb m q a =
-    by-cases (ltb (length (a .store .holes)) 4096 && leb (a .store .total + m) 65536)
+    by-cases (ltb (length (a .store .holes)) holeSlots && leb (a .store .total + m) holePagesMax)
     (λ e. rw e (record {
       words = rw add-one (store-appended n b hb (a .store .holes) (a .store .total) (a .store .memory) m q (ltb-true _ _ (and-l _ _ e)));
       top = append-top m q a;
@@ -90,15 +95,11 @@ stands-give n b hb m q a x r k =
     let z = give-own n b hb m q a in
     record { words = z .words ∙ ap (λ y. giveWords y (summary a) m q) (k .words) ∙ ap (λ y. giveWords x y m q) (k .top); top = z .top ∙ ap (λ y. giveRecord y m) (k .top) }
 
-pub give-frontier : (m q : ℕ) (a : Arena) → give m q a .frontier ≡ a .frontier
-unfolding give
-give-frontier m q a = by-cases (accepts m (a .store)) (λ e. rw e) (λ e. rw e)
-
-pub give-few : (m q : ℕ) (a : Arena) → length (a .store .holes) ≤ 4096 → length (give m q a .store .holes) ≤ 4096
+pub give-few : (m q : ℕ) (a : Arena) → length (a .store .holes) ≤ holeSlots → length (give m q a .store .holes) ≤ holeSlots
 unfolding give accepts append
 give-few m q a l =
-    by-cases (ltb (length (a .store .holes)) 4096 && leb (a .store .total + m) 65536)
-    (λ e. rw (e, length-append) (let z = ltb-true (length (a .store .holes)) 4096 (and-l _ _ e) in omega arith))
+    by-cases (ltb (length (a .store .holes)) holeSlots && leb (a .store .total + m) holePagesMax)
+    (λ e. rw (e, length-append) (let z = ltb-true (length (a .store .holes)) holeSlots (and-l _ _ e) in omega arith))
     (λ e. rw e l)
 
 -- ---- the end of a commit
@@ -108,10 +109,10 @@ finish b g m w = record { code = 0; book = committed b g m w; run = g .run; fres
 held-kept : (b y : List ℕ) → get y (arena held) ≡ get b (arena held) → put y (arena held) (get b (arena held)) ≡ y
 held-kept b y e = rw (← e) (put-get y (arena held))
 
-held-stored : (b : List ℕ) (a : Arena) → length (a .store .holes) ≤ 4096 → get (storeArena b a) (arena held) ≡ get b (arena held)
+held-stored : (b : List ℕ) (a : Arena) → length (a .store .holes) ≤ holeSlots → get (storeArena b a) (arena held) ≡ get b (arena held)
 held-stored b a few = arena-changes b a few .kept (arena held) refl refl
 
-held-owned : (b : List ℕ) (a : Arena) (q m w : ℕ) → length (a .store .holes) ≤ 4096 → get (own (storeArena b a) q m w) (arena held) ≡ get b (arena held)
+held-owned : (b : List ℕ) (a : Arena) (q m w : ℕ) → length (a .store .holes) ≤ holeSlots → get (own (storeArena b a) q m w) (arena held) ≡ get b (arena held)
 held-owned b a q m w few = own-changes (storeArena b a) (storeArena b a) q m w (changes-none isOwner (storeArena b a)) .kept (arena held) refl refl ∙ held-stored b a few
 
 -- the frontier did not move, or it moved by m pages
@@ -128,7 +129,7 @@ advance-moved b a m e =
     rw z
 
 module _ (n : ℕ) (b : List ℕ) (hb : leb (words n) (length b) ≡ true) (m w : ℕ) where
-  pub ends-none : (a : Arena) (x : List ℕ) (r : Record) → Stands b a x r → length (a .store .holes) ≤ 4096 → a .frontier ≡ get b (arena frontier)
+  pub ends-none : (a : Arena) (x : List ℕ) (r : Record) → Stands b a x r → length (a .store .holes) ≤ holeSlots → a .frontier ≡ get b (arena frontier)
       → finish b (Arenas.given a none false) m w ≡ endNone x r
   unfolding committed endNone
   ends-none a x r k few e =
@@ -136,7 +137,7 @@ module _ (n : ℕ) (b : List ℕ) (hb : leb (words n) (length b) ≡ true) (m w 
       (rw (advance-still b a e) (held-kept b (storeArena b a) (held-stored b a few) ∙ stands-stored b a x r k))
 
   -- of a hole
-  pub ends-reuse : (a : Arena) (x : List ℕ) (r : Record) (q : ℕ) → Stands b a x r → length (a .store .holes) ≤ 4096 → a .frontier ≡ get b (arena frontier)
+  pub ends-reuse : (a : Arena) (x : List ℕ) (r : Record) (q : ℕ) → Stands b a x r → length (a .store .holes) ≤ holeSlots → a .frontier ≡ get b (arena frontier)
       → finish b (Arenas.given (Arenas.counted false a) (some q) false) m w ≡ endRun x r m q false w (get b (arena held))
   unfolding committed endRun
   ends-reuse a x r q k few e =
@@ -144,7 +145,7 @@ module _ (n : ℕ) (b : List ℕ) (hb : leb (words n) (length b) ≡ true) (m w 
       ap (λ y. record { code = 0; book = y; run = some q; fresh = false })
       (rw (advance-still b (Arenas.counted false a) e, z))
 
-  pub ends-reuse-given : (a : Arena) (x : List ℕ) (r : Record) (q : ℕ) → Stands b a x r → length (a .store .holes) ≤ 4096 → a .frontier ≡ get b (arena frontier)
+  pub ends-reuse-given : (a : Arena) (x : List ℕ) (r : Record) (q : ℕ) → Stands b a x r → length (a .store .holes) ≤ holeSlots → a .frontier ≡ get b (arena frontier)
       → finish b (Arenas.given (give m q a) none false) m w ≡ endGiven x r m q false
   unfolding committed endGiven
   ends-reuse-given a x r q k few e =
@@ -154,7 +155,7 @@ module _ (n : ℕ) (b : List ℕ) (hb : leb (words n) (length b) ≡ true) (m w 
       (held-kept b (storeArena b a′) (held-stored b a′ (give-few m q a few)) ∙ stands-stored b a′ _ _ (stands-give n b hb m q a x r k)))
 
   -- of the frontier
-  pub ends-fresh : (a : Arena) (x : List ℕ) (r : Record) → Stands b a x r → length (a .store .holes) ≤ 4096 → a .frontier ≡ get b (arena frontier) + m → a .frontier ≤ n
+  pub ends-fresh : (a : Arena) (x : List ℕ) (r : Record) → Stands b a x r → length (a .store .holes) ≤ holeSlots → a .frontier ≡ get b (arena frontier) + m → a .frontier ≤ n
       → finish b (Arenas.given (Arenas.counted true a) (some (get b (arena frontier))) true) m w ≡ endRun x r m (get b (arena frontier)) true w (get b (arena held))
   unfolding committed endRun
   ends-fresh a x r k few e l =
@@ -167,7 +168,7 @@ module _ (n : ℕ) (b : List ℕ) (hb : leb (words n) (length b) ≡ true) (m w 
         ← (held-owned b (Arenas.counted true a) q m w few),
       ) (rw z))
 
-  pub ends-fresh-given : (a : Arena) (x : List ℕ) (r : Record) → Stands b a x r → length (a .store .holes) ≤ 4096 → a .frontier ≡ get b (arena frontier) + m
+  pub ends-fresh-given : (a : Arena) (x : List ℕ) (r : Record) → Stands b a x r → length (a .store .holes) ≤ holeSlots → a .frontier ≡ get b (arena frontier) + m
       → finish b (Arenas.given (give m (get b (arena frontier)) a) none false) m w ≡ endGiven x r m (get b (arena frontier)) true
   unfolding committed endGiven
   ends-fresh-given a x r k few e =
@@ -178,7 +179,7 @@ module _ (n : ℕ) (b : List ℕ) (hb : leb (words n) (length b) ≡ true) (m w 
       (held-kept b (own (storeArena b a′) q m 0) (held-owned b a′ q m 0 (give-few m q a few)) ∙ ap (λ y. own y q m 0) (stands-stored b a′ _ _ (stands-give n b hb m q a x r k))))
 
 -- granted or not
-module _ (n : ℕ) (b : List ℕ) (hb : leb (words n) (length b) ≡ true) (m h w : ℕ) (a : Arena) (x : List ℕ) (r : Record) (k : Stands b a x r) (few : length (a .store .holes) ≤ 4096) where
+module _ (n : ℕ) (b : List ℕ) (hb : leb (words n) (length b) ≡ true) (m h w : ℕ) (a : Arena) (x : List ℕ) (r : Record) (k : Stands b a x r) (few : length (a .store .holes) ≤ holeSlots) where
   settles-reuse : (q : ℕ) → a .frontier ≡ get b (arena frontier) → finish b (grant h m a (some q) false) m w ≡ settle x r m q false h w (get b (arena held))
   unfolding grant settle
   settles-reuse q e = by-cases (commitGranted h) (λ t. rw t (ends-reuse n b hb m w a x r q k few e)) (λ t. rw t (ends-reuse-given n b hb m w a x r q k few e))
@@ -192,7 +193,7 @@ module _ (n : ℕ) (b : List ℕ) (hb : leb (words n) (length b) ≡ true) (m h 
   settles-at q e f l = rw e (settles-fresh (rw e at f) l)
 
 -- ---- a run from the holes
-module _ (n : ℕ) (b : List ℕ) (hb : leb (words n) (length b) ≡ true) (few : get b (arena holes) ≤ 4096) (m : ℕ) where
+module _ (n : ℕ) (b : List ℕ) (hb : leb (words n) (length b) ≡ true) (few : get b (arena holes) ≤ holeSlots) (m : ℕ) where
   HS : List Hole
   HS = loadHoles b 0 (get b (arena holes))
 
@@ -279,7 +280,7 @@ module _ (n : ℕ) (b : List ℕ) (hb : leb (words n) (length b) ≡ true) (few 
   top-used a i g l e =
       rw (e, le-ltb m m (omega arith), removed-HS i l)
 
-  few-drawn : (i : ℕ) (g : Memory) → i < length HS → length (takeAt m i (Model.store HS T g) .holes) ≤ 4096
+  few-drawn : (i : ℕ) (g : Memory) → i < length HS → length (takeAt m i (Model.store HS T g) .holes) ≤ holeSlots
   unfolding cutFrom
   few-drawn i g l =
       by-cases (ltb m (holeAt i HS .pages))
@@ -295,7 +296,7 @@ module _ (n : ℕ) (b : List ℕ) (hb : leb (words n) (length b) ≡ true) (few 
     unfolding settled drawFrom fromFrontier grant
     by-frontier g x k =
         let s : Stands b (Arenas.withStore (Model.store HS T g) a) x (summary (Arenas.withStore (Model.store HS T g) a)) = record { words = k; top = refl } in
-        let lf : length HS ≤ 4096 = rw length-HS few in
+        let lf : length HS ≤ holeSlots = rw length-HS few in
         by-cases (leb (a .frontier + m) n)
         (λ t. rw t (settles-at n b hb m h w _ x _ (stands-frontier b _ x _ s m) lf (a .frontier) fr refl (leb-true _ n t)))
         (λ t. rw t (ends-none n b hb m w _ x _ s lf fr))
@@ -356,7 +357,7 @@ module _ (n : ℕ) (b : List ℕ) (hb : leb (words n) (length b) ≡ true) (few 
 -- what the plan chose is what the model chooses
 recall-word : (b : List ℕ) (m : ℕ) → recall b m ≡ indexOf (recallWord b m)
 unfolding recallWord
-recall-word b m = by-cases (leb m 128) (λ e. rw e) (λ e. rw e)
+recall-word b m = by-cases (leb m rememberedMax) (λ e. rw e) (λ e. rw e)
 
 plan-fair : (hs : List Hole) (m : ℕ) (o : Option ℕ) → planAt hs m o .fair ≡ true
 unfolding planAt noPlan
@@ -376,8 +377,8 @@ planned-at b m e =
 pub record FairRecord (n : ℕ) (b : List ℕ) : Type 0 where
   pub state : get b (arena state) ≤ 2
   pub frontier : get b (arena frontier) ≤ n
-  pub holes : get b (arena holes) ≤ 4096
-  pub holePages : get b (arena holePages) ≤ 65536
+  pub holes : get b (arena holes) ≤ holeSlots
+  pub holePages : get b (arena holePages) ≤ holePagesMax
   pub held : get b (arena held) ≤ n
 
 pub fair-record : (n : ℕ) (b : List ℕ) → recordFair n b ≡ true → FairRecord n b
@@ -385,13 +386,13 @@ unfolding recordFair
 fair-record n b e =
     let e₁ = and-r (leb (get b (arena state)) 2) _ e in
     let e₂ = and-r (leb (get b (arena frontier)) n) _ e₁ in
-    let e₃ = and-r (leb (get b (arena holes)) 4096) _ e₂ in
+    let e₃ = and-r (leb (get b (arena holes)) holeSlots) _ e₂ in
     record {
       state = leb-true _ 2 (and-l _ _ e);
       frontier = leb-true _ n (and-l _ _ e₁);
-      holes = leb-true _ 4096 (and-l _ _ e₂);
-      holePages = leb-true _ 65536 (and-l _ _ e₃);
-      held = leb-true _ n (and-r (leb (get b (arena holePages)) 65536) _ e₃);
+      holes = leb-true _ holeSlots (and-l _ _ e₂);
+      holePages = leb-true _ holePagesMax (and-l _ _ e₃);
+      held = leb-true _ n (and-r (leb (get b (arena holePages)) holePagesMax) _ e₃);
     }
 
 cond-true : {A : Type 0} (c : Bool) (x y : A) → c ≡ true → cond c x y ≡ x
@@ -417,7 +418,7 @@ commit-acts n b hb h m w =
     (λ e. rw e)
 
 -- ---- giving
-few-loaded : (b : List ℕ) → get b (arena holes) ≤ 4096 → length (loadArena b .store .holes) ≤ 4096
+few-loaded : (b : List ℕ) → get b (arena holes) ≤ holeSlots → length (loadArena b .store .holes) ≤ holeSlots
 unfolding loadArena loadStore
 few-loaded b l = rw (loaded-length b 0 (get b (arena holes))) l
 
@@ -430,11 +431,11 @@ give-acts n b hb k q m =
 
 -- ---- growth
 pub record GrowsAs (n : ℕ) (b : List ℕ) (h e m : ℕ) : Type 0 where
-  pub book : grownBook b (Arenas.grow n h e m (loadArena b)) e m ≡ growActs n b h e m 77 .book
-  pub yes : Arenas.grow n h e m (loadArena b) .grew ≡ ranYes (growActs n b h e m 77 .run)
+  pub book : grownBook b (Arenas.grow n h e m (loadArena b)) e m ≡ growActs n b h e m (ownerCode direct) .book
+  pub yes : Arenas.grow n h e m (loadArena b) .grew ≡ isSome (growActs n b h e m (ownerCode direct) .run)
 
 -- the growth as a commit's end
-grown-given : (b : List ℕ) (e m : ℕ) (g : Arenas.Grown) → grownBook b g e m ≡ committed b (Arenas.given (g .arena) (grownBy (g .grew) e) (g .grew)) m 77
+grown-given : (b : List ℕ) (e m : ℕ) (g : Arenas.Grown) → grownBook b g e m ≡ committed b (Arenas.given (g .arena) (grownBy (g .grew) e) (g .grew)) m (ownerCode direct)
 unfolding grownBook committed
 grown-given b e m g = refl
 
@@ -452,20 +453,20 @@ module _ (n : ℕ) (b : List ℕ) (hb : leb (words n) (length b) ≡ true) (k : 
       let f = get b (arena frontier) in
       let few = few-loaded b (k .holes) in
       by-cases (commitGranted h)
-      (λ t. let z = ends-fresh n b hb m 77 A b (advanced m (recordOf b)) stands-A few refl l in
+      (λ t. let z = ends-fresh n b hb m (ownerCode direct) A b (advanced m (recordOf b)) stands-A few refl l in
       record {
         book = rw (eq-eqb f f refl, le-leb (f + m) n l, t) (grown-given b f m _ ∙ ap (λ y. y .book) z);
-        yes = rw (eq-eqb f f refl, le-leb (f + m) n l, t) (ap (λ y. ranYes (y .run)) z);
+        yes = rw (eq-eqb f f refl, le-leb (f + m) n l, t) (ap (λ y. isSome (y .run)) z);
       })
-      (λ t. let z = ends-fresh-given n b hb m 77 A b (advanced m (recordOf b)) stands-A few refl in
+      (λ t. let z = ends-fresh-given n b hb m (ownerCode direct) A b (advanced m (recordOf b)) stands-A few refl in
       record {
         book = rw (eq-eqb f f refl, le-leb (f + m) n l, t) (grown-given b f m _ ∙ ap (λ y. y .book) z);
-        yes = rw (eq-eqb f f refl, le-leb (f + m) n l, t) (ap (λ y. ranYes (y .run)) z);
+        yes = rw (eq-eqb f f refl, le-leb (f + m) n l, t) (ap (λ y. isSome (y .run)) z);
       })
 
-  unmoved : finish b (Arenas.given (loadArena b) none false) m 77 ≡ endNone b (recordOf b)
+  unmoved : finish b (Arenas.given (loadArena b) none false) m (ownerCode direct) ≡ endNone b (recordOf b)
   unfolding loadArena
-  unmoved = ends-none n b hb m 77 (loadArena b) b (recordOf b) (stands-loaded b (k .state)) (few-loaded b (k .holes)) refl
+  unmoved = ends-none n b hb m (ownerCode direct) (loadArena b) b (recordOf b) (stands-loaded b (k .state)) (few-loaded b (k .holes)) refl
 
   grows-full : n < get b (arena frontier) + m → GrowsAs n b h (get b (arena frontier)) m
   unfolding growActs growWith fromFrontier endNone Arenas.grow loadArena

@@ -3,7 +3,7 @@
 --     clamp-commit, clamp-grow    a run of more pages than any arena has may be counted as one page more than that
 --     commit-long    a commit of more pages than any arena has goes like every other one: no hole, no memory, no room
 -- Assumes nothing.
-use Prim.Native.Nat.{ℕ, zero, suc, _+_, _-_, _≤_, _<_}
+use Prim.Native.Nat.{ℕ, zero, suc, _+_, _≤_, _<_}
 use native.Mathlib.Omega.{arith}
 use mathlib.Core.Bool.{Bool, true, false, cond, false≢true}
 use mathlib.Core.List.{List, [], _∷_}
@@ -12,6 +12,8 @@ use mathlib.Core.Path.{_≡_, refl, sym, ap, _∙_, subst}
 use lib.Dec.{eqb, leb}
 use lib.ListN.{length}
 use borrow.Author.Tests.{leb-true, leb-false, lt-leb}
+use Rattle.words.specs.Limits.{rememberedMax}
+use Rattle.words.specs.Limits.{maxPages}
 use Rattle.fields.specs.Field.{arena, frontier, holes, holePages, held, get, words}
 use Rattle.model.specs.declared.Hole.{Hole}
 use Rattle.model.specs.Lists.{every}
@@ -89,10 +91,10 @@ plan-fits b m p e f d =
     (fits-planned b m (sym (planned-fair b m) ∙ ap (λ z. z .fair) (sym e) ∙ f) (λ y. d (ap (λ z. z .code) e ∙ y)))
 
 -- ---- a commit of more pages than any arena has
-module _ (n : ℕ) (b : List ℕ) (h w m : ℕ) (small : n ≤ 262144) (large : 262145 ≤ m) where
+module _ (n : ℕ) (b : List ℕ) (h w m : ℕ) (small : n ≤ maxPages) (large : maxPages + 1 ≤ m) where
   no-room : (a : Arena) → fromFrontier n (forgetWord b a m) a m h w (get b (arena held)) ≡ endNone b a
   unfolding fromFrontier forgetWord rememberWord
-  no-room a = rw (lt-leb (a .frontier + m) n (omega arith), lt-leb m 128 (omega arith)) (same-of (eqb (a .count) 0))
+  no-room a = rw (lt-leb (a .frontier + m) n (omega arith), lt-leb m rememberedMax (omega arith)) (same-of (eqb (a .count) 0))
     where
       same-of : (t : Bool) → endNone (cond t b b) a ≡ endNone b a
       same-of true = refl
@@ -110,7 +112,7 @@ module _ (n : ℕ) (b : List ℕ) (h w m : ℕ) (small : n ≤ 262144) (large : 
   fair-none = long-planned (recordOf b)
 
   long-fair : memoryFair b m ≡ true
-  long-fair = rw (lt-leb m 128 (omega arith))
+  long-fair = rw (lt-leb m rememberedMax (omega arith))
 
   long-acts : commitActs n b h m w ≡ cond (recordFair n b) (cond (holesFair b) (endNone b (withState (nextState (recordOf b .state) h) (recordOf b))) (commitRefused b 13)) (commitRefused b 13)
   unfolding commitActs commitRecalled commitRead
@@ -127,29 +129,29 @@ module _ (n : ℕ) (b : List ℕ) (h w m : ℕ) (small : n ≤ 262144) (large : 
       unfair true e = absurd (false≢true (sym e))
       unfair false e = refl
 
-pub commit-long : (n : ℕ) (b : List ℕ) → leb (words n) (length b) ≡ true → n ≤ 262144 → (h w m : ℕ) → 262145 ≤ m → commitFor n b h m w ≡ commitFor n b h 262145 w
+pub commit-long : (n : ℕ) (b : List ℕ) → leb (words n) (length b) ≡ true → n ≤ maxPages → (h w m : ℕ) → maxPages + 1 ≤ m → commitFor n b h m w ≡ commitFor n b h (maxPages + 1) w
 commit-long n b hb l h w m k =
-    sym (commit-acts n b hb h m w) ∙ long-acts n b h w m l k ∙ sym (long-acts n b h w 262145 l (omega arith)) ∙ commit-acts n b hb h 262145 w
+    sym (commit-acts n b hb h m w) ∙ long-acts n b h w m l k ∙ sym (long-acts n b h w (maxPages + 1) l (omega arith)) ∙ commit-acts n b hb h (maxPages + 1) w
 
-pub clamp-commit : (n : ℕ) (b : List ℕ) → leb (words n) (length b) ≡ true → n ≤ 262144 → (h w m : ℕ) → commitFor n b h (clamped m) w ≡ commitFor n b h m w
+pub clamp-commit : (n : ℕ) (b : List ℕ) → leb (words n) (length b) ≡ true → n ≤ maxPages → (h w m : ℕ) → commitFor n b h (clamped m) w ≡ commitFor n b h m w
 unfolding clamped
 clamp-commit n b hb l h w m =
-    by-cases (leb m 262144)
+    by-cases (leb m maxPages)
     (λ t. rw t)
-    (λ t. rw t (sym (commit-long n b hb l h w m (let z = leb-false m 262144 t in omega arith))))
+    (λ t. rw t (sym (commit-long n b hb l h w m (let z = leb-false m maxPages t in omega arith))))
 
 -- a growth by more pages than any arena has
-grow-long : (n : ℕ) (b : List ℕ) (h e w m : ℕ) → n ≤ 262144 → 262145 ≤ m → growActs n b h e m w ≡ cond (eqb (recordOf b .frontier) e) (endNone b (recordOf b)) (endNone b (recordOf b))
+grow-long : (n : ℕ) (b : List ℕ) (h e w m : ℕ) → n ≤ maxPages → maxPages + 1 ≤ m → growActs n b h e m w ≡ cond (eqb (recordOf b .frontier) e) (endNone b (recordOf b)) (endNone b (recordOf b))
 unfolding growActs growWith fromFrontier
 grow-long n b h e w m l k = rw (lt-leb (recordOf b .frontier + m) n (omega arith))
 
-pub clamp-grow : (n : ℕ) (b : List ℕ) → n ≤ 262144 → (h e w m : ℕ) → growActs n b h e (clamped m) w ≡ growActs n b h e m w
+pub clamp-grow : (n : ℕ) (b : List ℕ) → n ≤ maxPages → (h e w m : ℕ) → growActs n b h e (clamped m) w ≡ growActs n b h e m w
 unfolding clamped
 clamp-grow n b l h e w m =
-    by-cases (leb m 262144)
+    by-cases (leb m maxPages)
     (λ t. rw t)
-    (λ t. rw t (grow-long n b h e w 262145 l (omega arith) ∙ sym (grow-long n b h e w m l (let z = leb-false m 262144 t in omega arith))))
+    (λ t. rw t (grow-long n b h e w (maxPages + 1) l (omega arith) ∙ sym (grow-long n b h e w m l (let z = leb-false m maxPages t in omega arith))))
 
-pub clamped-le : (m : ℕ) → clamped m ≤ 262145
+pub clamped-le : (m : ℕ) → clamped m ≤ maxPages + 1
 unfolding clamped
-clamped-le m = by-cases (leb m 262144) (λ t. rw t (let z = leb-true m 262144 t in omega arith)) (λ t. rw t (omega arith))
+clamped-le m = by-cases (leb m maxPages) (λ t. rw t (let z = leb-true m maxPages t in omega arith)) (λ t. rw t (omega arith))

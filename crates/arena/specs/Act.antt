@@ -3,10 +3,11 @@
 -- be written, m a run's pages, q its first page, p what the plan found. Assumes nothing.
 use Prim.Native.Nat.{ℕ, zero, suc, _+_, _-_}
 use mathlib.Core.List.{List}
-use mathlib.Core.Option.{Option, none, some}
+use mathlib.Core.Option.{none, some}
 use mathlib.Core.Bool.{Bool, true, false, cond, _&&_}
 use mathlib.Core.Path.{_≡_}
 use lib.Dec.{eqb, leb, ltb}
+use Rattle.words.specs.Limits.{maxPages}
 use Rattle.words.specs.Host.{reservationGranted, commitGranted}
 use Rattle.fields.specs.Field.{arena, memory, frontier, held, get, put}
 use Rattle.model.specs.HoleStore as Model
@@ -50,7 +51,7 @@ giveRecord a m = cond (accepting m a) (withHoles (a .count + 1) (a .total + m) a
 
 -- the words x and the record r after it
 pub record Gives (b : List ℕ) (a : Arena) (m q : ℕ) (x : List ℕ) (r : Arena) : Type 0 where
-  pub left : x ≡ giveWords b a m q
+  pub book : x ≡ giveWords b a m q
   pub top : r ≡ giveRecord a m
 
 -- ---- a run from the chosen hole: its front is cut off, or the last hole comes into its place
@@ -69,7 +70,7 @@ unfoldable pub drawRecord : Arena → ℕ → Plan → Arena
 drawRecord a m p = cond (ltb m (p .pages)) (withHoles (a .count) (a .total - m) a) (withHoles (a .count - 1) (a .total - m) a)
 
 pub record Draws (b : List ℕ) (a : Arena) (m : ℕ) (p : Plan) (x : List ℕ) (r : Arena) : Type 0 where
-  pub left : x ≡ drawWords b m p
+  pub book : x ≡ drawWords b m p
   pub top : r ≡ drawRecord a m p
 
 -- no hole is long enough: none has just this length either
@@ -136,11 +137,6 @@ growWith n b a h e m w d = cond (eqb (a .frontier) e) (fromFrontier n b a m h w 
 unfoldable pub growActs : ℕ → List ℕ → ℕ → ℕ → ℕ → ℕ → Committed
 growActs n b h e m w = growWith n b (recordOf b) h e m w (get b (arena held))
 
--- was a run answered
-abbrev pub ranYes : Option ℕ → Bool
-ranYes none = false
-ranYes (some q) = true
-
 -- a page more than any arena has stands for every longer run
 unfoldable pub clamped : ℕ → ℕ
-clamped m = cond (leb m 262144) m 262145
+clamped m = cond (leb m maxPages) m (maxPages + 1)

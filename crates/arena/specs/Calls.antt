@@ -1,17 +1,18 @@
 -- The calls that go straight to the arena, on any words: the answer and the book afterwards, refusals included (document 01, "A run
 -- of pages" and "Numbers for a refused call"). n is the arena's length, h the host word. Each reads the model's arena from the words,
 -- does the model's step, and writes it back. Assumes nothing.
-use Prim.Native.Nat.{ℕ, zero, suc, _+_, _-_, _*_, _^_}
-use mathlib.Core.List.{List, [], _∷_}
+use Prim.Native.Nat.{ℕ, _+_, _-_}
+use mathlib.Core.List.{List}
 use mathlib.Core.Option.{Option, none, some}
-use mathlib.Core.Bool.{Bool, true, false, cond, not, _&&_, _||_}
-use lib.Dec.{eqb, leb, ltb}
-use Rattle.fields.specs.Field.{arena, page, owner, size, state, frontier, holes, holePages, held, commits, commitsHigh, reuses, reusesHigh, abandoned, abandonedHigh, get, put}
+use mathlib.Core.Bool.{Bool, true, false, cond, not, _&&_}
+use lib.Dec.{eqb, leb}
+use Rattle.fields.specs.Field.{arena, page, owner, frontier, held, get, put}
+use Rattle.model.specs.declared.Figures.{Figures}
 use Rattle.model.specs.Lists.{every, below}
-use Rattle.model.specs.Heap.{badRun, badGrowth, direct}
+use Rattle.model.specs.Heap.{badRun, badGrowth, direct, figuresWith}
 use Rattle.model.specs.Arena as Model
 use Rattle.model.specs.Arena.{Arena, Given, Grown}
-use Rattle.arena.specs.Load.{loadArena, wide}
+use Rattle.arena.specs.Load.{loadArena}
 use Rattle.arena.specs.Store.{storeArena}
 use Rattle.arena.specs.Fair.{recordFair, commitFair, giveFair}
 use Rattle.arena.specs.Owners.{ownerCode, own, ownFresh, ownRun, heldWith}
@@ -88,11 +89,9 @@ releaseCall n b q m =
 unfoldable pub containsCall : ℕ → List ℕ → ℕ → ℕ → Bool
 containsCall n b o k = Model.contains n o k (loadArena b)
 
--- the report's five figures: commits, reuses, abandoned, pages held, idle pages
-abbrev pub figures : ℕ → List ℕ → List ℕ
-figures n b =
-    wide b commits commitsHigh ∷ wide b reuses reusesHigh ∷ wide b abandoned abandonedHigh ∷ get b (arena held)
-    ∷ (get b (arena holePages) + (n - get b (arena frontier))) ∷ []
+-- a report's figures
+abbrev pub figures : ℕ → List ℕ → Figures
+figures n b = figuresWith n (loadArena b) (get b (arena held))
 
 unfoldable pub reportCode : ℕ → List ℕ → ℕ
 reportCode n b = cond (recordFair n b) 0 13

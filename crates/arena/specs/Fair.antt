@@ -2,7 +2,7 @@
 -- length. Assumes nothing.
 use Prim.Native.Nat.{ℕ, _+_}
 use mathlib.Core.List.{List}
-use mathlib.Core.Bool.{Bool, true, false, cond, _&&_}
+use mathlib.Core.Bool.{Bool, true, cond, _&&_}
 use lib.Dec.{leb}
 use Rattle.fields.specs.Field.{arena, memory, state, frontier, holes, holePages, held, get}
 use Rattle.model.specs.declared.Hole.{Hole}

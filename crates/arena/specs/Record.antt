@@ -1,11 +1,11 @@
 -- The arena's record: read from the words, changed in place. Assumes nothing.
 use Prim.Native.Nat.{ℕ, _+_}
 use mathlib.Core.List.{List}
-use mathlib.Core.Bool.{Bool, true, false, cond}
+use mathlib.Core.Bool.{Bool, cond}
 use Rattle.fields.specs.Field.{arena, state, frontier, holes, holePages, commits, commitsHigh, reuses, reusesHigh, abandoned, abandonedHigh, get}
+use Rattle.fields.specs.Wide.{getWide}
 use Rattle.model.specs.Arena.{more}
 use Rattle.arena.specs.declared.Arena.{Arena}
-use Rattle.arena.specs.Load.{wide}
 use Rattle.arena.specs.Store.{storeTop, storeCounts}
 
 abbrev pub recordOf : List ℕ → Arena
@@ -14,9 +14,9 @@ recordOf b = record {
   frontier = get b (arena frontier);
   count = get b (arena holes);
   total = get b (arena holePages);
-  commits = wide b commits commitsHigh;
-  reuses = wide b reuses reusesHigh;
-  abandoned = wide b abandoned abandonedHigh;
+  commits = getWide b commits commitsHigh;
+  reuses = getWide b reuses reusesHigh;
+  abandoned = getWide b abandoned abandonedHigh;
 }
 
 abbrev pub storeRecord : List ℕ → Arena → List ℕ

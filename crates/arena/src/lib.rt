@@ -25,3 +25,6 @@ pub struct Plan {
     // The lowest index and one, or 0, of the chosen hole's length, once its front is cut off.
     pub lowest: u32,
 }
+
+// OWNER of a page that the direct calls hold.
+pub const DIRECT: u32 = 77;

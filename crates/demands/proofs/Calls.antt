@@ -61,7 +61,7 @@ module _ (n : ℕ) (b : List ℕ) where
   unfolding openOn
   opens r = rw (fits-length n (length b) (r .some-pages) (r .few-pages) (r .long))
 
-  pub opened-by : Opens n b → openOn b n .meta ≡ opened n b
+  pub opened-by : Opens n b → openOn b n .book ≡ opened n b
   unfolding openOn
   opened-by o = rw (fault-of o)
 

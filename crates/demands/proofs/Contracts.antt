@@ -32,11 +32,12 @@ use Rattle.runs.specs.Answer as Runs
 use Rattle.runs.specs.Answer.{commitCode}
 use Rattle.direct.specs.Answer.{grownAs, growCode, reportOf}
 use Rattle.vigbuso.specs.Faults.{callFault}
-use Rattle.vigbuso.specs.Direct.{openOn, commitOn, firstOut, freshOut, grownOut, reportOn, ReportEnds}
+use Rattle.vigbuso.specs.Direct.{openOn, commitOn, noPage, firstOut, freshOut, grownOut, reportOn, figuresIn, ReportEnds}
 use Rattle.vigbuso.specs.Blocks.{codeOut, countOut, virginOut, releaseCode, fateOut}
-use Rattle.refinement.specs.Direct.{Reply, reply, reportedOf}
+use Rattle.refinement.specs.Direct.{Reply, reply}
+use Rattle.refinement.specs.Run.{repliesFrom}
 use Rattle.demands.specs.Call.{call}
-use Rattle.demands.specs.Run.{Opens, repliesFrom, run}
+use Rattle.demands.specs.Run.{Opens, run}
 use Rattle.demands.specs.Contracts.{runSeen, Shows, take-blocks, medium-take-blocks, release-blocks, medium-release-blocks, release-bin-chunks, commit, grow-frontier, release, contains, report, Trace, ends, calls}
 use Rattle.demands.proofs.Calls.{room-of}
 
@@ -69,7 +70,7 @@ module _ (b : List ℕ) where
   grow-read zero false g₀ = refl
   grow-read (suc k) y g₀ = rw (not-zero k)
 
-  commit-read : (k : ℕ) (q : Option ℕ) (f : Bool) (q₀ f₀ : ℕ) → ((p : ℕ) → k ≡ 0 → q ≡ some p → eqb p 4294967295 ≡ false)
+  commit-read : (k : ℕ) (q : Option ℕ) (f : Bool) (q₀ f₀ : ℕ) → ((p : ℕ) → k ≡ 0 → q ≡ some p → eqb p noPage ≡ false)
       → reply k (answerRun q f) b ≡ reply (commitCode (Runs.answerOf k q f)) (runSeen (firstOut (Runs.answerOf k q f) q₀) (freshOut (Runs.answerOf k q f) f₀)) b
   commit-read zero none f q₀ f₀ low = refl
   commit-read zero (some p) f q₀ f₀ low = rw (low p refl refl, is-one)
@@ -109,7 +110,7 @@ unfolding metaFault
 sized b u = room-of (get b (arena size)) b (eqb-true (metaFault b) 0 u) .few-pages
 
 -- ---- the calls
-commit-low : (b : List ℕ) (h m p : ℕ) → commitOn b h m .code ≡ 0 → commitOn b h m .run ≡ some p → eqb p 4294967295 ≡ false
+commit-low : (b : List ℕ) (h m p : ℕ) → commitOn b h m .code ≡ 0 → commitOn b h m .run ≡ some p → eqb p noPage ≡ false
 unfolding commitOn commitCall commitFor callFault
 commit-low b h m p c e =
     by-cases (eqb (metaFault b) 0)
@@ -117,11 +118,11 @@ commit-low b h m p c e =
     by-cases (badRun m) (λ w. absurd (none-some (rw (u, v, w) at e))) (λ w.
     by-cases (commitFair (get b (arena size)) b m)
     (λ x. let z : p ≤ get b (arena size) = run-low (get b (arena size)) b m x (commits (get b (arena size)) h m (loadArena b)) p (rw (u, v, w, x) at e) in
-    ne-eqb p 4294967295 (λ y. omega (arith, y, z, sized b u)))
+    ne-eqb p noPage (λ y. omega (arith, y, z, sized b u)))
     (λ x. absurd (none-some (rw (u, v, w, x) at e))))))
     (λ u. absurd (none-some (rw (u, u) at e)))
 
-report-says : (b fs fs′ : List ℕ) (r : ℕ) → ReportEnds (reportOn b) r fs fs′ → reply r (reportedOf fs′) b ≡ call b Calls.report
+report-says : (b fs fs′ : List ℕ) (r : ℕ) → ReportEnds (reportOn b) r fs fs′ → reply r (Calls.reported (figuresIn fs′)) b ≡ call b Calls.report
 unfolding call reportOn reportOf
 report-says b fs fs′ r e =
     rw (e .code, e .figures)
@@ -142,9 +143,9 @@ shows-call (release h q m r b′ e) = rw (e .code, e .book)
 shows-call (contains o k r e) = rw (e, is-one)
 shows-call {b} (report r fs fs′ e) = report-says b fs fs′ r e
 
-trace-replies : {b : List ℕ} {xs : List Call} {ws : List Reply} → Trace b xs ws → ws ≡ repliesFrom b xs
+trace-replies : {b : List ℕ} {xs : List Call} {ws : List Reply} → Trace b xs ws → ws ≡ repliesFrom call b xs
 trace-replies (ends b) = refl
-trace-replies (calls b x w xs ws s t) = ap₂ _∷_ (shows-call s) (trace-replies t ∙ ap (λ (v : Reply). repliesFrom (v .book) xs) (shows-call s))
+trace-replies (calls b x w xs ws s t) = ap₂ _∷_ (shows-call s) (trace-replies t ∙ ap (λ (v : Reply). repliesFrom call (v .book) xs) (shows-call s))
 
 pub trace-run : (n : ℕ) (b b′ : List ℕ) (xs : List Call) (ws : List Reply) → Did 0 b′ (openOn b n) → Trace b′ xs ws → Opens n b × (ws ≡ run n b xs)
-trace-run n b b′ xs ws d t = (sym (d .answer), trace-replies t ∙ ap (λ (m : List ℕ). repliesFrom m xs) (d .left))
+trace-run n b b′ xs ws d t = (sym (d .answer), trace-replies t ∙ ap (λ (m : List ℕ). repliesFrom call m xs) (d .book))

@@ -42,7 +42,7 @@ use Rattle.demands.proofs.Ranges.{record-strays, commit-strays, give-st
 use Rattle.demands.proofs.RefusalsLaws.{not-and, le-not-lt, Ends, ends, turn, unless, book-turn, chain, choose, before}
 
 -- ---- opening
-pub open-table : (b : List ℕ) (n : ℕ) → Ends {R = Outcome} (λ o. o .code) (λ o. o .meta ≡ b) (openTable b n) (openOn b n)
+pub open-table : (b : List ℕ) (n : ℕ) → Ends {R = Outcome} (λ o. o .code) (λ o. o .book ≡ b) (openTable b n) (openOn b n)
 unfolding openOn
 open-table b n = book-turn _ _ _ (λ k. Fields.ends k b) _ (λ k. refl) (λ k. refl) (ends _ _ _ refl) n b
 

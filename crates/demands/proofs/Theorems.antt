@@ -17,9 +17,9 @@ use Rattle.arena.specs.Load.{loadArena}
 use Rattle.vigbuso.specs.Direct.{openOn}
 use Rattle.refinement.specs.Represents.{Represents}
 use Rattle.refinement.specs.Direct.{Reply}
-use Rattle.refinement.specs.Run.{callReply, answersIn}
+use Rattle.refinement.specs.Run.{callReply, repliesFrom, answersIn}
 use Rattle.demands.specs.Call.{call}
-use Rattle.demands.specs.Run.{Opens, Room, repliesFrom, run, bookAfter, next, told}
+use Rattle.demands.specs.Run.{Opens, Room, run, bookAfter, next, told}
 use Rattle.demands.specs.Contracts.{Shows, Trace}
 use Rattle.demands.specs.Demands.{Demand2, Demand3}
 use Rattle.demands.proofs.Calls as Calls
@@ -42,7 +42,7 @@ pub opens-exactly : (n : ℕ) (b : List ℕ) → Opens n b ↔ Room n b
 opens-exactly n b = (Calls.room n b, Calls.opens n b)
 
 -- every call of a history is a call on the book that the calls before it left
-pub run-calls : (n : ℕ) (b : List ℕ) (xs : List Call) (x : Call) (ys : List Call) → run n b (xs ++ x ∷ ys) ≡ run n b xs ++ (next n b xs x ∷ repliesFrom (next n b xs x .book) ys)
+pub run-calls : (n : ℕ) (b : List ℕ) (xs : List Call) (x : Call) (ys : List Call) → run n b (xs ++ x ∷ ys) ≡ run n b xs ++ (next n b xs x ∷ repliesFrom call (next n b xs x .book) ys)
 run-calls = Histories.run-calls
 
 -- on a book that stands for a heap, a call is the refinement's

@@ -10,27 +10,30 @@ use lib.ListN.{length, set, length-set}
 use mir.Val.{Fits}
 use mir.Syntax.{w32, w64}
 use borrow.Author.Tests.{lt-ltb, le-leb, lt-leb, leb-true, leb-false, eq-eqb, ne-eqb}
+use Rattle.words.specs.Limits.{maxPages}
 use Rattle.words.specs.Host.{commitGranted}
 use Rattle.fields.specs.Field.{arena, state, held, get}
-use Rattle.model.specs.Heap.{badRun, badGrowth}
+use Rattle.model.specs.declared.Figures.{Figures}
+use Rattle.model.specs.Lists.{isSome}
+use Rattle.model.specs.Heap.{badRun, badGrowth, direct}
 use Rattle.model.specs.Arena as Model
 use Rattle.model.proofs.Counts.{by-cases, and-l}
 use Rattle.arena.specs.declared.Arena.{Arena}
 use Rattle.runs.specs.declared.Commit.{Commit}
 use Rattle.runs.specs.declared.Commit.the-variants.{Refused}
 use Rattle.direct.specs.declared.Grow.{Grow}
-use Rattle.direct.specs.declared.Figures.{Figures}
 use Rattle.direct.specs.declared.Report.{Report}
 use Rattle.direct.specs.declared.Report.the-variants.{Told}
-use Rattle.arena.specs.Load.{statusOf, loadArena}
+use Rattle.arena.specs.Load.{statusOf, loadStore, loadArena}
+use Rattle.arena.specs.Owners.{ownerCode}
 use Rattle.arena.specs.Record.{recordOf}
 use Rattle.arena.specs.Fair.{recordFair, giveFair}
 use Rattle.arena.specs.Open.{cleared, headWords}
-use Rattle.arena.specs.Calls.{commitFor, commitCall, given, heldDirect, releaseCall, growCall, containsCall}
-use Rattle.arena.specs.Act.{endNone, endRun, endGiven, settle, fromFrontier, growWith, growActs, ranYes, clamped}
+use Rattle.arena.specs.Calls.{commitFor, commitCall, given, heldDirect, releaseCall, growCall, containsCall, figures}
+use Rattle.arena.specs.Act.{endNone, endRun, endGiven, settle, fromFrontier, growWith, growActs, clamped}
 use Rattle.runs.specs.Asks.{GiveIn, BookIn}
 use Rattle.runs.specs.Answer.{answerOf, Answers}
-use Rattle.direct.specs.Answer.{grownAs, growCommit, Grew, Grows, fairGrow, Releases, heldRelease, figuresOf, reportOf}
+use Rattle.direct.specs.Answer.{grownAs, growCommit, Grew, Grows, fairGrow, Releases, heldRelease, reportOf}
 use Rattle.arena.proofs.Acts.{fair-record, grow-acts}
 use Rattle.arena.proofs.PlanLaws.{clamp-commit, clamp-grow, clamped-le}
 
@@ -57,15 +60,15 @@ module _ (old new : ℕ) where
   pub bad-less : (t u : Bool) → t ≡ badRun old → t ≡ false → u ≡ badRun new → u ≡ false → leb new old ≡ badGrowth old new
   bad-less t u e v f w = rw (← e, v, ← f, w)
 
-pub clamp-long : (m : ℕ) → 262144 < m → 262145 ≡ clamped m
+pub clamp-long : (m : ℕ) → maxPages < m → (maxPages + 1) ≡ clamped m
 unfolding clamped
-clamp-long m l = rw (lt-leb m 262144 l)
+clamp-long m l = rw (lt-leb m maxPages l)
 
-pub clamp-is : (m : ℕ) → m ≤ 262144 → m ≡ clamped m
+pub clamp-is : (m : ℕ) → m ≤ maxPages → m ≡ clamped m
 unfolding clamped
-clamp-is m l = rw (le-leb m 262144 l)
+clamp-is m l = rw (le-leb m maxPages l)
 
-pub clamped-fits : (m r : ℕ) → r ≡ clamped m → r ≤ 262145
+pub clamped-fits : (m r : ℕ) → r ≡ clamped m → r ≤ (maxPages + 1)
 clamped-fits m r e = rw e (clamped-le m)
 
 pub growth-more : (old new : ℕ) (t : Bool) → t ≡ badGrowth old new → t ≡ false → old ≤ new
@@ -132,10 +135,11 @@ module _ (n : ℕ) (b : List ℕ) where
   figures-below a t e = let z = fair-record n b t in let y : a .frontier ≡ recordOf b .frontier = ap (λ x. x .frontier) e in let x = z .frontier in omega arith
 
   pub figures-are : (a : Arena) (d : ℕ) → a ≡ recordOf b → d ≡ get b (arena held)
-      → record { commits = a .commits; reuses = a .reuses; abandoned = a .abandoned; held = d; idle = a .total + (n - a .frontier) } ≡ figuresOf n b
+      → record { commits = a .commits; reuses = a .reuses; abandoned = a .abandoned; held = d; idle = a .total + (n - a .frontier) } ≡ figures n b
+  unfolding loadArena loadStore
   figures-are a d e f = rw (e, f)
 
-  pub told : (t : Bool) (r : Figures) → t ≡ recordFair n b → t ≡ true → r ≡ figuresOf n b → Told r ≡ reportOf n b
+  pub told : (t : Bool) (r : Figures) → t ≡ recordFair n b → t ≡ true → r ≡ figures n b → Told r ≡ reportOf n b
   unfolding reportOf
   told t r e v f = rw (← e, v, f)
 
@@ -188,18 +192,18 @@ module _ (n : ℕ) (b : List ℕ) (q m : ℕ) where
 
 -- ---- growth
 module _ (n : ℕ) (b : List ℕ) (h e m : ℕ) where
-  grow-as : (c : ℕ) (r : Option ℕ) (f : Bool) → growCommit (answerOf c r f) ≡ grownAs c (ranYes r)
+  grow-as : (c : ℕ) (r : Option ℕ) (f : Bool) → growCommit (answerOf c r f) ≡ grownAs c (isSome r)
   grow-as zero none f = refl
   grow-as zero (some q) f = refl
   grow-as (suc c) r f = refl
 
-  pub grows-held : (a : Arena) (d : ℕ) (c : Commit) (r : Grow) (x : List ℕ) → a ≡ recordOf b → d ≡ get b (arena held) → Answers c x (growWith n b a h e m 77 d) → r ≡ growCommit c → Grows r x (growActs n b h e m 77)
+  pub grows-held : (a : Arena) (d : ℕ) (c : Commit) (r : Grow) (x : List ℕ) → a ≡ recordOf b → d ≡ get b (arena held) → Answers c x (growWith n b a h e m (ownerCode direct) d) → r ≡ growCommit c → Grows r x (growActs n b h e m (ownerCode direct))
   unfolding growActs
   grows-held a d c r x f g k s =
-      let o = growWith n b a h e m 77 d in
+      let o = growWith n b a h e m (ownerCode direct) d in
       rw (← f, ← g) (record { answer = s ∙ ap growCommit (k .answer) ∙ grow-as (o .code) (o .run) (o .fresh); book = k .book })
 
-  pub grows-fair : (t : Bool) (r : Grow) (x : List ℕ) → t ≡ recordFair n b → t ≡ true → Grows r x (growActs n b h e m 77) → Grows r x (fairGrow n b h e m)
+  pub grows-fair : (t : Bool) (r : Grow) (x : List ℕ) → t ≡ recordFair n b → t ≡ true → Grows r x (growActs n b h e m (ownerCode direct)) → Grows r x (fairGrow n b h e m)
   unfolding fairGrow
   grows-fair t r x f v k = rw (← f, v) k
 
@@ -207,7 +211,7 @@ module _ (n : ℕ) (b : List ℕ) (h e m : ℕ) where
   unfolding fairGrow
   grows-unfair t f v = rw (← f, v) (record { answer = refl; book = refl })
 
-  grow-code : growActs n b h e m 77 .code ≡ 0
+  grow-code : growActs n b h e m (ownerCode direct) .code ≡ 0
   unfolding growActs growWith fromFrontier endNone settle endRun endGiven
   grow-code =
       by-cases (eqb (recordOf b .frontier) e)
@@ -230,7 +234,7 @@ module _ (n : ℕ) (b : List ℕ) (h q old new : ℕ) where
   unfolding growCall fairGrow
   grow-held t u m r x k e v f w g y =
       by-cases (recordFair n b)
-      (λ z. let i = rw (z, g, clamp-grow n b (k .small) h (q + old) 77 (new - old)) at y in
+      (λ z. let i = rw (z, g, clamp-grow n b (k .small) h (q + old) (ownerCode direct) (new - old)) at y in
       let j = grow-acts n b (le-leb _ _ (k .long)) (fair-record n b z) h (new - old) (q + old) in
       rw (← e, v, ← f, w, z) (record { answer = i .answer ∙ rw (grow-code n b h (q + old) (new - old), j .yes); book = i .book ∙ sym (j .book) }))
       (λ z. let i = rw z at y in
@@ -242,7 +246,7 @@ module _ (n : ℕ) (b : List ℕ) (h m : ℕ) where
   unfolding commitCall
   commit-bad t e v = rw (← e, v) (record { answer = refl; book = refl })
 
-  pub commit-goes : (t : Bool) (r : ℕ) (s : Commit) (x : List ℕ) → BookIn b n → t ≡ badRun m → t ≡ false → r ≡ clamped m → Answers s x (commitFor n b h r 77) → Answers s x (commitCall n b h m)
+  pub commit-goes : (t : Bool) (r : ℕ) (s : Commit) (x : List ℕ) → BookIn b n → t ≡ badRun m → t ≡ false → r ≡ clamped m → Answers s x (commitFor n b h r (ownerCode direct)) → Answers s x (commitCall n b h m)
   unfolding commitCall
   commit-goes t r s x k e v f a =
-      rw (← e, v) (rw (f, clamp-commit n b (le-leb _ _ (k .long)) (k .small) h 77 m) at a)
+      rw (← e, v) (rw (f, clamp-commit n b (le-leb _ _ (k .long)) (k .small) h (ownerCode direct) m) at a)

@@ -6,14 +6,13 @@
 use Prim.Native.Nat.{ℕ, zero, suc, _+_, _-_, _*_, _/_, _%_, _^_, _≤_, _<_}
 use native.Mathlib.Omega.{arith}
 use native.Mathlib.Nat.{le-refl, one-mul, mod-one, mod-eq-of-lt, div-one}
-use native.Mathlib.Numerals.{add-one}
 use mathlib.Core.List.{List}
 use mathlib.Core.Path.{_≡_, refl, sym, ap, _∙_}
 use lib.Bits.{bitAnd, bitOr, or-add-and, and-high}
 use lib.ListN.{length, getD, set}
 use lib.Pow.{pow-pos, pow-add, pow-mono, ones-lt, high-ones, shl-exact, shr-shr, mod-pow-add, recompose}
-use lib.Seq.{lt-length-set, getD-set-same, set-getD, set-set}
-use Rattle.fields.specs.Field.{bits, place, out, slot, put, get}
+use lib.Seq.{getD-set-same, set-getD, set-set}
+use Rattle.fields.specs.Field.{bits, place, out, slot, put}
 use Rattle.fields.specs.Mark.{markOut}
 use Rattle.fields.proofs.Parts.{below, read-le, read-place-other}
 use Rattle.fields.proofs.Shifts.{one-shl}

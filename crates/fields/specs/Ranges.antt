@@ -8,15 +8,8 @@ use mathlib.Core.List.{List}
 use mathlib.Core.Path.{_≡_}
 use lib.Dec.{eqb, leb, ltb}
 use lib.ListN.{length}
+pub use Rattle.words.specs.Limits.{maxPages, maxParked}
 use Rattle.fields.specs.Field.{arena, size, words, get}
-
--- the longest arena
-abbrev pub maxPages : ℕ
-maxPages = 262144
-
--- the largest limit of a store, empty or cold, over all classes
-abbrev pub maxParked : ℕ
-maxParked = 256
 
 -- any value; 0 to n; m to n; n alone; 0 to n - 1; at most n with m more; a code whose run of m pages ends at n or below
 pub data Range : Type 0 where

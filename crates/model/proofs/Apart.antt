@@ -8,6 +8,7 @@ use native.Mathlib.Omega.{arith}
 use native.Mathlib.Nat.{zero-add, mul-le-mul-right}
 use lib.Dec.{eqb, leb, ltb}
 use borrow.Author.Tests.{leb-true, leb-false, ltb-true, ltb-false, eqb-true, eq-eqb}
+use Rattle.words.specs.Limits.{maxPages}
 use Rattle.words.specs.Word.{granuleOf}
 use Rattle.classes.specs.declared.Shape.{Shape}
 use Rattle.classes.specs.Shape.{shapeOf}
@@ -21,7 +22,7 @@ use Rattle.model.specs.Heap.{Heap}
 use Rattle.model.specs.History.{events, heapAfter}
 use Rattle.model.specs.Entries.{Entry, HasByte, In, Live, firstByte, blockBytes}
 use Rattle.model.specs.Ledger.{heldBy}
-use Rattle.model.specs.Demands.{arenaMax, Disjoint, IsoDisjoint}
+use Rattle.model.specs.Demands.{Disjoint, IsoDisjoint}
 use Rattle.model.proofs.Counts.{by-cases, total-append}
 use Rattle.model.proofs.ArenaLaws.{above-at, covers-in}
 use Rattle.model.proofs.Pages.{all-append, outOf, on, GoodPage, words-once}
@@ -55,7 +56,7 @@ module _ (sh : Shape) (ok : Sound sh) where
       let r = which (p .first) (p .carved) w (omega arith) in
       record { index = r .0; inside = omega (arith, r .1, good .within); names = r .2 }
 
-  module _ (p : Page) (w : ℕ) (low : p .first + sh .pages ≤ arenaMax) (s : Sits p w) where
+  module _ (p : Page) (w : ℕ) (low : p .first + sh .pages ≤ maxPages) (s : Sits p w) where
     ends : sh .header + (s .index * sh .block + sh .block) ≤ sh .pages * pageGranules
     ends = omega (arith, mul-le-mul-right (sh .block) (s .inside), ok .fits)
 
@@ -66,7 +67,7 @@ module _ (sh : Shape) (ok : Sound sh) where
     on-page : (b : ℕ) → Bytes w b → on sh (b / pageBytes) p ≡ 1
     on-page b h = covers-in (sh .pages) (p .first) (b / pageBytes) (omega (arith, granule, h .from)) (omega (arith, granule, ends, h .to))
 
-  one-word : (p : Page) (w v b : ℕ) → p .first + sh .pages ≤ arenaMax → Sits p w → Sits p v → Bytes w b → Bytes v b → w ≡ v
+  one-word : (p : Page) (w v b : ℕ) → p .first + sh .pages ≤ maxPages → Sits p w → Sits p v → Bytes w b → Bytes v b → w ≡ v
   one-word p w v b low s t hw hv =
       let gw = granule p w low s in
       let gv = granule p v low t in
@@ -91,7 +92,7 @@ module _ (sh : Shape) (ok : Sound sh) where
       (λ e. inr (outs-sit ps w (good .1) (omega (arith, leb-false 1 (outOf sh w p) e))))
 
   -- the pages stand in an arena of this length
-  module _ (size : ℕ) (small : size ≤ arenaMax) where
+  module _ (size : ℕ) (small : size ≤ maxPages) where
     abbrev Low : List Page → Type 0
     Low ps = (y : ℕ) → 1 ≤ total (on sh y) ps → y < size
 
@@ -103,7 +104,7 @@ module _ (sh : Shape) (ok : Sound sh) where
     low-rest : (p : Page) (ps : List Page) → Low (p ∷ ps) → Low ps
     low-rest p ps low y h = low y (omega arith)
 
-    abbrev low : (p : Page) (ps : List Page) → Low (p ∷ ps) → p .first + sh .pages ≤ arenaMax
+    abbrev low : (p : Page) (ps : List Page) → Low (p ∷ ps) → p .first + sh .pages ≤ maxPages
     low p ps k = omega (arith, low-page p ps k)
 
     covered : (ps : List Page) (w b : ℕ) → Low ps → InPages ps w → Bytes w b → 1 ≤ total (on sh (b / pageBytes)) ps
@@ -156,7 +157,7 @@ module _ (f : Entry → ℕ) where
 at-self : (e : Entry) → at (e .call) (e .place) e ≡ 1
 at-self e = rw (eq-eqb (e .call) (e .call) refl, eq-eqb (e .place) (e .place) refl)
 
-module _ (size n : ℕ) (H : Heap) (es : List Entry) (f : ℕ → Bool) (l : ℕ → ℕ) (inv : Inv size n H es f l) (small : size ≤ arenaMax) where
+module _ (size n : ℕ) (H : Heap) (es : List Entry) (f : ℕ → Bool) (l : ℕ → ℕ) (inv : Inv size n H es f l) (small : size ≤ maxPages) where
   -- the pages of class c with blocks out
   abbrev pagesOf : ℕ → List Page
   pagesOf c = H .classes c .partial ++ H .classes c .full
@@ -225,7 +226,7 @@ module _ (size n : ℕ) (H : Heap) (es : List Entry) (f : ℕ → Bool) (l : ℕ
       let h : HasByte e (firstByte e) = record { from = omega arith; to = omega (arith, shape-sound (e .class) .wide) } in
       (firstByte e, h, subst (λ z. HasByte z (firstByte e)) same h)
 
-module _ (size : ℕ) (small : size ≤ arenaMax) (xs : List Call) where
+module _ (size : ℕ) (small : size ≤ maxPages) (xs : List Call) where
   live : (e : Entry) → Live 0 (events size xs) e → In e (liveFrom 0 [] (events size xs))
   live e o = live-in 0 e [] (events size xs) o
 

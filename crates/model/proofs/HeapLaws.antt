@@ -17,7 +17,7 @@ use Rattle.model.specs.Class.{Class, Result, Ask, serve}
 use Rattle.model.specs.Chunks.{answer}
 use Rattle.model.specs.Arena as Arenas
 use Rattle.model.specs.Arena.{Arena, Given, giveAll}
-use Rattle.model.specs.Heap.{Heap, Holder, Outcome, newHeap, isDirect, isHeld, heldDirect, offer, finish, interact, classCall, asked, step, route, directCall, commitCall, growCall, releaseCall, reportOf, answerRun, unchanged}
+use Rattle.model.specs.Heap.{Heap, Holder, Outcome, newHeap, isDirect, isHeld, heldDirect, offer, finish, interact, classCall, asked, step, route, directCall, commitCall, growCall, releaseCall, answerRun, unchanged}
 use Rattle.model.specs.History.{eventsFrom, heapFrom}
 use Rattle.model.specs.Entries.{Entry, entriesFrom, hasWord, directNext, directFrom, runOf}
 use Rattle.model.specs.Ledger.{inHoles, above, runsWith, heldBy, abandons, allAbandon, commitAbandons, growAbandons, offerAbandons, classAbandons, directAbandons, callAbandons, abandonedFrom}
@@ -244,7 +244,7 @@ module _ (size n : ℕ) (H : Heap) (es : List Entry) (f : ℕ → Bool) (l : ℕ
       }
 
   direct-next : (x : Call) → Next x (directCall size H x)
-  unfolding directCall reportOf
+  unfolding directCall
   direct-next (Calls.takeBlocks c h ws) = next-same _ _ (λ y. refl) (λ y. refl)
   direct-next (Calls.mediumTakeBlocks c h ws) = next-same _ _ (λ y. refl) (λ y. refl)
   direct-next (Calls.releaseBlocks c h ws) = next-same _ _ (λ y. refl) (λ y. refl)

@@ -3,7 +3,7 @@ use Prim.Native.Nat.{ℕ, _+_, _-_, _≤_}
 use mathlib.Core.Path.{_≡_, refl}
 use mathlib.Core.List.{List, [], _∷_}
 use mathlib.Core.Option.{Option, none, some}
-use mathlib.Core.Bool.{Bool, true, false, cond, _||_, true≢false}
+use mathlib.Core.Bool.{Bool, true, false, cond, true≢false}
 use native.Mathlib.Omega.{arith}
 use lib.Dec.{eqb, leb}
 use borrow.Author.Tests.{eqb-false, leb-false}
@@ -13,7 +13,6 @@ use Rattle.classes.proofs.Shapes.{shape-sound}
 use Rattle.model.specs.Lists.{total, below}
 use Rattle.model.specs.Calls as Calls
 use Rattle.model.specs.Calls.{Call, Request, Way, turned, straight, toClass, wayOf, hostOf}
-use Rattle.model.specs.Arena as Arenas
 use Rattle.model.specs.Arena.{Arena}
 use Rattle.model.specs.Page.{Page}
 use Rattle.model.specs.Class.{Class, Cold, Result, Ask, done, asks, serve, takeFrom}

@@ -2,15 +2,14 @@
 use Prim.Native.Nat.{ℕ, _+_, _≤_, _<_}
 use mathlib.Core.List.{List}
 use mathlib.Core.Option.{Option, none, some}
-use mathlib.Core.Bool.{Bool, true, false, cond, _&&_}
+use mathlib.Core.Bool.{Bool, true, false, _&&_}
 use mathlib.Core.Path.{_≡_}
-use mathlib.Core.Logic.{_⊎_}
 use lib.ListN.{length}
 use Rattle.words.specs.Host.{reservationGranted, commitGranted}
 use Rattle.model.specs.declared.Hole.{Hole}
 use Rattle.model.specs.Lists.{All, any, isSome}
-use Rattle.model.specs.HoleStore.{HoleStore, Memory, holeAt, rememberedMax, stillHolds}
-use Rattle.model.specs.Arena.{Arena, Status, unasked, ready, disabled, Given}
+use Rattle.model.specs.HoleStore.{HoleStore, holeAt, rememberedMax, stillHolds}
+use Rattle.model.specs.Arena.{Arena, Status, unasked, ready, disabled}
 use lib.Dec.{eqb, leb}
 
 -- hole i has the least length that suffices for n pages

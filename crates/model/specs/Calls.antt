@@ -6,6 +6,7 @@ use mathlib.Core.Bool.{Bool, true, false, cond}
 use lib.Dec.{ltb}
 use lib.ListN as ListN
 use Rattle.words.specs.Host.{badHost}
+use Rattle.model.specs.declared.Figures.{Figures}
 
 -- one constructor for each call; a list counts as what it holds when its call begins
 pub data Call : Type 0 where
@@ -26,7 +27,7 @@ pub data Answer : Type 0 where
   run : (first : ℕ) (fresh : Bool) → Answer
   noRun released : Answer
   grown contained : Bool → Answer
-  reported : (commits reuses abandoned held idle : ℕ) → Answer
+  reported : Figures → Answer
 
 abbrev pub isRefused : Answer → Bool
 isRefused (refused n) = true
@@ -38,7 +39,7 @@ isRefused noRun = false
 isRefused released = false
 isRefused (grown b) = false
 isRefused (contained b) = false
-isRefused (reported a b c d e) = false
+isRefused (reported f) = false
 
 -- the blocks that a take answers: the entries below the count
 abbrev pub blocksOf : Answer → List ℕ
@@ -51,7 +52,7 @@ blocksOf noRun = []
 blocksOf released = []
 blocksOf (grown b) = []
 blocksOf (contained b) = []
-blocksOf (reported a b c d e) = []
+blocksOf (reported f) = []
 
 -- what a class is asked, by a call that names it
 pub data Request : Type 0 where

@@ -85,7 +85,7 @@ runOf Calls.noRun = none
 runOf Calls.released = none
 runOf (Calls.grown b) = none
 runOf (Calls.contained b) = none
-runOf (Calls.reported a b c d e) = none
+runOf (Calls.reported f) = none
 
 abbrev pub isGrown : Answer → Bool
 isGrown (Calls.refused n) = false
@@ -97,7 +97,7 @@ isGrown Calls.noRun = false
 isGrown Calls.released = false
 isGrown (Calls.grown b) = b
 isGrown (Calls.contained b) = false
-isGrown (Calls.reported a b c d e) = false
+isGrown (Calls.reported f) = false
 
 -- how often a call adds page x to those held, and takes it away
 abbrev pub adds : Call → Answer → ℕ → ℕ

@@ -1,12 +1,12 @@
 -- The heap: the arena, who holds each page, the classes; and one call of it. Assumes nothing.
 use Prim.Native.Nat.{ℕ, _+_, _-_, _^_}
-use mathlib.Core.List.{List, []}
 use mathlib.Core.Option.{Option, none, some}
 use mathlib.Core.Bool.{Bool, true, false, cond, not, _&&_, _||_}
-use lib.Dec.{eqb, leb, ltb}
+use lib.Dec.{eqb, leb}
 use Rattle.classes.specs.declared.Shape.{Shape}
 use Rattle.classes.specs.Shape.{shapeOf}
 use Rattle.model.specs.declared.Hole.{Hole}
+use Rattle.model.specs.declared.Figures.{Figures}
 use Rattle.model.specs.Lists.{total, every, below, covers, coversAll, coversRun, update}
 use Rattle.model.specs.Calls as Calls
 use Rattle.model.specs.Calls.{Call, Answer, Way, turned, straight, toClass, wayOf, hostOf, Request, refused, run, noRun, released, reported}
@@ -122,8 +122,12 @@ heldPages size H = total (λ x. isHeld (H .holder x)) (below size)
 abbrev pub idlePages : ℕ → Arena → ℕ
 idlePages size a = a .store .total + (size - a .frontier)
 
-unfoldable pub reportOf : ℕ → Heap → Answer
-reportOf size H = reported (H .arena .commits) (H .arena .reuses) (H .arena .abandoned) (heldPages size H) (idlePages size (H .arena))
+-- of an arena with so many pages held
+abbrev pub figuresWith : ℕ → Arena → ℕ → Figures
+figuresWith size a k = record { commits = a .commits; reuses = a .reuses; abandoned = a .abandoned; held = k; idle = idlePages size a }
+
+abbrev pub figures : ℕ → Heap → Figures
+figures size H = figuresWith size (H .arena) (heldPages size H)
 
 -- a call that names no class of ours: number 4
 abbrev pub noClass : Heap → Outcome
@@ -146,7 +150,7 @@ directCall size H (Calls.release h q n) =
     (cond (not (heldDirect size H q n)) (unchanged H (refused 12))
     (releaseCall H q n))
 directCall size H (Calls.contains o b) = unchanged H (Calls.contained (Arenas.contains size o b (H .arena)))
-directCall size H Calls.report = unchanged H (reportOf size H)
+directCall size H Calls.report = unchanged H (reported (figures size H))
 
 abbrev pub route : ℕ → Heap → Call → Way → Outcome
 route size H x turned = unchanged H (refused 3)

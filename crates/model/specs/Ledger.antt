@@ -1,15 +1,13 @@
 -- Where each page is: held by a class or the direct calls, in a hole, at or above the frontier, or abandoned. Assumes nothing.
-use Prim.Native.Nat.{ℕ, _+_, _-_, _≤_}
+use Prim.Native.Nat.{ℕ, _+_, _-_}
 use mathlib.Core.List.{List, [], _∷_}
 use mathlib.Core.Option.{Option, none, some}
-use mathlib.Core.Bool.{Bool, true, false, cond}
-use mathlib.Core.Path.{_≡_}
+use mathlib.Core.Bool.{cond}
 use lib.Dec.{eqb, leb}
 use Rattle.words.specs.Host.{reservationGranted, commitGranted}
 use Rattle.classes.specs.declared.Shape.{Shape}
 use Rattle.classes.specs.Shape.{shapeOf}
-use Rattle.model.specs.declared.Hole.{Hole}
-use Rattle.model.specs.Lists.{total, below, covers}
+use Rattle.model.specs.Lists.{total, covers}
 use Rattle.model.specs.Calls as Calls
 use Rattle.model.specs.Calls.{Call, Way, turned, straight, toClass, wayOf, hostOf, isRefused}
 use Rattle.model.specs.HoleStore.{accepts}
@@ -17,9 +15,7 @@ use Rattle.model.specs.Arena.{Arena, Status, unasked, ready, disabled, w
 use Rattle.model.specs.Page.{Page}
 use Rattle.model.specs.Class.{Class, Cold, Ask, done, asks, serve}
 use Rattle.model.specs.Chunks.{answer}
-use Rattle.model.specs.Heap.{Heap, Holder, nobody, direct, class, isHeld, offer, directCall, step}
-use Rattle.model.specs.History.{events, heapAfter}
-use Rattle.model.specs.Entries.{directAfter}
+use Rattle.model.specs.Heap.{Heap, Holder, nobody, direct, class, offer, directCall, step}
 
 -- how many holes have page x; is it at or above the frontier
 abbrev pub inHoles : ℕ → Arena → ℕ

@@ -13,3 +13,12 @@ pub enum Spot {
     ToCold,
     ToArena,
 }
+
+// A report's figures: three counts, pages held, idle pages.
+pub struct Figures {
+    pub commits: u64,
+    pub reuses: u64,
+    pub abandoned: u64,
+    pub held: u64,
+    pub idle: u64,
+}

@@ -13,6 +13,9 @@ use mathlib.Core.Path.{_≡_, refl, sym, ap, _∙_}
 use lib.Dec.{eqb, ltb, leb}
 use lib.ListN.{length}
 use borrow.Author.Tests.{lt-ltb, ltb-true, ltb-false, eqb-true, eqb-false, le-leb, leb-true, leb-false}
+use Rattle.model.specs.Heap.{direct}
+use Rattle.arena.specs.Owners.{ownerCode}
+use Rattle.words.specs.Limits.{holeSlots}
 use Rattle.classes.specs.declared.Shape.{Shape}
 use Rattle.fields.specs.Field.{Field, arena, memory, class, hole, page, out, slot, ClassField, PageField, owner, first, frontier, held, arenaOff, pageOff, get, put, words}
 use Rattle.fields.proofs.Laws.{get-put-same, length-put}
@@ -26,7 +29,7 @@ use Rattle.arena.specs.Load.{loadArena}
 use Rattle.arena.specs.Store.{storeArena}
 use Rattle.arena.specs.Owners.{own, ownRun, heldWith}
 use Rattle.arena.specs.Calls.{advance, committed, given, grownBy, grownBook}
-use Rattle.refinement.proofs.ArenaStore.{isStored, store-changes}
+use Rattle.arena.proofs.Frames.{isStored, arena-changes}
 
 -- ---- which words
 abbrev pub isOwner : (ℕ → Bool) → Field → Bool
@@ -162,18 +165,18 @@ or-right false t e = e
 abbrev pub passed : List ℕ → Arena → ℕ → Bool
 passed b a = inRun (a .frontier - get b (arena frontier)) (get b (arena frontier))
 
-pub advance-changes : (b : List ℕ) (a : Arena) → length (a .store .holes) ≤ 4096 → Changes (isStep (passed b a)) b (advance b a)
+pub advance-changes : (b : List ℕ) (a : Arena) → length (a .store .holes) ≤ holeSlots → Changes (isStep (passed b a)) b (advance b a)
 unfolding advance
 advance-changes b a l =
     let t = passed b a in
     let f = get b (arena frontier) in
     let c = storeArena b a in
     changes-trans (isStep t) b c (own c f (a .frontier - f) 0)
-    (changes-mono isStored (isStep t) b c (stored-step t) (store-changes b a l))
+    (changes-mono isStored (isStep t) b c (stored-step t) (arena-changes b a l))
     (changes-mono (isOwner t) (isStep t) c (own c f (a .frontier - f) 0) (owner-step t t (λ x e. e)) (own-changes c f (a .frontier - f) 0))
 
 -- what a commit or a growth writes: the frontier passed pages, a run got an owner, HELD changed
-passed-changes : (b : List ℕ) (a : Arena) (o : Option ℕ) (m w k : ℕ) → length (a .store .holes) ≤ 4096
+passed-changes : (b : List ℕ) (a : Arena) (o : Option ℕ) (m w k : ℕ) → length (a .store .holes) ≤ holeSlots
     → Changes (isStep (either (passed b a) (inRunOf m o))) b (put (ownRun (advance b a) o m w) (arena held) k)
 passed-changes b a o m w k l =
     let t = passed b a in
@@ -194,24 +197,24 @@ passed-changes b a o m w k l =
     step-mono t u h (out p i) e = e
     step-mono t u h (slot p i) e = e
 
-pub committed-changes : (b : List ℕ) (g : Given) (m w : ℕ) → length (g .arena .store .holes) ≤ 4096
+pub committed-changes : (b : List ℕ) (g : Given) (m w : ℕ) → length (g .arena .store .holes) ≤ holeSlots
     → Changes (isStep (either (passed b (g .arena)) (inRunOf m (g .run)))) b (committed b g m w)
 unfolding committed
 committed-changes b g m w l = passed-changes b (g .arena) (g .run) m w (heldWith (get b (arena held)) (g .run) m) l
 
-pub grown-changes : (b : List ℕ) (g : Grown) (e m : ℕ) → length (g .arena .store .holes) ≤ 4096
+pub grown-changes : (b : List ℕ) (g : Grown) (e m : ℕ) → length (g .arena .store .holes) ≤ holeSlots
     → Changes (isStep (either (passed b (g .arena)) (inRunOf m (grownBy (g .grew) e)))) b (grownBook b g e m)
 unfolding grownBook
-grown-changes b g e m l = passed-changes b (g .arena) (grownBy (g .grew) e) m 77 (heldWith (get b (arena held)) (grownBy (g .grew) e) m) l
+grown-changes b g e m l = passed-changes b (g .arena) (grownBy (g .grew) e) m (ownerCode direct) (heldWith (get b (arena held)) (grownBy (g .grew) e) m) l
 
-pub given-changes : (b : List ℕ) (q m : ℕ) → length (Model.give m q (loadArena b) .store .holes) ≤ 4096 → Changes (isStep (inRun m q)) b (given b q m)
+pub given-changes : (b : List ℕ) (q m : ℕ) → length (Model.give m q (loadArena b) .store .holes) ≤ holeSlots → Changes (isStep (inRun m q)) b (given b q m)
 unfolding given
 given-changes b q m l =
     let t = inRun m q in
     let c = storeArena b (Model.give m q (loadArena b)) in
     changes-put (isStep t) b (own c q m 0) (arena held) (get b (arena held) - m) refl refl
     (changes-trans (isStep t) b c (own c q m 0)
-    (changes-mono isStored (isStep t) b c (stored-step t) (store-changes b (Model.give m q (loadArena b)) l))
+    (changes-mono isStored (isStep t) b c (stored-step t) (arena-changes b (Model.give m q (loadArena b)) l))
     (changes-mono (isOwner t) (isStep t) c (own c q m 0) (owner-step t t (λ x e. e)) (own-changes c q m 0)))
 
 -- ---- runs

@@ -13,7 +13,7 @@ use lib.Dec.{eqb, ltb}
 use borrow.Author.Tests.{eq-eqb, ne-eqb}
 use Rattle.classes.specs.declared.Shape.{Shape}
 use Rattle.classes.specs.Sound.{Sound}
-use Rattle.fields.specs.Field.{page, next, prev, free, carved, listed, virgin}
+use Rattle.fields.specs.Field.{next, prev, free, carved, listed, virgin}
 use Rattle.fields.proofs.Changes.{Changes}
 use Rattle.model.specs.Lists.{inRun, covers}
 use Rattle.model.specs.Page.{Page}

@@ -16,7 +16,6 @@ use Rattle.model.specs.Arena.{Arena, commit, grow, give}
 use Rattle.model.specs.Class.{Class}
 use Rattle.model.specs.Heap.{Heap, Holder, nobody, direct, class, isHeld, passTo, heldPages, step}
 use Rattle.model.specs.History.{heapFrom, heapAfter}
-use Rattle.model.specs.Ledger.{above}
 use Rattle.model.proofs.Counts.{by-cases}
 use Rattle.model.proofs.Runs.{above-at}
 use Rattle.model.proofs.Remembers.{Tidy}

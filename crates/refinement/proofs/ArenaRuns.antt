@@ -15,7 +15,7 @@ use borrow.Author.Tests.{ltb-true, ltb-false, ne-eqb, eqb-true, eqb-false, eq-eq
 use Rattle.classes.specs.declared.Shape.{Shape}
 use Rattle.fields.specs.Field.{arena, page, owner, first, frontier, get}
 use Rattle.fields.proofs.Changes.{Changes}
-use Rattle.model.specs.Lists.{below, inRun, covers, coversRun}
+use Rattle.model.specs.Lists.{inRun, covers, coversRun}
 use Rattle.model.specs.Arena.{Arena, commit, grow, give}
 use Rattle.model.specs.Class.{Class}
 use Rattle.model.specs.Heap.{Heap, Holder, nobody, direct, class, isHeld, passTo}
@@ -37,7 +37,7 @@ abbrev pub isOf : ℕ → Holder → Bool
 isOf d w = eqb (ownerCode w) (suc d)
 
 pub direct-other : (d : ℕ) → ltb d 76 ≡ true → isOf d direct ≡ false
-direct-other d h = ne-eqb 77 (suc d) (λ e. let z = ltb-true d 76 h in omega arith)
+direct-other d h = ne-eqb (ownerCode direct) (suc d) (λ e. let z = ltb-true d 76 h in omega arith)
 
 pub nobody-other : (d : ℕ) → isOf d nobody ≡ false
 nobody-other d = eqb·zero-suc d

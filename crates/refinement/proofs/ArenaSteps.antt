@@ -10,6 +10,7 @@ use mathlib.Core.Path.{_≡_, refl, sym, ap, _∙_}
 use lib.Dec.{eqb, ltb, leb}
 use lib.ListN.{length}
 use borrow.Author.Tests.{ltb-true, ltb-false, le-leb, lt-ltb, lt-leb}
+use Rattle.words.specs.Limits.{holeSlots}
 use Rattle.fields.specs.Field.{Field, arena, memory, class, hole, page, out, slot, owner, size, state, held, holes, pageOff, get, put, ok, words}
 use Rattle.fields.proofs.Laws.{get-put-same, get-put-other, length-put}
 use Rattle.fields.proofs.Changes.{differ}
@@ -23,7 +24,8 @@ use Rattle.arena.specs.Load.{statusCode, loadArena}
 use Rattle.arena.specs.Store.{storeArena}
 use Rattle.arena.specs.Owners.{ownerCode, own}
 use Rattle.arena.specs.Represents.{ArenaRep}
-use Rattle.refinement.proofs.ArenaStore.{isStored, long-kept, load-kept, store-changes, store-written, load-store}
+use Rattle.arena.proofs.Frames.{isStored, arena-changes}
+use Rattle.refinement.proofs.ArenaStore.{long-kept, load-kept, store-written, load-store}
 use Rattle.refinement.proofs.ArenaFrames.{isOwner, own-changes, own-in}
 use Rattle.refinement.proofs.ArenaReached.{heapOf}
 use Rattle.refinement.proofs.ArenaFair.{loads-number}
@@ -66,7 +68,7 @@ stored-arenas (page k p) e = absurd (false≢true e)
 stored-arenas (out p i) e = e
 stored-arenas (slot p i) e = e
 
-pub rep-kept : (n : ℕ) (b b′ : List ℕ) (H : Heap) → length (H .arena .store .holes) ≤ 4096 → length b′ ≡ length b
+pub rep-kept : (n : ℕ) (b b′ : List ℕ) (H : Heap) → length (H .arena .store .holes) ≤ holeSlots → length b′ ≡ length b
     → ((g : Field) → ok g ≡ true → isArenas g ≡ true → get b′ g ≡ get b g)
     → ArenaRep n b H → ArenaRep n b′ H
 rep-kept n b b′ H few long k r = record {
@@ -91,7 +93,7 @@ module _ (n : ℕ) (b : List ℕ) (a : Arena) (w : ℕ → Holder) (f k : ℕ) (
   -- another arena is stored
   pub store-stands : (a′ : Arena) → Tidy (a′ .store) → Stands n (storeArena b a′) a′ w f k
   store-stands a′ t =
-      let h = store-changes b a′ (t .slots) in
+      let h = arena-changes b a′ (t .slots) in
       record {
         long = long-kept n b (storeArena b a′) (h .long) (s .long);
         length = h .kept (arena size) refl refl ∙ s .length;
@@ -101,7 +103,7 @@ module _ (n : ℕ) (b : List ℕ) (a : Arena) (w : ℕ → Holder) (f k : ℕ) (
         owners = λ x l. h .kept (page owner x) refl refl ∙ s .owners x l;
       }
 
-  module _ (few : length (a .store .holes) ≤ 4096) where
+  module _ (few : length (a .store .holes) ≤ holeSlots) where
     few-words : get b (arena holes) ≤ 4096
     few-words = rw (loads-number b a (s .loads)) few
 

@@ -21,7 +21,7 @@ use Rattle.model.specs.Calls as Calls
 use Rattle.model.specs.Calls.{Call, Answer, refused}
 use Rattle.model.specs.Arena as Model
 use Rattle.model.specs.Heap as Heaps
-use Rattle.model.specs.Heap.{Heap, Holder, Outcome, nobody, direct, class, isDirect, isHeld, badRun, badGrowth, unchanged, directCall, reportOf}
+use Rattle.model.specs.Heap.{Heap, Holder, Outcome, nobody, direct, class, isDirect, isHeld, badRun, badGrowth, unchanged, directCall}
 use Rattle.model.proofs.Counts.{by-cases, and-l, and-r}
 use Rattle.model.proofs.ArenaTidy.{tidy-commit, tidy-grow}
 use Rattle.pages.specs.Runs.{whole}
@@ -29,10 +29,10 @@ use Rattle.arena.specs.Owners.{ownerCode}
 use Rattle.arena.specs.Calls.{commitCall, everyDirect, heldDirect, growCall, grownBy, releaseCall, containsCall, figures, reportCode}
 use Rattle.arena.specs.Represents.{ArenaRep}
 use Rattle.refinement.specs.Represents.{Represents}
-use Rattle.refinement.specs.Direct.{Reply, reply, commitReply, growReply, releaseReply, reportedOf, directReply, Agrees}
+use Rattle.refinement.specs.Direct.{Reply, reply, commitReply, growReply, releaseReply, directReply, Agrees}
 use Rattle.refinement.proofs.ArenaHolders.{isKnown}
 use Rattle.refinement.proofs.ArenaReached.{Reached, held-below}
-use Rattle.refinement.proofs.ArenaFair.{loads-frontier, loads-total, loads-commits, loads-reuses, loads-abandoned, record-passes}
+use Rattle.refinement.proofs.ArenaFair.{loads-frontier, record-passes}
 use Rattle.refinement.proofs.ArenaFrames.{isStep, inRunOf, either, passed, committed-changes, grown-changes, every-cong, every-at}
 use Rattle.refinement.proofs.CommitRep.{commit-for, commit-rep, grow-rep}
 use Rattle.refinement.proofs.GiveRep.{give-fair, give-rep}
@@ -59,10 +59,10 @@ or-right true t e = absurd (true≢false e)
 or-right false t e = e
 
 -- ---- number 12
-is-direct : (w : Holder) → isKnown w ≡ true → eqb (ownerCode w) 77 ≡ isDirect w
+is-direct : (w : Holder) → isKnown w ≡ true → eqb (ownerCode w) (ownerCode direct) ≡ isDirect w
 is-direct nobody e = refl
 is-direct direct e = refl
-is-direct (class c) e = ne-eqb (suc c) 77 (λ z. let l = ltb-true c 76 e in omega arith)
+is-direct (class c) e = ne-eqb (suc c) (ownerCode direct) (λ z. let l = ltb-true c 76 e in omega arith)
 
 direct-held : (w : Holder) → isDirect w ≡ true → 1 ≤ isHeld w
 direct-held nobody e = absurd (false≢true e)
@@ -89,7 +89,7 @@ module _ (n : ℕ) (b : List ℕ) (H : Heap) (rep : ArenaRep n b H) (r : Reached
         (λ t. rw t (direct-held (H .holder x) (run-direct e x t)))
         (λ t. rw t (omega arith))
 
-    low : (k : ℕ) → k < m → q + m ≤ H .arena .frontier → eqb (get b (page owner (q + k))) 77 ≡ isDirect (H .holder (q + k))
+    low : (k : ℕ) → k < m → q + m ≤ H .arena .frontier → eqb (get b (page owner (q + k))) (ownerCode direct) ≡ isDirect (H .holder (q + k))
     low k l u = rw (rep .owners (q + k) (omega arith)) (is-direct (H .holder (q + k)) (r .known .at (q + k)))
 
     pub held-direct : heldDirect n b q m ≡ Heaps.heldDirect n H q m
@@ -98,7 +98,7 @@ module _ (n : ℕ) (b : List ℕ) (H : Heap) (rep : ArenaRep n b H) (r : Reached
         rw (loads-frontier b (H .arena) (rep .loads))
         (ap (λ t. leb (q + m) n && t)
         (by-cases (leb (q + m) (H .arena .frontier))
-        (λ e. rw e (every-cong (λ k. eqb (get b (page owner (q + k))) 77) (λ k. isDirect (H .holder (q + k))) m (λ k l. low k l (leb-true (q + m) (H .arena .frontier) e))))
+        (λ e. rw e (every-cong (λ k. eqb (get b (page owner (q + k))) (ownerCode direct)) (λ k. isDirect (H .holder (q + k))) m (λ k l. low k l (leb-true (q + m) (H .arena .frontier) e))))
         (λ e. rw e (sym (not-all (leb-false (q + m) (H .arena .frontier) e))))))
       where
         not-all : H .arena .frontier < q + m → every (λ k. isDirect (H .holder (q + k))) (below m) ≡ false
@@ -138,12 +138,12 @@ module _ (n : ℕ) (b : List ℕ) (H : Heap) (rep : ArenaRep n b H) (r : Reached
       settle-cond commitReply (badRun m) _ _ _ _ (λ d. settle-refused 6 (λ z. omega arith))
       (λ d. let one = good-run m d in
       let g = Model.commit n h m (H .arena) in
-      rw (commit-for n b H rep r h m 77)
+      rw (commit-for n b H rep r h m (ownerCode direct))
       (record {
         agrees = record { answer = refl; fair = λ z. omega arith; heap = commit-rep n b H rep r h m one direct refl (H .classes) };
         beside = record {
           pages = either (passed b (g .arena)) (inRunOf m (g .run));
-          changes = committed-changes b g m 77 (tidy-commit n h m one (H .arena) (r .tidy) .slots);
+          changes = committed-changes b g m (ownerCode direct) (tidy-commit n h m one (H .arena) (r .tidy) .slots);
           runs = λ sh d x l hd. commit-whole n b H rep r h m one direct refl sh d x l (direct-other d hd);
         };
         classes = refl;
@@ -200,20 +200,9 @@ module _ (n : ℕ) (b : List ℕ) (H : Heap) (rep : ArenaRep n b H) (r : Reached
   unfolding containsCall directCall
   settle-contains o k = rw (rep .loads) (settle-same 0 (λ z. omega arith) (Calls.contained (Model.contains n o k (H .arena))))
 
-  settle-report : Settled (reply (reportCode n b) (reportedOf (figures n b)) b) (directCall n H Calls.report)
-  unfolding reportCode directCall reportOf
-  settle-report =
-      let a = H .arena in
-      rw (
-        record-passes n b H rep r,
-        loads-commits b (H .arena) (rep .loads),
-        loads-reuses b (H .arena) (rep .loads),
-        loads-abandoned b (H .arena) (rep .loads),
-        rep .held,
-        loads-total b (H .arena) (rep .loads),
-        loads-frontier b (H .arena) (rep .loads),
-      )
-      (settle-same 0 (λ z. omega arith) (Calls.reported (a .commits) (a .reuses) (a .abandoned) (Heaps.heldPages n H) (Heaps.idlePages n a)))
+  settle-report : Settled (reply (reportCode n b) (Calls.reported (figures n b)) b) (directCall n H Calls.report)
+  unfolding reportCode directCall
+  settle-report = rw (record-passes n b H rep r, rep .loads, rep .held) (settle-same 0 (λ z. omega arith) (Calls.reported (Heaps.figures n H)))
 
   settle-direct : (x : Call) → Settled (directReply n b x) (directCall n H x)
   unfolding directReply directCall

@@ -10,6 +10,7 @@ use mathlib.Core.Path.{_≡_, refl, sym, ap, _∙_, subst}
 use lib.Dec.{eqb, ltb, leb}
 use lib.ListN.{length}
 use borrow.Author.Tests.{eq-eqb, ne-eqb, le-leb, leb-true, ltb-true, lt-ltb}
+use Rattle.words.specs.Limits.{holeSlots}
 use Rattle.classes.specs.declared.Shape.{Shape}
 use Rattle.classes.specs.Shape.{shapeOf}
 use Rattle.classes.proofs.Shapes.{shape-sound}
@@ -92,7 +93,7 @@ module _ (n : ℕ) (b : List ℕ) (H : Heap) (R : Represents n b H) (ok : Reache
   one : 1 ≤ shapeOf c .pages
   one = shape-sound c .paged
 
-  few : length (commit n h (shapeOf c .pages) (H .arena) .arena .store .holes) ≤ 4096
+  few : length (commit n h (shapeOf c .pages) (H .arena) .arena .store .holes) ≤ holeSlots
   few = tidy-commit n h pages one (H .arena) (ok .tidy) .slots
 
   changes : Changes (isStep owned) b after

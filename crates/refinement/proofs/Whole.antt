@@ -22,7 +22,7 @@ use Rattle.model.specs.History.{Event, eventsFrom, heapFrom, heapAfter, answers
 use Rattle.arena.specs.Open.{opened}
 use Rattle.refinement.specs.Represents.{Represents}
 use Rattle.refinement.specs.Direct.{Reply, Agrees, directReply}
-use Rattle.refinement.specs.Run.{replyAs, callReply, repliesFrom, bookFrom, answersIn, run, bookAfter}
+use Rattle.refinement.specs.Run.{replyAs, callReply, repliesFrom, bookFrom, answersIn}
 use Rattle.model.proofs.Counts.{by-cases}
 use Rattle.refinement.proofs.ArenaReached.{reached-after, heap-next}
 use Rattle.refinement.proofs.DirectCalls.{direct-represents}
@@ -36,9 +36,9 @@ medium-class c e = lt-ltb (64 + c) 76 (omega (arith, ltb-true c 12 e))
 
 -- the calls ys on a book that stands for the heap H
 record RunRep (n : ℕ) (H : Heap) (b : List ℕ) (ys : List Call) : Type 0 where
-  answers : answersIn (repliesFrom n b ys) ≡ map (λ (e : Event). e .answer) (eventsFrom n H ys)
-  fair : All (λ (r : Reply). r .code ≡ 13 → ⊥) (repliesFrom n b ys)
-  heap : Represents n (bookFrom n b ys) (heapFrom n H ys)
+  answers : answersIn (repliesFrom (callReply n) b ys) ≡ map (λ (e : Event). e .answer) (eventsFrom n H ys)
+  fair : All (λ (r : Reply). r .code ≡ 13 → ⊥) (repliesFrom (callReply n) b ys)
+  heap : Represents n (bookFrom (callReply n) b ys) (heapFrom n H ys)
 
 module _ (n : ℕ) (hn : n ≤ maxPages) where
   -- ---- one call, after the history xs
@@ -85,11 +85,11 @@ module _ (n : ℕ) (hn : n ≤ maxPages) where
     whole : RunRep n newHeap (opened n b) xs
     whole = runs xs [] (opened n b) (opened-represents n b long)
 
-    pub run-answers : run n b xs ≡ answers n xs
+    pub run-answers : answersIn (repliesFrom (callReply n) (opened n b) xs) ≡ answers n xs
     run-answers = whole .answers
 
-    pub run-represents : Represents n (bookAfter n b xs) (heapAfter n xs)
+    pub run-represents : Represents n (bookFrom (callReply n) (opened n b) xs) (heapAfter n xs)
     run-represents = whole .heap
 
-    pub run-fair : All (λ (r : Reply). r .code ≡ 13 → ⊥) (repliesFrom n (opened n b) xs)
+    pub run-fair : All (λ (r : Reply). r .code ≡ 13 → ⊥) (repliesFrom (callReply n) (opened n b) xs)
     run-fair = whole .fair

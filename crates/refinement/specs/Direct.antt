@@ -7,7 +7,6 @@ use mathlib.Core.Bool.{cond}
 use mathlib.Core.List.{List}
 use mathlib.Core.Path.{_≡_}
 use lib.Dec.{eqb}
-use lib.ListN.{getD}
 use Rattle.model.specs.Calls as Calls
 use Rattle.model.specs.Calls.{Call, Answer, refused, released, contained, reported}
 use Rattle.model.specs.Heap.{Heap, Outcome, answerRun}
@@ -31,9 +30,6 @@ growReply w = reply (w .code) (Calls.grown (w .yes)) (w .book)
 abbrev pub releaseReply : Done → Reply
 releaseReply w = reply (w .code) released (w .book)
 
-abbrev pub reportedOf : List ℕ → Answer
-reportedOf fs = reported (getD fs 0 0) (getD fs 1 0) (getD fs 2 0) (getD fs 3 0) (getD fs 4 0)
-
 -- a number that refuses a call before it is looked at
 abbrev pub turnedReply : List ℕ → ℕ → Reply
 turnedReply b k = record { code = k; answer = refused k; book = b }
@@ -48,7 +44,7 @@ directReply n b (Calls.commit h m) = commitReply (commitCall n b h m)
 directReply n b (Calls.growFrontier h q old new) = growReply (growCall n b h q old new)
 directReply n b (Calls.release h q m) = releaseReply (releaseCall n b q m)
 directReply n b (Calls.contains o k) = reply 0 (contained (containsCall n b o k)) b
-directReply n b Calls.report = reply (reportCode n b) (reportedOf (figures n b)) b
+directReply n b Calls.report = reply (reportCode n b) (reported (figures n b)) b
 
 -- Stands b H: the book b stands for the heap H, wholly (Represents n) or in the arena's part (ArenaRep n)
 pub record Agrees (Stands : List ℕ → Heap → Type 0) (w : Reply) (o : Outcome) : Type 0 where

@@ -26,11 +26,11 @@ use Rattle.arena.proofs.StoreLaws.{hole-length, remember-length}
 module _ (b : List ℕ) (a : Arena) (m : ℕ) (p : Plan) where
   pub draws-cut : (x : List ℕ) (r : Arena) → m < p .pages → x ≡ cutWords b m p → r ≡ withHoles (a .count) (a .total - m) a → Draws b a m p x r
   unfolding drawWords drawRecord
-  draws-cut x r l e f = let z = lt-ltb m (p .pages) l in record { left = rw z e; top = rw z f }
+  draws-cut x r l e f = let z = lt-ltb m (p .pages) l in record { book = rw z e; top = rw z f }
 
   pub draws-used : (x : List ℕ) (r : Arena) → p .pages ≤ m → x ≡ usedWords b m p → r ≡ withHoles (a .count - 1) (a .total - m) a → Draws b a m p x r
   unfolding drawWords drawRecord
-  draws-used x r l e f = let z = le-ltb m (p .pages) l in record { left = rw z e; top = rw z f }
+  draws-used x r l e f = let z = le-ltb m (p .pages) l in record { book = rw z e; top = rw z f }
 
   draw-length : length (drawWords b m p) ≡ length b
   unfolding drawWords cutWords usedWords
@@ -42,7 +42,7 @@ module _ (b : List ℕ) (a : Arena) (m : ℕ) (p : Plan) where
 
   pub hole-run : (x : List ℕ) (r : Arena) (q : Request) → Draws b a m p x r → q .pages ≡ m → RequestIn b q → RecordIn (q .size) a → HoleIn a p m → RunIn x r (p .first) q
   hole-run x r q d e rq ra rh =
-      let l : length x ≡ length b = ap length (d .left) ∙ draw-length in
+      let l : length x ≡ length b = ap length (d .book) ∙ draw-length in
       let t : r .total ≡ a .total - m = ap (λ z. z .total) (d .top) ∙ draw-total in
       let h₁ = rh .enough in
       let h₂ = rh .ends in
@@ -74,11 +74,11 @@ frontier-run b a r q rq ra e l =
 module _ (b : List ℕ) (a : Arena) (m q : ℕ) where
   pub given-fresh : (f : Bool) (x y z : List ℕ) (r : Arena) → Gives b a m q x r → y ≡ storeRecord x r → f ≡ true → z ≡ own y q m 0 → z ≡ endGiven b a m q f .book
   unfolding endGiven
-  given-fresh f x y z r g e t o = rw t (o ∙ ap (λ w. own w q m 0) (e ∙ ap (λ w. storeRecord w r) (g .left) ∙ ap (storeRecord _) (g .top)))
+  given-fresh f x y z r g e t o = rw t (o ∙ ap (λ w. own w q m 0) (e ∙ ap (λ w. storeRecord w r) (g .book) ∙ ap (storeRecord _) (g .top)))
 
   pub given-reuse : (f : Bool) (x y : List ℕ) (r : Arena) → Gives b a m q x r → y ≡ storeRecord x r → f ≡ false → y ≡ endGiven b a m q f .book
   unfolding endGiven
-  given-reuse f x y r g e t = rw t (e ∙ ap (λ w. storeRecord w r) (g .left) ∙ ap (storeRecord _) (g .top))
+  given-reuse f x y r g e t = rw t (e ∙ ap (λ w. storeRecord w r) (g .book) ∙ ap (storeRecord _) (g .top))
 
   pub run-ends : (f : Bool) (w d : ℕ) (r : Arena) (x y z : List ℕ) → r ≡ counted f a → x ≡ storeRecord b r → y ≡ own x q m w → z ≡ put y (arena held) (d + m) → z ≡ endRun b a m q f w d .book
   unfolding endRun
@@ -115,7 +115,7 @@ module _ (n : ℕ) (b : List ℕ) (a : Arena) (m h w d : ℕ) where
   module _ (p : Plan) where
     pub from-drawn : (s : Commit) (x y : List ℕ) (r : Arena) → Draws b a m p x r → Answers s y (settle x r m (p .first) false h w d)
         → Answers s y (settle (drawWords b m p) (drawRecord a m p) m (p .first) false h w d)
-    from-drawn s x y r e k = rw (e .left, e .top) at k
+    from-drawn s x y r e k = rw (e .book, e .top) at k
 
     pub none-drawn : (s : Commit) (x y : List ℕ) → p .code ≡ 0 → x ≡ forgetWord b a m → Answers s y (fromFrontier n x a m h w d) → Answers s y (commitDrawn n b a p m h w d)
     unfolding commitDrawn

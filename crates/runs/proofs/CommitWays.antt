@@ -1,13 +1,13 @@
 -- The ways out of a commit for an owner and of a growth, and what they ask of the steps. Assumes nothing.
-use Prim.Native.Nat.{ℕ, _-_, _≤_, _<_}
+use Prim.Native.Nat.{ℕ, _+_, _≤_, _<_}
 use native.Mathlib.Omega.{arith}
 use mathlib.Core.Bool.{Bool, true, false, cond}
 use mathlib.Core.List.{List}
 use mathlib.Core.Path.{_≡_, refl, sym, ap, _∙_, subst}
 use lib.Dec.{leb}
 use borrow.Author.Tests.{le-leb, lt-leb, eq-eqb, ne-eqb}
+use Rattle.words.specs.Limits.{maxPages, holeSlots, rememberedMax}
 use Rattle.fields.specs.Field.{arena, held, get}
-use Rattle.model.specs.Arena as Model
 use Rattle.model.proofs.Counts.{by-cases}
 use Rattle.arena.specs.declared.Arena.{Arena}
 use Rattle.arena.specs.declared.Plan.{Plan}
@@ -33,10 +33,10 @@ loaded-record n b a t f =
     let z = fair-record n b t in
     subst (λ y. RecordIn n y) (sym f) (record { moved = z .frontier; few = z .holes; short = z .holePages })
 
-pub loaded-few : (n : ℕ) (b : List ℕ) (a : Arena) → recordFair n b ≡ true → a ≡ recordOf b → a .count ≤ 4096
+pub loaded-few : (n : ℕ) (b : List ℕ) (a : Arena) → recordFair n b ≡ true → a ≡ recordOf b → a .count ≤ holeSlots
 loaded-few n b a t f = loaded-record n b a t f .few
 
-pub request-in : (n : ℕ) (b : List ℕ) (h m d w : ℕ) → BookIn b n → recordFair n b ≡ true → m ≤ 262145 → d ≡ get b (arena held)
+pub request-in : (n : ℕ) (b : List ℕ) (h m d w : ℕ) → BookIn b n → recordFair n b ≡ true → m ≤ maxPages + 1 → d ≡ get b (arena held)
     → RequestIn b (record { size = n; pages = m; host = h; owner = w; held = d })
 request-in n b h m d w k t l f =
     let z = fair-record n b t .held in
@@ -78,17 +78,17 @@ module _ (n : ℕ) (b : List ℕ) (h m w d : ℕ) where
       let z : planned b m .fair ≡ false = ap (λ y. y .fair) (sym (plan-is a p c e f g)) ∙ t in
       subst (λ y. Answers (Refused 13) b (cond y (commitPlanned n b (recordOf b) (planned b m) m h w d) (commitRefused b 13))) (sym z) (record { answer = refl; book = refl })
 
-  memory-code : (c : ℕ) → c ≡ recallWord b m → leb c 4096 ≡ memoryFair b m
+  memory-code : (c : ℕ) → c ≡ recallWord b m → leb c holeSlots ≡ memoryFair b m
   unfolding recallWord
-  memory-code c e = by-cases (leb m 128) (λ t. rw (e, t)) (λ t. rw (e, t))
+  memory-code c e = by-cases (leb m rememberedMax) (λ t. rw (e, t)) (λ t. rw (e, t))
 
-  pub recalled-on : (c : ℕ) (s : Commit) (x : List ℕ) → c ≡ recallWord b m → c ≤ 4096 → Answers s x (commitRead n b h m w d) → Answers s x (commitRecalled n b h m w d)
+  pub recalled-on : (c : ℕ) (s : Commit) (x : List ℕ) → c ≡ recallWord b m → c ≤ holeSlots → Answers s x (commitRead n b h m w d) → Answers s x (commitRecalled n b h m w d)
   unfolding commitRecalled
-  recalled-on c s x e l k = rw (← (memory-code c e), le-leb c 4096 l) k
+  recalled-on c s x e l k = rw (← (memory-code c e), le-leb c holeSlots l) k
 
-  pub recalled-off : (c : ℕ) → c ≡ recallWord b m → 4096 < c → Answers (Refused 13) b (commitRecalled n b h m w d)
+  pub recalled-off : (c : ℕ) → c ≡ recallWord b m → holeSlots < c → Answers (Refused 13) b (commitRecalled n b h m w d)
   unfolding commitRecalled
-  recalled-off c e l = rw (← (memory-code c e), lt-leb c 4096 l) (record { answer = refl; book = refl })
+  recalled-off c e l = rw (← (memory-code c e), lt-leb c holeSlots l) (record { answer = refl; book = refl })
 
 module _ (n : ℕ) (b : List ℕ) (h m w : ℕ) where
   pub commits-on : (t : Bool) (d : ℕ) (s : Commit) (x : List ℕ) → BookIn b n → t ≡ recordFair n b → t ≡ true → d ≡ get b (arena held) → Answers s x (commitRecalled n b h m w d) → Answers s x (commitFor n b h m w)

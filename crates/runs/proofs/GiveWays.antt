@@ -6,6 +6,8 @@ use mathlib.Core.List.{List}
 use mathlib.Core.Path.{_≡_, refl, sym, ap, _∙_}
 use lib.Dec.{leb}
 use borrow.Author.Tests.{le-leb, lt-leb, leb-true, eq-eqb, ne-eqb}
+use Rattle.model.specs.Heap.{direct}
+use Rattle.arena.specs.Owners.{ownerCode}
 use Rattle.fields.specs.Field.{arena, page, owner, frontier, held, get, put}
 use Rattle.model.proofs.Counts.{and-l, and-r}
 use Rattle.arena.specs.declared.Arena.{Arena}
@@ -34,7 +36,7 @@ module _ (n : ℕ) (b : List ℕ) (m : ℕ) where
 pub gives-loaded : (b : List ℕ) (a : Arena) (d q m : ℕ) (x y z v : List ℕ) (r : Arena) → Gives b a m q x r → y ≡ storeRecord x r → z ≡ own y q m 0 → v ≡ put z (arena held) (d - m) → v ≡ givenWith b a d q m
 unfolding givenWith
 gives-loaded b a d q m x y z v r g e f o =
-    o ∙ ap (λ w. put w (arena held) (d - m)) (f ∙ ap (λ w. own w q m 0) (e ∙ ap (λ w. storeRecord w r) (g .left) ∙ ap (storeRecord _) (g .top)))
+    o ∙ ap (λ w. put w (arena held) (d - m)) (f ∙ ap (λ w. own w q m 0) (e ∙ ap (λ w. storeRecord w r) (g .book) ∙ ap (storeRecord _) (g .top)))
 
 pub loaded-in : (b : List ℕ) (n : ℕ) (a : Arena) (d q m : ℕ) → GiveIn b n q m → a ≡ recordOf b → d ≡ get b (arena held) → LoadedIn b a d q m
 unfolding giveFair
@@ -62,21 +64,21 @@ module _ (b : List ℕ) (q m : ℕ) where
   pub looks-start : Looking b q m m
   looks-start = record { within = omega arith; rest = refl }
 
-  pub looks-again : (left o : ℕ) → Looking b q m left → 0 < left → o ≡ get b (page owner (q + (left - 1))) → o ≡ 77 → Looking b q m (left - 1)
+  pub looks-again : (left o : ℕ) → Looking b q m left → 0 < left → o ≡ get b (page owner (q + (left - 1))) → o ≡ (ownerCode direct) → Looking b q m (left - 1)
   unfolding everyDirect
   looks-again zero o k l e f = absurd (omega arith)
   looks-again (suc left) o k l e f =
       let z : suc left - 1 ≡ left = omega arith in
-      let h : get b (page owner (q + left)) ≡ 77 = ap (λ y. get b (page owner (q + y))) (sym z) ∙ sym e ∙ f in
-      rw z (record { within = let y = k .within in omega arith; rest = rw (eq-eqb (get b (page owner (q + left))) 77 h) at (k .rest) })
+      let h : get b (page owner (q + left)) ≡ (ownerCode direct) = ap (λ y. get b (page owner (q + y))) (sym z) ∙ sym e ∙ f in
+      rw z (record { within = let y = k .within in omega arith; rest = rw (eq-eqb (get b (page owner (q + left))) (ownerCode direct) h) at (k .rest) })
 
-  pub looks-no : (left o : ℕ) → Looking b q m left → 0 < left → o ≡ get b (page owner (q + (left - 1))) → (o ≡ 77 → ⊥) → false ≡ everyDirect b q m
+  pub looks-no : (left o : ℕ) → Looking b q m left → 0 < left → o ≡ get b (page owner (q + (left - 1))) → (o ≡ (ownerCode direct) → ⊥) → false ≡ everyDirect b q m
   unfolding everyDirect
   looks-no zero o k l e f = absurd (omega arith)
   looks-no (suc left) o k l e f =
       let z : suc left - 1 ≡ left = omega arith in
       let h : get b (page owner (q + left)) ≡ o = ap (λ y. get b (page owner (q + y))) (sym z) ∙ sym e in
-      rw (ne-eqb (get b (page owner (q + left))) 77 (λ y. f (sym h ∙ y))) at (k .rest)
+      rw (ne-eqb (get b (page owner (q + left))) (ownerCode direct) (λ y. f (sym h ∙ y))) at (k .rest)
 
   pub looks-done : (left : ℕ) → Looking b q m left → left ≤ 0 → true ≡ everyDirect b q m
   unfolding everyDirect

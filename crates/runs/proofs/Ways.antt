@@ -8,9 +8,9 @@ use mathlib.Core.Path.{_≡_, refl, _∙_}
 use lib.Dec.{leb}
 use lib.ListN.{length}
 use borrow.Author.Tests.{lt-ltb, le-ltb, le-leb, lt-leb}
+use Rattle.words.specs.Limits.{holeSlots, holePagesMax, rememberedMax}
 use Rattle.fields.specs.Field.{arena, memory, page, owner, state, frontier, holes, holePages, held, get, put}
 use Rattle.fields.proofs.Laws.{length-put}
-use Rattle.model.specs.HoleStore as Model
 use Rattle.arena.specs.declared.Arena.{Arena}
 use Rattle.arena.specs.Record.{abandoning}
 use Rattle.arena.specs.Fair.{recordFair}
@@ -31,36 +31,36 @@ module _ (n : ℕ) (b : List ℕ) where
   unfolding recordFair
   no-frontier f e l = simp (← e, lt-leb f n l, and-false)
 
-  pub no-holes : (k : ℕ) → k ≡ get b (arena holes) → 4096 < k → false ≡ recordFair n b
+  pub no-holes : (k : ℕ) → k ≡ get b (arena holes) → holeSlots < k → false ≡ recordFair n b
   unfolding recordFair
-  no-holes k e l = simp (← e, lt-leb k 4096 l, and-false)
+  no-holes k e l = simp (← e, lt-leb k holeSlots l, and-false)
 
-  pub no-pages : (t : ℕ) → t ≡ get b (arena holePages) → 65536 < t → false ≡ recordFair n b
+  pub no-pages : (t : ℕ) → t ≡ get b (arena holePages) → holePagesMax < t → false ≡ recordFair n b
   unfolding recordFair
-  no-pages t e l = simp (← e, lt-leb t 65536 l, and-false)
+  no-pages t e l = simp (← e, lt-leb t holePagesMax l, and-false)
 
-  pub all-fair : (s f k t d : ℕ) → s ≡ get b (arena state) → s ≤ 2 → f ≡ get b (arena frontier) → f ≤ n → k ≡ get b (arena holes) → k ≤ 4096
-      → t ≡ get b (arena holePages) → t ≤ 65536 → d ≡ get b (arena held) → leb d n ≡ recordFair n b
+  pub all-fair : (s f k t d : ℕ) → s ≡ get b (arena state) → s ≤ 2 → f ≡ get b (arena frontier) → f ≤ n → k ≡ get b (arena holes) → k ≤ holeSlots
+      → t ≡ get b (arena holePages) → t ≤ holePagesMax → d ≡ get b (arena held) → leb d n ≡ recordFair n b
   unfolding recordFair
   all-fair s f k t d e₁ l₁ e₂ l₂ e₃ l₃ e₄ l₄ e₅ =
-      rw (← e₁, ← e₂, ← e₃, ← e₄, ← e₅, le-leb s 2 l₁, le-leb f n l₂, le-leb k 4096 l₃, le-leb t 65536 l₄)
+      rw (← e₁, ← e₂, ← e₃, ← e₄, ← e₅, le-leb s 2 l₁, le-leb f n l₂, le-leb k holeSlots l₃, le-leb t holePagesMax l₄)
 
 -- ---- a length's memory
-pub recalls-not : (b : List ℕ) (m : ℕ) → 128 < m → 0 ≡ recallWord b m
+pub recalls-not : (b : List ℕ) (m : ℕ) → rememberedMax < m → 0 ≡ recallWord b m
 unfolding recallWord
-recalls-not b m l = rw (lt-leb m 128 l)
+recalls-not b m l = rw (lt-leb m rememberedMax l)
 
-pub recalls : (b : List ℕ) (m r : ℕ) → m ≤ 128 → r ≡ get b (memory m) → r ≡ recallWord b m
+pub recalls : (b : List ℕ) (m r : ℕ) → m ≤ rememberedMax → r ≡ get b (memory m) → r ≡ recallWord b m
 unfolding recallWord
-recalls b m r l e = rw (le-leb m 128 l) e
+recalls b m r l e = rw (le-leb m rememberedMax l) e
 
-pub remembers : (b x : List ℕ) (m c : ℕ) → m ≤ 128 → x ≡ put b (memory m) c → x ≡ rememberWord b m c
+pub remembers : (b x : List ℕ) (m c : ℕ) → m ≤ rememberedMax → x ≡ put b (memory m) c → x ≡ rememberWord b m c
 unfolding rememberWord
-remembers b x m c l e = rw (le-leb m 128 l) e
+remembers b x m c l e = rw (le-leb m rememberedMax l) e
 
-pub remembers-not : (b : List ℕ) (m c : ℕ) → 128 < m → b ≡ rememberWord b m c
+pub remembers-not : (b : List ℕ) (m c : ℕ) → rememberedMax < m → b ≡ rememberWord b m c
 unfolding rememberWord
-remembers-not b m c l = rw (lt-leb m 128 l)
+remembers-not b m c l = rw (lt-leb m rememberedMax l)
 
 -- ---- owners: what is left to write comes to what was asked
 pub record Owning (b₀ : List ℕ) (first pages w : ℕ) (b : List ℕ) (p left : ℕ) : Type 0 where
@@ -96,15 +96,15 @@ module _ (b₀ : List ℕ) (first pages w : ℕ) where
 
 -- ---- giving
 module _ (b : List ℕ) (a : Arena) (m q : ℕ) where
-  pub gives-full : (r : Arena) → 4096 ≤ a .count → r ≡ abandoning a → Gives b a m q b r
+  pub gives-full : (r : Arena) → holeSlots ≤ a .count → r ≡ abandoning a → Gives b a m q b r
   unfolding giveWords giveRecord
-  gives-full r l e = let z = le-ltb (a .count) 4096 l in record { left = rw z; top = rw z e }
+  gives-full r l e = let z = le-ltb (a .count) holeSlots l in record { book = rw z; top = rw z e }
 
-  pub gives-over : (r : Arena) → 65536 < a .total + m → r ≡ abandoning a → Gives b a m q b r
+  pub gives-over : (r : Arena) → holePagesMax < a .total + m → r ≡ abandoning a → Gives b a m q b r
   unfolding giveWords giveRecord
-  gives-over r l e = let z = lt-leb (a .total + m) 65536 l in record { left = simp (z, and-false); top = simp (z, and-false) e }
+  gives-over r l e = let z = lt-leb (a .total + m) holePagesMax l in record { book = simp (z, and-false); top = simp (z, and-false) e }
 
-  pub gives : (x : List ℕ) (r : Arena) → a .count < 4096 → a .total + m ≤ 65536 → x ≡ appendWords b (a .count) m q → r ≡ withHoles (a .count + 1) (a .total + m) a
+  pub gives : (x : List ℕ) (r : Arena) → a .count < holeSlots → a .total + m ≤ holePagesMax → x ≡ appendWords b (a .count) m q → r ≡ withHoles (a .count + 1) (a .total + m) a
       → Gives b a m q x r
   unfolding giveWords giveRecord
-  gives x r l u e f = let z = lt-ltb (a .count) 4096 l in let y = le-leb (a .total + m) 65536 u in record { left = rw (z, y) e; top = rw (z, y) f }
+  gives x r l u e f = let z = lt-ltb (a .count) holeSlots l in let y = le-leb (a .total + m) holePagesMax u in record { book = rw (z, y) e; top = rw (z, y) f }

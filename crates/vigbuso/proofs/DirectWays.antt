@@ -2,7 +2,7 @@
 use Prim.Native.Nat.{ℕ, zero, suc, _≤_}
 use native.Mathlib.Omega.{arith}
 use mathlib.Core.Bool.{Bool, true, false, cond}
-use mathlib.Core.List.{List, [], _∷_}
+use mathlib.Core.List.{List}
 use mathlib.Core.Option.{none}
 use mathlib.Core.Path.{_≡_, refl, sym, _∙_}
 use lib.Dec.{leb}
@@ -20,7 +20,7 @@ use Rattle.runs.specs.declared.Commit.{Commit}
 use Rattle.runs.specs.declared.Commit.the-variants.{Refused, Run, Nothing}
 use Rattle.direct.specs.declared.Grow.{Grow}
 use Rattle.direct.specs.declared.Grow.the-variants.{Yes, No}
-use Rattle.direct.specs.declared.Figures.{Figures}
+use Rattle.model.specs.declared.Figures.{Figures}
 use Rattle.direct.specs.declared.Report.{Report}
 use Rattle.direct.specs.declared.Report.the-variants.{Told}
 use Rattle.arena.specs.Calls.{Committed, commitCall, Done, growCall, releaseCall, containsCall}
@@ -29,7 +29,7 @@ use Rattle.runs.specs.Asks.{BookIn}
 use Rattle.runs.specs.Answer.{answerOf, Answers}
 use Rattle.direct.specs.Answer.{grownAs, Grew, Releases, reportOf}
 use Rattle.vigbuso.specs.Faults.{callFault}
-use Rattle.vigbuso.specs.Direct.{openOn, commitOn, CommitEnds, growOn, GrowEnds, releaseOn, containsOn, reportOn, ReportEnds}
+use Rattle.vigbuso.specs.Direct.{openOn, noPage, commitOn, CommitEnds, growOn, GrowEnds, releaseOn, containsOn, reportOn, figuresOut, ReportEnds}
 
 -- ---- numbers 1 and 2
 pub none-before : (b : List ℕ) (r : ℕ) → r ≡ metaFault b → r ≡ 0 → metaFault b ≡ 0
@@ -43,7 +43,7 @@ module _ (b : List ℕ) (z : metaFault b ≡ 0) where
   book-in n f =
       let k = sound b 0 (sym z) refl in
       let l = leb-true (words (get b (arena size))) (length b) (k .long) in
-      let m = leb-true (get b (arena size)) 262144 (and-right (leb 1 (get b (arena size))) _ (k .sized)) in
+      let m = leb-true (get b (arena size)) maxPages (and-right (leb 1 (get b (arena size))) _ (k .sized)) in
       record { long = omega arith; small = omega arith }
 
 -- a number that is none of 0 is a refusal's
@@ -64,21 +64,21 @@ both false l r e z = absurd (omega arith)
 module _ (b : List ℕ) (n r : ℕ) (e : r ≡ lengthFault n (length b)) where
   pub open-refused : (r ≡ 0 → ⊥) → Did r b (openOn b n)
   unfolding openOn
-  open-refused d = rw (← e, ne-eqb r 0 d) (record { answer = refl; left = refl })
+  open-refused d = rw (← e, ne-eqb r 0 d) (record { answer = refl; book = refl })
 
   module _ (z : r ≡ 0) where
     sides : (within (between 1 maxPages) n ≡ true) × (leb (words n) (length b) ≡ true)
     sides = both _ _ r e z
 
     pub open-fits : Fits w32 n
-    open-fits = record { fits = let k = leb-true n 262144 (and-right (leb 1 n) _ (sides .0)) in omega arith }
+    open-fits = record { fits = let k = leb-true n maxPages (and-right (leb 1 n) _ (sides .0)) in omega arith }
 
     pub open-long : 40000 ≤ length b
     open-long = let k = leb-true (words n) (length b) (sides .1) in omega arith
 
     pub open-done : (x : List ℕ) → x ≡ opened n b → Did 0 x (openOn b n)
     unfolding openOn
-    open-done x f = rw (← e, eq-eqb r 0 z) (record { answer = refl; left = f })
+    open-done x f = rw (← e, eq-eqb r 0 z) (record { answer = refl; book = f })
 
 -- ---- the calls
 module _ (b : List ℕ) (h r : ℕ) (e : r ≡ callFault b h) where
@@ -135,7 +135,7 @@ module _ (o : Committed) (x : List ℕ) (s : Commit) (k : Answers s x o) where
   pub commit-ends-run : (p q f : ℕ) (g : Bool) → s ≡ Run p g → CommitEnds o 0 x q p f (boolByte g)
   commit-ends-run p q f g e = let z = sym (k .answer) ∙ e in record { code = rw z; book = k .book; first = rw z; fresh = rw z (byte-digit g) }
 
-  pub commit-ends-none : (q f : ℕ) → s ≡ Nothing → CommitEnds o 0 x q 4294967295 f 0
+  pub commit-ends-none : (q f : ℕ) → s ≡ Nothing → CommitEnds o 0 x q noPage f 0
   commit-ends-none q f e = let z = sym (k .answer) ∙ e in record { code = rw z; book = k .book; first = rw z; fresh = rw z }
 
 module _ (o : Done) (x : List ℕ) (s : Grow) (k : Grew s x o) where
@@ -152,5 +152,5 @@ module _ (o s : Report) (k : s ≡ o) where
   pub report-ends-refused : (c : ℕ) (fs : List ℕ) → s ≡ Report.Refused c → ReportEnds o c fs fs
   report-ends-refused c fs e = let z = sym k ∙ e in record { code = rw z; figures = rw z }
 
-  pub report-ends-told : (f : Figures) (fs : List ℕ) → s ≡ Told f → ReportEnds o 0 fs (f .commits ∷ f .reuses ∷ f .abandoned ∷ f .held ∷ f .idle ∷ [])
+  pub report-ends-told : (f : Figures) (fs : List ℕ) → s ≡ Told f → ReportEnds o 0 fs (figuresOut (Told f) fs)
   report-ends-told f fs e = let z = sym k ∙ e in record { code = rw z; figures = rw z }

@@ -6,11 +6,12 @@ use mathlib.Core.List.{List, [], _∷_}
 use mathlib.Core.Bool.{Bool, false, cond}
 use mathlib.Core.Path.{_≡_}
 use lib.Dec.{eqb}
-use lib.ListN.{length}
+use lib.ListN.{length, getD}
 use Rattle.words.specs.Host.{digit}
 use Rattle.fields.specs.Field.{arena, size, get}
 use Rattle.fields.specs.Outcome.{Outcome, ends}
 use Rattle.fields.specs.Ranges.{lengthFault, metaFault}
+use Rattle.model.specs.declared.Figures.{Figures}
 use Rattle.runs.specs.declared.Commit.{Commit}
 use Rattle.runs.specs.declared.Commit.the-variants.{Refused, Run, Nothing}
 use Rattle.direct.specs.declared.Grow.{Grow}
@@ -31,10 +32,13 @@ openOn b n = cond (eqb (lengthFault n (length b)) 0) (ends 0 (opened n b)) (ends
 unfoldable pub commitOn : List ℕ → ℕ → ℕ → Committed
 commitOn b h m = cond (eqb (callFault b h) 0) (commitCall (get b (arena size)) b h m) (commitRefused b (callFault b h))
 
+abbrev pub noPage : ℕ
+noPage = 4294967295
+
 abbrev pub firstOut : Commit → ℕ → ℕ
 firstOut (Refused k) old = old
 firstOut (Run q f) old = q
-firstOut Nothing old = 4294967295
+firstOut Nothing old = noPage
 
 abbrev pub freshOut : Commit → ℕ → ℕ
 freshOut (Refused k) old = old
@@ -78,10 +82,13 @@ abbrev pub reportCode : Report → ℕ
 reportCode (Report.Refused k) = k
 reportCode (Told f) = 0
 
--- commits, reuses, abandoned, pages held, idle pages
+-- the figures as a list, and read from it
 abbrev pub figuresOut : Report → List ℕ → List ℕ
 figuresOut (Report.Refused k) old = old
 figuresOut (Told f) old = f .commits ∷ f .reuses ∷ f .abandoned ∷ f .held ∷ f .idle ∷ []
+
+abbrev pub figuresIn : List ℕ → Figures
+figuresIn fs = record { commits = getD fs 0 0; reuses = getD fs 1 0; abandoned = getD fs 2 0; held = getD fs 3 0; idle = getD fs 4 0 }
 
 pub record ReportEnds (o : Report) (r : ℕ) (fs fs′ : List ℕ) : Type 0 where
   pub code : r ≡ reportCode o

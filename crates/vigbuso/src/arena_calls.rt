@@ -10,6 +10,9 @@ ghost use Rattle.runs.specs.Answer.{Answers};
 ghost use Rattle.direct.specs.Answer.{Grew, Releases};
 ghost use Rattle.vigbuso.specs.Direct.{openOn, commitOn, CommitEnds, growOn, GrowEnds, releaseOn, containsOn, reportOn, ReportEnds};
 
+// The first page of no run.
+const NO_PAGE: u32 = 4_294_967_295;
+
 #[no_mangle]
 pub extern "C" fn vigbuso_open(meta: &mut [u32], pages: u64) -> u32
     ensures { λ r. ⌜ Did r (now (meta .exit)) (openOn (now (meta .entry)) pages) ⌝ }
@@ -51,7 +54,7 @@ pub extern "C" fn vigbuso_commit(
             0
         }
         Commit::Nothing => {
-            *first = 4_294_967_295;
+            *first = NO_PAGE;
             *fresh = 0;
             0
         }

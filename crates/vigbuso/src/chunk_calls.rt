@@ -1,8 +1,7 @@
 // The group release. Any number, any lists and any book is taken: numbers 1 to 4 stand before the call.
 use crate::faults::class_fault;
+use classes::NUM_CLASSES;
 ghost use Rattle.vigbuso.specs.Blocks.{chunksOn, ChunksEnds};
-
-const SMALL_CLASSES: u32 = 64;
 
 #[no_mangle]
 pub extern "C" fn vigbuso_release_bin_chunks(
@@ -15,7 +14,7 @@ pub extern "C" fn vigbuso_release_bin_chunks(
 ) -> u32
     ensures { λ r. ⌜ ChunksEnds (chunksOn (now (meta .entry)) class host (now (list .entry)) (now (chunks .entry)) (now (fates .entry))) r (now (meta .exit)) (now (fates .exit)) ⌝ }
 {
-    let fault = class_fault(meta, host, SMALL_CLASSES, class);
+    let fault = class_fault(meta, host, NUM_CLASSES, class);
     if fault != 0 {
         return fault;
     }
