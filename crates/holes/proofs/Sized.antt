@@ -3,7 +3,7 @@
 --     planFn      the MIR at n holes, where the operand x says n
 --     walk        its walk, to any Post that what is left at the end gives
 -- Assumes nothing.
-use Rattle.holes.proofs.Walk.{_≡_, refl, sym, subst, _∙_, ℕ, _*_, _<_, _≤_, _^_, List, [], _∷_, length, URA, fullShare, named, erased, imm, mut, w32, w64, tyInt, tyArray, tyRef, Val, vint, SProp, ent, id⊢, GName, Lft, Share, Fml, ftrue, fat, flft, flent, Memory, Routine, Heap, Env, WpFn, Tables, Atoms, Fun, Given, Item, ‵, raw, _⊛_, ⋆, some, later, _$_, _∵_, !, qed, by, move, drop, use1, use2, use3, split, join, pick, rewrite, fsplit, fjoin, feqI, feqL, await, agg, look, init, forget, stop, from, load, lit, addr, and-then, no-more, assigns, land, returns, enter, alloc1, alloc0, params1, pass1, pass0, free1, free0, Arr, cells, arr-parts, lft-new, lft-end, fmOf, RattleType, owns, Is, Lawful, shows, pointee, mem, shares, Array, array-lawful, u32, row, whole-in, whole-out, Held, lends-slice, slice-back, RefT, now, sliceTy, sliceVal, ShrSlice, MutSlice, Room, shr-slice-lawful, shr-slice-copy, owned, peeks, Meets, arg, holds, asks-both, calls, number, aHole, aPlan, anArena, machine, Lent}
+use Rattle.holes.proofs.Walk.{_≡_, refl, sym, subst, _∙_, ℕ, _*_, _<_, _≤_, _^_, List, [], _∷_, length, URA, fullShare, named, erased, imm, mut, w32, w64, tyInt, tyArray, tyRef, Val, vint, SProp, ent, id⊢, GName, Lft, Share, Fml, ftrue, fat, flft, flent, Memory, Routine, Heap, Env, WpFn, Tables, Atoms, Fun, Given, Item, ‵, raw, _⊛_, ⋆, some, later, _$_, _∵_, !, qed, by, move, drop, use1, use2, use3, split, join, pick, rewrite, fsplit, fjoin, feqI, feqL, await, agg, look, init, forget, stop, from, load, lit, addr, and-then, no-more, assigns, land, returns, enter, alloc1, alloc0, params1, pass1, pass0, free1, free0, Arr, cells, arr-parts, lft-new, lft-end, fmOf, RattleType, owns, Is, Lawful, shows, pointee, mem, shares, Array, array-lawful, u32, row, whole-in, whole-out, Held, lends-slice, slice-back, RefT, now, sliceTy, sliceVal, ShrSlice, MutSlice, Room, shr-slice-lawful, shr-slice-copy, owned, peeks, Meets, arg, holds, asks-both, calls, number, aHole, aPlan, anArena, lentAt, machine, Lent}
 use types.Kit.{Go}
 use types.Run.{Opd}
 use mir.Syntax.{Opd as Operand, Fn, local, valueLocal, memorySlot, place, copy, int, aggregate, repeat, addrOf, seq, assign, call, return}
@@ -72,13 +72,6 @@ module _ {M : Type 1} (𝓤 : URA M) (H : Heap 𝓤) (A : Atoms 𝓤) (W : Given
   array-is : Lawful 𝓤 H A (Array R n)
   array-is = array-lawful 𝓤 H A W R (aHole .lawful 𝓤 H A W) n
 
-  -- the local l as a slice, under the name γ
-  abbrev slice : ℕ → GName → RefT (List Hole)
-  slice l γ = record { ptr = (l, 0); name = γ; now = hs }
-
-  abbrev v : ℕ → Val
-  v l = sliceVal (l, 0) (length hs)
-
   pub walk : Is (ShrSlice (named 0) κ u32) m (machine m ∷ [])
       → ent 𝓤 (⋆ 𝓤 H A ((‵ (flft κ q) ⊛ ‵ ftrue) ∷ ‵ (owns (ShrSlice (named 0) κ u32 ∷ S.the-row ∷ u32 ∷ u32 ∷ []) (m, (a, (pages, (code, tt)))) (machine m ∷ [], (anArena .low a ∷ [], (vint w32 pages ∷ [], (vint w32 code ∷ [], tt))))) ∷ []))
       (WpFn 𝓤 H (𝓣 .C) (𝓣 .Λ) (planFn n x) (machine m ∷ anArena .low a ∷ vint w32 pages ∷ vint w32 code ∷ []) Post)
@@ -99,12 +92,12 @@ module _ {M : Type 1} (𝓤 : URA M) (H : Heap 𝓤) (A : Atoms 𝓤) (W : Given
       rewrite ! 4 (λ (k : ℕ). ‵ (fat fullShare (sliceTy (tyRef erased mut (pointee (R .written)))) l₈ 0 (sliceVal (l₅, 0) k))) (sym len) refl $
       -- it is laid out as a row, and lent
       move ! (10 ∷ 0 ∷ []) $ use2 W (‵ (arr-parts (shares R) n .part fullShare hs l₅ 0)) (laid 𝓤 H A W R tt n (tyArray T.Laws.mir n) refl hs l₅ low) $ fsplit ! $ drop ! $ use1 W (‵ (cells (mem R) hs l₅ 0)) (whole-in 𝓤 H A W R hs l₅ 0) $
-      lft-new ! tt (λ ν. move ! (1 ∷ []) $ use1 W (later (some (λ (γ : GName). ‵ (MutSlice (named 1) (ν ∷ []) R .own (slice l₅ γ) (v l₅ ∷ [])) ⊛ ‵ (flent (ν ∷ []) (Held R (length hs) l₅ 0 γ)))))
+      lft-new ! tt (λ ν. move ! (1 ∷ []) $ use1 W (later (some (λ (γ : GName). ‵ (MutSlice (named 1) (ν ∷ []) R .own (lentAt l₅ 0 γ hs) (sliceVal (l₅, 0) (length hs) ∷ [])) ⊛ ‵ (flent (ν ∷ []) (Held R (length hs) l₅ 0 γ)))))
       (lends-slice 𝓤 H A W R (named 1) (ν ∷ []) hs l₅ 0 room) $ await ! tt $ pick ! (λ γ. split ! $
       move ! (3 ∷ []) $ use1 W (‵ (Lent κ u32 m) ⊛ ‵ (Lent κ u32 m)) (shr-slice-copy 𝓤 H A W (named 0) κ u32 .twice m (machine m ∷ [])) $ split ! $ move ! (1 ∷ 5 ∷ []) $ join ! $ move ! (2 ∷ 4 ∷ []) $ join ! $
-      use2 W (raw _) (asks-both W (arg W anArena a a-is ∷ arg W (number w32) pages (refl, pages-fits) ∷ arg W (number w32) code (refl, code-fits) ∷ []) (holds W fit) (Lent κ u32 m) κ q (MutSlice (named 1) (ν ∷ []) R .own (slice l₅ γ) (v l₅ ∷ [])) (ν ∷ []) fullShare) $
+      use2 W (raw _) (asks-both W (arg W anArena a a-is ∷ arg W (number w32) pages (refl, pages-fits) ∷ arg W (number w32) code (refl, code-fits) ∷ []) (holds W fit) (Lent κ u32 m) κ q (MutSlice (named 1) (ν ∷ []) R .own (lentAt l₅ 0 γ hs) (sliceVal (l₅, 0) (length hs) ∷ [])) (ν ∷ []) fullShare) $
       -- [what the call asks; what the slice owns; the lender's part; the rest; _8; …; _7; …; _6; …; …; _4; …; _3; …; _2; …; _1; …; _0; …]
-      calls ! (fmOf 𝓤 H (W .laws) 𝓣) plan_in.ended (plan_in.clauses 𝓤 H A at-mem run) known-plan-in (((κ, (ν ∷ [], tt)), (q, (fullShare, tt)), tt, (m, (slice l₅ γ, (a, (pages, (code, tt))))), (machine m ∷ [], (v l₅ ∷ [], (anArena .low a ∷ [], (vint w32 pages ∷ [], (vint w32 code ∷ [], tt)))))), tt)
+      calls ! (fmOf 𝓤 H (W .laws) 𝓣) plan_in.ended (plan_in.clauses 𝓤 H A at-mem run) known-plan-in (((κ, (ν ∷ [], tt)), (q, (fullShare, tt)), tt, (m, (lentAt l₅ 0 γ hs, (a, (pages, (code, tt))))), (machine m ∷ [], (sliceVal (l₅, 0) (length hs) ∷ [], (anArena .low a ∷ [], (vint w32 pages ∷ [], (vint w32 code ∷ [], tt)))))), tt)
       aPlan (λ r ws. Planned (now m) a pages code r) (λ r ws. id⊢ 𝓤 _) (and-then ! (load ! (from ! (stop !)) (look ! 17 refl)) (and-then ! (load ! (from ! (stop !)) (look ! 4 refl)) (and-then ! (load ! (from ! (stop !)) (look ! 15 refl)) (and-then ! (load ! (from ! (stop !)) (look ! 13 refl)) (and-then ! (load ! (from ! (stop !)) (look ! 11 refl)) (no-more !)))))) (λ r ws is e.
       move ! (1 ∷ []) $ fsplit ! $ move ! (1 ∷ []) $ fsplit ! $ fsplit ! $ move ! (1 ∷ []) $ feqL ! (λ long. move ! (3 ∷ []) $
       -- [the tokens; what says the last list; true; true; what the words own; the lender's part; the rest; _8; …; _7; …; _6; …; …; _4; …; _3; …; _2; …; _1; …; _0; …]

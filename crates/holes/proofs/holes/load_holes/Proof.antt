@@ -2,7 +2,7 @@
 -- `hole_from` a copy with its lifetime's token, which comes back. The holes' borrow is closed where the loop's test is reached, at the list of that turn; a turn opens it,
 -- stores one hole, and closes it. The variant is what is left of the count.
 -- Assumes nothing.
-use Rattle.holes.proofs.Walk.{_≡_, refl, sym, ap, subst, _∙_, ℕ, _+_, _-_, _<_, _≤_, _^_, arith, Bool, true, false, _&&_, List, [], _∷_, ltb, length, set, take, length-set, URA, fullShare, Ty, named, imm, mut, w32, w64, tyInt, tyBool, tyPtr, tyRef, Val, vbool, vint, vptr, SProp, ent, id⊢, GName, Lft, Share, Fml, ftrue, fat, froom, fdies, flft, fobs, fbor, ltb-true, ltb-false, Memory, Routine, afterTurn, Heap, Env, WpFn, Tables, Atoms, Fun, givenOf, tables, tablesOf, Given, Item, Sq, runs, atRet, ‵, _⊛_, ⋆, _$_, _∵_, !, qed, by, move, drop, split, join, rewrite, fsplit, fjoin, suffices, frame, done, whole, sub, look-in, look, init, store, store-raw, forget, stop, hop, fld, from, load, lit, true-lit, of-opd, un, bin, and-then, no-more, first, blocks, stays, leaves-loop, exec, assigns, assigns-last, land, returns, enter, alloc1, alloc0, params1, pass1, pass0, free1, free0, again, fmOf, RattleType, owns, Is, shows, pointee, mem, pureI, u32, bool, place-is, elem-out, elem-put, opens-slice, closes-slice, Held, RefT, now, sliceTy, sliceVal, ShrSlice, MutSlice, Room, heres, codedHoleys, at-slice, shr-slice-lawful, shr-slice-copy, owned, Args, Vals, onEntry, Meets, says, needs, arg, holds, asks, asks-lent, calls-plain, calls-lent, by-test, Takens, Ends, ends, known, shown, number, truth, aHole, byValue, lent, lentMut, holeVals, machine, Lent, scaled}
+use Rattle.holes.proofs.Walk.{_≡_, refl, sym, ap, subst, _∙_, ℕ, _+_, _-_, _<_, _≤_, _^_, arith, Bool, true, false, _&&_, List, [], _∷_, ltb, length, set, take, length-set, URA, fullShare, Ty, named, imm, mut, w32, w64, tyInt, tyBool, tyPtr, tyRef, Val, vbool, vint, vptr, SProp, ent, id⊢, GName, Lft, Share, Fml, ftrue, fat, froom, fdies, flft, fobs, fbor, ltb-true, ltb-false, Memory, Routine, afterTurn, Heap, Env, WpFn, Tables, Atoms, Fun, givenOf, tables, tablesOf, Given, Item, Sq, runs, atRet, ‵, _⊛_, ⋆, _$_, _∵_, !, qed, by, move, drop, split, join, rewrite, fsplit, fjoin, suffices, frame, done, whole, sub, look-in, look, init, store, store-raw, forget, stop, hop, fld, from, load, lit, true-lit, of-opd, un, bin, and-then, no-more, first, blocks, stays, leaves-loop, exec, assigns, assigns-last, land, returns, enter, alloc1, alloc0, params1, pass1, pass0, free1, free0, again, fmOf, RattleType, owns, Is, shows, pointee, pureI, u32, bool, place-is, elem-out, elem-put, opens-slice, closes-slice, Held, RefT, now, sliceTy, sliceVal, ShrSlice, MutSlice, Room, heres, codedHoleys, at-slice, shr-slice-lawful, shr-slice-copy, owned, Args, Vals, onEntry, Meets, says, needs, arg, holds, asks, asks-lent, calls-plain, calls-lent, by-test, Takens, Ends, ends, known, shown, number, truth, aHole, byValue, lent, lentMut, lentAt, holeVals, machine, Lent, scaled}
 use lib.Dec.{lit<}
 use lib.ListN.{drop as keep-from}
 use Rattle.fields.specs.Field.{hole, start, pages, word as wordAt}
@@ -43,11 +43,8 @@ module _ {M : Type 1} (𝓤 : URA M) (H : Heap 𝓤) (A : Atoms 𝓤) (W : Given
     (known-fair-too : Meets 𝓤 H A fair_too.signature (𝓣 .C fair_too.Symbol.name) (fair_too.spec 𝓤 H A mem run))
     (κ κ′ : Lft) (q q′ : Share) (m : RefT (List ℕ)) (b o : ℕ) (γ : GName) (ys : List Hole) (count total frontier : ℕ) (gn : Room R (length ys)) (count-fits : count < 2 ^ 32) (total-fits : total < 2 ^ 32) (frontier-fits : frontier < 2 ^ 32)
     (pre : (count ≤ length ys) × (wordAt (hole start count) ≤ length (now m))) where
-  abbrev at-list : List Hole → RefT (List Hole)
-  at-list l = record { ptr = (b, o); name = γ; now = l }
-
   abbrev x : Args f.signature (κ, (κ′, tt))
-  x = (m, (at-list ys, (count, (total, (frontier, tt)))))
+  x = (m, (lentAt b o γ ys, (count, (total, (frontier, tt)))))
 
   abbrev v : Val
   v = sliceVal (b, o) (length ys)
@@ -102,7 +99,7 @@ module _ {M : Type 1} (𝓤 : URA M) (H : Heap 𝓤) (A : Atoms 𝓤) (W : Given
       suffices ! _ (ends 𝓤 H A f.ended taken (f.clauses 𝓤 H A mem run) W (((κ, (κ′, tt)), (q, (q′, tt)), tt, x, at), tt) (vbool (t .fair)) (t .fair) (tt, (t .hs, (tt, (tt, (tt, tt))))) (tt, (t .len, (tt, (tt, (tt, tt)))))) $
       says ! (subst (λ (n : ℕ). t .fair ≡ every ok (loadHoles (now m) 0 n)) e (t .so-far), subst (λ (n : ℕ). take n (t .hs) ≡ loadHoles (now m) 0 n) e (t .loaded), subst (λ (n : ℕ). keep-from n (t .hs) ≡ keep-from n ys) e (t .rest)) $
       move ! (1 ∷ []) $ split ! $ move ! (5 ∷ 1 ∷ []) $ join ! $ move ! (1 ∷ 0 ∷ []) $ join ! $ frame ! $
-      move ! (1 ∷ 2 ∷ []) $ fjoin ! $ pureI ! (at-slice R (at-list (t .hs)) (at .1 .0)) (tt, (tt, tt)) (ap (λ (n : ℕ). sliceVal (b, o) n ∷ []) (sym (t .len)), subst (Room R) (sym (t .len)) gn) $ fjoin ! $
+      move ! (1 ∷ 2 ∷ []) $ fjoin ! $ pureI ! (at-slice R (lentAt b o γ (t .hs)) (at .1 .0)) (tt, (tt, tt)) (ap (λ (n : ℕ). sliceVal (b, o) n ∷ []) (sym (t .len)), subst (Room R) (sym (t .len)) gn) $ fjoin ! $
       move ! (0 ∷ 2 ∷ []) $ fjoin ! $ move ! (1 ∷ 0 ∷ []) $ fjoin ! $ frame ! $ owned ! bool (Is bool) (truth .makes 𝓤 H A W) (t .fair) _ refl $ done !
 
   module _ (l₀ l₁ l₂ l₃ l₄ l₅ l₆ l₇ l₈ l₉ l₁₀ l₁₁ l₁₂ : ℕ) where

@@ -1,7 +1,7 @@
 -- `holes::holes::put_hole` meets its contract: a walk of its MIR, by hand. The place of `holes[i]` is i * 8 past the slice's pointer; the borrow is opened, element i is
 -- taken out of the row and stored to, h is put in its place, and the borrow is closed at the list with h at i.
 -- Assumes nothing.
-use Rattle.holes.proofs.Walk.{refl, sym, ap, subst, ℕ, _<_, _^_, List, [], _∷_, length, set, length-set, URA, fullShare, named, w64, tyPtr, Val, vunit, vint, vptr, SProp, ent, GName, Lft, Share, ftrue, fsep, fat, flft, fobs, fbor, Memory, Routine, Heap, WpFn, Tables, Atoms, Fun, givenOf, tables, tablesOf, Given, ‵, _⊛_, ⋆, _$_, _∵_, !, qed, by, move, keep, drop, split, join, rewrite, fsplit, fjoin, feqI, suffices, frame, done, whole, sub, look-in, look, init, store-raw, forget, stop, hop, fld, from, load, lit, unit-lit, of-opd, bin, assigns, returns, enter, alloc1, alloc0, params1, pass1, pass0, free1, free0, RattleType, owns, Is, shows, mem, pureI, usize, place-is, elem-out, elem-put, opens-slice, closes-slice, Held, RefT, now, sliceVal, MutSlice, Room, heres, codedHoleys, at-slice, owned, nothing, Args, Vals, onEntry, says, needs, Takens, Ends, ends, shown, number, aHole, byValue, lentMut, holeVals, scaled}
+use Rattle.holes.proofs.Walk.{refl, sym, ap, subst, ℕ, _<_, _^_, List, [], _∷_, length, set, length-set, URA, fullShare, named, w64, tyPtr, Val, vunit, vint, vptr, SProp, ent, GName, Lft, Share, ftrue, fsep, fat, flft, fobs, fbor, Memory, Routine, Heap, WpFn, Tables, Atoms, Fun, givenOf, tables, tablesOf, Given, ‵, _⊛_, ⋆, _$_, _∵_, !, qed, by, move, keep, drop, split, join, rewrite, fsplit, fjoin, feqI, suffices, frame, done, whole, sub, look-in, look, init, store-raw, forget, stop, hop, fld, from, load, lit, unit-lit, of-opd, bin, assigns, returns, enter, alloc1, alloc0, params1, pass1, pass0, free1, free0, RattleType, owns, Is, shows, pureI, usize, place-is, elem-out, elem-put, opens-slice, closes-slice, Held, now, sliceVal, MutSlice, Room, heres, codedHoleys, at-slice, owned, nothing, Args, Vals, onEntry, says, needs, Takens, Ends, ends, shown, number, aHole, byValue, lentMut, lentAt, holeVals, scaled}
 use Rattle.holes.specs.Scan.{noHole}
 use Rattle.model.specs.declared.Hole.{Hole}
 use Rattle.model.proofs.Hole as T
@@ -14,11 +14,8 @@ abbrev taken : Takens (f.signature .params) (f.ended .kept)
 taken = (lentMut 0 tt R, (byValue (number w64), (byValue aHole, tt)))
 
 module _ {M : Type 1} (𝓤 : URA M) (H : Heap 𝓤) (A : Atoms 𝓤) (W : Given 𝓤 H A) (mem : Memory → SProp 𝓤) (run : Routine → Fun 𝓤) (𝓣 : Tables 𝓤 H) (κ : Lft) (q : Share) (b o : ℕ) (γ : GName) (ys : List Hole) (i : ℕ) (h : Hole) where
-  abbrev at-list : List Hole → RefT (List Hole)
-  at-list l = record { ptr = (b, o); name = γ; now = l }
-
   abbrev x : Args f.signature (κ, tt)
-  x = (at-list ys, (i, (h, tt)))
+  x = (lentAt b o γ ys, (i, (h, tt)))
 
   abbrev at : Vals f.signature (κ, tt)
   at = (sliceVal (b, o) (length ys) ∷ [], (vint w64 i ∷ [], (aHole .low h ∷ [], tt)))
@@ -37,7 +34,7 @@ module _ {M : Type 1} (𝓤 : URA M) (H : Heap 𝓤) (A : Atoms 𝓤) (W : Given
       suffices ! _ (ends 𝓤 H A f.ended taken (f.clauses 𝓤 H A mem run) W (((κ, tt), (q, tt), tt, x, at), tt) vunit tt (zs, (tt, (tt, tt))) (length-set ys i h, (tt, (tt, tt)))) $ says ! refl $
       nothing ! $ move ! (3 ∷ 0 ∷ []) $ join ! $ frame ! $
       -- with the fact on the machine value, at a list of the same length, obs and the borrow are what the slice owns
-      fjoin ! $ pureI ! (at-slice R (at-list zs) (at .0)) (tt, (tt, tt)) (ap (λ (m : ℕ). sliceVal (b, o) m ∷ []) (sym (length-set ys i h)), subst (Room R) (sym (length-set ys i h)) gn) $ fjoin ! $ fjoin ! $ frame ! $
+      fjoin ! $ pureI ! (at-slice R (lentAt b o γ zs) (at .0)) (tt, (tt, tt)) (ap (λ (m : ℕ). sliceVal (b, o) m ∷ []) (sym (length-set ys i h)), subst (Room R) (sym (length-set ys i h)) gn) $ fjoin ! $ fjoin ! $ frame ! $
       feqI ! (List Val) (vunit ∷ []) (vunit ∷ []) refl $ done !
 
   walk : Room R (length ys) → i < 2 ^ 64 → Is R h (aHole .low h ∷ []) → i < length ys

@@ -1,6 +1,6 @@
 -- `holes::plans::cut_at` meets its contract: a walk of its MIR, by hand. The slice is lent on to `put_hole` as a `&mut [Hole]` and then to `scan` as a `&[Hole]`, each for a
 -- lifetime that the walk makes and ends; the rest are numbers and records. Assumes nothing.
-use Rattle.holes.proofs.Walk.{_≡_, refl, sym, ap, subst, _∙_, ℕ, _-_, _<_, _≤_, _^_, arith, List, [], _∷_, length, set, take, URA, fullShare, named, erased, imm, w32, w64, tyRef, Val, vint, SProp, ent, id⊢, GName, Lft, Share, Fml, ftrue, fat, flft, fobs, fbor, Memory, Routine, Heap, WpFn, Tables, Atoms, Fun, givenOf, tables, tablesOf, Given, ‵, raw, _⊛_, ⋆, _$_, _∵_, !, qed, by, move, drop, use2, split, join, rewrite, fsplit, fjoin, feqL, suffices, frame, done, whole, sub, look-in, agg, look, init, forget, stop, hop, fld, from, load, addr, and-then, no-more, assigns, land, returns, enter, alloc1, alloc0, params1, pass1, pass0, free1, free0, fmOf, RattleType, owns, Is, pointee, pureI, u32, Held, RefT, now, sliceTy, sliceVal, ShrSlice, MutSlice, Room, heres, codedHoleys, at-slice, owned, nothing, Args, Vals, onEntry, Meets, says, needs, arg, holds, asks, asks-new, calls, calls-plain, Takens, Ends, ends, known, shown, number, unit, aHole, aBest, aPlan, byValue, lentMut}
+use Rattle.holes.proofs.Walk.{_≡_, refl, sym, ap, subst, _∙_, ℕ, _-_, _<_, _≤_, _^_, arith, List, [], _∷_, length, set, take, URA, fullShare, named, erased, imm, w32, w64, tyRef, Val, vint, SProp, ent, id⊢, GName, Lft, Share, Fml, ftrue, fat, flft, fobs, fbor, Memory, Routine, Heap, WpFn, Tables, Atoms, Fun, givenOf, tables, tablesOf, Given, ‵, raw, _⊛_, ⋆, _$_, _∵_, !, qed, by, move, drop, use2, split, join, rewrite, fsplit, fjoin, feqL, suffices, frame, done, whole, sub, look-in, agg, look, init, forget, stop, hop, fld, from, load, addr, and-then, no-more, assigns, land, returns, enter, alloc1, alloc0, params1, pass1, pass0, free1, free0, fmOf, RattleType, owns, Is, pointee, pureI, u32, Held, now, sliceTy, sliceVal, ShrSlice, MutSlice, Room, heres, codedHoleys, at-slice, owned, nothing, Args, Vals, onEntry, Meets, says, needs, arg, holds, asks, asks-new, calls, calls-plain, Takens, Ends, ends, known, shown, number, unit, aHole, aBest, aPlan, byValue, lentMut, lentAt}
 use denote.Struct.Laws as LL
 use Rattle.model.specs.HoleStore.{leastFit}
 use Rattle.holes.specs.Scan.{bestOf, cutOf, leftOf, cutBest}
@@ -33,18 +33,11 @@ module _ {M : Type 1} (𝓤 : URA M) (H : Heap 𝓤) (A : Atoms 𝓤) (W : Given
     (known-scan : Meets 𝓤 H A scan.signature (𝓣 .C scan.Symbol.name) (scan.spec 𝓤 H A at-mem run))
     (κ : Lft) (q : Share) (b o : ℕ) (γ : GName) (ys : List Hole) (p : Plan) (count pages : ℕ) (gn : Room R (length ys)) (p-is : Is P.the-row p (aPlan .low p ∷ [])) (count-fits : count < 2 ^ 32) (pages-fits : pages < 2 ^ 32)
     (pre : (p .code - 1 < length ys) × (count ≤ length ys)) where
-  -- the slice at a list, for a name, and its machine value
-  abbrev slice : GName → List Hole → RefT (List Hole)
-  slice γ′ l = record { ptr = (b, o); name = γ′; now = l }
-
-  abbrev v : List Hole → Val
-  v l = sliceVal (b, o) (length l)
-
   abbrev x : Args f.signature (κ, tt)
-  x = (slice γ ys, (p, (count, (pages, tt))))
+  x = (lentAt b o γ ys, (p, (count, (pages, tt))))
 
   abbrev at : Vals f.signature (κ, tt)
-  at = (v ys ∷ [], (aPlan .low p ∷ [], (vint w32 count ∷ [], (vint w32 pages ∷ [], tt))))
+  at = (sliceVal (b, o) (length ys) ∷ [], (aPlan .low p ∷ [], (vint w32 count ∷ [], (vint w32 pages ∷ [], tt))))
 
   abbrev Post : Val → SProp 𝓤
   Post = Ends 𝓤 H A f.ended taken (f.clauses 𝓤 H A at-mem run) (((κ, tt), (q, tt), tt, x, at), tt)
@@ -76,12 +69,12 @@ module _ {M : Type 1} (𝓤 : URA M) (H : Heap 𝓤) (A : Atoms 𝓤) (W : Given
       qed W (‵ (fobs γ (codedHoleys R .code (heres R zs))) ∷ ‵ (fbor κ (Held R (length zs) b o γ)) ∷ ‵ (flft κ q) ∷ ‵ Rest ∷ []) ∵
       suffices ! _ (ends 𝓤 H A f.ended taken (f.clauses 𝓤 H A at-mem run) W (((κ, tt), (q, tt), tt, x, at), tt) (aBest .low r) r (zs, (tt, (tt, (tt, tt)))) (long, (tt, (tt, (tt, tt))))) $ says ! e $
       nothing ! $ move ! (3 ∷ 0 ∷ []) $ join ! $ frame ! $ fjoin ! $
-      pureI ! (at-slice R (slice γ zs) (at .0)) (tt, (tt, tt)) (ap (λ (m : ℕ). sliceVal (b, o) m ∷ []) (sym long), subst (Room R) (sym long) gn) $ fjoin ! $ fjoin ! $ frame ! $
+      pureI ! (at-slice R (lentAt b o γ zs) (at .0)) (tt, (tt, tt)) (ap (λ (m : ℕ). sliceVal (b, o) m ∷ []) (sym long), subst (Room R) (sym long) gn) $ fjoin ! $ fjoin ! $ frame ! $
       owned ! B.the-row (Is B.the-row) (aBest .makes 𝓤 H A W) r _ is $ done !
 
-  walk : ent 𝓤 (onEntry 𝓤 H A f.signature (κ, tt) (q, tt) x at) (WpFn 𝓤 H (𝓣 .C) (𝓣 .Λ) f.Code.function (v ys ∷ aPlan .low p ∷ vint w32 count ∷ vint w32 pages ∷ []) Post)
+  walk : ent 𝓤 (onEntry 𝓤 H A f.signature (κ, tt) (q, tt) x at) (WpFn 𝓤 H (𝓣 .C) (𝓣 .Λ) f.Code.function (sliceVal (b, o) (length ys) ∷ aPlan .low p ∷ vint w32 count ∷ vint w32 pages ∷ []) Post)
   walk =
-      qed W ((‵ (flft κ q) ⊛ ‵ ftrue) ∷ ‵ (owns (MutSlice (named 0) κ R ∷ P.the-row ∷ u32 ∷ u32 ∷ []) x at) ∷ []) ∵ enter ! (𝓣 .C) (𝓣 .Λ) f.Code.function (v ys ∷ aPlan .low p ∷ vint w32 count ∷ vint w32 pages ∷ []) _ $
+      qed W ((‵ (flft κ q) ⊛ ‵ ftrue) ∷ ‵ (owns (MutSlice (named 0) κ R ∷ P.the-row ∷ u32 ∷ u32 ∷ []) x at) ∷ []) ∵ enter ! (𝓣 .C) (𝓣 .Λ) f.Code.function (sliceVal (b, o) (length ys) ∷ aPlan .low p ∷ vint w32 count ∷ vint w32 pages ∷ []) _ $
       alloc1 ! (λ l₀. alloc1 ! (λ l₁. alloc1 ! (λ l₂. alloc1 ! (λ l₃. alloc1 ! (λ l₄. alloc1 ! (λ l₅. alloc1 ! (λ l₆. alloc1 ! (λ l₇. alloc1 ! (λ l₈. alloc1 ! (λ l₉. alloc1 ! (λ l₁₀. alloc1 ! (λ l₁₁. alloc1 ! (λ l₁₂. alloc0 ! $ params1 ! $
       pass1 ! (init ! 22 refl (tt, (tt, (record { fits = gn .0 }, tt)))) $ pass1 ! (init ! 20 refl (aPlan .lawful 𝓤 H A W .typed p _ p-is .0)) $ pass1 ! (init ! 18 refl (tt, record { fits = count-fits })) $ pass1 ! (init ! 16 refl (tt, record { fits = pages-fits })) $ pass0 ! $
       move ! (27 ∷ []) $ fsplit ! $ fsplit ! $ drop ! $ fsplit ! $ move ! (29 ∷ []) $ split ! $ move ! (1 ∷ []) $ drop ! $ move ! (1 ∷ 2 ∷ 0 ∷ []) $
@@ -97,8 +90,8 @@ module _ {M : Type 1} (𝓤 : URA M) (H : Heap 𝓤) (A : Atoms 𝓤) (W : Given
       -- it is lent on to `put_hole`
       lend-mut ! tt R (named 0) ys b o gn (λ ν γ′.
       -- [what the call asks; the lender's part; the open borrow; obs; auth; the rest; _12; …; _11; …; …; _1; …; _0; …]
-      use2 W (raw _) (asks-new W (arg W (number w64) i i-is ∷ arg W aHole h h-is ∷ []) (holds W (subst (λ (k : ℕ). k < length ys) (sym e₁) (pre .0))) (MutSlice (named 0) (ν ∷ []) R .own (slice γ′ ys) (v ys ∷ [])) (ν ∷ []) fullShare) $
-      calls ! (fmOf 𝓤 H (W .laws) 𝓣) put_hole.ended (put_hole.clauses 𝓤 H A at-mem run) known-put-hole (((ν ∷ [], tt), (fullShare, tt), tt, (slice γ′ ys, (i, (h, tt))), (v ys ∷ [], (vint w64 i ∷ [], (aHole .low h ∷ [], tt)))), tt) unit (λ r ws. ws .0 ≡ set ys i h) (λ r ws. id⊢ 𝓤 _)
+      use2 W (raw _) (asks-new W (arg W (number w64) i i-is ∷ arg W aHole h h-is ∷ []) (holds W (subst (λ (k : ℕ). k < length ys) (sym e₁) (pre .0))) (MutSlice (named 0) (ν ∷ []) R .own (lentAt b o γ′ ys) (sliceVal (b, o) (length ys) ∷ [])) (ν ∷ []) fullShare) $
+      calls ! (fmOf 𝓤 H (W .laws) 𝓣) put_hole.ended (put_hole.clauses 𝓤 H A at-mem run) known-put-hole (((ν ∷ [], tt), (fullShare, tt), tt, (lentAt b o γ′ ys, (i, (h, tt))), (sliceVal (b, o) (length ys) ∷ [], (vint w64 i ∷ [], (aHole .low h ∷ [], tt)))), tt) unit (λ r ws. ws .0 ≡ set ys i h) (λ r ws. id⊢ 𝓤 _)
       (and-then ! (load ! (from ! (stop !)) (look ! 16 refl)) (and-then ! (load ! (from ! (stop !)) (look ! 14 refl)) (and-then ! (load ! (from ! (stop !)) (look ! 12 refl)) (no-more !)))) (λ r ws r-is e₃.
       move ! (1 ∷ []) $ fsplit ! $ fsplit ! $ move ! (1 ∷ []) $ feqL ! (λ long. move ! (2 ∷ []) $
       -- [the new token; what says the last list; true; the lender's part; the open borrow; obs; auth; the rest; _12; …; _11; …; …; _1; …; _0; …]
@@ -113,8 +106,8 @@ module _ {M : Type 1} (𝓤 : URA M) (H : Heap 𝓤) (A : Atoms 𝓤) (W : Given
       land ! (from ! (stop !)) (init ! 4 refl (tt, record { fits = n-is .1 })) $
       -- and it is lent on to `scan`
       lend-shr ! tt R (named 0) (ws .0) b o (subst (Room R) (sym long) gn) (λ ν′ γ″.
-      use2 W (raw _) (asks-new W (arg W (number w32) n n-is ∷ arg W (number w32) (p .pages) (refl, old-fits) ∷ []) (holds W (within (ws .0) n long e₄)) (ShrSlice (named 0) (ν′ ∷ []) R .own (slice γ″ (ws .0)) (v (ws .0) ∷ [])) (ν′ ∷ []) fullShare) $
-      calls ! (fmOf 𝓤 H (W .laws) 𝓣) scan.ended (scan.clauses 𝓤 H A at-mem run) known-scan (((ν′ ∷ [], tt), (fullShare, tt), tt, (slice γ″ (ws .0), (n, (p .pages, tt))), (v (ws .0) ∷ [], (vint w32 n ∷ [], (vint w32 (p .pages) ∷ [], tt)))), tt) aBest (λ r ws′. Scanned (ws .0) n r) (λ r ws. id⊢ 𝓤 _)
+      use2 W (raw _) (asks-new W (arg W (number w32) n n-is ∷ arg W (number w32) (p .pages) (refl, old-fits) ∷ []) (holds W (within (ws .0) n long e₄)) (ShrSlice (named 0) (ν′ ∷ []) R .own (lentAt b o γ″ (ws .0)) (sliceVal (b, o) (length (ws .0)) ∷ [])) (ν′ ∷ []) fullShare) $
+      calls ! (fmOf 𝓤 H (W .laws) 𝓣) scan.ended (scan.clauses 𝓤 H A at-mem run) known-scan (((ν′ ∷ [], tt), (fullShare, tt), tt, (lentAt b o γ″ (ws .0), (n, (p .pages, tt))), (sliceVal (b, o) (length (ws .0)) ∷ [], (vint w32 n ∷ [], (vint w32 (p .pages) ∷ [], tt)))), tt) aBest (λ r ws′. Scanned (ws .0) n r) (λ r ws. id⊢ 𝓤 _)
       (and-then ! (load ! (from ! (stop !)) (look ! 8 refl)) (and-then ! (load ! (from ! (stop !)) (look ! 6 refl)) (and-then ! (load ! (from ! (fld ! refl (stop !))) (look-in ! 26 (sub ! 3 refl (whole !)))) (no-more !)))) (λ r ws′ is e₅.
       move ! (1 ∷ []) $ drop ! $
       land ! (from ! (stop !)) (init ! 30 refl (aBest .lawful 𝓤 H A W .typed r _ is .0)) $ split ! $

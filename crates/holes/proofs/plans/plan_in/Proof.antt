@@ -1,6 +1,6 @@
 -- `holes::plans::plan_in` meets its contract: a walk of its MIR, by hand. The slice of holes is lent on to `load_holes`, as a `&[Hole]` to `pick`, and to `cut_at`, each time for a
 -- lifetime that the walk makes and ends. What is left in it is of no matter. Assumes nothing.
-use Rattle.holes.proofs.Walk.{_≡_, refl, sym, ap, subst, _∙_, ℕ, _-_, _<_, _≤_, _^_, arith, Bool, List, [], _∷_, length, set, take, URA, fullShare, named, erased, imm, mut, w32, tyRef, Val, vbool, vint, SProp, ent, id⊢, GName, Lft, Share, Fml, ftrue, fat, flft, fobs, fbor, Memory, Routine, Heap, WpFn, Tables, Atoms, Fun, givenOf, tables, tablesOf, Given, ‵, raw, _⊛_, ⋆, _$_, _∵_, !, qed, by, move, drop, use1, use2, split, join, rewrite, fsplit, fjoin, feqL, suffices, frame, done, whole, sub, look-in, agg, look, init, forget, stop, hop, fld, from, load, addr, and-then, no-more, assigns, land, returns, enter, alloc1, alloc0, params1, pass1, pass0, free1, free0, fmOf, RattleType, owns, Is, pointee, pureI, u32, Held, RefT, now, sliceTy, sliceVal, ShrSlice, MutSlice, Room, heres, codedHoleys, at-slice, shr-slice-lawful, shr-slice-copy, owned, Args, Vals, onEntry, Meets, says, needs, arg, holds, asks, asks-new, asks-both, calls, calls-plain, Takens, Ends, ends, known, shown, number, truth, aBest, aPlan, anArena, byValue, lent, lentMut, machine, Lent}
+use Rattle.holes.proofs.Walk.{_≡_, refl, sym, ap, subst, _∙_, ℕ, _-_, _<_, _≤_, _^_, arith, Bool, List, [], _∷_, length, set, take, URA, fullShare, named, erased, imm, mut, w32, tyRef, Val, vbool, vint, SProp, ent, id⊢, GName, Lft, Share, Fml, ftrue, fat, flft, fobs, fbor, Memory, Routine, Heap, WpFn, Tables, Atoms, Fun, givenOf, tables, tablesOf, Given, ‵, raw, _⊛_, ⋆, _$_, _∵_, !, qed, by, move, drop, use1, use2, split, join, rewrite, fsplit, fjoin, feqL, suffices, frame, done, whole, sub, look-in, agg, look, init, forget, stop, hop, fld, from, load, addr, and-then, no-more, assigns, land, returns, enter, alloc1, alloc0, params1, pass1, pass0, free1, free0, fmOf, RattleType, owns, Is, pointee, pureI, u32, Held, RefT, now, sliceTy, sliceVal, ShrSlice, MutSlice, Room, heres, codedHoleys, at-slice, shr-slice-lawful, shr-slice-copy, owned, Args, Vals, onEntry, Meets, says, needs, arg, holds, asks, asks-new, asks-both, calls, calls-plain, Takens, Ends, ends, known, shown, number, truth, aBest, aPlan, anArena, byValue, lent, lentMut, lentAt, machine, Lent}
 use lib.ListN.{drop as keep-from}
 use denote.Struct.Laws as LL
 use Rattle.fields.specs.Field.{hole, start, word}
@@ -41,18 +41,11 @@ module _ {M : Type 1} (𝓤 : URA M) (H : Heap 𝓤) (A : Atoms 𝓤) (W : Given
     (known-planned : Meets 𝓤 H A planned.signature (𝓣 .C planned.Symbol.name) (planned.spec 𝓤 H A at-mem run))
     (κ κ′ : Lft) (q q′ : Share) (m : RefT (List ℕ)) (b o : ℕ) (γ : GName) (ys : List Hole) (a : Arena) (pages code : ℕ) (gn : Room R (length ys)) (a-is : Is S.the-row a (anArena .low a ∷ [])) (pages-fits : pages < 2 ^ 32) (code-fits : code < 2 ^ 32)
     (pre : Ready (now m) ys a) where
-  -- the slices, and their machine values
-  abbrev slice : GName → List Hole → RefT (List Hole)
-  slice γ′ l = record { ptr = (b, o); name = γ′; now = l }
-
-  abbrev v : List Hole → Val
-  v l = sliceVal (b, o) (length l)
-
   abbrev x : Args f.signature (κ, (κ′, tt))
-  x = (m, (slice γ ys, (a, (pages, (code, tt)))))
+  x = (m, (lentAt b o γ ys, (a, (pages, (code, tt)))))
 
   abbrev at : Vals f.signature (κ, (κ′, tt))
-  at = (machine m ∷ [], (v ys ∷ [], (anArena .low a ∷ [], (vint w32 pages ∷ [], (vint w32 code ∷ [], tt)))))
+  at = (machine m ∷ [], (sliceVal (b, o) (length ys) ∷ [], (anArena .low a ∷ [], (vint w32 pages ∷ [], (vint w32 code ∷ [], tt)))))
 
   abbrev Post : Val → SProp 𝓤
   Post = Ends 𝓤 H A f.ended taken (f.clauses 𝓤 H A at-mem run) (((κ, (κ′, tt)), (q, (q′, tt)), tt, x, at), tt)
@@ -95,12 +88,12 @@ module _ {M : Type 1} (𝓤 : URA M) (H : Heap 𝓤) (A : Atoms 𝓤) (W : Given
       qed W (‵ (fobs γ (codedHoleys R .code (heres R zs))) ∷ ‵ (fbor κ′ (Held R (length zs) b o γ)) ∷ ‵ (flft κ′ q′) ∷ ‵ (Lent κ u32 m) ∷ (‵ (flft κ q) ⊛ ‵ ftrue) ∷ ‵ Rest ∷ []) ∵
       suffices ! _ (ends 𝓤 H A f.ended taken (f.clauses 𝓤 H A at-mem run) W (((κ, (κ′, tt)), (q, (q′, tt)), tt, x, at), tt) (aPlan .low r) r (tt, (zs, (tt, (tt, (tt, tt))))) (tt, (long, (tt, (tt, (tt, tt)))))) $ says ! e $
       move ! (4 ∷ []) $ split ! $ move ! (4 ∷ 1 ∷ []) $ join ! $ move ! (1 ∷ 0 ∷ []) $ join ! $ frame ! $
-      fjoin ! $ pureI ! (at-slice R (slice γ zs) (at .1 .0)) (tt, (tt, tt)) (ap (λ (n : ℕ). sliceVal (b, o) n ∷ []) (sym long), subst (Room R) (sym long) gn) $ fjoin ! $ move ! (0 ∷ 2 ∷ []) $ fjoin ! $ move ! (1 ∷ 0 ∷ []) $ fjoin ! $ frame ! $
+      fjoin ! $ pureI ! (at-slice R (lentAt b o γ zs) (at .1 .0)) (tt, (tt, tt)) (ap (λ (n : ℕ). sliceVal (b, o) n ∷ []) (sym long), subst (Room R) (sym long) gn) $ fjoin ! $ move ! (0 ∷ 2 ∷ []) $ fjoin ! $ move ! (1 ∷ 0 ∷ []) $ fjoin ! $ frame ! $
       owned ! P.the-row (Is P.the-row) (aPlan .makes 𝓤 H A W) r _ is $ done !
 
-  walk : Is (ShrSlice (named 0) κ u32) m (machine m ∷ []) → ent 𝓤 (onEntry 𝓤 H A f.signature (κ, (κ′, tt)) (q, (q′, tt)) x at) (WpFn 𝓤 H (𝓣 .C) (𝓣 .Λ) f.Code.function (machine m ∷ v ys ∷ anArena .low a ∷ vint w32 pages ∷ vint w32 code ∷ []) Post)
+  walk : Is (ShrSlice (named 0) κ u32) m (machine m ∷ []) → ent 𝓤 (onEntry 𝓤 H A f.signature (κ, (κ′, tt)) (q, (q′, tt)) x at) (WpFn 𝓤 H (𝓣 .C) (𝓣 .Λ) f.Code.function (machine m ∷ sliceVal (b, o) (length ys) ∷ anArena .low a ∷ vint w32 pages ∷ vint w32 code ∷ []) Post)
   walk shared =
-      qed W ((‵ (flft κ q) ⊛ ‵ (flft κ′ q′) ⊛ ‵ ftrue) ∷ ‵ (owns (ShrSlice (named 0) κ u32 ∷ MutSlice (named 1) κ′ R ∷ S.the-row ∷ u32 ∷ u32 ∷ []) x at) ∷ []) ∵ enter ! (𝓣 .C) (𝓣 .Λ) f.Code.function (machine m ∷ v ys ∷ anArena .low a ∷ vint w32 pages ∷ vint w32 code ∷ []) _ $
+      qed W ((‵ (flft κ q) ⊛ ‵ (flft κ′ q′) ⊛ ‵ ftrue) ∷ ‵ (owns (ShrSlice (named 0) κ u32 ∷ MutSlice (named 1) κ′ R ∷ S.the-row ∷ u32 ∷ u32 ∷ []) x at) ∷ []) ∵ enter ! (𝓣 .C) (𝓣 .Λ) f.Code.function (machine m ∷ sliceVal (b, o) (length ys) ∷ anArena .low a ∷ vint w32 pages ∷ vint w32 code ∷ []) _ $
       alloc1 ! (λ l₀. alloc1 ! (λ l₁. alloc1 ! (λ l₂. alloc1 ! (λ l₃. alloc1 ! (λ l₄. alloc1 ! (λ l₅. alloc1 ! (λ l₆. alloc1 ! (λ l₇. alloc1 ! (λ l₈. alloc1 ! (λ l₉. alloc1 ! (λ l₁₀. alloc1 ! (λ l₁₁. alloc1 ! (λ l₁₂. alloc1 ! (λ l₁₃. alloc1 ! (λ l₁₄. alloc0 ! $ params1 ! $
       pass1 ! (init ! 26 refl (shr-slice-lawful 𝓤 H A W (named 0) κ u32 .typed m (machine m ∷ []) shared .0)) $ pass1 ! (init ! 24 refl (tt, (tt, (record { fits = gn .0 }, tt)))) $ pass1 ! (init ! 22 refl (anArena .lawful 𝓤 H A W .typed a _ a-is .0)) $
       pass1 ! (init ! 20 refl (tt, record { fits = pages-fits })) $ pass1 ! (init ! 18 refl (tt, record { fits = code-fits })) $ pass0 ! $
@@ -112,9 +105,9 @@ module _ {M : Type 1} (𝓤 : URA M) (H : Heap 𝓤) (A : Atoms 𝓤) (W : Given
       move ! (3 ∷ []) $ use1 W (‵ (Lent κ u32 m) ⊛ ‵ (Lent κ u32 m)) (shr-slice-copy 𝓤 H A W (named 0) κ u32 .twice m (machine m ∷ [])) $ split ! $ move ! (2 ∷ 3 ∷ 4 ∷ []) $
       lend-mut ! tt R (named 1) ys b o gn (λ ν γ′.
       move ! (7 ∷ 8 ∷ []) $ join ! $ move ! (1 ∷ 2 ∷ []) $ join ! $
-      use2 W (raw _) (asks-both W (arg W (number w32) (a .count) (refl, count-fits) ∷ arg W (number w32) (a .total) (refl, total-fits) ∷ arg W (number w32) (a .frontier) (refl, frontier-fits) ∷ []) (holds W (pre .1, pre .2)) (Lent κ u32 m) κ q (MutSlice (named 1) (ν ∷ []) R .own (slice γ′ ys) (v ys ∷ [])) (ν ∷ []) fullShare) $
+      use2 W (raw _) (asks-both W (arg W (number w32) (a .count) (refl, count-fits) ∷ arg W (number w32) (a .total) (refl, total-fits) ∷ arg W (number w32) (a .frontier) (refl, frontier-fits) ∷ []) (holds W (pre .1, pre .2)) (Lent κ u32 m) κ q (MutSlice (named 1) (ν ∷ []) R .own (lentAt b o γ′ ys) (sliceVal (b, o) (length ys) ∷ [])) (ν ∷ []) fullShare) $
       -- [what the call asks; the lender's part; the open borrow; obs; auth; what the words own; the rest; _14; …; _13; …; …; _1; …; _0; …]
-      calls ! (fmOf 𝓤 H (W .laws) 𝓣) load_holes.ended (load_holes.clauses 𝓤 H A at-mem run) known-load-holes (((κ, (ν ∷ [], tt)), (q, (fullShare, tt)), tt, (m, (slice γ′ ys, (a .count, (a .total, (a .frontier, tt))))), (machine m ∷ [], (v ys ∷ [], (vint w32 (a .count) ∷ [], (vint w32 (a .total) ∷ [], (vint w32 (a .frontier) ∷ [], tt)))))), tt)
+      calls ! (fmOf 𝓤 H (W .laws) 𝓣) load_holes.ended (load_holes.clauses 𝓤 H A at-mem run) known-load-holes (((κ, (ν ∷ [], tt)), (q, (fullShare, tt)), tt, (m, (lentAt b o γ′ ys, (a .count, (a .total, (a .frontier, tt))))), (machine m ∷ [], (sliceVal (b, o) (length ys) ∷ [], (vint w32 (a .count) ∷ [], (vint w32 (a .total) ∷ [], (vint w32 (a .frontier) ∷ [], tt)))))), tt)
       truth (λ r ws. Loaded (ws .1 .0) r) (λ r ws. id⊢ 𝓤 _) (and-then ! (load ! (from ! (stop !)) (look ! 33 refl)) (and-then ! (load ! (from ! (stop !)) (look ! 15 refl)) (and-then ! (load ! (from ! (fld ! refl (stop !))) (look-in ! 29 (sub ! 2 refl (whole !)))) (and-then ! (load ! (from ! (fld ! refl (stop !))) (look-in ! 29 (sub ! 3 refl (whole !)))) (and-then ! (load ! (from ! (fld ! refl (stop !))) (look-in ! 29 (sub ! 1 refl (whole !)))) (no-more !)))))) (λ fair ws fair-is e₁.
       move ! (1 ∷ []) $ fsplit ! $ move ! (1 ∷ []) $ fsplit ! $ fsplit ! $ move ! (1 ∷ []) $ feqL ! (λ long. move ! (3 ∷ []) $
       -- [the tokens; what says the last list; true; true; the lender's part; the open borrow; obs; auth; what the words own; the rest; _14; …; _13; …; …; _1; …; _0; …]
@@ -126,8 +119,8 @@ module _ {M : Type 1} (𝓤 : URA M) (H : Heap 𝓤) (A : Atoms 𝓤) (W : Given
       assigns ! (agg ! (and-then ! (load ! (from ! (stop !)) (look ! 12 refl)) (and-then ! (load ! (from ! (fld ! refl (stop !))) (look-in ! 30 (sub ! 1 refl (whole !)))) (no-more !)))) (from ! (stop !)) (init ! 10 refl (tt, (tt, (record { fits = gn .0 }, tt)))) $
       rewrite ! 10 (λ (k : ℕ). ‵ (fat fullShare (sliceTy (tyRef erased imm (pointee (R .written)))) l₁₂ 0 (sliceVal (b, o) k))) (sym long) refl $
       lend-shr ! tt R (named 0) (ws .1 .0) b o (subst (Room R) (sym long) gn) (λ ν₂ γ₂.
-      use2 W (raw _) (asks-new W (arg W truth fair refl ∷ arg W (number w32) (a .count) (refl, count-fits) ∷ arg W (number w32) pages (refl, pages-fits) ∷ arg W (number w32) code (refl, code-fits) ∷ []) (holds W (subst (λ (k : ℕ). (0 < k) × (a .count ≤ k)) (sym long) (pre .0, pre .1))) (ShrSlice (named 0) (ν₂ ∷ []) R .own (slice γ₂ (ws .1 .0)) (v (ws .1 .0) ∷ [])) (ν₂ ∷ []) fullShare) $
-      calls ! (fmOf 𝓤 H (W .laws) 𝓣) pick.ended (pick.clauses 𝓤 H A at-mem run) known-pick (((ν₂ ∷ [], tt), (fullShare, tt), tt, (slice γ₂ (ws .1 .0), (fair, (a .count, (pages, (code, tt))))), (v (ws .1 .0) ∷ [], (vbool fair ∷ [], (vint w32 (a .count) ∷ [], (vint w32 pages ∷ [], (vint w32 code ∷ [], tt)))))), tt) aPlan (λ r ws₂. Picked (ws .1 .0) fair r) (λ r ws. id⊢ 𝓤 _)
+      use2 W (raw _) (asks-new W (arg W truth fair refl ∷ arg W (number w32) (a .count) (refl, count-fits) ∷ arg W (number w32) pages (refl, pages-fits) ∷ arg W (number w32) code (refl, code-fits) ∷ []) (holds W (subst (λ (k : ℕ). (0 < k) × (a .count ≤ k)) (sym long) (pre .0, pre .1))) (ShrSlice (named 0) (ν₂ ∷ []) R .own (lentAt b o γ₂ (ws .1 .0)) (sliceVal (b, o) (length (ws .1 .0)) ∷ [])) (ν₂ ∷ []) fullShare) $
+      calls ! (fmOf 𝓤 H (W .laws) 𝓣) pick.ended (pick.clauses 𝓤 H A at-mem run) known-pick (((ν₂ ∷ [], tt), (fullShare, tt), tt, (lentAt b o γ₂ (ws .1 .0), (fair, (a .count, (pages, (code, tt))))), (sliceVal (b, o) (length (ws .1 .0)) ∷ [], (vbool fair ∷ [], (vint w32 (a .count) ∷ [], (vint w32 pages ∷ [], (vint w32 code ∷ [], tt)))))), tt) aPlan (λ r ws₂. Picked (ws .1 .0) fair r) (λ r ws. id⊢ 𝓤 _)
       (and-then ! (load ! (from ! (stop !)) (look ! 12 refl)) (and-then ! (load ! (from ! (stop !)) (look ! 24 refl)) (and-then ! (load ! (from ! (fld ! refl (stop !))) (look-in ! 30 (sub ! 2 refl (whole !)))) (and-then ! (load ! (from ! (stop !)) (look ! 28 refl)) (and-then ! (load ! (from ! (stop !)) (look ! 26 refl)) (no-more !)))))) (λ p ws₂ p-is e₂.
       move ! (1 ∷ []) $ drop ! $
       land ! (from ! (stop !)) (init ! 22 refl (aPlan .lawful 𝓤 H A W .typed p _ p-is .0)) $ split ! $
@@ -137,8 +130,8 @@ module _ {M : Type 1} (𝓤 : URA M) (H : Heap 𝓤) (A : Atoms 𝓤) (W : Given
       assigns ! (agg ! (and-then ! (load ! (from ! (stop !)) (look ! 8 refl)) (and-then ! (load ! (from ! (fld ! refl (stop !))) (look-in ! 30 (sub ! 1 refl (whole !)))) (no-more !)))) (from ! (stop !)) (init ! 6 refl (tt, (tt, (record { fits = gn .0 }, tt)))) $
       rewrite ! 6 (λ (k : ℕ). ‵ (fat fullShare (sliceTy (tyRef erased mut (pointee (R .written)))) l₁₄ 0 (sliceVal (b, o) k))) (sym long) refl $
       lend-mut ! tt R (named 0) (ws .1 .0) b o (subst (Room R) (sym long) gn) (λ ν₃ γ₃.
-      use2 W (raw _) (asks-new W (arg W aPlan p p-is ∷ arg W (number w32) (a .count) (refl, count-fits) ∷ arg W (number w32) pages (refl, pages-fits) ∷ []) (holds W (code-within (ws .1 .0) fair p long e₂)) (MutSlice (named 0) (ν₃ ∷ []) R .own (slice γ₃ (ws .1 .0)) (v (ws .1 .0) ∷ [])) (ν₃ ∷ []) fullShare) $
-      calls ! (fmOf 𝓤 H (W .laws) 𝓣) cut_at.ended (cut_at.clauses 𝓤 H A at-mem run) known-cut-at (((ν₃ ∷ [], tt), (fullShare, tt), tt, (slice γ₃ (ws .1 .0), (p, (a .count, (pages, tt)))), (v (ws .1 .0) ∷ [], (aPlan .low p ∷ [], (vint w32 (a .count) ∷ [], (vint w32 pages ∷ [], tt))))), tt) aBest (λ r ws₃. Cut (ws .1 .0) p (ws₃ .0) r) (λ r ws. id⊢ 𝓤 _)
+      use2 W (raw _) (asks-new W (arg W aPlan p p-is ∷ arg W (number w32) (a .count) (refl, count-fits) ∷ arg W (number w32) pages (refl, pages-fits) ∷ []) (holds W (code-within (ws .1 .0) fair p long e₂)) (MutSlice (named 0) (ν₃ ∷ []) R .own (lentAt b o γ₃ (ws .1 .0)) (sliceVal (b, o) (length (ws .1 .0)) ∷ [])) (ν₃ ∷ []) fullShare) $
+      calls ! (fmOf 𝓤 H (W .laws) 𝓣) cut_at.ended (cut_at.clauses 𝓤 H A at-mem run) known-cut-at (((ν₃ ∷ [], tt), (fullShare, tt), tt, (lentAt b o γ₃ (ws .1 .0), (p, (a .count, (pages, tt)))), (sliceVal (b, o) (length (ws .1 .0)) ∷ [], (aPlan .low p ∷ [], (vint w32 (a .count) ∷ [], (vint w32 pages ∷ [], tt))))), tt) aBest (λ r ws₃. Cut (ws .1 .0) p (ws₃ .0) r) (λ r ws. id⊢ 𝓤 _)
       (and-then ! (load ! (from ! (stop !)) (look ! 8 refl)) (and-then ! (load ! (from ! (stop !)) (look ! 22 refl)) (and-then ! (load ! (from ! (fld ! refl (stop !))) (look-in ! 30 (sub ! 2 refl (whole !)))) (and-then ! (load ! (from ! (stop !)) (look ! 28 refl)) (no-more !))))) (λ best ws₃ best-is e₃.
       move ! (1 ∷ []) $ fsplit ! $ fsplit ! $ move ! (1 ∷ []) $ feqL ! (λ long′. move ! (2 ∷ []) $
       land ! (from ! (stop !)) (init ! 22 refl (aBest .lawful 𝓤 H A W .typed best _ best-is .0)) $ split ! $

@@ -1,7 +1,7 @@
 -- `holes::record::step` meets its contract: a walk of its MIR, by hand. The borrow is opened, the record is copied out and passed to `after`, of which the proof knows only that it
 -- meets its contract; what that returns is stored, and the borrow is closed at it.
 -- Assumes nothing.
-use Rattle.holes.proofs.Walk.{_≡_, refl, ℕ, _+_, _<_, _^_, List, [], _∷_, URA, fullShare, named, Val, vunit, vptr, SProp, ent, id⊢, GName, Lft, Share, ftrue, flft, fobs, fbor, Memory, Routine, Heap, WpFn, Tables, Atoms, Fun, givenOf, tables, tablesOf, Given, ‵, _⊛_, ⋆, _$_, _∵_, !, qed, by, move, keep, drop, split, join, fsplit, fsplit3, fjoin, fjoin3, feqI, suffices, frame, done, look, look-raw, init, store-raw, forget, stop, hop, from, load, unit-lit, of-opd, and-then, no-more, assigns, land, returns, enter, alloc1, alloc0, params1, pass1, pass0, free1, free0, Body, fmOf, RattleType, owns, Is, shows, mem, RefT, MutRef, now, opens, closes, owned, peeks, nothing, spelt, Vals, onEntry, Meets, says, needs, arg, holds, asks, calls-plain, Takens, Ends, ends, known, shown, anArena, aGain, byValue, recordMut}
+use Rattle.holes.proofs.Walk.{_≡_, refl, ℕ, _+_, _<_, _^_, List, [], _∷_, URA, fullShare, named, Val, vunit, vptr, SProp, ent, id⊢, GName, Lft, Share, ftrue, flft, fobs, fbor, Memory, Routine, Heap, WpFn, Tables, Atoms, Fun, givenOf, tables, tablesOf, Given, ‵, _⊛_, ⋆, _$_, _∵_, !, qed, by, move, keep, drop, split, join, fsplit, fsplit3, fjoin, fjoin3, feqI, suffices, frame, done, look, look-raw, init, store-raw, forget, stop, hop, from, load, unit-lit, of-opd, and-then, no-more, assigns, land, returns, enter, alloc1, alloc0, params1, pass1, pass0, free1, free0, Body, fmOf, RattleType, owns, Is, shows, mem, RefT, MutRef, now, opens, closes, owned, peeks, nothing, spelt, Vals, onEntry, Meets, says, needs, arg, holds, asks, calls-plain, Takens, Ends, ends, known, shown, anArena, aGain, byValue, recordMut, lentAt}
 use denote.Struct.Laws as laws
 use Rattle.arena.specs.declared.Arena.{Arena}
 use Rattle.holes.specs.declared.record.Gain.{Gain}
@@ -20,7 +20,7 @@ taken = (recordMut 0 tt R, (byValue aGain, tt))
 module _ {M : Type 1} (𝓤 : URA M) (H : Heap 𝓤) (A : Atoms 𝓤) (W : Given 𝓤 H A) (at-mem : Memory → SProp 𝓤) (run : Routine → Fun 𝓤) (𝓣 : Tables 𝓤 H) (known-after : Meets 𝓤 H A after.signature (𝓣 .C after.Symbol.name) (after.spec 𝓤 H A at-mem run))
     (κ : Lft) (q : Share) (b o : ℕ) (γ : GName) (h : Arena) (g : Gain) (g-is : Is U.the-row g (aGain .low g ∷ [])) (fits : h .frontier + g .pages < 2 ^ 32) where
   abbrev x : RefT Arena × (Gain × Unit {0})
-  x = (record { ptr = (b, o); name = γ; now = h }, (g, tt))
+  x = (lentAt b o γ h, (g, tt))
 
   abbrev at : Vals f.signature (κ, tt)
   at = (vptr b o ∷ [], (aGain .low g ∷ [], tt))

@@ -1,7 +1,7 @@
 -- `holes::record::step_by` meets its contract: a walk of its MIR, by hand. The local record is lent as a `&mut Arena` for the call of `step`, for a lifetime that the walk makes and ends,
 -- and comes back at the record that `step` leaves.
 -- Assumes nothing.
-use Rattle.holes.proofs.Walk.{_≡_, refl, ℕ, _+_, _<_, _^_, [], _∷_, URA, fullShare, named, Val, vptr, SProp, ent, id⊢, GName, ftrue, fat, flent, Memory, Routine, Heap, WpFn, Tables, Atoms, Fun, givenOf, tables, tablesOf, Given, ‵, raw, _⊛_, ⋆, some, later, _$_, _∵_, !, qed, by, move, keep, use1, use2, use3, split, pick, fsplit, suffices, await, done, look, init, forget, stop, from, load, of-opd, addr, and-then, no-more, assigns, land, returns, enter, alloc1, alloc0, params1, pass1, pass0, free1, free0, Body, lft-new, lft-end, fmOf, RattleType, owns, Is, shows, mem, lends-ref, ref-back, RefT, MutRef, now, owned, peeks, nothing, Vals, onEntry, Meets, says, needs, part-in-at, part-out-at, arg, holds, asks-new, calls, Takens, Ends, ends, known, shown, unit, anArena, aGain, byValue}
+use Rattle.holes.proofs.Walk.{_≡_, refl, _+_, _<_, _^_, [], _∷_, URA, fullShare, named, Val, vptr, SProp, ent, id⊢, GName, ftrue, fat, flent, Memory, Routine, Heap, WpFn, Tables, Atoms, Fun, givenOf, tables, tablesOf, Given, ‵, raw, _⊛_, ⋆, some, later, _$_, _∵_, !, qed, by, move, keep, use1, use2, use3, split, pick, fsplit, suffices, await, done, look, init, forget, stop, from, load, of-opd, addr, and-then, no-more, assigns, land, returns, enter, alloc1, alloc0, params1, pass1, pass0, free1, free0, Body, lft-new, lft-end, fmOf, RattleType, owns, Is, shows, mem, lends-ref, ref-back, MutRef, owned, peeks, nothing, Vals, onEntry, Meets, says, needs, part-in-at, part-out-at, arg, holds, asks-new, calls, Takens, Ends, ends, known, shown, unit, anArena, aGain, byValue, lentAt}
 use Rattle.arena.specs.declared.Arena.{Arena}
 use Rattle.holes.specs.declared.record.Gain.{Gain}
 use Rattle.holes.specs.Step.{stepped}
@@ -27,10 +27,6 @@ module _ {M : Type 1} (𝓤 : URA M) (H : Heap 𝓤) (A : Atoms 𝓤) (W : Given
   abbrev Post : Val → SProp 𝓤
   Post = Ends 𝓤 H A f.ended taken (f.clauses 𝓤 H A at-mem run) ((tt, tt, tt, x, at), tt)
 
-  -- the local l as a `&mut Arena`, under the name γ
-  abbrev ref : ℕ → GName → RefT Arena
-  ref l γ = record { ptr = (l, 0); name = γ; now = h }
-
   exits : (r : Arena) (u : Val) → r ≡ stepped g h → ent 𝓤 (⋆ 𝓤 H A (‵ (R .own r (u ∷ [])) ∷ ‵ (owns (R ∷ U.the-row ∷ []) x at) ∷ [])) (Post u)
   exits r u e =
       qed W (‵ (R .own r (u ∷ [])) ∷ ‵ (owns (R ∷ U.the-row ∷ []) x at) ∷ []) ∵
@@ -45,11 +41,11 @@ module _ {M : Type 1} (𝓤 : URA M) (H : Heap 𝓤) (A : Atoms 𝓤) (W : Given
       assigns ! (addr ! (from ! (stop !))) (from ! (stop !)) (init ! 0 refl (tt, tt)) $
       -- the local's cell and what the record owns are the record in memory, which is lent
       owned ! R (Is R) (anArena .makes 𝓤 H A W) h _ h-is $ move ! (5 ∷ 0 ∷ []) $ use2 W (‵ (mem R .lies h l₃ 0)) (part-in-at 𝓤 H A W R refl fullShare h l₃ 0 T.Laws.mir refl (anArena .low h)) $
-      lft-new ! tt (λ ν. move ! (1 ∷ []) $ use1 W (later (some (λ (γ : GName). ‵ (MutRef (named 0) (ν ∷ []) R .own (ref l₃ γ) (vptr l₃ 0 ∷ [])) ⊛ ‵ (flent (ν ∷ []) (Body (mem R) l₃ 0 γ)))))
+      lft-new ! tt (λ ν. move ! (1 ∷ []) $ use1 W (later (some (λ (γ : GName). ‵ (MutRef (named 0) (ν ∷ []) R .own (lentAt l₃ 0 γ h) (vptr l₃ 0 ∷ [])) ⊛ ‵ (flent (ν ∷ []) (Body (mem R) l₃ 0 γ)))))
       (lends-ref 𝓤 H A W R (named 0) (ν ∷ []) h l₃ 0) $ await ! tt $ pick ! (λ γ. split ! $ move ! (0 ∷ 2 ∷ []) $
-      use2 W (raw _) (asks-new W (arg W aGain g g-is ∷ []) (holds W fits) (MutRef (named 0) (ν ∷ []) R .own (ref l₃ γ) (vptr l₃ 0 ∷ [])) (ν ∷ []) fullShare) $
+      use2 W (raw _) (asks-new W (arg W aGain g g-is ∷ []) (holds W fits) (MutRef (named 0) (ν ∷ []) R .own (lentAt l₃ 0 γ h) (vptr l₃ 0 ∷ [])) (ν ∷ []) fullShare) $
       -- [what step asks; the lender's part; _5; …; room for _4; …; that _3 dies; _2; …; _1; …; room for _0; …; true; what the parameters own]
-      calls ! (fmOf 𝓤 H (W .laws) 𝓣) step.ended (step.clauses 𝓤 H A at-mem run) known-step (((ν ∷ [], tt), (fullShare, tt), tt, (ref l₃ γ, (g, tt)), (vptr l₃ 0 ∷ [], (aGain .low g ∷ [], tt))), tt) unit (λ z ws. ws .0 ≡ stepped g h) (λ r ws. id⊢ 𝓤 _)
+      calls ! (fmOf 𝓤 H (W .laws) 𝓣) step.ended (step.clauses 𝓤 H A at-mem run) known-step (((ν ∷ [], tt), (fullShare, tt), tt, (lentAt l₃ 0 γ h, (g, tt)), (vptr l₃ 0 ∷ [], (aGain .low g ∷ [], tt))), tt) unit (λ z ws. ws .0 ≡ stepped g h) (λ r ws. id⊢ 𝓤 _)
       (and-then ! (load ! (from ! (stop !)) (look ! 2 refl)) (and-then ! (load ! (from ! (stop !)) (look ! 7 refl)) (no-more !))) (λ z ws is e.
       move ! (1 ∷ []) $ fsplit ! $ move ! (2 ∷ []) $
       -- [the token; res; …; the lender's part; _5; …; room for _4; …]
