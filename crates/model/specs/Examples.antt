@@ -124,7 +124,7 @@ rules =
     (refused 3 ∷ refused 3 ∷ []) []
     -- "these counts, pages held, and idle pages": a fresh run is no reuse
     ∷ onNewHeap (commit 15 5 ∷ commit 15 4 ∷ release 15 0 5 ∷ commit 15 1 ∷ report ∷ [])
-    (run 0 true ∷ run 5 true ∷ released ∷ run 0 false ∷ reported 3 1 0 5 59 ∷ []) (hole 1 4 ∷ [])
+    (run 0 true ∷ run 5 true ∷ released ∷ run 0 false ∷ reported (record { commits = 3; reuses = 1; abandoned = 0; held = 5; idle = 59 }) ∷ []) (hole 1 4 ∷ [])
     -- "so is a cut's remainder", at its own index
     ∷ onNewHeap (commit 15 9 ∷ release 15 0 2 ∷ release 15 3 5 ∷ commit 15 3 ∷ commit 15 2 ∷ [])
     (run 0 true ∷ released ∷ released ∷ run 3 false ∷ run 6 false ∷ []) (hole 0 2 ∷ [])
