@@ -10,7 +10,7 @@ of RULES is tried in two ways:
             examples. A proof that follows the old definition's shape may fail too, so only what is stated otherwise counts:
             docs/RULES.md says which that is.
 
-    compare/wrong_rules.py [--heap | --model] [--work FOLDER] [WORD ..]
+    compare/wrong_rules.py [--heap | --model] [--work FOLDER] [--stored FILE] [WORD ..]
 
 With words, only the entries whose names have one of them. Ends with status 0 if the original as it is passes all, each wrong
 heap is noticed or is said to answer alike, and each wrong definition is refused.
@@ -461,8 +461,8 @@ class Edited:
 class Heaps:
     """Stand-ins built from copies of the original and of this tool."""
 
-    def __init__(self, work):
-        self.work, self.library = work, work / "library"
+    def __init__(self, work, stored):
+        self.work, self.library, self.stored = work, work / "library", stored
         self.original, self.tool = work / "original", work / "compare"
         shutil.copytree(ORIGINAL, self.original, dirs_exist_ok=True)
         shutil.copytree(ROOT / "compare", self.tool, dirs_exist_ok=True, ignore=shutil.ignore_patterns("target"))
@@ -488,7 +488,8 @@ class Heaps:
 
     def replay(self):
         """The first stored answer that differs, or nothing."""
-        answer = run([sys.executable, __file__, "--replay", self.library / "libvigbuso.so"], self.work, timeout=600)
+        command = [sys.executable, __file__, "--replay", self.library / "libvigbuso.so", "--stored", self.stored]
+        answer = run(command, self.work, timeout=600)
         if answer.returncode == 0:
             return ""
         return answer.stdout.strip().splitlines()[0] if answer.returncode == 1 else f"status {answer.returncode}"
@@ -502,9 +503,8 @@ class Heaps:
         return failed if failed or answer.returncode == 0 else [f"status {answer.returncode}"]
 
 
-def replay(library):
-    stand_in = ctypes.CDLL(library)
-    return stand_in.stand_in_replay(str(ROOT / "crates/replay/stdin").encode())
+def replay(library, stored):
+    return ctypes.CDLL(library).stand_in_replay(str(stored).encode())
 
 
 class Models:
@@ -529,8 +529,8 @@ class Models:
         return answer.stdout.strip().splitlines()[-1:]
 
 
-def try_heaps(rules, work):
-    heaps = Heaps(work)
+def try_heaps(rules, work, stored):
+    heaps = Heaps(work, stored)
     heaps.build()
     heaps.build_tests()
     plain = heaps.replay(), heaps.boundaries()
@@ -541,13 +541,13 @@ def try_heaps(rules, work):
             continue
         with Edited(heaps.place, rule.heap):
             heaps.build()
-            stored, tests = heaps.replay(), heaps.boundaries()
+            answer, tests = heaps.replay(), heaps.boundaries()
         print(rule.name)
-        print(f"    stored: {stored[:150] or 'nothing differs'}")
+        print(f"    stored: {answer[:150] or 'nothing differs'}")
         print(f"    tests: {', '.join(tests) or 'none fails'}", flush=True)
-        if not stored and not tests:
+        if not answer and not tests:
             print(f"    {'answers alike: ' + rule.alike if rule.alike else 'NOT NOTICED'}", flush=True)
-        good &= bool(stored or tests) != bool(rule.alike)
+        good &= bool(answer or tests) != bool(rule.alike)
     return good
 
 
@@ -569,16 +569,17 @@ def main():
     arguments.add_argument("--heap", action="store_true", help="heaps only")
     arguments.add_argument("--model", action="store_true", help="definitions only")
     arguments.add_argument("--work", type=pathlib.Path, help="a folder that is kept; the default is a temporary one")
+    arguments.add_argument("--stored", type=pathlib.Path, default=ROOT / "crates/replay/stdin", help="other histories")
     arguments.add_argument("--replay", metavar="LIBRARY", help=argparse.SUPPRESS)
     arguments.add_argument("words", nargs="*")
     asked = arguments.parse_args()
     if asked.replay:
-        return replay(asked.replay)
+        return replay(asked.replay, asked.stored)
     rules = [rule for rule in RULES if not asked.words or any(word in rule.name for word in asked.words)]
     with tempfile.TemporaryDirectory() as temporary:
         work = (asked.work or pathlib.Path(temporary)).resolve()
         work.mkdir(parents=True, exist_ok=True)
-        good = asked.model or try_heaps(rules, work)
+        good = asked.model or try_heaps(rules, work, asked.stored.resolve())
         good &= asked.heap or try_models(rules, work)
     return 0 if good else 1
 
