@@ -25,6 +25,6 @@ pub hole-ranges : (b : List ℕ) (i : ℕ) → holeFair (get b (arena holePages)
 hole-ranges b i = and-assoc (leb 1 (get b (hole pages i))) _ _
 
 -- a class's row
-pub row-ranges : (b : List ℕ) (c : ℕ) → rowFair b c ≡ (inRange 0 b (class partial c) && (inRange 0 b (class empty c) && (inRange 0 b (class emptyCount c) && (inRange 0 b (class cold c) && inRange 0 b (class coldCount c)))))
+pub row-ranges : (b : List ℕ) (c : ℕ) → rowFair b c ≡ (inRange 0 b (class partial c) && ((inRange 0 b (class empty c) && inRange 0 b (class emptyCount c)) && (inRange 0 b (class cold c) && inRange 0 b (class coldCount c))))
 unfolding rowFair
 row-ranges b c = refl

@@ -17,7 +17,7 @@ use Rattle.classes.specs.Shape.{shapeOf}
 use Rattle.classes.proofs.Shapes.{shape-sound}
 use Rattle.model.specs.Lists.{isNil, covers, update}
 use Rattle.model.specs.Calls as Calls
-use Rattle.model.specs.Calls.{Call, refused}
+use Rattle.model.specs.Calls.{Call}
 use Rattle.model.specs.Page as Page
 use Rattle.model.specs.Page.{Page, isMedium, wordsFrom, carve, carveAs}
 use Rattle.model.specs.Arena.{commit, Given}

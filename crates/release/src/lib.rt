@@ -16,8 +16,11 @@ pub use release::release_call;
 
 // A page's fate; RETIRED is added to it where the page was retired.
 pub const KEPT_FATE: u32 = 0;
+
 pub const COLD_FATE: u32 = 1;
+
 pub const ARENA_FATE: u32 = 2;
+
 pub const RETIRED: u32 = 4;
 
 // A page or a block, or none.

@@ -10,6 +10,7 @@ use super::naming::unname_chunks;
 
 // Room for so many chunks is there (document 01's limit), or for a few.
 pub const MAX_CHUNKS: usize = 2056;
+
 const FEW_CHUNKS: usize = 32;
 
 // A page past the arena has no listed block, and a count of 0 is a mismatch.

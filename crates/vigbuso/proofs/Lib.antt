@@ -1,4 +1,4 @@
 mod DirectWays
-mod TakeWays
-mod ReleaseWays
-mod ChunkWays
+mod TakeSteps
+mod ReleaseSteps
+mod ChunkSteps

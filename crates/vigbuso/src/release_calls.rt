@@ -1,6 +1,5 @@
 // The releases by list. Any number, any list and any book is taken: numbers 1 to 4 stand before each call.
 use release::Released;
-ghost use mathlib.Core.Path.{_≡_};
 ghost use Prim.Native.Nat.{_+_, _≤_};
 ghost use Rattle.release.specs.Act.{Answered};
 ghost use Rattle.vigbuso.specs.Blocks.{releaseOn, ReleaseEnds};

@@ -1,6 +1,5 @@
 // The takes. Any number, any list and any book is taken: numbers 1 to 4 stand before each call.
 use take::call::Take;
-ghost use mathlib.Core.Path.{_≡_};
 ghost use Prim.Native.Nat.{_+_, _≤_};
 ghost use Rattle.take.specs.TakeAnswer.{Takes};
 ghost use Rattle.vigbuso.specs.Blocks.{takeOn, TakeEnds};

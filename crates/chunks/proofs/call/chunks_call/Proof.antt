@@ -1,4 +1,4 @@
-use Rattle.chunks.proofs.CallWays.{bad-host, good-host}
+use Rattle.chunks.proofs.CallSteps.{bad-host, good-host}
 use borrow.Author.Needs.{needs}
 use Rattle.chunks.proofs.call.chunks_call.Statement.{statement}
 use Rattle.chunks.proofs.call.chunks_call.Tie as tie

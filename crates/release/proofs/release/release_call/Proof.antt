@@ -1,4 +1,4 @@
-use Rattle.release.proofs.Releasing.{bad-host, good-host}
+use Rattle.release.proofs.ReleaseSteps.{bad-host, good-host}
 use borrow.Author.Needs.{needs}
 use Rattle.release.proofs.release.release_call.Statement.{statement}
 use Rattle.release.proofs.release.release_call.Tie as tie

@@ -1,6 +1,6 @@
 use borrow.Author.Needs.{needs}
 use Rattle.vigbuso.proofs.DirectWays.{has-size}
-use Rattle.vigbuso.proofs.ReleaseWays.{release-asks, release-goes, release-host, release-no-class, release-unfit}
+use Rattle.vigbuso.proofs.ReleaseSteps.{release-asks, release-goes, release-host, release-no-class, release-unfit}
 use Rattle.vigbuso.proofs.release_calls.release_on.Statement.{statement}
 use Rattle.vigbuso.proofs.release_calls.release_on.Tie as tie
 

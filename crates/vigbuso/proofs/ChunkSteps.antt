@@ -14,7 +14,7 @@ use Rattle.calls.specs.Chunks.{ChunksReleased, chunksCall}
 use Rattle.chunks.specs.CallAsks.{CallAsks, ChunksAnswered}
 use Rattle.chunks.proofs.PlaceSteps.{class-limits}
 use Rattle.vigbuso.specs.Blocks.{chunksOn, ChunksEnds}
-use Rattle.vigbuso.proofs.ReleaseWays.{class-asks}
+use Rattle.vigbuso.proofs.ReleaseSteps.{class-asks}
 
 -- a small class's run is one page
 one-page : (c : ℕ) → ltb c 64 ≡ true → shapeOf c .pages ≡ 1
