@@ -20,15 +20,15 @@ use Rattle.pages.specs.Stack.{pageAt}
 use Rattle.calls.specs.Release.{pageFair, rowFair}
 use Rattle.calls.specs.Chunks.{chunkFits, chunksMatch, returnsAll, runsGiven, pagesGiven, chunksFair, giveRuns}
 use Rattle.pages.specs.Fair.{linksFair}
-use Rattle.release.proofs.FairWays.{links-fair}
+use Rattle.release.proofs.FairSteps.{links-fair}
 use Rattle.tally.specs.Match.{MatchAsks, Matched}
 use Rattle.chunks.specs.Pass.{pushOne, pushAll, givesIn}
 use Rattle.chunks.specs.PushAsks.{wordsOn, PushAllAsks}
 use Rattle.chunks.specs.FairAsks.{ChunksFairAsks}
 use Rattle.chunks.specs.PlaceAsks.{placeFair, PlaceAsks, Placed}
 use Rattle.chunks.specs.GiveAsks.{givesFair, GiveChunksAsks}
-use Rattle.chunks.specs.CallAsks.{placed, settledTo, passes, StruckAsks, SettleAsks, ChunksAnswered}
-use Rattle.chunks.proofs.PushLaws.{push-free, on-here, on-other, on-more}
+use Rattle.chunks.specs.CallAsks.{allPlaced, settledTo, passes, StruckAsks, SettleAsks, ChunksAnswered}
+use Rattle.chunks.proofs.PushLaws.{push-free, on-here, on-more}
 use Rattle.chunks.proofs.GatherGives.{idle, ofClass, gives-count, gives-in, fates-length, all-changes}
 use Rattle.chunks.proofs.CallTests.{fair-pages, words-on, fits-count, fits-lands, match-apart, match-fits, chunks-below, slots-left, page-there}
 
@@ -145,15 +145,15 @@ module _ (n : ℕ) (b : List ℕ) (c : ℕ) (sh : Shape) (ws gs fs : List ℕ) (
           (e, all-idle hs (and-r (t g) (every t hs) i))
 
       book : List ℕ
-      book = placed b c sh h ws gs .book
+      book = allPlaced b c sh h ws gs .book
 
       fates : List ℕ
-      fates = placed b c sh h ws gs .fates ++ drop (length gs) fs
+      fates = allPlaced b c sh h ws gs .fates ++ drop (length gs) fs
 
-      moved : Changes ofClass (pushAll b sh ws) (placed b c sh h ws gs .book)
+      moved : Changes ofClass (pushAll b sh ws) (allPlaced b c sh h ws gs .book)
       moved = all-changes c hc sh (a .call .class .sound) h (pushAll b sh ws) gs
 
-      given-kept : (x : ℕ) → giveFair n (placed b c sh h ws gs .book) x ≡ giveFair n b x
+      given-kept : (x : ℕ) → giveFair n (allPlaced b c sh h ws gs .book) x ≡ giveFair n b x
       unfolding giveFair recordFair
       given-kept x =
           let k = moved .kept in
@@ -166,7 +166,7 @@ module _ (n : ℕ) (b : List ℕ) (c : ℕ) (sh : Shape) (ws gs fs : List ℕ) (
             k (arena held) refl refl ∙ j (arena held) refl refl,
           )
 
-      runs-are : length (givesIn gs (placed b c sh h ws gs .fates ++ drop (length gs) fs)) ≡ runsGiven b sh gs (get b (class emptyCount c)) (get b (class coldCount c))
+      runs-are : length (givesIn gs (allPlaced b c sh h ws gs .fates ++ drop (length gs) fs)) ≡ runsGiven b sh gs (get b (class emptyCount c)) (get b (class coldCount c))
       runs-are =
           let s = a .call .class .sound in
           ap length (sym (gives-in c hc sh s h (pushAll b sh ws) gs (drop (length gs) fs)))
@@ -174,14 +174,14 @@ module _ (n : ℕ) (b : List ℕ) (c : ℕ) (sh : Shape) (ws gs fs : List ℕ) (
           (all-idle gs (match-fits n b c sh (a .call .single) ws gs (a .runs) m))
           ∙ rw (stack .kept (class emptyCount c) hc refl, stack .kept (class coldCount c) hc refl)
 
-      giving : GiveChunksAsks n (placed b c sh h ws gs .book) sh gs (placed b c sh h ws gs .fates ++ drop (length gs) fs)
+      giving : GiveChunksAsks n (allPlaced b c sh h ws gs .book) sh gs (allPlaced b c sh h ws gs .fates ++ drop (length gs) fs)
       unfolding givesFair
       giving = record {
         few = a .call .class .few;
         long = omega (arith, moved .long, stack .long, a .call .class .long);
         single = a .call .single;
         below = chunks-below n b c sh (a .call .single) ws gs (a .runs) m;
-        fates = omega (arith, length-append (placed b c sh h ws gs .fates) (drop (length gs) fs), fates-length c hc sh (a .call .class .sound) h (pushAll b sh ws) gs);
+        fates = omega (arith, length-append (allPlaced b c sh h ws gs .fates) (drop (length gs) fs), fates-length c hc sh (a .call .class .sound) h (pushAll b sh ws) gs);
         fair = rw (runs-are, given-kept (pagesGiven b c sh gs)) fair-gives;
       }
 
@@ -212,7 +212,7 @@ module _ (n : ℕ) (b : List ℕ) (c : ℕ) (sh : Shape) (ws gs fs : List ℕ) (
         pub settle-next : u ≡ true → SettleAsks n b′ c sh h ws gs fs
         settle-next x = rw (k .left) (settle-asks matches (fairs ∙ x) h)
 
-        pub settled : (b″ fs″ : List ℕ) → u ≡ true → ChunksAnswered 0 b″ fs″ (settledTo (placed b′ c sh h ws gs) sh gs fs) → ChunksAnswered 0 b″ fs″ (passes n b c sh h ws gs fs)
+        pub settled : (b″ fs″ : List ℕ) → u ≡ true → ChunksAnswered 0 b″ fs″ (settledTo (allPlaced b′ c sh h ws gs) sh gs fs) → ChunksAnswered 0 b″ fs″ (passes n b c sh h ws gs fs)
         unfolding passes
         settled b″ fs″ x p = rw (matches, fairs ∙ x) (rw (k .left) at p)
 
@@ -225,7 +225,7 @@ module _ (n : ℕ) (b : List ℕ) (c : ℕ) (sh : Shape) (h : ℕ) (ws gs fs : L
     pub give-next : GiveChunksAsks n b₂ sh gs fs₂
     give-next = rw (p .left, p .fates, e) (a .giving)
 
-    pub settles : (b₃ : List ℕ) → b₃ ≡ giveRuns b₂ (sh .pages) (givesIn gs fs₂) → ChunksAnswered 0 b₃ fs₂ (settledTo (placed b c sh h ws gs) sh gs fs)
+    pub settles : (b₃ : List ℕ) → b₃ ≡ giveRuns b₂ (sh .pages) (givesIn gs fs₂) → ChunksAnswered 0 b₃ fs₂ (settledTo (allPlaced b c sh h ws gs) sh gs fs)
     settles b₃ x =
         let z = gives-in c (lt-ltb c 76 (a .placing .known)) sh (a .placing .sound) h (pushAll b sh ws) gs (drop (length gs) fs) in
         record { answer = refl; left = x ∙ rw (p .left, p .fates, e, ← z); fates = p .fates ∙ rw e }

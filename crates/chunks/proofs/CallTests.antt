@@ -24,7 +24,7 @@ use Rattle.calls.specs.Release.{startOf, inRunOf, pageFair, rowFair}
 use Rattle.calls.specs.Chunks.{blocksOn, chunkFits, chunksMatch, returnsAll, runsGiven, pagesGiven, chunksFair}
 use Rattle.pages.proofs.Marks.{isMark}
 use Rattle.release.proofs.Bits.{every-same, start-kept}
-use Rattle.release.proofs.FairWays.{page-room, page-carved}
+use Rattle.release.proofs.FairSteps.{page-room, page-carved}
 use Rattle.tally.specs.Match.{onPage}
 use Rattle.chunks.specs.PushAsks.{wordsOn}
 

@@ -22,14 +22,15 @@ use Rattle.fields.proofs.Changes.{Changes, changes-trans}
 use Rattle.model.specs.Lists.{All, every, elem, distinct}
 use Rattle.model.proofs.Counts.{by-cases, and-l, and-r}
 use Rattle.pages.specs.Runs.{whole}
-use Rattle.pages.specs.Stack.{marks, push, back, indexOf, pageAt}
+use Rattle.pages.specs.Stack.{marks, push, pushed, back, indexOf, pageAt}
 use Rattle.pages.proofs.Downs.{small}
+use Rattle.pages.proofs.Frames.{back-free}
 use Rattle.calls.specs.Release.{startOf, inRunOf, outAt, pageFair}
 use Rattle.calls.specs.Chunks.{blocksOn, chunkFits, chunksMatch, chunkBackAt, givesOf, Settled, settleChunks}
 use Rattle.release.specs.Strike.{bitOf, struckCount, struck}
 use Rattle.release.proofs.Bits.{every-same}
 use Rattle.release.proofs.StrikeLaws.{run-of-out, index-of-out, page-of-out}
-use Rattle.release.proofs.FairWays.{page-room, page-carved}
+use Rattle.release.proofs.FairSteps.{page-room, page-carved}
 use Rattle.chunks.specs.Pass.{pushAll, placeAt, placeAll}
 use Rattle.chunks.proofs.GatherPlace.{stirs, onBook, place-past, place-changes}
 use Rattle.chunks.proofs.GatherPush.{cleared, laid, laidAll, blocksOf, Fits, laid-changes, onPages, pushes}
@@ -99,11 +100,11 @@ blocks-on sh b (w ∷ ws) q e =
     (λ d. rw (z, d, ih))
 
 -- ---- one chunk: its blocks, then its page
-chunk-back : (b : List ℕ) (c : ℕ) (sh : Shape) (h q : ℕ) (is : List ℕ) → chunkBackAt b c sh h q is ≡ placeAt (laid b q (get b (page free q)) is) c sh h q
-unfolding chunkBackAt placeAt back laid
-chunk-back b c sh h q is =
+chunk-back : (b : List ℕ) (c : ℕ) (sh : Shape) (h q : ℕ) (is : List ℕ) → every small is ≡ true → chunkBackAt b c sh h q is ≡ placeAt (laid b q (get b (page free q)) is) c sh h q
+unfolding chunkBackAt placeAt back pushed laid
+chunk-back b c sh h q is low =
     let m = get b (page free q) in
-    rw (put-comm (push (marks b q 0 is) q m is) (page virgin q) (page free q) 0 (m + length is) refl refl refl)
+    rw (back-free b q is low, put-comm (push (marks b q 0 is) q m is) (page virgin q) (page free q) 0 (m + length is) refl refl refl)
 
 module _ (c : ℕ) (sh : Shape) (h : ℕ) (hc : ltb c 76 ≡ true) (few : sh .capacity ≤ 4096) where
   -- ---- blocks of other pages may as well come back after it
@@ -178,7 +179,7 @@ module _ (c : ℕ) (sh : Shape) (h : ℕ) (hc : ltb c 76 ≡ true) (few : sh .ca
         let new = not-true (elem q qs) (and-l (not (elem q qs)) (distinct qs) u) in
         let d = laid b q (k q) is in
         let r : chunkBackAt b c sh h (pageOf g) (map (indexOf sh (pageOf g)) (blocksOn b ws (pageOf g))) ≡ placeAt (laid b (pageOf g) (k (pageOf g)) (blocksOf sh ws (pageOf g))) c sh h (pageOf g)
-        = ap (chunkBackAt b c sh h q) (blocks-on sh b ws q e) ∙ chunk-back b c sh h q is ∙ ap (λ m. placeAt (laid b q m is) c sh h q) (l .0) in
+        = ap (chunkBackAt b c sh h q) (blocks-on sh b ws q e) ∙ chunk-back b c sh h q is (a .0 .low) ∙ ap (λ m. placeAt (laid b q m is) c sh h q) (l .0) in
         let z = changes-trans (stirs q) b d _ (laid-changes q (k q) is (a .0 .room) (a .0 .low) b) (place-changes c q hc sh few h d) in
         let b′ = placeAt d c sh h q .book in
         rw (r, settle-as gs (and-r (not (elem q qs)) (distinct qs) u) (a .1) b′ (starts-kept q b b′ z ws e) (frees-kept q b b′ z k qs new (l .1)))

@@ -4,7 +4,7 @@
 --     gives-count    all chunks
 --     gives-in       the runs are the pages whose fate says so
 --     all-changes    what placing all may change: nothing of the arena's record
-use Prim.Native.Nat.{ℕ, zero, suc, _+_, _≤_}
+use Prim.Native.Nat.{ℕ, suc, _+_}
 use native.Mathlib.Omega.{arith}
 use mathlib.Core.Bool.{Bool, true, false, cond, not, _&&_, _||_, true≢false}
 use mathlib.Core.List.{List, [], _∷_, _++_, map}
@@ -33,7 +33,7 @@ use Rattle.model.specs.Spot.{isEmpty, isCold, isArena, fateOf, retired}
 use Rattle.calls.specs.Release.{Released, released, unlisted, relisted, spotAt, parkAs, parkAt, emptied, markRetired}
 use Rattle.calls.specs.Chunks.{givesOf, returnsAll, runsGiven}
 use Rattle.release.specs.Act.{coldVirgin}
-use Rattle.release.proofs.Parking.{unlisted-changes, relisted-changes, carve-changes}
+use Rattle.release.proofs.ParkSteps.{unlisted-changes, relisted-changes, carve-changes}
 use Rattle.chunks.specs.Pass.{placeAt, placeAll, givesIn}
 use Rattle.chunks.proofs.GatherPlace.{stirs, place-changes}
 

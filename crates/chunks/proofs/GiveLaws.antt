@@ -30,7 +30,7 @@ use Rattle.arena.proofs.StoreLaws.{hole-length, remember-length}
 use Rattle.arena.proofs.Frames.{isStored, isOwner, record-changes, own-changes}
 use Rattle.arena.proofs.Acts.{FairRecord, fair-record, give-acts}
 use Rattle.runs.specs.Asks.{GiveIn}
-use Rattle.release.proofs.Ways.{drop-past}
+use Rattle.release.proofs.RunSteps.{drop-past}
 use Rattle.calls.specs.Chunks.{givesOf, giveRuns}
 use Rattle.chunks.specs.Pass.{givesIn}
 use Rattle.chunks.specs.GiveAsks.{givesFair, GiveChunkAsks, GiveChunksAsks}

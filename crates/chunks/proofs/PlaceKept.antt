@@ -35,9 +35,9 @@ use Rattle.model.specs.Spot.{isEmpty, isCold}
 use Rattle.calls.specs.Release.{rowFair, unlisted, relisted, released, spotAt, parkedIn, parkAt, emptied, markRetired}
 use Rattle.pages.specs.Fair.{linksFair, storeFair}
 use Rattle.release.specs.Act.{coldVirgin, ParkingAsks}
-use Rattle.release.proofs.FairWays.{count-low}
+use Rattle.release.proofs.FairSteps.{count-low}
 use Rattle.release.proofs.Spots.{empty-room, cold-room}
-use Rattle.release.proofs.Parking.{unlisted-changes}
+use Rattle.release.proofs.ParkSteps.{unlisted-changes}
 use Rattle.chunks.specs.Pass.{placeAt}
 use Rattle.chunks.specs.PlaceAsks.{Limits}
 

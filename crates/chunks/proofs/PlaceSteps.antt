@@ -18,7 +18,6 @@ use Rattle.classes.specs.Shape.{smallShape, mediumShape, shapeOf}
 use Rattle.fields.specs.Field.{arena, page, frontier, free, carved, virgin, words, get, put}
 use Rattle.fields.proofs.Laws.{and-left, and-right}
 use Rattle.model.specs.Lists.{every}
-use Rattle.model.specs.Page.{isMedium}
 use Rattle.model.specs.Spot.{arenaFate}
 use Rattle.pages.specs.Asks.{LinkAsks}
 use Rattle.calls.specs.Release.{relisted, spotAt, parkAt, emptied}

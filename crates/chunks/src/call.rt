@@ -1,6 +1,6 @@
 // A group release: the numbers in their order, each over both lists, and then the passes. A refusal leaves every word as it was.
 ghost use Rattle.calls.specs.Chunks.{releaseChunks};
-ghost use Rattle.chunks.specs.CallAsks.{placed, settledTo, passes, CallAsks, StrikeAsks, StruckAsks, SettleAsks, ChunksAnswered};
+ghost use Rattle.chunks.specs.CallAsks.{allPlaced, settledTo, passes, CallAsks, StrikeAsks, StruckAsks, SettleAsks, ChunksAnswered};
 use super::fair::chunks_fair;
 use super::gives::give_chunks;
 use super::place::place_chunks;
@@ -25,7 +25,7 @@ fn settle_chunks(
     fates: &mut [u32],
 )
     requires { ⌜ SettleAsks n (now meta) c shape host (now list) (now chunks) (now fates) ⌝ }
-    ensures { λ _. ⌜ ChunksAnswered 0 (now (meta .exit)) (now (fates .exit)) (settledTo (placed (now (meta .entry)) c shape host (now (list .entry)) (now (chunks .entry))) shape (now (chunks .entry)) (now (fates .entry))) ⌝ }
+    ensures { λ _. ⌜ ChunksAnswered 0 (now (meta .exit)) (now (fates .exit)) (settledTo (allPlaced (now (meta .entry)) c shape host (now (list .entry)) (now (chunks .entry))) shape (now (chunks .entry)) (now (fates .entry))) ⌝ }
 {
     push_blocks(meta, shape, list);
     place_chunks(meta, c, shape, host, chunks, fates);

@@ -15,6 +15,7 @@ use Rattle.fields.specs.Field.{arena, class, page, size, frontier, partial, emp
 use Rattle.fields.specs.Outcome.{Outcome}
 use Rattle.fields.specs.Outcome as Fields
 use Rattle.fields.specs.Ranges.{metaFault}
+use Rattle.model.specs.declared.Spot.{Spot}
 use Rattle.model.specs.Lists.{isNil, every, distinct}
 use Rattle.model.specs.Heap.{badRun, badGrowth}
 use Rattle.model.specs.Release.{ofKind}
@@ -144,10 +145,8 @@ take-table low many b c h l =
     b)
 
 -- ---- releases by list
-park-code : (b : List ℕ) (c : ℕ) (sh : Shape) (h q s : ℕ) → parkAs b c sh h q s .code ≡ 0
-park-code b c sh h q zero = refl
-park-code b c sh h q (suc zero) = refl
-park-code b c sh h q (suc (suc s)) = refl
+park-code : (b : List ℕ) (c : ℕ) (sh : Shape) (h q : ℕ) (s : Spot) → parkAs b c sh h q s .code ≡ 0
+park-code b c sh h q s = refl
 
 back-code : (b : List ℕ) (c : ℕ) (sh : Shape) (h q : ℕ) (is : List ℕ) → giveBackAt b c sh h q is .code ≡ 0
 unfolding giveBackAt parkAt

@@ -23,7 +23,7 @@ use Rattle.pages.specs.declared.Park.{Park}
 use Rattle.arena.specs.Calls.{given}
 use Rattle.arena.specs.Represents.{ArenaRep}
 use Rattle.refinement.specs.Represents.{heads, ClassRep}
-use Rattle.refinement.proofs.Basics.{flag-le}
+use Rattle.refinement.proofs.Basics.{digit-le}
 use Rattle.refinement.proofs.Kept.{Keeps, class-now, class-kept, listed-whole}
 use Rattle.refinement.proofs.ArenaReached.{Reached}
 use Rattle.refinement.proofs.ArenaFrames.{isStep, step-row, step-page, step-out, step-slot}
@@ -66,7 +66,7 @@ module _ (n : ℕ) (b : List ℕ) (H : Heap) (rep : ArenaRep n b H) (r : Reached
   once : heads (p .first) ps + heads (p .first) xs + heads (p .first) ys + heads (p .first) fs ≡ 0
   once =
       let at : _≡_ {A = ℕ} (cond (eqb (p .first) (p .first)) 1 0) 1 = rw (eq-eqb (p .first) (p .first) refl) in
-      omega (arith, cr .runs (p .first), flag-le (whole n b sh c (p .first)))
+      omega (arith, cr .runs (p .first), digit-le (whole n b sh c (p .first)))
 
   apart : (x : ℕ) → 1 ≤ heads x ps + heads x xs + heads x ys + heads x fs → x ≡ p .first → ⊥
   apart x l e = let z : 1 ≤ heads (p .first) ps + heads (p .first) xs + heads (p .first) ys + heads (p .first) fs = rw e at l in omega (arith, once)

@@ -11,7 +11,7 @@ use lib.Dec.{eqb, ltb}
 use lib.ListN.{length, take, drop, length-append, length-drop, length-take, length-reverse}
 use borrow.Author.Tests.{eq-eqb, ne-eqb, eqb-true, eqb-false}
 use Rattle.classes.specs.declared.Shape.{Shape}
-use Rattle.fields.specs.Field.{Field, page, slot, out, owner, free, carved, listed, virgin, region, get, words, off}
+use Rattle.fields.specs.Field.{Field, page, slot, out, owner, free, carved, listed, virgin, region, get, off}
 use Rattle.fields.proofs.Laws.{get-put-other}
 use Rattle.fields.proofs.Changes.{Changes}
 use Rattle.model.specs.Lists.{every, count, isNil}

@@ -2,7 +2,7 @@
 --     page-sound      a page of the class that has a block is in its ranges
 --     walk-passes     the walk over the partial list
 --     park-passes     the newest page of a store
-use Prim.Native.Nat.{ℕ, zero, suc, _-_, _≤_}
+use Prim.Native.Nat.{ℕ, zero, suc, _+_, _-_, _≤_}
 use native.Mathlib.Omega.{arith}
 use mathlib.Core.Bool.{Bool, true, not}
 use mathlib.Core.List.{List, [], _∷_, map}
@@ -13,7 +13,7 @@ use borrow.Author.Tests.{eq-eqb, ne-eqb, ltb-false, le-leb, lt-ltb}
 use Rattle.classes.specs.declared.Shape.{Shape}
 use Rattle.classes.specs.Sound.{Sound}
 use Rattle.fields.specs.Field.{arena, class, page, free, carved, next, frontier, get}
-use Rattle.model.specs.Lists.{All, count, every, isNil}
+use Rattle.model.specs.Lists.{All, count, isNil}
 use Rattle.model.specs.Page as Page
 use Rattle.model.specs.Page.{Page, wordOf}
 use Rattle.model.proofs.Counts.{by-cases, count-cut}

@@ -27,8 +27,7 @@ use Rattle.pages.specs.Stack.{marked, back, indexOf}
 use Rattle.pages.specs.declared.Park.the-variants.{Empty, Cold}
 use Rattle.pages.specs.Links.{stow}
 use Rattle.pages.specs.Carve.{carveAnew}
-use Rattle.model.specs.declared.Spot.{Spot}
-use Rattle.model.specs.declared.Spot.the-variants.{ToEmpty, ToCold, ToArena}
+use Rattle.model.specs.declared.Spot.the-variants.{ToCold}
 use Rattle.model.specs.Spot.{keepsEmpty, spotOf, arenaFate, fateOf}
 use Rattle.calls.specs.Release.{Released, released, unlisted, relisted, parkCold, parkAs, parkAt, giveBackAt, emptied, markRetired}
 use Rattle.calls.specs.Chunks.{chunkBackAt}

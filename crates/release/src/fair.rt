@@ -86,11 +86,11 @@ fn spot_fair(meta: &[u32], n: u32, c: u32, shape: Shape, m: usize, q: u32) -> bo
     if out as usize != m {
         return true;
     }
-    let spot = spot_at(meta, c, shape);
-    let Spot::ToArena = spot else {
-        return true;
-    };
-    runs::give::give_fair(meta, n, shape.pages)
+    match spot_at(meta, c, shape) {
+        Spot::ToEmpty => true,
+        Spot::ToCold => true,
+        Spot::ToArena => runs::give::give_fair(meta, n, shape.pages),
+    }
 }
 
 pub fn release_fair(meta: &[u32], n: u32, c: u32, shape: Shape, m: usize, q: u32) -> bool

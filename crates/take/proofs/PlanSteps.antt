@@ -15,7 +15,6 @@ use Rattle.pages.specs.Runs.{whole}
 use Rattle.pages.specs.Stack.{tops, latest, hasMore}
 use Rattle.pages.proofs.Draws.{latest-length}
 use Rattle.pages.specs.Fair.{headerFair}
-use Rattle.pages.specs.Asks.{PageAsks}
 use Rattle.pages.proofs.FairLaws.{carved-low, room-left}
 use Rattle.calls.specs.Take.{pageReady, sound, walk}
 use Rattle.take.specs.declared.take_plan.Plan.{Plan}

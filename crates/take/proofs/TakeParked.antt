@@ -6,7 +6,7 @@ use mathlib.Core.List.{List}
 use mathlib.Core.Path.{_≡_, refl, sym, ap, _∙_}
 use lib.Dec.{eqb, ltb, leb}
 use lib.ListN.{length}
-use borrow.Author.Tests.{lt-ltb, le-leb, lt-leb, leb-true, ne-eqb, eqb-true, eqb-false, not-true, not-false}
+use borrow.Author.Tests.{lt-ltb, le-leb, leb-true, ne-eqb, eqb-true, eqb-false, not-true, not-false}
 use Rattle.classes.specs.declared.Shape.{Shape}
 use Rattle.fields.specs.Field.{Field, arena, class, page, slot, frontier, partial, owner, first, next, free, carved, listed, virgin, region, get, words, Has}
 use Rattle.fields.proofs.Laws.{get-put-other}

@@ -1,5 +1,5 @@
 mod FaultWays
 mod DirectWays
-mod TakeWays
-mod ReleaseWays
-mod ChunkWays
+mod TakeSteps
+mod ReleaseSteps
+mod ChunkSteps

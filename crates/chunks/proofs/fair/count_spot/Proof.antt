@@ -1,4 +1,4 @@
-use Rattle.chunks.proofs.FairWays.{spot-empty, spot-cold, spot-arena}
+use Rattle.chunks.proofs.FairSteps.{spot-empty, spot-cold, spot-arena}
 use borrow.Author.Needs.{needs}
 use Rattle.chunks.proofs.fair.count_spot.Statement.{statement}
 use Rattle.chunks.proofs.fair.count_spot.Tie as tie

@@ -1,4 +1,4 @@
-use Rattle.release.proofs.FairWays.{no-header, no-flag, links-last}
+use Rattle.release.proofs.FairSteps.{no-header, no-flag, links-last}
 use borrow.Author.Needs.{needs}
 use Rattle.release.proofs.fair.page_fair.Statement.{statement}
 use Rattle.release.proofs.fair.page_fair.Tie as tie

@@ -1,4 +1,4 @@
-use Rattle.release.proofs.Parking.{empty-there, cold-asks, goes-empty, goes-cold, goes-on}
+use Rattle.release.proofs.ParkSteps.{empty-there, cold-asks, goes-empty, goes-cold, goes-on}
 use borrow.Author.Needs.{needs}
 use Rattle.release.proofs.park.park_at_spot.Statement.{statement}
 use Rattle.release.proofs.park.park_at_spot.Tie as tie

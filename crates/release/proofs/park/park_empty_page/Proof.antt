@@ -1,4 +1,4 @@
-use Rattle.release.proofs.Parking.{store-asks, parked-at}
+use Rattle.release.proofs.ParkSteps.{store-asks, parked-at}
 use borrow.Author.Needs.{needs}
 use Rattle.release.proofs.park.park_empty_page.Statement.{statement}
 use Rattle.release.proofs.park.park_empty_page.Tie as tie

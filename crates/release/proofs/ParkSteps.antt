@@ -1,17 +1,16 @@
 -- What parking a page asks, keeps and answers.
 --     moves         the fields that the act changes before a store takes the page: no count of a store, nothing of the arena
-use Prim.Native.Nat.{ℕ, zero, suc, _≤_, _<_}
+use Prim.Native.Nat.{ℕ, _≤_, _<_}
 use native.Mathlib.Omega.{arith}
 use mathlib.Core.Bool.{Bool, true, false, cond, _&&_, _||_, and-false, and-true}
 use mathlib.Core.List.{List}
 use mathlib.Core.Path.{_≡_, refl, sym, _∙_}
 use lib.Dec.{eqb, leb}
-use lib.ListN.{length}
 use borrow.Author.Tests.{leb-true, lt-ltb, eq-eqb, ne-eqb}
 use Rattle.words.specs.Host.{discardZeroed}
 use Rattle.classes.specs.declared.Shape.{Shape}
 use Rattle.classes.specs.Sound.{Sound}
-use Rattle.fields.specs.Field.{Field, ok, arena, class, page, region, off, frontier, emptyCount, coldCount, next, prev, listed, get}
+use Rattle.fields.specs.Field.{Field, arena, class, page, region, off, frontier, emptyCount, coldCount, next, prev, listed, get}
 use Rattle.fields.specs.Ranges.{maxParked}
 use Rattle.fields.proofs.Laws.{and-left, and-right}
 use Rattle.fields.proofs.Changes.{Changes, changes-none}
@@ -26,7 +25,7 @@ use Rattle.pages.specs.Carve.{carveAnew}
 use Rattle.pages.proofs.Frames.{changes-link, changes-unlink, changes-carve}
 use Rattle.calls.specs.Release.{unlisted, relisted, parkCold, parkedIn, spotAt, parkAt}
 use Rattle.release.specs.Act.{coldVirgin, ParkingAsks, ColdAsks, StoreAsks, Parked}
-use Rattle.release.proofs.FairWays.{count-low}
+use Rattle.release.proofs.FairSteps.{count-low}
 
 abbrev pub moves : Field → Bool
 moves f = leb 4 (region f) || (eqb (region f) 2 && eqb (off f) 0)
@@ -134,22 +133,21 @@ module _ (b : List ℕ) (c : ℕ) (sh : Shape) (h q : ℕ) where
     pub goes-on : s ≡ ToArena → b ≡ parkedIn b c sh h q s
     goes-on e = rw e
 
-module _ (b : List ℕ) (c : ℕ) (sh : Shape) (h q : ℕ) (b′ : List ℕ) (k : b′ ≡ unlisted b c q) where
-  pub store-asks : ParkingAsks b c sh q → StoreAsks b′ c sh q
-  store-asks a =
-      let u = unlisted-changes b c q (a .known) in
-      record {
+module _ (b : List ℕ) (c : ℕ) (sh : Shape) (q : ℕ) where
+  count-kept : ParkingAsks b c sh q → (p : Park) → get (unlisted b c q) (class (stored p) c) ≤ maxParked
+  count-kept a Empty = rw (unlisted-changes b c q (a .known) .kept (class emptyCount c) (lt-ltb c 76 (a .known)) refl) (count-low b c Empty (a .row))
+  count-kept a Cold = rw (unlisted-changes b c q (a .known) .kept (class coldCount c) (lt-ltb c 76 (a .known)) refl) (count-low b c Cold (a .row))
+
+  pub store-asks : ParkingAsks b c sh q → (s : Spot) → s ≡ spotAt b c sh → (b′ : List ℕ) → b′ ≡ unlisted b c q → StoreAsks b′ c sh q
+  store-asks a s e b′ k =
+      rw k (record {
         known = a .known;
         sound = a .sound;
         below = a .below;
-        there = rw k (omega (arith, u .long, a .there));
-        few = λ p. rw k (count-kept (u .kept) p);
-      }
-    where
-      count-kept : ((f : Field) → ok f ≡ true → moves f ≡ false → get (unlisted b c q) f ≡ get b f) → (p : Park) → get (unlisted b c q) (class (stored p) c) ≤ maxParked
-      count-kept u Empty = rw (u (class emptyCount c) (lt-ltb c 76 (a .known)) refl) (count-low b c Empty (a .row))
-      count-kept u Cold = rw (u (class coldCount c) (lt-ltb c 76 (a .known)) refl) (count-low b c Cold (a .row))
+        there = omega (arith, unlisted-changes b c q (a .known) .long, a .there);
+        few = count-kept a;
+      })
 
-  pub parked-at : (s : Spot) (r : ℕ) (b″ : List ℕ) → s ≡ spotAt b c sh → b″ ≡ parkedIn b′ c sh h q s → r ≡ fateOf sh s → Parked r b″ (parkAt b c sh h q)
+  pub parked-at : (h : ℕ) (s : Spot) → s ≡ spotAt b c sh → (b′ : List ℕ) → b′ ≡ unlisted b c q → (b″ : List ℕ) → b″ ≡ parkedIn b′ c sh h q s → (r : ℕ) → r ≡ fateOf sh s → Parked r b″ (parkAt b c sh h q)
   unfolding parkAt
-  parked-at s r b″ e l j = rw (← e) (record { fate = j; left = l ∙ rw k })
+  parked-at h s e b′ k b″ l r j = rw (← e) (record { fate = j; left = l ∙ rw k })

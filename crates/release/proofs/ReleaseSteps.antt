@@ -1,5 +1,5 @@
 -- The ways out of a release.
-use Prim.Native.Nat.{ℕ, zero, suc, _+_, _≤_, _<_}
+use Prim.Native.Nat.{ℕ, _+_, _≤_, _<_}
 use native.Mathlib.Omega.{arith}
 use mathlib.Core.Bool.{Bool, true, false, cond, _&&_}
 use mathlib.Core.List.{List, [], _∷_, _++_, map}
@@ -18,8 +18,8 @@ use Rattle.model.specs.Release.{ofKind}
 use Rattle.arena.specs.Fair.{recordFair, giveFair}
 use Rattle.arena.specs.Calls.{given}
 use Rattle.pages.specs.Runs.{whole}
-use Rattle.pages.specs.Stack.{marks, pushed, indexOf}
-use Rattle.pages.proofs.Downs.{small}
+use Rattle.pages.specs.Fair.{headerFair}
+use Rattle.pages.specs.Stack.{marks, pushed, indexOf, back}
 use Rattle.calls.specs.Release as Heap
 use Rattle.calls.specs.Release.{startOf, firstOf, inRunOf, outIn, outAt, pageFair, rowFair, spotFair, releaseFair, relisted, released, parkAs, parkAt, spotAt, unlisted, giveBackAt, lastStep, releaseBlocks}
 use Rattle.release.specs.declared.Found.{Found}
@@ -32,16 +32,16 @@ use Rattle.release.specs.Fair.{FairAsks}
 use Rattle.release.specs.Act.{settleAt, SettleAsks, RunAsks, Parked, Answered}
 use Rattle.pages.proofs.Marks.{isMark}
 use Rattle.release.proofs.Bits.{every-same, bit-kept, whole-kept}
-use Rattle.release.proofs.Decode.{none-found, found-at}
+use Rattle.release.proofs.BlockSteps.{none-found, found-at}
 use Rattle.release.proofs.StrikeLaws.{strikes-all, restores, has-bits}
-use Rattle.release.proofs.RunLaws.{run-changes, run-struck, run-count, one-run, all-in-run, indices-low, run-marks, within-arena}
-use Rattle.release.proofs.Steps.{run-whole, count-within}
-use Rattle.release.proofs.Restoring.{every-append}
+use Rattle.release.proofs.RunLaws.{run-changes, run-struck, run-count, one-run, all-in-run, run-marks, within-arena}
+use Rattle.release.proofs.StrikeSteps.{run-whole, count-within}
+use Rattle.release.proofs.RestoreSteps.{every-append}
 
 -- ---- number 13's tests read no out bit
 module _ (b b′ : List ℕ) (h : Changes isMark b b′) where
   fair-kept : (n c : ℕ) (sh : Shape) (m q : ℕ) → c < 76 → releaseFair n b′ c sh m q ≡ releaseFair n b c sh m q
-  unfolding releaseFair pageFair rowFair spotFair giveFair recordFair
+  unfolding releaseFair pageFair rowFair spotFair giveFair recordFair headerFair
   fair-kept n c sh m q hc =
       let k = h .kept in
       let o = lt-ltb c 76 hc in

@@ -28,8 +28,8 @@ use Rattle.pages.proofs.Downs.{digit-le}
 use Rattle.calls.specs.Release.{pageFair, rowFair}
 use Rattle.calls.specs.Chunks.{returnsAll, runsGiven, pagesGiven, chunksFair}
 use Rattle.pages.specs.Asks.{PageAsks}
-use Rattle.release.proofs.Ways.{drop-past}
-use Rattle.release.proofs.FairWays.{page-room, count-low}
+use Rattle.release.proofs.RunSteps.{drop-past}
+use Rattle.release.proofs.FairSteps.{page-room, count-low}
 use Rattle.release.proofs.Spots.{empty-room}
 use Rattle.chunks.specs.declared.fair.Stores.{Stores}
 use Rattle.chunks.specs.GiveAsks.{givesFair}

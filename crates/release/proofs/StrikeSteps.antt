@@ -21,8 +21,8 @@ use Rattle.release.specs.declared.Found.{Found}
 use Rattle.release.specs.declared.Found.the-variants.{At, Nothing}
 use Rattle.release.specs.Strike.{bitIn, runAt, countIn, struckIn, struckCount, struck}
 use Rattle.release.specs.Asks.{InAsks, ClassAsks, StruckOne, StruckIn, Struck}
-use Rattle.release.proofs.Decode.{none-found, found-at}
-use Rattle.release.proofs.Ways.{drop-past}
+use Rattle.release.proofs.BlockSteps.{none-found, found-at}
+use Rattle.release.proofs.RunSteps.{drop-past}
 use Rattle.release.proofs.RunLaws.{run-struck, run-count}
 
 -- ---- the words of one run: what is left to strike from here comes to what was asked at the start

@@ -1,10 +1,10 @@
 -- The listed blocks come back to their page, and the arena is the last step.
-use Prim.Native.Nat.{ℕ, zero, suc, _+_, _≤_, _<_}
+use Prim.Native.Nat.{ℕ, _+_, _≤_, _<_}
 use native.Mathlib.Omega.{arith}
 use mathlib.Core.Bool.{Bool, true, false, cond, not, _&&_, _||_}
 use mathlib.Core.List.{List, map}
 use mathlib.Core.Path.{_≡_, refl, sym, ap, _∙_}
-use lib.Dec.{eqb, ltb, leb}
+use lib.Dec.{eqb, leb}
 use lib.ListN.{length, length-map}
 use borrow.Author.Tests.{leb-true, eqb-true, le-leb, lt-ltb, eq-eqb, ne-eqb}
 use Rattle.classes.specs.declared.Shape.{Shape}
@@ -29,8 +29,8 @@ use Rattle.calls.specs.Release.{pageFair, rowFair, relisted, released, unlisted
 use Rattle.pages.specs.Fair.{linksFair}
 use Rattle.release.specs.Act.{settleAt, coldVirgin, ParkingAsks, BackAsks, SettleAsks, Parked}
 use Rattle.release.proofs.Spots.{arena-alone}
-use Rattle.release.proofs.FairWays.{page-room, page-carved, links-fair, head-low}
-use Rattle.release.proofs.Parking.{unlisted-changes, relisted-changes, carve-changes}
+use Rattle.release.proofs.FairSteps.{page-room, page-carved, links-fair, head-low}
+use Rattle.release.proofs.ParkSteps.{unlisted-changes, relisted-changes, carve-changes}
 
 -- ---- the page with its blocks back: of the words that are tested, only FREE and VIRGIN are other ones
 abbrev onStack : Field → Bool

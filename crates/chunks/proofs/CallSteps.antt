@@ -3,7 +3,7 @@
 --     released, refused          what the passes answered, and the struck blocks set again where they refused
 --     no-list .. bad-host        numbers 7, 8, 9 and 3
 --     small-asks                 what the call asks holds of every small class
-use Prim.Native.Nat.{ℕ, suc, _≤_, _<_}
+use Prim.Native.Nat.{ℕ, _≤_, _<_}
 use native.Mathlib.Omega.{arith}
 use mathlib.Core.Bool.{Bool, true, false, cond, not, _&&_, _||_}
 use mathlib.Core.List.{List, [], _∷_}
@@ -16,7 +16,7 @@ use Rattle.classes.specs.declared.Shape.{Shape}
 use Rattle.classes.specs.Shape.{smallShape, shapeOf}
 use Rattle.classes.specs.Sound.{Sound}
 use Rattle.classes.proofs.Shapes.{shape-sound}
-use Rattle.fields.specs.Field.{put, words}
+use Rattle.fields.specs.Field.{words}
 use Rattle.fields.specs.Ranges.{maxPages}
 use Rattle.fields.proofs.Changes.{Changes}
 use Rattle.model.specs.Lists.{every, distinct, isNil}
@@ -25,13 +25,13 @@ use Rattle.model.specs.Chunks.{chunksMax}
 use Rattle.model.proofs.Counts.{by-cases, and-l, and-r}
 use Rattle.calls.specs.Release.{inRunOf, outAt}
 use Rattle.calls.specs.Chunks.{chunksMatch, chunksFair, settleChunks, ChunksReleased, chunksNone, releaseChunks}
-use Rattle.release.specs.Strike.{bitOf, struckCount, unstruck}
+use Rattle.release.specs.Strike.{struckCount, unstruck}
 use Rattle.release.specs.Asks.{RestoreAsks, Struck}
 use Rattle.pages.proofs.Marks.{isMark}
 use Rattle.release.proofs.Bits.{every-same, in-run-kept}
 use Rattle.release.proofs.StrikeLaws.{run-of-out, strikes-all, restores, struck-changes, restorable}
-use Rattle.release.proofs.Restoring.{struck-within}
-use Rattle.chunks.specs.CallAsks.{placed, settledTo, passes, CallAsks, StrikeAsks, StruckAsks, ChunksAnswered}
+use Rattle.release.proofs.RestoreSteps.{struck-within}
+use Rattle.chunks.specs.CallAsks.{allPlaced, settledTo, passes, CallAsks, StrikeAsks, StruckAsks, ChunksAnswered}
 use Rattle.chunks.proofs.PlaceSteps.{class-limits}
 use Rattle.chunks.proofs.Gather.{gathered}
 use Rattle.chunks.proofs.CallTests.{match-kept, chunks-fair-kept, fair-pages}
@@ -120,7 +120,7 @@ module _ (n : ℕ) (b : List ℕ) (c : ℕ) (sh : Shape) (ws gs fs : List ℕ) (
         faired : chunksFair n d c sh gs ≡ chunksFair n b c sh gs
         faired = chunks-fair-kept b d changes c hc n sh gs
 
-        placed-is : chunksMatch b ws gs ≡ true → chunksFair n b c sh gs ≡ true → placed d c sh h ws gs ≡ settleChunks b c sh h ws gs
+        placed-is : chunksMatch b ws gs ≡ true → chunksFair n b c sh gs ≡ true → allPlaced d c sh h ws gs ≡ settleChunks b c sh h ws gs
         placed-is m f =
             rw (z .left) (gathered n b c sh ws sound (a .call .single) hb every-out h gs hc count-is m (fair-pages n b c sh gs f))
 

@@ -55,7 +55,7 @@ module _ (b : List ℕ) (sh : Shape) (m q : ℕ) where
 
       pub links-last : (t : Bool) → x ≤ 1 → t ≡ linksFair b q → t ≡ pageFair b sh m q
       unfolding pageFair
-      links-last t l j = rw (← e, h, ← k, le-leb x 1 l, ← j)
+      links-last t l j = rw (← e, h, le-leb (get b (page listed q)) 1 (omega (arith, k))) j
 
 -- ---- a row
 module _ (b : List ℕ) (c : ℕ) where
