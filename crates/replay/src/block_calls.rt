@@ -2,19 +2,19 @@
 use super::line::Words;
 ghost use Prim.Native.Nat.{_≤_};
 
-// The end of so many words from `from` on.
-fn end(from: usize, count: u32) -> usize
-    requires { ⌜ from ≤ 4096 ⌝ }
-    ensures { λ r. ⌜ (from ≤ r) × (r ≤ 4096) ⌝ }
+// The end of so many words from `from` on, at `most` where there are not so many.
+fn end(from: usize, count: u32, most: usize) -> usize
+    requires { ⌜ from ≤ most ⌝ }
+    ensures { λ r. ⌜ (from ≤ r) × (r ≤ most) ⌝ }
 {
     let n = count as usize;
-    if n < 4096 - from { from + n } else { 4096 }
+    if n < most - from { from + n } else { most }
 }
 
 pub fn take(meta: &mut [u32], words: &Words, mut answers: Words) -> Words {
     let mut count = answers[1];
     let mut virgin = answers[2];
-    let e = end(3, words[3]);
+    let e = end(3, words[3], 4096);
     answers[0] = vigbuso::take_calls::vigbuso_take_blocks(
         meta,
         words[1],
@@ -31,7 +31,7 @@ pub fn take(meta: &mut [u32], words: &Words, mut answers: Words) -> Words {
 pub fn medium_take(meta: &mut [u32], words: &Words, mut answers: Words) -> Words {
     let mut count = answers[1];
     let mut virgin = answers[2];
-    let e = end(3, words[3]);
+    let e = end(3, words[3], 4096);
     answers[0] = vigbuso::take_calls::vigbuso_medium_take_blocks(
         meta,
         words[1],
@@ -47,7 +47,7 @@ pub fn medium_take(meta: &mut [u32], words: &Words, mut answers: Words) -> Words
 
 pub fn release(meta: &mut [u32], words: &Words, mut answers: Words) -> Words {
     let mut fate = answers[1];
-    let e = end(4, words[3]);
+    let e = end(4, words[3], 4096);
     let w = &words[..];
     answers[0] = vigbuso::release_calls::vigbuso_release_blocks(
         meta,
@@ -62,7 +62,7 @@ pub fn release(meta: &mut [u32], words: &Words, mut answers: Words) -> Words {
 
 pub fn medium_release(meta: &mut [u32], words: &Words, mut answers: Words) -> Words {
     let mut fate = answers[1];
-    let e = end(4, words[3]);
+    let e = end(4, words[3], 4096);
     let w = &words[..];
     answers[0] = vigbuso::release_calls::vigbuso_medium_release_blocks(
         meta,
@@ -75,18 +75,12 @@ pub fn medium_release(meta: &mut [u32], words: &Words, mut answers: Words) -> Wo
     answers
 }
 
-// The list, the groups, and how many fates there is room for. A line that is too long is not asked.
+// The list, the groups, and how many fates there is room for.
 pub fn release_chunks(meta: &mut [u32], words: &Words, mut answers: Words) -> Words {
-    let a = end(4, words[3]);
-    if a == 4096 {
-        return answers;
-    }
+    let a = end(4, words[3], 4094);
     let b = a + 1;
-    let e = end(b, words[a]);
-    if e == 4096 {
-        return answers;
-    }
-    let f = end(1, words[e]);
+    let e = end(b, words[a], 4095);
+    let f = end(1, words[e], 4096);
     let w = &words[..];
     answers[0] = vigbuso::chunk_calls::vigbuso_release_bin_chunks(
         meta,

@@ -24,16 +24,6 @@ pub fn low(value: u64) -> u32 {
     (value % 4_294_967_296) as u32
 }
 
-// The place of the number that a byte belongs to.
-pub fn place(count: usize, b: u8) -> usize {
-    if count < 4095 {
-        if b == b' ' {
-            return count + 1;
-        }
-    }
-    count
-}
-
 pub fn put(line: &mut Numbers, words: &mut Words, at: usize, b: u8) {
     if at < 4096 {
         let value = read(line[at], b);
@@ -42,24 +32,13 @@ pub fn put(line: &mut Numbers, words: &mut Words, at: usize, b: u8) {
     }
 }
 
-// What the places for answers hold before the call: the last argument, which a call that is lent a list has for this.
-pub fn fill(words: &Words, equals: usize) -> u32 {
-    if 4096 < equals {
-        return 0;
-    }
-    if equals == 0 {
-        return 0;
-    }
-    words[equals - 1]
-}
-
 // Whether the answers are those told after the `=`, and the places past them hold what they held.
-pub fn same(line: &Numbers, equals: usize, count: usize, answers: &Words, fill: u32) -> bool {
+pub fn same(words: &Words, equals: usize, count: usize, answers: &Words, fill: u32) -> bool {
     let mut i = equals;
     while i < 4095 {
         let answer = answers[i - equals];
         i += 1;
-        let due = if i <= count { low(line[i]) } else { fill };
+        let due = if i <= count { words[i] } else { fill };
         if answer != due {
             return false;
         }

@@ -31,13 +31,13 @@ fn call(meta: &mut [u32], line: &Numbers, words: &Words, answers: Words) -> Word
     }
 }
 
-// Whether the call of a line answers what the line tells, and leaves the other places for answers. A line with no `=` tells nothing:
-// all places keep a 0, an opening's return value too.
+// Whether the call of a line answers what the line tells, and leaves the other places for answers, which hold the last argument before
+// it. A line with no `=` tells nothing: all places keep a 0, an opening's return value too.
 fn replayed(meta: &mut [u32], line: &Numbers, words: &Words, equals: usize, count: usize) -> bool {
-    let fill = line::fill(words, equals);
+    let fill = words[std::num::wrapping_sub_usize(equals, 1) % 4096];
     let answers = call(meta, line, words, [fill; 4096]);
     let told = if equals == 0 { 0 } else { count };
-    line::same(line, equals, told, &answers, fill)
+    line::same(words, equals, told, &answers, fill)
 }
 
 // Where the reading is in its line: the place of the number that is read, and that of the `=`. Then how many lines were replayed, and
@@ -61,7 +61,7 @@ fn step(meta: &mut [u32], line: &mut Numbers, words: &mut Words, c: Cursor, b: u
             differ: std::num::wrapping_add_u64(c.differ, !same as u64),
         };
     }
-    let count = line::place(c.count, b);
+    let count = std::num::wrapping_add_usize(c.count, (b == b' ') as usize);
     line::put(line, words, count, b);
     let equals = if b == b'=' { count } else { c.equals };
     Cursor {
