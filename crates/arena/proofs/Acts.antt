@@ -2,7 +2,6 @@
 --     Stands               a book with the record still to be written stands for the model's arena: the record stored, it is the arena stored
 --     stands-loaded, stands-status, stands-frontier, stands-counted, stands-give, drawn     each step keeps it
 --     commit-acts          a commit, on any words long enough
--- Assumes nothing.
 use Prim.Native.Nat.{ℕ, zero, suc, _+_, _-_, _≤_, _<_}
 use native.Mathlib.Omega.{arith}
 use native.Mathlib.Decide.{ℕ-discrete, decLe}
@@ -14,18 +13,18 @@ use mathlib.Core.Path.{_≡_, refl, sym, ap, _∙_, subst}
 use lib.Dec.{ltb, leb}
 use lib.ListN.{length, length-append}
 use borrow.Author.Tests.{lt-ltb, ltb-true, le-ltb, eq-eqb, ne-eqb, le-leb, lt-leb, leb-true}
+use Rattle.facts.specs.Lists.{isSome}
+use Rattle.facts.proofs.Bools.{by-cases, and-left, and-right}
 use Rattle.words.specs.Limits.{holeSlots, holePagesMax, rememberedMax}
 use Rattle.words.specs.Host.{reservationGranted, commitGranted}
 use Rattle.fields.specs.Field.{arena, state, frontier, holes, holePages, held, get, put, words}
 use Rattle.fields.proofs.Laws.{put-get}
 use Rattle.model.specs.declared.Hole.{Hole}
-use Rattle.model.specs.Lists.{isSome}
 use Rattle.model.specs.HoleStore as Model
 use Rattle.model.specs.HoleStore.{Memory, holeAt, lastHole, setAt, removeAt, lowest, refresh, remember, cutFrom, takeAt, accepts, append, Choice, chooseIn}
 use Rattle.model.specs.Arena as Arenas
 use Rattle.model.specs.Arena.{Arena, Status, ready, disabled, Given, give, drawFrom, draw, grant, commitReady, commitAs, commit}
 use Rattle.model.specs.Heap.{direct}
-use Rattle.model.proofs.Counts.{by-cases, and-l, and-r}
 use Rattle.model.proofs.HoleLists.{set-length}
 use Rattle.model.proofs.ArenaLaws.{give-frontier}
 use Rattle.arena.specs.declared.Arena.{Arena as Record}
@@ -85,7 +84,7 @@ unfolding give accepts giveWords appendWords giveRecord
 give-own n b hb m q a =
     by-cases (ltb (length (a .store .holes)) holeSlots && leb (a .store .total + m) holePagesMax)
     (λ e. rw e (record {
-      words = rw add-one (store-appended n b hb (a .store .holes) (a .store .total) (a .store .memory) m q (ltb-true _ _ (and-l _ _ e)));
+      words = rw add-one (store-appended n b hb (a .store .holes) (a .store .total) (a .store .memory) m q (ltb-true _ _ (and-left _ _ e)));
       top = append-top m q a;
     }))
     (λ e. rw e (record { words = refl; top = refl }))
@@ -99,7 +98,7 @@ pub give-few : (m q : ℕ) (a : Arena) → length (a .store .holes) ≤ holeSlot
 unfolding give accepts append
 give-few m q a l =
     by-cases (ltb (length (a .store .holes)) holeSlots && leb (a .store .total + m) holePagesMax)
-    (λ e. rw (e, length-append) (let z = ltb-true (length (a .store .holes)) holeSlots (and-l _ _ e) in omega arith))
+    (λ e. rw (e, length-append) (let z = ltb-true (length (a .store .holes)) holeSlots (and-left _ _ e) in omega arith))
     (λ e. rw e l)
 
 -- ---- the end of a commit
@@ -384,15 +383,15 @@ pub record FairRecord (n : ℕ) (b : List ℕ) : Type 0 where
 pub fair-record : (n : ℕ) (b : List ℕ) → recordFair n b ≡ true → FairRecord n b
 unfolding recordFair
 fair-record n b e =
-    let e₁ = and-r (leb (get b (arena state)) 2) _ e in
-    let e₂ = and-r (leb (get b (arena frontier)) n) _ e₁ in
-    let e₃ = and-r (leb (get b (arena holes)) holeSlots) _ e₂ in
+    let e₁ = and-right (leb (get b (arena state)) 2) _ e in
+    let e₂ = and-right (leb (get b (arena frontier)) n) _ e₁ in
+    let e₃ = and-right (leb (get b (arena holes)) holeSlots) _ e₂ in
     record {
-      state = leb-true _ 2 (and-l _ _ e);
-      frontier = leb-true _ n (and-l _ _ e₁);
-      holes = leb-true _ holeSlots (and-l _ _ e₂);
-      holePages = leb-true _ holePagesMax (and-l _ _ e₃);
-      held = leb-true _ n (and-r (leb (get b (arena holePages)) holePagesMax) _ e₃);
+      state = leb-true _ 2 (and-left _ _ e);
+      frontier = leb-true _ n (and-left _ _ e₁);
+      holes = leb-true _ holeSlots (and-left _ _ e₂);
+      holePages = leb-true _ holePagesMax (and-left _ _ e₃);
+      held = leb-true _ n (and-right (leb (get b (arena holePages)) holePagesMax) _ e₃);
     }
 
 cond-true : {A : Type 0} (c : Bool) (x y : A) → c ≡ true → cond c x y ≡ x

@@ -1,4 +1,4 @@
--- The model's choice of a hole, as data: which hole, and what is known of it and of the memory. Assumes nothing.
+-- The model's choice of a hole, as data: which hole, and what is known of it and of the memory.
 use Prim.Native.Nat.{ℕ, suc, _≤_, _<_}
 use native.Mathlib.Omega.{arith}
 use mathlib.Core.Bool.{Bool, true, false, _&&_, true≢false, false≢true}
@@ -8,10 +8,10 @@ use mathlib.Core.Path.{_≡_, refl, _∙_}
 use lib.Dec.{ltb, leb}
 use lib.ListN.{length}
 use borrow.Author.Tests.{ltb-true, ltb-false, eqb-true, ne-eqb, leb-true, leb-false, le-leb}
+use Rattle.facts.proofs.Bools.{by-cases, and-left, and-right}
 use Rattle.model.specs.declared.Hole.{Hole}
 use Rattle.model.specs.HoleStore as Model
 use Rattle.model.specs.HoleStore.{Memory, rememberedMax, holeAt, lowest, Fit, nearer, leastFit, refresh, stillHolds, Choice, chooseIn}
-use Rattle.model.proofs.Counts.{by-cases, and-l, and-r}
 
 -- ---- the least sufficient length
 record Fits (n : ℕ) (hs : List Hole) (f : Fit) : Type 0 where
@@ -44,8 +44,8 @@ nearest n h hs o (found f k) =
     (λ t. rw t (found (record { index = 0; pages = h .pages }) (record {
       inside = omega arith;
       at = refl;
-      enough = leb-true n (h .pages) (and-l _ _ t);
-      longer = λ l. skip n h hs (λ z. omega arith) (k .longer (let y = leb-true (h .pages) (f .pages) (and-r (leb n (h .pages)) _ t) in omega arith));
+      enough = leb-true n (h .pages) (and-left _ _ t);
+      longer = λ l. skip n h hs (λ z. omega arith) (k .longer (let y = leb-true (h .pages) (f .pages) (and-right (leb n (h .pages)) _ t) in omega arith));
     })))
     (λ t. rw t (found (record { index = suc (f .index); pages = f .pages }) (record {
       inside = let y = k .inside in omega arith;
@@ -78,14 +78,14 @@ module _ (n : ℕ) (hs : List Hole) (t : ℕ) (f : Memory) (some-hole : 0 < leng
   by-memory : (o : Option ℕ) → stillHolds n hs o ≡ true → Choosing n hs t f (record { index = o; store = Model.store hs t f })
   unfolding stillHolds
   by-memory none e = absurd (false≢true e)
-  by-memory (some i) e = recalled i (ltb-true i (length hs) (and-l _ _ e)) (eqb-true (holeAt i hs .pages) n (and-r (ltb i (length hs)) _ e))
+  by-memory (some i) e = recalled i (ltb-true i (length hs) (and-left _ _ e)) (eqb-true (holeAt i hs .pages) n (and-right (ltb i (length hs)) _ e))
 
 pub choosing : (n : ℕ) (hs : List Hole) (t : ℕ) (f : Memory) → Choosing n hs t f (chooseIn n hs t f)
 unfolding chooseIn
 choosing n [] t f = empty refl
 choosing n (h ∷ hs) t f =
     by-cases (leb n rememberedMax && stillHolds n (h ∷ hs) (f n))
-    (λ e. rw e (by-memory n (h ∷ hs) t f (omega arith) (f n) (and-r (leb n rememberedMax) _ e)))
+    (λ e. rw e (by-memory n (h ∷ hs) t f (omega arith) (f n) (and-right (leb n rememberedMax) _ e)))
     (λ e. rw e (by-fit n (h ∷ hs) t f (omega arith) (leastFit n (h ∷ hs)) (fit n (h ∷ hs))))
 
 -- the index depends on this length's memory alone

@@ -1,4 +1,4 @@
--- What the arena's stores and the owners' writes leave as it was. Assumes nothing.
+-- What the arena's stores and the owners' writes leave as it was.
 use Prim.Native.Nat.{ℕ, zero, suc, _+_, _≤_, _<_}
 use native.Mathlib.Omega.{arith}
 use mathlib.Core.Bool.{Bool, true, false, _&&_}

@@ -2,7 +2,6 @@
 --     plan-fits      a chosen hole is stored, long enough, and within the hole pages and the frontier
 --     clamp-commit, clamp-grow    a run of more pages than any arena has may be counted as one page more than that
 --     commit-long    a commit of more pages than any arena has goes like every other one: no hole, no memory, no room
--- Assumes nothing.
 use Prim.Native.Nat.{ℕ, zero, suc, _+_, _≤_, _<_}
 use native.Mathlib.Omega.{arith}
 use mathlib.Core.Bool.{Bool, true, false, cond, false≢true}
@@ -12,13 +11,13 @@ use mathlib.Core.Path.{_≡_, refl, sym, ap, _∙_, subst}
 use lib.Dec.{eqb, leb}
 use lib.ListN.{length}
 use borrow.Author.Tests.{leb-true, leb-false, lt-leb}
+use Rattle.facts.specs.Lists.{every}
+use Rattle.facts.proofs.Bools.{by-cases, and-left, and-right}
 use Rattle.words.specs.Limits.{rememberedMax}
 use Rattle.words.specs.Limits.{maxPages}
 use Rattle.fields.specs.Field.{arena, frontier, holes, holePages, held, get, words}
 use Rattle.model.specs.declared.Hole.{Hole}
-use Rattle.model.specs.Lists.{every}
 use Rattle.model.specs.HoleStore.{Memory, holeAt, Choice, chooseIn}
-use Rattle.model.proofs.Counts.{by-cases, and-l, and-r}
 use Rattle.arena.specs.declared.Arena.{Arena}
 use Rattle.arena.specs.declared.Plan.{Plan}
 use Rattle.arena.specs.Load.{loadHoles, recall}
@@ -33,8 +32,8 @@ use Rattle.arena.proofs.Acts.{planned-fair, planned-at, fair-record, co
 
 every-at : (t : Hole → Bool) (hs : List Hole) (i : ℕ) → every t hs ≡ true → i < length hs → t (holeAt i hs) ≡ true
 every-at t [] i e l = absurd (omega arith)
-every-at t (h ∷ hs) zero e l = and-l (t h) (every t hs) e
-every-at t (h ∷ hs) (suc i) e l = every-at t hs i (and-r (t h) (every t hs) e) (omega arith)
+every-at t (h ∷ hs) zero e l = and-left (t h) (every t hs) e
+every-at t (h ∷ hs) (suc i) e l = every-at t hs i (and-right (t h) (every t hs) e) (omega arith)
 
 pub record PlanFits (b : List ℕ) (m : ℕ) (p : Plan) : Type 0 where
   pub stored : p .code ≤ get b (arena holes)
@@ -50,12 +49,12 @@ module _ (b : List ℕ) (m : ℕ) (fair : holesFair b ≡ true) where
   unfolding planAt HS holesFair
   fits-at i l u =
       let z = every-at (holeFair (get b (arena holePages)) (get b (arena frontier))) HS i fair l in
-      let z₁ = and-r (leb 1 (holeAt i HS .pages)) _ z in
+      let z₁ = and-right (leb 1 (holeAt i HS .pages)) _ z in
       record {
         stored = let y = loaded-length b 0 (get b (arena holes)) in omega arith;
         enough = u;
-        within = leb-true _ _ (and-l _ _ z₁);
-        ends = leb-true _ _ (and-r (leb (holeAt i HS .pages) (get b (arena holePages))) _ z₁);
+        within = leb-true _ _ (and-left _ _ z₁);
+        ends = leb-true _ _ (and-right (leb (holeAt i HS .pages) (get b (arena holePages))) _ z₁);
       }
 
   fits-of : (c : Choice) (t : ℕ) (f : Memory) → Choosing m HS t f c → (planAt HS m (c .index) .code ≡ 0 → ⊥) → PlanFits b m (planAt HS m (c .index))

@@ -4,7 +4,6 @@
 --     store-removed        a hole of the loaded list used up: the last one written in its place
 --     store-appended       a hole appended, and remembered: one hole and one memory word written
 --     store-remembered     a length remembered: at most one memory word written
--- Assumes nothing.
 use Prim.Native.Nat.{ℕ, zero, suc, _+_, _≤_, _<_}
 use native.Mathlib.Omega.{arith}
 use native.Mathlib.Nat.{add-zero}
@@ -15,15 +14,15 @@ use mathlib.Core.Path.{_≡_, refl, sym, ap, _∙_}
 use lib.Dec.{eqb, ltb, leb}
 use lib.ListN.{length}
 use borrow.Author.Tests.{lt-ltb, ltb-true, ne-eqb, eqb-true, eqb-false, le-leb, leb-true, ltb-false}
+use Rattle.facts.specs.Lists.{update}
+use Rattle.facts.proofs.Bools.{by-cases}
 use Rattle.words.specs.Limits.{holeSlots, rememberedMax}
 use Rattle.fields.specs.Field.{Field, arena, memory, hole, holes, start, pages, get, put, same, ok, words}
 use Rattle.fields.proofs.Laws.{get-put-other, put-get, put-put-same, put-comm, length-put}
 use Rattle.model.specs.declared.Hole.{Hole}
 use Rattle.model.specs.HoleStore as Model
 use Rattle.model.specs.HoleStore.{HoleStore, Memory, holeAt, setAt, removeAt, withoutLast, lastHole, remember, append}
-use Rattle.model.specs.Lists.{update}
 use Rattle.model.proofs.HoleLists.{set-length}
-use Rattle.model.proofs.Counts.{by-cases}
 use Rattle.arena.specs.Load.{indexOf, indexCode, loadHole, loadHoles, recall, loadStore}
 use Rattle.arena.specs.Store.{storeHole, storeHoles, storeMemory, memoryWords, storeStore}
 use Rattle.arena.specs.Act.{rememberWord}

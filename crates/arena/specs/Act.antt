@@ -1,6 +1,6 @@
 -- What the code writes for a step of the arena: the few words that change, hole and memory words first, then the record, the owners
 -- and HELD. That this is the model's step with the whole arena stored (Calls) is proved in proofs/Acts. a is the record as it is to
--- be written, m a run's pages, q its first page, p what the plan found. Assumes nothing.
+-- be written, m a run's pages, q its first page, p what the plan found.
 use Prim.Native.Nat.{ℕ, zero, suc, _+_, _-_}
 use mathlib.Core.List.{List}
 use mathlib.Core.Option.{none, some}

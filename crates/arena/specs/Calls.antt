@@ -1,14 +1,14 @@
 -- The calls that go straight to the arena, on any words: the answer and the book afterwards, refusals included (document 01, "A run
 -- of pages" and "Numbers for a refused call"). n is the arena's length, h the host word. Each reads the model's arena from the words,
--- does the model's step, and writes it back. Assumes nothing.
+-- does the model's step, and writes it back.
 use Prim.Native.Nat.{ℕ, _+_, _-_}
 use mathlib.Core.List.{List}
 use mathlib.Core.Option.{Option, none, some}
 use mathlib.Core.Bool.{Bool, true, false, cond, not, _&&_}
 use lib.Dec.{eqb, leb}
+use Rattle.facts.specs.Lists.{every, below}
 use Rattle.fields.specs.Field.{arena, page, owner, frontier, held, get, put}
 use Rattle.model.specs.declared.Figures.{Figures}
-use Rattle.model.specs.Lists.{every, below}
 use Rattle.model.specs.Heap.{badRun, badGrowth, direct, figuresWith}
 use Rattle.model.specs.Arena as Model
 use Rattle.model.specs.Arena.{Arena, Given, Grown}

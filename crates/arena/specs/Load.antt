@@ -1,4 +1,4 @@
--- The arena that the words hold. Any words hold one; number 13's tests (Fair) say which of them a step may use. Assumes nothing.
+-- The arena that the words hold. Any words hold one; number 13's tests (Fair) say which of them a step may use.
 use Prim.Native.Nat.{ℕ, zero, suc}
 use mathlib.Core.List.{List, [], _∷_}
 use mathlib.Core.Option.{Option, none, some}

@@ -1,4 +1,4 @@
--- Who holds each page, on the words. Assumes nothing.
+-- Who holds each page, on the words.
 use Prim.Native.Nat.{ℕ, zero, suc, _+_, _-_}
 use mathlib.Core.List.{List}
 use mathlib.Core.Option.{Option, none, some}

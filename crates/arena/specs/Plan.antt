@@ -1,11 +1,11 @@
--- What a commit of m pages finds among the holes, by the model's own choice. Assumes nothing.
+-- What a commit of m pages finds among the holes, by the model's own choice.
 use Prim.Native.Nat.{ℕ, suc, _+_, _-_}
 use mathlib.Core.List.{List}
 use mathlib.Core.Option.{Option, none, some}
 use mathlib.Core.Bool.{Bool, true, false, cond}
 use lib.Dec.{ltb}
+use Rattle.facts.specs.Lists.{every}
 use Rattle.model.specs.declared.Hole.{Hole}
-use Rattle.model.specs.Lists.{every}
 use Rattle.model.specs.HoleStore as Model
 use Rattle.model.specs.HoleStore.{holeAt, lastHole, setAt, removeAt, chooseIn}
 use Rattle.arena.specs.declared.Plan.{Plan}

@@ -1,4 +1,4 @@
--- The arena's record: read from the words, changed in place. Assumes nothing.
+-- The arena's record: read from the words, changed in place.
 use Prim.Native.Nat.{ℕ, _+_}
 use mathlib.Core.List.{List}
 use mathlib.Core.Bool.{Bool, cond}

@@ -1,5 +1,4 @@
 -- The words stand for the model's arena and for who holds each page: the part of the representation that the arena's calls keep.
--- Assumes nothing.
 use Prim.Native.Nat.{ℕ, _<_}
 use mathlib.Core.List.{List}
 use mathlib.Core.Bool.{true}

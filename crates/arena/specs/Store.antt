@@ -1,4 +1,4 @@
--- The words that hold an arena: the holes, the memory, the record. Assumes nothing.
+-- The words that hold an arena: the holes, the memory, the record.
 use Prim.Native.Nat.{ℕ, zero, suc}
 use mathlib.Core.List.{List, [], _∷_}
 use lib.ListN.{length}

@@ -11,10 +11,10 @@ use mathlib.Core.Bool.{Bool, true, false, cond, not, _&&_}
 use mathlib.Core.List.{List, [], _∷_, map}
 use lib.Dec.{eqb, ltb, leb}
 use lib.ListN.{length}
+use Rattle.facts.specs.Lists.{isNil, every, distinct}
 use Rattle.words.specs.Host.{discardZeroed}
 use Rattle.classes.specs.declared.Shape.{Shape}
 use Rattle.fields.specs.Field.{arena, class, page, out, frontier, partial, first, free, carved, listed, get, put}
-use Rattle.model.specs.Lists.{every, distinct, isNil}
 use Rattle.model.specs.declared.Spot.{Spot}
 use Rattle.model.specs.declared.Spot.the-variants.{ToEmpty, ToCold, ToArena}
 use Rattle.model.specs.Page.{isMedium}

@@ -7,15 +7,15 @@
 --     takeNew     a new run from the arena
 use Prim.Native.Nat.{ℕ, zero, suc, _-_}
 use mathlib.Core.Bool.{Bool, true, false, cond, not, _&&_, _||_}
-use mathlib.Core.List.{List, [], _∷_, _++_, map}
+use mathlib.Core.List.{List, [], _++_, map}
 use mathlib.Core.Option.{Option, none, some}
 use lib.Dec.{eqb, ltb, leb}
 use lib.ListN.{length, drop}
+use Rattle.facts.specs.Lists.{every}
 use Rattle.classes.specs.declared.Shape.{Shape}
 use Rattle.fields.specs.Field.{arena, class, page, frontier, partial, empty, cold, next, prev, free, carved, listed, virgin, get}
-use Rattle.model.specs.Lists.{every}
 use Rattle.model.specs.Page.{wordOf}
-use Rattle.arena.specs.Calls.{Committed, commitFor}
+use Rattle.arena.specs.Calls.{commitFor}
 use Rattle.pages.specs.Runs.{whole}
 use Rattle.pages.specs.Stack.{tops, latest, draw, hasMore}
 use Rattle.pages.specs.Links.{link, unlink, top, stored, wake}

@@ -9,12 +9,12 @@ use mathlib.Core.Path.{_≡_, refl, sym, ap, _∙_}
 use lib.Dec.{eqb, ltb, leb}
 use lib.ListN.{length, drop, length-append}
 use borrow.Author.Tests.{lt-ltb, leb-true, le-leb, eq-eqb, eqb-true, eqb-false, ne-eqb}
+use Rattle.facts.specs.Lists.{every, All}
+use Rattle.facts.proofs.Bools.{by-cases, and-left, and-right}
 use Rattle.words.specs.Word.{countOf, pageOf}
 use Rattle.classes.specs.declared.Shape.{Shape}
 use Rattle.fields.specs.Field.{Field, arena, class, page, slot, region, off, frontier, state, holes, holePages, held, partial, empty, emptyCount, cold, coldCount, next, prev, free, carved, listed, get, words}
 use Rattle.fields.proofs.Changes.{Changes, changes-none, changes-put}
-use Rattle.model.specs.Lists.{All, every}
-use Rattle.model.proofs.Counts.{by-cases, and-l, and-r}
 use Rattle.arena.specs.Fair.{recordFair, giveFair}
 use Rattle.pages.specs.Stack.{pageAt}
 use Rattle.calls.specs.Release.{pageFair, rowFair}
@@ -57,7 +57,7 @@ eqb-turned x y =
 every-both : (t u v : ℕ → Bool) → ((g : ℕ) → t g ≡ true → u g ≡ true → v g ≡ true) → (gs : List ℕ) → every t gs ≡ true → every u gs ≡ true → every v gs ≡ true
 every-both t u v k [] e f = refl
 every-both t u v k (g ∷ gs) e f =
-    rw (k g (and-l (t g) (every t gs) e) (and-l (u g) (every u gs) f)) (every-both t u v k gs (and-r (t g) (every t gs) e) (and-r (u g) (every u gs) f))
+    rw (k g (and-left (t g) (every t gs) e) (and-left (u g) (every u gs) f)) (every-both t u v k gs (and-right (t g) (every t gs) e) (and-right (u g) (every u gs) f))
 
 -- ---- what the passes ask
 module _ (n : ℕ) (b : List ℕ) (c : ℕ) (sh : Shape) (ws gs fs : List ℕ) (a : StruckAsks n b c sh ws gs fs) where
@@ -71,20 +71,20 @@ module _ (n : ℕ) (b : List ℕ) (c : ℕ) (sh : Shape) (ws gs fs : List ℕ) (
     module _ (f : chunksFair n b c sh gs ≡ true) (h : ℕ) where
       fair-low : get b (arena frontier) ≤ n
       unfolding chunksFair
-      fair-low = leb-true (get b (arena frontier)) n (and-l (leb (get b (arena frontier)) n) _ f)
+      fair-low = leb-true (get b (arena frontier)) n (and-left (leb (get b (arena frontier)) n) _ f)
 
       fair-rest : (every (λ g. pageFair b sh (countOf g) (pageOf g)) gs && (rowFair b c && cond (eqb (pagesGiven b c sh gs) 0) true (giveFair n b (pagesGiven b c sh gs)))) ≡ true
       unfolding chunksFair
-      fair-rest = and-r (leb (get b (arena frontier)) n) _ f
+      fair-rest = and-right (leb (get b (arena frontier)) n) _ f
 
       pages : every (λ g. pageFair b sh (countOf g) (pageOf g)) gs ≡ true
       pages = fair-pages n b c sh gs f
 
       fair-row : rowFair b c ≡ true
-      fair-row = and-l (rowFair b c) _ (and-r (every (λ g. pageFair b sh (countOf g) (pageOf g)) gs) _ fair-rest)
+      fair-row = and-left (rowFair b c) _ (and-right (every (λ g. pageFair b sh (countOf g) (pageOf g)) gs) _ fair-rest)
 
       fair-gives : cond (eqb (pagesGiven b c sh gs) 0) true (giveFair n b (pagesGiven b c sh gs)) ≡ true
-      fair-gives = and-r (rowFair b c) _ (and-r (every (λ g. pageFair b sh (countOf g) (pageOf g)) gs) _ fair-rest)
+      fair-gives = and-right (rowFair b c) _ (and-right (every (λ g. pageFair b sh (countOf g) (pageOf g)) gs) _ fair-rest)
 
       pushing : PushAllAsks b sh ws
       pushing = record {
@@ -139,10 +139,10 @@ module _ (n : ℕ) (b : List ℕ) (c : ℕ) (sh : Shape) (ws gs fs : List ℕ) (
       all-idle (g ∷ hs) i =
           let q = pageOf g in
           let t = chunkFits b ws in
-          let k = fits-count n b c sh (a .call .single) ws gs (a .runs) m g (and-l (t g) (every t hs) i) in
+          let k = fits-count n b c sh (a .call .single) ws gs (a .runs) m g (and-left (t g) (every t hs) i) in
           let e : idle (pushAll b sh ws) (pageOf g) ≡ returnsAll b g
           = rw (stack .kept (page carved q) refl refl, push-free b sh ws pushing q, k) (eqb-turned (get b (page carved q)) (get b (page free q) + wordsOn ws q)) in
-          (e, all-idle hs (and-r (t g) (every t hs) i))
+          (e, all-idle hs (and-right (t g) (every t hs) i))
 
       book : List ℕ
       book = allPlaced b c sh h ws gs .book

@@ -11,6 +11,9 @@ use mathlib.Core.Path.{_≡_, refl, sym, _∙_}
 use lib.Dec.{eqb, ltb, leb}
 use lib.ListN.{length, take}
 use borrow.Author.Tests.{lt-ltb, le-ltb, le-leb, eq-eqb, ne-eqb}
+use Rattle.facts.specs.Lists.{isNil, every, distinct}
+use Rattle.facts.proofs.Bools.{by-cases, and-left, and-right}
+use Rattle.facts.proofs.Lists.{every-same}
 use Rattle.words.specs.Word.{chunkKind}
 use Rattle.classes.specs.declared.Shape.{Shape}
 use Rattle.classes.specs.Shape.{smallShape, shapeOf}
@@ -19,16 +22,14 @@ use Rattle.classes.proofs.Shapes.{shape-sound}
 use Rattle.fields.specs.Field.{words}
 use Rattle.fields.specs.Ranges.{maxPages}
 use Rattle.fields.proofs.Changes.{Changes}
-use Rattle.model.specs.Lists.{every, distinct, isNil}
 use Rattle.model.specs.Release.{ofKind}
 use Rattle.model.specs.Chunks.{chunksMax}
-use Rattle.model.proofs.Counts.{by-cases, and-l, and-r}
 use Rattle.calls.specs.Release.{inRunOf, outAt}
 use Rattle.calls.specs.Chunks.{chunksMatch, chunksFair, settleChunks, ChunksReleased, chunksNone, releaseChunks}
 use Rattle.release.specs.Strike.{struckCount, unstruck}
 use Rattle.release.specs.Asks.{RestoreAsks, Struck}
 use Rattle.pages.proofs.Marks.{isMark}
-use Rattle.release.proofs.Bits.{every-same, in-run-kept}
+use Rattle.release.proofs.Bits.{in-run-kept}
 use Rattle.release.proofs.StrikeLaws.{run-of-out, strikes-all, restores, struck-changes, restorable}
 use Rattle.release.proofs.RestoreSteps.{struck-within}
 use Rattle.chunks.specs.CallAsks.{allPlaced, settledTo, passes, CallAsks, StrikeAsks, StruckAsks, ChunksAnswered}
@@ -55,7 +56,7 @@ module _ (n : ℕ) (b : List ℕ) (c : ℕ) (sh : Shape) (ws gs fs : List ℕ) (
   hc = lt-ltb c 76 (a .call .class .known)
 
   tells : eqb (struckCount n b c sh ws) (length ws) ≡ (every (outAt n b c sh) ws && distinct ws)
-  tells = strikes-all n c sh sound b (sh .kind) ws hb (and-l (every (ofKind (sh .kind)) ws) (every (ofKind chunkKind) gs) (a .kinds))
+  tells = strikes-all n c sh sound b (sh .kind) ws hb (and-left (every (ofKind (sh .kind)) ws) (every (ofKind chunkKind) gs) (a .kinds))
 
   not-all : (h : ℕ) → (every (outAt n b c sh) ws && distinct ws) ≡ false → releaseChunks n b c sh h ws gs fs ≡ chunksNone b fs 10
   unfolding releaseChunks
@@ -93,13 +94,13 @@ module _ (n : ℕ) (b : List ℕ) (c : ℕ) (sh : Shape) (ws gs fs : List ℕ) (
       outs = sym tells ∙ eq-eqb (struckCount n b c sh ws) (length ws) count-is
 
       every-out : every (outAt n b c sh) ws ≡ true
-      every-out = and-l (every (outAt n b c sh) ws) (distinct ws) outs
+      every-out = and-left (every (outAt n b c sh) ws) (distinct ws) outs
 
       in-runs : (vs : List ℕ) → every (outAt n b c sh) vs ≡ true → every (inRunOf n b sh c) vs ≡ true
       in-runs [] o = refl
       in-runs (v ∷ vs) o =
           let t = outAt n b c sh in
-          rw (run-of-out n c sh sound b v (and-l (t v) (every t vs) o)) (in-runs vs (and-r (t v) (every t vs) o))
+          rw (run-of-out n c sh sound b v (and-left (t v) (every t vs) o)) (in-runs vs (and-right (t v) (every t vs) o))
 
       pub struck-asks : StruckAsks n d c sh ws gs fs
       struck-asks = record {

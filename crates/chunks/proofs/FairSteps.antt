@@ -1,5 +1,5 @@
 -- Number 13's tests of a group release: the loops over the chunks, and the ways out.
-use Prim.Native.Nat.{ℕ, zero, suc, _+_, _-_, _*_, _≤_, _<_}
+use Prim.Native.Nat.{ℕ, suc, _+_, _-_, _*_, _≤_, _<_}
 use native.Mathlib.Omega.{arith}
 use native.Mathlib.Numerals.{add-one}
 use native.Mathlib.Nat.{add-zero, mul-le-mul}
@@ -12,12 +12,13 @@ use lib.Dec.{eqb, ltb}
 use lib.ListN.{length, getD, drop}
 use lib.Seq.{drop-cons}
 use borrow.Author.Tests.{ltb-true, le-leb, lt-leb, eq-eqb, ne-eqb, eqb-true, eqb-false}
+use Rattle.facts.specs.Lists.{every}
+use Rattle.facts.proofs.Bools.{by-cases}
+use Rattle.facts.proofs.Lists.{every-get}
 use Rattle.words.specs.Word.{countOf, pageOf}
 use Rattle.classes.specs.declared.Shape.{Shape}
 use Rattle.fields.specs.Field.{arena, class, page, frontier, emptyCount, coldCount, free, carved, get}
 use Rattle.fields.specs.Ranges.{maxParked}
-use Rattle.model.specs.Lists.{every}
-use Rattle.model.proofs.Counts.{by-cases, and-l, and-r}
 use Rattle.arena.specs.Fair.{giveFair}
 use Rattle.pages.specs.declared.Park.the-variants.{Empty, Cold}
 use Rattle.words.specs.Host.{digit}
@@ -35,11 +36,6 @@ use Rattle.chunks.specs.declared.fair.Stores.{Stores}
 use Rattle.chunks.specs.GiveAsks.{givesFair}
 use Rattle.chunks.specs.FairAsks.{chunkFair, spotted, counted, PagesAsks, ReturnsAsks, SpottedAsks, CountAsks, RunsAsks, PagesGivenAsks, ChunksFairAsks}
 
-every-at : (t : ℕ → Bool) (ws : List ℕ) (i : ℕ) → every t ws ≡ true → i < length ws → t (getD ws i 0) ≡ true
-every-at t [] i e h = absurd (omega arith)
-every-at t (w ∷ ws) zero e h = and-l _ _ e
-every-at t (w ∷ ws) (suc i) e h = every-at t ws i (and-r (t w) _ e) (omega arith)
-
 -- ---- a chunk's page
 pub chunk-is : (b : List ℕ) (sh : Shape) (g v m w q : ℕ) → v ≡ g → m ≡ countOf v → w ≡ g → q ≡ pageOf w → (r : Bool) → r ≡ pageFair b sh m q → r ≡ chunkFair b sh g
 chunk-is b sh g v m w q e₁ e₂ e₃ e₄ r e = e ∙ rw (e₂, e₁, e₄, e₃)
@@ -50,7 +46,7 @@ pub record PagesInv (b : List ℕ) (sh : Shape) (gs : List ℕ) (i : ℕ) : Type
 
 module _ (n : ℕ) (b : List ℕ) (gs : List ℕ) (a : PagesAsks n b gs) (i : ℕ) (l : i < length gs) where
   pub page-there : PageAsks b (pageOf (getD gs i 0))
-  page-there = record { there = omega (arith, a .long, ltb-true (pageOf (getD gs i 0)) n (every-at (λ g. ltb (pageOf g) n) gs i (a .below) l)) }
+  page-there = record { there = omega (arith, a .long, ltb-true (pageOf (getD gs i 0)) n (every-get (λ g. ltb (pageOf g) n) gs i (a .below) l)) }
 
 module _ (b : List ℕ) (sh : Shape) (gs : List ℕ) where
   pub pages-start : PagesInv b sh gs 0
@@ -151,7 +147,7 @@ module _ (n : ℕ) (b : List ℕ) (sh : Shape) (gs : List ℕ) (e k : ℕ) where
             sound = a .sound;
             chunk = record {
               there = page-there n b gs (a .pages) i l .there;
-              room = page-room b sh (countOf g) (pageOf g) (every-at (chunkFair b sh) gs i (a .fair) l);
+              room = page-room b sh (countOf g) (pageOf g) (every-get (chunkFair b sh) gs i (a .fair) l);
             };
             empties = v .empties;
             colds = omega (arith, v .colds, a .chunks);

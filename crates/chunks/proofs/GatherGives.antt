@@ -12,15 +12,15 @@ use mathlib.Core.Path.{_≡_, refl, sym, ap, _∙_}
 use lib.Dec.{eqb, ltb, leb}
 use lib.ListN.{length, length-append}
 use borrow.Author.Tests.{ltb-true, ne-eqb, eqb-false, not-true}
+use Rattle.facts.specs.Lists.{All, elem, distinct}
+use Rattle.facts.proofs.Bools.{by-cases, and-left, and-right}
 use Rattle.words.specs.Word.{pageOf}
 use Rattle.classes.specs.declared.Shape.{Shape}
 use Rattle.classes.specs.Sound.{Sound}
 use Rattle.fields.specs.Field.{Field, arena, memory, class, hole, page, out, slot, region, off, emptyCount, coldCount, next, free, carved, virgin, get, put, words}
 use Rattle.fields.proofs.Laws.{get-put-same, get-put-other, length-put}
 use Rattle.fields.proofs.Changes.{Changes, changes-none, changes-trans, changes-mono}
-use Rattle.model.specs.Lists.{All, elem, distinct}
 use Rattle.model.specs.Page.{isMedium}
-use Rattle.model.proofs.Counts.{by-cases, and-l, and-r}
 use Rattle.pages.specs.declared.Park.{Park}
 use Rattle.pages.specs.declared.Park.the-variants.{Empty, Cold}
 use Rattle.words.specs.Host.{digit}
@@ -146,11 +146,11 @@ module _ (c : ℕ) (hc : ltb c 76 ≡ true) (sh : Shape) (s : Sound sh) (h : ℕ
   gives-count n b₀ (g ∷ gs) u b hb i =
       let q = pageOf g in
       let qs = map pageOf gs in
-      let new = not-true (elem q qs) (and-l (not (elem q qs)) (distinct qs) u) in
+      let new = not-true (elem q qs) (and-left (not (elem q qs)) (distinct qs) u) in
       let r = placeAt b c sh h q in
       let z = place-changes c q hc sh (s .few) h b in
       let a = place-adds n c q hc sh s h b hb in
-      let ih = gives-count n b₀ gs (and-r (not (elem q qs)) (distinct qs) u) (r .book) (rw (z .long) hb) (idle-kept b₀ q b (r .book) z gs new (i .1)) in
+      let ih = gives-count n b₀ gs (and-right (not (elem q qs)) (distinct qs) u) (r .book) (rw (z .long) hb) (idle-kept b₀ q b (r .book) z gs new (i .1)) in
       let l = length-append (givesOf q (r .fate)) (placeAll (r .book) c sh h gs .gives) in
       by-cases (returnsAll b₀ g)
       (λ t. let a₁ = rw (i .0 ∙ t) at a in rw t (l ∙ rw (a₁ .gives, ih, a₁ .empty, a₁ .cold)))

@@ -11,13 +11,13 @@ use mathlib.Core.Path.{_≡_, refl}
 use lib.Dec.{eqb, ltb, leb}
 use lib.ListN.{length}
 use borrow.Author.Tests.{lt-ltb, eq-eqb}
+use Rattle.facts.specs.Lists.{every}
+use Rattle.facts.proofs.Bools.{and-left, and-right}
 use Rattle.classes.specs.declared.Shape.{Shape}
 use Rattle.fields.specs.Field.{Field, PageField, class, page, slot, out, region, off, row, partial, emptyCount, coldCount, next, prev, free, carved, listed, virgin, get, put, ok}
 use Rattle.fields.specs.Outcome.{putAt}
 use Rattle.fields.proofs.Laws.{get-put-other, put-comm}
 use Rattle.fields.proofs.Changes.{Changes, changes-none, changes-put, changes-trans, differ}
-use Rattle.model.specs.Lists.{every}
-use Rattle.model.proofs.Counts.{and-l, and-r}
 use Rattle.pages.specs.declared.Park.{Park}
 use Rattle.pages.specs.declared.Park.the-variants.{Empty, Cold}
 use Rattle.words.specs.Host.{digit}
@@ -60,7 +60,7 @@ module _ (t : Field → Bool) (f : Field) (v : ℕ) (of : ok f ≡ true) (tf : t
   pub past-marks : (b d : List ℕ) (q u : ℕ) (is : List ℕ) → ((i : ℕ) → t (out q i) ≡ false) → every small is ≡ true → d ≡ put b f v → marks d q u is ≡ put (marks b q u is) f v
   past-marks b d q u [] ts l e = e
   past-marks b d q u (i ∷ is) ts l e =
-      past-put (marks b q u is) (marks d q u is) (out q i) u (and-l (small i) (every small is) l) (ts i) (past-marks b d q u is ts (and-r (small i) (every small is) l) e)
+      past-put (marks b q u is) (marks d q u is) (out q i) u (and-left (small i) (every small is) l) (ts i) (past-marks b d q u is ts (and-right (small i) (every small is) l) e)
 
 -- ---- past the placing of page q
 pub own : (q : ℕ) → not (eqb q q) ≡ false

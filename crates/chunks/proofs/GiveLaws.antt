@@ -12,13 +12,13 @@ use lib.Dec.{eqb, ltb, leb}
 use lib.ListN.{length, getD, drop}
 use lib.Seq.{drop-cons}
 use borrow.Author.Tests.{ltb-true, le-leb, leb-true, eq-eqb, ne-eqb}
+use Rattle.facts.proofs.Bools.{by-cases, and-left, and-right}
 use Rattle.words.specs.Word.{pageOf}
 use Rattle.classes.specs.declared.Shape.{Shape}
 use Rattle.fields.specs.Field.{ArenaField, arena, state, frontier, holes, holePages, held, words, get, put, same}
 use Rattle.fields.proofs.Laws.{get-put-same, get-put-other, length-put}
 use Rattle.fields.proofs.Changes.{Changes, changes-none}
 use Rattle.model.specs.HoleStore as Model
-use Rattle.model.proofs.Counts.{by-cases, and-l, and-r}
 use Rattle.arena.specs.declared.Arena.{Arena}
 use Rattle.arena.specs.Record.{recordOf, storeRecord}
 use Rattle.arena.specs.Store.{storeTop, storeCounts}
@@ -76,14 +76,14 @@ give-count : (a : Arena) (m : ℕ) → a .count ≤ 4096 → giveRecord a m .cou
 unfolding giveRecord
 give-count a m l =
     by-cases (accepting m a)
-    (λ e. rw e (omega (arith, ltb-true (a .count) 4096 (and-l _ _ e))))
+    (λ e. rw e (omega (arith, ltb-true (a .count) 4096 (and-left _ _ e))))
     (λ e. rw e l)
 
 give-total : (a : Arena) (m : ℕ) → a .total ≤ 65536 → giveRecord a m .total ≤ 65536
 unfolding giveRecord
 give-total a m l =
     by-cases (accepting m a)
-    (λ e. rw e (leb-true (a .total + m) 65536 (and-r (ltb (a .count) 4096) _ e)))
+    (λ e. rw e (leb-true (a .total + m) 65536 (and-right (ltb (a .count) 4096) _ e)))
     (λ e. rw e l)
 
 -- ---- the test
@@ -96,11 +96,11 @@ module _ (n : ℕ) (b : List ℕ) where
   module _ (x : ℕ) where
     pub fair-told : giveFair n b x ≡ true → recordFair n b ≡ true
     unfolding giveFair
-    fair-told e = and-l _ _ e
+    fair-told e = and-left _ _ e
 
     pub held-told : giveFair n b x ≡ true → x ≤ get b (arena held)
     unfolding giveFair
-    held-told e = leb-true x (get b (arena held)) (and-r (recordFair n b) _ e)
+    held-told e = leb-true x (get b (arena held)) (and-right (recordFair n b) _ e)
 
     pub fair-less : recordFair n b ≡ true → x ≤ get b (arena held) → giveFair n b x ≡ true
     unfolding giveFair
@@ -188,7 +188,7 @@ module _ (n : ℕ) (b : List ℕ) (sh : Shape) (g f : ℕ) (gs fs : List ℕ) (a
   chunk-asks = record {
     few = a .few;
     long = a .long;
-    inside = rw (a .single) (omega (arith, ltb-true (pageOf g) n (and-l _ _ (a .below))));
+    inside = rw (a .single) (omega (arith, ltb-true (pageOf g) n (and-left _ _ (a .below))));
     fair = by-cases (eqb f 6) (λ e. rw e (fair-less n b (sh .pages) (first-fair e) (rw (a .single) (omega (arith, enough e))))) (λ e. rw e);
   }
 
@@ -207,7 +207,7 @@ module _ (n : ℕ) (b : List ℕ) (sh : Shape) (g f : ℕ) (gs fs : List ℕ) (a
     few = a .few;
     long = rw left-length (a .long);
     single = a .single;
-    below = and-r (ltb (pageOf g) n) _ (a .below);
+    below = and-right (ltb (pageOf g) n) _ (a .below);
     fates = omega (arith, a .fates);
     fair = left-fair;
   }

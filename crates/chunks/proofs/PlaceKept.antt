@@ -17,12 +17,13 @@ use lib.Dec.{eqb, ltb, leb}
 use lib.ListN.{length, getD, set}
 use lib.Seq.{getD-set-same, getD-set-other, set-out}
 use borrow.Author.Tests.{leb-true, ltb-true, eqb-true, eqb-false, le-leb, lt-ltb, eq-eqb, ne-eqb}
+use Rattle.facts.proofs.Bools.{and-left, and-right}
 use Rattle.classes.specs.declared.Shape.{Shape}
 use Rattle.classes.specs.Sound.{Sound}
 use Rattle.fields.specs.Field.{Field, PageField, arena, class, page, word, part, whole, region, off, frontier, partial, next, prev, free, carved, listed, virgin, words, get, put, ok}
 use Rattle.fields.specs.Outcome.{putAt}
 use Rattle.fields.specs.Ranges.{maxParked}
-use Rattle.fields.proofs.Laws.{and-left, and-right, get-put-same, get-put-other, length-put}
+use Rattle.fields.proofs.Laws.{get-put-same, get-put-other, length-put}
 use Rattle.fields.proofs.Changes.{differ, Changes, changes-none, changes-put}
 use Rattle.pages.specs.declared.Park.{Park}
 use Rattle.pages.specs.declared.Park.the-variants.{Empty, Cold}

@@ -11,13 +11,13 @@ use lib.Dec.{ltb, leb}
 use lib.ListN.{length, getD, set, take, drop, length-set, take-append-drop}
 use lib.Seq.{drop-cons, drop-length, take-suc-set, drop-set-lt}
 use borrow.Author.Tests.{leb-true, lt-ltb, ltb-true, eq-eqb, ne-eqb}
+use Rattle.facts.specs.Lists.{every}
+use Rattle.facts.proofs.Bools.{and-left, and-right}
 use Rattle.words.specs.Word.{pageOf}
 use Rattle.classes.specs.declared.Shape.{Shape}
 use Rattle.classes.specs.Sizes.{smallSizes, mediumSizes}
 use Rattle.classes.specs.Shape.{smallShape, mediumShape, shapeOf}
 use Rattle.fields.specs.Field.{arena, page, frontier, free, carved, virgin, words, get, put}
-use Rattle.fields.proofs.Laws.{and-left, and-right}
-use Rattle.model.specs.Lists.{every}
 use Rattle.model.specs.Spot.{arenaFate}
 use Rattle.pages.specs.Asks.{LinkAsks}
 use Rattle.calls.specs.Release.{relisted, spotAt, parkAt, emptied}

@@ -12,10 +12,10 @@ use lib.Dec.{eqb, ltb}
 use lib.ListN.{length, getD, drop}
 use lib.Seq.{drop-cons, drop-length}
 use borrow.Author.Tests.{lt-ltb, le-leb, eqb-true, eq-eqb}
+use Rattle.facts.proofs.Bools.{by-cases}
 use Rattle.classes.specs.declared.Shape.{Shape}
 use Rattle.fields.specs.Field.{page, slot, free, words, get, put, Has}
 use Rattle.fields.proofs.Laws.{get-put-same, get-put-other, length-put}
-use Rattle.model.proofs.Counts.{by-cases}
 use Rattle.pages.specs.Stack.{indexOf, pageAt}
 use Rattle.chunks.specs.Pass.{pushOne, pushAll}
 use Rattle.chunks.specs.PushAsks.{wordsOn, PushOneAsks, PushAllAsks}

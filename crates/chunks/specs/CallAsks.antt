@@ -6,9 +6,9 @@ use mathlib.Core.Bool.{true, false, cond, not, _&&_, _||_}
 use mathlib.Core.List.{List, _++_}
 use mathlib.Core.Path.{_≡_}
 use lib.ListN.{length, drop}
+use Rattle.facts.specs.Lists.{isNil, every}
 use Rattle.words.specs.Word.{chunkKind}
 use Rattle.classes.specs.declared.Shape.{Shape}
-use Rattle.model.specs.Lists.{every, isNil}
 use Rattle.model.specs.Release.{ofKind}
 use Rattle.model.specs.Chunks.{chunksMax}
 use Rattle.calls.specs.Release.{inRunOf}

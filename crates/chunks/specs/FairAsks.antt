@@ -8,12 +8,12 @@ use mathlib.Core.List.{List}
 use mathlib.Core.Path.{_≡_}
 use lib.Dec.{ltb}
 use lib.ListN.{length}
+use Rattle.facts.specs.Lists.{every}
 use Rattle.words.specs.Word.{countOf, pageOf}
 use Rattle.classes.specs.declared.Shape.{Shape}
 use Rattle.classes.specs.Sound.{Sound}
 use Rattle.fields.specs.Field.{page, free, carved, words, get}
 use Rattle.fields.specs.Ranges.{maxParked}
-use Rattle.model.specs.Lists.{every}
 use Rattle.model.specs.Chunks.{chunksMax}
 use Rattle.words.specs.Host.{digit}
 use Rattle.model.specs.declared.Spot.{Spot}

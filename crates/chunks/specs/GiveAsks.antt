@@ -5,11 +5,11 @@ use mathlib.Core.List.{List}
 use mathlib.Core.Path.{_≡_}
 use lib.Dec.{eqb, ltb}
 use lib.ListN.{length}
+use Rattle.facts.specs.Lists.{every}
 use Rattle.words.specs.Word.{pageOf}
 use Rattle.classes.specs.declared.Shape.{Shape}
 use Rattle.fields.specs.Field.{words}
 use Rattle.fields.specs.Ranges.{maxPages}
-use Rattle.model.specs.Lists.{every}
 use Rattle.model.specs.Spot.{arenaFate, retired}
 use Rattle.arena.specs.Fair.{giveFair}
 use Rattle.chunks.specs.Pass.{givesIn}

@@ -5,12 +5,12 @@ use mathlib.Core.List.{List, _++_}
 use mathlib.Core.Path.{_≡_}
 use lib.Dec.{ltb}
 use lib.ListN.{length, drop}
+use Rattle.facts.specs.Lists.{every}
 use Rattle.words.specs.Word.{pageOf}
 use Rattle.classes.specs.declared.Shape.{Shape}
 use Rattle.classes.specs.Sound.{Sound}
 use Rattle.fields.specs.Field.{arena, frontier, words, get}
 use Rattle.fields.specs.Ranges.{maxPages, maxParked}
-use Rattle.model.specs.Lists.{every}
 use Rattle.calls.specs.Release.{rowFair}
 use Rattle.pages.specs.Fair.{linksFair}
 use Rattle.chunks.specs.Pass.{placeAll}

@@ -3,10 +3,10 @@ use Prim.Native.Nat.{ℕ, _+_, _<_, _≤_}
 use mathlib.Core.List.{List}
 use lib.Dec.{eqb}
 use lib.ListN.{length}
+use Rattle.facts.specs.Lists.{filter}
 use Rattle.classes.specs.declared.Shape.{Shape}
 use Rattle.classes.specs.Sound.{Sound}
 use Rattle.fields.specs.Field.{page, free, words, get}
-use Rattle.model.specs.Lists.{filter}
 use Rattle.pages.specs.Stack.{pageAt, pageSlots}
 
 -- how many listed words have their granule on page q

@@ -1,7 +1,7 @@
 // Number 13 for a group release: the chunks' pages, the row, and the arena where runs go to it.
 ghost use mathlib.Core.Path.{_≡_};
+ghost use Rattle.facts.specs.Lists.{every};
 ghost use Rattle.calls.specs.Chunks.{returnsAll, runsGiven, pagesGiven, chunksFair};
-ghost use Rattle.model.specs.Lists.{every};
 ghost use Rattle.pages.specs.Asks.{PageAsks};
 ghost use Rattle.words.specs.Word.{pageOf};
 ghost use Rattle.chunks.specs.GiveAsks.{givesFair};

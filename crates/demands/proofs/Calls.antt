@@ -1,5 +1,4 @@
 -- A call by the exported functions' definitions, on a book that stands for a heap, is the call on the words that the refinement knows.
--- Assumes nothing.
 --     room, opens    an opening is not refused exactly where the arena is of 1 to 262,144 pages and the book is long enough for it
 --     no-fault       numbers 1 and 2 do not apply to a book that stands for a heap
 --     call-is        `call` is the refinement's `callReply`
@@ -11,6 +10,7 @@ use mathlib.Core.Path.{_≡_}
 use lib.Dec.{eqb, ltb, leb}
 use lib.ListN.{length}
 use borrow.Author.Tests.{eqb-true, leb-true, le-leb, lt-leb, ltb-true, ltb-false}
+use Rattle.facts.proofs.Bools.{by-cases, and-left, and-right}
 use Rattle.words.specs.Host.{badHost}
 use Rattle.fields.specs.Field.{arena, size, get, words}
 use Rattle.fields.specs.Ranges.{maxPages, lengthFault, metaFault}
@@ -29,7 +29,6 @@ use Rattle.vigbuso.specs.Blocks.{takeOn, chunksOn}
 use Rattle.refinement.specs.Represents.{Represents}
 use Rattle.refinement.specs.Direct.{turnedReply, directReply}
 use Rattle.refinement.specs.Run.{replyAs, callReply}
-use Rattle.model.proofs.Counts.{by-cases, and-l, and-r}
 use Rattle.demands.specs.Call.{call}
 use Rattle.demands.specs.Run.{Opens, Room}
 
@@ -41,7 +40,7 @@ pub room-of : (n : ℕ) (b : List ℕ) → lengthFault n (length b) ≡ 0 → Ro
 room-of n b e =
     by-cases (leb 1 n && leb n maxPages)
     (λ u. by-cases (leb (words n) (length b))
-    (λ v. record { some-pages = leb-true 1 n (and-l _ _ u); few-pages = leb-true n maxPages (and-r (leb 1 n) _ u); long = leb-true (words n) (length b) v })
+    (λ v. record { some-pages = leb-true 1 n (and-left _ _ u); few-pages = leb-true n maxPages (and-right (leb 1 n) _ u); long = leb-true (words n) (length b) v })
     (λ v. let z : lengthFault n (length b) ≡ 2 = rw (u, v) in absurd (omega (arith, e, z))))
     (λ u. let z : lengthFault n (length b) ≡ 1 = rw u in absurd (omega (arith, e, z)))
 

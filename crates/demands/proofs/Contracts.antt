@@ -1,4 +1,4 @@
--- What a caller sees of the exported functions is the reply of `call`, and of `run` (specs/Contracts). Assumes nothing.
+-- What a caller sees of the exported functions is the reply of `call`, and of `run` (specs/Contracts).
 --     shows-call    of one function
 --     trace-run     of calls in turn, from an opening
 use Prim.Native.Nat.{ℕ, zero, suc, _+_, _≤_, _<_}
@@ -10,19 +10,19 @@ use mathlib.Core.Path.{_≡_, refl, sym, ap, ap₂, _∙_, subst}
 use lib.Dec.{eqb, leb}
 use lib.ListN.{length}
 use borrow.Author.Tests.{eqb-true, ne-eqb, leb-true}
+use Rattle.facts.specs.Lists.{every}
+use Rattle.facts.proofs.Bools.{by-cases, and-left, and-right}
 use Rattle.words.specs.Host.{digit, badHost}
 use Rattle.fields.specs.Field.{arena, size, state, frontier, holePages, get}
 use Rattle.fields.specs.Ranges.{maxPages, metaFault}
 use Rattle.fields.specs.Outcome.{Did}
 use Rattle.model.specs.declared.Hole.{Hole}
-use Rattle.model.specs.Lists.{every}
 use Rattle.model.specs.Calls as Calls
 use Rattle.model.specs.Calls.{Call, taken, fate}
 use Rattle.model.specs.HoleStore.{holeAt}
 use Rattle.model.specs.Heap.{answerRun, badRun}
 use Rattle.model.specs.BestFit.{Commits, from-hole, from-frontier, unusable, ungranted, exhausted}
 use Rattle.model.proofs.BestFit.{commits}
-use Rattle.model.proofs.Counts.{by-cases, and-l, and-r}
 use Rattle.arena.specs.Load.{loadArena, loadStore}
 use Rattle.arena.specs.Fair.{holeFair, holesFair, recordFair, memoryFair, commitFair}
 use Rattle.arena.specs.Calls.{commitCall, commitFor}
@@ -79,23 +79,23 @@ module _ (b : List ℕ) where
 -- ---- the run that a commit answers lies in the arena, so its first page is not the greatest number
 every-at : (t : Hole → Bool) (i : ℕ) (hs : List Hole) → i < length hs → every t hs ≡ true → t (holeAt i hs) ≡ true
 every-at t i [] l e = absurd (omega arith)
-every-at t zero (h ∷ hs) l e = and-l (t h) _ e
-every-at t (suc i) (h ∷ hs) l e = every-at t i hs (omega arith) (and-r (t h) _ e)
+every-at t zero (h ∷ hs) l e = and-left (t h) _ e
+every-at t (suc i) (h ∷ hs) l e = every-at t i hs (omega arith) (and-right (t h) _ e)
 
 module _ (n : ℕ) (b : List ℕ) (m : ℕ) (fair : commitFair n b m ≡ true) where
   low-frontier : get b (arena frontier) ≤ n
   unfolding commitFair recordFair
-  low-frontier = leb-true (get b (arena frontier)) n (and-l _ _ (and-r (leb (get b (arena state)) 2) _ (and-l _ _ fair)))
+  low-frontier = leb-true (get b (arena frontier)) n (and-left _ _ (and-right (leb (get b (arena state)) 2) _ (and-left _ _ fair)))
 
   fair-holes : every (holeFair (get b (arena holePages)) (get b (arena frontier))) (loadArena b .store .holes) ≡ true
   unfolding commitFair holesFair loadArena loadStore
-  fair-holes = and-r (memoryFair b m) _ (and-r (recordFair n b) _ fair)
+  fair-holes = and-right (memoryFair b m) _ (and-right (recordFair n b) _ fair)
 
   hole-low : (i : ℕ) → i < length (loadArena b .store .holes) → holeAt i (loadArena b .store .holes) .first ≤ n
   hole-low i l =
       let h = holeAt i (loadArena b .store .holes) in
       let e = every-at (holeFair (get b (arena holePages)) (get b (arena frontier))) i (loadArena b .store .holes) l fair-holes in
-      let z : h .first + h .pages ≤ get b (arena frontier) = leb-true (h .first + h .pages) (get b (arena frontier)) (and-r (leb (h .pages) (get b (arena holePages))) _ (and-r (leb 1 (h .pages)) _ e)) in
+      let z : h .first + h .pages ≤ get b (arena frontier) = leb-true (h .first + h .pages) (get b (arena frontier)) (and-right (leb (h .pages) (get b (arena holePages))) _ (and-right (leb 1 (h .pages)) _ e)) in
       omega (arith, z, low-frontier)
 
   run-low : {h : ℕ} {r : Option ℕ} {f : Bool} → Commits n h m (loadArena b) r f → (p : ℕ) → r ≡ some p → p ≤ n

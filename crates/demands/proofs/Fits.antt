@@ -1,4 +1,4 @@
--- Demand 2 after a history on the words: what the arena answers, and that a take is not empty without need. Assumes nothing.
+-- Demand 2 after a history on the words: what the arena answers, and that a take is not empty without need.
 --     commit-fits    a direct commit that is not refused is answered by best fit
 --     run-fits       so is the commit that a class's call asks for
 --     take-yields    a take that is not refused answers a block, or the arena has no run for it
@@ -12,10 +12,11 @@ use mathlib.Core.Path.{_≡_, refl, sym, _∙_}
 use lib.Dec.{ltb}
 use lib.ListN.{length}
 use borrow.Author.Tests.{le-ltb}
+use Rattle.facts.specs.Lists.{isNil}
+use Rattle.facts.proofs.Bools.{by-cases}
 use Rattle.words.specs.Host.{hostMax, badHost}
 use Rattle.classes.specs.declared.Shape.{Shape}
 use Rattle.classes.specs.Shape.{shapeOf}
-use Rattle.model.specs.Lists.{isNil}
 use Rattle.model.specs.Calls as Calls
 use Rattle.model.specs.Calls.{Call, Named, names, hostIn, wayOf, hostOf, Request, blocksOf, isRefused}
 use Rattle.model.specs.Page.{Page}
@@ -28,7 +29,6 @@ use Rattle.model.specs.Heap.{badRun, runWith, asked, offer, finish, interact, c
 use Rattle.model.specs.History.{heapAfter}
 use Rattle.model.specs.BestFit.{Commits, Remembers, from-hole, from-frontier, unusable, ungranted, exhausted}
 use Rattle.model.specs.Yields.{TakeYields, refuses, yields, asks-first}
-use Rattle.model.proofs.Counts.{by-cases}
 use Rattle.model.proofs.Theorems.{best-fit, yielding}
 use Rattle.calls.specs.Take.{Took, takeCall}
 use Rattle.arena.specs.Load.{loadArena}

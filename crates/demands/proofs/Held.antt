@@ -1,21 +1,20 @@
--- A run held by the direct calls can be released, and no other: number 12 goes by what the calls and their answers tell. Assumes nothing.
+-- A run held by the direct calls can be released, and no other: number 12 goes by what the calls and their answers tell.
 use Prim.Native.Nat.{ℕ, zero, suc, _+_, _-_, _≤_, _<_}
 use native.Mathlib.Omega.{arith}
-use native.Mathlib.Decide.{ℕ-discrete}
-use mathlib.Core.Bool.{Bool, true, false, false≢true}
+use mathlib.Core.Bool.{true, false, false≢true}
 use mathlib.Core.List.{List}
 use mathlib.Core.Logic.{_↔_}
-use mathlib.Core.Path.{_≡_, refl, sym, _∙_}
+use mathlib.Core.Path.{_≡_, sym, _∙_}
 use lib.Dec.{eqb, leb}
 use borrow.Author.Tests.{eqb-true, le-leb, le-ltb}
+use Rattle.facts.proofs.Bools.{by-cases, and-right}
+use Rattle.facts.proofs.Lists.{every-at, every-of}
 use Rattle.words.specs.Host.{hostMax}
-use Rattle.model.specs.Lists.{every, below}
 use Rattle.model.specs.Calls as Calls
 use Rattle.model.specs.Calls.{Call, wayOf, isRefused}
 use Rattle.model.specs.Heap.{Holder, nobody, direct, class, isDirect, isHeld, badRun, heldDirect, releaseCall, directCall, step}
 use Rattle.model.specs.History.{heapAfter}
 use Rattle.model.specs.Entries.{directAfter}
-use Rattle.model.proofs.Counts.{by-cases, and-l, and-r}
 use Rattle.model.proofs.Theorems.{conserved}
 use Rattle.arena.specs.Calls.{Done}
 use Rattle.vigbuso.specs.Direct.{releaseOn}
@@ -25,18 +24,6 @@ use Rattle.demands.specs.Call.{call}
 use Rattle.demands.specs.Run.{Opens, bookAfter, next, told}
 use Rattle.demands.proofs.Histories.{next-agrees}
 use Rattle.demands.proofs.Told.{told-direct}
-
-every-of : (t : ℕ → Bool) (m : ℕ) → ((k : ℕ) → k < m → t k ≡ true) → every t (below m) ≡ true
-every-of t zero h = refl
-every-of t (suc m) h = rw (h m (omega arith), every-of t m (λ k l. h k (omega arith)))
-
-every-at : (t : ℕ → Bool) (m k : ℕ) → every t (below m) ≡ true → k < m → t k ≡ true
-every-at t zero k e l = absurd (omega arith)
-every-at t (suc m) k e l =
-    elim (ℕ-discrete k m) [
-      | yes p ↦ rw p (and-l (t m) _ e)
-      | no p ↦ every-at t m k (and-r (t m) _ e) (omega (arith, p))
-    ]
 
 direct-held : (w : Holder) → isDirect w ≡ true → 1 ≤ isHeld w
 direct-held nobody e = absurd (false≢true e)
@@ -66,7 +53,7 @@ module _ (n : ℕ) (xs : List Call) (h q m : ℕ) (low : h ≤ hostMax) (good : 
 
   run-held : heldDirect n (heapAfter n xs) q m ≡ true → (k : ℕ) → k < m → isDirect (heapAfter n xs .holder (q + k)) ≡ true
   unfolding heldDirect
-  run-held e k l = every-at (λ k. isDirect (heapAfter n xs .holder (q + k))) m k (and-r (leb (q + m) n) _ e) l
+  run-held e k l = every-at (λ k. isDirect (heapAfter n xs .holder (q + k))) m k (and-right (leb (q + m) n) _ e) l
 
   -- with a host word and a run that are in order, the test of 12 decides
   step-held : heldDirect n (heapAfter n xs) q m ≡ true → isRefused (step n (heapAfter n xs) (Calls.release h q m) .answer) ≡ false

@@ -1,4 +1,4 @@
--- A history on the words is the model's. Assumes nothing.
+-- A history on the words is the model's.
 --     run-is            the replies of `run` are the refinement's, from an unrefused opening on any book
 --     run-answers       its answers are the model's
 --     run-fair          number 13 is never among its codes
@@ -11,9 +11,9 @@ use mathlib.Core.Path.{_≡_, refl, sym, ap, _∙_, subst}
 use lib.Dec.{leb}
 use lib.ListN.{length}
 use borrow.Author.Tests.{le-leb}
+use Rattle.facts.specs.Lists.{All}
 use Rattle.fields.specs.Field.{words}
 use Rattle.fields.specs.Ranges.{maxPages}
-use Rattle.model.specs.Lists.{All}
 use Rattle.model.specs.Calls.{Call}
 use Rattle.model.specs.Heap.{Heap, step, newHeap}
 use Rattle.model.specs.History.{heapAfter, answers}

@@ -1,5 +1,4 @@
 -- Number 13's tests are the table of Specs/Ranges over the rows that the call reads. n is the arena's length, LENGTH of the book.
--- Assumes nothing.
 use Prim.Native.Nat.{ℕ, zero, suc, _+_, _-_, _≤_, min}
 use native.Mathlib.Omega.{arith}
 use mathlib.Core.Bool.{Bool, true, false, cond, not, _&&_, _||_, and-true, and-false, and-assoc, and-comm}
@@ -8,12 +7,12 @@ use mathlib.Core.Path.{_≡_, refl, sym, ap, _∙_}
 use lib.Dec.{eqb, ltb, leb}
 use lib.ListN.{length}
 use borrow.Author.Tests.{leb-true, le-leb, lt-leb, ltb-true, ltb-false, eqb-true, eqb-false, eq-eqb, ne-eqb}
+use Rattle.facts.specs.Lists.{every, below}
+use Rattle.facts.proofs.Bools.{by-cases}
 use Rattle.words.specs.Word.{countOf, pageOf}
 use Rattle.classes.specs.declared.Shape.{Shape}
 use Rattle.fields.specs.Field.{arena, class, hole, page, size, frontier, holes, holePages, held, pages, partial, empty, cold, free, carved, listed, get}
-use Rattle.model.specs.Lists.{every, below}
 use Rattle.model.specs.HoleStore.{rememberedMax}
-use Rattle.model.proofs.Counts.{by-cases}
 use Rattle.arena.specs.Load.{loadHoles}
 use Rattle.arena.specs.Fair.{recordFair, holeFair, holesFair, memoryFair, commitFair, giveFair}
 use Rattle.pages.specs.Runs.{ofRun, whole}

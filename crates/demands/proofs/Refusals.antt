@@ -1,5 +1,5 @@
 -- Demand 1: every exported function answers the first number of document 01's table that applies to the call, and a refusal changes
--- nothing. Assumes nothing.
+-- nothing.
 --     .. -refuses         for each function
 --     demand-1            all of them, in one record
 --     refused-exactly     a call is refused exactly when a number of its table applies
@@ -12,14 +12,14 @@ use mathlib.Core.Path.{_≡_, refl, sym, ap, _∙_}
 use mathlib.Core.Logic.{_↔_}
 use lib.Dec.{eqb, leb, ltb}
 use borrow.Author.Tests.{ltb-true, lt-leb, eqb-true}
+use Rattle.facts.specs.Lists.{every, any}
+use Rattle.facts.proofs.Bools.{by-cases, and-left, and-right}
 use Rattle.words.specs.Host.{digit}
 use Rattle.classes.specs.Lookup.{classForSize, mediumClassForSize}
 use Rattle.classes.proofs.Meaning.{small-class, medium-class}
 use Rattle.fields.specs.Field.{arena, size, state, get}
 use Rattle.fields.specs.Ranges.{metaFault}
-use Rattle.model.specs.Lists.{any, every}
 use Rattle.model.specs.Arena.{contains, isReady}
-use Rattle.model.proofs.Counts.{by-cases, and-l, and-r}
 use Rattle.arena.specs.Load.{statusOf, loadArena}
 use Rattle.arena.specs.Calls.{containsCall}
 use Rattle.runs.specs.Answer.{answerOf, commitCode}
@@ -168,10 +168,10 @@ none-applies : (ks : List ℕ) (rows : List Row) → every (ltb 0) ks ≡ true �
 none-applies ks [] p u e = refl
 none-applies [] (row ∷ rows) p u e = absurd (true≢false (sym u))
 none-applies (k ∷ ks) (row ∷ rows) p u e =
-    let p′ = and-r (ltb 0 k) _ p in
+    let p′ = and-right (ltb 0 k) _ p in
     by-cases (eqb k (row .0))
     (λ i. by-cases (row .1)
-    (λ f. absurd (let z = ltb-true 0 k (and-l (ltb 0 k) _ p) in let y : row .0 ≡ 0 = rw f at e in let x = eqb-true k (row .0) i in omega arith))
+    (λ f. absurd (let z = ltb-true 0 k (and-left (ltb 0 k) _ p) in let y : row .0 ≡ 0 = rw f at e in let x = eqb-true k (row .0) i in omega arith))
     (λ f. rw f (none-applies ks rows p′ (rw i at u) (rw f at e))))
     (λ i. none-applies ks (row ∷ rows) p′ (rw i at u) e)
 

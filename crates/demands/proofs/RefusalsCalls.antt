@@ -1,12 +1,14 @@
 -- Each definition that an exported function's contract cites answers the first number of its table that applies, and keeps what it was
--- lent where there is one. n is the arena's length in the book b. Assumes nothing.
-use Prim.Native.Nat.{ℕ, zero, suc, _+_}
+-- lent where there is one. n is the arena's length in the book b.
+use Prim.Native.Nat.{ℕ, _+_}
 use mathlib.Core.Bool.{Bool, true, false, cond, not, _||_}
 use mathlib.Core.List.{List, [], _∷_, map}
 use mathlib.Core.Option.{Option, none, some}
 use mathlib.Core.Path.{_≡_, refl, _∙_}
 use lib.Dec.{eqb, ltb, leb}
 use lib.ListN.{length}
+use Rattle.facts.specs.Lists.{isNil, every, distinct}
+use Rattle.facts.proofs.Bools.{by-cases}
 use Rattle.words.specs.Host.{badHost}
 use Rattle.words.specs.Word.{chunkKind}
 use Rattle.classes.specs.declared.Shape.{Shape}
@@ -16,7 +18,6 @@ use Rattle.fields.specs.Outcome.{Outcome}
 use Rattle.fields.specs.Outcome as Fields
 use Rattle.fields.specs.Ranges.{metaFault}
 use Rattle.model.specs.declared.Spot.{Spot}
-use Rattle.model.specs.Lists.{isNil, every, distinct}
 use Rattle.model.specs.Heap.{badRun, badGrowth}
 use Rattle.model.specs.Release.{ofKind}
 use Rattle.arena.specs.Fair.{recordFair, commitFair, giveFair}
@@ -36,7 +37,6 @@ use Rattle.vigbuso.specs.Direct as Direct
 use Rattle.vigbuso.specs.Direct.{openOn, commitOn, growOn, reportOn, reportCode, figuresOut}
 use Rattle.vigbuso.specs.Blocks as Blocks
 use Rattle.vigbuso.specs.Blocks.{takeOn, chunksOn}
-use Rattle.model.proofs.Counts.{by-cases}
 use Rattle.demands.specs.Refusals.{shortList, nothingListed, manyChunks, wrongKind, notOut, otherPage, chunksDiffer, notHeld, openTable, commitTable, growTable, giveTable, reportTable, takeTable, releaseTable, chunksTable}
 use Rattle.demands.specs.Number13.{takeFair}
 use Rattle.demands.proofs.Ranges.{record-strays, commit-strays, give-strays, take-strays, release-strays, chunks-strays}

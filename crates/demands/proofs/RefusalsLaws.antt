@@ -1,5 +1,5 @@
 -- A chain of tests, each with a number that it answers, is a table of rows: one law for a test, and one for the tests of a book's
--- length. R is what a definition of a call yields, with its number and what its refusals keep. Assumes nothing.
+-- length. R is what a definition of a call yields, with its number and what its refusals keep.
 use Prim.Native.Nat.{ℕ}
 use native.Mathlib.Omega.{arith}
 use mathlib.Core.Bool.{Bool, true, false, cond, not, _&&_, _||_}
@@ -8,9 +8,9 @@ use mathlib.Core.Path.{_≡_, refl}
 use lib.Dec.{eqb, ltb, leb}
 use lib.ListN.{length}
 use borrow.Author.Tests.{ltb-true, ltb-false, lt-leb, le-leb, eqb-true, eqb-false}
+use Rattle.facts.proofs.Bools.{by-cases}
 use Rattle.fields.specs.Field.{words}
 use Rattle.fields.specs.Ranges.{within, between, maxPages, lengthFault}
-use Rattle.model.proofs.Counts.{by-cases}
 use Rattle.demands.specs.Refusals.{badLength, tooShort, Row, firstNumber}
 
 -- ---- tests

@@ -1,4 +1,4 @@
--- A block that is out can be released, and no other. Assumes nothing.
+-- A block that is out can be released, and no other.
 --     out-kind        a word that a class has out has the class's kind
 --     word-returns    so a release of a word alone is not refused exactly if it is out, which is that it is an entry's not yet released
 --     list-out        and a release that is not refused, by list or by groups, has only such words
@@ -12,6 +12,8 @@ use mathlib.Core.Option.{Option, none, some, Option·none-ne-some}
 use mathlib.Core.Path.{_≡_, refl, sym, ap}
 use lib.Dec.{eqb, leb, ltb}
 use borrow.Author.Tests.{eq-eqb, eqb-true, leb-true, leb-false, ltb-true, ltb-false, le-ltb}
+use Rattle.facts.specs.Lists.{every, All, total, isSome}
+use Rattle.facts.proofs.Bools.{by-cases}
 use Rattle.words.specs.Host.{hostMax, badHost}
 use Rattle.words.specs.Word.{kindBits}
 use Rattle.words.proofs.RoundTrip.{kind-block}
@@ -20,7 +22,6 @@ use Rattle.classes.specs.Shape.{shapeOf}
 use Rattle.classes.specs.Sound.{Sound}
 use Rattle.classes.proofs.Shapes.{shape-sound}
 use Rattle.fields.specs.Ranges.{maxPages}
-use Rattle.model.specs.Lists.{All, total, every, isSome}
 use Rattle.model.specs.Calls as Calls
 use Rattle.model.specs.Calls.{Call, Named, named, names, hostIn, wayOf, hostOf, Request, listOf, isRefused}
 use Rattle.model.specs.Page.{Page, wordOf, wordsFrom, pageGranules, carvedWords, isOut}
@@ -31,7 +32,7 @@ use Rattle.model.specs.Heap.{offer, finish, interact, classCall, step}
 use Rattle.model.specs.History.{events, heapAfter}
 use Rattle.model.specs.Entries.{OutIn, AllOut}
 use Rattle.model.specs.Ledger.{heldBy}
-use Rattle.model.proofs.Counts.{by-cases, every-count}
+use Rattle.model.proofs.Counts.{every-count}
 use Rattle.model.proofs.ArenaLaws.{above-at, covers-in}
 use Rattle.model.proofs.Pages.{outOf, on, GoodPage}
 use Rattle.model.proofs.Sites.{Tells, locate-tells, here-out}

@@ -1,16 +1,16 @@
 -- Number 13's tests look at no word but those of the rows that Specs/Reads lists, and LENGTH: two books that have the same words there
--- pass or fail alike. Assumes nothing.
+-- pass or fail alike.
 use Prim.Native.Nat.{ℕ, zero, suc, _+_, _-_}
 use mathlib.Core.Bool.{Bool, true, false, cond, not, _&&_, _||_}
 use mathlib.Core.List.{List, [], _∷_, _++_}
 use mathlib.Core.Path.{_≡_, refl}
 use lib.Dec.{eqb, leb}
+use Rattle.facts.specs.Lists.{every, All, below}
+use Rattle.facts.proofs.Bools.{by-cases}
 use Rattle.words.specs.Word.{countOf, pageOf}
 use Rattle.classes.specs.declared.Shape.{Shape}
 use Rattle.fields.specs.Field.{arena, class, page, size, frontier, holes, holePages, pages, partial, empty, emptyCount, cold, coldCount, free, carved, listed, get}
-use Rattle.model.specs.Lists.{every, below, All}
 use Rattle.model.specs.HoleStore.{rememberedMax}
-use Rattle.model.proofs.Counts.{by-cases}
 use Rattle.arena.specs.Load.{loadHoles}
 use Rattle.arena.specs.Fair.{recordFair, holeFair, holesFair, memoryFair, commitFair, giveFair}
 use Rattle.pages.specs.Runs.{flag, ofRun, whole}

@@ -1,11 +1,11 @@
--- Demands 2 and 3 hold of every history of the exported calls, on the words. Assumes nothing.
+-- Demands 2 and 3 hold of every history of the exported calls, on the words.
 use Prim.Native.Nat.{ℕ, _≤_}
 use mathlib.Core.List.{List, _∷_, _++_}
 use mathlib.Core.Logic.{_↔_}
 use mathlib.Core.Path.{_≡_}
+use Rattle.facts.specs.Lists.{All}
 use Rattle.fields.specs.Ranges.{maxPages}
 use Rattle.fields.specs.Outcome.{Did}
-use Rattle.model.specs.Lists.{All}
 use Rattle.model.specs.declared.Hole.{Hole}
 use Rattle.model.specs.Calls.{Call, Answer}
 use Rattle.model.specs.Heap.{Heap}

@@ -1,5 +1,4 @@
 -- What a caller sees of the exported functions, by their contracts alone (crates/vigbuso/src): on any book, any numbers and any list.
--- Assumes nothing.
 --     Shows    a call of the exported function of that name, on the book b, returns and leaves what the reply says
 --     Trace    calls in turn, each on the book as the last one left it, and what is seen of them
 -- r is what the function returns; a name with ′ is what a lent slice or an out-parameter holds afterwards.

@@ -1,15 +1,14 @@
 -- Demands 2 and 3, as statements about every history of calls on the words, from an opening on any book. proofs/Theorems proves them.
--- Assumes nothing.
 use Prim.Native.Nat.{ℕ, _+_, _≤_, _<_}
 use mathlib.Core.Bool.{Bool, true, false}
 use mathlib.Core.List.{List, [], _∷_}
 use mathlib.Core.Logic.{_⊎_, _↔_}
 use mathlib.Core.Option.{Option, none, some}
 use mathlib.Core.Path.{_≡_}
+use Rattle.facts.specs.Lists.{isNil}
 use Rattle.words.specs.Host.{hostMax}
 use Rattle.classes.specs.Shape.{shapeOf}
 use Rattle.model.specs.declared.Hole.{Hole}
-use Rattle.model.specs.Lists.{isNil}
 use Rattle.model.specs.Calls as Calls
 use Rattle.model.specs.Calls.{Call, Answer, Named, names, hostOf, listOf, blocksOf}
 use Rattle.model.specs.HoleStore.{hole}

@@ -1,5 +1,5 @@
 -- Number 13 is one table: each test of the code is that every word which the call reads is in its range by Specs/Ranges, and, in a take,
--- that each listed page which it comes to yields a block. For every book; n is LENGTH. Assumes nothing.
+-- that each listed page which it comes to yields a block. For every book; n is LENGTH.
 --     takeFair    a take's test: the frontier, then its source, which is the partial list as far as the take goes, or the newest empty
 --                 page, or the newest cold one, or the arena
 --     Number13    the equations, one for each test of docs/RANGES.md, "Where each test stands"
@@ -9,9 +9,9 @@ use mathlib.Core.Bool.{Bool, cond, not, _&&_}
 use mathlib.Core.List.{List}
 use mathlib.Core.Path.{_≡_}
 use lib.Dec.{eqb, leb}
+use Rattle.facts.specs.Lists.{All}
 use Rattle.classes.specs.declared.Shape.{Shape}
 use Rattle.fields.specs.Field.{arena, class, size, frontier, partial, empty, cold, get}
-use Rattle.model.specs.Lists.{All}
 use Rattle.arena.specs.Fair.{recordFair, commitFair, giveFair}
 use Rattle.pages.specs.declared.Park.the-variants.{Empty, Cold}
 use Rattle.calls.specs.Take.{walk, parkFair}

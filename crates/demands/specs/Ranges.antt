@@ -1,5 +1,5 @@
 -- Number 13's ranges, the one table of them; docs/RANGES.md prints `field` and `range`. A row is a word of the book in one use that a
--- call makes of it. Specs/Reads says which rows each call reads. Assumes nothing.
+-- call makes of it. Specs/Reads says which rows each call reads.
 --     Use            a row: the word, and how a call uses it
 --     field          which word
 --     range          its range in that use; every bound that is no argument of the row is read from the book
@@ -9,9 +9,9 @@
 use Prim.Native.Nat.{ℕ, suc}
 use mathlib.Core.Bool.{Bool, not}
 use mathlib.Core.List.{List}
+use Rattle.facts.specs.Lists.{every}
 use Rattle.fields.specs.Field.{ArenaField, Field, arena, memory, class, hole, page, slot, size, state, frontier, holes, holePages, held, start, pages, partial, empty, emptyCount, cold, coldCount, owner, first, next, prev, free, carved, listed, virgin, get}
 use Rattle.fields.specs.Ranges.{maxParked, Range, anyValue, upTo, between, exactly, below, endsBy, runsTo, within}
-use Rattle.model.specs.Lists.{every}
 use Rattle.model.specs.HoleStore.{holeSlots, holePagesMax}
 
 -- ---- the words that hold a page's code, which is page + 1, and 0 for none: of class c, or of page p

@@ -1,5 +1,5 @@
 -- The words that number 13 is about: for each kind of call the rows of Specs/Ranges that it reads, along the call's own way through the
--- book. "Another book word that the call reads": those that numbers 1 and 10 to 12 judge stand there. Assumes nothing.
+-- book. "Another book word that the call reads": those that numbers 1 and 10 to 12 judge stand there.
 --     recordReads    growth, a report, and within the next two
 --     commitReads    a commit of m pages, a take's too
 --     giveReads      a give of m pages, a release's too
@@ -11,10 +11,10 @@ use Prim.Native.Nat.{ℕ, zero, suc, _+_, _-_}
 use mathlib.Core.Bool.{Bool, cond, not, _&&_, _||_}
 use mathlib.Core.List.{List, [], _∷_, _++_}
 use lib.Dec.{eqb, leb}
+use Rattle.facts.specs.Lists.{every, below}
 use Rattle.words.specs.Word.{countOf, pageOf}
 use Rattle.classes.specs.declared.Shape.{Shape}
 use Rattle.fields.specs.Field.{arena, class, page, commits, commitsHigh, reuses, reusesHigh, abandoned, abandonedHigh, holes, partial, empty, cold, free, carved, listed, get}
-use Rattle.model.specs.Lists.{every, below}
 use Rattle.model.specs.HoleStore.{rememberedMax}
 use Rattle.calls.specs.Release.{spotAt}
 use Rattle.calls.specs.Chunks.{pagesGiven}

@@ -1,4 +1,4 @@
--- Demand 1: document 01's table "Numbers for a refused call, in checking order", for each exported function. Assumes nothing.
+-- Demand 1: document 01's table "Numbers for a refused call, in checking order", for each exported function.
 --     badLength to notHeld       when each number applies, with document 01's sentence
 --     openTable to chunksTable   for each function the numbers that it can answer, in checking order, and whether each applies
 --     firstNumber                the first of them that applies, 0 if none does
@@ -12,6 +12,7 @@ use mathlib.Core.List.{List, [], _∷_}
 use mathlib.Core.Path.{_≡_}
 use lib.Dec.{eqb, ltb, leb}
 use lib.ListN.{length}
+use Rattle.facts.specs.Lists.{isNil, every, distinct}
 use Rattle.words.specs.Word.{chunkKind}
 use Rattle.words.specs.Host.{badHost, digit}
 use Rattle.classes.specs.declared.Shape.{Shape}
@@ -20,7 +21,6 @@ use Rattle.classes.specs.Lookup.{classForSize, mediumClassForSize}
 use Rattle.fields.specs.Field.{arena, size, words, get}
 use Rattle.fields.specs.Outcome.{Did}
 use Rattle.fields.specs.Ranges.{maxPages}
-use Rattle.model.specs.Lists.{isNil, every, distinct}
 use Rattle.model.specs.Heap.{badRun, badGrowth}
 use Rattle.model.specs.Release.{ofKind}
 use Rattle.model.specs.Chunks.{chunksMax}

@@ -1,4 +1,4 @@
--- Histories on the words (document 01, "The histories of demand 3"). Assumes nothing.
+-- Histories on the words (document 01, "The histories of demand 3").
 --     Opens       an arena of n pages is opened on the book b, and not refused; `Room` says when
 --     run         the replies to the calls of a history from that opening; `bookAfter` the book that it leaves
 --     next        the reply to one more call

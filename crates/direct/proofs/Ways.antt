@@ -1,7 +1,7 @@
--- The ways out of the direct calls, and what they ask of the steps. Assumes nothing.
+-- The ways out of the direct calls, and what they ask of the steps.
 use Prim.Native.Nat.{ℕ, zero, suc, _+_, _-_, _*_, _^_, _≤_, _<_}
 use native.Mathlib.Omega.{arith}
-use mathlib.Core.Bool.{Bool, true, false, _&&_, _||_}
+use mathlib.Core.Bool.{Bool, true, false, _||_}
 use mathlib.Core.List.{List}
 use mathlib.Core.Option.{Option, none, some}
 use mathlib.Core.Path.{_≡_, refl, sym, ap, _∙_}
@@ -10,14 +10,14 @@ use lib.ListN.{length, set, length-set}
 use mir.Val.{Fits}
 use mir.Syntax.{w32, w64}
 use borrow.Author.Tests.{lt-ltb, le-leb, lt-leb, leb-true, leb-false, eq-eqb, ne-eqb}
+use Rattle.facts.specs.Lists.{isSome}
+use Rattle.facts.proofs.Bools.{by-cases, and-left, and-no}
 use Rattle.words.specs.Limits.{maxPages}
 use Rattle.words.specs.Host.{commitGranted}
 use Rattle.fields.specs.Field.{arena, state, held, get}
 use Rattle.model.specs.declared.Figures.{Figures}
-use Rattle.model.specs.Lists.{isSome}
 use Rattle.model.specs.Heap.{badRun, badGrowth, direct}
 use Rattle.model.specs.Arena as Model
-use Rattle.model.proofs.Counts.{by-cases, and-l}
 use Rattle.arena.specs.declared.Arena.{Arena}
 use Rattle.runs.specs.declared.Commit.{Commit}
 use Rattle.runs.specs.declared.Commit.the-variants.{Refused}
@@ -110,11 +110,7 @@ module _ (n : ℕ) (b : List ℕ) (o k : ℕ) where
 
   pub contains-past : (s : ℕ) → s ≡ get b (arena state) → s ≡ 1 → n * 65536 < o → false ≡ containsCall n b o k
   unfolding containsCall Model.contains loadArena
-  contains-past s e v l = rw (← e, v) (simp (lt-leb (o + k) (n * 65536) (omega arith), and-false))
-    where
-      and-false : (a : Bool) → (a && false) ≡ false
-      and-false true = refl
-      and-false false = refl
+  contains-past s e v l = rw (← e, v) (simp (lt-leb (o + k) (n * 65536) (omega arith), and-no))
 
   pub contains-is : (s : ℕ) → BookIn b n → s ≡ get b (arena state) → s ≡ 1 → o ≤ n * 65536 → leb k (n * 65536 - o) ≡ containsCall n b o k
   unfolding containsCall Model.contains loadArena
@@ -123,11 +119,7 @@ module _ (n : ℕ) (b : List ℕ) (o k : ℕ) where
       rw (← e, v)
       (by-cases (leb k (n * 65536 - o))
       (λ t. let y = leb-true k (n * 65536 - o) t in rw (t, lt-ltb (o + k) (2 ^ 64) (omega arith), le-leb (o + k) (n * 65536) (omega arith)))
-      (λ t. let y = leb-false k (n * 65536 - o) t in rw t (simp (lt-leb (o + k) (n * 65536) (omega arith), and-false))))
-    where
-      and-false : (a : Bool) → (a && false) ≡ false
-      and-false true = refl
-      and-false false = refl
+      (λ t. let y = leb-false k (n * 65536 - o) t in rw t (simp (lt-leb (o + k) (n * 65536) (omega arith), and-no))))
 
 -- ---- report
 module _ (n : ℕ) (b : List ℕ) where
@@ -150,7 +142,7 @@ module _ (n : ℕ) (b : List ℕ) where
 -- ---- what number 12's test says
 pub direct-inside : (n : ℕ) (b : List ℕ) (q m : ℕ) (t : Bool) → t ≡ heldDirect n b q m → t ≡ true → q + m ≤ n
 unfolding heldDirect
-direct-inside n b q m t e v = leb-true (q + m) n (and-l _ _ (sym e ∙ v))
+direct-inside n b q m t e v = leb-true (q + m) n (and-left _ _ (sym e ∙ v))
 
 module _ (n : ℕ) (b : List ℕ) (q m : ℕ) (t : Bool) (k : BookIn b n) (e : t ≡ heldDirect n b q m) (v : t ≡ true) where
   pub direct-first : Fits w32 q

@@ -1,12 +1,11 @@
 -- The answers of the code, as document 01's numbers and values.
 --     Grew, Releases    a growth, a release answered r and left the book b, as the definition says
 --     reportOf          what a report answers
--- Assumes nothing.
 use Prim.Native.Nat.{ℕ, zero, suc}
 use mathlib.Core.List.{List}
 use mathlib.Core.Bool.{Bool, true, false, cond, not}
 use mathlib.Core.Path.{_≡_}
-use Rattle.model.specs.Lists.{isSome}
+use Rattle.facts.specs.Lists.{isSome}
 use Rattle.model.specs.Heap.{direct}
 use Rattle.runs.specs.declared.Commit.{Commit}
 use Rattle.runs.specs.declared.Commit.the-variants.{Refused, Run, Nothing}

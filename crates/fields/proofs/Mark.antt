@@ -1,4 +1,4 @@
--- Bits of a word set at once, and two entries that are one word. Assumes nothing.
+-- Bits of a word set at once, and two entries that are one word.
 --     ones-set    by a mask
 --     marked      out bits of blocks that follow one another, in one word
 --     struck      an out bit that is set, cleared

@@ -1,4 +1,4 @@
--- The laws of `putAt`: those of `put`, at a stored number. Assumes nothing.
+-- The laws of `putAt`: those of `put`, at a stored number.
 use Prim.Native.Nat.{ℕ, zero, suc, _-_}
 use native.Mathlib.Numerals.{sub-one}
 use mathlib.Core.Bool.{Bool, true, false}

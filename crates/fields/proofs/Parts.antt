@@ -1,4 +1,4 @@
--- Parts of a word: what is read after a write to the same part and to another, and two writes. Assumes nothing.
+-- Parts of a word: what is read after a write to the same part and to another, and two writes.
 use Prim.Native.Nat.{ℕ, _+_, _-_, _*_, _/_, _%_, _^_, _≤_, _<_}
 use native.Mathlib.Omega.{arith}
 use native.Mathlib.Nat.{mod-lt, mod-mod, mod-eq-of-lt, zero-mod}

@@ -1,4 +1,4 @@
--- Shifts of a 32-bit word that lose nothing, and what placing bits by them comes to. Assumes nothing.
+-- Shifts of a 32-bit word that lose nothing, and what placing bits by them comes to.
 use Prim.Native.Nat.{ℕ, _+_, _-_, _*_, _/_, _%_, _^_, _≤_, _<_}
 use native.Mathlib.Omega.{arith}
 use native.Mathlib.Nat.{mod-lt, one-mul, div-lt-iff-lt-mul}

@@ -1,4 +1,4 @@
--- Numbers 1 and 2: each way out of the functions that answer them, and what their absence tells. Assumes nothing.
+-- Numbers 1 and 2: each way out of the functions that answer them, and what their absence tells.
 use Prim.Native.Nat.{ℕ, _+_, _*_, _≤_, _<_}
 use native.Mathlib.Omega.{arith}
 use mathlib.Core.Bool.{Bool, true, false, cond}

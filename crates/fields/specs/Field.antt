@@ -6,7 +6,7 @@
 --     ok            a length, class, hole and block are within their rows; valid n: and the page is below n
 --     room          the value is one that the field can hold
 --     words         the words of a book
--- A page's words 144 to 271 are kept for marks, and have no field yet. Assumes nothing.
+-- A page's words 144 to 271 are kept for marks, and have no field yet.
 use Prim.Native.Nat.{ℕ, _+_, _-_, _*_, _/_, _%_, _^_, _<_}
 use mathlib.Core.Bool.{Bool, true, _&&_}
 use mathlib.Core.List.{List}

@@ -1,7 +1,6 @@
 -- What a function that may refuse answers: document 01's number, or 0, and the book that it leaves.
 --     Did        a function answered r and left the book b, as the outcome says
 --     putAt      a write to a page's field where there is a page: a page is stored as its number and one, and 0 is none
--- Assumes nothing.
 use Prim.Native.Nat.{ℕ, zero, suc}
 use mathlib.Core.Bool.{Bool, _&&_}
 use mathlib.Core.List.{List}

@@ -1,5 +1,5 @@
 -- What a range is, two of document 01's limits, and numbers 1 and 2. The table of ranges, which docs/RANGES.md prints, is
--- demands/specs/Ranges. Assumes nothing.
+-- demands/specs/Ranges.
 --     Range, within    a range, and whether a value is in it
 --     metaFault        numbers 1 and 2: the first that applies to a book, or 0
 use Prim.Native.Nat.{ℕ, _+_, _-_}

@@ -1,4 +1,4 @@
--- A count of 64 bits: its low and its high word. Assumes nothing.
+-- A count of 64 bits: its low and its high word.
 use Prim.Native.Nat.{ℕ, _+_, _*_, _/_, _%_, _^_}
 use mathlib.Core.List.{List}
 use Rattle.fields.specs.Field.{ArenaField, arena, get, put}

@@ -2,7 +2,6 @@
 --     hole-at-get, set-at-set    the model's reading and storing by index are those of lists
 --     choose-is                  the remembered code, or the scan's, is the model's choice
 --     chosen-within              the hole chosen is stored
--- Assumes nothing.
 use mathlib.Core.Path.{_≡_, refl, sym, ap, subst, _∙_}
 use Prim.Native.Nat.{ℕ, zero, suc, _-_, _<_, _≤_}
 use native.Mathlib.Omega.{arith}
@@ -13,6 +12,7 @@ use lib.Dec.{eqb, leb, ltb}
 use lib.ListN.{length, getD, set, take}
 use lib.Seq.{getD-take, length-take-le}
 use borrow.Author.Tests.{ltb-true, leb-true, leb-false, lt-ltb, le-ltb, le-leb}
+use Rattle.facts.proofs.Bools.{and-no}
 use Rattle.model.specs.declared.Hole.{Hole}
 use Rattle.model.specs.HoleStore as Model
 use Rattle.model.specs.HoleStore.{Fit, holeAt, setAt, leastFit, stillHolds, Choice, chooseIn, rememberedMax}
@@ -40,10 +40,6 @@ code-back : (code : ℕ) → indexCode (indexOf code) ≡ code
 code-back zero = refl
 code-back (suc i) = refl
 
-and-false : (t : Bool) → (t && false) ≡ false
-and-false true = refl
-and-false false = refl
-
 -- the model's choice, as a code
 still-none : (m : ℕ) (o : Option ℕ) → stillHolds m [] o ≡ false
 unfolding stillHolds
@@ -56,7 +52,7 @@ pick-code false a b = refl
 
 chosen-code : (hs : List Hole) (m code : ℕ) → indexCode (chosen hs m code) ≡ cond (leb m rememberedMax && stillHolds m hs (indexOf code)) code (indexCode (Model.indexOf (leastFit m hs)))
 unfolding chooseIn leastFit
-chosen-code [] m code = sym (ap (λ (t : Bool). cond t code 0) (ap (λ (t : Bool). leb m rememberedMax && t) (still-none m (indexOf code)) ∙ and-false (leb m rememberedMax)))
+chosen-code [] m code = sym (ap (λ (t : Bool). cond t code 0) (ap (λ (t : Bool). leb m rememberedMax && t) (still-none m (indexOf code)) ∙ and-no (leb m rememberedMax)))
 chosen-code (h ∷ hs) m code =
     let t : Bool = leb m rememberedMax && stillHolds m (h ∷ hs) (indexOf code) in
     let other : ℕ = indexCode (Model.indexOf (leastFit m (h ∷ hs))) in

@@ -1,7 +1,6 @@
 -- What `plan_in` answers is the model's plan.
 --     plan-is          the plan from a slice whose first count holes are those of the words
 --     picked-within    the code of a plan that was picked names a hole of the slice
--- Assumes nothing.
 use mathlib.Core.Path.{_≡_, refl, sym, ap, subst, _∙_}
 use Prim.Native.Nat.{ℕ, zero, suc, _+_, _-_, _<_, _≤_}
 use native.Mathlib.Omega.{arith}
@@ -12,8 +11,8 @@ use lib.Dec.{eqb, ltb}
 use lib.ListN.{length, getD, set, take, length-take}
 use lib.Seq.{getD-take, take-take, take-set-lt, take-set-le, set-out, length-take-le}
 use borrow.Author.Tests.{ltb-true, ltb-false, ne-eqb}
+use Rattle.facts.specs.Lists.{every}
 use Rattle.model.specs.declared.Hole.{Hole}
-use Rattle.model.specs.Lists.{every}
 use Rattle.model.specs.HoleStore as Model
 use Rattle.model.specs.HoleStore.{Fit, holeAt, lastHole, withoutLast, nearer, leastFit, chooseIn}
 use Rattle.arena.specs.declared.Plan.{Plan}

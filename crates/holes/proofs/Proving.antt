@@ -3,7 +3,6 @@
 --     Ends, ends   where a walk ends, and how: at a result and last values that the prover names
 --     known        a callee's theorem, at the tables of the walk
 --     shown        a walk from each choice of lifetimes, shares, arguments and ghost value is the theorem
--- Assumes nothing.
 use mathlib.Core.Path.{_≡_}
 use Prim.Native.Nat.{ℕ}
 use mathlib.Core.List.{List, [], _∷_}

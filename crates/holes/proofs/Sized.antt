@@ -2,7 +2,6 @@
 -- as a `&mut [Hole]` for a lifetime that the walk makes and ends; what `plan_in` leaves in it is let go.
 --     planFn      the MIR at n holes, where the operand x says n
 --     walk        its walk, to any Post that what is left at the end gives
--- Assumes nothing.
 use Rattle.holes.proofs.Walk.{_≡_, refl, sym, subst, _∙_, ℕ, _*_, _<_, _≤_, _^_, List, [], _∷_, length, URA, fullShare, named, erased, imm, mut, w32, w64, tyInt, tyArray, tyRef, Val, vint, SProp, ent, id⊢, GName, Lft, Share, Fml, ftrue, fat, flft, flent, Memory, Routine, Heap, Env, WpFn, Tables, Atoms, Fun, Given, Item, ‵, raw, _⊛_, ⋆, some, later, _$_, _∵_, !, qed, by, move, drop, use1, use2, use3, split, join, pick, rewrite, fsplit, fjoin, feqI, feqL, await, agg, look, init, forget, stop, from, load, lit, addr, and-then, no-more, assigns, land, returns, enter, alloc1, alloc0, params1, pass1, pass0, free1, free0, Arr, cells, arr-parts, lft-new, lft-end, fmOf, RattleType, owns, Is, Lawful, shows, pointee, mem, shares, Array, array-lawful, u32, row, whole-in, whole-out, Held, lends-slice, slice-back, RefT, now, sliceTy, sliceVal, ShrSlice, MutSlice, Room, shr-slice-lawful, shr-slice-copy, owned, peeks, Meets, arg, holds, asks-both, calls, number, aHole, aPlan, anArena, lentAt, machine, Lent}
 use types.Kit.{Go}
 use types.Run.{Opd}

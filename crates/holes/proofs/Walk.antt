@@ -2,7 +2,6 @@
 --     number, truth, unit, aHole, aBest, aPlan, anArena, aGain     plain data
 --     byValue, lent, lentMut, recordMut                     a parameter: plain data, a `&[T]`, a `&mut [T]`, a `&mut Arena`
 --     lentAt, holeVals, machine, Lent, scaled               a reference, a hole's and a slice's machine values, what a `&[T]` owns, and that an element's offset fits
--- Assumes nothing.
 use mir.Syntax.{Width}
 use denote.Exit.{yes}
 use denote.Plain.{UInt, Boolean, Nothing, uint-tells, uint-makes, uint-lawful, bool-tells, bool-makes, bool-lawful, nothing-tells, nothing-makes, nothing-lawful}

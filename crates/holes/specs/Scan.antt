@@ -1,4 +1,4 @@
--- What the functions over a lent slice of holes answer. Assumes nothing.
+-- What the functions over a lent slice of holes answer.
 use Prim.Native.Nat.{ℕ, suc, _+_, _-_, _*_, _/_, _%_, _^_}
 use mathlib.Core.Option.{Option, none, some}
 use mathlib.Core.Bool.{Bool, cond, _&&_}

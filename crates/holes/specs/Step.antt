@@ -1,4 +1,4 @@
--- The arena's record after a step. Assumes nothing.
+-- The arena's record after a step.
 use Prim.Native.Nat.{_+_}
 use mathlib.Core.Bool.{cond}
 use Rattle.model.specs.Arena.{more}

@@ -2,7 +2,7 @@
 use Prim.Native.Nat.{ℕ, _+_, _-_, _*_, _/_, _≤_, _<_}
 use native.Mathlib.Omega.{arith}
 use native.Mathlib.Numerals.{add-one}
-use mathlib.Core.Bool.{Bool, true, false, cond}
+use mathlib.Core.Bool.{Bool, true}
 use mathlib.Core.List.{List}
 use mathlib.Core.Path.{_≡_, refl, ap, _∙_}
 use lib.ListN.{length}
@@ -12,7 +12,6 @@ use Rattle.fields.specs.Field.{page, slot, free, carved, virgin, listed, put}
 use Rattle.fields.specs.Clear.{clearOut}
 use Rattle.fields.proofs.Laws.{length-put}
 use Rattle.fields.proofs.Clear.{length-clear, clear-more}
-use Rattle.model.specs.Page.{isMedium}
 use Rattle.words.specs.Host.{digit}
 use Rattle.pages.specs.Runs.{nameRun}
 use Rattle.pages.specs.Stack.{downs, push}

@@ -1,4 +1,4 @@
--- Demand 3, first half: a class's answers and the runs that it was given determine each other. Assumes nothing.
+-- Demand 3, first half: a class's answers and the runs that it was given determine each other.
 -- A class by itself is its calls and what it is given (`replay`); a history shows each class nothing else.
 use Prim.Native.Nat.{ℕ}
 use mathlib.Core.Path.{_≡_, refl, sym, ap, _∙_, subst, ap₂}
@@ -7,6 +7,7 @@ use mathlib.Core.Option.{Option, none, some}
 use mathlib.Core.Bool.{Bool, true, false, cond, false≢true}
 use mathlib.Core.Logic.{_↔_}
 use borrow.Author.Tests.{eqb-true}
+use Rattle.facts.proofs.Bools.{by-cases}
 use Rattle.classes.specs.declared.Shape.{Shape}
 use Rattle.classes.specs.Shape.{shapeOf}
 use Rattle.classes.specs.Sound.{Sound}
@@ -20,7 +21,6 @@ use Rattle.model.specs.Chunks.{releaseChunks, answer}
 use Rattle.model.specs.Heap.{Heap, Outcome, step, route, classCall, interact, directCall, finish, offer, newHeap, runWith, asked, commitCall, growCall, releaseCall}
 use Rattle.model.specs.History.{Event, eventOf, eventsFrom, events, callsOf, answersOf, runsOf, isOf}
 use Rattle.model.proofs.Ways.{Goes, is-turned, is-straight, is-class, goes}
-use Rattle.model.proofs.Counts.{by-cases}
 use Rattle.model.proofs.Update.{update-same, update-other}
 use Rattle.model.proofs.NewRun.{Tells, run-tells}
 

@@ -1,4 +1,4 @@
--- Entries not yet released share no byte, with each other or with a page held by the direct calls. Assumes nothing.
+-- Entries not yet released share no byte, with each other or with a page held by the direct calls.
 use Prim.Native.Nat.{ℕ, zero, suc, _+_, _-_, _*_, _/_, _≤_, _<_}
 use mathlib.Core.Path.{_≡_, refl, sym, ap, _∙_, subst}
 use mathlib.Core.List.{List, [], _∷_, _++_}
@@ -8,6 +8,8 @@ use native.Mathlib.Omega.{arith}
 use native.Mathlib.Nat.{zero-add, mul-le-mul-right}
 use lib.Dec.{eqb, leb, ltb}
 use borrow.Author.Tests.{leb-true, leb-false, ltb-true, ltb-false, eqb-true, eq-eqb}
+use Rattle.facts.specs.Lists.{All, total, count}
+use Rattle.facts.proofs.Bools.{by-cases}
 use Rattle.words.specs.Limits.{maxPages}
 use Rattle.words.specs.Word.{granuleOf}
 use Rattle.classes.specs.declared.Shape.{Shape}
@@ -15,7 +17,6 @@ use Rattle.classes.specs.Shape.{shapeOf}
 use Rattle.classes.specs.Sizes.{granuleBytes, pageBytes}
 use Rattle.classes.specs.Sound.{Sound}
 use Rattle.classes.proofs.Shapes.{shape-sound}
-use Rattle.model.specs.Lists.{All, total, count}
 use Rattle.model.specs.Calls.{Call}
 use Rattle.model.specs.Page.{Page, wordOf, wordsFrom, pageGranules, carvedWords}
 use Rattle.model.specs.Heap.{Heap}
@@ -23,7 +24,7 @@ use Rattle.model.specs.History.{events, heapAfter}
 use Rattle.model.specs.Entries.{Entry, HasByte, In, Live, firstByte, blockBytes}
 use Rattle.model.specs.Ledger.{heldBy}
 use Rattle.model.specs.Demands.{Disjoint, IsoDisjoint}
-use Rattle.model.proofs.Counts.{by-cases, total-append}
+use Rattle.model.proofs.Counts.{total-append}
 use Rattle.model.proofs.ArenaLaws.{above-at, covers-in}
 use Rattle.model.proofs.Pages.{all-append, outOf, on, GoodPage, words-once}
 use Rattle.model.proofs.Fold.{liveFrom, live-in}

@@ -1,4 +1,4 @@
--- Document 01's examples and the rules beside them hold, by computation: one statement over their table. Assumes nothing.
+-- Document 01's examples and the rules beside them hold, by computation: one statement over their table.
 use mathlib.Core.Path.{_≡_, refl}
 use mathlib.Core.List.{map}
 use Rattle.classes.specs.Sizes.{smallSizes, mediumSizes}

@@ -1,16 +1,19 @@
--- The invariant of the heap, and that every call keeps it. Assumes nothing.
-use Prim.Native.Nat.{ℕ, zero, suc, _+_, _-_, _≤_, _<_}
+-- The invariant of the heap, and that every call keeps it.
+use Prim.Native.Nat.{ℕ, suc, _+_, _-_, _≤_}
 use mathlib.Core.Path.{_≡_, refl, sym, ap, _∙_, subst}
 use mathlib.Core.List.{List, [], _∷_, append-nil}
 use mathlib.Core.Option.{Option, none, some, Option·none-ne-some}
-use mathlib.Core.Bool.{Bool, true, false, cond, not, _&&_}
+use mathlib.Core.Bool.{Bool, true, false, cond, not}
 use native.Mathlib.Omega.{arith}
 use lib.Dec.{eqb, leb, ltb}
 use borrow.Author.Tests.{leb-true, leb-false, ltb-true, eqb-true, eqb-false, ne-eqb, not-false}
+use Rattle.facts.specs.Lists.{filter, every, total, update, count, below}
+use Rattle.facts.proofs.Bools.{by-cases, and-left, and-right, and-no}
+use Rattle.facts.proofs.Lists.{every-at}
+use Rattle.model.specs.Cover.{inRun, covers, coversAll, coversRun}
 use Rattle.classes.specs.declared.Shape.{Shape}
 use Rattle.classes.specs.Shape.{shapeOf}
 use Rattle.classes.proofs.Shapes.{shape-sound}
-use Rattle.model.specs.Lists.{total, covers, coversAll, coversRun, inRun, update, count, every, below, filter}
 use Rattle.model.specs.Calls as Calls
 use Rattle.model.specs.Calls.{Call, Answer, Request, Named, names, Way, wayOf, hostOf, blocksOf, releasedBy, isRefused}
 use Rattle.model.specs.Class.{Class, Result, Ask, serve}
@@ -21,7 +24,7 @@ use Rattle.model.specs.Heap.{Heap, Holder, Outcome, newHeap, isDirect, i
 use Rattle.model.specs.History.{eventsFrom, heapFrom}
 use Rattle.model.specs.Entries.{Entry, entriesFrom, hasWord, directNext, directFrom, runOf}
 use Rattle.model.specs.Ledger.{inHoles, above, runsWith, heldBy, abandons, allAbandon, commitAbandons, growAbandons, offerAbandons, classAbandons, directAbandons, callAbandons, abandonedFrom}
-use Rattle.model.proofs.Counts.{by-cases, and-l, and-r, total-append}
+use Rattle.model.proofs.Counts.{total-append}
 use Rattle.model.proofs.Ways.{Goes, is-turned, is-straight, is-class, goes}
 use Rattle.model.proofs.ArenaLaws.{idle, above-at, covers-le, give-law, give-frontier, give-all-law, give-all-frontier, CommitLaw, commit-law, grow-law, grow-bound}
 use Rattle.model.proofs.Sites.{GoodClass, outCount}
@@ -174,21 +177,14 @@ module _ (size n : ℕ) (H : Heap) (es : List Entry) (f : ℕ → Bool) (l : ℕ
   account-one : (y : ℕ) → isHeld (H .holder y) + idle y (H .arena) + l y ≡ 1
   account-one y = omega (arith, inv .one y)
 
-  every-below : (t : ℕ → Bool) (m k : ℕ) → every t (below m) ≡ true → k < m → t k ≡ true
-  every-below t zero k e h = absurd (omega arith)
-  every-below t (suc m) k e h =
-      by-cases (eqb k m)
-      (λ b. rw (eqb-true k m b) (and-l (t m) (every t (below m)) e))
-      (λ b. every-below t m k (and-r (t m) (every t (below m)) e) (omega (arith, eqb-false k m b)))
-
   direct-run : (q m : ℕ) → heldDirect size H q m ≡ true → (y : ℕ) → 1 ≤ covers m q y → isDirect (H .holder y) ≡ true
   unfolding heldDirect
   direct-run q m e y h =
       by-cases (inRun m q y)
-      (λ b. let le = leb-true q y (and-l (leb q y) (ltb y (q + m)) b) in
-      let lt = ltb-true y (q + m) (and-r (leb q y) (ltb y (q + m)) b) in
+      (λ b. let le = leb-true q y (and-left (leb q y) (ltb y (q + m)) b) in
+      let lt = ltb-true y (q + m) (and-right (leb q y) (ltb y (q + m)) b) in
       subst (λ v. isDirect (H .holder v) ≡ true) (omega arith)
-      (every-below (λ k. isDirect (H .holder (q + k))) m (y - q) (and-r (leb (q + m) size) (every (λ k. isDirect (H .holder (q + k))) (below m)) e) (omega arith)))
+      (every-at (λ k. isDirect (H .holder (q + k))) m (y - q) (and-right (leb (q + m) size) (every (λ k. isDirect (H .holder (q + k))) (below m)) e) (omega arith)))
       (λ b. absurd (let z : 1 ≤ 0 = rw b at h in omega arith))
 
   -- the pages that a direct call with this answer abandons
@@ -285,13 +281,9 @@ module _ (size n : ℕ) (H : Heap) (es : List Entry) (f : ℕ → Bool) (l : ℕ
   live-refused none k = refl
   live-refused (some d) k = append-nil _ ∙ all-stay es
     where
-      not-in : (t : Bool) → (t && false) ≡ false
-      not-in true = refl
-      not-in false = refl
-
       all-stay : (es : List Entry) → filter (λ e. not (hasWord (d .class) [] e)) es ≡ es
       all-stay [] = refl
-      all-stay (e ∷ es) = rw (not-in (eqb (e .class) (d .class))) (ap (λ (t : List Entry). e ∷ t) (all-stay es))
+      all-stay (e ∷ es) = rw (and-no (eqb (e .class) (d .class))) (ap (λ (t : List Entry). e ∷ t) (all-stay es))
 
   route-inv : (x : Call) {w : Way} → Goes x w
       → Inv size (suc n) (route size H x w .heap) (liveNext n (names x) (route size H x w .answer) es) (directNext x (route size H x w .answer) f) (λ y. l y + callAbandons size H x w y)

@@ -1,4 +1,4 @@
--- Along every history the hole store is tidy: hence best fit, what is remembered, the total of the holes, and the figure of idle pages. Assumes nothing.
+-- Along every history the hole store is tidy: hence best fit, what is remembered, the total of the holes, and the figure of idle pages.
 use Prim.Native.Nat.{ℕ, _+_, _-_, _≤_}
 use mathlib.Core.Path.{_≡_, refl}
 use mathlib.Core.List.{List, [], _∷_}
@@ -7,10 +7,11 @@ use mathlib.Core.Bool.{Bool, true, false, cond, true≢false}
 use native.Mathlib.Omega.{arith}
 use lib.Dec.{eqb, leb}
 use borrow.Author.Tests.{eqb-false, leb-false}
+use Rattle.facts.specs.Lists.{total, below}
+use Rattle.facts.proofs.Bools.{by-cases}
 use Rattle.classes.specs.declared.Shape.{Shape}
 use Rattle.classes.specs.Shape.{shapeOf}
 use Rattle.classes.proofs.Shapes.{shape-sound}
-use Rattle.model.specs.Lists.{total, below}
 use Rattle.model.specs.Calls as Calls
 use Rattle.model.specs.Calls.{Call, Request, Way, turned, straight, toClass, wayOf, hostOf}
 use Rattle.model.specs.Arena.{Arena}
@@ -21,7 +22,6 @@ use Rattle.model.specs.Chunks.{answer, releaseChunks}
 use Rattle.model.specs.Heap.{Heap, Outcome, newHeap, offer, finish, interact, classCall, badRun, badGrowth, commitCall, growCall, releaseCall, idlePages, unchanged, directCall, route, step}
 use Rattle.model.specs.History.{heapFrom, heapAfter}
 use Rattle.model.specs.Demands.{BestFit}
-use Rattle.model.proofs.Counts.{by-cases}
 use Rattle.model.proofs.ArenaLaws.{idle}
 use Rattle.model.proofs.BestFit.{commits}
 use Rattle.model.proofs.Remembers.{Tidy, tidy-remembers}

@@ -1,5 +1,5 @@
 -- A block is out in a class exactly if it is an entry of the class not yet released, and a release that is not refused has no other
--- word. Assumes nothing.
+-- word.
 use Prim.Native.Nat.{ℕ}
 use mathlib.Core.Path.{_≡_, refl}
 use mathlib.Core.List.{List, []}
@@ -9,12 +9,13 @@ use native.Mathlib.Omega.{arith}
 use lib.Dec.{ltb}
 use lib.ListN.{length}
 use borrow.Author.Tests.{not-false}
+use Rattle.facts.specs.Lists.{isNil, every, distinct}
+use Rattle.facts.proofs.Bools.{by-cases, and-left, and-right}
 use Rattle.words.specs.Host.{badHost}
 use Rattle.words.specs.Word.{chunkKind}
 use Rattle.classes.specs.declared.Shape.{Shape}
 use Rattle.classes.specs.Shape.{shapeOf}
 use Rattle.classes.proofs.Shapes.{shape-sound}
-use Rattle.model.specs.Lists.{distinct, every, isNil}
 use Rattle.model.specs.Calls.{Call, Named, names, hostIn, wayOf, Request, take, giveBack, giveChunks, listOf, hostOf, isRefused}
 use Rattle.model.specs.Class.{Class, Ask, serve, refuse}
 use Rattle.model.specs.Release.{ofKind, outHere, releaseList}
@@ -23,7 +24,7 @@ use Rattle.model.specs.Heap.{offer, finish, interact, classCall, step}
 use Rattle.model.specs.History.{events, heapAfter}
 use Rattle.model.specs.Entries.{OutIn, AllOut}
 use Rattle.model.specs.Demands.{Outs}
-use Rattle.model.proofs.Counts.{by-cases, and-l, and-r, elem-count, every-count}
+use Rattle.model.proofs.Counts.{elem-count, every-count}
 use Rattle.model.proofs.Fold.{liveFrom, live-in, in-live}
 use Rattle.model.proofs.EntryCounts.{is, is-self, in-total, counted}
 use Rattle.model.proofs.Sites.{here-out, out-here}
@@ -87,8 +88,8 @@ module _ (size : ℕ) (xs : List Call) where
       let q = answer (shapeOf c) (class c) (d .request) in
       let t = tested (shapeOf c) (class c) (offer size (hostOf (d .request)) (heapAfter size xs .arena) q .run) (d .request) (rw (h, e) at u) in
       record {
-        out = λ w m. out-told c w (every-count (outHere (shapeOf c) (class c)) w ws (and-l (every (outHere (shapeOf c) (class c)) ws) (distinct ws) t) (elem-count w ws m));
-        once = and-r (every (outHere (shapeOf c) (class c)) ws) (distinct ws) t;
+        out = λ w m. out-told c w (every-count (outHere (shapeOf c) (class c)) w ws (and-left (every (outHere (shapeOf c) (class c)) ws) (distinct ws) t) (elem-count w ws m));
+        once = and-right (every (outHere (shapeOf c) (class c)) ws) (distinct ws) t;
       }
 
   pub outs : Outs size xs

@@ -1,4 +1,4 @@
--- The demands hold of the model: every statement of specs/Demands, for every arena and every history. Assumes nothing.
+-- The demands hold of the model: every statement of specs/Demands, for every arena and every history.
 use Prim.Native.Nat.{ℕ, _≤_}
 use mathlib.Core.Path.{_≡_}
 use mathlib.Core.Logic.{_⊎_}

@@ -1,4 +1,4 @@
--- Where a call goes, by its host word and the class that it names. Assumes nothing.
+-- Where a call goes, by its host word and the class that it names.
 use mathlib.Core.Bool.{Bool, true, false, cond}
 use mathlib.Core.Option.{Option, none, some}
 use mathlib.Core.Path.{_≡_, refl}

@@ -1,5 +1,5 @@
 -- The arena: reservation, frontier, holes, and three counts (document 01, "A run of pages"). `size` is the arena's length in pages,
--- h the host word, n a run's pages, q its first page. Assumes nothing.
+-- h the host word, n a run's pages, q its first page.
 use Prim.Native.Nat.{ℕ, _+_, _*_, _%_, _^_}
 use mathlib.Core.List.{List, [], _∷_}
 use mathlib.Core.Option.{Option, none, some}

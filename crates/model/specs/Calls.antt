@@ -1,4 +1,4 @@
--- The calls of a history and their answers (document 01, "The histories of demand 3"). Assumes nothing.
+-- The calls of a history and their answers (document 01, "The histories of demand 3").
 use Prim.Native.Nat.{ℕ, _+_}
 use mathlib.Core.List.{List, []}
 use mathlib.Core.Option.{Option, none, some}

@@ -5,9 +5,9 @@ use mathlib.Core.Option.{Option, none, some}
 use mathlib.Core.Bool.{Bool, true, false, cond, not, _&&_, _||_}
 use lib.Dec.{eqb, ltb}
 use lib.ListN.{length, drop}
+use Rattle.facts.specs.Lists.{isNil, filter, every, elem, distinct}
 use Rattle.words.specs.Word.{chunkKind, countOf, pageOf}
 use Rattle.classes.specs.declared.Shape.{Shape}
-use Rattle.model.specs.Lists.{isNil, filter, every, elem, distinct}
 use Rattle.model.specs.Calls.{Request, take, giveBack, giveChunks, fates}
 use Rattle.model.specs.Page.{Page, isOut}
 use Rattle.model.specs.Class.{Class, Ask, done, refuse, takeFrom}

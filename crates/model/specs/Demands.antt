@@ -1,13 +1,13 @@
--- The demands, as statements about every history from an opening of an arena of `size` pages. proofs/Theorems proves each. Assumes nothing.
+-- The demands, as statements about every history from an opening of an arena of `size` pages. proofs/Theorems proves each.
 use Prim.Native.Nat.{ℕ, _+_, _*_, _/_, _≤_, _<_}
 use mathlib.Core.Path.{_≡_}
 use mathlib.Core.Logic.{_↔_}
 use mathlib.Core.List.{List, []}
 use mathlib.Core.Bool.{true, false}
 use mathlib.Core.Option.{some}
+use Rattle.facts.specs.Lists.{total, below}
 use Rattle.classes.specs.Sizes.{pageBytes}
 use Rattle.classes.specs.Shape.{shapeOf}
-use Rattle.model.specs.Lists.{total, below}
 use Rattle.model.specs.Calls.{Call, Named, names, Request, take, listOf, Answer, isRefused}
 use Rattle.model.specs.Arena as Arenas
 use Rattle.model.specs.Class.{Class, Ask, done}

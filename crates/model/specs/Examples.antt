@@ -1,20 +1,20 @@
 -- Document 01's examples, and rules of its where one that is a little different would answer something else: one table. Histories are
--- on an arena of 64 pages. docs/RULES.md says which rule each row holds. Assumes nothing.
+-- on an arena of 64 pages. docs/RULES.md says which rule each row holds.
 use Prim.Native.Nat.{ℕ, zero, suc, _+_, _-_, _*_, _/_, _^_}
 use mathlib.Core.List.{List, [], _∷_, _++_, map}
 use mathlib.Core.Option.{Option, none, some}
 use mathlib.Core.Bool.{Bool, true, false}
 use lib.ListN.{length, replicate}
+use Rattle.facts.specs.Lists.{below}
 use Rattle.words.specs.Word.{smallKind, mediumKind, blockWord, chunkWord}
 use Rattle.classes.specs.Sizes.{granuleBytes}
 use Rattle.classes.specs.Shape.{shapeOf}
 use Rattle.classes.specs.Examples as Lookups
 use Rattle.model.specs.declared.Hole.{Hole}
-use Rattle.model.specs.Lists.{below}
 use Rattle.model.specs.Calls.{Call, takeBlocks, mediumTakeBlocks, releaseBlocks, releaseBinChunks, commit, release, contains, report, Answer, refused, taken, fate, fates, run, noRun, released, contained, reported}
 use Rattle.model.specs.HoleStore.{hole, store, choose, accepts}
 use Rattle.model.specs.Page.{Page, carveAs}
-use Rattle.model.specs.Class.{Class, newClass, lists, Ask, serve, takeFrom}
+use Rattle.model.specs.Class.{newClass, lists, Ask, serve, takeFrom}
 use Rattle.model.specs.Release.{Settled, park}
 use Rattle.model.specs.Chunks.{releaseChunks}
 use Rattle.model.specs.History.{answers, heapAfter}

@@ -1,13 +1,14 @@
--- The heap: the arena, who holds each page, the classes; and one call of it. Assumes nothing.
+-- The heap: the arena, who holds each page, the classes; and one call of it.
 use Prim.Native.Nat.{ℕ, _+_, _-_, _^_}
 use mathlib.Core.Option.{Option, none, some}
 use mathlib.Core.Bool.{Bool, true, false, cond, not, _&&_, _||_}
 use lib.Dec.{eqb, leb}
+use Rattle.facts.specs.Lists.{every, total, update, below}
+use Rattle.model.specs.Cover.{covers, coversAll, coversRun}
 use Rattle.classes.specs.declared.Shape.{Shape}
 use Rattle.classes.specs.Shape.{shapeOf}
 use Rattle.model.specs.declared.Hole.{Hole}
 use Rattle.model.specs.declared.Figures.{Figures}
-use Rattle.model.specs.Lists.{total, every, below, covers, coversAll, coversRun, update}
 use Rattle.model.specs.Calls as Calls
 use Rattle.model.specs.Calls.{Call, Answer, Way, turned, straight, toClass, wayOf, hostOf, Request, refused, run, noRun, released, reported}
 use Rattle.model.specs.HoleStore.{hole}

@@ -1,13 +1,13 @@
--- The hole store (document 01, "A run of pages"; the original's `HoleStore`). Assumes nothing.
+-- The hole store (document 01, "A run of pages"; the original's `HoleStore`).
 use Prim.Native.Nat.{ℕ, zero, suc, _+_, _-_}
 use mathlib.Core.List.{List, [], _∷_, _++_}
 use mathlib.Core.Option.{Option, none, some}
 use mathlib.Core.Bool.{Bool, false, cond, _&&_}
 use lib.Dec.{eqb, leb, ltb}
 use lib.ListN.{length}
+use Rattle.facts.specs.Lists.{update}
 pub use Rattle.words.specs.Limits.{holeSlots, holePagesMax, rememberedMax}
 use Rattle.model.specs.declared.Hole.{Hole}
-use Rattle.model.specs.Lists.{update}
 
 abbrev pub hole : ℕ → ℕ → Hole
 hole q n = record { first = q; pages = n }

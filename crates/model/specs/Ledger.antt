@@ -1,13 +1,14 @@
--- Where each page is: held by a class or the direct calls, in a hole, at or above the frontier, or abandoned. Assumes nothing.
+-- Where each page is: held by a class or the direct calls, in a hole, at or above the frontier, or abandoned.
 use Prim.Native.Nat.{ℕ, _+_, _-_}
 use mathlib.Core.List.{List, [], _∷_}
 use mathlib.Core.Option.{Option, none, some}
 use mathlib.Core.Bool.{cond}
 use lib.Dec.{eqb, leb}
+use Rattle.facts.specs.Lists.{total}
+use Rattle.model.specs.Cover.{covers}
 use Rattle.words.specs.Host.{reservationGranted, commitGranted}
 use Rattle.classes.specs.declared.Shape.{Shape}
 use Rattle.classes.specs.Shape.{shapeOf}
-use Rattle.model.specs.Lists.{total, covers}
 use Rattle.model.specs.Calls as Calls
 use Rattle.model.specs.Calls.{Call, Way, turned, straight, toClass, wayOf, hostOf, isRefused}
 use Rattle.model.specs.HoleStore.{accepts}

@@ -1,4 +1,4 @@
-pub mod Lists
+pub mod Cover
 pub mod Calls
 pub mod HoleStore
 pub mod Arena

@@ -5,9 +5,9 @@ use mathlib.Core.List.{List, [], _∷_, _++_, reverse}
 use mathlib.Core.Bool.{Bool, true, false, cond, not, _&&_, _||_}
 use lib.Dec.{eqb, ltb}
 use lib.ListN.{length, take, drop}
+use Rattle.facts.specs.Lists.{isNil, every, elem}
 use Rattle.words.specs.Word.{mediumKind, blockWord}
 use Rattle.classes.specs.declared.Shape.{Shape}
-use Rattle.model.specs.Lists.{isNil, every, elem}
 
 -- granules of a page
 abbrev pub pageGranules : ℕ

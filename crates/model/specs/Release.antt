@@ -2,15 +2,15 @@
 use Prim.Native.Nat.{ℕ}
 use mathlib.Core.List.{List, [], _∷_, _++_}
 use mathlib.Core.Option.{Option, none, some}
-use mathlib.Core.Bool.{Bool, true, false, cond, not, _&&_}
+use mathlib.Core.Bool.{Bool, false, cond, not, _&&_}
 use lib.Dec.{eqb}
 use lib.ListN.{length}
+use Rattle.facts.specs.Lists.{isNil, every, isSome, distinct}
 use Rattle.words.specs.Word.{kindOf}
 use Rattle.words.specs.Host.{discardZeroed}
 use Rattle.classes.specs.declared.Shape.{Shape}
 use Rattle.model.specs.declared.Spot.{Spot}
 use Rattle.model.specs.declared.Spot.the-variants.{ToEmpty, ToCold, ToArena}
-use Rattle.model.specs.Lists.{isNil, isSome, every, distinct}
 use Rattle.model.specs.Calls.{fate}
 use Rattle.model.specs.Page.{Page, isOut, noneOut, returned, retire}
 use Rattle.model.specs.Class.{Class, lists, Ask, done, refuse}

@@ -12,8 +12,8 @@ use mathlib.Core.Path.{_≡_, refl, ap}
 use lib.Dec.{eqb, ltb}
 use lib.ListN.{length}
 use borrow.Author.Tests.{lt-ltb, le-ltb, ltb-true, ltb-false, eq-eqb, eqb-true, eqb-false}
-use Rattle.model.specs.Lists.{every, count}
-use Rattle.model.proofs.Counts.{by-cases, and-l, and-r}
+use Rattle.facts.specs.Lists.{every, count}
+use Rattle.facts.proofs.Bools.{by-cases, and-left, and-right}
 use Rattle.words.specs.Host.{digit}
 use Rattle.pages.specs.Stack.{downs}
 
@@ -31,18 +31,18 @@ downs-below a (suc k) m h = rw (lt-ltb (a + k) m (omega arith)) (downs-below a k
 module _ (P : ℕ → Bool) where
   pub every-append : (s t : List ℕ) → every P s ≡ true → every P t ≡ true → every P (s ++ t) ≡ true
   every-append [] t e f = f
-  every-append (x ∷ s) t e f = rw (and-l (P x) (every P s) e) (every-append s t (and-r (P x) (every P s) e) f)
+  every-append (x ∷ s) t e f = rw (and-left (P x) (every P s) e) (every-append s t (and-right (P x) (every P s) e) f)
 
   every-turned : (s t : List ℕ) → every P s ≡ true → every P t ≡ true → every P (reverseAux s t) ≡ true
   every-turned [] t e f = f
-  every-turned (x ∷ s) t e f = every-turned s (x ∷ t) (and-r (P x) (every P s) e) (rw (and-l (P x) (every P s) e) f)
+  every-turned (x ∷ s) t e f = every-turned s (x ∷ t) (and-right (P x) (every P s) e) (rw (and-left (P x) (every P s) e) f)
 
   pub every-reverse : (s : List ℕ) → every P s ≡ true → every P (reverse s) ≡ true
   every-reverse s e = every-turned s [] e refl
 
 pub every-mono : (P Q : ℕ → Bool) → ((i : ℕ) → P i ≡ true → Q i ≡ true) → (s : List ℕ) → every P s ≡ true → every Q s ≡ true
 every-mono P Q m [] e = refl
-every-mono P Q m (x ∷ s) e = rw (m x (and-l (P x) (every P s) e)) (every-mono P Q m s (and-r (P x) (every P s) e))
+every-mono P Q m (x ∷ s) e = rw (m x (and-left (P x) (every P s) e)) (every-mono P Q m s (and-right (P x) (every P s) e))
 
 -- what is below one bound is below another
 pub every-below : (m n : ℕ) → m ≤ n → (s : List ℕ) → every (λ i. ltb i m) s ≡ true → every (λ i. ltb i n) s ≡ true

@@ -10,11 +10,11 @@ use mathlib.Core.List.{List, reverse}
 use mathlib.Core.Path.{_≡_, refl}
 use lib.Dec.{ltb, leb}
 use lib.ListN.{length, length-append, length-reverse}
+use Rattle.facts.specs.Lists.{every}
 use Rattle.classes.specs.declared.Shape.{Shape}
 use Rattle.fields.specs.Field.{Field, page, out, free, carved, get, put, words}
 use Rattle.fields.proofs.Laws.{get-put-same, get-put-other, length-put}
 use Rattle.fields.proofs.Changes.{Changes, changes-put}
-use Rattle.model.specs.Lists.{every}
 use Rattle.pages.specs.Stack.{tops, downs, marks, carvedNow, latest, draw}
 use Rattle.pages.proofs.Downs.{small, length-downs, downs-below, every-append, every-reverse, every-below}
 use Rattle.pages.proofs.Tops.{length-tops}

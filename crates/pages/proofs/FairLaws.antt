@@ -5,9 +5,9 @@ use mathlib.Core.List.{List}
 use mathlib.Core.Path.{_≡_}
 use lib.Dec.{leb}
 use borrow.Author.Tests.{le-leb, leb-true}
+use Rattle.facts.proofs.Bools.{and-left, and-right}
 use Rattle.classes.specs.declared.Shape.{Shape}
 use Rattle.fields.specs.Field.{page, free, carved, virgin, get}
-use Rattle.fields.proofs.Laws.{and-left, and-right}
 use Rattle.pages.specs.Fair.{headerFair}
 
 module _ (b : List ℕ) (sh : Shape) (m q : ℕ) where

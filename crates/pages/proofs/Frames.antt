@@ -1,6 +1,7 @@
 -- What each step on a class's pages may change: everything but the fields at which a test fails is as it was.
 --     changes-linked .. changes-unstow, changes-name, changes-carve, changes-new, changes-pushed
 --     back-free        blocks that come back leave FREE until they are counted
+use Rattle.facts.specs.Lists.{every}
 use Rattle.model.specs.Page.{isMedium}
 use Prim.Native.Nat.{ℕ, zero, suc, _+_, _-_, _*_, _/_, _≤_, _<_}
 use native.Mathlib.Omega.{arith}
@@ -15,7 +16,6 @@ use Rattle.fields.specs.Clear.{clearOut}
 use Rattle.fields.proofs.Changes.{Changes, changes-none, changes-put, changes-trans}
 use Rattle.fields.proofs.Outcome.{changes-putAt}
 use Rattle.fields.proofs.Clear.{changes-clear}
-use Rattle.model.specs.Lists.{every}
 use Rattle.pages.specs.declared.Park.{Park}
 use Rattle.words.specs.Host.{digit}
 use Rattle.pages.specs.Runs.{nameRun}

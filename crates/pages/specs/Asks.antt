@@ -6,12 +6,12 @@ use mathlib.Core.List.{List}
 use mathlib.Core.Path.{_≡_}
 use lib.Dec.{ltb}
 use lib.ListN.{length}
+use Rattle.facts.specs.Lists.{every}
 use Rattle.classes.specs.declared.Shape.{Shape}
 use Rattle.classes.specs.Sound.{Sound}
 use Rattle.fields.specs.Field as Field
 use Rattle.fields.specs.Field.{class, page, partial, next, prev, words, get}
 use Rattle.fields.specs.Ranges.{maxPages, maxParked}
-use Rattle.model.specs.Lists.{every}
 use Rattle.pages.specs.declared.Park.{Park}
 use Rattle.pages.specs.Links.{stored}
 use Rattle.pages.specs.Stack.{tops, latest, pageSlots}

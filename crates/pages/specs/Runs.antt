@@ -5,9 +5,9 @@ use Prim.Native.Nat.{ℕ, zero, suc, _+_}
 use mathlib.Core.Bool.{Bool, true, false, _&&_}
 use mathlib.Core.List.{List}
 use lib.Dec.{eqb, leb}
+use Rattle.facts.specs.Lists.{every, below}
 use Rattle.classes.specs.declared.Shape.{Shape}
 use Rattle.fields.specs.Field.{arena, page, owner, first, frontier, get, put}
-use Rattle.model.specs.Lists.{every, below}
 
 abbrev pub digit : Bool → ℕ
 digit true = 1

@@ -2,7 +2,6 @@
 --     record-passes, memory-passes, holes-passes    the record, the memory of a length, the holes
 --     commit-passes                                 all that a commit tests
 --     give-passes                                   all that a give of held pages tests
--- Assumes nothing.
 use Prim.Native.Nat.{ℕ, zero, suc, _+_, _≤_, _<_}
 use native.Mathlib.Omega.{arith}
 use mathlib.Core.Bool.{true}
@@ -12,13 +11,13 @@ use mathlib.Core.Path.{_≡_, refl, sym, ap, _∙_}
 use lib.Dec.{leb}
 use lib.ListN.{length}
 use borrow.Author.Tests.{le-leb, leb-true}
+use Rattle.facts.specs.Lists.{every, All, total}
+use Rattle.facts.proofs.Bools.{by-cases}
 use Rattle.fields.specs.Field.{arena, memory, state, frontier, holes, holePages, held, get}
 use Rattle.words.specs.Limits.{holeSlots, holePagesMax, rememberedMax}
 use Rattle.model.specs.declared.Hole.{Hole}
-use Rattle.model.specs.Lists.{All, every, total}
 use Rattle.model.specs.Arena.{Arena, Status, unasked, ready, disabled}
 use Rattle.model.specs.Heap.{Heap, heldPages}
-use Rattle.model.proofs.Counts.{by-cases}
 use Rattle.model.proofs.IdlePages.{HolesBelow}
 use Rattle.arena.specs.Load.{statusCode, indexOf, recall, loadHoles, loadStore, loadArena}
 use Rattle.arena.specs.Fair.{holeFair, recordFair, holesFair, memoryFair, commitFair, giveFair}

@@ -1,4 +1,4 @@
--- After every history a page is held by nobody, by the direct calls, or by one of the 76 classes. Assumes nothing.
+-- After every history a page is held by nobody, by the direct calls, or by one of the 76 classes.
 use Prim.Native.Nat.{ℕ, _+_, _-_}
 use native.Mathlib.Omega.{arith}
 use mathlib.Core.Bool.{Bool, true, false, cond}
@@ -7,8 +7,9 @@ use mathlib.Core.Option.{some, Option·none-ne-some}
 use mathlib.Core.Path.{_≡_, refl, sym, ap}
 use lib.Dec.{eqb, ltb}
 use borrow.Author.Tests.{ltb-true, lt-ltb}
+use Rattle.facts.proofs.Bools.{by-cases}
+use Rattle.model.specs.Cover.{covers, coversAll, coversRun}
 use Rattle.classes.specs.Shape.{shapeOf}
-use Rattle.model.specs.Lists.{covers, coversAll, coversRun}
 use Rattle.model.specs.Calls as Calls
 use Rattle.model.specs.Calls.{Call, Request, Named, named, names, Way, hostOf}
 use Rattle.model.specs.Arena.{commit, grow}
@@ -16,7 +17,6 @@ use Rattle.model.specs.Class.{serve}
 use Rattle.model.specs.Chunks.{answer}
 use Rattle.model.specs.Heap.{Heap, Holder, Outcome, nobody, direct, class, passTo, newHeap, offer, finish, interact, classCall, commitCall, growCall, releaseCall, unchanged, directCall, route, step}
 use Rattle.model.specs.History.{heapFrom, heapAfter}
-use Rattle.model.proofs.Counts.{by-cases}
 use Rattle.model.proofs.Ways.{Goes, is-turned, is-straight, is-class, goes}
 
 abbrev pub isKnown : Holder → Bool

@@ -2,7 +2,6 @@
 --     step-keeps    a page of the class whose run is whole afterwards is as it was
 --     step-class    a class whose runs are whole as before is as it was
 --     class-left    a class whose run in no list was given: that page is gone, the rest is as it was; class-beside-left: another class
--- Assumes nothing.
 use Prim.Native.Nat.{ℕ, _+_, _≤_}
 use native.Mathlib.Omega.{arith}
 use native.Mathlib.Decide.{ℕ-discrete}
@@ -11,11 +10,11 @@ use mathlib.Core.List.{List, [], _∷_}
 use mathlib.Core.Path.{_≡_, refl, _∙_}
 use lib.Dec.{eqb, ltb}
 use borrow.Author.Tests.{eq-eqb, ne-eqb}
+use Rattle.model.specs.Cover.{inRun, covers}
 use Rattle.classes.specs.declared.Shape.{Shape}
 use Rattle.classes.specs.Sound.{Sound}
 use Rattle.fields.specs.Field.{next, prev, free, carved, listed, virgin}
 use Rattle.fields.proofs.Changes.{Changes}
-use Rattle.model.specs.Lists.{inRun, covers}
 use Rattle.model.specs.Page.{Page}
 use Rattle.model.specs.Heap.{Heap, isHeld}
 use Rattle.pages.specs.Runs.{whole}

@@ -1,7 +1,6 @@
 -- The arena's part of the representation along the writes of a step: storing an arena, giving pages an owner, counting them as held.
 --     rep-kept              a book with the same words of the arena and OWNERs stands for the same
 --     Stands n b a w f k    the words stand for the arena a and for the holders w of the pages below f, and HELD is k
--- Assumes nothing.
 use Prim.Native.Nat.{ℕ, _+_, _-_, _≤_, _<_}
 use native.Mathlib.Omega.{arith}
 use mathlib.Core.Bool.{Bool, true, false, not, false≢true}
@@ -10,15 +9,15 @@ use mathlib.Core.Path.{_≡_, refl, sym, ap, _∙_}
 use lib.Dec.{eqb, ltb, leb}
 use lib.ListN.{length}
 use borrow.Author.Tests.{ltb-true, ltb-false, le-leb, lt-ltb, lt-leb}
+use Rattle.facts.proofs.Bools.{by-cases}
+use Rattle.model.specs.Cover.{inRun, covers}
 use Rattle.words.specs.Limits.{holeSlots}
 use Rattle.fields.specs.Field.{Field, arena, memory, class, hole, page, out, slot, owner, size, state, held, holes, pageOff, get, put, ok, words}
 use Rattle.fields.proofs.Laws.{get-put-same, get-put-other, length-put}
 use Rattle.fields.proofs.Changes.{differ}
-use Rattle.model.specs.Lists.{inRun, covers}
 use Rattle.model.specs.Arena.{Arena}
 use Rattle.model.specs.Heap.{Heap, Holder, nobody, passTo, heldPages}
 use Rattle.model.specs.Class.{Class}
-use Rattle.model.proofs.Counts.{by-cases}
 use Rattle.model.proofs.Remembers.{Tidy}
 use Rattle.arena.specs.Load.{statusCode, loadArena}
 use Rattle.arena.specs.Store.{storeArena}

@@ -1,16 +1,16 @@
 -- The arena's words: what was stored is loaded again.
 --     load-kept        a book with the same such words holds the same arena
 --     load-store       an arena that was stored is loaded again
--- Assumes nothing.
 use Prim.Native.Nat.{ℕ, zero, suc, _+_, _≤_, _<_}
 use native.Mathlib.Omega.{arith}
-use mathlib.Core.Bool.{Bool, true, false, _&&_}
+use mathlib.Core.Bool.{true, false}
 use mathlib.Core.List.{List, [], _∷_}
 use mathlib.Core.Option.{Option, none, some}
 use mathlib.Core.Path.{_≡_, refl, sym, ap, _∙_, subst, fun-ext}
 use lib.Dec.{eqb, ltb, leb}
 use lib.ListN.{length}
 use borrow.Author.Tests.{lt-ltb, ltb-true, ne-eqb, eqb-true, eqb-false, leb-true, leb-false}
+use Rattle.facts.proofs.Bools.{by-cases, and-no}
 use Rattle.words.specs.Limits.{holeSlots}
 use Rattle.fields.specs.Field.{Field, arena, memory, hole, HoleField, start, pages, state, frontier, holes, holePages, commits, commitsHigh, reuses, reusesHigh, abandoned, abandonedHigh, holeOff, get, put, ok, words}
 use Rattle.fields.specs.Wide.{getWide}
@@ -19,7 +19,6 @@ use Rattle.fields.proofs.Changes.{changes-none}
 use Rattle.model.specs.declared.Hole.{Hole}
 use Rattle.model.specs.HoleStore.{HoleStore, Memory}
 use Rattle.model.specs.Arena.{Arena, Status, unasked, ready, disabled}
-use Rattle.model.proofs.Counts.{by-cases}
 use Rattle.model.proofs.Remembers.{Tidy}
 use Rattle.arena.proofs.Frames.{isStored, holes-change, memory-changes, store-changes}
 use Rattle.arena.specs.Load.{statusOf, statusCode, indexOf, indexCode, loadHole, loadHoles, recall, loadStore, loadArena}
@@ -98,10 +97,6 @@ module _ (n : ℕ) where
       = get-put-other (put b (hole start i) (h .first)) (hole pages i) (hole start i) (h .pages) o o refl ∙ get-put-same n b (hole start i) (h .first) hb o refl in
       let f : get (storeHole b i h) (hole pages i) ≡ h .pages = get-put-same n (put b (hole start i) (h .first)) (hole pages i) (h .pages) hb′ o refl in
       rw (e, f)
-
-  and-no : (t : Bool) → (t && false) ≡ false
-  and-no true = refl
-  and-no false = refl
 
   hole-other : (b : List ℕ) (i j : ℕ) (f : HoleField) (h : Hole) → ltb i 4096 ≡ true → ltb j 4096 ≡ true → eqb i j ≡ false
       → get (storeHole b i h) (hole f j) ≡ get b (hole f j)

@@ -1,16 +1,14 @@
 -- The standing facts of a class's proofs, and tests as numbers.
 --     Setting     the book is long enough, the class is one, its shape is sound
-use Prim.Native.Nat.{ℕ, zero, suc, _<_}
-use native.Mathlib.Omega.{arith}
-use mathlib.Core.Bool.{Bool, true, false, _||_, true≢false}
+use Prim.Native.Nat.{ℕ}
+use mathlib.Core.Bool.{Bool, true, false}
 use mathlib.Core.List.{List}
-use mathlib.Core.Path.{_≡_, refl, sym}
+use mathlib.Core.Path.{_≡_, refl}
 use lib.Dec.{eqb, ltb, leb}
 use lib.ListN.{length}
 use Rattle.classes.specs.declared.Shape.{Shape}
 use Rattle.classes.specs.Sound.{Sound}
 use Rattle.fields.specs.Field.{words}
-use Rattle.model.specs.Lists.{every, below}
 use Rattle.words.specs.Host.{digit}
 pub use Rattle.pages.proofs.Downs.{digit-true, digit-false, digit-le, digit-cases, eq-cases}
 
@@ -23,18 +21,6 @@ pub setting-kept : {n : ℕ} {b : List ℕ} {c : ℕ} {sh : Shape} (b′ : List 
 setting-kept b′ e s = record { long = rw e (s .long); row = s .row; shape = s .shape }
 
 -- ---- tests
-pub bool-eq : (s t : Bool) → (s ≡ true → t ≡ true) → (t ≡ true → s ≡ true) → s ≡ t
-bool-eq true t f g = sym (f refl)
-bool-eq false true f g = g refl
-bool-eq false false f g = refl
-
-pub or-right : (s t : Bool) → t ≡ true → (s || t) ≡ true
-or-right true t e = refl
-or-right false t e = e
-
-pub or-left : (s t : Bool) → s ≡ true → (s || t) ≡ true
-or-left true t e = refl
-or-left false t e = absurd (true≢false (sym e))
 
 pub digit-eqb : (v : Bool) → eqb (digit v) 1 ≡ v
 digit-eqb true = refl
@@ -45,6 +31,3 @@ digit-small true = refl
 digit-small false = refl
 
 -- ---- a test of every number below a bound (`every-at` says the converse)
-pub every-of : (t : ℕ → Bool) (m : ℕ) → ((k : ℕ) → k < m → t k ≡ true) → every t (below m) ≡ true
-every-of t zero h = refl
-every-of t (suc m) h = rw (h m (omega arith)) (every-of t m (λ k l. h k (omega arith)))

@@ -10,10 +10,10 @@ use mathlib.Core.Path.{_≡_, refl, sym, ap}
 use lib.Dec.{eqb, ltb}
 use lib.ListN.{length, take, drop}
 use borrow.Author.Tests.{lt-ltb, ltb-true, ltb-false}
+use Rattle.facts.specs.Lists.{every, total, count, below}
+use Rattle.facts.proofs.Bools.{by-cases}
 use Rattle.classes.specs.declared.Shape.{Shape}
-use Rattle.model.specs.Lists.{every, count, total, below}
 use Rattle.model.specs.Page.{wordOf, wordsFrom}
-use Rattle.model.proofs.Counts.{by-cases}
 use Rattle.words.specs.Host.{digit}
 use Rattle.pages.specs.Stack.{tops, downs}
 use Rattle.pages.proofs.Downs.{digit-true, digit-false, digit-cases, eq-cases}

@@ -12,17 +12,18 @@ use mathlib.Core.Path.{_≡_, refl, sym, ap, _∙_, subst}
 use lib.Dec.{eqb}
 use lib.ListN.{length}
 use borrow.Author.Tests.{eqb-true, ne-eqb, not-true}
+use Rattle.facts.specs.Lists.{filter, every, All, elem, distinct, count}
+use Rattle.facts.proofs.Bools.{by-cases, and-left, and-right}
 use Rattle.words.specs.Word.{pageOf}
 use Rattle.classes.specs.declared.Shape.{Shape}
 use Rattle.fields.specs.Ranges.{maxPages}
-use Rattle.model.specs.Lists.{All, every, elem, filter, distinct, count}
 use Rattle.model.specs.Page.{Page, isMedium, isOut, noneOut, returned, retire}
 use Rattle.model.specs.Class.{Class}
 use Rattle.model.specs.Release as Release
 use Rattle.model.specs.Release.{Site, Settled, inPartial, inFull, locate, spotIn, parkIn, park, settle}
 use Rattle.model.specs.Chunks as Model
 use Rattle.model.specs.Chunks.{startsAt, settleChunk, AllSettled}
-use Rattle.model.proofs.Counts.{by-cases, and-l, and-r, filter-le, distinct-count}
+use Rattle.model.proofs.Counts.{filter-le, distinct-count}
 use Rattle.model.proofs.Find.{firstOf, pageIn, located-first, Skips, partial-skips, full-skips}
 use Rattle.words.specs.Host.{digit}
 use Rattle.pages.specs.Stack.{indexOf}
@@ -233,7 +234,7 @@ module _ {n c : ℕ} {sh : Shape} (hn : n ≤ maxPages) (lim : Limits sh) (small
   unfolding settleChunks Model.settleChunks runsGiven Rest outcome
   chunks-rep [] d b t zs o r a = record { pages = []; rep = rw (append-nil zs) r; only = o; fates = refl; gives = refl; named = refl; number = refl }
   chunks-rep (g ∷ gs) d b t zs o r a =
-      let new = not-true (elem (pageOf g) (map pageOf gs)) (and-l (not (elem (pageOf g) (map pageOf gs))) (distinct (map pageOf gs)) d) in
-      let others = and-r (not (elem (pageOf g) (map pageOf gs))) (distinct (map pageOf gs)) d in
+      let new = not-true (elem (pageOf g) (map pageOf gs)) (and-left (not (elem (pageOf g) (map pageOf gs))) (distinct (map pageOf gs)) d) in
+      let others = and-right (not (elem (pageOf g) (map pageOf gs))) (distinct (map pageOf gs)) d in
       step g gs (λ b t zs o r a. chunks-rep gs others b t zs o r a) new b t zs o r (a .0) (a .1) (locate (startsAt (pageOf g)) t) (located (startsAt (pageOf g)) t)
       (located-first (startsAt (pageOf g)) t ∙ a .0 .found)

@@ -13,15 +13,16 @@ use mathlib.Core.List.{List, [], _∷_, map}
 use mathlib.Core.Path.{_≡_, refl, sym, ap, _∙_}
 use lib.Dec.{eqb, ltb, leb}
 use borrow.Author.Tests.{eq-eqb, ne-eqb, eqb-true, eqb-false, ltb-true, leb-true, le-leb, lt-ltb, not-true}
+use Rattle.facts.specs.Lists.{elem, count}
+use Rattle.facts.proofs.Bools.{by-cases, and-left, and-right}
 use Rattle.words.specs.Word.{granuleOf}
 use Rattle.classes.specs.declared.Shape.{Shape}
 use Rattle.classes.specs.Sound.{Sound}
 use Rattle.fields.specs.Field.{arena, page, out, first, frontier, get}
 use Rattle.fields.specs.Ranges.{maxPages}
-use Rattle.model.specs.Lists.{count, elem}
 use Rattle.model.specs.Page.{Page, wordOf, wordsFrom, isOut, carvedWords}
 use Rattle.model.specs.Release.{ofKind}
-use Rattle.model.proofs.Counts.{by-cases, and-l, and-r, elem-count, count-elem}
+use Rattle.model.proofs.Counts.{elem-count, count-elem}
 use Rattle.model.proofs.Pages.{word-rises}
 use Rattle.words.specs.Host.{digit}
 use Rattle.pages.specs.Stack.{marked, blocksFrom, indexOf, pageAt, isBlock}
@@ -126,14 +127,14 @@ module _ (b : List ℕ) {sh : Shape} (ok : Sound sh) (q w : ℕ) where
       let t₂ = eqb (indexOf sh q w * sh .block) (granuleOf w - blocksFrom sh q) in
       let t₃ = ltb (indexOf sh q w) (sh .capacity) in
       let t₄ = eqb (get b (out q (indexOf sh q w))) 1 in
-      let e₁ = and-l (t₁ && (t₂ && t₃)) t₄ e in
-      let e₂ = and-r t₁ (t₂ && t₃) e₁ in
-      let u = and-r t₂ t₃ e₂ in
+      let e₁ = and-left (t₁ && (t₂ && t₃)) t₄ e in
+      let e₂ = and-right t₁ (t₂ && t₃) e₁ in
+      let u = and-right t₂ t₃ e₂ in
       record {
         index = indexOf sh q w;
         inside = ltb-true (indexOf sh q w) (sh .capacity) u;
-        names = decoded ok q w k (and-l t₁ (t₂ && t₃) e₁) (and-l t₂ t₃ e₂);
-        set = rw u (eqb-true (get b (out q (indexOf sh q w))) 1 (and-r (t₁ && (t₂ && t₃)) t₄ e));
+        names = decoded ok q w k (and-left t₁ (t₂ && t₃) e₁) (and-left t₂ t₃ e₂);
+        set = rw u (eqb-true (get b (out q (indexOf sh q w))) 1 (and-right (t₁ && (t₂ && t₃)) t₄ e));
       }
 
   pub sits-in : q + sh .pages ≤ maxPages → Sits b sh q w → outIn b sh q w ≡ true
@@ -163,8 +164,8 @@ module _ {n : ℕ} {b : List ℕ} {c : ℕ} {sh : Shape} (s : Setting n b c sh) 
     pub out-sits : isOut sh w p ≡ true → Sits b sh (p .first) w
     unfolding isOut carvedWords
     out-sits e =
-        let t = which (s .shape) (p .first) (p .carved) w (elem-count w (carvedWords sh p) (and-l (elem w (carvedWords sh p)) (not (elem w (p .free))) e)) in
-        let f = count-elem w (p .free) (not-true (elem w (p .free)) (and-r (elem w (carvedWords sh p)) (not (elem w (p .free))) e)) in
+        let t = which (s .shape) (p .first) (p .carved) w (elem-count w (carvedWords sh p) (and-left (elem w (carvedWords sh p)) (not (elem w (p .free))) e)) in
+        let f = count-elem w (p .free) (not-true (elem w (p .free)) (and-right (elem w (carvedWords sh p)) (not (elem w (p .free))) e)) in
         let z : count (t .0) (r .stack) ≡ 0 = sym (free-count (t .0)) ∙ ap (λ v. count v (p .free)) (sym (t .2)) ∙ f in
         let y : digit (ltb (t .0) (p .carved)) ≡ 1 = ap digit (lt-ltb (t .0) (p .carved) (t .1)) in
         record { index = t .0; inside = omega (arith, t .1, r .holds .within); names = t .2; set = omega (arith, r .holds .outs (t .0)) }

@@ -3,7 +3,6 @@
 --     held-direct       number 12's test on the words is the model's
 --     direct-agrees     every call that names no class, in the arena's part
 --     direct-represents    the same for the whole book
--- Assumes nothing.
 use Prim.Native.Nat.{ℕ, suc, _+_, _-_, _≤_, _<_}
 use native.Mathlib.Omega.{arith}
 use mathlib.Core.Bool.{Bool, true, false, cond, not, _&&_, _||_, true≢false, false≢true}
@@ -11,18 +10,20 @@ use mathlib.Core.List.{List}
 use mathlib.Core.Path.{_≡_, refl, sym, ap}
 use lib.Dec.{eqb, ltb, leb}
 use borrow.Author.Tests.{leb-true, leb-false, ltb-true, eqb-false, ne-eqb, not-false}
+use Rattle.facts.specs.Lists.{every, below}
+use Rattle.facts.proofs.Bools.{by-cases, and-left, and-right, nor-left, nor-right}
+use Rattle.facts.proofs.Lists.{every-at, every-cong}
+use Rattle.model.specs.Cover.{inRun, covers}
 use Rattle.classes.specs.declared.Shape.{Shape}
 use Rattle.classes.specs.Shape.{shapeOf}
 use Rattle.classes.proofs.Shapes.{shape-sound}
 use Rattle.fields.specs.Field.{arena, page, owner, get}
 use Rattle.fields.proofs.Changes.{Changes, changes-none}
-use Rattle.model.specs.Lists.{every, below, covers, inRun}
 use Rattle.model.specs.Calls as Calls
 use Rattle.model.specs.Calls.{Call, Answer, refused}
 use Rattle.model.specs.Arena as Model
 use Rattle.model.specs.Heap as Heaps
 use Rattle.model.specs.Heap.{Heap, Holder, Outcome, nobody, direct, class, isDirect, isHeld, badRun, badGrowth, unchanged, directCall}
-use Rattle.model.proofs.Counts.{by-cases, and-l, and-r}
 use Rattle.model.proofs.ArenaTidy.{tidy-commit, tidy-grow}
 use Rattle.pages.specs.Runs.{whole}
 use Rattle.arena.specs.Owners.{ownerCode}
@@ -33,7 +34,7 @@ use Rattle.refinement.specs.Direct.{Reply, reply, commitReply, growReply
 use Rattle.refinement.proofs.ArenaHolders.{isKnown}
 use Rattle.refinement.proofs.ArenaReached.{Reached, held-below}
 use Rattle.refinement.proofs.ArenaFair.{loads-frontier, record-passes}
-use Rattle.refinement.proofs.ArenaFrames.{isStep, inRunOf, either, passed, committed-changes, grown-changes, every-cong, every-at}
+use Rattle.refinement.proofs.ArenaFrames.{isStep, inRunOf, either, passed, committed-changes, grown-changes}
 use Rattle.refinement.proofs.CommitRep.{commit-for, commit-rep, grow-rep}
 use Rattle.refinement.proofs.GiveRep.{give-fair, give-rep}
 use Rattle.refinement.proofs.ArenaRuns.{isOf, direct-other, commit-whole, grow-whole, given-step, give-whole}
@@ -49,14 +50,6 @@ record Beside (n : ℕ) (b b′ : List ℕ) : Type 0 where
 pub good-run : (m : ℕ) → badRun m ≡ false → 1 ≤ m
 unfolding badRun
 good-run m e = by-cases (eqb m 0) (λ d. absurd (true≢false (rw d at e))) (λ d. omega (arith, eqb-false m 0 d))
-
-or-left : (s t : Bool) → (s || t) ≡ false → s ≡ false
-or-left true t e = e
-or-left false t e = refl
-
-or-right : (s t : Bool) → (s || t) ≡ false → t ≡ false
-or-right true t e = absurd (true≢false e)
-or-right false t e = e
 
 -- ---- number 12
 is-direct : (w : Holder) → isKnown w ≡ true → eqb (ownerCode w) (ownerCode direct) ≡ isDirect w
@@ -74,12 +67,12 @@ module _ (n : ℕ) (b : List ℕ) (H : Heap) (rep : ArenaRep n b H) (r : Reached
   module _ (q m : ℕ) (one : 1 ≤ m) where
     all-direct : Heaps.heldDirect n H q m ≡ true → (k : ℕ) → k < m → isDirect (H .holder (q + k)) ≡ true
     unfolding Heaps.heldDirect
-    all-direct e k l = every-at (λ j. isDirect (H .holder (q + j))) m k (and-r (leb (q + m) n) (every (λ j. isDirect (H .holder (q + j))) (below m)) e) l
+    all-direct e k l = every-at (λ j. isDirect (H .holder (q + j))) m k (and-right (leb (q + m) n) (every (λ j. isDirect (H .holder (q + j))) (below m)) e) l
 
     pub run-direct : Heaps.heldDirect n H q m ≡ true → (x : ℕ) → inRun m q x ≡ true → isDirect (H .holder x) ≡ true
     run-direct e x t =
-        let l = leb-true q x (and-l (leb q x) (ltb x (q + m)) t) in
-        let u = ltb-true x (q + m) (and-r (leb q x) (ltb x (q + m)) t) in
+        let l = leb-true q x (and-left (leb q x) (ltb x (q + m)) t) in
+        let u = ltb-true x (q + m) (and-right (leb q x) (ltb x (q + m)) t) in
         let z : q + (x - q) ≡ x = omega arith in
         rw z at (all-direct e (x - q) (omega arith))
 
@@ -150,13 +143,13 @@ module _ (n : ℕ) (b : List ℕ) (H : Heap) (rep : ArenaRep n b H) (r : Reached
       }))
 
   longer : (old new : ℕ) → badGrowth old new ≡ false → 1 ≤ new - old
-  longer old new e = omega (arith, leb-false new old (or-right (badRun new) (leb new old) (or-right (badRun old) (badRun new || leb new old) e)))
+  longer old new e = omega (arith, leb-false new old (nor-right (badRun new) (leb new old) (nor-right (badRun old) (badRun new || leb new old) e)))
 
   settle-grow : (h q old new : ℕ) → Settled (growReply (growCall n b h q old new)) (directCall n H (Calls.growFrontier h q old new))
   unfolding growCall directCall Heaps.growCall
   settle-grow h q old new =
       settle-cond growReply (badGrowth old new) _ _ _ _ (λ d. settle-refused 6 (λ z. omega arith))
-      (λ d. rw (held-direct q old (good-run old (or-left (badRun old) (badRun new || leb new old) d)))
+      (λ d. rw (held-direct q old (good-run old (nor-left (badRun old) (badRun new || leb new old) d)))
       (settle-cond growReply (not (Heaps.heldDirect n H q old)) _ _ _ _ (λ c. settle-refused 12 (λ z. omega arith))
       (λ c. let one = longer old new d in
       let g = Model.grow n h (q + old) (new - old) (H .arena) in

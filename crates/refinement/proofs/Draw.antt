@@ -10,14 +10,15 @@ use mathlib.Core.Path.{_≡_, refl, sym, ap, _∙_}
 use lib.Dec.{eqb, ltb}
 use lib.ListN.{length, take, drop, length-append, length-drop, length-take, length-reverse}
 use borrow.Author.Tests.{eq-eqb, ne-eqb, eqb-true, eqb-false}
+use Rattle.facts.specs.Lists.{isNil, every, count}
+use Rattle.facts.proofs.Bools.{by-cases}
 use Rattle.classes.specs.declared.Shape.{Shape}
 use Rattle.fields.specs.Field.{Field, page, slot, out, owner, free, carved, listed, virgin, region, get, off}
 use Rattle.fields.proofs.Laws.{get-put-other}
 use Rattle.fields.proofs.Changes.{Changes}
-use Rattle.model.specs.Lists.{every, count, isNil}
 use Rattle.model.specs.Page as Model
 use Rattle.model.specs.Page.{Page, wordOf, pop}
-use Rattle.model.proofs.Counts.{by-cases, count-append, count-reverse, count-cut}
+use Rattle.model.proofs.Counts.{count-append, count-reverse, count-cut}
 use Rattle.words.specs.Host.{digit}
 use Rattle.pages.specs.Stack.{marked, downs, marks, carvedNow, latest, draw, hasMore}
 use Rattle.pages.proofs.Downs.{digit-le, digit-false, length-downs, count-downs, every-below}

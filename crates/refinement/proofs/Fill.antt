@@ -8,15 +8,15 @@ use mathlib.Core.Path.{_≡_, refl, sym, ap, _∙_}
 use lib.Dec.{eqb, ltb, leb}
 use lib.ListN.{length, drop, length-drop}
 use borrow.Author.Tests.{eq-eqb, ne-eqb, eqb-true, eqb-false, ltb-true, leb-true, leb-false}
+use Rattle.facts.specs.Lists.{isNil, All}
+use Rattle.facts.proofs.Bools.{by-cases}
 use Rattle.classes.specs.declared.Shape.{Shape}
 use Rattle.fields.specs.Field.{class, page, partial, virgin, get}
 use Rattle.fields.proofs.Changes.{changes-none}
-use Rattle.model.specs.Lists.{All, isNil}
 use Rattle.model.specs.Page as Page
 use Rattle.model.specs.Page.{Page, pop}
 use Rattle.model.specs.Class as Model
 use Rattle.model.specs.Class.{after, fillFromList}
-use Rattle.model.proofs.Counts.{by-cases}
 use Rattle.pages.specs.Stack.{latest, draw, hasMore}
 use Rattle.pages.specs.Links.{unlink}
 use Rattle.pages.specs.declared.Park.{Park}

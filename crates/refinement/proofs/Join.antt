@@ -10,6 +10,8 @@ use mathlib.Core.Path.{_≡_, refl, sym, ap, _∙_, subst}
 use lib.Dec.{eqb, ltb, leb}
 use lib.ListN.{length}
 use borrow.Author.Tests.{eq-eqb, ne-eqb, le-leb, leb-true, ltb-true, lt-ltb}
+use Rattle.facts.proofs.Bools.{and-left, and-right}
+use Rattle.model.specs.Cover.{inRun, covers, coversRun}
 use Rattle.words.specs.Limits.{holeSlots}
 use Rattle.classes.specs.declared.Shape.{Shape}
 use Rattle.classes.specs.Shape.{shapeOf}
@@ -17,12 +19,10 @@ use Rattle.classes.proofs.Shapes.{shape-sound}
 use Rattle.fields.specs.Field as Field
 use Rattle.fields.specs.Field.{Field, arena, memory, hole, page, slot, out, first, next, prev, free, carved, listed, virgin, pageOff, get}
 use Rattle.fields.proofs.Changes.{Changes}
-use Rattle.model.specs.Lists.{inRun, covers, coversRun}
 use Rattle.model.specs.Page.{Page, carve}
 use Rattle.model.specs.Arena.{commit, Given}
 use Rattle.model.specs.Class.{Class}
 use Rattle.model.specs.Heap.{Heap, nobody, class, passTo}
-use Rattle.model.proofs.Counts.{and-l, and-r}
 use Rattle.model.proofs.ArenaTidy.{tidy-commit}
 use Rattle.model.proofs.ArenaLaws.{commit-law}
 use Rattle.model.proofs.IdlePages.{commit-below}
@@ -144,7 +144,7 @@ module _ (n : ℕ) (b : List ℕ) (H : Heap) (R : Represents n b H) (ok : Reache
 
     inside : (y : ℕ) → inRun (shapeOf c .pages) q y ≡ true → get new (page first y) ≡ q
     inside y i =
-        new-names s₁ q within y (leb-true q y (and-l (leb q y) (ltb y (q + pages)) i)) (ltb-true y (q + pages) (and-r (leb q y) (ltb y (q + pages)) i))
+        new-names s₁ q within y (leb-true q y (and-left (leb q y) (ltb y (q + pages)) i)) (ltb-true y (q + pages) (and-right (leb q y) (ltb y (q + pages)) i))
 
     outside : (y : ℕ) → inRun (shapeOf c .pages) q y ≡ false → get new (page first y) ≡ get b (page first y)
     outside y i = written .kept (page first y) refl (or-none (inRun pages q y) ∙ i) ∙ step-first owned b after changes y

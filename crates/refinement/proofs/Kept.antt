@@ -12,10 +12,10 @@ use mathlib.Core.Logic.{inl, inr}
 use mathlib.Core.Path.{_≡_, refl, ap, _∙_}
 use lib.Dec.{eqb, ltb}
 use borrow.Author.Tests.{ne-eqb, lt-ltb, ltb-true}
+use Rattle.facts.specs.Lists.{All, count}
 use Rattle.classes.specs.declared.Shape.{Shape}
 use Rattle.classes.specs.Sound.{Sound}
 use Rattle.fields.specs.Field.{ClassField, class, page, slot, out, partial, owner, next, prev, free, carved, listed, virgin, get}
-use Rattle.model.specs.Lists.{All, count}
 use Rattle.model.specs.Page.{Page}
 use Rattle.model.proofs.Pages.{all-append}
 use Rattle.words.specs.Host.{digit}

@@ -9,13 +9,13 @@ use mathlib.Core.List.{List}
 use mathlib.Core.Path.{_≡_, refl}
 use lib.Dec.{eqb, ltb}
 use borrow.Author.Tests.{eq-eqb, ne-eqb}
+use Rattle.facts.proofs.Bools.{or-right}
 use Rattle.fields.specs.Field.{Field, arena, memory, class, hole, page, slot, out, partial, owner, first, next, prev, free, carved, listed, virgin, frontier, classOff, pageOff, get}
 use Rattle.fields.proofs.Changes.{Changes}
 use Rattle.pages.specs.declared.Park.{Park}
 use Rattle.pages.specs.declared.Park.the-variants.{Empty, Cold}
 use Rattle.pages.specs.Links.{link, unlink, top, stored, other, stow, unstow}
 use Rattle.pages.proofs.Frames.{changes-link, changes-unlink, changes-stow, changes-unstow}
-use Rattle.refinement.proofs.Basics.{or-right}
 use Rattle.refinement.proofs.Frames.{ofClass, Owns}
 use Rattle.refinement.proofs.Kept.{Body, Ties}
 

@@ -11,8 +11,8 @@ use mathlib.Core.Logic.{inl, inr}
 use mathlib.Core.Path.{_≡_, refl, sym, ap, subst, _∙_}
 use lib.Dec.{eqb}
 use borrow.Author.Tests.{eq-eqb}
+use Rattle.facts.specs.Lists.{All, count}
 use Rattle.fields.specs.Field.{page, next, prev, get}
-use Rattle.model.specs.Lists.{All, count}
 use Rattle.model.specs.Page.{Page}
 use Rattle.refinement.specs.Chain.{In, Distinct, Segment}
 use Rattle.refinement.specs.Represents.{firsts, heads}

@@ -8,11 +8,11 @@ use mathlib.Core.List.{List}
 use mathlib.Core.Path.{_≡_}
 use lib.Dec.{ltb}
 use borrow.Author.Tests.{ltb-true}
+use Rattle.facts.proofs.Bools.{by-cases}
 use Rattle.classes.specs.declared.Shape.{Shape}
 use Rattle.fields.specs.Field.{Field, page, slot, out, first, free, carved, listed, virgin, get}
 use Rattle.fields.proofs.Changes.{Changes}
 use Rattle.model.specs.Page.{carve}
-use Rattle.model.proofs.Counts.{by-cases}
 use Rattle.pages.specs.Runs.{whole}
 use Rattle.pages.specs.Stack.{marked}
 use Rattle.pages.specs.Carve.{bareRun, newRun}

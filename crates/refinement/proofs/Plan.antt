@@ -10,13 +10,14 @@ use mathlib.Core.Path.{_≡_, refl, ap, _∙_}
 use lib.Dec.{eqb, ltb, leb}
 use lib.ListN.{length, take}
 use borrow.Author.Tests.{eq-eqb, ne-eqb, ltb-false, le-leb, lt-ltb}
+use Rattle.facts.specs.Lists.{isNil, All, count}
+use Rattle.facts.proofs.Bools.{by-cases, or-left, or-right}
 use Rattle.classes.specs.declared.Shape.{Shape}
 use Rattle.classes.specs.Sound.{Sound}
 use Rattle.fields.specs.Field.{arena, class, page, free, carved, next, frontier, get}
-use Rattle.model.specs.Lists.{All, count, isNil}
 use Rattle.model.specs.Page as Page
 use Rattle.model.specs.Page.{Page, wordOf}
-use Rattle.model.proofs.Counts.{by-cases, count-cut}
+use Rattle.model.proofs.Counts.{count-cut}
 use Rattle.words.specs.Host.{digit}
 use Rattle.pages.specs.Stack.{latest, hasMore}
 use Rattle.pages.specs.declared.Park.{Park}
@@ -26,7 +27,7 @@ use Rattle.calls.specs.Take.{pageReady, sound, walk, parkFair}
 use Rattle.pages.proofs.Downs.{digit-cases}
 use Rattle.refinement.specs.Chain.{Segment, Line, Stack}
 use Rattle.refinement.specs.Represents.{Holds, PageRep, Parked, firsts}
-use Rattle.refinement.proofs.Basics.{or-left, or-right, digit-small}
+use Rattle.refinement.proofs.Basics.{digit-small}
 use Rattle.refinement.proofs.Frames.{whole-below}
 use Rattle.refinement.proofs.Blocks.{few-counts, every-counts, tops-take}
 use Rattle.refinement.proofs.Draw.{more-is}

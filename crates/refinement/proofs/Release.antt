@@ -11,18 +11,18 @@ use mathlib.Core.Path.{_≡_, refl, sym, ap, _∙_, subst}
 use lib.Dec.{eqb, ltb, leb}
 use lib.ListN.{length}
 use borrow.Author.Tests.{ltb-true}
+use Rattle.facts.specs.Lists.{every, count}
+use Rattle.facts.proofs.Bools.{by-cases, and-left}
 use Rattle.words.specs.Host.{discardZeroed}
 use Rattle.classes.specs.declared.Shape.{Shape}
 use Rattle.classes.specs.Shape.{smallShape, mediumShape, shapeOf}
 use Rattle.fields.specs.Field.{class, page, emptyCount, coldCount, free, carved, get}
 use Rattle.fields.specs.Ranges.{maxPages}
 use Rattle.fields.proofs.Changes.{changes-none}
-use Rattle.model.specs.Lists.{every, count}
 use Rattle.model.specs.Page.{Page, isMedium, carveAs, carve, carvedWords, isOut, noneOut, reused, returned, retire}
 use Rattle.model.specs.Class.{Class, thawed}
 use Rattle.model.specs.Release as Model
 use Rattle.model.specs.Release.{Site, Settled, inPartial, inFull, spotIn, park, parkEmpty, letGo, settle}
-use Rattle.model.proofs.Counts.{by-cases, and-l}
 use Rattle.pages.specs.Stack.{marked, back, indexOf}
 use Rattle.pages.specs.declared.Park.the-variants.{Empty, Cold}
 use Rattle.pages.specs.Links.{stow}
@@ -127,7 +127,7 @@ module _ {n : ℕ} {b : List ℕ} {c : ℕ} {sh : Shape} (s : Setting n b c sh) 
         arith,
         lim .empty,
         ltb-true (length (t .empty)) (sh .empties)
-            (and-l (ltb (length (t .empty)) (sh .empties)) (leb (suc (length (t .empty)) * sh .pages) (sh .emptypages)) e),
+            (and-left (ltb (length (t .empty)) (sh .empties)) (leb (suc (length (t .empty)) * sh .pages) (sh .emptypages)) e),
       ))))
       (λ e. by-cases (ltb (length (t .cold)) (sh .colds))
       (λ u. rw (e, u) (in-cold (omega (arith, lim .cold, ltb-true (length (t .cold)) (sh .colds) u))))

@@ -11,14 +11,15 @@ use mathlib.Core.Path.{_≡_, refl, sym, ap, _∙_}
 use lib.Dec.{eqb, ltb, leb}
 use lib.ListN.{length, length-append}
 use borrow.Author.Tests.{eq-eqb, eqb-true, eqb-false, leb-true, leb-false, not-true}
+use Rattle.facts.specs.Lists.{every, elem, count}
+use Rattle.facts.proofs.Bools.{by-cases, and-left, and-right}
 use Rattle.classes.specs.declared.Shape.{Shape}
 use Rattle.fields.specs.Field.{Field, page, slot, out, owner, free, carved, listed, virgin, region, get, put}
 use Rattle.fields.specs.Ranges.{maxPages}
 use Rattle.fields.proofs.Laws.{get-put-same, get-put-other, length-put}
 use Rattle.fields.proofs.Changes.{Changes, changes-none, changes-put, changes-trans}
-use Rattle.model.specs.Lists.{count, elem, every}
 use Rattle.model.specs.Page.{Page, wordOf, wordsFrom, isOut, carvedWords, noneOut, returned}
-use Rattle.model.proofs.Counts.{by-cases, and-l, and-r, count-append, elem-count, every-count}
+use Rattle.model.proofs.Counts.{count-append, elem-count, every-count}
 use Rattle.model.proofs.Pages.{GoodPage}
 use Rattle.model.proofs.Used.{none-out-count}
 use Rattle.words.specs.Host.{digit}
@@ -163,9 +164,9 @@ module _ {n : ℕ} {b : List ℕ} {c : ℕ} {sh : Shape} (s : Setting n b c sh) 
       } in
       let w = wordOf sh (p .first) i in
       let o = sits-out s hn r w t in
-      let x = elem-count w (carvedWords sh p) (and-l (elem w (carvedWords sh p)) (not (elem w (p .free))) o) in
+      let x = elem-count w (carvedWords sh p) (and-left (elem w (carvedWords sh p)) (not (elem w (p .free))) o) in
       absurd (true≢false (sym (every-count (λ z. elem z (p .free)) w (carvedWords sh p) e x)
-      ∙ not-true (elem w (p .free)) (and-r (elem w (carvedWords sh p)) (not (elem w (p .free))) o))))
+      ∙ not-true (elem w (p .free)) (and-right (elem w (carvedWords sh p)) (not (elem w (p .free))) o))))
       (λ v f. absurd (omega (arith, r .holds .outs i, leb-true 1 (marked b sh (p .first) i) u))))
       (λ u. omega (arith, leb-false 1 (marked b sh (p .first) i) u))
 
@@ -174,10 +175,10 @@ module _ {n : ℕ} {b : List ℕ} {c : ℕ} {sh : Shape} (s : Setting n b c sh) 
     spelled : (ws : List ℕ) → every (λ w. isOut sh w p) ws ≡ true → ws ≡ map (wordOf sh (p .first)) (map (indexOf sh (p .first)) ws)
     spelled [] e = refl
     spelled (w ∷ ws) e =
-        let t = out-sits s hn r w (and-l (isOut sh w p) (every (λ w. isOut sh w p) ws) e) in
+        let t = out-sits s hn r w (and-left (isOut sh w p) (every (λ w. isOut sh w p) ws) e) in
         let i : indexOf sh (p .first) w ≡ t .index = ap (indexOf sh (p .first)) (t .names) ∙ index-is (s .shape) (p .first) (t .index) (t .inside) (page-low s hn r) in
         let h : w ≡ wordOf sh (p .first) (indexOf sh (p .first) w) = t .names ∙ ap (wordOf sh (p .first)) (sym i) in
-        cons h (spelled ws (and-r (isOut sh w p) (every (λ w. isOut sh w p) ws) e))
+        cons h (spelled ws (and-right (isOut sh w p) (every (λ w. isOut sh w p) ws) e))
       where
         cons : {x y : ℕ} {xs ys : List ℕ} → x ≡ y → xs ≡ ys → x ∷ xs ≡ y ∷ ys
         cons e f = cc

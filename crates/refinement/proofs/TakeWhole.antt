@@ -12,10 +12,12 @@ use mathlib.Core.Path.{_≡_, refl, sym, subst}
 use lib.Dec.{eqb, ltb}
 use lib.ListN.{length}
 use borrow.Author.Tests.{lt-ltb}
+use Rattle.facts.specs.Lists.{isNil, update}
+use Rattle.facts.proofs.Bools.{by-cases}
+use Rattle.model.specs.Cover.{covers}
 use Rattle.classes.specs.declared.Shape.{Shape}
 use Rattle.classes.specs.Shape.{shapeOf}
 use Rattle.classes.proofs.Shapes.{shape-sound}
-use Rattle.model.specs.Lists.{isNil, covers, update}
 use Rattle.model.specs.Calls as Calls
 use Rattle.model.specs.Calls.{Call}
 use Rattle.model.specs.Page as Page
@@ -27,7 +29,6 @@ use Rattle.model.specs.Chunks.{answer}
 use Rattle.model.specs.Heap.{Heap, class, passTo, offer, finish, interact, classCall, Outcome}
 use Rattle.model.specs.History.{heapAfter}
 use Rattle.model.specs.Yields.{Listed}
-use Rattle.model.proofs.Counts.{by-cases}
 use Rattle.model.proofs.Yields.{yielding}
 use Rattle.fields.proofs.Changes.{changes-none}
 use Rattle.pages.specs.declared.Park.the-variants.{Empty}

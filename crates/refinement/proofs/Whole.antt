@@ -11,10 +11,11 @@ use mathlib.Core.Path.{_≡_, refl, sym, subst}
 use lib.Dec.{ltb, leb}
 use lib.ListN.{length}
 use borrow.Author.Tests.{ltb-true, lt-ltb}
+use Rattle.facts.specs.Lists.{All}
+use Rattle.facts.proofs.Bools.{by-cases}
 use Rattle.words.specs.Host.{badHost}
 use Rattle.fields.specs.Field.{words}
 use Rattle.fields.specs.Ranges.{maxPages}
-use Rattle.model.specs.Lists.{All}
 use Rattle.model.specs.Calls as Calls
 use Rattle.model.specs.Calls.{Call, names, hostIn, wayTo, wayOf}
 use Rattle.model.specs.Heap.{Heap, directCall, route, step, newHeap}
@@ -23,7 +24,6 @@ use Rattle.arena.specs.Open.{opened}
 use Rattle.refinement.specs.Represents.{Represents}
 use Rattle.refinement.specs.Direct.{Reply, Agrees, directReply}
 use Rattle.refinement.specs.Run.{replyAs, callReply, repliesFrom, bookFrom, answersIn}
-use Rattle.model.proofs.Counts.{by-cases}
 use Rattle.refinement.proofs.ArenaReached.{reached-after, heap-next}
 use Rattle.refinement.proofs.DirectCalls.{direct-represents}
 use Rattle.refinement.proofs.OpenRep.{opened-represents}

@@ -1,5 +1,5 @@
 -- The calls that reach no class, on the words as calls of the model: what is answered, and the book that is left. n is the arena's
--- length. Assumes nothing.
+-- length.
 --     directReply    the reply to a call that names no class; where it names one that is not ours it is number 4
 --     Agrees         a reply is the model's: the same answer, never number 13, and a book that stands for the model's heap
 use Prim.Native.Nat.{ℕ}

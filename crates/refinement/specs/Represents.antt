@@ -9,10 +9,10 @@ use mathlib.Core.List.{List, [], _∷_, map}
 use mathlib.Core.Path.{_≡_}
 use lib.Dec.{ltb}
 use lib.ListN.{length}
+use Rattle.facts.specs.Lists.{All, count}
 use Rattle.classes.specs.declared.Shape.{Shape}
 use Rattle.classes.specs.Shape.{shapeOf}
 use Rattle.fields.specs.Field.{page, slot, free, carved, listed, virgin, get}
-use Rattle.model.specs.Lists.{All, count}
 use Rattle.model.specs.Page.{Page, wordOf, reused}
 use Rattle.model.specs.Class.{Class, thawed}
 use Rattle.model.specs.Heap.{Heap}

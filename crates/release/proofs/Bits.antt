@@ -2,17 +2,18 @@
 --     start-kept, in-run-kept, out-in-kept, out-at-kept    the tests of number 10, on a book whose out bits may differ
 use Prim.Native.Nat.{ℕ, _+_, _-_, _*_, _≤_, _<_}
 use native.Mathlib.Omega.{arith}
-use mathlib.Core.Bool.{Bool, true, _&&_}
-use mathlib.Core.List.{List, [], _∷_}
+use mathlib.Core.Bool.{true, _&&_}
+use mathlib.Core.List.{List}
 use mathlib.Core.Path.{_≡_, refl, ap}
 use lib.Dec.{eqb, leb}
 use borrow.Author.Tests.{leb-true, ltb-true, eqb-true, lt-ltb}
+use Rattle.facts.specs.Lists.{below}
+use Rattle.facts.proofs.Bools.{and-left, and-right}
+use Rattle.facts.proofs.Lists.{every-same}
 use Rattle.words.specs.Word.{kindOf, granuleOf}
 use Rattle.classes.specs.declared.Shape.{Shape}
 use Rattle.fields.specs.Field.{arena, page, out, frontier, owner, first, get, put}
-use Rattle.fields.proofs.Laws.{and-left, and-right}
 use Rattle.fields.proofs.Changes.{Changes, changes-none, changes-put}
-use Rattle.model.specs.Lists.{every, below}
 use Rattle.pages.specs.Runs.{ofRun, whole}
 use Rattle.pages.specs.Stack.{blocksFrom, indexOf, pageAt, isBlock}
 use Rattle.pages.proofs.Marks.{isMark}
@@ -23,10 +24,6 @@ use Rattle.release.specs.Asks.{hasBit}
 -- ---- a change of out bits
 pub put-bit : (b : List ℕ) (q i v : ℕ) → i < 4096 → Changes isMark b (put b (out q i) v)
 put-bit b q i v h = changes-put isMark b b (out q i) v (lt-ltb i 4096 h) refl (changes-none isMark b)
-
-pub every-same : {A : Type 0} (t u : A → Bool) (xs : List A) → ((x : A) → t x ≡ u x) → every t xs ≡ every u xs
-every-same t u [] e = refl
-every-same t u (x ∷ xs) e = rw (e x, every-same t u xs e)
 
 module _ (b b′ : List ℕ) (h : Changes isMark b b′) where
   pub start-kept : (w : ℕ) → startOf b′ w ≡ startOf b w

@@ -7,12 +7,12 @@ use mathlib.Core.List.{List}
 use mathlib.Core.Path.{_≡_, refl, sym, _∙_}
 use lib.Dec.{eqb, leb}
 use borrow.Author.Tests.{leb-true, lt-ltb, eq-eqb, ne-eqb}
+use Rattle.facts.proofs.Bools.{and-left, and-right}
 use Rattle.words.specs.Host.{discardZeroed}
 use Rattle.classes.specs.declared.Shape.{Shape}
 use Rattle.classes.specs.Sound.{Sound}
 use Rattle.fields.specs.Field.{Field, arena, class, page, region, off, frontier, emptyCount, coldCount, next, prev, listed, get}
 use Rattle.fields.specs.Ranges.{maxParked}
-use Rattle.fields.proofs.Laws.{and-left, and-right}
 use Rattle.fields.proofs.Changes.{Changes, changes-none}
 use Rattle.model.specs.declared.Spot.{Spot}
 use Rattle.model.specs.declared.Spot.the-variants.{ToEmpty, ToCold, ToArena}

@@ -8,12 +8,13 @@ use lib.Dec.{eqb, leb}
 use lib.ListN.{length, getD, take, drop}
 use lib.Seq.{take-add, drop-length}
 use borrow.Author.Tests.{eqb-true, le-leb, lt-ltb, eq-eqb}
+use Rattle.facts.specs.Lists.{isNil, every, distinct}
+use Rattle.facts.proofs.Bools.{and-left}
+use Rattle.facts.proofs.Lists.{every-same}
 use Rattle.classes.specs.declared.Shape.{Shape}
 use Rattle.classes.specs.Sound.{Sound}
 use Rattle.fields.specs.Field.{arena, class, page, frontier, state, holes, holePages, held, partial, empty, emptyCount, cold, coldCount, next, prev, free, carved, listed, virgin, get, put, words}
-use Rattle.fields.proofs.Laws.{and-left}
 use Rattle.fields.proofs.Changes.{Changes, changes-none, changes-trans}
-use Rattle.model.specs.Lists.{every, distinct, isNil}
 use Rattle.model.specs.Release.{ofKind}
 use Rattle.arena.specs.Fair.{recordFair, giveFair}
 use Rattle.arena.specs.Calls.{given}
@@ -31,7 +32,7 @@ use Rattle.release.specs.Asks.{InAsks, ClassAsks, hasBit, RestoreAsks, R
 use Rattle.release.specs.Fair.{FairAsks}
 use Rattle.release.specs.Act.{settleAt, SettleAsks, RunAsks, Parked, Answered}
 use Rattle.pages.proofs.Marks.{isMark}
-use Rattle.release.proofs.Bits.{every-same, bit-kept, whole-kept}
+use Rattle.release.proofs.Bits.{bit-kept, whole-kept}
 use Rattle.release.proofs.BlockSteps.{none-found, found-at}
 use Rattle.release.proofs.StrikeLaws.{strikes-all, restores, has-bits}
 use Rattle.release.proofs.RunLaws.{run-changes, run-struck, run-count, one-run, all-in-run, run-marks, within-arena}

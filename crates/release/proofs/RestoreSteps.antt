@@ -9,20 +9,21 @@ use lib.Dec.{ltb, leb}
 use lib.ListN.{length, getD, take, drop, length-drop}
 use lib.Seq.{take-suc, take-add}
 use borrow.Author.Tests.{leb-true, ltb-true, le-leb, eq-eqb, ne-eqb}
+use Rattle.facts.specs.Lists.{every}
+use Rattle.facts.proofs.Bools.{and-left, and-right}
+use Rattle.facts.proofs.Lists.{every-same}
 use Rattle.classes.specs.declared.Shape.{Shape}
 use Rattle.classes.specs.Sound.{Sound}
 use Rattle.fields.specs.Field.{page, out, first, get, put, words, Has}
 use Rattle.fields.specs.Ranges.{maxPages}
-use Rattle.fields.proofs.Laws.{and-left, and-right}
 use Rattle.fields.proofs.Changes.{Changes}
-use Rattle.model.specs.Lists.{every}
 use Rattle.pages.specs.Asks.{IndexAsks}
 use Rattle.pages.specs.Stack.{indexOf, pageAt}
 use Rattle.calls.specs.Release.{startOf, outAt}
 use Rattle.release.specs.Strike.{bitOf, struckCount, struck, restored, unstruck}
 use Rattle.release.specs.Asks.{hasBit, RestoreAsks, RestAsks, Rest, restCount, Struck}
 use Rattle.pages.proofs.Marks.{isMark}
-use Rattle.release.proofs.Bits.{put-bit, every-same, bit-kept}
+use Rattle.release.proofs.Bits.{put-bit, bit-kept}
 use Rattle.release.proofs.StrikeLaws.{struck-changes, restorable}
 
 -- ---- one word

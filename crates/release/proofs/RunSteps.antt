@@ -4,17 +4,18 @@ use native.Mathlib.Omega.{arith}
 use native.Mathlib.Decide.{ℕ-discrete}
 use native.Mathlib.Numerals.{add-one}
 use mathlib.Core.Bool.{Bool, true, false, _&&_, and-true, and-false, and-assoc}
-use mathlib.Core.List.{List, [], _∷_}
+use mathlib.Core.List.{List}
 use mathlib.Core.Path.{_≡_, refl, sym, ap, _∙_}
 use lib.Bits.{bitOr, bitXor, or-zero-l, or-add-and, xor-add-and, xor-self, and-le-l, and-le-r}
 use lib.Dec.{eqb}
 use lib.ListN.{length, getD, drop}
-use lib.Seq.{drop-cons, drop-nil}
+use lib.Seq.{drop-cons}
 use borrow.Author.Tests.{le-leb, lt-leb, lt-ltb, le-ltb, eq-eqb, ne-eqb}
+use Rattle.facts.specs.Lists.{every}
+use Rattle.facts.proofs.Lists.{drop-past}
 use Rattle.words.specs.Word.{kindOf}
 use Rattle.classes.specs.declared.Shape.{Shape}
 use Rattle.fields.specs.Field.{arena, page, frontier, first, get}
-use Rattle.model.specs.Lists.{every}
 use Rattle.model.specs.Release.{ofKind}
 use Rattle.pages.specs.Runs.{whole}
 use Rattle.pages.specs.Stack.{pageAt}
@@ -57,10 +58,6 @@ module _ (n : ℕ) (b : List ℕ) (c : ℕ) (sh : Shape) (w p : ℕ) (e : p ≡ 
         rw (starts-at, ← y, ← x, h, lt-ltb (pageAt w) n (rw e at h₁), lt-ltb (pageAt w) f (rw e at h₂), le-leb q (pageAt w) (rw e at h₃), lt-ltb (pageAt w) (q + sh .pages) (omega arith))
 
 -- ---- lists
-pub drop-past : (ws : List ℕ) (i : ℕ) → length ws ≤ i → drop i ws ≡ []
-drop-past [] i h = drop-nil i
-drop-past (w ∷ ws) zero h = absurd (omega arith)
-drop-past (w ∷ ws) (suc i) h = drop-past ws i (omega arith)
 
 -- ---- number 9
 or-none : (a d : ℕ) → eqb (bitOr a d) 0 ≡ (eqb a 0 && eqb d 0)

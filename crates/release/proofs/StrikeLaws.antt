@@ -10,14 +10,16 @@ use mathlib.Core.Path.{_≡_, refl, sym, ap, _∙_}
 use lib.Dec.{eqb, ltb, leb, eqb·zero-suc, eqb·suc-suc}
 use lib.ListN.{length, take}
 use borrow.Author.Tests.{leb-true, ltb-true, eqb-true, lt-ltb, eq-eqb, ne-eqb, le-leb}
+use Rattle.facts.specs.Lists.{every, elem, distinct}
+use Rattle.facts.proofs.Bools.{and-left, and-right}
+use Rattle.facts.proofs.Lists.{every-same}
 use Rattle.words.specs.Word.{kindOf}
 use Rattle.classes.specs.declared.Shape.{Shape}
 use Rattle.classes.specs.Sound.{Sound}
 use Rattle.fields.specs.Field.{arena, out, frontier, get, put, same, words}
 use Rattle.fields.specs.Ranges.{maxPages}
-use Rattle.fields.proofs.Laws.{and-left, and-right, get-put-same, get-put-other, put-put-same, put-get, length-put}
+use Rattle.fields.proofs.Laws.{get-put-same, get-put-other, put-put-same, put-get, length-put}
 use Rattle.fields.proofs.Changes.{Changes, changes-none, changes-trans, same-eq}
-use Rattle.model.specs.Lists.{every, elem, distinct}
 use Rattle.model.specs.Release.{ofKind}
 use Rattle.pages.specs.Runs.{whole}
 use Rattle.pages.specs.Stack.{indexOf, pageAt, isBlock}
@@ -25,7 +27,7 @@ use Rattle.calls.specs.Release.{startOf, inRunOf, outAt}
 use Rattle.release.specs.Strike.{bitOf, struckCount, struck, restored, unstruck}
 use Rattle.release.specs.Asks.{hasBit}
 use Rattle.pages.proofs.Marks.{isMark}
-use Rattle.release.proofs.Bits.{put-bit, every-same, start-kept, in-run-kept, out-in, below-capacity, one-word, bit-kept}
+use Rattle.release.proofs.Bits.{put-bit, start-kept, in-run-kept, out-in, below-capacity, one-word, bit-kept}
 
 -- ---- tautologies
 and-swap : (a x y : Bool) → (a && (x && y)) ≡ (x && (a && y))

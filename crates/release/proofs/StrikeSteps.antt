@@ -9,11 +9,11 @@ use lib.Dec.{ltb, leb}
 use lib.ListN.{length, getD, drop, length-drop}
 use borrow.Author.Tests.{leb-true}
 use lib.Seq.{drop-cons, drop-drop}
+use Rattle.facts.proofs.Bools.{and-left, and-right}
 use Rattle.classes.specs.declared.Shape.{Shape}
 use Rattle.fields.specs.Field.{arena, frontier, words, get, put}
 use Rattle.classes.specs.Sound.{Sound}
 use Rattle.fields.specs.Ranges.{maxPages}
-use Rattle.fields.proofs.Laws.{and-left, and-right}
 use Rattle.pages.specs.Runs.{whole}
 use Rattle.pages.specs.Stack.{pageAt}
 use Rattle.calls.specs.Release.{startOf, outIn, inRunOf, outAt}

@@ -7,12 +7,12 @@ use mathlib.Core.Bool.{Bool, true, false, not, _&&_}
 use mathlib.Core.List.{List}
 use mathlib.Core.Path.{_≡_}
 use lib.ListN.{length}
+use Rattle.facts.specs.Lists.{isNil, every}
 use Rattle.words.specs.Host.{discardZeroed}
 use Rattle.classes.specs.declared.Shape.{Shape}
 use Rattle.classes.specs.Sound.{Sound}
 use Rattle.fields.specs.Field.{arena, class, page, frontier, coldCount, words, get}
 use Rattle.fields.specs.Ranges.{maxPages, maxParked}
-use Rattle.model.specs.Lists.{every, isNil}
 use Rattle.model.specs.Page.{isMedium}
 use Rattle.model.specs.Release.{ofKind}
 use Rattle.pages.specs.declared.Park.{Park}

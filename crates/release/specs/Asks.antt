@@ -5,11 +5,11 @@ use mathlib.Core.List.{List}
 use mathlib.Core.Path.{_≡_}
 use lib.Dec.{eqb, ltb, leb}
 use lib.ListN.{length, take, drop}
+use Rattle.facts.specs.Lists.{every}
 use Rattle.classes.specs.declared.Shape.{Shape}
 use Rattle.classes.specs.Sound.{Sound}
 use Rattle.fields.specs.Field.{words, put}
 use Rattle.fields.specs.Ranges.{maxPages}
-use Rattle.model.specs.Lists.{every}
 use Rattle.pages.specs.Stack.{indexOf, pageAt, pageSlots}
 use Rattle.calls.specs.Release.{startOf, outIn}
 use Rattle.release.specs.Strike.{bitIn, countIn, struckIn, struckCount, struck, unstruck}

@@ -1,4 +1,4 @@
--- The ways out of a commit's steps, and what they ask of each other. Assumes nothing.
+-- The ways out of a commit's steps, and what they ask of each other.
 use Prim.Native.Nat.{ℕ, zero, suc, _+_, _-_, _≤_, _<_}
 use native.Mathlib.Omega.{arith}
 use mathlib.Core.Bool.{Bool, true, false}
@@ -7,9 +7,9 @@ use mathlib.Core.Path.{_≡_, refl, sym, ap, _∙_, subst}
 use lib.Dec.{ltb}
 use lib.ListN.{length}
 use borrow.Author.Tests.{lt-ltb, le-ltb, le-leb, lt-leb, eq-eqb, ne-eqb}
+use Rattle.facts.proofs.Bools.{by-cases}
 use Rattle.words.specs.Host.{reservationGranted, commitGranted}
 use Rattle.fields.specs.Field.{arena, held, put}
-use Rattle.model.proofs.Counts.{by-cases}
 use Rattle.arena.specs.declared.Arena.{Arena}
 use Rattle.arena.specs.declared.Plan.{Plan}
 use Rattle.runs.specs.declared.Request.{Request}

@@ -1,4 +1,4 @@
--- The ways out of a commit for an owner and of a growth, and what they ask of the steps. Assumes nothing.
+-- The ways out of a commit for an owner and of a growth, and what they ask of the steps.
 use Prim.Native.Nat.{ℕ, _+_, _≤_, _<_}
 use native.Mathlib.Omega.{arith}
 use mathlib.Core.Bool.{Bool, true, false, cond}
@@ -6,9 +6,9 @@ use mathlib.Core.List.{List}
 use mathlib.Core.Path.{_≡_, refl, sym, ap, _∙_, subst}
 use lib.Dec.{leb}
 use borrow.Author.Tests.{le-leb, lt-leb, eq-eqb, ne-eqb}
+use Rattle.facts.proofs.Bools.{by-cases}
 use Rattle.words.specs.Limits.{maxPages, holeSlots, rememberedMax}
 use Rattle.fields.specs.Field.{arena, held, get}
-use Rattle.model.proofs.Counts.{by-cases}
 use Rattle.arena.specs.declared.Arena.{Arena}
 use Rattle.arena.specs.declared.Plan.{Plan}
 use Rattle.runs.specs.declared.Commit.{Commit}

@@ -1,15 +1,15 @@
--- The ways out of giving, growing and the direct calls. Assumes nothing.
+-- The ways out of giving, growing and the direct calls.
 use Prim.Native.Nat.{ℕ, zero, suc, _+_, _-_, _≤_, _<_}
 use native.Mathlib.Omega.{arith}
-use mathlib.Core.Bool.{Bool, true, false, _&&_}
+use mathlib.Core.Bool.{Bool, true, false}
 use mathlib.Core.List.{List}
 use mathlib.Core.Path.{_≡_, refl, sym, ap, _∙_}
 use lib.Dec.{leb}
 use borrow.Author.Tests.{le-leb, lt-leb, leb-true, eq-eqb, ne-eqb}
+use Rattle.facts.proofs.Bools.{and-left, and-right, and-no}
 use Rattle.model.specs.Heap.{direct}
 use Rattle.arena.specs.Owners.{ownerCode}
 use Rattle.fields.specs.Field.{arena, page, owner, frontier, held, get, put}
-use Rattle.model.proofs.Counts.{and-l, and-r}
 use Rattle.arena.specs.declared.Arena.{Arena}
 use Rattle.arena.specs.Record.{recordOf, storeRecord}
 use Rattle.arena.specs.Fair.{recordFair, giveFair}
@@ -18,10 +18,6 @@ use Rattle.arena.specs.Calls.{given, everyDirect, heldDirect}
 use Rattle.arena.specs.Act.{Gives, givenWith, giveActs}
 use Rattle.runs.specs.Asks.{GiveIn, LoadedIn}
 use Rattle.arena.proofs.Acts.{fair-record, give-acts}
-
-and-false : (a : Bool) → (a && false) ≡ false
-and-false true = refl
-and-false false = refl
 
 -- ---- giving
 module _ (n : ℕ) (b : List ℕ) (m : ℕ) where
@@ -41,9 +37,9 @@ gives-loaded b a d q m x y z v r g e f o =
 pub loaded-in : (b : List ℕ) (n : ℕ) (a : Arena) (d q m : ℕ) → GiveIn b n q m → a ≡ recordOf b → d ≡ get b (arena held) → LoadedIn b a d q m
 unfolding giveFair
 loaded-in b n a d q m k e f =
-    let z = fair-record n b (and-l _ _ (k .fair)) in
+    let z = fair-record n b (and-left _ _ (k .fair)) in
     let t : a .total ≡ recordOf b .total = ap (λ y. y .total) e in
-    let u = leb-true m (get b (arena held)) (and-r (recordFair n b) _ (k .fair)) in
+    let u = leb-true m (get b (arena held)) (and-right (recordFair n b) _ (k .fair)) in
     let l₁ = k .long in
     let l₂ = k .small in
     let l₃ = k .inside in
@@ -53,7 +49,7 @@ loaded-in b n a d q m k e f =
 pub given-is : (b x : List ℕ) (n : ℕ) (a : Arena) (d q m : ℕ) → GiveIn b n q m → a ≡ recordOf b → d ≡ get b (arena held) → x ≡ givenWith b a d q m → x ≡ given b q m
 unfolding giveFair giveActs
 given-is b x n a d q m k e f g =
-    g ∙ ap (λ y. givenWith b y d q m) e ∙ ap (λ y. givenWith b (recordOf b) y q m) f ∙ sym (give-acts n b (le-leb _ _ (k .long)) (fair-record n b (and-l _ _ (k .fair))) q m)
+    g ∙ ap (λ y. givenWith b y d q m) e ∙ ap (λ y. givenWith b (recordOf b) y q m) f ∙ sym (give-acts n b (le-leb _ _ (k .long)) (fair-record n b (and-left _ _ (k .fair))) q m)
 
 -- ---- the pages of a run, the last one first
 pub record Looking (b : List ℕ) (q m left : ℕ) : Type 0 where
@@ -97,7 +93,7 @@ module _ (n : ℕ) (b : List ℕ) (q m : ℕ) where
 
   pub direct-above : (f : ℕ) → f ≡ get b (arena frontier) → f < q + m → false ≡ heldDirect n b q m
   unfolding heldDirect
-  direct-above f e l = simp (← e, lt-leb (q + m) f l, and-false)
+  direct-above f e l = simp (← e, lt-leb (q + m) f l, and-no)
 
   pub direct-is : (f : ℕ) (r : Bool) → m ≤ n → q ≤ n - m → f ≡ get b (arena frontier) → q + m ≤ f → r ≡ everyDirect b q m → r ≡ heldDirect n b q m
   unfolding heldDirect

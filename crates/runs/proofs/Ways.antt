@@ -1,13 +1,14 @@
--- The ways out of the functions, over plain values. Assumes nothing.
+-- The ways out of the functions, over plain values.
 use Prim.Native.Nat.{ℕ, zero, suc, _+_, _-_, _≤_, _<_}
 use native.Mathlib.Omega.{arith}
 use native.Mathlib.Numerals.{add-one}
-use mathlib.Core.Bool.{Bool, true, false, _&&_}
+use mathlib.Core.Bool.{false}
 use mathlib.Core.List.{List}
 use mathlib.Core.Path.{_≡_, refl, _∙_}
 use lib.Dec.{leb}
 use lib.ListN.{length}
 use borrow.Author.Tests.{lt-ltb, le-ltb, le-leb, lt-leb}
+use Rattle.facts.proofs.Bools.{and-no}
 use Rattle.words.specs.Limits.{holeSlots, holePagesMax, rememberedMax}
 use Rattle.fields.specs.Field.{arena, memory, page, owner, state, frontier, holes, holePages, held, get, put}
 use Rattle.fields.proofs.Laws.{length-put}
@@ -17,10 +18,6 @@ use Rattle.arena.specs.Fair.{recordFair}
 use Rattle.arena.specs.Owners.{own}
 use Rattle.arena.specs.Act.{rememberWord, recallWord, withHoles, appendWords, giveWords, giveRecord, Gives}
 
-and-false : (a : Bool) → (a && false) ≡ false
-and-false true = refl
-and-false false = refl
-
 -- ---- the record's test: one failing word is enough
 module _ (n : ℕ) (b : List ℕ) where
   pub no-state : (s : ℕ) → s ≡ get b (arena state) → 2 < s → false ≡ recordFair n b
@@ -29,15 +26,15 @@ module _ (n : ℕ) (b : List ℕ) where
 
   pub no-frontier : (f : ℕ) → f ≡ get b (arena frontier) → n < f → false ≡ recordFair n b
   unfolding recordFair
-  no-frontier f e l = simp (← e, lt-leb f n l, and-false)
+  no-frontier f e l = simp (← e, lt-leb f n l, and-no)
 
   pub no-holes : (k : ℕ) → k ≡ get b (arena holes) → holeSlots < k → false ≡ recordFair n b
   unfolding recordFair
-  no-holes k e l = simp (← e, lt-leb k holeSlots l, and-false)
+  no-holes k e l = simp (← e, lt-leb k holeSlots l, and-no)
 
   pub no-pages : (t : ℕ) → t ≡ get b (arena holePages) → holePagesMax < t → false ≡ recordFair n b
   unfolding recordFair
-  no-pages t e l = simp (← e, lt-leb t holePagesMax l, and-false)
+  no-pages t e l = simp (← e, lt-leb t holePagesMax l, and-no)
 
   pub all-fair : (s f k t d : ℕ) → s ≡ get b (arena state) → s ≤ 2 → f ≡ get b (arena frontier) → f ≤ n → k ≡ get b (arena holes) → k ≤ holeSlots
       → t ≡ get b (arena holePages) → t ≤ holePagesMax → d ≡ get b (arena held) → leb d n ≡ recordFair n b
@@ -102,7 +99,7 @@ module _ (b : List ℕ) (a : Arena) (m q : ℕ) where
 
   pub gives-over : (r : Arena) → holePagesMax < a .total + m → r ≡ abandoning a → Gives b a m q b r
   unfolding giveWords giveRecord
-  gives-over r l e = let z = lt-leb (a .total + m) holePagesMax l in record { book = simp (z, and-false); top = simp (z, and-false) e }
+  gives-over r l e = let z = lt-leb (a .total + m) holePagesMax l in record { book = simp (z, and-no); top = simp (z, and-no) e }
 
   pub gives : (x : List ℕ) (r : Arena) → a .count < holeSlots → a .total + m ≤ holePagesMax → x ≡ appendWords b (a .count) m q → r ≡ withHoles (a .count + 1) (a .total + m) a
       → Gives b a m q x r

@@ -1,4 +1,4 @@
--- What the steps of a commit ask of the book, the record and the plan. Assumes nothing.
+-- What the steps of a commit ask of the book, the record and the plan.
 use Prim.Native.Nat.{ℕ, _+_, _≤_}
 use mathlib.Core.List.{List}
 use mathlib.Core.Bool.{true}

@@ -12,7 +12,7 @@ use Rattle.fields.specs.Mark.{markOut}
 use Rattle.fields.proofs.Laws.{length-put}
 use Rattle.model.specs.Page.{wordOf}
 use Rattle.pages.specs.Stack.{downs, marks, spliced, Gave}
-use Rattle.pages.specs.Asks.{NameAsks, MarkAsks}
+use Rattle.pages.specs.Asks.{NameAsks}
 use Rattle.pages.proofs.Downs.{length-downs}
 use Rattle.pages.proofs.Spliced.{spliced-none, spliced-one, spliced-twice}
 

@@ -10,13 +10,13 @@ use mathlib.Core.Path.{_≡_, refl, sym, ap, _∙_}
 use lib.Dec.{eqb, ltb, leb}
 use lib.ListN.{length, length-append}
 use borrow.Author.Tests.{lt-ltb, leb-true, eq-eqb, ne-eqb}
+use Rattle.facts.proofs.Bools.{by-cases, or-right}
 use Rattle.classes.specs.declared.Shape.{Shape}
 use Rattle.classes.specs.Sound.{Sound}
 use Rattle.fields.specs.Field.{Field, arena, class, page, out, frontier, partial, next, prev, free, carved, virgin, region, off, get, ok, words}
 use Rattle.fields.proofs.Laws.{get-put-same, get-put-other, length-put}
 use Rattle.fields.proofs.Outcome.{get-putAt-other}
 use Rattle.fields.proofs.Changes.{Changes, changes-trans}
-use Rattle.model.proofs.Counts.{by-cases}
 use Rattle.pages.specs.Stack.{latest, draw, hasMore}
 use Rattle.pages.specs.Links.{cutOut, unlink}
 use Rattle.pages.proofs.Draws.{draw-changes}
@@ -28,10 +28,6 @@ use Rattle.take.proofs.Walk.{Planned, planned, planned-stops, stops, st
 
 -- ---- the head of the list is cut out
 module _ (n : ℕ) (b : List ℕ) (hb : leb (words n) (length b) ≡ true) (c : ℕ) (hc : ltb c 76 ≡ true) (q x : ℕ) (hq : ltb q n ≡ true) (first : get b (page prev q) ≡ 0) (after : get b (page next q) ≡ x) where
-  or-right : (s t : Bool) → t ≡ true → (s || t) ≡ true
-  or-right true t e = refl
-  or-right false t e = e
-
   pub unlink-changes : Changes (isTurned c q x) b (unlink b c q)
   unlink-changes =
       let qq = eq-eqb q q refl in

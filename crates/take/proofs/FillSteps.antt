@@ -8,10 +8,10 @@ use lib.Dec.{eqb}
 use lib.ListN.{length, take, drop, length-append}
 use lib.Seq.{length-take-le, drop-at}
 use borrow.Author.Tests.{lt-ltb, le-leb, leb-true, not-true, not-false}
+use Rattle.facts.proofs.Bools.{by-cases}
 use Rattle.classes.specs.declared.Shape.{Shape}
 use Rattle.fields.specs.Field.{arena, class, page, frontier, partial, next, prev, free, carved, virgin, words, get}
 use Rattle.model.specs.Page.{wordOf}
-use Rattle.model.proofs.Counts.{by-cases}
 use Rattle.pages.specs.Stack.{latest, draw, hasMore, spliced, Drawn}
 use Rattle.pages.specs.Links.{unlink}
 use Rattle.pages.specs.Asks.{DrawAsks, UnlinkAsks}

@@ -7,10 +7,10 @@ use mathlib.Core.Path.{_≡_, refl, sym, ap, _∙_}
 use lib.Dec.{eqb, ltb, leb}
 use lib.ListN.{length}
 use borrow.Author.Tests.{lt-ltb, le-leb, lt-leb, leb-true, eq-eqb, ne-eqb, not-true, not-false}
+use Rattle.facts.specs.Lists.{every}
+use Rattle.facts.proofs.Bools.{by-cases, and-left, and-right}
 use Rattle.classes.specs.declared.Shape.{Shape}
 use Rattle.fields.specs.Field.{arena, class, page, frontier, partial, next, prev, free, carved, listed, virgin, words, Has, get}
-use Rattle.model.specs.Lists.{every}
-use Rattle.model.proofs.Counts.{by-cases, and-l, and-r}
 use Rattle.pages.specs.Runs.{whole}
 use Rattle.pages.specs.Stack.{tops, latest, hasMore}
 use Rattle.pages.proofs.Draws.{latest-length}
@@ -84,7 +84,7 @@ module _ (n : ℕ) (b : List ℕ) (c : ℕ) (sh : Shape) (l m q : ℕ) where
   pub header-tops : (w h : Bool) (f : ℕ) → TakeAsks n b c sh → w ≡ whole n b sh c q → not w ≡ false → h ≡ pageReady b sh l q → not h ≡ false → f ≡ get b (page free q) → TopsAsks b q f
   unfolding pageReady
   header-tops w h f a e t e′ t′ e″ =
-      let u = and-l (headerFair b sh 0 q) _ (sym e′ ∙ not-false h t′) in
+      let u = and-left (headerFair b sh 0 q) _ (sym e′ ∙ not-false h t′) in
       record { there = run-there w a e t; slots = omega (arith, room-left b sh 0 q u, carved-low b sh 0 q u, a .shape .few) }
 
   pub sound-supply : (s : Bool) → TakeAsks n b c sh → s ≡ sound n b c sh l m q → not s ≡ false → SupplyAsks b sh q
@@ -141,9 +141,9 @@ module _ (n : ℕ) (b : List ℕ) (c : ℕ) (sh : Shape) where
   found j m code y e h =
       by-cases (leb code (get b (arena frontier)) && (eqb (get b (page prev (code - 1))) y && sound n b c sh 1 m (code - 1)))
       (λ t. record {
-        below = and-l _ _ t;
-        before = and-l _ _ (and-r (leb code (get b (arena frontier))) _ t);
-        sound = and-r (eqb (get b (page prev (code - 1))) y) _ (and-r (leb code (get b (arena frontier))) _ t);
+        below = and-left _ _ t;
+        before = and-left _ _ (and-right (leb code (get b (arena frontier))) _ t);
+        sound = and-right (eqb (get b (page prev (code - 1))) y) _ (and-right (leb code (get b (arena frontier))) _ t);
         blocks = rw t at e;
       })
       (λ t. absurd (h (rw t at e)))

@@ -9,10 +9,10 @@ use mathlib.Core.Path.{_≡_, _∙_}
 use lib.Dec.{eqb, ltb, leb}
 use lib.ListN.{length}
 use borrow.Author.Tests.{ltb-true, leb-true, eqb-true, eqb-false}
+use Rattle.facts.specs.Lists.{every}
+use Rattle.facts.proofs.Bools.{by-cases}
 use Rattle.classes.specs.declared.Shape.{Shape}
 use Rattle.fields.specs.Field.{page, free, carved, get, words}
-use Rattle.model.specs.Lists.{every}
-use Rattle.model.proofs.Counts.{by-cases}
 use Rattle.pages.specs.Stack.{tops, latest, draw, hasMore}
 use Rattle.pages.proofs.Downs.{small, every-below}
 use Rattle.pages.proofs.Draws.{latest-length, latest-below, draw-free, draw-carved}

@@ -12,13 +12,13 @@ use mathlib.Core.Path.{_≡_, refl, ap, _∙_, subst}
 use lib.Dec.{eqb, ltb, leb}
 use lib.ListN.{length}
 use borrow.Author.Tests.{lt-ltb, leb-true, eqb-false, ne-eqb}
+use Rattle.facts.proofs.Bools.{by-cases}
 use Rattle.words.specs.Host.{commitGranted}
 use Rattle.fields.specs.Field.{arena, memory, class, hole, page, frontier, held, partial, owner, start, pages, get, put, words}
 use Rattle.fields.proofs.Laws.{get-put-same, get-put-other, length-put}
 use Rattle.fields.proofs.Changes.{Changes, changes-none, changes-put}
 use Rattle.model.specs.HoleStore as Model
 use Rattle.model.specs.declared.Hole.{Hole}
-use Rattle.model.proofs.Counts.{by-cases}
 use Rattle.arena.specs.declared.Arena.{Arena}
 use Rattle.arena.specs.declared.Plan.{Plan}
 use Rattle.arena.specs.Store.{storeHole, storeCounts, storeTop}

@@ -7,15 +7,15 @@ use mathlib.Core.Path.{_≡_, refl, ap, _∙_}
 use lib.Dec.{eqb, ltb, leb}
 use lib.ListN.{length}
 use borrow.Author.Tests.{lt-ltb, le-leb, eq-eqb, ne-eqb}
+use Rattle.facts.specs.Lists.{every}
+use Rattle.facts.proofs.Bools.{by-cases}
 use Rattle.classes.specs.declared.Shape.{Shape}
 use Rattle.classes.specs.Sound.{Sound}
 use Rattle.fields.specs.Field.{Field, arena, page, slot, frontier, owner, first, free, carved, listed, virgin, region, off, get, put, words}
 use Rattle.fields.proofs.Laws.{get-put-same, get-put-other, length-put}
 use Rattle.fields.proofs.Changes.{Changes}
 use Rattle.model.specs.Lists as Lists
-use Rattle.model.specs.Lists.{every}
 use Rattle.model.specs.Page.{isMedium}
-use Rattle.model.proofs.Counts.{by-cases}
 use Rattle.words.specs.Host.{digit}
 use Rattle.pages.specs.Runs.{ofRun, whole}
 use Rattle.pages.specs.Stack.{tops, downs, push, hasMore}

@@ -10,10 +10,10 @@ use mathlib.Core.Path.{_≡_, refl, _∙_}
 use lib.Dec.{eqb, ltb, leb}
 use lib.ListN.{length}
 use borrow.Author.Tests.{lt-ltb, ltb-true, le-leb, leb-true, eq-eqb, eqb-true, eqb-false}
+use Rattle.facts.specs.Lists.{every, below}
+use Rattle.facts.proofs.Bools.{by-cases, and-left, and-right}
 use Rattle.classes.specs.declared.Shape.{Shape}
 use Rattle.fields.specs.Field.{arena, page, slot, frontier, owner, first, free, carved, listed, virgin, get}
-use Rattle.model.specs.Lists.{every, below}
-use Rattle.model.proofs.Counts.{by-cases, and-l, and-r}
 use Rattle.pages.specs.Runs.{ofRun, whole}
 use Rattle.pages.specs.Stack.{tops, latest, hasMore}
 use Rattle.pages.proofs.Tops.{tops-kept}
@@ -34,18 +34,18 @@ pub record Fair (n : ℕ) (b : List ℕ) (c : ℕ) (sh : Shape) (l m q : ℕ) : 
 pub sound-fair : (n : ℕ) (b : List ℕ) (c : ℕ) (sh : Shape) (l m q : ℕ) → sound n b c sh l m q ≡ true → Fair n b c sh l m q
 unfolding sound pageReady
 sound-fair n b c sh l m q e =
-    let e₁ = and-r (whole n b sh c q) _ e in
-    let e₂ = and-l (pageReady b sh l q) _ e₁ in
-    let h = and-l (headerFair b sh 0 q) _ e₂ in
-    let e₃ = and-r (headerFair b sh 0 q) _ e₂ in
+    let e₁ = and-right (whole n b sh c q) _ e in
+    let e₂ = and-left (pageReady b sh l q) _ e₁ in
+    let h = and-left (headerFair b sh 0 q) _ e₂ in
+    let e₃ = and-right (headerFair b sh 0 q) _ e₂ in
     record {
-      run = and-l _ _ e;
-      listing = and-l _ _ e₃;
+      run = and-left _ _ e;
+      listing = and-left _ _ e₃;
       stack = le-leb (get b (page free q)) (get b (page carved q)) (omega (arith, room-left b sh 0 q h));
       within = le-leb (get b (page carved q)) (sh .capacity) (carved-low b sh 0 q h);
       clean = le-leb (get b (page virgin q)) 1 (virgin-low b sh 0 q h);
-      more = and-r (eqb (get b (page listed q)) l) _ e₃;
-      entries = and-r (pageReady b sh l q) _ e₁;
+      more = and-right (eqb (get b (page listed q)) l) _ e₃;
+      entries = and-right (pageReady b sh l q) _ e₁;
     }
 
 pub fair-sound : (n : ℕ) (b : List ℕ) (c : ℕ) (sh : Shape) (l m q : ℕ) → Fair n b c sh l m q → sound n b c sh l m q ≡ true
@@ -58,7 +58,7 @@ fair-sound n b c sh l m q f =
 -- ---- a run
 pub whole-below : (n : ℕ) (b : List ℕ) (c : ℕ) (sh : Shape) (q : ℕ) → whole n b sh c q ≡ true → q + sh .pages ≤ n
 unfolding whole
-whole-below n b c sh q e = leb-true (q + sh .pages) n (and-l _ _ e)
+whole-below n b c sh q e = leb-true (q + sh .pages) n (and-left _ _ e)
 
 -- ---- two books
 pub record Alike (b b′ : List ℕ) (q : ℕ) : Type 0 where

@@ -7,11 +7,11 @@ use mathlib.Core.Path.{_≡_, refl, sym, ap, _∙_}
 use lib.Dec.{eqb, ltb, leb}
 use lib.ListN.{length}
 use borrow.Author.Tests.{lt-ltb, le-leb, leb-true, ne-eqb, eqb-true, eqb-false, not-true, not-false}
+use Rattle.facts.proofs.Bools.{and-left, and-right}
 use Rattle.classes.specs.declared.Shape.{Shape}
 use Rattle.fields.specs.Field.{Field, arena, class, page, slot, frontier, partial, owner, first, next, free, carved, listed, virgin, region, get, words, Has}
 use Rattle.fields.proofs.Laws.{get-put-other}
 use Rattle.fields.proofs.Changes.{Changes}
-use Rattle.model.proofs.Counts.{and-l, and-r}
 use Rattle.pages.specs.Stack.{latest}
 use Rattle.pages.specs.Links.{top, stored, unstow}
 use Rattle.pages.specs.declared.Park.{Park}
@@ -41,7 +41,7 @@ module _ (n : ℕ) (b : List ℕ) (c : ℕ) (sh : Shape) (k : Park) where
 
   pub next-there : (t : Bool) (x : ℕ) → ParkedAsks n b c sh k → t ≡ storeFair b c k → not t ≡ false → x ≡ get b (class (top k) c) → Has b (page next (x - 1))
   next-there t x a e h j =
-      let z = leb-true (get b (class (top k) c)) (get b (arena frontier)) (and-l _ _ (sym e ∙ not-false t h)) in
+      let z = leb-true (get b (class (top k) c)) (get b (arena frontier)) (and-left _ _ (sym e ∙ not-false t h)) in
       omega (arith, a .some, a .asks .bound, a .asks .long)
 
   pub fair-next : (t : Bool) (m x : ℕ) (s : Bool) (y f : ℕ) → t ≡ storeFair b c k → not t ≡ false → m ≡ get b (class (stored k) c) → (m ≡ 0 → ⊥) → x ≡ get b (class (top k) c)
@@ -89,19 +89,19 @@ module _ (n : ℕ) (b : List ℕ) (c : ℕ) (sh : Shape) (k : Park) (a : ParkedA
 
   some-pages : get b (class (stored k) c) ≡ 0 → ⊥
   unfolding parkFair
-  some-pages z = let t = and-l _ _ (and-r (storeFair b c k) _ p) in eqb-false _ _ (not-true _ t) z
+  some-pages z = let t = and-left _ _ (and-right (storeFair b c k) _ p) in eqb-false _ _ (not-true _ t) z
 
   parked-fair : Fair n b c sh 0 (sh .batch) newest
   unfolding parkFair
   parked-fair =
       sound-fair n b c sh 0 (sh .batch) newest
-      (and-l _ _
-      (and-r (not (eqb (get b (class (stored k) c)) 0)) _
-      (and-r (storeFair b c k) _ p)))
+      (and-left _ _
+      (and-right (not (eqb (get b (class (stored k) c)) 0)) _
+      (and-right (storeFair b c k) _ p)))
 
   below-top : get b (class (top k) c) ≤ get b (arena frontier)
   unfolding parkFair
-  below-top = leb-true (get b (class (top k) c)) (get b (arena frontier)) (and-l _ _ (and-l (storeFair b c k) _ p))
+  below-top = leb-true (get b (class (top k) c)) (get b (arena frontier)) (and-left _ _ (and-left (storeFair b c k) _ p))
 
   there : newest < n
   there = omega (arith, whole-below n b c sh newest (parked-fair .run), a .asks .shape .paged)

@@ -10,8 +10,8 @@ use mathlib.Core.List.{List}
 use mathlib.Core.Path.{_≡_, refl, sym, ap, ap₂, _∙_}
 use lib.Dec.{ltb}
 use borrow.Author.Tests.{not-true, not-false}
+use Rattle.facts.specs.Lists.{every}
 use Rattle.fields.specs.Field.{slot, get}
-use Rattle.model.specs.Lists.{every}
 use Rattle.pages.specs.Stack.{tops}
 use Rattle.pages.proofs.Tops.{tops-cut}
 

@@ -7,10 +7,10 @@ use mathlib.Core.Path.{_≡_, refl, sym, ap, _∙_}
 use lib.Dec.{eqb, ltb}
 use lib.ListN.{length, getD}
 use borrow.Author.Tests.{ltb-true, eqb-true, lt-ltb, le-leb}
+use Rattle.facts.specs.Lists.{every}
+use Rattle.facts.proofs.Bools.{and-left, and-right}
 use Rattle.words.specs.Word.{pageOf}
 use Rattle.fields.specs.Field.{page, tally, word, words}
-use Rattle.fields.proofs.Laws.{and-left, and-right}
-use Rattle.model.specs.Lists.{every}
 use Rattle.pages.proofs.Downs.{every-mono}
 use Rattle.pages.specs.Stack.{pageAt}
 use Rattle.tally.specs.Match.{onPage, MatchAsks, Matched}

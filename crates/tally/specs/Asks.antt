@@ -6,9 +6,9 @@ use mathlib.Core.List.{List, map}
 use mathlib.Core.Path.{_≡_}
 use lib.Dec.{eqb, ltb}
 use lib.ListN.{length, getD}
+use Rattle.facts.specs.Lists.{every, count}
 use Rattle.words.specs.Word.{pageOf}
 use Rattle.fields.specs.Field.{page, tally, word, Has}
-use Rattle.model.specs.Lists.{every, count}
 use Rattle.model.specs.Chunks.{chunksMax}
 use Rattle.pages.specs.Stack.{pageAt}
 use Rattle.tally.specs.Tally.{tallyIn, named, Saved, chunkAt, hasChunk}

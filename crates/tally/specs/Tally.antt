@@ -11,9 +11,9 @@ use mathlib.Core.List.{List, [], _∷_, map}
 use mathlib.Core.Path.{_≡_}
 use lib.Dec.{eqb, ltb}
 use lib.ListN.{length, getD}
+use Rattle.facts.specs.Lists.{every, count, below}
 use Rattle.words.specs.Word.{countOf, pageOf}
 use Rattle.fields.specs.Field.{Field, page, tally, get, put}
-use Rattle.model.specs.Lists.{every, count, below}
 use Rattle.pages.specs.Stack.{pageAt}
 
 -- ---- naming

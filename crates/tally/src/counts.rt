@@ -2,7 +2,7 @@
 ghost use mathlib.Core.Path.{_≡_};
 ghost use Prim.Native.Nat.{_+_, _≤_};
 ghost use lib.ListN.{length, drop};
-ghost use Rattle.model.specs.Lists.{every, below};
+ghost use Rattle.facts.specs.Lists.{every, below};
 ghost use Rattle.tally.specs.Tally.{ofChunk, runOn, fits, tallied};
 ghost use Rattle.tally.specs.Asks.{CountAsks, Counted, OneAsks, FitAsks};
 use pages::page_at;

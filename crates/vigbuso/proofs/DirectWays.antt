@@ -1,4 +1,4 @@
--- The ways out of the exported calls that go straight to the arena. Assumes nothing.
+-- The ways out of the exported calls that go straight to the arena.
 use Prim.Native.Nat.{ℕ, zero, suc, _≤_}
 use native.Mathlib.Omega.{arith}
 use mathlib.Core.Bool.{Bool, true, false, cond}
@@ -10,11 +10,11 @@ use lib.ListN.{length}
 use mir.Val.{Fits, boolByte}
 use mir.Syntax.{w32}
 use borrow.Author.Tests.{leb-true, eq-eqb, ne-eqb}
+use Rattle.facts.proofs.Bools.{and-right}
 use Rattle.words.specs.Host.{digit}
 use Rattle.fields.specs.Field.{arena, size, get, Has, words}
 use Rattle.fields.specs.Outcome.{Did}
 use Rattle.fields.specs.Ranges.{within, between, maxPages, lengthFault, metaFault}
-use Rattle.fields.proofs.Laws.{and-right}
 use Rattle.fields.proofs.Sound.{sound}
 use Rattle.runs.specs.declared.Commit.{Commit}
 use Rattle.runs.specs.declared.Commit.the-variants.{Refused, Run, Nothing}

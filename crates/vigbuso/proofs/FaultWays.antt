@@ -1,4 +1,4 @@
--- The ways out of the tests that come first, and what is known where none applies. Assumes nothing.
+-- The ways out of the tests that come first, and what is known where none applies.
 --     call-book       no number from 1 to 3: neither 1 nor 2
 --     class-book, class-below    no number from 1 to 4: neither 1 nor 2, and the class is one of ours
 --     id-fits         so that its id is a number of 32 bits

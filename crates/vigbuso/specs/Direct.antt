@@ -1,6 +1,5 @@
 -- The exported calls that go straight to the arena, on any book and any numbers: the answer, the book and the out-parameters
 -- afterwards, refusals included. Numbers 1 to 3 come first; then the call is one on an arena of the length that the book holds.
--- Assumes nothing.
 use Prim.Native.Nat.{ℕ}
 use mathlib.Core.List.{List, [], _∷_}
 use mathlib.Core.Bool.{Bool, false, cond}

@@ -1,5 +1,4 @@
 -- The numbers that every call tests first: 1 and 2 (metaFault) for each, 3 where it has a host word, 4 where it names a class.
--- Assumes nothing.
 use Prim.Native.Nat.{ℕ}
 use mathlib.Core.Bool.{cond}
 use mathlib.Core.List.{List}

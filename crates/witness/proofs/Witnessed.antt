@@ -1,4 +1,4 @@
--- What the contract of each exported function says of a call is what the demands say of it. Assumes nothing.
+-- What the contract of each exported function says of a call is what the demands say of it.
 use Prim.Native.Nat.{ℕ}
 use mathlib.Core.List.{List}
 use mathlib.Core.Path.{_≡_, sym, _∙_}

@@ -2,7 +2,6 @@
 --     reservation-made, commit-made, done-made, zeroes-made, host-within    the answers of what is made; it is at most 15
 --     host-again             a host word of at most 15 from its answers
 --     set-bit, host-made     what the shifts of `new` give
--- Assumes nothing.
 use mathlib.Core.Bool.{Bool, true, false}
 use mathlib.Core.Path.{_≡_, refl, sym, ap, ap₂, _∙_}
 use Prim.Native.Nat.{ℕ, zero, suc, _+_, _*_, _/_, _%_, _^_, _≤_, _<_}

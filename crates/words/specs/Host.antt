@@ -1,4 +1,4 @@
--- The host word: the system's answers for one call (document 01, "What the editor lends"). Assumes nothing.
+-- The host word: the system's answers for one call (document 01, "What the editor lends").
 use Prim.Native.Nat.{ℕ, _+_, _*_, _/_, _%_, _^_}
 use mathlib.Core.Bool.{Bool, true, false, _&&_}
 use lib.Dec.{eqb, ltb}

@@ -1,4 +1,4 @@
--- Document 01's limits. Assumes nothing.
+-- Document 01's limits.
 use Prim.Native.Nat.{ℕ}
 
 -- the longest arena, in pages: number 1 is above it

@@ -1,6 +1,5 @@
 -- `holes::holes::put_hole` meets its contract: a walk of its MIR, by hand. The place of `holes[i]` is i * 8 past the slice's pointer; the borrow is opened, element i is
 -- taken out of the row and stored to, h is put in its place, and the borrow is closed at the list with h at i.
--- Assumes nothing.
 use Rattle.holes.proofs.Walk.{refl, sym, ap, subst, ℕ, _<_, _^_, List, [], _∷_, length, set, length-set, URA, fullShare, named, w64, tyPtr, Val, vunit, vint, vptr, SProp, ent, GName, Lft, Share, ftrue, fsep, fat, flft, fobs, fbor, Memory, Routine, Heap, WpFn, Tables, Atoms, Fun, givenOf, tables, tablesOf, Given, ‵, _⊛_, ⋆, _$_, _∵_, !, qed, by, move, keep, drop, split, join, rewrite, fsplit, fjoin, feqI, suffices, frame, done, whole, sub, look-in, look, init, store-raw, forget, stop, hop, fld, from, load, lit, unit-lit, of-opd, bin, assigns, returns, enter, alloc1, alloc0, params1, pass1, pass0, free1, free0, RattleType, owns, Is, shows, pureI, usize, place-is, elem-out, elem-put, opens-slice, closes-slice, Held, now, sliceVal, MutSlice, Room, heres, codedHoleys, at-slice, owned, nothing, Args, Vals, onEntry, says, needs, Takens, Ends, ends, shown, number, aHole, byValue, lentMut, lentAt, holeVals, scaled}
 use Rattle.holes.specs.Scan.{noHole}
 use Rattle.model.specs.declared.Hole.{Hole}

@@ -1,6 +1,5 @@
 -- `holes::holes::scan` meets its contract: a walk of its MIR, by hand, with a loop. The loop's invariant is over a record `Turn`: the index, the key that says the least fit of the holes before
 -- it, and the facts of them; the variant is what is left of the count. The loop's test is a call of `going`. The slice is Copy, so a turn hands `weigh` a copy with the lifetime's token, which comes back.
--- Assumes nothing.
 use Rattle.holes.proofs.Walk.{_≡_, refl, sym, subst, _∙_, ℕ, _+_, _-_, _<_, _≤_, _^_, arith, Bool, true, false, _&&_, List, [], _∷_, ltb, leb, length, getD, take, URA, fullShare, Ty, named, imm, w32, w64, tyInt, tyBool, tyRef, Val, vbool, vint, SProp, ent, id⊢, Lft, Share, Fml, ftrue, fat, froom, fdies, flft, ltb-true, Memory, Routine, afterTurn, Heap, Env, WpFn, Tables, Atoms, Fun, givenOf, tables, tablesOf, Given, Item, Sq, runs, atRet, ‵, _⊛_, ⋆, _$_, _∵_, !, qed, by, move, rewrite, fsplit, fjoin, suffices, frame, done, look, init, store, forget, stop, from, load, lit, neg-lit, of-opd, bin, and-then, no-more, first, blocks, stays, leaves-loop, exec, assigns, assigns-last, land, returns, enter, alloc1, alloc0, params1, pass1, pass0, free1, free0, again, fmOf, RattleType, owns, Is, pointee, u32, RefT, now, sliceTy, ShrSlice, shr-slice-lawful, shr-slice-copy, owned, Args, Vals, onEntry, Meets, says, needs, arg, holds, asks, asks-lent, calls-plain, calls-lent, by-test, Takens, Ends, ends, known, shown, number, truth, aBest, byValue, lent, machine, Lent}
 use lib.Dec.{lit<}
 use lib.Seq.{length-take-le}

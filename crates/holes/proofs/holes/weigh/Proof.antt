@@ -1,6 +1,5 @@
 -- `holes::holes::weigh` meets its contract: a walk of its MIR, by hand. A copy of what the slice owns goes to `hole_at` with the lifetime's token, which comes back, and a field of what
 -- that returns goes to `better`. Of both the proof knows only that each meets its contract.
--- Assumes nothing.
 use Rattle.holes.proofs.Walk.{_≡_, refl, ap, subst, _∙_, ℕ, _<_, _^_, arith, List, [], _∷_, length, getD, URA, named, w32, w64, Val, vint, SProp, ent, id⊢, Lft, Share, Fml, ftrue, flft, Memory, Routine, Heap, WpFn, Tables, Atoms, Fun, givenOf, tables, tablesOf, Given, ‵, _⊛_, ⋆, _$_, _∵_, !, qed, by, move, fsplit, fjoin, suffices, frame, done, whole, sub, look-in, look, init, forget, stop, fld, from, load, un, and-then, no-more, assigns, land, returns, enter, alloc1, alloc0, params1, pass1, pass0, free1, free0, fmOf, RattleType, owns, Is, u32, u64, RefT, now, ShrSlice, shr-slice-lawful, shr-slice-copy, owned, Args, Vals, onEntry, Meets, says, needs, arg, holds, asks, asks-lent, calls-plain, calls-lent, Takens, Ends, ends, known, shown, number, aHole, byValue, lent, machine, Lent}
 use denote.Struct.Laws as LL
 use Rattle.holes.specs.Scan.{noHole, betterOf}

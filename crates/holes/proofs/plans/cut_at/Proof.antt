@@ -1,5 +1,5 @@
 -- `holes::plans::cut_at` meets its contract: a walk of its MIR, by hand. The slice is lent on to `put_hole` as a `&mut [Hole]` and then to `scan` as a `&[Hole]`, each for a
--- lifetime that the walk makes and ends; the rest are numbers and records. Assumes nothing.
+-- lifetime that the walk makes and ends; the rest are numbers and records.
 use Rattle.holes.proofs.Walk.{_≡_, refl, sym, ap, subst, _∙_, ℕ, _-_, _<_, _≤_, _^_, arith, List, [], _∷_, length, set, take, URA, fullShare, named, erased, imm, w32, w64, tyRef, Val, vint, SProp, ent, id⊢, GName, Lft, Share, Fml, ftrue, fat, flft, fobs, fbor, Memory, Routine, Heap, WpFn, Tables, Atoms, Fun, givenOf, tables, tablesOf, Given, ‵, raw, _⊛_, ⋆, _$_, _∵_, !, qed, by, move, drop, use2, split, join, rewrite, fsplit, fjoin, feqL, suffices, frame, done, whole, sub, look-in, agg, look, init, forget, stop, hop, fld, from, load, addr, and-then, no-more, assigns, land, returns, enter, alloc1, alloc0, params1, pass1, pass0, free1, free0, fmOf, RattleType, owns, Is, pointee, pureI, u32, Held, now, sliceTy, sliceVal, ShrSlice, MutSlice, Room, heres, codedHoleys, at-slice, owned, nothing, Args, Vals, onEntry, Meets, says, needs, arg, holds, asks, asks-new, calls, calls-plain, Takens, Ends, ends, known, shown, number, unit, aHole, aBest, aPlan, byValue, lentMut, lentAt}
 use denote.Struct.Laws as LL
 use Rattle.model.specs.HoleStore.{leastFit}

@@ -1,5 +1,4 @@
 -- `holes::plans::hole_of` meets its contract: a walk of its MIR, by hand. A copy of what the slice owns goes to `hole_at` with the lifetime's token, which comes back.
--- Assumes nothing.
 use Rattle.holes.proofs.Walk.{_≡_, refl, sym, ap, subst, _∙_, ℕ, _-_, _<_, _^_, List, [], _∷_, length, getD, URA, named, w32, w64, Val, vint, SProp, ent, id⊢, Lft, Share, Fml, ftrue, flft, Memory, Routine, Heap, WpFn, Tables, Atoms, Fun, givenOf, tables, tablesOf, Given, ‵, _⊛_, ⋆, _$_, _∵_, !, qed, by, move, fsplit, fjoin, suffices, frame, done, look, init, forget, stop, from, load, and-then, no-more, land, returns, enter, alloc1, alloc0, params1, pass1, pass0, free1, free0, fmOf, RattleType, owns, Is, u32, RefT, now, ShrSlice, shr-slice-lawful, shr-slice-copy, owned, Vals, onEntry, Meets, says, needs, arg, holds, asks, asks-lent, calls-plain, calls-lent, Takens, Ends, ends, known, shown, number, aHole, byValue, lent, machine, Lent}
 use Rattle.holes.specs.Scan.{noHole, holeOf}
 use Rattle.model.specs.declared.Hole.{Hole}

@@ -1,5 +1,5 @@
 -- `holes::plans::pick` meets its contract: a walk of its MIR, by hand. A copy of what the slice owns goes to `choose` and twice to `hole_of` with the lifetime's token, which comes
--- back; the rest are numbers and records. Assumes nothing.
+-- back; the rest are numbers and records.
 use Rattle.holes.proofs.Walk.{_≡_, refl, sym, ap, subst, _∙_, ℕ, _-_, _<_, _≤_, _^_, arith, Bool, List, [], _∷_, length, take, URA, named, w32, Val, vbool, vint, SProp, ent, id⊢, Lft, Share, Fml, ftrue, flft, Memory, Routine, Heap, WpFn, Tables, Atoms, Fun, givenOf, tables, tablesOf, Given, ‵, _⊛_, ⋆, _$_, _∵_, !, qed, by, move, fsplit, fjoin, suffices, frame, done, look, init, forget, stop, from, load, and-then, no-more, land, returns, enter, alloc1, alloc0, params1, pass1, pass0, free1, free0, fmOf, RattleType, owns, Is, u32, bool, RefT, now, ShrSlice, shr-slice-lawful, shr-slice-copy, owned, Args, Vals, onEntry, Meets, says, needs, arg, holds, asks, asks-lent, calls-plain, calls-lent, Takens, Ends, ends, known, shown, number, truth, aHole, aPlan, byValue, lent, machine, Lent}
 use lib.Seq.{length-take-le}
 use Rattle.arena.specs.Load.{indexCode}

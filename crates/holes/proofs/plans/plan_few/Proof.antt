@@ -1,4 +1,4 @@
--- `holes::plans::plan_few` meets its contract: the walk of `Sized.antt`, at 64 holes. Assumes nothing.
+-- `holes::plans::plan_few` meets its contract: the walk of `Sized.antt`, at 64 holes.
 use Rattle.holes.proofs.Walk.{ℕ, _≤_, List, [], _∷_, length, URA, w32, w64, vint, SProp, ent, Lft, Share, ftrue, flft, Memory, Routine, Heap, Atoms, Fun, givenOf, tables, tablesOf, Given, ‵, _⊛_, ⋆, _$_, _∵_, !, qed, move, fjoin, suffices, frame, done, lit, Is, u32, RefT, now, owned, Bound, says, needs, Takens, Ends, ends, known, shown, number, aPlan, anArena, byValue, lent, machine, Lent}
 use lib.Dec.{lit<}
 use mir.Syntax.{int}

@@ -1,10 +1,10 @@
 -- `holes::plans::plan_in` meets its contract: a walk of its MIR, by hand. The slice of holes is lent on to `load_holes`, as a `&[Hole]` to `pick`, and to `cut_at`, each time for a
--- lifetime that the walk makes and ends. What is left in it is of no matter. Assumes nothing.
+-- lifetime that the walk makes and ends. What is left in it is of no matter.
+use Rattle.facts.specs.Lists.{every}
 use Rattle.holes.proofs.Walk.{_≡_, refl, sym, ap, subst, _∙_, ℕ, _-_, _<_, _≤_, _^_, arith, Bool, List, [], _∷_, length, set, take, URA, fullShare, named, erased, imm, mut, w32, tyRef, Val, vbool, vint, SProp, ent, id⊢, GName, Lft, Share, Fml, ftrue, fat, flft, fobs, fbor, Memory, Routine, Heap, WpFn, Tables, Atoms, Fun, givenOf, tables, tablesOf, Given, ‵, raw, _⊛_, ⋆, _$_, _∵_, !, qed, by, move, drop, use1, use2, split, join, rewrite, fsplit, fjoin, feqL, suffices, frame, done, whole, sub, look-in, agg, look, init, forget, stop, hop, fld, from, load, addr, and-then, no-more, assigns, land, returns, enter, alloc1, alloc0, params1, pass1, pass0, free1, free0, fmOf, RattleType, owns, Is, pointee, pureI, u32, Held, RefT, now, sliceTy, sliceVal, ShrSlice, MutSlice, Room, heres, codedHoleys, at-slice, shr-slice-lawful, shr-slice-copy, owned, Args, Vals, onEntry, Meets, says, needs, arg, holds, asks, asks-new, asks-both, calls, calls-plain, Takens, Ends, ends, known, shown, number, truth, aBest, aPlan, anArena, byValue, lent, lentMut, lentAt, machine, Lent}
 use lib.ListN.{drop as keep-from}
 use denote.Struct.Laws as LL
 use Rattle.fields.specs.Field.{hole, start, word}
-use Rattle.model.specs.Lists.{every}
 use Rattle.arena.specs.Load.{loadHoles}
 use Rattle.arena.specs.Fair.{holeFair}
 use Rattle.arena.specs.Plan.{planOf}

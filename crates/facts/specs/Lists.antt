@@ -1,9 +1,9 @@
--- Lists, runs of pages, and functions changed at one place. Assumes nothing.
+-- Lists, and functions changed at one place.
 use Prim.Native.Nat.{ℕ, zero, suc, _+_}
 use mathlib.Core.List.{List, [], _∷_}
 use mathlib.Core.Option.{Option, none, some}
 use mathlib.Core.Bool.{Bool, true, false, cond, not, _&&_, _||_}
-use lib.Dec.{eqb, leb, ltb}
+use lib.Dec.{eqb}
 
 module _ {A : Type 0} where
   abbrev pub isNil : List A → Bool
@@ -57,18 +57,3 @@ count w (x ∷ xs) = cond (eqb w x) 1 0 + count w xs
 abbrev pub below : ℕ → List ℕ
 below zero = []
 below (suc n) = n ∷ below n
-
--- is page x one of the n pages from q on; as a number
-abbrev pub inRun : ℕ → ℕ → ℕ → Bool
-inRun n q x = leb q x && ltb x (q + n)
-
-abbrev pub covers : ℕ → ℕ → ℕ → ℕ
-covers n q x = cond (inRun n q x) 1 0
-
--- how often the runs of n pages that begin at these pages cover page x; a run or none
-abbrev pub coversAll : ℕ → List ℕ → ℕ → ℕ
-coversAll n qs x = total (λ q. covers n q x) qs
-
-abbrev pub coversRun : ℕ → Option ℕ → ℕ → ℕ
-coversRun n none x = 0
-coversRun n (some q) x = covers n q x
