@@ -14,8 +14,15 @@ use Rattle.fields.proofs.Changes.{Changes, changes-none, changes-put}
 use Rattle.model.specs.declared.Hole.{Hole}
 use Rattle.model.specs.HoleStore.{HoleStore, Memory}
 use Rattle.model.specs.Arena.{Arena}
+use Rattle.arena.specs.Load.{loadHoles}
 use Rattle.arena.specs.Store.{storeHoles, storeMemory, memoryWords, storeCounts, storeTop, storeStore, storeArena}
 use Rattle.arena.specs.Owners.{own}
+
+-- as many holes are loaded as are asked for
+pub loaded-length : (b : List ℕ) (i k : ℕ) → length (loadHoles b i k) ≡ k
+unfolding loadHoles
+loaded-length b i zero = refl
+loaded-length b i (suc k) = ap suc (loaded-length b (suc i) k)
 
 -- the words that hold the arena: all of its record but the length and HELD, the memory, the holes
 abbrev pub isStored : Field → Bool

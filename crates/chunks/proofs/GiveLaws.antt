@@ -19,16 +19,16 @@ use Rattle.fields.specs.Field.{ArenaField, arena, state, frontier, holes, holeP
 use Rattle.fields.proofs.Laws.{get-put-same, get-put-other, length-put}
 use Rattle.fields.proofs.Changes.{Changes, changes-none}
 use Rattle.model.specs.HoleStore as Model
-use Rattle.arena.specs.declared.Arena.{Arena}
-use Rattle.arena.specs.Record.{recordOf, storeRecord}
+use Rattle.holes.specs.declared.Arena.{Arena}
+use Rattle.holes.specs.Record.{recordOf, storeRecord}
 use Rattle.arena.specs.Store.{storeTop, storeCounts}
 use Rattle.arena.specs.Fair.{recordFair, giveFair}
 use Rattle.arena.specs.Owners.{own}
 use Rattle.arena.specs.Calls.{given}
-use Rattle.arena.specs.Act.{accepting, appendWords, giveWords, giveRecord, givenWith, giveActs}
-use Rattle.arena.proofs.StoreLaws.{hole-length, remember-length}
+use Rattle.holes.specs.Act.{accepting, appendWords, giveWords, giveRecord, givenWith, giveActs}
+use Rattle.holes.proofs.StoreLaws.{hole-length, remember-length}
 use Rattle.arena.proofs.Frames.{isStored, isOwner, record-changes, own-changes}
-use Rattle.arena.proofs.Acts.{FairRecord, fair-record, give-acts}
+use Rattle.holes.proofs.Acts.{FairRecord, fair-record, give-acts}
 use Rattle.runs.specs.Asks.{GiveIn}
 use Rattle.release.proofs.RunSteps.{drop-past}
 use Rattle.calls.specs.Chunks.{givesOf, giveRuns}

@@ -18,7 +18,7 @@ use Rattle.fields.specs.Field.{arena, state, held, get}
 use Rattle.model.specs.declared.Figures.{Figures}
 use Rattle.model.specs.Heap.{badRun, badGrowth, direct}
 use Rattle.model.specs.Arena as Model
-use Rattle.arena.specs.declared.Arena.{Arena}
+use Rattle.holes.specs.declared.Arena.{Arena}
 use Rattle.runs.specs.declared.Commit.{Commit}
 use Rattle.runs.specs.declared.Commit.the-variants.{Refused}
 use Rattle.direct.specs.declared.Grow.{Grow}
@@ -26,16 +26,16 @@ use Rattle.direct.specs.declared.Report.{Report}
 use Rattle.direct.specs.declared.Report.the-variants.{Told}
 use Rattle.arena.specs.Load.{statusOf, loadStore, loadArena}
 use Rattle.arena.specs.Owners.{ownerCode}
-use Rattle.arena.specs.Record.{recordOf}
+use Rattle.holes.specs.Record.{recordOf}
 use Rattle.arena.specs.Fair.{recordFair, giveFair}
 use Rattle.arena.specs.Open.{cleared, headWords}
 use Rattle.arena.specs.Calls.{commitFor, commitCall, given, heldDirect, releaseCall, growCall, containsCall, figures}
-use Rattle.arena.specs.Act.{endNone, endRun, endGiven, settle, fromFrontier, growWith, growActs, clamped}
+use Rattle.holes.specs.Act.{endNone, endRun, endGiven, settle, fromFrontier, growWith, growActs, clamped}
 use Rattle.runs.specs.Asks.{GiveIn, BookIn}
 use Rattle.runs.specs.Answer.{answerOf, Answers}
 use Rattle.direct.specs.Answer.{grownAs, growCommit, Grew, Grows, fairGrow, Releases, heldRelease, reportOf}
-use Rattle.arena.proofs.Acts.{fair-record, grow-acts}
-use Rattle.arena.proofs.PlanLaws.{clamp-commit, clamp-grow, clamped-le}
+use Rattle.holes.proofs.Acts.{fair-record, grow-acts}
+use Rattle.holes.proofs.PlanLaws.{clamp-commit, clamp-grow, clamped-le}
 
 -- ---- numbers
 pub bad-none : (m : ℕ) → m ≡ 0 → true ≡ badRun m

@@ -16,7 +16,7 @@ use Rattle.direct.specs.declared.Report.the-variants.{Told}
 use Rattle.arena.specs.Owners.{ownerCode}
 use Rattle.arena.specs.Fair.{recordFair, giveFair}
 use Rattle.arena.specs.Calls.{Committed, commitRefused, Done, doneRefused, given, figures}
-use Rattle.arena.specs.Act.{growActs}
+use Rattle.holes.specs.Act.{growActs}
 
 -- a growth: a refusal's number, yes or no
 abbrev pub grownAs : ℕ → Bool → Grow

@@ -18,7 +18,7 @@ ghost use Rattle.model.specs.Heap.{badRun, badGrowth, direct};
 ghost use Rattle.arena.specs.Owners.{ownerCode};
 ghost use Rattle.arena.specs.Fair.{recordFair};
 ghost use Rattle.arena.specs.Calls.{commitCall, releaseCall, growCall, containsCall, figures};
-ghost use Rattle.arena.specs.Act.{clamped, growActs};
+ghost use Rattle.holes.specs.Act.{clamped, growActs};
 ghost use Rattle.runs.specs.Asks.{BookIn};
 ghost use Rattle.runs.specs.Answer.{Answers};
 ghost use Rattle.direct.specs.Answer.{growCommit, Releases, Grows, Grew, fairGrow, reportOf, heldRelease};

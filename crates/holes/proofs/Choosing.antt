@@ -16,9 +16,9 @@ use Rattle.facts.proofs.Bools.{and-no}
 use Rattle.model.specs.declared.Hole.{Hole}
 use Rattle.model.specs.HoleStore as Model
 use Rattle.model.specs.HoleStore.{Fit, holeAt, setAt, leastFit, stillHolds, Choice, chooseIn, rememberedMax}
-use Rattle.arena.specs.declared.Plan.{Plan}
+use Rattle.holes.specs.declared.Plan.{Plan}
 use Rattle.arena.specs.Load.{indexOf, indexCode}
-use Rattle.arena.specs.Plan.{chosen}
+use Rattle.holes.specs.Plan.{chosen}
 use Rattle.holes.specs.Scan.{noHole, bestOf, holeOf, recalledOf, remembered, searchedOf, settledOf, storedOf, leftOf}
 use Rattle.holes.proofs.Least.{Within, by-test, least-within}
 

@@ -1,3 +1,7 @@
+pub mod StoreLaws
+pub mod Choice
+pub mod Acts
+pub mod PlanLaws
 mod Calling
 mod Choosing
 mod Filled

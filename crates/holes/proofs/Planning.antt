@@ -15,10 +15,10 @@ use Rattle.facts.specs.Lists.{every}
 use Rattle.model.specs.declared.Hole.{Hole}
 use Rattle.model.specs.HoleStore as Model
 use Rattle.model.specs.HoleStore.{Fit, holeAt, lastHole, withoutLast, nearer, leastFit, chooseIn}
-use Rattle.arena.specs.declared.Plan.{Plan}
+use Rattle.holes.specs.declared.Plan.{Plan}
 use Rattle.arena.specs.Load.{indexCode, loadHoles}
 use Rattle.arena.specs.Fair.{holeFair}
-use Rattle.arena.specs.Plan.{chosen, cutHoles, noPlan, planAt, planOf}
+use Rattle.holes.specs.Plan.{chosen, cutHoles, noPlan, planAt, planOf}
 use Rattle.holes.specs.Scan.{noHole, bestOf, holeOf, storedOf, drawnOf, pickedOf, plannedOf, cutOf, leftOf, cutBest}
 use Rattle.holes.proofs.Least.{by-test, exact, lowest-least}
 use Rattle.holes.proofs.Choosing.{hole-at-get, set-at-set, chosen-within, stored-within}

@@ -9,16 +9,16 @@ use mir.Syntax.{Opd as Operand, Fn, local, valueLocal, memorySlot, place, copy, 
 use denote.Struct.Laws as LL
 use Rattle.fields.specs.Field.{hole, start, word}
 use Rattle.arena.specs.Load.{loadHoles}
-use Rattle.arena.specs.Plan.{planOf}
+use Rattle.holes.specs.Plan.{planOf}
 use Rattle.holes.specs.Scan.{noHole}
 use Rattle.holes.proofs.Filled.{filled, copies, copies-length, fills, filled-own}
 use Rattle.holes.proofs.Laid.{laid, lifted}
 use Rattle.model.specs.declared.Hole.{Hole}
-use Rattle.arena.specs.declared.Plan.{Plan}
-use Rattle.arena.specs.declared.Arena.{Arena}
+use Rattle.holes.specs.declared.Plan.{Plan}
+use Rattle.holes.specs.declared.Arena.{Arena}
 use Rattle.model.proofs.Hole as T
-use Rattle.arena.proofs.Plan as P
-use Rattle.arena.proofs.Arena as S
+use Rattle.holes.proofs.Plan as P
+use Rattle.holes.proofs.Arena as S
 use Rattle.holes.proofs.plans.plan_in
 use lib.Dec.{lit<}
 

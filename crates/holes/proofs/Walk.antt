@@ -11,8 +11,8 @@ use denote.Slice.{slice-vals, shr-slice-tells, mut-slice-tells}
 use denote.Triple.Walked.{stay-none, stay-none-slice, stay-slice, stay-ref, goes-none, goes-none-slice, goes-slice, goes-ref}
 use denote.Struct.Laws as laws
 use Rattle.model.proofs.Hole as hole
-use Rattle.arena.proofs.Plan as plan
-use Rattle.arena.proofs.Arena as arena
+use Rattle.holes.proofs.Plan as plan
+use Rattle.holes.proofs.Arena as arena
 use Rattle.holes.proofs.holes.Best as best
 use Rattle.holes.proofs.record.Gain as gain
 use Rattle.holes.proofs.Calling.{Plain}

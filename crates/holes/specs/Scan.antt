@@ -8,10 +8,10 @@ use lib.ListN.{getD, set, take}
 use Rattle.model.specs.declared.Hole.{Hole}
 use Rattle.model.specs.HoleStore as Model
 use Rattle.model.specs.HoleStore.{Fit, leastFit, rememberedMax}
-use Rattle.arena.specs.declared.Plan.{Plan}
+use Rattle.holes.specs.declared.Plan.{Plan}
 use Rattle.holes.specs.declared.holes.Best.{Best}
 use Rattle.arena.specs.Load.{indexCode}
-use Rattle.arena.specs.Plan.{chosen, noPlan}
+use Rattle.holes.specs.Plan.{chosen, noPlan}
 
 -- what stands past the end of a list of holes
 abbrev pub noHole : Hole

@@ -2,7 +2,7 @@
 use Prim.Native.Nat.{_+_}
 use mathlib.Core.Bool.{cond}
 use Rattle.model.specs.Arena.{more}
-use Rattle.arena.specs.declared.Arena.{Arena}
+use Rattle.holes.specs.declared.Arena.{Arena}
 use Rattle.holes.specs.declared.record.Gain.{Gain}
 
 abbrev pub stepped : Gain → Arena → Arena

@@ -4,8 +4,8 @@ use super::holes::hole_at;
 use super::holes::load_holes;
 use super::holes::put_hole;
 use super::holes::scan;
-use arena::Arena;
-use arena::Plan;
+use crate::Arena;
+use crate::Plan;
 use model::Hole;
 ghost use mathlib.Core.Path.{_≡_};
 ghost use Prim.Native.Nat.{_-_, _<_, _≤_};
@@ -13,7 +13,7 @@ ghost use lib.ListN.{length, set, take};
 ghost use Rattle.fields.specs.Field.{hole, start, word};
 ghost use Rattle.model.specs.HoleStore.{holeSlots};
 ghost use Rattle.arena.specs.Load.{indexCode, loadHoles};
-ghost use Rattle.arena.specs.Plan.{chosen, planOf};
+ghost use Rattle.holes.specs.Plan.{chosen, planOf};
 ghost use Rattle.holes.specs.Scan.{holeOf, recalledOf, searchedOf, settledOf, storedOf, drawnOf, pickedOf, plannedOf, cutOf, leftOf, cutBest};
 
 // The index that a code names; 0 stands for the first.

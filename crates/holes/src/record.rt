@@ -1,12 +1,12 @@
 // The arena's record, lent by `&mut` for one step: it is read, and the record after the step is stored in it.
 // The functions by value lend a copy, so that a caller needs no reference.
-use arena::Arena;
+use crate::Arena;
 use std::num::wrapping_add_u64;
 ghost use mathlib.Core.Path.{_≡_};
 ghost use Prim.Native.Nat.{_+_, _<_, _^_};
 ghost use mathlib.Core.Bool.{cond};
 ghost use Rattle.model.specs.Arena.{more};
-ghost use Rattle.arena.specs.Record.{advanced, counted, abandoning};
+ghost use Rattle.holes.specs.Record.{advanced, counted, abandoning};
 ghost use Rattle.holes.specs.Step.{stepped};
 
 // What a step adds: pages to the frontier, and one to each count that it names.

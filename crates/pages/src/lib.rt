@@ -1,7 +1,8 @@
 // A class's pages and their blocks on the words: definitions, and the little code that every layer above them shares.
+
+use words::Word;
 ghost use mathlib.Core.Path.{_≡_};
 ghost use Rattle.pages.specs.Stack.{pageAt};
-use words::Word;
 
 // The stores of pages with no block out.
 pub enum Park {

@@ -22,7 +22,7 @@ use Rattle.model.proofs.IdlePages.{HolesBelow}
 use Rattle.arena.specs.Load.{statusCode, indexOf, recall, loadHoles, loadStore, loadArena}
 use Rattle.arena.specs.Fair.{holeFair, recordFair, holesFair, memoryFair, commitFair, giveFair}
 use Rattle.arena.specs.Represents.{ArenaRep}
-use Rattle.arena.proofs.StoreLaws.{loaded-length}
+use Rattle.arena.proofs.Frames.{loaded-length}
 use Rattle.refinement.proofs.ArenaReached.{Reached, reached-holes, held-le}
 
 -- ---- what the words of an arena that is loaded are

@@ -13,6 +13,12 @@ pub use park::park_empty_page;
 pub use park::relist;
 pub use release::release_blocks;
 
+// What a release answers: a refusal's number, or the page's fate.
+pub enum Released {
+    Refused(u32),
+    Fate(u32),
+}
+
 // A page's fate; RETIRED is added to it where the page was retired.
 pub const KEPT_FATE: u32 = 0;
 
@@ -26,10 +32,4 @@ pub const RETIRED: u32 = 4;
 pub enum Found {
     At(u32),
     Nothing,
-}
-
-// What a release answers: a refusal's number, or the page's fate.
-pub enum Released {
-    Refused(u32),
-    Fate(u32),
 }

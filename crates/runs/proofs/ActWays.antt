@@ -10,17 +10,17 @@ use borrow.Author.Tests.{lt-ltb, le-ltb, le-leb, lt-leb, eq-eqb, ne-eqb}
 use Rattle.facts.proofs.Bools.{by-cases}
 use Rattle.words.specs.Host.{reservationGranted, commitGranted}
 use Rattle.fields.specs.Field.{arena, held, put}
-use Rattle.arena.specs.declared.Arena.{Arena}
-use Rattle.arena.specs.declared.Plan.{Plan}
+use Rattle.holes.specs.declared.Arena.{Arena}
+use Rattle.holes.specs.declared.Plan.{Plan}
 use Rattle.runs.specs.declared.Request.{Request}
 use Rattle.runs.specs.declared.Commit.{Commit}
 use Rattle.runs.specs.declared.Commit.the-variants.{Run, Nothing}
-use Rattle.arena.specs.Record.{storeRecord, advanced, counted}
+use Rattle.holes.specs.Record.{storeRecord, advanced, counted}
 use Rattle.arena.specs.Owners.{own}
-use Rattle.arena.specs.Act.{rememberWord, withState, withHoles, Gives, cutWords, usedWords, drawWords, drawRecord, Draws, forgetWord, endNone, endRun, endGiven, settle, fromFrontier, commitDrawn, nextState, commitPlanned}
+use Rattle.holes.specs.Act.{rememberWord, withState, withHoles, Gives, cutWords, usedWords, drawWords, drawRecord, Draws, forgetWord, endNone, endRun, endGiven, settle, fromFrontier, commitDrawn, nextState, commitPlanned}
 use Rattle.runs.specs.Asks.{RecordIn, HoleIn, PlanIn, RequestIn, RunIn}
 use Rattle.runs.specs.Answer.{Answers}
-use Rattle.arena.proofs.StoreLaws.{hole-length, remember-length}
+use Rattle.holes.proofs.StoreLaws.{hole-length, remember-length}
 
 -- ---- a run from the chosen hole
 module _ (b : List ℕ) (a : Arena) (m : ℕ) (p : Plan) where

@@ -9,20 +9,20 @@ use borrow.Author.Tests.{le-leb, lt-leb, eq-eqb, ne-eqb}
 use Rattle.facts.proofs.Bools.{by-cases}
 use Rattle.words.specs.Limits.{maxPages, holeSlots, rememberedMax}
 use Rattle.fields.specs.Field.{arena, held, get}
-use Rattle.arena.specs.declared.Arena.{Arena}
-use Rattle.arena.specs.declared.Plan.{Plan}
+use Rattle.holes.specs.declared.Arena.{Arena}
+use Rattle.holes.specs.declared.Plan.{Plan}
 use Rattle.runs.specs.declared.Commit.{Commit}
 use Rattle.runs.specs.declared.Commit.the-variants.{Refused, Nothing}
 use Rattle.arena.specs.Load.{loadHoles}
-use Rattle.arena.specs.Record.{recordOf, storeRecord}
+use Rattle.holes.specs.Record.{recordOf, storeRecord}
 use Rattle.arena.specs.Fair.{recordFair, memoryFair, commitFair}
-use Rattle.arena.specs.Plan.{planOf}
+use Rattle.holes.specs.Plan.{planOf}
 use Rattle.arena.specs.Calls.{commitRefused, commitFor}
-use Rattle.arena.specs.Act.{endNone, fromFrontier, recallWord, commitPlanned, planned, commitRead, commitRecalled, commitActs, growWith}
+use Rattle.holes.specs.Act.{endNone, fromFrontier, recallWord, commitPlanned, planned, commitRead, commitRecalled, commitActs, growWith}
 use Rattle.runs.specs.Asks.{RecordIn, HoleIn, PlanIn, RequestIn, BookIn}
 use Rattle.runs.specs.Answer.{Answers}
-use Rattle.arena.proofs.Acts.{fair-record, commit-acts}
-use Rattle.arena.proofs.PlanLaws.{plan-fits}
+use Rattle.holes.proofs.Acts.{fair-record, commit-acts}
+use Rattle.holes.proofs.PlanLaws.{plan-fits}
 
 -- ---- the record that was loaded
 pub fair-told : (n : ℕ) (b : List ℕ) (t : Bool) → t ≡ recordFair n b → t ≡ true → recordFair n b ≡ true

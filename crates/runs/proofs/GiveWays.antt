@@ -10,14 +10,14 @@ use Rattle.facts.proofs.Bools.{and-left, and-right, and-no}
 use Rattle.model.specs.Heap.{direct}
 use Rattle.arena.specs.Owners.{ownerCode}
 use Rattle.fields.specs.Field.{arena, page, owner, frontier, held, get, put}
-use Rattle.arena.specs.declared.Arena.{Arena}
-use Rattle.arena.specs.Record.{recordOf, storeRecord}
+use Rattle.holes.specs.declared.Arena.{Arena}
+use Rattle.holes.specs.Record.{recordOf, storeRecord}
 use Rattle.arena.specs.Fair.{recordFair, giveFair}
 use Rattle.arena.specs.Owners.{own}
 use Rattle.arena.specs.Calls.{given, everyDirect, heldDirect}
-use Rattle.arena.specs.Act.{Gives, givenWith, giveActs}
+use Rattle.holes.specs.Act.{Gives, givenWith, giveActs}
 use Rattle.runs.specs.Asks.{GiveIn, LoadedIn}
-use Rattle.arena.proofs.Acts.{fair-record, give-acts}
+use Rattle.holes.proofs.Acts.{fair-record, give-acts}
 
 -- ---- giving
 module _ (n : ℕ) (b : List ℕ) (m : ℕ) where

@@ -12,11 +12,11 @@ use Rattle.facts.proofs.Bools.{and-no}
 use Rattle.words.specs.Limits.{holeSlots, holePagesMax, rememberedMax}
 use Rattle.fields.specs.Field.{arena, memory, page, owner, state, frontier, holes, holePages, held, get, put}
 use Rattle.fields.proofs.Laws.{length-put}
-use Rattle.arena.specs.declared.Arena.{Arena}
-use Rattle.arena.specs.Record.{abandoning}
+use Rattle.holes.specs.declared.Arena.{Arena}
+use Rattle.holes.specs.Record.{abandoning}
 use Rattle.arena.specs.Fair.{recordFair}
 use Rattle.arena.specs.Owners.{own}
-use Rattle.arena.specs.Act.{rememberWord, recallWord, withHoles, appendWords, giveWords, giveRecord, Gives}
+use Rattle.holes.specs.Act.{rememberWord, recallWord, withHoles, appendWords, giveWords, giveRecord, Gives}
 
 -- ---- the record's test: one failing word is enough
 module _ (n : ℕ) (b : List ℕ) where

@@ -6,8 +6,8 @@ use mathlib.Core.Path.{_≡_}
 use lib.ListN.{length}
 use Rattle.words.specs.Limits.{maxPages, holeSlots, holePagesMax}
 use Rattle.fields.specs.Field.{words}
-use Rattle.arena.specs.declared.Arena.{Arena}
-use Rattle.arena.specs.declared.Plan.{Plan}
+use Rattle.holes.specs.declared.Arena.{Arena}
+use Rattle.holes.specs.declared.Plan.{Plan}
 use Rattle.runs.specs.declared.Request.{Request}
 use Rattle.arena.specs.Fair.{giveFair}
 

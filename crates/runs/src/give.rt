@@ -2,7 +2,7 @@
 use super::load;
 use super::owners;
 use super::store;
-use arena::Arena;
+use holes::Arena;
 use holes::record;
 use words::limits::HOLE_PAGES_MAX;
 use words::limits::HOLE_SLOTS;
@@ -12,7 +12,7 @@ ghost use lib.ListN.{length};
 ghost use Rattle.words.specs.Limits.{holeSlots};
 ghost use Rattle.arena.specs.Fair.{giveFair};
 ghost use Rattle.arena.specs.Calls.{given};
-ghost use Rattle.arena.specs.Act.{withHoles, withState, appendWords, Gives, givenWith};
+ghost use Rattle.holes.specs.Act.{withHoles, withState, appendWords, Gives, givenWith};
 ghost use Rattle.runs.specs.Asks.{GiveIn, LoadedIn};
 
 pub fn with_holes(a: Arena, count: u32, total: u32) -> Arena

@@ -14,7 +14,7 @@ ghost use Prim.Native.Nat.{_+_, _≤_};
 ghost use Rattle.words.specs.Limits.{maxPages};
 ghost use Rattle.arena.specs.Fair.{recordFair};
 ghost use Rattle.arena.specs.Calls.{commitFor};
-ghost use Rattle.arena.specs.Act.{recallWord, commitRead, commitRecalled};
+ghost use Rattle.holes.specs.Act.{recallWord, commitRead, commitRecalled};
 ghost use Rattle.runs.specs.Asks.{BookIn, RequestIn};
 ghost use Rattle.runs.specs.Answer.{Answers};
 

@@ -1,14 +1,14 @@
 // The arena's record as the words hold it, and number 13's tests of it.
-use arena::Arena;
+use holes::Arena;
 use words::limits::HOLE_PAGES_MAX;
 use words::limits::HOLE_SLOTS;
 use words::limits::REMEMBERED_MAX;
 ghost use mathlib.Core.Path.{_≡_};
 ghost use Prim.Native.Nat.{_≤_};
 ghost use lib.ListN.{length};
-ghost use Rattle.arena.specs.Record.{recordOf};
+ghost use Rattle.holes.specs.Record.{recordOf};
 ghost use Rattle.arena.specs.Fair.{recordFair};
-ghost use Rattle.arena.specs.Act.{recallWord};
+ghost use Rattle.holes.specs.Act.{recallWord};
 
 pub fn load_record(meta: &[u32]) -> Arena
     requires { ⌜ 40000 ≤ length (now meta) ⌝ }

@@ -1,5 +1,5 @@
 // The record, a hole, and the memory of a length, written to the words.
-use arena::Arena;
+use holes::Arena;
 use words::limits::REMEMBERED_MAX;
 ghost use mathlib.Core.Path.{_≡_};
 ghost use Prim.Native.Nat.{_≤_, _<_};
@@ -7,8 +7,8 @@ ghost use lib.ListN.{length};
 ghost use Rattle.words.specs.Limits.{holeSlots};
 ghost use Rattle.model.specs.HoleStore.{hole};
 ghost use Rattle.arena.specs.Store.{storeHole, storeCounts, storeTop};
-ghost use Rattle.arena.specs.Record.{storeRecord};
-ghost use Rattle.arena.specs.Act.{rememberWord};
+ghost use Rattle.holes.specs.Record.{storeRecord};
+ghost use Rattle.holes.specs.Act.{rememberWord};
 
 fn store_counts(meta: &mut [u32], a: Arena)
     requires { ⌜ 40000 ≤ length (now meta) ⌝ }

@@ -19,17 +19,17 @@ use Rattle.fields.proofs.Laws.{get-put-same, get-put-other, length-put}
 use Rattle.fields.proofs.Changes.{Changes, changes-none, changes-put}
 use Rattle.model.specs.HoleStore as Model
 use Rattle.model.specs.declared.Hole.{Hole}
-use Rattle.arena.specs.declared.Arena.{Arena}
-use Rattle.arena.specs.declared.Plan.{Plan}
+use Rattle.holes.specs.declared.Arena.{Arena}
+use Rattle.holes.specs.declared.Plan.{Plan}
 use Rattle.arena.specs.Store.{storeHole, storeCounts, storeTop}
-use Rattle.arena.specs.Record.{recordOf, storeRecord, advanced, counted}
+use Rattle.holes.specs.Record.{recordOf, storeRecord, advanced, counted}
 use Rattle.arena.specs.Fair.{recordFair, memoryFair}
 use Rattle.arena.specs.Owners.{own}
 use Rattle.arena.specs.Calls.{Committed, commitRefused, commitFor}
-use Rattle.arena.specs.Act.{rememberWord, withState, cutWords, usedWords, drawWords, drawRecord, forgetWord, endNone, endRun, endGiven, settle, fromFrontier, commitDrawn, nextState, commitPlanned, planned, commitRead, commitRecalled, commitActs}
+use Rattle.holes.specs.Act.{rememberWord, withState, cutWords, usedWords, drawWords, drawRecord, forgetWord, endNone, endRun, endGiven, settle, fromFrontier, commitDrawn, nextState, commitPlanned, planned, commitRead, commitRecalled, commitActs}
 use Rattle.arena.proofs.Frames.{isStored, isOwner, record-changes, own-changes}
-use Rattle.arena.proofs.Acts.{FairRecord, fair-record, commit-acts}
-use Rattle.arena.proofs.PlanLaws.{plan-fits}
+use Rattle.holes.proofs.Acts.{FairRecord, fair-record, commit-acts}
+use Rattle.holes.proofs.PlanLaws.{plan-fits}
 
 pub record Granted (n : ℕ) (b b′ : List ℕ) (m q w : ℕ) : Type 0 where
   pub ends : q + m ≤ n

@@ -3,7 +3,7 @@
 use Rattle.holes.proofs.Walk.{_≡_, refl, ap, _∙_, ℕ, _-_, _<_, _≤_, _^_, arith, List, [], _∷_, length, take, URA, named, w32, Val, vint, SProp, ent, id⊢, Lft, Share, Fml, ftrue, flft, Memory, Routine, Heap, WpFn, Tables, Atoms, Fun, givenOf, tables, tablesOf, Given, ‵, _⊛_, ⋆, _$_, _∵_, !, qed, by, move, fsplit, fjoin, suffices, frame, done, look, init, forget, stop, from, load, and-then, no-more, land, returns, enter, alloc1, alloc0, params1, pass1, pass0, free1, free0, fmOf, RattleType, owns, Is, u32, RefT, now, ShrSlice, shr-slice-lawful, shr-slice-copy, owned, Args, Vals, onEntry, Meets, says, needs, arg, holds, asks, asks-lent, calls-plain, calls-lent, Takens, Ends, ends, known, shown, number, aHole, aBest, byValue, lent, machine, Lent}
 use Rattle.model.specs.HoleStore.{leastFit}
 use Rattle.arena.specs.Load.{indexCode}
-use Rattle.arena.specs.Plan.{chosen}
+use Rattle.holes.specs.Plan.{chosen}
 use Rattle.holes.specs.Scan.{bestOf, holeOf, recalledOf, searchedOf, settledOf}
 use Rattle.holes.proofs.Choosing.{choose-is, searched-within, recalled-within}
 use Rattle.model.specs.declared.Hole.{Hole}

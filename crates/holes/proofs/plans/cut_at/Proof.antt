@@ -8,10 +8,10 @@ use Rattle.holes.proofs.Lending.{lend-mut, back-mut, lend-shr, back-shr
 use Rattle.holes.proofs.Choosing.{left-within}
 use Rattle.model.specs.declared.Hole.{Hole}
 use Rattle.holes.specs.declared.holes.Best.{Best}
-use Rattle.arena.specs.declared.Plan.{Plan}
+use Rattle.holes.specs.declared.Plan.{Plan}
 use Rattle.model.proofs.Hole as T
 use Rattle.holes.proofs.holes.Best as B
-use Rattle.arena.proofs.Plan as P
+use Rattle.holes.proofs.Plan as P
 use Rattle.holes.proofs.plans.place
 use Rattle.holes.proofs.plans.cut
 use Rattle.holes.proofs.holes.put_hole

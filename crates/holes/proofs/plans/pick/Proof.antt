@@ -3,13 +3,13 @@
 use Rattle.holes.proofs.Walk.{_≡_, refl, sym, ap, subst, _∙_, ℕ, _-_, _<_, _≤_, _^_, arith, Bool, List, [], _∷_, length, take, URA, named, w32, Val, vbool, vint, SProp, ent, id⊢, Lft, Share, Fml, ftrue, flft, Memory, Routine, Heap, WpFn, Tables, Atoms, Fun, givenOf, tables, tablesOf, Given, ‵, _⊛_, ⋆, _$_, _∵_, !, qed, by, move, fsplit, fjoin, suffices, frame, done, look, init, forget, stop, from, load, and-then, no-more, land, returns, enter, alloc1, alloc0, params1, pass1, pass0, free1, free0, fmOf, RattleType, owns, Is, u32, bool, RefT, now, ShrSlice, shr-slice-lawful, shr-slice-copy, owned, Args, Vals, onEntry, Meets, says, needs, arg, holds, asks, asks-lent, calls-plain, calls-lent, Takens, Ends, ends, known, shown, number, truth, aHole, aPlan, byValue, lent, machine, Lent}
 use lib.Seq.{length-take-le}
 use Rattle.arena.specs.Load.{indexCode}
-use Rattle.arena.specs.Plan.{chosen}
+use Rattle.holes.specs.Plan.{chosen}
 use Rattle.holes.specs.Scan.{holeOf, storedOf, drawnOf, pickedOf}
 use Rattle.holes.proofs.Choosing.{stored-within, chosen-within}
 use Rattle.model.specs.declared.Hole.{Hole}
-use Rattle.arena.specs.declared.Plan.{Plan}
+use Rattle.holes.specs.declared.Plan.{Plan}
 use Rattle.model.proofs.Hole as T
-use Rattle.arena.proofs.Plan as P
+use Rattle.holes.proofs.Plan as P
 use Rattle.holes.proofs.plans.stored
 use Rattle.holes.proofs.plans.choose
 use Rattle.holes.proofs.plans.hole_of

@@ -7,17 +7,17 @@ use denote.Struct.Laws as LL
 use Rattle.fields.specs.Field.{hole, start, word}
 use Rattle.arena.specs.Load.{loadHoles}
 use Rattle.arena.specs.Fair.{holeFair}
-use Rattle.arena.specs.Plan.{planOf}
+use Rattle.holes.specs.Plan.{planOf}
 use Rattle.holes.specs.Scan.{pickedOf, plannedOf, cutOf, cutBest}
 use Rattle.holes.proofs.Lending.{lend-mut, back-mut, lend-shr, back-shr}
 use Rattle.holes.proofs.Planning.{plan-is, picked-within}
 use Rattle.model.specs.declared.Hole.{Hole}
 use Rattle.holes.specs.declared.holes.Best.{Best}
-use Rattle.arena.specs.declared.Plan.{Plan}
-use Rattle.arena.specs.declared.Arena.{Arena}
+use Rattle.holes.specs.declared.Plan.{Plan}
+use Rattle.holes.specs.declared.Arena.{Arena}
 use Rattle.model.proofs.Hole as T
-use Rattle.arena.proofs.Plan as P
-use Rattle.arena.proofs.Arena as S
+use Rattle.holes.proofs.Plan as P
+use Rattle.holes.proofs.Arena as S
 use Rattle.holes.proofs.holes.load_holes
 use Rattle.holes.proofs.plans.pick
 use Rattle.holes.proofs.plans.cut_at

@@ -2,10 +2,10 @@
 -- meets its contract; what that returns is stored, and the borrow is closed at it.
 use Rattle.holes.proofs.Walk.{_≡_, refl, ℕ, _+_, _<_, _^_, List, [], _∷_, URA, fullShare, named, Val, vunit, vptr, SProp, ent, id⊢, GName, Lft, Share, ftrue, flft, fobs, fbor, Memory, Routine, Heap, WpFn, Tables, Atoms, Fun, givenOf, tables, tablesOf, Given, ‵, _⊛_, ⋆, _$_, _∵_, !, qed, by, move, keep, drop, split, join, fsplit, fsplit3, fjoin, fjoin3, feqI, suffices, frame, done, look, look-raw, init, store-raw, forget, stop, hop, from, load, unit-lit, of-opd, and-then, no-more, assigns, land, returns, enter, alloc1, alloc0, params1, pass1, pass0, free1, free0, Body, fmOf, RattleType, owns, Is, shows, mem, RefT, MutRef, now, opens, closes, owned, peeks, nothing, spelt, Vals, onEntry, Meets, says, needs, arg, holds, asks, calls-plain, Takens, Ends, ends, known, shown, anArena, aGain, byValue, recordMut, lentAt}
 use denote.Struct.Laws as laws
-use Rattle.arena.specs.declared.Arena.{Arena}
+use Rattle.holes.specs.declared.Arena.{Arena}
 use Rattle.holes.specs.declared.record.Gain.{Gain}
 use Rattle.holes.specs.Step.{stepped}
-use Rattle.arena.proofs.Arena as T
+use Rattle.holes.proofs.Arena as T
 use Rattle.holes.proofs.record.Gain as U
 use Rattle.holes.proofs.record.after
 use Rattle.holes.proofs.record.step as f

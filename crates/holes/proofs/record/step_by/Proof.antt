@@ -1,10 +1,10 @@
 -- `holes::record::step_by` meets its contract: a walk of its MIR, by hand. The local record is lent as a `&mut Arena` for the call of `step`, for a lifetime that the walk makes and ends,
 -- and comes back at the record that `step` leaves.
 use Rattle.holes.proofs.Walk.{_≡_, refl, _+_, _<_, _^_, [], _∷_, URA, fullShare, named, Val, vptr, SProp, ent, id⊢, GName, ftrue, fat, flent, Memory, Routine, Heap, WpFn, Tables, Atoms, Fun, givenOf, tables, tablesOf, Given, ‵, raw, _⊛_, ⋆, some, later, _$_, _∵_, !, qed, by, move, keep, use1, use2, use3, split, pick, fsplit, suffices, await, done, look, init, forget, stop, from, load, of-opd, addr, and-then, no-more, assigns, land, returns, enter, alloc1, alloc0, params1, pass1, pass0, free1, free0, Body, lft-new, lft-end, fmOf, RattleType, owns, Is, shows, mem, lends-ref, ref-back, MutRef, owned, peeks, nothing, Vals, onEntry, Meets, says, needs, part-in-at, part-out-at, arg, holds, asks-new, calls, Takens, Ends, ends, known, shown, unit, anArena, aGain, byValue, lentAt}
-use Rattle.arena.specs.declared.Arena.{Arena}
+use Rattle.holes.specs.declared.Arena.{Arena}
 use Rattle.holes.specs.declared.record.Gain.{Gain}
 use Rattle.holes.specs.Step.{stepped}
-use Rattle.arena.proofs.Arena as T
+use Rattle.holes.proofs.Arena as T
 use Rattle.holes.proofs.record.Gain as U
 use Rattle.holes.proofs.record.step
 use Rattle.holes.proofs.record.step_by as f

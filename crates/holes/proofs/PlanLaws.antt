@@ -18,17 +18,17 @@ use Rattle.words.specs.Limits.{maxPages}
 use Rattle.fields.specs.Field.{arena, frontier, holes, holePages, held, get, words}
 use Rattle.model.specs.declared.Hole.{Hole}
 use Rattle.model.specs.HoleStore.{Memory, holeAt, Choice, chooseIn}
-use Rattle.arena.specs.declared.Arena.{Arena}
-use Rattle.arena.specs.declared.Plan.{Plan}
+use Rattle.holes.specs.declared.Arena.{Arena}
+use Rattle.holes.specs.declared.Plan.{Plan}
 use Rattle.arena.specs.Load.{loadHoles, recall}
-use Rattle.arena.specs.Record.{recordOf}
+use Rattle.holes.specs.Record.{recordOf}
 use Rattle.arena.specs.Fair.{recordFair, memoryFair, holeFair, holesFair}
-use Rattle.arena.specs.Plan.{noPlan, planAt}
+use Rattle.holes.specs.Plan.{noPlan, planAt}
 use Rattle.arena.specs.Calls.{commitRefused, commitFor}
-use Rattle.arena.specs.Act.{rememberWord, forgetWord, endNone, fromFrontier, commitDrawn, nextState, withState, commitPlanned, planned, commitRead, commitRecalled, commitActs, growWith, growActs, clamped}
-use Rattle.arena.proofs.StoreLaws.{loaded-length}
-use Rattle.arena.proofs.Choice.{Choosing, empty, recalled, exact, longer, short, choosing}
-use Rattle.arena.proofs.Acts.{planned-fair, planned-at, fair-record, commit-acts}
+use Rattle.holes.specs.Act.{rememberWord, forgetWord, endNone, fromFrontier, commitDrawn, nextState, withState, commitPlanned, planned, commitRead, commitRecalled, commitActs, growWith, growActs, clamped}
+use Rattle.arena.proofs.Frames.{loaded-length}
+use Rattle.holes.proofs.Choice.{Choosing, empty, recalled, exact, longer, short, choosing}
+use Rattle.holes.proofs.Acts.{planned-fair, planned-at, fair-record, commit-acts}
 
 every-at : (t : Hole → Bool) (hs : List Hole) (i : ℕ) → every t hs ≡ true → i < length hs → t (holeAt i hs) ≡ true
 every-at t [] i e l = absurd (omega arith)

@@ -8,9 +8,9 @@ use Rattle.facts.specs.Lists.{every}
 use Rattle.model.specs.declared.Hole.{Hole}
 use Rattle.model.specs.HoleStore as Model
 use Rattle.model.specs.HoleStore.{holeAt, lastHole, setAt, removeAt, chooseIn}
-use Rattle.arena.specs.declared.Plan.{Plan}
+use Rattle.holes.specs.declared.Plan.{Plan}
 use Rattle.arena.specs.Load.{indexOf, indexCode}
 use Rattle.arena.specs.Fair.{holeFair}
 
 -- the index chosen, where the length's memory holds this code
 abbrev pub chosen : List Hole → ℕ → ℕ → Option ℕ

@@ -12,15 +12,15 @@ use Rattle.words.specs.Host.{reservationGranted, commitGranted}
 use Rattle.fields.specs.Field.{arena, memory, frontier, held, get, put}
 use Rattle.model.specs.HoleStore as Model
 use Rattle.model.specs.HoleStore.{holeSlots, holePagesMax, rememberedMax}
-use Rattle.arena.specs.declared.Arena.{Arena}
-use Rattle.arena.specs.declared.Plan.{Plan}
+use Rattle.holes.specs.declared.Arena.{Arena}
+use Rattle.holes.specs.declared.Plan.{Plan}
 use Rattle.arena.specs.Load.{loadHoles}
 use Rattle.arena.specs.Store.{storeHole}
-use Rattle.arena.specs.Record.{recordOf, storeRecord, advanced, counted, abandoning}
+use Rattle.holes.specs.Record.{recordOf, storeRecord, advanced, counted, abandoning}
 use Rattle.arena.specs.Fair.{recordFair, memoryFair}
 use Rattle.arena.specs.Owners.{own}
-use Rattle.arena.specs.Plan.{planOf}
+use Rattle.holes.specs.Plan.{planOf}
 use Rattle.arena.specs.Calls.{Committed, commitRefused}
 
 -- a length's word, where it has one
 unfoldable pub rememberWord : List ℕ → ℕ → ℕ → List ℕ

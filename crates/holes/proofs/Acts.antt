@@ -27,19 +27,20 @@ use Rattle.model.specs.Arena.{Arena, Status, ready, disabled, Given, give, draw
 use Rattle.model.specs.Heap.{direct}
 use Rattle.model.proofs.HoleLists.{set-length}
 use Rattle.model.proofs.ArenaLaws.{give-frontier}
-use Rattle.arena.specs.declared.Arena.{Arena as Record}
-use Rattle.arena.specs.declared.Plan.{Plan}
+use Rattle.holes.specs.declared.Arena.{Arena as Record}
+use Rattle.holes.specs.declared.Plan.{Plan}
 use Rattle.arena.specs.Load.{statusOf, statusCode, indexOf, indexCode, loadHole, loadHoles, recall, loadStore, loadArena}
 use Rattle.arena.specs.Store.{storeHole, storeStore, storeArena}
-use Rattle.arena.specs.Record.{recordOf, storeRecord, advanced, counted}
+use Rattle.holes.specs.Record.{recordOf, storeRecord, advanced, counted}
 use Rattle.arena.specs.Fair.{recordFair, memoryFair, holesFair, commitFair}
 use Rattle.arena.specs.Owners.{ownerCode, own}
-use Rattle.arena.specs.Plan.{cutHoles, noPlan, planAt, planOf}
+use Rattle.holes.specs.Plan.{cutHoles, noPlan, planAt, planOf}
 use Rattle.arena.specs.Calls.{Committed, advance, committed, commitFor, given, grownBy, grownBook}
-use Rattle.arena.specs.Act.{rememberWord, recallWord, withState, withHoles, appendWords, giveWords, giveRecord, cutWords, usedWords, drawWords, drawRecord, forgetWord, endNone, endRun, endGiven, settle, fromFrontier, commitDrawn, commitPlanned, planned, commitRead, commitRecalled, commitActs, givenWith, giveActs, growWith, growActs}
-use Rattle.arena.proofs.StoreLaws.{hole-length, loaded-length, loaded-last, removed-length, remember-twice, store-loaded, store-remembered, store-set, store-appended, store-removed}
-use Rattle.arena.proofs.Choice.{Choosing, empty, recalled, exact, longer, short, choosing, choice-of}
+use Rattle.holes.specs.Act.{rememberWord, recallWord, withState, withHoles, appendWords, giveWords, giveRecord, cutWords, usedWords, drawWords, drawRecord, forgetWord, endNone, endRun, endGiven, settle, fromFrontier, commitDrawn, commitPlanned, planned, commitRead, commitRecalled, commitActs, givenWith, giveActs, growWith, growActs}
+use Rattle.arena.proofs.Frames.{loaded-length}
+use Rattle.holes.proofs.StoreLaws.{hole-length, loaded-last, removed-length, remember-twice, store-loaded, store-remembered, store-set, store-appended, store-removed}
+use Rattle.holes.proofs.Choice.{Choosing, empty, recalled, exact, longer, short, choosing, choice-of}
 use Rattle.arena.proofs.Frames.{isOwner, arena-changes, own-changes, own-twice}
 use Rattle.fields.proofs.Changes.{changes-none}
 
 -- ---- the record that an arena is stored by

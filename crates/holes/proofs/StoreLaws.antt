@@ -23,9 +23,10 @@ use Rattle.model.specs.declared.Hole.{Hole}
 use Rattle.model.specs.HoleStore as Model
 use Rattle.model.specs.HoleStore.{HoleStore, Memory, holeAt, setAt, removeAt, withoutLast, lastHole, remember, append}
 use Rattle.model.proofs.HoleLists.{set-length}
 use Rattle.arena.specs.Load.{indexOf, indexCode, loadHole, loadHoles, recall, loadStore}
+use Rattle.arena.proofs.Frames.{loaded-length}
 use Rattle.arena.specs.Store.{storeHole, storeHoles, storeMemory, memoryWords, storeStore}
-use Rattle.arena.specs.Act.{rememberWord}
+use Rattle.holes.specs.Act.{rememberWord}
 
 -- ---- one hole
 -- another field's write goes past a hole's
@@ -59,11 +60,6 @@ pub holes-length : (b : List ℕ) (i : ℕ) (hs : List Hole) → length (storeHo
 unfolding storeHoles
 holes-length b i [] = refl
 holes-length b i (h ∷ hs) = hole-length (storeHoles b (suc i) hs) i h ∙ holes-length b (suc i) hs
-
-pub loaded-length : (b : List ℕ) (i k : ℕ) → length (loadHoles b i k) ≡ k
-unfolding loadHoles
-loaded-length b i zero = refl
-loaded-length b i (suc k) = ap suc (loaded-length b (suc i) k)
 
 -- what is loaded and stored again changes nothing
 pub holes-kept : (b : List ℕ) (i k : ℕ) → storeHoles b i (loadHoles b i k) ≡ b

@@ -5,8 +5,8 @@ use mathlib.Core.Bool.{Bool, cond}
 use Rattle.fields.specs.Field.{arena, state, frontier, holes, holePages, commits, commitsHigh, reuses, reusesHigh, abandoned, abandonedHigh, get}
 use Rattle.fields.specs.Wide.{getWide}
 use Rattle.model.specs.Arena.{more}
-use Rattle.arena.specs.declared.Arena.{Arena}
+use Rattle.holes.specs.declared.Arena.{Arena}
 use Rattle.arena.specs.Store.{storeTop, storeCounts}
 
 abbrev pub recordOf : List ℕ → Arena
 recordOf b = record {
