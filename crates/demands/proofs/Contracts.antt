@@ -12,7 +12,7 @@ use lib.ListN.{length}
 use borrow.Author.Tests.{eqb-true, ne-eqb, leb-true}
 use Rattle.facts.specs.Lists.{every}
 use Rattle.facts.proofs.Bools.{by-cases, and-left, and-right}
-use Rattle.words.specs.Host.{digit, badHost}
+use Rattle.words.specs.Host.{badHost}
 use Rattle.fields.specs.Field.{arena, size, state, frontier, holePages, get}
 use Rattle.fields.specs.Ranges.{maxPages, metaFault}
 use Rattle.fields.specs.Outcome.{Did}
@@ -40,10 +40,7 @@ use Rattle.demands.specs.Call.{call}
 use Rattle.demands.specs.Run.{Opens, run}
 use Rattle.demands.specs.Contracts.{runSeen, Shows, take-blocks, medium-take-blocks, release-blocks, medium-release-blocks, release-bin-chunks, commit, grow-frontier, release, contains, report, Trace, ends, calls}
 use Rattle.demands.proofs.Calls.{room-of}
-
-is-one : (v : Bool) → eqb (digit v) 1 ≡ v
-is-one true = refl
-is-one false = refl
+use Rattle.refinement.proofs.Basics.{digit-eqb}
 
 not-zero : (k : ℕ) → eqb (suc k) 0 ≡ false
 not-zero k = ne-eqb (suc k) 0 (λ e. omega (arith, e))
@@ -58,7 +55,7 @@ none-some e = let z : _≡_ {A = ℕ} 0 1 = cc in omega arith
 module _ (b : List ℕ) where
   take-read : (k m : ℕ) (l : List ℕ) (v : Bool) (m₀ v₀ : ℕ)
       → reply k (taken m l v) b ≡ reply (codeOut (answerOf k m v)) (taken (countOut (answerOf k m v) m₀) l (eqb (virginOut (answerOf k m v) v₀) 1)) b
-  take-read zero m l v m₀ v₀ = rw is-one
+  take-read zero m l v m₀ v₀ = rw digit-eqb
   take-read (suc k) m l v m₀ v₀ = rw (not-zero k)
 
   list-read : (k f f₀ : ℕ) → reply k (fate f) b ≡ reply (releaseCode (answerAs k f)) (fate (fateOut (answerAs k f) f₀)) b
@@ -73,7 +70,7 @@ module _ (b : List ℕ) where
   commit-read : (k : ℕ) (q : Option ℕ) (f : Bool) (q₀ f₀ : ℕ) → ((p : ℕ) → k ≡ 0 → q ≡ some p → eqb p noPage ≡ false)
       → reply k (answerRun q f) b ≡ reply (commitCode (Runs.answerOf k q f)) (runSeen (firstOut (Runs.answerOf k q f) q₀) (freshOut (Runs.answerOf k q f) f₀)) b
   commit-read zero none f q₀ f₀ low = refl
-  commit-read zero (some p) f q₀ f₀ low = rw (low p refl refl, is-one)
+  commit-read zero (some p) f q₀ f₀ low = rw (low p refl refl, digit-eqb)
   commit-read (suc k) q f q₀ f₀ low = rw (not-zero k)
 
 -- ---- the run that a commit answers lies in the arena, so its first page is not the greatest number
@@ -140,7 +137,7 @@ shows-call (release-bin-chunks c h r b′ ws gs fs fs′ e) = rw (e .code, e .bo
 shows-call {b} (commit h m r q q′ f f′ b′ e) = rw (e .code, e .book, e .first, e .fresh) (sym (commit-read _ _ _ _ q f (commit-low b h m)))
 shows-call (grow-frontier h q old new r g g′ b′ e) = rw (e .code, e .book, e .grown) (sym (grow-read _ _ _ g))
 shows-call (release h q m r b′ e) = rw (e .code, e .book)
-shows-call (contains o k r e) = rw (e, is-one)
+shows-call (contains o k r e) = rw (e, digit-eqb)
 shows-call {b} (report r fs fs′ e) = report-says b fs fs′ r e
 
 trace-replies : {b : List ℕ} {xs : List Call} {ws : List Reply} → Trace b xs ws → ws ≡ repliesFrom call b xs

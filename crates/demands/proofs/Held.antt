@@ -1,5 +1,5 @@
 -- A run held by the direct calls can be released, and no other: number 12 goes by what the calls and their answers tell.
-use Prim.Native.Nat.{ℕ, zero, suc, _+_, _-_, _≤_, _<_}
+use Prim.Native.Nat.{ℕ, _+_, _-_, _≤_, _<_}
 use native.Mathlib.Omega.{arith}
 use mathlib.Core.Bool.{true, false, false≢true}
 use mathlib.Core.List.{List}
@@ -12,7 +12,7 @@ use Rattle.facts.proofs.Lists.{every-at, every-of}
 use Rattle.words.specs.Host.{hostMax}
 use Rattle.model.specs.Calls as Calls
 use Rattle.model.specs.Calls.{Call, wayOf, isRefused}
-use Rattle.model.specs.Heap.{Holder, nobody, direct, class, isDirect, isHeld, badRun, heldDirect, releaseCall, directCall, step}
+use Rattle.model.specs.Heap.{direct, isDirect, badRun, heldDirect, releaseCall, directCall, step}
 use Rattle.model.specs.History.{heapAfter}
 use Rattle.model.specs.Entries.{directAfter}
 use Rattle.model.proofs.Theorems.{conserved}
@@ -24,16 +24,7 @@ use Rattle.demands.specs.Call.{call}
 use Rattle.demands.specs.Run.{Opens, bookAfter, next, told}
 use Rattle.demands.proofs.Histories.{next-agrees}
 use Rattle.demands.proofs.Told.{told-direct}
-
-direct-held : (w : Holder) → isDirect w ≡ true → 1 ≤ isHeld w
-direct-held nobody e = absurd (false≢true e)
-direct-held direct e = omega arith
-direct-held (class c) e = absurd (false≢true e)
-
-some-run : (m : ℕ) → badRun m ≡ false → 1 ≤ m
-unfolding badRun
-some-run zero e = absurd (false≢true (sym e))
-some-run (suc m) e = omega arith
+use Rattle.refinement.proofs.DirectCalls.{direct-held, good-run}
 
 unrefused : (w : Done) → isRefused (releaseReply w .answer) ≡ false → releaseReply w .code ≡ 0
 unrefused w e = by-cases (eqb (w .code) 0) (λ z. eqb-true (w .code) 0 z) (λ z. absurd (false≢true (sym (rw z at e))))
@@ -45,7 +36,7 @@ module _ (n : ℕ) (xs : List Call) (h q m : ℕ) (low : h ≤ hostMax) (good : 
   held-run : ((k : ℕ) → k < m → isDirect (heapAfter n xs .holder (q + k)) ≡ true) → heldDirect n (heapAfter n xs) q m ≡ true
   unfolding heldDirect
   held-run f =
-      let some : 1 ≤ m = some-run m good in
+      let some : 1 ≤ m = good-run m good in
       let r = reached-after n xs in
       let z = held-below n (heapAfter n xs) r (q + (m - 1)) (direct-held (heapAfter n xs .holder (q + (m - 1))) (f (m - 1) (omega arith))) in
       let l : q + m ≤ n = omega (arith, z, r .bound) in

@@ -8,7 +8,7 @@ use lib.Dec.{eqb, ltb, leb}
 use lib.ListN.{length}
 use borrow.Author.Tests.{leb-true, le-leb, lt-leb, ltb-true, ltb-false, eqb-true, eqb-false, eq-eqb, ne-eqb}
 use Rattle.facts.specs.Lists.{every, below}
-use Rattle.facts.proofs.Bools.{by-cases}
+use Rattle.facts.proofs.Bools.{by-cases, and-swap}
 use Rattle.words.specs.Word.{countOf, pageOf}
 use Rattle.classes.specs.declared.Shape.{Shape}
 use Rattle.fields.specs.Field.{arena, class, hole, page, size, frontier, holes, holePages, held, pages, partial, empty, cold, free, carved, listed, get}
@@ -30,13 +30,8 @@ use Rattle.demands.specs.Reads.{countReads, recordReads, holeReads, comm
 use Rattle.demands.proofs.RefusalsLaws.{not-and}
 
 -- ---- conjunctions
-and-left : (x y z : Bool) → (x && (y && z)) ≡ (y && (x && z))
-and-left true true z = refl
-and-left true false z = refl
-and-left false true z = refl
-and-left false false z = refl
 
-ruleset sorts = (and-assoc, and-comm, and-left)
+ruleset sorts = (and-assoc, and-comm, and-swap)
 
 fits-append : (b : List ℕ) (us vs : List Use) → fits b (us ++ vs) ≡ (fits b us && fits b vs)
 unfolding fits

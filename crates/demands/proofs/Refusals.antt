@@ -3,7 +3,7 @@
 --     .. -refuses         for each function
 --     demand-1            all of them, in one record
 --     refused-exactly     a call is refused exactly when a number of its table applies
-use Prim.Native.Nat.{ℕ, zero, suc, _≤_}
+use Prim.Native.Nat.{ℕ, zero, suc}
 use native.Mathlib.Omega.{arith}
 use mathlib.Core.Bool.{Bool, true, false, not, true≢false}
 use mathlib.Core.List.{List, [], _∷_}
@@ -31,6 +31,7 @@ use Rattle.vigbuso.specs.Blocks.{codeOut, countOut, virginOut, releaseCode, fat
 use Rattle.demands.specs.Refusals.{Row, firstNumber, checkingOrder, inOrder, Refuses, OpenRefuses, CommitRefuses, GrowRefuses, GiveRefuses, ReportRefuses, TakeRefuses, ReleaseRefuses, ChunksRefuses, containsTable, ContainsAnswers, SizeAnswers, Demand1}
 use Rattle.demands.proofs.RefusalsLaws.{Ends, book-turn}
 use Rattle.demands.proofs.RefusalsCalls.{open-table, commit-table, grow-table, give-table, report-table, take-table, release-table, chunks-table}
+use Rattle.pages.proofs.Downs.{digit-le}
 
 -- ---- the answer's number is the definition's, and where it is one, the out-parameters stay as they were
 commit-number : (k : ℕ) (q : Option ℕ) (f : Bool) → commitCode (answerOf k q f) ≡ k
@@ -118,10 +119,6 @@ small-answers bytes r e = lt-leb 64 r (omega (arith, small-class bytes))
 pub medium-answers : SizeAnswers mediumClassForSize 12
 medium-answers bytes r e = lt-leb 12 r (omega (arith, medium-class bytes))
 
-digit-small : (t : Bool) → digit t ≤ 1
-digit-small true = omega arith
-digit-small false = omega arith
-
 beyond-ready : (s : ℕ) → leb s 2 ≡ false → isReady (statusOf s) ≡ false
 beyond-ready zero e = refl
 beyond-ready (suc zero) e = e
@@ -143,7 +140,7 @@ module _ (b : List ℕ) (o k : ℕ) where
       (λ e. rw e)
 
 pub contains-answers : ContainsAnswers
-contains-answers b o k r e = record { plain = rw e (digit-small (containsOn b o k)); no = λ d. e ∙ ap digit (contains-no b o k d) }
+contains-answers b o k r e = record { plain = rw e (digit-le (containsOn b o k)); no = λ d. e ∙ ap digit (contains-no b o k d) }
 
 -- ---- the demand
 pub demand-1 : Demand1

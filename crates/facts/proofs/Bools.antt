@@ -30,6 +30,10 @@ pub and-no : (a : Bool) → (a && false) ≡ false
 and-no true = refl
 and-no false = refl
 
+pub and-swap : (a b c : Bool) → (a && (b && c)) ≡ (b && (a && c))
+and-swap true b c = refl
+and-swap false b c = sym (and-no b)
+
 -- ---- one or the other
 pub or-left : (s t : Bool) → s ≡ true → (s || t) ≡ true
 or-left true t e = refl

@@ -10,7 +10,7 @@ use borrow.Author.Tests.{le-leb, lt-leb}
 use Rattle.fields.specs.Field.{arena, size, get, words}
 use Rattle.fields.specs.Ranges.{within, between, maxPages, lengthFault, metaFault, Sound}
 
-both : (s l : Bool) (r : ℕ) → r ≡ cond s (cond l 0 2) 1 → r ≡ 0 → (s ≡ true) × (l ≡ true)
+pub both : (s l : Bool) (r : ℕ) → r ≡ cond s (cond l 0 2) 1 → r ≡ 0 → (s ≡ true) × (l ≡ true)
 both true true r e z = (refl, refl)
 both true false r e z = absurd (omega arith)
 both false l r e z = absurd (omega arith)

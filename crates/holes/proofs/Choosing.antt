@@ -21,6 +21,7 @@ use Rattle.arena.specs.Load.{indexOf, indexCode}
 use Rattle.holes.specs.Plan.{chosen}
 use Rattle.holes.specs.Scan.{noHole, bestOf, holeOf, recalledOf, remembered, searchedOf, settledOf, storedOf, leftOf}
 use Rattle.holes.proofs.Least.{Within, by-test, least-within}
+use Rattle.holes.proofs.StoreLaws.{code-of}
 
 pub hole-at-get : (i : ℕ) (hs : List Hole) → holeAt i hs ≡ getD hs i noHole
 hole-at-get i [] = refl
@@ -35,10 +36,6 @@ set-at-set (suc i) x (h ∷ hs) = ap (λ (t : List Hole). h ∷ t) (set-at-set i
 pub best-code : (o : Option Fit) → bestOf o .code ≡ indexCode (Model.indexOf o)
 best-code none = refl
 best-code (some f) = refl
-
-code-back : (code : ℕ) → indexCode (indexOf code) ≡ code
-code-back zero = refl
-code-back (suc i) = refl
 
 -- the model's choice, as a code
 still-none : (m : ℕ) (o : Option ℕ) → stillHolds m [] o ≡ false
@@ -56,7 +53,7 @@ chosen-code [] m code = sym (ap (λ (t : Bool). cond t code 0) (ap (λ (t : Bool
 chosen-code (h ∷ hs) m code =
     let t : Bool = leb m rememberedMax && stillHolds m (h ∷ hs) (indexOf code) in
     let other : ℕ = indexCode (Model.indexOf (leastFit m (h ∷ hs))) in
-    pick-code t _ _ ∙ ap (λ (n : ℕ). cond t n other) (code-back code)
+    pick-code t _ _ ∙ ap (λ (n : ℕ). cond t n other) (code-of code)
 
 still-is : (ys : List Hole) (count m code : ℕ) → count ≤ length ys
     → stillHolds m (take count ys) (indexOf code) ≡ (leb 1 code && (leb code count && eqb (holeOf ys (recalledOf count code) .pages) m))

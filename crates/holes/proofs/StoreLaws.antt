@@ -146,7 +146,7 @@ unfolding storeMemory
 memory-length b f zero = refl
 memory-length b f (suc k) = length-put (storeMemory b f k) (memory k) (indexCode (f k)) ∙ memory-length b f k
 
-code-of : (c : ℕ) → indexCode (indexOf c) ≡ c
+pub code-of : (c : ℕ) → indexCode (indexOf c) ≡ c
 code-of zero = refl
 code-of (suc i) = refl
 

@@ -32,6 +32,15 @@ use Rattle.model.proofs.EntryCounts.{is, at, is-self, in-total}
 use Rattle.model.proofs.Accounts.{held-le, held-two, not-direct}
 use Rattle.model.proofs.HeapLaws.{Inv, kept}
 
+-- a counted word is the word of a block below
+pub which : (sh : Shape) (q k w : ℕ) → 1 ≤ count w (wordsFrom sh q 0 k) → (i : ℕ) × (i < k) × (w ≡ wordOf sh q i)
+which sh q zero w h = absurd (omega arith)
+which sh q (suc k) w h =
+    by-cases (eqb w (wordOf sh q (0 + k)))
+    (λ e. (k, omega arith, rw zero-add at (eqb-true w (wordOf sh q (0 + k)) e)))
+    (λ e. let z : 1 ≤ 0 + count w (wordsFrom sh q 0 k) = rw e at h in
+    let r = which sh q k w (omega arith) in (r .0, omega (arith, r .1), r .2))
+
 module _ (sh : Shape) (ok : Sound sh) where
   -- the block with word w stands on page p; byte b is one of the block's
   record Sits (p : Page) (w : ℕ) : Type 0 where
@@ -43,18 +52,10 @@ module _ (sh : Shape) (ok : Sound sh) where
     from : granuleOf w * granuleBytes ≤ b
     to : b < granuleOf w * granuleBytes + sh .block * granuleBytes
 
-  which : (q k w : ℕ) → 1 ≤ count w (wordsFrom sh q 0 k) → (i : ℕ) × (i < k) × (w ≡ wordOf sh q i)
-  which q zero w h = absurd (omega arith)
-  which q (suc k) w h =
-      by-cases (eqb w (wordOf sh q (0 + k)))
-      (λ e. (k, omega arith, rw zero-add at (eqb-true w (wordOf sh q (0 + k)) e)))
-      (λ e. let z : 1 ≤ 0 + count w (wordsFrom sh q 0 k) = rw e at h in
-      let r = which q k w (omega arith) in (r .0, omega (arith, r .1), r .2))
-
   out-sits : (p : Page) (w : ℕ) → GoodPage sh p → 1 ≤ outOf sh w p → Sits p w
   unfolding carvedWords
   out-sits p w good h =
-      let r = which (p .first) (p .carved) w (omega arith) in
+      let r = which sh (p .first) (p .carved) w (omega arith) in
       record { index = r .0; inside = omega (arith, r .1, good .within); names = r .2 }
 
   module _ (p : Page) (w : ℕ) (low : p .first + sh .pages ≤ maxPages) (s : Sits p w) where

@@ -42,7 +42,7 @@ module _ (x : ℕ) (t : List ℕ) (r : Split x t) where
   unfolding rest
   rest-length = ap length (r .is) ∙ rw (length-append, length-append) (omega arith)
 
-itself : (x : ℕ) → _≡_ {A = ℕ} (cond (eqb x x) 1 0) 1
+pub itself : (x : ℕ) → _≡_ {A = ℕ} (cond (eqb x x) 1 0) 1
 itself x = rw (eq-eqb x x refl)
 
 -- a list counted within another is no longer, and if it is as long the counts agree

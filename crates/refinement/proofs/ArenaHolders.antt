@@ -38,18 +38,18 @@ named-below true c r d h e = rw (sym (at c r d e)) (h refl)
     at c r d e = let z : record { class = c; request = r } ≡ d = cc in ap (λ x. x .class) z
 named-below false c r d h e = absurd (Option·none-ne-some d e)
 
-small : (c : ℕ) → ltb c 64 ≡ true → ltb c 76 ≡ true
-small c e = lt-ltb c 76 (let z = ltb-true c 64 e in omega arith)
+pub small-class : (c : ℕ) → ltb c 64 ≡ true → ltb c 76 ≡ true
+small-class c e = lt-ltb c 76 (let z = ltb-true c 64 e in omega arith)
 
-medium : (c : ℕ) → ltb c 12 ≡ true → ltb (64 + c) 76 ≡ true
-medium c e = lt-ltb (64 + c) 76 (let z = ltb-true c 12 e in omega arith)
+pub medium-class : (c : ℕ) → ltb c 12 ≡ true → ltb (64 + c) 76 ≡ true
+medium-class c e = lt-ltb (64 + c) 76 (let z = ltb-true c 12 e in omega arith)
 
 pub names-below : (x : Call) (d : Named) → names x ≡ some d → ltb (d .class) 76 ≡ true
-names-below (Calls.takeBlocks c h l) d e = named-below (ltb c 64) c _ d (small c) e
-names-below (Calls.mediumTakeBlocks c h l) d e = named-below (ltb c 12) (64 + c) _ d (medium c) e
-names-below (Calls.releaseBlocks c h ws) d e = named-below (ltb c 64) c _ d (small c) e
-names-below (Calls.mediumReleaseBlocks c h ws) d e = named-below (ltb c 12) (64 + c) _ d (medium c) e
-names-below (Calls.releaseBinChunks c h ws gs fs) d e = named-below (ltb c 64) c _ d (small c) e
+names-below (Calls.takeBlocks c h l) d e = named-below (ltb c 64) c _ d (small-class c) e
+names-below (Calls.mediumTakeBlocks c h l) d e = named-below (ltb c 12) (64 + c) _ d (medium-class c) e
+names-below (Calls.releaseBlocks c h ws) d e = named-below (ltb c 64) c _ d (small-class c) e
+names-below (Calls.mediumReleaseBlocks c h ws) d e = named-below (ltb c 12) (64 + c) _ d (medium-class c) e
+names-below (Calls.releaseBinChunks c h ws gs fs) d e = named-below (ltb c 64) c _ d (small-class c) e
 names-below (Calls.commit h m) d e = absurd (Option·none-ne-some d e)
 names-below (Calls.growFrontier h q old new) d e = absurd (Option·none-ne-some d e)
 names-below (Calls.release h q m) d e = absurd (Option·none-ne-some d e)

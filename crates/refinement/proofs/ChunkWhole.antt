@@ -11,7 +11,7 @@ use mathlib.Core.Option.{Option, none, some}
 use mathlib.Core.Path.{_≡_, refl, sym, ap, _∙_, subst}
 use lib.Dec.{eqb, ltb}
 use lib.ListN.{length, drop, length-append}
-use borrow.Author.Tests.{eqb-true, eq-eqb, ltb-true, lt-ltb, not-false}
+use borrow.Author.Tests.{eqb-true, eq-eqb, not-false}
 use Rattle.facts.specs.Lists.{isNil, every, All, distinct}
 use Rattle.facts.proofs.Bools.{by-cases, bool-eq, and-left, and-right}
 use Rattle.words.specs.Word.{chunkKind, countOf, pageOf}
@@ -47,13 +47,11 @@ use Rattle.refinement.proofs.ReleaseFair.{row-fair, page-fair, frontier
 use Rattle.refinement.proofs.ReleaseGives.{all-held, all-given}
 use Rattle.refinement.proofs.ChunkTests.{same-blocks, chunks-same}
 use Rattle.refinement.proofs.Chunks.{every-blocks, once-blocks, Waits, ChunksRep, chunks-rep}
+use Rattle.refinement.proofs.ArenaHolders.{small-class}
 
 pub small-shape : (c : ℕ) → ltb c 64 ≡ true → isMedium (shapeOf c) ≡ false
 unfolding shapeOf smallShape
 small-shape c e = rw e
-
-pub small-class : (c : ℕ) → ltb c 64 ≡ true → ltb c 76 ≡ true
-small-class c e = lt-ltb c 76 (omega (arith, ltb-true c 64 e))
 
 module _ (n : ℕ) (hn : n ≤ maxPages) (b : List ℕ) (H : Heap) (R : Represents n b H) (ok : Reached n H) (c : ℕ) (hs : ltb c 64 ≡ true) where
   hc : ltb c 76 ≡ true

@@ -24,6 +24,7 @@ use Rattle.model.specs.Page.{Page, wordOf, wordsFrom, isOut, carvedWords}
 use Rattle.model.specs.Release.{ofKind}
 use Rattle.model.proofs.Counts.{elem-count, count-elem}
 use Rattle.model.proofs.Pages.{word-rises}
+use Rattle.model.proofs.Apart.{which}
 use Rattle.words.specs.Host.{digit}
 use Rattle.pages.specs.Stack.{marked, blocksFrom, indexOf, pageAt, isBlock}
 use Rattle.calls.specs.Release.{startOf, outIn, inRunOf, outAt}
@@ -60,15 +61,6 @@ module _ {sh : Shape} (ok : Sound sh) where
       by-cases (eqb j x)
       (λ e. rw (e, eq-eqb (wordOf sh q j) (wordOf sh q x) (ap (wordOf sh q) (eqb-true j x e))) (omega arith))
       (λ e. rw (e, ne-eqb (wordOf sh q j) (wordOf sh q x) (λ z. eqb-false j x e (word-inj q j x z))) (omega arith))
-
-  -- a carved word is the word of a block below
-  which : (q k w : ℕ) → 1 ≤ count w (wordsFrom sh q 0 k) → (i : ℕ) × (i < k) × (w ≡ wordOf sh q i)
-  which q zero w h = absurd (omega arith)
-  which q (suc k) w h =
-      by-cases (eqb w (wordOf sh q (0 + k)))
-      (λ e. (k, omega arith, rw zero-add at (eqb-true w (wordOf sh q (0 + k)) e)))
-      (λ e. let z : 1 ≤ 0 + count w (wordsFrom sh q 0 k) = rw e at h in
-      let r = which q k w (omega arith) in (r .0, omega (arith, r .1), r .2))
 
   pub words-elem : (q k i : ℕ) → i < k → elem (wordOf sh q i) (wordsFrom sh q 0 k) ≡ true
   words-elem q zero i h = absurd (omega arith)
@@ -164,7 +156,7 @@ module _ {n : ℕ} {b : List ℕ} {c : ℕ} {sh : Shape} (s : Setting n b c sh) 
     pub out-sits : isOut sh w p ≡ true → Sits b sh (p .first) w
     unfolding isOut carvedWords
     out-sits e =
-        let t = which (s .shape) (p .first) (p .carved) w (elem-count w (carvedWords sh p) (and-left (elem w (carvedWords sh p)) (not (elem w (p .free))) e)) in
+        let t = which sh (p .first) (p .carved) w (elem-count w (carvedWords sh p) (and-left (elem w (carvedWords sh p)) (not (elem w (p .free))) e)) in
         let f = count-elem w (p .free) (not-true (elem w (p .free)) (and-right (elem w (carvedWords sh p)) (not (elem w (p .free))) e)) in
         let z : count (t .0) (r .stack) ≡ 0 = sym (free-count (t .0)) ∙ ap (λ v. count v (p .free)) (sym (t .2)) ∙ f in
         let y : digit (ltb (t .0) (p .carved)) ≡ 1 = ap digit (lt-ltb (t .0) (p .carved) (t .1)) in

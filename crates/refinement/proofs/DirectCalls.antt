@@ -57,7 +57,7 @@ is-direct nobody e = refl
 is-direct direct e = refl
 is-direct (class c) e = ne-eqb (suc c) (ownerCode direct) (λ z. let l = ltb-true c 76 e in omega arith)
 
-direct-held : (w : Holder) → isDirect w ≡ true → 1 ≤ isHeld w
+pub direct-held : (w : Holder) → isDirect w ≡ true → 1 ≤ isHeld w
 direct-held nobody e = absurd (false≢true e)
 direct-held direct e = omega arith
 direct-held (class c) e = absurd (false≢true e)

@@ -131,9 +131,6 @@ pub in-count : (x : ℕ) (xs : List ℕ) → In x xs → 1 ≤ count x xs
 in-count x (y ∷ ys) (inl e) = rw (eq-eqb x y e) (omega arith)
 in-count x (y ∷ ys) (inr i) = let ih = in-count x ys i in omega arith
 
-pub itself : (x : ℕ) → _≡_ {A = ℕ} (cond (eqb x x) 1 0) 1
-itself x = rw (eq-eqb x x refl)
-
 -- a page of a list in which q does not stand is not q
 pub off : (q : ℕ) (xs : List ℕ) → count q xs ≡ 0 → (x : ℕ) → In x xs → x ≡ q → ⊥
 off q xs e x i x-q = let z = in-count q xs (subst (λ (w : ℕ). In w xs) x-q i) in omega arith

@@ -10,7 +10,6 @@ use mathlib.Core.List.{List, [], _∷_, _++_, map}
 use mathlib.Core.Path.{_≡_, refl, sym, subst}
 use lib.Dec.{ltb, leb}
 use lib.ListN.{length}
-use borrow.Author.Tests.{ltb-true, lt-ltb}
 use Rattle.facts.specs.Lists.{All}
 use Rattle.facts.proofs.Bools.{by-cases}
 use Rattle.words.specs.Host.{badHost}
@@ -29,10 +28,8 @@ use Rattle.refinement.proofs.DirectCalls.{direct-represents}
 use Rattle.refinement.proofs.OpenRep.{opened-represents}
 use Rattle.refinement.proofs.TakeWhole.{take-after}
 use Rattle.refinement.proofs.ReleaseWhole.{release-after}
-use Rattle.refinement.proofs.ChunkWhole.{small-class, chunks-after}
-
-medium-class : (c : ℕ) → ltb c 12 ≡ true → ltb (64 + c) 76 ≡ true
-medium-class c e = lt-ltb (64 + c) 76 (omega (arith, ltb-true c 12 e))
+use Rattle.refinement.proofs.ChunkWhole.{chunks-after}
+use Rattle.refinement.proofs.ArenaHolders.{small-class, medium-class}
 
 -- the calls ys on a book that stands for the heap H
 record RunRep (n : ℕ) (H : Heap) (b : List ℕ) (ys : List Call) : Type 0 where

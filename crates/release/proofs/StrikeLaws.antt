@@ -11,7 +11,7 @@ use lib.Dec.{eqb, ltb, leb, eqb·zero-suc, eqb·suc-suc}
 use lib.ListN.{length, take}
 use borrow.Author.Tests.{leb-true, ltb-true, eqb-true, lt-ltb, eq-eqb, ne-eqb, le-leb}
 use Rattle.facts.specs.Lists.{every, elem, distinct}
-use Rattle.facts.proofs.Bools.{and-left, and-right}
+use Rattle.facts.proofs.Bools.{and-left, and-right, and-swap}
 use Rattle.facts.proofs.Lists.{every-same}
 use Rattle.words.specs.Word.{kindOf}
 use Rattle.classes.specs.declared.Shape.{Shape}
@@ -30,9 +30,6 @@ use Rattle.pages.proofs.Marks.{isMark}
 use Rattle.release.proofs.Bits.{put-bit, start-kept, in-run-kept, out-in, below-capacity, one-word, bit-kept}
 
 -- ---- tautologies
-and-swap : (a x y : Bool) → (a && (x && y)) ≡ (x && (a && y))
-and-swap true x y = refl
-and-swap false x y = sym (and-false x)
 
 past-each : (a e x y : Bool) → ((not a && x) && (not e && y)) ≡ (not (a || e) && (x && y))
 past-each true e x y = refl

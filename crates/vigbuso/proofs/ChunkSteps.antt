@@ -14,7 +14,7 @@ use Rattle.chunks.specs.CallAsks.{CallAsks, ChunksAnswered}
 use Rattle.chunks.proofs.PlaceSteps.{class-limits}
 use Rattle.vigbuso.specs.Faults.{classFault}
 use Rattle.vigbuso.specs.Blocks.{chunksOn, ChunksEnds}
-use Rattle.vigbuso.proofs.FaultWays.{class-book, class-below}
+use Rattle.vigbuso.proofs.FaultSteps.{class-book, class-below}
 use Rattle.vigbuso.proofs.ReleaseSteps.{class-asks}
 
 -- a small class's run is one page

@@ -1,5 +1,5 @@
-mod FaultWays
-mod DirectWays
+mod FaultSteps
+mod DirectSteps
 mod TakeSteps
 mod ReleaseSteps
 mod ChunkSteps

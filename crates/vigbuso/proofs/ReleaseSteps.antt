@@ -17,8 +17,8 @@ use Rattle.release.specs.Act.{answerAs, Answered}
 use Rattle.release.specs.Asks.{ClassAsks}
 use Rattle.vigbuso.specs.Faults.{classFault}
 use Rattle.vigbuso.specs.Blocks.{releaseOn, ReleaseEnds}
-use Rattle.vigbuso.proofs.FaultWays.{class-book, class-below}
-use Rattle.vigbuso.proofs.DirectWays.{book-in}
+use Rattle.vigbuso.proofs.FaultSteps.{class-book, class-below}
+use Rattle.vigbuso.proofs.DirectSteps.{book-in}
 
 refusal : (k : ℕ) → (k ≡ 0 → ⊥) → (f : ℕ) → Refused k ≡ answerAs k f
 refusal zero d f = absurd (d refl)

@@ -16,8 +16,8 @@ use Rattle.take.specs.TakeAnswer.{answerOf, Takes}
 use Rattle.take.specs.TakePlan.{CallAsks}
 use Rattle.vigbuso.specs.Faults.{classFault}
 use Rattle.vigbuso.specs.Blocks.{takeOn, TakeEnds}
-use Rattle.vigbuso.proofs.FaultWays.{class-book, class-below}
-use Rattle.vigbuso.proofs.DirectWays.{book-in, byte-digit}
+use Rattle.vigbuso.proofs.FaultSteps.{class-book, class-below}
+use Rattle.vigbuso.proofs.DirectSteps.{book-in, byte-digit}
 
 refusal : (k : ℕ) → (k ≡ 0 → ⊥) → (m : ℕ) (v : Bool) → Refused k ≡ answerOf k m v
 refusal zero d m v = absurd (d refl)

@@ -1,7 +1,7 @@
 use borrow.Author.Needs.{needs}
 use Rattle.direct.proofs.calls.commit.Statement.{statement}
 use Rattle.direct.proofs.calls.commit.Tie as tie
-use Rattle.direct.proofs.Ways.{commit-bad, clamped-fits, commit-goes}
+use Rattle.direct.proofs.CallSteps.{commit-bad, clamped-fits, commit-goes}
 
 pub commit-spec : {M : Type 1} → statement M
 commit-spec =

@@ -1,7 +1,7 @@
 use borrow.Author.Needs.{needs}
 use Rattle.direct.proofs.calls.grow_frontier.Statement.{statement}
 use Rattle.direct.proofs.calls.grow_frontier.Tie as tie
-use Rattle.direct.proofs.Ways.{grow-bad, direct-end, direct-near, growth-more, clamped-fits, grow-held, grow-not}
+use Rattle.direct.proofs.CallSteps.{grow-bad, direct-end, direct-near, growth-more, clamped-fits, grow-held, grow-not}
 
 pub grow-frontier-spec : {M : Type 1} → statement M
 grow-frontier-spec =

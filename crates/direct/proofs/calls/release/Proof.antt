@@ -1,7 +1,7 @@
 use borrow.Author.Needs.{needs}
 use Rattle.direct.proofs.calls.release.Statement.{statement}
 use Rattle.direct.proofs.calls.release.Tie as tie
-use Rattle.direct.proofs.Ways.{release-bad, direct-first, direct-pages, direct-inside, release-held, release-not}
+use Rattle.direct.proofs.CallSteps.{release-bad, direct-first, direct-pages, direct-inside, release-held, release-not}
 
 pub release-spec : {M : Type 1} → statement M
 release-spec =

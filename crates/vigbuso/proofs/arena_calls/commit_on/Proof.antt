@@ -1,8 +1,8 @@
 use borrow.Author.Needs.{needs}
 use Rattle.vigbuso.proofs.arena_calls.commit_on.Statement.{statement}
 use Rattle.vigbuso.proofs.arena_calls.commit_on.Tie as tie
-use Rattle.vigbuso.proofs.FaultWays.{call-book}
-use Rattle.vigbuso.proofs.DirectWays.{has-size, book-in, commit-refused, commit-goes}
+use Rattle.vigbuso.proofs.FaultSteps.{call-book}
+use Rattle.vigbuso.proofs.DirectSteps.{has-size, book-in, commit-refused, commit-goes}
 
 pub commit-on-spec : {M : Type 1} → statement M
 commit-on-spec =

@@ -1,7 +1,7 @@
 use borrow.Author.Needs.{needs}
 use Rattle.vigbuso.proofs.arena_calls.contains_on.Statement.{statement}
 use Rattle.vigbuso.proofs.arena_calls.contains_on.Tie as tie
-use Rattle.vigbuso.proofs.DirectWays.{none-before, has-size, book-in, contains-refused, contains-goes}
+use Rattle.vigbuso.proofs.DirectSteps.{none-before, has-size, book-in, contains-refused, contains-goes}
 
 pub contains-on-spec : {M : Type 1} → statement M
 contains-on-spec =

@@ -1,8 +1,8 @@
 use borrow.Author.Needs.{needs}
 use Rattle.vigbuso.proofs.arena_calls.grow_on.Statement.{statement}
 use Rattle.vigbuso.proofs.arena_calls.grow_on.Tie as tie
-use Rattle.vigbuso.proofs.FaultWays.{call-book}
-use Rattle.vigbuso.proofs.DirectWays.{has-size, book-in, grow-refused, grow-goes}
+use Rattle.vigbuso.proofs.FaultSteps.{call-book}
+use Rattle.vigbuso.proofs.DirectSteps.{has-size, book-in, grow-refused, grow-goes}
 
 pub grow-on-spec : {M : Type 1} → statement M
 grow-on-spec =

@@ -1,7 +1,7 @@
 use borrow.Author.Needs.{needs}
 use Rattle.vigbuso.proofs.arena_calls.report_on.Statement.{statement}
 use Rattle.vigbuso.proofs.arena_calls.report_on.Tie as tie
-use Rattle.vigbuso.proofs.DirectWays.{none-before, has-size, book-in, report-refused, report-goes}
+use Rattle.vigbuso.proofs.DirectSteps.{none-before, has-size, book-in, report-refused, report-goes}
 
 pub report-on-spec : {M : Type 1} → statement M
 report-on-spec =

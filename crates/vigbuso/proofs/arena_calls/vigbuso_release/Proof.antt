@@ -1,8 +1,8 @@
 use borrow.Author.Needs.{needs}
 use Rattle.vigbuso.proofs.arena_calls.vigbuso_release.Statement.{statement}
 use Rattle.vigbuso.proofs.arena_calls.vigbuso_release.Tie as tie
-use Rattle.vigbuso.proofs.FaultWays.{call-book}
-use Rattle.vigbuso.proofs.DirectWays.{has-size, book-in, release-refused, release-goes}
+use Rattle.vigbuso.proofs.FaultSteps.{call-book}
+use Rattle.vigbuso.proofs.DirectSteps.{has-size, book-in, release-refused, release-goes}
 
 pub vigbuso-release-spec : {M : Type 1} → statement M
 vigbuso-release-spec =

@@ -1,6 +1,6 @@
 use borrow.Author.Needs.{needs}
-use Rattle.vigbuso.proofs.FaultWays.{class-book}
-use Rattle.vigbuso.proofs.DirectWays.{has-size}
+use Rattle.vigbuso.proofs.FaultSteps.{class-book}
+use Rattle.vigbuso.proofs.DirectSteps.{has-size}
 use Rattle.vigbuso.proofs.ChunkSteps.{chunks-asks, chunks-goes, chunks-unfit}
 use Rattle.vigbuso.proofs.chunk_calls.vigbuso_release_bin_chunks.Statement.{statement}
 use Rattle.vigbuso.proofs.chunk_calls.vigbuso_release_bin_chunks.Tie as tie

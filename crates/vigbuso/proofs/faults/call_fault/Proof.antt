@@ -1,5 +1,5 @@
 use borrow.Author.Needs.{needs}
-use Rattle.vigbuso.proofs.FaultWays.{call-unfit, call-host, call-fits}
+use Rattle.vigbuso.proofs.FaultSteps.{call-unfit, call-host, call-fits}
 use Rattle.vigbuso.proofs.faults.call_fault.Statement.{statement}
 use Rattle.vigbuso.proofs.faults.call_fault.Tie as tie
 

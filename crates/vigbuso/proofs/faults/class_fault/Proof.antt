@@ -1,5 +1,5 @@
 use borrow.Author.Needs.{needs}
-use Rattle.vigbuso.proofs.FaultWays.{class-unfit, class-none, class-fits}
+use Rattle.vigbuso.proofs.FaultSteps.{class-unfit, class-none, class-fits}
 use Rattle.vigbuso.proofs.faults.class_fault.Statement.{statement}
 use Rattle.vigbuso.proofs.faults.class_fault.Tie as tie
 

@@ -1,6 +1,6 @@
 use borrow.Author.Needs.{needs}
-use Rattle.vigbuso.proofs.FaultWays.{class-book, id-fits}
-use Rattle.vigbuso.proofs.DirectWays.{has-size}
+use Rattle.vigbuso.proofs.FaultSteps.{class-book, id-fits}
+use Rattle.vigbuso.proofs.DirectSteps.{has-size}
 use Rattle.vigbuso.proofs.TakeSteps.{take-asks, take-goes, take-unfit}
 use Rattle.vigbuso.proofs.take_calls.take_on.Statement.{statement}
 use Rattle.vigbuso.proofs.take_calls.take_on.Tie as tie

@@ -1,7 +1,7 @@
 -- The ways out of the exported calls that go straight to the arena.
 use Prim.Native.Nat.{ℕ, zero, suc, _≤_}
 use native.Mathlib.Omega.{arith}
-use mathlib.Core.Bool.{Bool, true, false, cond}
+use mathlib.Core.Bool.{Bool, true, false}
 use mathlib.Core.List.{List}
 use mathlib.Core.Option.{none}
 use mathlib.Core.Path.{_≡_, refl, sym, _∙_}
@@ -15,7 +15,7 @@ use Rattle.words.specs.Host.{digit}
 use Rattle.fields.specs.Field.{arena, size, get, Has, words}
 use Rattle.fields.specs.Outcome.{Did}
 use Rattle.fields.specs.Ranges.{within, between, maxPages, lengthFault, metaFault}
-use Rattle.fields.proofs.Sound.{sound}
+use Rattle.fields.proofs.Sound.{sound, both}
 use Rattle.runs.specs.declared.Commit.{Commit}
 use Rattle.runs.specs.declared.Commit.the-variants.{Refused, Run, Nothing}
 use Rattle.direct.specs.declared.Grow.{Grow}
@@ -56,10 +56,6 @@ grow-refusal zero d = absurd (d refl)
 grow-refusal (suc k) d = refl
 
 -- ---- opening
-both : (s l : Bool) (r : ℕ) → r ≡ cond s (cond l 0 2) 1 → r ≡ 0 → (s ≡ true) × (l ≡ true)
-both true true r e z = (refl, refl)
-both true false r e z = absurd (omega arith)
-both false l r e z = absurd (omega arith)
 
 module _ (b : List ℕ) (n r : ℕ) (e : r ≡ lengthFault n (length b)) where
   pub open-refused : (r ≡ 0 → ⊥) → Did r b (openOn b n)
