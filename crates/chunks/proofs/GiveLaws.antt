@@ -5,6 +5,8 @@
 use Prim.Native.Nat.{ℕ, suc, _+_, _-_, _*_, _≤_, _<_}
 use native.Mathlib.Omega.{arith}
 use native.Mathlib.Numerals.{add-one}
+use mir.Val.{Fits}
+use mir.Syntax.{w32}
 use mathlib.Core.Bool.{true, false}
 use mathlib.Core.List.{List, [], _∷_, _++_}
 use mathlib.Core.Path.{_≡_, refl, sym, ap, _∙_}
@@ -213,6 +215,10 @@ module _ (n : ℕ) (b : List ℕ) (sh : Shape) (g f : ℕ) (gs fs : List ℕ) (a
   }
 
 -- ---- one chunk
+-- the fate of a retired run for the arena
+pub fate-fits : Fits w32 (4 + 2)
+fate-fits = record { fits = omega arith }
+
 module _ (n : ℕ) (b : List ℕ) (m g f : ℕ) where
   pub give-none : (f ≡ 6 → ⊥) → b ≡ giveRuns b m (givesOf (pageOf g) f)
   give-none h = rw (ne-eqb f 6 h)
