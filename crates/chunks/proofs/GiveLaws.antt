@@ -14,6 +14,7 @@ use lib.Dec.{eqb, ltb, leb}
 use lib.ListN.{length, getD, drop}
 use lib.Seq.{drop-cons}
 use borrow.Author.Tests.{ltb-true, le-leb, leb-true, eq-eqb, ne-eqb}
+use Rattle.facts.proofs.Lists.{drop-past}
 use Rattle.facts.proofs.Bools.{by-cases, and-left, and-right}
 use Rattle.words.specs.Word.{pageOf}
 use Rattle.classes.specs.declared.Shape.{Shape}
@@ -32,7 +33,6 @@ use Rattle.holes.proofs.StoreLaws.{hole-length, remember-length}
 use Rattle.arena.proofs.Frames.{isStored, isOwner, record-changes, own-changes}
 use Rattle.holes.proofs.Acts.{FairRecord, fair-record, give-acts}
 use Rattle.runs.specs.Asks.{GiveIn}
-use Rattle.release.proofs.RunSteps.{drop-past}
 use Rattle.calls.specs.Chunks.{givesOf, giveRuns}
 use Rattle.chunks.specs.Pass.{givesIn}
 use Rattle.chunks.specs.GiveAsks.{givesFair, GiveChunkAsks, GiveChunksAsks}
