@@ -114,7 +114,7 @@ fn everything_is_tried_in_a_tiny_grid() {
     assert_eq!(done.best.map(|best| best.score), Some(5 + 6 + 7 + 2));
 }
 
-/// With fewer and fewer pages the search ends earlier, but a fill that it had found is still there.
+/// With few pages the search ends early, but a fill that it had found is still there.
 #[test]
 fn the_best_fill_is_kept_when_the_arena_is_full() {
     let mut kept = 0;
@@ -123,11 +123,14 @@ fn the_best_fill_is_kept_when_the_arena_is_full() {
         let done = match job.run(&mut |_| ()) {
             Ok(done) => done,
             Err(error) => {
-                assert_eq!(error.to_string(), format!("{pages} pages are too few to begin with"));
+                assert_eq!(error.to_string(), format!("too few pages to begin with: {pages}"));
                 continue;
             }
         };
-        if done.stop == Stop::Full && done.best.is_some() {
+        if done.stop != Stop::Full {
+            break;
+        }
+        if done.best.is_some() {
             assert_fill(&job, &done, 30);
             assert!(job.text(&done).contains("until the arena was full\n"));
             kept += 1;

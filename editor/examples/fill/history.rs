@@ -39,7 +39,7 @@ impl History {
     /// Keeps how things are at a turn.
     pub fn note(&mut self, store: &mut Store, turn: usize, standing: usize) -> Outcome<()> {
         let turn = turn as u32;
-        if turn.is_multiple_of(self.every) {
+        if turn % self.every == 0 {
             let pages_held = store.report()?.held as u32;
             let sample = Sample { turn, standing: standing as u32, pages_held, blocks_out: store.tally().out as u32 };
             self.push(store, sample)?;
@@ -81,7 +81,7 @@ impl History {
 
     fn thin_out(&mut self, store: &mut Store) {
         self.every *= 2;
-        self.written.retain(|sample| sample.turn.is_multiple_of(self.every));
+        self.written.retain(|sample| sample.turn % self.every == 0);
         let bytes: Vec<u8> = self.written.iter().flat_map(|&sample| to_bytes(sample)).collect();
         store.run_mut(self.run)[..bytes.len()].copy_from_slice(&bytes);
     }

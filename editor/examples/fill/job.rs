@@ -55,7 +55,7 @@ impl Job {
     pub fn run(&self, watch: &mut dyn FnMut(&Progress)) -> Outcome<Done> {
         let mut store = Store::open(self.pages)?;
         let search = Search::new(&self.grid, &self.words, &mut store)?;
-        let mut search = search.ok_or_else(|| format!("{} pages are too few to begin with", self.pages))?;
+        let mut search = search.ok_or_else(|| format!("too few pages to begin with: {}", self.pages))?;
         let (stop, pages) = search.run(&mut store, self.turns, watch)?;
         let done = Done {
             best: search.best(&store)?,

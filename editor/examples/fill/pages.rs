@@ -2,7 +2,7 @@
 
 use std::ops::Range;
 
-use super::blocks::{Class, Report, PAGE_BYTES};
+use super::blocks::{self, Class, Report, PAGE_BYTES};
 use super::Outcome;
 
 #[derive(Clone, Copy, PartialEq, Eq, PartialOrd, Ord, Debug)]
@@ -22,7 +22,7 @@ impl Holder {
     pub fn name(self) -> String {
         match self {
             Holder::Direct => "direct run".into(),
-            Holder::Class(class) => class.name(),
+            Holder::Class(class) => blocks::name(class),
             Holder::Hole => "hole".into(),
             Holder::Fresh => "fresh".into(),
         }

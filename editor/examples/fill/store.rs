@@ -107,7 +107,7 @@ impl Store {
         };
         let block = self.blocks.alloc(bytes)?;
         if let Some(block) = block {
-            let first = class.first_page(block);
+            let first = class.first_page(block).unwrap_or(block.page()) as usize;
             self.pages.hold(first..first + class.pages(), Holder::Class(class));
             self.tally.count(block);
         }

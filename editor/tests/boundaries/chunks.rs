@@ -1,4 +1,4 @@
-//! Group releases: 2,056 groups, and a group's own order. A group is a chunk here, as in the library.
+//! Releases by chunks: 2,056 of them, their order, and the order of a chunk's blocks.
 
 use crate::heap::{Family, Heap, ALL};
 
@@ -9,12 +9,12 @@ const CLASS: u32 = 45;
 fn pages(number: usize) -> (Heap, Vec<u32>, Vec<(u32, u32)>) {
     let mut heap = Heap::open(2_100);
     let list = (0..number).map(|_| heap.take(Family::Small, CLASS, ALL).expect("class 45").0[0]).collect();
-    let chunks = (0..number as u32).map(|page| (1, page)).collect();
+    let chunks = (0..).take(number).map(|page| (1, page)).collect();
     (heap, list, chunks)
 }
 
 #[test]
-fn with_2_056_groups_a_release_passes() {
+fn with_2_056_chunks_a_release_passes() {
     let (mut heap, list, chunks) = pages(2_056);
     assert_eq!(heap.give_chunks(CLASS, &list, &chunks, 2_056), Ok(vec![0; 2_056]));
     assert_eq!(heap.report(), [2_056, 0, 0, 2_056, 44]);
@@ -23,18 +23,18 @@ fn with_2_056_groups_a_release_passes() {
 }
 
 #[test]
-fn with_2_057_groups_it_is_refused_as_8() {
+fn with_2_057_chunks_it_is_refused_as_8() {
     let (mut heap, list, chunks) = pages(2_057);
     assert_eq!(heap.give_chunks(CLASS, &list, &chunks, 2_057), Err(8));
     // So it is with a fate too few.
     assert_eq!(heap.give_chunks(CLASS, &list[1..], &chunks[1..], 2_055), Err(8));
-    // Each block is still out: one group fewer passes, then the one left over.
+    // Each block is still out: one chunk fewer passes, then the one left over.
     assert_eq!(heap.give_chunks(CLASS, &list[1..], &chunks[1..], 2_056), Ok(vec![0; 2_056]));
     assert_eq!(heap.give_chunks(CLASS, &list[..1], &chunks[..1], 1), Ok(vec![0]));
 }
 
 #[test]
-fn a_group_keeps_the_chains_order() {
+fn a_chunk_keeps_the_chains_order() {
     let mut heap = Heap::open(4);
     assert_eq!(heap.take(Family::Small, CLASS, ALL), Ok((vec![2_051, 1_027, 3], true)));
     assert_eq!(heap.give_chunks(CLASS, &[2_051, 3], &[(2, 0)], 1), Ok(vec![0]));
@@ -43,7 +43,7 @@ fn a_group_keeps_the_chains_order() {
 }
 
 #[test]
-fn groups_are_treated_in_order() {
+fn chunks_are_treated_in_order() {
     let mut heap = Heap::open(16);
     let mut list = Vec::new();
     for _ in 0..6 {

@@ -108,7 +108,8 @@ pub struct Heap {
 impl Heap {
     /// The book's words are zero until they are written, so most of a long one costs no memory.
     pub fn open(pages: u64) -> Heap {
-        let mut book = vec![0; 40_000 + 4_112 * pages as usize];
+        let words = usize::try_from(40_000 + 4_112 * pages).expect("64 bits");
+        let mut book = vec![0; words];
         assert_eq!(unsafe { vigbuso_open(book.as_mut_ptr(), book.len(), pages) }, 0);
         Heap { book }
     }
@@ -117,14 +118,16 @@ impl Heap {
     pub fn commit(&mut self, host: u32, pages: u64) -> Answer<Option<(u32, bool)>> {
         let (mut first, mut fresh) = (0, 0);
         let book = &mut self.book;
-        let number = unsafe { vigbuso_commit(book.as_mut_ptr(), book.len(), host, pages, &mut first, &mut fresh) };
+        let number =
+            unsafe { vigbuso_commit(book.as_mut_ptr(), book.len(), host, pages, &raw mut first, &raw mut fresh) };
         answered(number, (first != u32::MAX).then_some((first, fresh == 1)))
     }
 
     pub fn grow(&mut self, host: u32, first: u64, old: u64, new: u64) -> Answer<bool> {
         let mut grown = 0;
         let book = &mut self.book;
-        let number = unsafe { vigbuso_grow_frontier(book.as_mut_ptr(), book.len(), host, first, old, new, &mut grown) };
+        let number =
+            unsafe { vigbuso_grow_frontier(book.as_mut_ptr(), book.len(), host, first, old, new, &raw mut grown) };
         answered(number, grown == 1)
     }
 
@@ -155,7 +158,8 @@ impl Heap {
             Family::Medium => vigbuso_medium_take_blocks,
         };
         let (book, words) = (self.book.as_mut_ptr(), self.book.len());
-        let number = unsafe { call(book, words, class, host, list.as_mut_ptr(), list.len(), &mut count, &mut virgin) };
+        let number =
+            unsafe { call(book, words, class, host, list.as_mut_ptr(), list.len(), &raw mut count, &raw mut virgin) };
         let granules = list[..count as usize].iter().map(|word| word & 0x3FFF_FFFF).collect();
         answered(number, (granules, virgin == 1))
     }
@@ -169,7 +173,7 @@ impl Heap {
         let list = words(kind, granules);
         let mut fate = 0;
         let (book, words) = (self.book.as_mut_ptr(), self.book.len());
-        let number = unsafe { call(book, words, class, host, list.as_ptr(), list.len(), &mut fate) };
+        let number = unsafe { call(book, words, class, host, list.as_ptr(), list.len(), &raw mut fate) };
         answered(number, fate)
     }
 
