@@ -3,11 +3,10 @@
 --     run-fits       so is the commit that a class's call asks for, and it asks for one exactly as `Asks` says
 --     take-yields    a take that is not refused answers a block, or the arena has no run for it
 use Prim.Native.Nat.{ℕ, _≤_}
-use native.Mathlib.Omega.{arith}
 use mathlib.Core.Bool.{Bool, true, false, cond, false≢true}
 use mathlib.Core.List.{List, [], _∷_}
 use mathlib.Core.Logic.{_⊎_, inl, inr}
-use mathlib.Core.Option.{Option, none, some}
+use mathlib.Core.Option.{Option, none, some, Option·none-ne-some}
 use mathlib.Core.Path.{_≡_, refl, sym, ap, _∙_}
 use lib.Dec.{ltb}
 use lib.ListN.{length}
@@ -100,12 +99,9 @@ module _ (sh : Shape) where
     reaches (Calls.giveChunks h ws gs fs) z = chunks-home sh (sh .pages) _ (λ a. false≢true (a .take)) s h ws gs fs
 
 -- ---- what the arena answers it
-some-none : {q : ℕ} → _≡_ {A = Option ℕ} (some q) none → ⊥
-some-none e = let z : _≡_ {A = ℕ} 0 1 = cc in omega arith
-
 none-fits : {n h m : ℕ} {a : Arena} {r : Option ℕ} {f : Bool} → Commits n h m a r f → r ≡ none → Commits n h m a none false
-none-fits (from-hole i u g l w) e = absurd (some-none e)
-none-fits (from-frontier u g s l) e = absurd (some-none e)
+none-fits (from-hole i u g l w) e = absurd (Option·none-ne-some _ (sym e))
+none-fits (from-frontier u g s l) e = absurd (Option·none-ne-some _ (sym e))
 none-fits (unusable u) e = unusable u
 none-fits (ungranted u) e = ungranted u
 none-fits (exhausted u v) e = exhausted u v

@@ -1,18 +1,17 @@
 -- A run held by the direct calls can be released or grown, and no other: number 12 goes by what the calls and their answers tell. Assumes
 -- nothing.
---     held-releases, held-grows    a direct release, a growth is not refused exactly if each page of the run is held so
---     growth-fits                  and a growth that is not refused is answered yes or no with its reason
+--     held-releases, held-grows       a direct release, a growth is not refused exactly if each page of the run is held so
+--     unheld-refused, unheld-stays    else it is refused as 12
+--     growth-fits                     and a growth that is not refused is answered yes or no with its reason
 use Prim.Native.Nat.{ℕ, zero, suc, _+_, _-_, _≤_, _<_}
 use native.Mathlib.Omega.{arith}
-use native.Mathlib.Decide.{ℕ-discrete}
-use mathlib.Core.Bool.{Bool, true, false, false≢true}
+use mathlib.Core.Bool.{true, false, false≢true}
 use mathlib.Core.List.{List}
 use mathlib.Core.Logic.{_↔_}
-use mathlib.Core.Path.{_≡_, refl, sym, _∙_}
+use mathlib.Core.Path.{_≡_, refl, sym, ap, _∙_}
 use lib.Dec.{eqb, leb}
 use borrow.Author.Tests.{eqb-true, eqb-false, leb-true, leb-false, le-leb, lt-leb, le-ltb}
 use Rattle.words.specs.Host.{commitGranted}
-use Rattle.model.specs.Lists.{every, below}
 use Rattle.model.specs.Calls as Calls
 use Rattle.model.specs.Calls.{Call, isRefused}
 use Rattle.model.specs.Chunks.{hostMax}
@@ -20,10 +19,12 @@ use Rattle.model.specs.Arena.{Arena, grow}
 use Rattle.model.specs.Heap.{Holder, nobody, direct, class, isDirect, isHeld, badRun, heldDirect, growCall, releaseCall, directCall, step}
 use Rattle.model.specs.History.{heapAfter}
 use Rattle.model.specs.Entries.{directAfter}
-use Rattle.model.proofs.Counts.{by-cases, and-l, and-r}
+use Rattle.model.proofs.Counts.{by-cases, and-r}
 use Rattle.model.proofs.Theorems.{conserved}
 use Rattle.arena.specs.Load.{loadArena}
 use Rattle.vigbuso.specs.Direct.{growOn, releaseOn}
+use Rattle.refinement.proofs.Basics.{every-of}
+use Rattle.refinement.proofs.ArenaFrames.{every-at}
 use Rattle.refinement.proofs.ArenaReached.{reached-after, held-below}
 use Rattle.demands.specs.Call.{call}
 use Rattle.demands.specs.Run.{Opens, bookAfter, next, told}
@@ -31,18 +32,6 @@ use Rattle.demands.specs.Demands.{Grows, grew, elsewhere, exhausted, ung
 use Rattle.demands.proofs.Histories.{run-represents, next-agrees}
 use Rattle.demands.proofs.Codes.{zero-of, unrefused-of}
 use Rattle.demands.proofs.Told.{told-direct}
-
-every-of : (t : ℕ → Bool) (m : ℕ) → ((k : ℕ) → k < m → t k ≡ true) → every t (below m) ≡ true
-every-of t zero h = refl
-every-of t (suc m) h = rw (h m (omega arith), every-of t m (λ k l. h k (omega arith)))
-
-pub every-at : (t : ℕ → Bool) (m k : ℕ) → every t (below m) ≡ true → k < m → t k ≡ true
-every-at t zero k e l = absurd (omega arith)
-every-at t (suc m) k e l =
-    elim (ℕ-discrete k m) [
-      | yes p ↦ rw p (and-l (t m) _ e)
-      | no p ↦ every-at t m k (and-r (t m) _ e) (omega (arith, p))
-    ]
 
 direct-held : (w : Holder) → isDirect w ≡ true → 1 ≤ isHeld w
 direct-held nobody e = absurd (false≢true e)
@@ -84,7 +73,7 @@ module _ (n : ℕ) (xs : List Call) (h q m : ℕ) (low : h ≤ hostMax) (good : 
   unfolding step directCall releaseCall
   step-held e = rw (le-ltb hostMax h low, good, e)
 
-  step-not : heldDirect n (heapAfter n xs) q m ≡ false → isRefused (step n (heapAfter n xs) (Calls.release h q m) .answer) ≡ true
+  step-not : heldDirect n (heapAfter n xs) q m ≡ false → step n (heapAfter n xs) (Calls.release h q m) .answer ≡ Calls.refused 12
   unfolding step directCall releaseCall
   step-not e = rw (le-ltb hostMax h low, good, e)
 
@@ -93,7 +82,7 @@ module _ (n : ℕ) (xs : List Call) (h q old new : ℕ) (low : h ≤ hostMax) (g
   unfolding step directCall growCall
   step-grows e = rw (le-ltb hostMax h low, good, good′, lt-leb new old more, e)
 
-  step-stays : heldDirect n (heapAfter n xs) q old ≡ false → isRefused (step n (heapAfter n xs) (Calls.growFrontier h q old new) .answer) ≡ true
+  step-stays : heldDirect n (heapAfter n xs) q old ≡ false → step n (heapAfter n xs) (Calls.growFrontier h q old new) .answer ≡ Calls.refused 12
   unfolding step directCall growCall
   step-stays e = rw (le-ltb hostMax h low, good, good′, lt-leb new old more, e)
 
@@ -101,12 +90,20 @@ module _ (n : ℕ) (b : List ℕ) (o : Opens n b) (xs : List Call) where
   tells : (x : ℕ) → directAfter (told n b xs) x ≡ isDirect (heapAfter n xs .holder x)
   tells x = told-direct n b o xs x ∙ conserved n xs .direct x
 
+  -- a run with a page that is not held so
+  not-held : (h q m : ℕ) → h ≤ hostMax → badRun m ≡ false → (k : ℕ) → k < m → directAfter (told n b xs) (q + k) ≡ false → heldDirect n (heapAfter n xs) q m ≡ false
+  not-held h q m low good k l e =
+      by-cases (heldDirect n (heapAfter n xs) q m) (λ t. absurd (false≢true (sym e ∙ tells (q + k) ∙ run-held n xs h q m low good t k l))) (λ t. t)
+
+  pub unheld-refused : (h q m : ℕ) → h ≤ hostMax → badRun m ≡ false → (k : ℕ) → k < m → directAfter (told n b xs) (q + k) ≡ false → next n b xs (Calls.release h q m) .answer ≡ Calls.refused 12
+  unheld-refused h q m low good k l e = next-agrees n b o xs (Calls.release h q m) .answer ∙ step-not n xs h q m low good (not-held h q m low good k l e)
+
   module _ (h q m : ℕ) (low : h ≤ hostMax) (good : badRun m ≡ false) where
     released-held : next n b xs (Calls.release h q m) .code ≡ 0 → heldDirect n (heapAfter n xs) q m ≡ true
     unfolding call
     released-held e =
         by-cases (heldDirect n (heapAfter n xs) q m) (λ t. t)
-        (λ t. absurd (false≢true (sym (rw (next-agrees n b o xs (Calls.release h q m) .answer) at (unrefused-of (releaseOn (bookAfter n b xs) h q m .code) Calls.released refl e)) ∙ step-not n xs h q m low good t)))
+        (λ t. absurd (false≢true (sym (rw (next-agrees n b o xs (Calls.release h q m) .answer) at (unrefused-of (releaseOn (bookAfter n b xs) h q m .code) Calls.released refl e)) ∙ ap isRefused (step-not n xs h q m low good t))))
 
     held-released : heldDirect n (heapAfter n xs) q m ≡ true → next n b xs (Calls.release h q m) .code ≡ 0
     unfolding call
@@ -125,7 +122,7 @@ module _ (n : ℕ) (b : List ℕ) (o : Opens n b) (xs : List Call) where
     grown-held e =
         let w = growOn (bookAfter n b xs) h q old new in
         let u : isRefused (step n (heapAfter n xs) (Calls.growFrontier h q old new) .answer) ≡ false = rw (next-agrees n b o xs (Calls.growFrontier h q old new) .answer) at (unrefused-of (w .code) (Calls.grown (w .yes)) refl e) in
-        by-cases (heldDirect n (heapAfter n xs) q old) (λ t. t) (λ t. absurd (false≢true (sym u ∙ step-stays n xs h q old new low good good′ more t)))
+        by-cases (heldDirect n (heapAfter n xs) q old) (λ t. t) (λ t. absurd (false≢true (sym u ∙ ap isRefused (step-stays n xs h q old new low good good′ more t))))
 
     held-grown : heldDirect n (heapAfter n xs) q old ≡ true → next n b xs (Calls.growFrontier h q old new) .code ≡ 0
     unfolding call
@@ -147,3 +144,6 @@ module _ (n : ℕ) (b : List ℕ) (o : Opens n b) (xs : List Call) where
       fits = rw (run-represents n b o xs .arena .loads) (grow-fits n h (q + old) (new - old) (heapAfter n xs .arena));
       answer = next-agrees n b o xs (Calls.growFrontier h q old new) .answer ∙ step-grows n xs h q old new low good good′ more (grown-held e);
     }
+
+    pub unheld-stays : (k : ℕ) → k < old → directAfter (told n b xs) (q + k) ≡ false → next n b xs (Calls.growFrontier h q old new) .answer ≡ Calls.refused 12
+    unheld-stays k l e = next-agrees n b o xs (Calls.growFrontier h q old new) .answer ∙ step-stays n xs h q old new low good good′ more (not-held h q old low good k l e)

@@ -20,9 +20,9 @@ use Rattle.model.specs.Lists.{every, below}
 use Rattle.model.specs.Page.{pageGranules, wordOf}
 use Rattle.model.specs.Entries.{Entry}
 use Rattle.model.proofs.Counts.{by-cases}
+use Rattle.refinement.proofs.ArenaFrames.{every-at}
 use Rattle.demands.specs.Returns.{BlockOf}
 use Rattle.demands.specs.Demands.{TableBytes}
-use Rattle.demands.proofs.Held.{every-at}
 
 -- ---- a block's granules are its bytes
 small-bytes : (c : ℕ) → smallShape (getD smallSizes c 16384) .block * granuleBytes ≡ getD smallSizes c 16384

@@ -6,7 +6,7 @@ use Prim.Native.Nat.{ℕ, _+_, _-_, _/_, _≤_}
 use native.Mathlib.Omega.{arith}
 use mathlib.Core.Bool.{Bool, true, false, _||_, false≢true}
 use mathlib.Core.List.{List}
-use mathlib.Core.Option.{Option, none, some}
+use mathlib.Core.Option.{Option, none, some, Option·none-ne-some}
 use mathlib.Core.Path.{_≡_, refl, sym, ap, _∙_}
 use lib.Dec.{leb, ltb}
 use Rattle.classes.specs.Sizes.{pageBytes}
@@ -34,9 +34,6 @@ use Rattle.demands.proofs.Told.{told-live, told-direct}
 use Rattle.demands.proofs.Places.{byte-held}
 
 -- ---- what each call draws from the idle pages
-none-some : {A : Type 0} {x : A} → _≡_ {A = Option A} none (some x) → ⊥
-none-some e = let z : _≡_ {A = ℕ} 0 1 = cc in omega arith
-
 run-of : (r : Option ℕ) (f : Bool) → runOf (answerRun r f) ≡ r
 run-of none f = refl
 run-of (some q) f = refl
@@ -48,8 +45,8 @@ module _ (n : ℕ) (xs : List Call) where
   commit-run : (h m q : ℕ) → runOf (step n (heapAfter n xs) (Calls.commit h m) .answer) ≡ some q → Arenas.commit n h m arena .run ≡ some q
   unfolding step directCall commitCall
   commit-run h m q e =
-      by-cases (ltb hostMax h) (λ t. absurd (none-some (rw t at e)))
-      (λ t. by-cases (badRun m) (λ u. absurd (none-some (rw (t, u) at e)))
+      by-cases (ltb hostMax h) (λ t. absurd (Option·none-ne-some _ (rw t at e)))
+      (λ t. by-cases (badRun m) (λ u. absurd (Option·none-ne-some _ (rw (t, u) at e)))
       (λ u. sym (run-of (Arenas.commit n h m arena .run) (Arenas.commit n h m arena .fresh)) ∙ (rw (t, u) at e)))
 
   commit-idle : (h m q x : ℕ) → Arenas.commit n h m arena .run ≡ some q → covers m q x ≤ idle x arena

@@ -113,9 +113,14 @@ pub record Demand2 (n : ℕ) (b : List ℕ) (xs : List Call) : Type 0 where
   -- a run can be released directly exactly if each of its pages is held by the direct calls
   pub releases : (h q m : ℕ) → h ≤ hostMax → badRun m ≡ false
       → (next n b xs (Calls.release h q m) .code ≡ 0) ↔ ((k : ℕ) → k < m → directAfter (told n b xs) (q + k) ≡ true)
-  -- so is it grown, and then by `Grows`
+  -- else it is refused as 12
+  pub unheld : (h q m : ℕ) → h ≤ hostMax → badRun m ≡ false → (k : ℕ) → k < m → directAfter (told n b xs) (q + k) ≡ false
+      → next n b xs (Calls.release h q m) .answer ≡ Calls.refused 12
+  -- so with a growth, and one that is not refused is answered by `Grows`
   pub grows : (h q old new : ℕ) → h ≤ hostMax → badRun old ≡ false → badRun new ≡ false → old < new
       → (next n b xs (Calls.growFrontier h q old new) .code ≡ 0) ↔ ((k : ℕ) → k < old → directAfter (told n b xs) (q + k) ≡ true)
+  pub unheldGrowth : (h q old new : ℕ) → h ≤ hostMax → badRun old ≡ false → badRun new ≡ false → old < new → (k : ℕ) → k < old → directAfter (told n b xs) (q + k) ≡ false
+      → next n b xs (Calls.growFrontier h q old new) .answer ≡ Calls.refused 12
   pub growths : (h q old new : ℕ) → h ≤ hostMax → badRun old ≡ false → badRun new ≡ false → old < new
       → next n b xs (Calls.growFrontier h q old new) .code ≡ 0
       → GrowFits n h (q + old) (new - old) (loadArena (bookAfter n b xs)) (next n b xs (Calls.growFrontier h q old new) .answer)
