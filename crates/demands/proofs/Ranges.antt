@@ -1,6 +1,7 @@
 -- Number 13's tests are the table of Specs/Ranges over the rows that the call reads. n is the arena's length, LENGTH of the book.
 use Prim.Native.Nat.{ℕ, zero, suc, _+_, _-_, _≤_, min}
 use native.Mathlib.Omega.{arith}
+use native.Mathlib.Nat.{add-zero}
 use mathlib.Core.Bool.{Bool, true, false, cond, not, _&&_, _||_, and-true, and-false, and-assoc, and-comm}
 use mathlib.Core.List.{List, [], _∷_, _++_}
 use mathlib.Core.Path.{_≡_, refl, sym, ap, _∙_}
@@ -12,19 +13,22 @@ use Rattle.facts.proofs.Bools.{by-cases, and-swap}
 use Rattle.words.specs.Word.{countOf, pageOf}
 use Rattle.classes.specs.declared.Shape.{Shape}
 use Rattle.fields.specs.Field.{arena, class, hole, page, size, frontier, holes, holePages, held, pages, partial, empty, cold, free, carved, listed, get}
+use Rattle.fields.specs.Ranges.{maxParked}
 use Rattle.model.specs.HoleStore.{rememberedMax}
+use Rattle.model.specs.Spot.{isArena}
 use Rattle.arena.specs.Load.{loadHoles}
 use Rattle.arena.specs.Fair.{recordFair, holeFair, holesFair, memoryFair, commitFair, giveFair}
 use Rattle.pages.specs.Runs.{ofRun, whole}
 use Rattle.pages.specs.Stack.{tops, latest, hasMore}
 use Rattle.pages.proofs.Draws.{latest-length}
-use Rattle.pages.specs.Links.{top, tally}
+use Rattle.pages.specs.Links.{top, stored}
+use Rattle.pages.specs.Fair.{headerFair, linksFair}
 use Rattle.pages.specs.declared.Park.{Park}
 use Rattle.pages.specs.declared.Park.the-variants.{Empty, Cold}
-use Rattle.calls.specs.Take.{sound, walk, parkFair}
+use Rattle.calls.specs.Take.{pageReady, sound, walk, parkFair}
 use Rattle.calls.specs.Release.{pageFair, rowFair, spotAt, spotFair, releaseFair}
 use Rattle.calls.specs.Chunks.{pagesGiven, chunksFair}
-use Rattle.demands.specs.Ranges.{Link, partialOf, emptyOf, coldOf, nextOf, prevOf, linkField, Use, stateKnown, frontierFits, holesFew, holePagesFew, heldFits, memoryFits, holeEnds, code, visited, emptyTaken, coldFew, coldTaken, ownerIs, firstIs, prevIs, listedYes, listedNo, freeFits, carvedFits, virginFlag, inRange, fits, strays}
+use Rattle.demands.specs.Ranges.{Link, partialOf, emptyOf, coldOf, nextOf, prevOf, linkField, Use, stateKnown, frontierFits, holesFew, holePagesFew, heldFits, memoryFits, holeEnds, code, visited, emptyFew, emptyTaken, coldFew, coldTaken, ownerIs, firstIs, prevIs, listedFlag, listedYes, listedNo, freeFits, freeWith, carvedFits, virginFlag, inRange, fits, strays}
 use Rattle.demands.specs.Number13.{takeFair, Number13}
 use Rattle.demands.specs.Reads.{countReads, recordReads, holeReads, commitReads, giveReads, runReads, entryReads, pageReads, walkReads, walkVisits, parkReads, takeReads, takeVisits, supply, yields, yieldAll, barren, backReads, rowReads, releaseReads, backsReads, chunksReads}
 use Rattle.demands.proofs.RefusalsLaws.{not-and}
@@ -77,14 +81,22 @@ module _ (b : List ℕ) where
       give-as (inRange b stateKnown) (inRange b frontierFits) (inRange b holesFew) (inRange b holePagesFew) (inRange b heldFits) (leb m (get b (arena held)))
 
 -- ---- releases
+back-as : (c f i l k : Bool) → ((c && (f && i)) && (l && k)) ≡ (c && (f && (l && (i && k))))
+back-as c f i l k = simp sorts
+
+row-as : (p e f c k : Bool) → (p && ((e && f) && (c && k))) ≡ (p && (e && (f && (c && (k && true)))))
+row-as p e f c k = rw (and-true k, and-assoc e f (c && k))
+
 module _ (b : List ℕ) (c : ℕ) (sh : Shape) where
   back-ranges : (m q : ℕ) → pageFair b sh m q ≡ fits b (backReads b sh m q)
-  unfolding pageFair fits backReads
-  back-ranges m q = rw (every-cond, and-true (inRange b (code (prevOf q))))
+  unfolding pageFair headerFair fits backReads
+  back-ranges m q =
+      rw (every-cond, and-true (inRange b (code (prevOf q))))
+      (back-as (inRange b (carvedFits q (sh .capacity))) (inRange b (freeWith q m)) (inRange b (virginFlag q)) (inRange b (listedFlag q)) (linksFair b q))
 
   row-ranges : rowFair b c ≡ fits b (rowReads c)
   unfolding rowFair fits rowReads
-  row-ranges = rw (and-true (inRange b (coldFew c)))
+  row-ranges = row-as (inRange b (code (partialOf c))) (inRange b (code (emptyOf c))) (inRange b (emptyFew c)) (inRange b (code (coldOf c))) (inRange b (coldFew c))
 
   given-ranges : (t : Bool) (m : ℕ) → cond t (giveFair (get b (arena size)) b m) true ≡ fits b (cond t (giveReads m) [])
   given-ranges true m = give-ranges b m
@@ -100,7 +112,7 @@ module _ (b : List ℕ) (c : ℕ) (sh : Shape) where
       rw (
         back-ranges m q,
         row-ranges,
-        given-ranges (eqb (get b (page free q) + m) (get b (page carved q)) && eqb (spotAt b c sh) 2) (sh .pages),
+        given-ranges (eqb (get b (page free q) + m) (get b (page carved q)) && isArena (spotAt b c sh)) (sh .pages),
         first-use,
         fits-append,
         fits-append,
@@ -128,13 +140,13 @@ module _ (b : List ℕ) (c : ℕ) (sh : Shape) where
       )
 
 -- ---- takes: a page that a take comes to
-page-as : (v o l f c i h e : Bool) → ((v && o) && (l && (f && (c && (i && (h && e)))))) ≡ ((v && (l && (f && (c && (i && (o && e)))))) && h)
+page-as : (v o l f c i h e : Bool) → ((v && o) && (((c && (f && i)) && (l && h)) && e)) ≡ ((v && (l && (f && (c && (i && (o && e)))))) && h)
 page-as v o l f c i h e = simp sorts
 
 walk-as : (c p r h s y : Bool) → (c && (p && ((r && h) && (s && y)))) ≡ ((c && (p && (r && s))) && (h && y))
 walk-as c p r h s y = simp sorts
 
-park-as : (c z k r h x : Bool) → (c && (z && (k && ((r && h) && x)))) ≡ ((c && ((z && k) && (x && r))) && (h && true))
+park-as : (c z k r h x : Bool) → ((c && k) && (z && ((r && h) && x))) ≡ ((c && ((z && k) && (x && r))) && (h && true))
 park-as c z k r h x = rw (and-true h) (simp sorts)
 
 -- the supply
@@ -196,10 +208,10 @@ module _ (b : List ℕ) (c : ℕ) (sh : Shape) where
     page-ranges : (f : Link) (l : ℕ) (on : Use) (m : ℕ)
         → inRange b on ≡ eqb (get b (page listed (get b (linkField f) - 1))) l
         → sound n b c sh l m (get b (linkField f) - 1) ≡ (fits b (pageReads b c sh f on m) && yields b sh (get b (linkField f) - 1))
-    unfolding sound pageReads
+    unfolding sound pageReady headerFair pageReads
     page-ranges f l on m e =
         let q = get b (linkField f) - 1 in
-        rw (whole-as q, more b sh q, entry-ranges q m (get b (page free q)), page-uses f on (freeFits q) (carvedFits q (sh .capacity)) (virginFlag q) (runReads c q (below (sh .pages))) (entryReads q m (get b (page free q))), e)
+        rw (whole-as q, more b sh q, entry-ranges q m (get b (page free q)), page-uses f on (freeFits q) (carvedFits q (sh .capacity)) (virginFlag q) (runReads c q (below (sh .pages))) (entryReads q m (get b (page free q))), e, add-zero)
         (page-as (inRange b (visited f (sh .pages))) (fits b (runReads c q (below (sh .pages)))) (eqb (get b (page listed q)) l) (inRange b (freeFits q)) (inRange b (carvedFits q (sh .capacity))) (inRange b (virginFlag q)) (yields b sh q) (fits b (entryReads q m (get b (page free q)))))
 
     -- the partial list from a code on
@@ -227,21 +239,21 @@ module _ (b : List ℕ) (c : ℕ) (sh : Shape) where
     -- a store's newest page
     park-ranges : (p : Park) (f : Link) (count : Use)
         → get b (linkField f) ≡ get b (class (top p) c)
-        → inRange b count ≡ (leb 1 (get b (class (tally p) c)) && leb (get b (class (tally p) c)) 256)
+        → inRange b count ≡ (leb 1 (get b (class (stored p) c)) && leb (get b (class (stored p) c)) maxParked)
         → parkFair n b c sh p ≡ (fits b (parkReads b c sh f count) && (yields b sh (get b (linkField f) - 1) && true))
     unfolding parkFair parkReads
     park-ranges p f count e i =
         let q = get b (linkField f) - 1 in
         rw (
           ← e,
-          some-as (get b (class (tally p) c)),
+          some-as (get b (class (stored p) c)),
           page-ranges f 0 (listedNo q) (sh .batch) refl,
           use-more (code f),
           use-more count,
           use-more (code (nextOf q)),
           i,
         )
-        (park-as (inRange b (code f)) (leb 1 (get b (class (tally p) c))) (leb (get b (class (tally p) c)) 256) (fits b (pageReads b c sh f (listedNo q) (sh .batch))) (yields b sh q) (inRange b (code (nextOf q))))
+        (park-as (inRange b (code f)) (leb 1 (get b (class (stored p) c))) (leb (get b (class (stored p) c)) maxParked) (fits b (pageReads b c sh f (listedNo q) (sh .batch))) (yields b sh q) (inRange b (code (nextOf q))))
 
 -- ---- the take's test: the frontier, then its source
 -- a code that is 0 is in its range

@@ -7,19 +7,22 @@ use mathlib.Core.Path.{_≡_, refl}
 use lib.Dec.{eqb, leb}
 use Rattle.facts.specs.Lists.{every, All, below}
 use Rattle.facts.proofs.Bools.{by-cases}
+use Rattle.words.specs.Host.{digit}
 use Rattle.words.specs.Word.{countOf, pageOf}
 use Rattle.classes.specs.declared.Shape.{Shape}
 use Rattle.fields.specs.Field.{arena, class, page, size, frontier, holes, holePages, pages, partial, empty, emptyCount, cold, coldCount, free, carved, listed, get}
 use Rattle.model.specs.HoleStore.{rememberedMax}
+use Rattle.model.specs.Spot.{spotOf, isEmpty, isCold, isArena}
 use Rattle.arena.specs.Load.{loadHoles}
 use Rattle.arena.specs.Fair.{recordFair, holeFair, holesFair, memoryFair, commitFair, giveFair}
-use Rattle.pages.specs.Runs.{flag, ofRun, whole}
+use Rattle.pages.specs.Runs.{ofRun, whole}
 use Rattle.pages.specs.Stack.{tops, hasMore}
-use Rattle.pages.specs.Links.{top, tally}
+use Rattle.pages.specs.Links.{top, stored}
+use Rattle.pages.specs.Fair.{headerFair}
 use Rattle.pages.specs.declared.Park.{Park}
 use Rattle.pages.specs.declared.Park.the-variants.{Empty, Cold}
-use Rattle.calls.specs.Take.{sound, walk, parkFair}
-use Rattle.calls.specs.Release.{pageFair, rowFair, spotOf, spotAt, spotFair, releaseFair}
+use Rattle.calls.specs.Take.{pageReady, sound, walk, parkFair}
+use Rattle.calls.specs.Release.{pageFair, rowFair, spotAt, spotFair, releaseFair}
 use Rattle.calls.specs.Chunks.{runsGiven, pagesGiven, chunksFair}
 use Rattle.demands.specs.Ranges.{Link, partialOf, emptyOf, coldOf, nextOf, linkField, Use, memoryFits, emptyTaken, coldTaken, listedYes, listedNo, field}
 use Rattle.demands.specs.Reads.{countReads, recordReads, holeReads, commitReads, giveReads, runReads, entryReads, pageReads, supply, walkReads, parkReads, takeReads, backReads, rowReads, releaseReads, backsReads, chunksReads}
@@ -94,7 +97,7 @@ module _ (b b′ : List ℕ) where
           → field on ≡ page listed (get b (linkField f) - 1)
           → Same (pageReads b c sh f on m)
           → sound n b c sh l m (get b (linkField f) - 1) ≡ sound n b′ c sh l m (get b (linkField f) - 1)
-      unfolding sound whole hasMore pageReads
+      unfolding sound pageReady headerFair whole hasMore pageReads
       page-same f l on m e h =
           let q = get b (linkField f) - 1 in
           let rs = runReads c q (below (sh .pages)) in
@@ -133,13 +136,13 @@ module _ (b b′ : List ℕ) where
 
       park-same : (p : Park) (f : Link) (count : Use)
           → linkField f ≡ class (top p) c
-          → field count ≡ class (tally p) c
+          → field count ≡ class (stored p) c
           → Same (parkReads b c sh f count)
           → parkFair n b c sh p ≡ parkFair n b′ c sh p
       unfolding parkFair parkReads
       park-same p f count e i h =
           let q = get b (linkField f) - 1 in
-          let k : get b (class (tally p) c) ≡ get b′ (class (tally p) c) = rw i at h .1 .0 in
+          let k : get b (class (stored p) c) ≡ get b′ (class (stored p) c) = rw i at h .1 .0 in
           let s = page-same f 0 (listedNo q) (sh .batch) refl (h .1 .1 .1) in
           rw (← e, s, h .1 .1 .0, low, h .0, k)
 
@@ -178,7 +181,7 @@ module _ (b b′ : List ℕ) where
 
       -- ---- releases
       back-same : (m q : ℕ) → Same (backReads b sh m q) → pageFair b sh m q ≡ pageFair b′ sh m q
-      unfolding pageFair backReads
+      unfolding pageFair headerFair backReads
       back-same m q h =
           by-cases (eqb (get b (page listed q)) 1)
           (λ e.
@@ -209,7 +212,7 @@ module _ (b b′ : List ℕ) where
       unfolding releaseFair spotFair releaseReads
       release-same m q h =
           let ps = backReads b sh m q in
-          let t = eqb (get b (page free q) + m) (get b (page carved q)) && eqb (spotAt b c sh) 2 in
+          let t = eqb (get b (page free q) + m) (get b (page carved q)) && isArena (spotAt b c sh) in
           let gs = cond t (giveReads (sh .pages)) [] in
           let p = left ps (rowReads c ++ gs) (h .1) in
           let r = right ps (rowReads c ++ gs) (h .1) in
@@ -235,7 +238,7 @@ module _ (b b′ : List ℕ) where
           let w = back-words (countOf g) (pageOf g) (left ps (backsReads b sh gs) h) in
           let r = right ps (backsReads b sh gs) h in
           let s = spotOf sh e k in
-          rw (w .0, w .1, runs-same gs (e + flag (eqb s 0)) (k + flag (eqb s 1)) r, runs-same gs e k r)
+          rw (w .0, w .1, runs-same gs (e + digit (isEmpty s)) (k + digit (isCold s)) r, runs-same gs e k r)
 
       none-same : (t : Bool) (m : ℕ) → Same (cond t [] (giveReads m)) → cond t true (giveFair n b m) ≡ cond t true (giveFair n b′ m)
       none-same true m h = refl

@@ -16,6 +16,7 @@ use Rattle.words.specs.Word.{countOf, pageOf}
 use Rattle.classes.specs.declared.Shape.{Shape}
 use Rattle.fields.specs.Field.{arena, class, page, commits, commitsHigh, reuses, reusesHigh, abandoned, abandonedHigh, holes, partial, empty, cold, free, carved, listed, get}
 use Rattle.model.specs.HoleStore.{rememberedMax}
+use Rattle.model.specs.Spot.{isArena}
 use Rattle.calls.specs.Release.{spotAt}
 use Rattle.calls.specs.Chunks.{pagesGiven}
 use Rattle.demands.specs.Ranges.{Link, partialOf, emptyOf, coldOf, nextOf, prevOf, linkField, Use, stateKnown, frontierFits, holesFew, holePagesFew, heldFits, heldGives, counted, memoryFits, holeSome, holeEnds, code, visited, emptyFew, emptyTaken, coldFew, coldTaken, ownerIs, firstIs, prevIs, listedYes, listedNo, freeFits, entryCarved, freeWith, listedFlag, carvedFits, virginFlag}
@@ -132,7 +133,7 @@ releaseReads b c sh m q =
     frontierFits
     ∷ (backReads b sh m q
     ++ (rowReads c
-    ++ cond (eqb (get b (page free q) + m) (get b (page carved q)) && eqb (spotAt b c sh) 2) (giveReads (sh .pages)) []))
+    ++ cond (eqb (get b (page free q) + m) (get b (page carved q)) && isArena (spotAt b c sh)) (giveReads (sh .pages)) []))
 
 unfoldable pub backsReads : List ℕ → Shape → List ℕ → List Use
 backsReads b sh [] = []
