@@ -21,6 +21,7 @@ use Rattle.fields.proofs.Changes.{Changes}
 use Rattle.arena.specs.Fair.{recordFair, giveFair}
 use Rattle.pages.specs.Runs.{whole}
 use Rattle.pages.specs.Stack.{pageAt}
+use Rattle.pages.specs.Fair.{headerFair}
 use Rattle.calls.specs.Release.{startOf, inRunOf, pageFair, rowFair}
 use Rattle.calls.specs.Chunks.{blocksOn, chunkFits, chunksMatch, returnsAll, runsGiven, pagesGiven, chunksFair}
 use Rattle.pages.proofs.Marks.{isMark}
@@ -46,7 +47,7 @@ module _ (b b′ : List ℕ) (h : Changes isMark b b′) where
       rw (every-same (chunkFits b′ ws) (chunkFits b ws) gs (fits-kept ws), every-same (λ w. elem (startOf b′ w) (map pageOf gs)) (λ w. elem (startOf b w) (map pageOf gs)) ws (λ w. rw (start-kept b b′ h w)))
 
   page-kept : (sh : Shape) (m q : ℕ) → pageFair b′ sh m q ≡ pageFair b sh m q
-  unfolding pageFair
+  unfolding pageFair headerFair
   page-kept sh m q =
       let k = h .kept in
       rw (

@@ -14,7 +14,7 @@ use lib.Seq.{drop-cons}
 use borrow.Author.Tests.{ltb-true, le-leb, lt-leb, eq-eqb, ne-eqb, eqb-true, eqb-false}
 use Rattle.facts.specs.Lists.{every}
 use Rattle.facts.proofs.Bools.{by-cases}
-use Rattle.facts.proofs.Lists.{every-get}
+use Rattle.facts.proofs.Lists.{drop-past, every-get}
 use Rattle.words.specs.Word.{countOf, pageOf}
 use Rattle.classes.specs.declared.Shape.{Shape}
 use Rattle.fields.specs.Field.{arena, class, page, frontier, emptyCount, coldCount, free, carved, get}
@@ -29,7 +29,6 @@ use Rattle.pages.proofs.Downs.{digit-le}
 use Rattle.calls.specs.Release.{pageFair, rowFair}
 use Rattle.calls.specs.Chunks.{returnsAll, runsGiven, pagesGiven, chunksFair}
 use Rattle.pages.specs.Asks.{PageAsks}
-use Rattle.release.proofs.RunSteps.{drop-past}
 use Rattle.release.proofs.FairSteps.{page-room, count-low}
 use Rattle.release.proofs.Spots.{empty-room}
 use Rattle.chunks.specs.declared.fair.Stores.{Stores}

@@ -5,6 +5,8 @@
 use Prim.Native.Nat.{ℕ, suc, _+_, _-_, _*_, _≤_, _<_}
 use native.Mathlib.Omega.{arith}
 use native.Mathlib.Numerals.{add-one}
+use mir.Val.{Fits}
+use mir.Syntax.{w32}
 use mathlib.Core.Bool.{true, false}
 use mathlib.Core.List.{List, [], _∷_, _++_}
 use mathlib.Core.Path.{_≡_, refl, sym, ap, _∙_}
@@ -12,6 +14,7 @@ use lib.Dec.{eqb, ltb, leb}
 use lib.ListN.{length, getD, drop}
 use lib.Seq.{drop-cons}
 use borrow.Author.Tests.{ltb-true, le-leb, leb-true, eq-eqb, ne-eqb}
+use Rattle.facts.proofs.Lists.{drop-past}
 use Rattle.facts.proofs.Bools.{by-cases, and-left, and-right}
 use Rattle.words.specs.Word.{pageOf}
 use Rattle.classes.specs.declared.Shape.{Shape}
@@ -30,7 +33,6 @@ use Rattle.holes.proofs.StoreLaws.{hole-length, remember-length}
 use Rattle.arena.proofs.Frames.{isStored, isOwner, record-changes, own-changes}
 use Rattle.holes.proofs.Acts.{FairRecord, fair-record, give-acts}
 use Rattle.runs.specs.Asks.{GiveIn}
-use Rattle.release.proofs.RunSteps.{drop-past}
 use Rattle.calls.specs.Chunks.{givesOf, giveRuns}
 use Rattle.chunks.specs.Pass.{givesIn}
 use Rattle.chunks.specs.GiveAsks.{givesFair, GiveChunkAsks, GiveChunksAsks}
@@ -213,6 +215,10 @@ module _ (n : ℕ) (b : List ℕ) (sh : Shape) (g f : ℕ) (gs fs : List ℕ) (a
   }
 
 -- ---- one chunk
+-- the fate of a retired run for the arena
+pub fate-fits : Fits w32 (4 + 2)
+fate-fits = record { fits = omega arith }
+
 module _ (n : ℕ) (b : List ℕ) (m g f : ℕ) where
   pub give-none : (f ≡ 6 → ⊥) → b ≡ giveRuns b m (givesOf (pageOf g) f)
   give-none h = rw (ne-eqb f 6 h)

@@ -12,7 +12,7 @@ use lib.Dec.{eqb, leb, ltb}
 use lib.ListN.{length, getD, set, take}
 use lib.Seq.{getD-take, length-take-le}
 use borrow.Author.Tests.{ltb-true, leb-true, leb-false, lt-ltb, le-ltb, le-leb}
-use Rattle.facts.proofs.Bools.{and-no}
+use Rattle.facts.proofs.Bools.{by-cases, and-no}
 use Rattle.model.specs.declared.Hole.{Hole}
 use Rattle.model.specs.HoleStore as Model
 use Rattle.model.specs.HoleStore.{Fit, holeAt, setAt, leastFit, stillHolds, Choice, chooseIn, rememberedMax}
@@ -20,7 +20,7 @@ use Rattle.holes.specs.declared.Plan.{Plan}
 use Rattle.arena.specs.Load.{indexOf, indexCode}
 use Rattle.holes.specs.Plan.{chosen}
 use Rattle.holes.specs.Scan.{noHole, bestOf, holeOf, recalledOf, remembered, searchedOf, settledOf, storedOf, leftOf}
-use Rattle.holes.proofs.Least.{Within, by-test, least-within}
+use Rattle.holes.proofs.Least.{Within, least-within}
 use Rattle.holes.proofs.StoreLaws.{code-of}
 
 pub hole-at-get : (i : ℕ) (hs : List Hole) → holeAt i hs ≡ getD hs i noHole
@@ -63,7 +63,7 @@ still-is ys count m (suc i) l =
     let long : length (take count ys) ≡ count = length-take-le count ys l in
     let one : leb 1 (suc i) ≡ true = le-leb 1 (suc i) (omega arith) in
     let back : suc i - 1 ≡ i = omega arith in
-    by-test (leb (suc i) count)
+    by-cases (leb (suc i) count)
     (λ e. let below : i < count = omega (arith, leb-true (suc i) count e) in
     let here : holeAt i (take count ys) ≡ getD ys (suc i - 1) noHole = hole-at-get i (take count ys) ∙ getD-take count ys i noHole below ∙ ap (λ (n : ℕ). getD ys n noHole) (sym back) in
     simp (one, e, here, lt-ltb i (length (take count ys)) (omega arith)))
@@ -95,10 +95,10 @@ choose-is ys count m code x l e =
     ∙ sym (chosen-code (take count ys) m code)
 
 pub searched-within : (count m code : ℕ) (x : Hole) → searchedOf count m code x ≤ count
-searched-within count m code x = by-test (remembered count m code x) (λ e. simp e (omega arith)) (λ e. simp e (omega arith))
+searched-within count m code x = by-cases (remembered count m code x) (λ e. simp e (omega arith)) (λ e. simp e (omega arith))
 
 pub recalled-within : (count code : ℕ) → recalledOf count code ≤ count
-recalled-within count code = by-test (leb code count) (λ e. simp e (omega (arith, leb-true code count e))) (λ e. simp e (omega arith))
+recalled-within count code = by-cases (leb code count) (λ e. simp e (omega (arith, leb-true code count e))) (λ e. simp e (omega arith))
 
 -- ---- the hole chosen is stored
 within-code : (k : ℕ) (o : Option Fit) → Within k o → indexCode (Model.indexOf o) ≤ k

@@ -63,7 +63,7 @@ pub use denote.Triple.Spec.{Meets}
 pub use denote.Triple.Walked.{says, needs}
 pub use borrow.Table.OneValue.{part-in-at, part-out-at}
 pub use Rattle.holes.proofs.Calling.{arg, holds, asks, asks-lent, asks-new, asks-both, calls, calls-plain, calls-lent}
-pub use Rattle.holes.proofs.Least.{by-test}
+pub use Rattle.facts.proofs.Bools.{by-cases}
 pub use Rattle.holes.proofs.Proving.{Takens, Ends, ends, known, shown}
 
 -- ---- plain data

@@ -18,9 +18,10 @@ use Rattle.words.specs.Host.{digit}
 use Rattle.pages.specs.Stack.{tops, downs}
 use Rattle.pages.proofs.Downs.{digit-true, digit-false, digit-cases, eq-cases}
 pub use Rattle.pages.proofs.Downs.{length-downs, count-downs}
+use Rattle.model.proofs.Used.{itself}
 use Rattle.refinement.specs.Represents.{Slots}
 use Rattle.refinement.proofs.Basics.{Setting}
-use Rattle.refinement.proofs.Lists.{itself}
+use Rattle.refinement.proofs.Lists.{}
 
 -- ---- a function along lists of numbers
 module _ (f : ℕ → ℕ) where

@@ -25,11 +25,12 @@ use Rattle.pages.specs.declared.Park.{Park}
 use Rattle.pages.specs.declared.Park.the-variants.{Empty, Cold}
 use Rattle.pages.specs.Links.{linked, unlinked, link, unlink, other, top, stored, stow, unstow}
 use Rattle.pages.proofs.Downs.{digit-le}
+use Rattle.model.proofs.Used.{itself}
 use Rattle.refinement.specs.Chain.{In, Chain}
 use Rattle.refinement.specs.Represents.{PageRep, Parked, firsts, heads, ClassRep}
 use Rattle.refinement.proofs.ArenaStore.{long-kept}
 use Rattle.refinement.proofs.Basics.{Setting}
-use Rattle.refinement.proofs.Lists.{in-left, in-count, itself, off, not-in, firsts-append, firsts-at, heads-at, all-along, first-page, last-page, part}
+use Rattle.refinement.proofs.Lists.{in-left, in-count, off, not-in, firsts-append, firsts-at, heads-at, all-along, first-page, last-page, part}
 use Rattle.refinement.proofs.Frames.{isData, ofClass, Only, data-owns, whole-kept, whole-owner, whole-in}
 use Rattle.refinement.proofs.Kept.{Body, Ties, rep-kept, rep-moved, parked-kept, stack-kept, chain-kept, class-now, listed-whole}
 use Rattle.refinement.proofs.Links.{isLink, isStow, link-lets, class-lets, link-changes, unlink-changes, link-owns, link-body, link-listing, link-next, link-top, link-stored, stow-lets, class-lets-stow, stow-changes, unstow-changes, stow-owns, stow-body, stow-listing, stow-ties, stow-partial, stow-top, stow-stored}

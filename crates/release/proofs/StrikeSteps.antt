@@ -9,6 +9,7 @@ use lib.Dec.{ltb, leb}
 use lib.ListN.{length, getD, drop, length-drop}
 use borrow.Author.Tests.{leb-true}
 use lib.Seq.{drop-cons, drop-drop}
+use Rattle.facts.proofs.Lists.{drop-past}
 use Rattle.facts.proofs.Bools.{and-left, and-right}
 use Rattle.classes.specs.declared.Shape.{Shape}
 use Rattle.fields.specs.Field.{arena, frontier, words, get, put}
@@ -22,7 +23,6 @@ use Rattle.release.specs.declared.Found.the-variants.{At, Nothing}
 use Rattle.release.specs.Strike.{bitIn, runAt, countIn, struckIn, struckCount, struck}
 use Rattle.release.specs.Asks.{InAsks, ClassAsks, StruckOne, StruckIn, Struck}
 use Rattle.release.proofs.BlockSteps.{none-found, found-at}
-use Rattle.release.proofs.RunSteps.{drop-past}
 use Rattle.release.proofs.RunLaws.{run-struck, run-count}
 
 -- ---- the words of one run: what is left to strike from here comes to what was asked at the start

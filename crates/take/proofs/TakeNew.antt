@@ -14,7 +14,7 @@ use Rattle.classes.specs.Sound.{Sound}
 use Rattle.fields.specs.Field.{Field, arena, page, slot, frontier, owner, first, free, carved, listed, virgin, region, off, get, put, words}
 use Rattle.fields.proofs.Laws.{get-put-same, get-put-other, length-put}
 use Rattle.fields.proofs.Changes.{Changes}
-use Rattle.model.specs.Lists as Lists
+use Rattle.facts.specs.Lists as Lists
 use Rattle.model.specs.Page.{isMedium}
 use Rattle.words.specs.Host.{digit}
 use Rattle.pages.specs.Runs.{ofRun, whole}

@@ -13,6 +13,9 @@ ghost use Rattle.vigbuso.specs.Direct.{openOn, commitOn, CommitEnds, gro
 // The first page of no run.
 const NO_PAGE: u32 = 4_294_967_295;
 
+// How many figures a report has.
+pub const FIGURES: usize = 5;
+
 #[no_mangle]
 pub extern "C" fn vigbuso_open(meta: &mut [u32], pages: u64) -> u32
     ensures { λ r. ⌜ Did r (now (meta .exit)) (openOn (now (meta .entry)) pages) ⌝ }
@@ -137,7 +140,7 @@ fn report_on(meta: &[u32]) -> Report
 }
 
 #[no_mangle]
-pub extern "C" fn vigbuso_report(meta: &[u32], figures: &mut [u64; 5]) -> u32
+pub extern "C" fn vigbuso_report(meta: &[u32], figures: &mut [u64; FIGURES]) -> u32
     ensures { λ r. ⌜ ReportEnds (reportOn (now (meta .entry))) r (now (figures .entry)) (now (figures .exit)) ⌝ }
 {
     match report_on(meta) {

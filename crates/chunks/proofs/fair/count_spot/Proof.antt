@@ -7,4 +7,12 @@ pub count-spot-spec : {M : Type 1} → statement M
 count-spot-spec =
     tie.close
     (tie.spec
-    (λ c. search needs) (λ c. search needs) (λ c. search needs) (λ c. search spot-empty) (λ c. search spot-cold) (λ c. search spot-arena))
+    (λ c. search (needs, spot-empty, spot-cold, spot-arena))
+    (λ c. search (needs, spot-empty, spot-cold, spot-arena))
+    (λ c. search (needs, spot-empty, spot-cold, spot-arena))
+    (λ c. search (needs, spot-empty, spot-cold, spot-arena))
+    (λ c. search (needs, spot-empty, spot-cold, spot-arena))
+    (λ c. search (needs, spot-empty, spot-cold, spot-arena))
+    (λ c. search (needs, spot-empty, spot-cold, spot-arena))
+    (λ c. search (needs, spot-empty, spot-cold, spot-arena))
+    (λ c. search (needs, spot-empty, spot-cold, spot-arena)))

@@ -2,7 +2,7 @@
 -- `hole_from` a copy with its lifetime's token, which comes back. The holes' borrow is closed where the loop's test is reached, at the list of that turn; a turn opens it,
 -- stores one hole, and closes it. The variant is what is left of the count.
 use Rattle.facts.specs.Lists.{every}
-use Rattle.holes.proofs.Walk.{_≡_, refl, sym, ap, subst, _∙_, ℕ, _+_, _-_, _<_, _≤_, _^_, arith, Bool, true, false, _&&_, List, [], _∷_, ltb, length, set, take, length-set, URA, fullShare, Ty, named, imm, mut, w32, w64, tyInt, tyBool, tyPtr, tyRef, Val, vbool, vint, vptr, SProp, ent, id⊢, GName, Lft, Share, Fml, ftrue, fat, froom, fdies, flft, fobs, fbor, ltb-true, ltb-false, Memory, Routine, afterTurn, Heap, Env, WpFn, Tables, Atoms, Fun, givenOf, tables, tablesOf, Given, Item, Sq, runs, atRet, ‵, _⊛_, ⋆, _$_, _∵_, !, qed, by, move, drop, split, join, rewrite, fsplit, fjoin, suffices, frame, done, whole, sub, look-in, look, init, store, store-raw, forget, stop, hop, fld, from, load, lit, true-lit, of-opd, un, bin, and-then, no-more, first, blocks, stays, leaves-loop, exec, assigns, assigns-last, land, returns, enter, alloc1, alloc0, params1, pass1, pass0, free1, free0, again, fmOf, RattleType, owns, Is, shows, pointee, pureI, u32, bool, place-is, elem-out, elem-put, opens-slice, closes-slice, Held, RefT, now, sliceTy, sliceVal, ShrSlice, MutSlice, Room, heres, codedHoleys, at-slice, shr-slice-lawful, shr-slice-copy, owned, Args, Vals, onEntry, Meets, says, needs, arg, holds, asks, asks-lent, calls-plain, calls-lent, by-test, Takens, Ends, ends, known, shown, number, truth, aHole, byValue, lent, lentMut, lentAt, holeVals, machine, Lent, scaled}
+use Rattle.holes.proofs.Walk.{_≡_, refl, sym, ap, subst, _∙_, ℕ, _+_, _-_, _<_, _≤_, _^_, arith, Bool, true, false, _&&_, List, [], _∷_, ltb, length, set, take, length-set, URA, fullShare, Ty, named, imm, mut, w32, w64, tyInt, tyBool, tyPtr, tyRef, Val, vbool, vint, vptr, SProp, ent, id⊢, GName, Lft, Share, Fml, ftrue, fat, froom, fdies, flft, fobs, fbor, ltb-true, ltb-false, Memory, Routine, afterTurn, Heap, Env, WpFn, Tables, Atoms, Fun, givenOf, tables, tablesOf, Given, Item, Sq, runs, atRet, ‵, _⊛_, ⋆, _$_, _∵_, !, qed, by, move, drop, split, join, rewrite, fsplit, fjoin, suffices, frame, done, whole, sub, look-in, look, init, store, store-raw, forget, stop, hop, fld, from, load, lit, true-lit, of-opd, un, bin, and-then, no-more, first, blocks, stays, leaves-loop, exec, assigns, assigns-last, land, returns, enter, alloc1, alloc0, params1, pass1, pass0, free1, free0, again, fmOf, RattleType, owns, Is, shows, pointee, pureI, u32, bool, place-is, elem-out, elem-put, opens-slice, closes-slice, Held, RefT, now, sliceTy, sliceVal, ShrSlice, MutSlice, Room, heres, codedHoleys, at-slice, shr-slice-lawful, shr-slice-copy, owned, Args, Vals, onEntry, Meets, says, needs, arg, holds, asks, asks-lent, calls-plain, calls-lent, by-cases, Takens, Ends, ends, known, shown, number, truth, aHole, byValue, lent, lentMut, lentAt, holeVals, machine, Lent, scaled}
 use lib.Dec.{lit<}
 use lib.ListN.{drop as keep-from}
 use Rattle.fields.specs.Field.{hole, start, pages, word as wordAt}
@@ -167,7 +167,7 @@ module _ {M : Type 1} (𝓤 : URA M) (H : Heap 𝓤) (A : Atoms 𝓤) (W : Given
         by ! (exits t (ltb-false _ _ test))
 
     turns : (t : Turn) → Turned t
-    turns t = by-test (ltb (t .i) count) (more t) (leaves t)
+    turns t = by-cases (ltb (t .i) count) (more t) (leaves t)
 
     goes-on : Sq W (Ctx 0 ys true) (runs (𝓣 .C) (𝓣 .Λ) En body.t-3 (atRet En Post))
     unfolding loadHoles

@@ -1,6 +1,6 @@
 -- `holes::holes::scan` meets its contract: a walk of its MIR, by hand, with a loop. The loop's invariant is over a record `Turn`: the index, the key that says the least fit of the holes before
 -- it, and the facts of them; the variant is what is left of the count. The loop's test is a call of `going`. The slice is Copy, so a turn hands `weigh` a copy with the lifetime's token, which comes back.
-use Rattle.holes.proofs.Walk.{_≡_, refl, sym, subst, _∙_, ℕ, _+_, _-_, _<_, _≤_, _^_, arith, Bool, true, false, _&&_, List, [], _∷_, ltb, leb, length, getD, take, URA, fullShare, Ty, named, imm, w32, w64, tyInt, tyBool, tyRef, Val, vbool, vint, SProp, ent, id⊢, Lft, Share, Fml, ftrue, fat, froom, fdies, flft, ltb-true, Memory, Routine, afterTurn, Heap, Env, WpFn, Tables, Atoms, Fun, givenOf, tables, tablesOf, Given, Item, Sq, runs, atRet, ‵, _⊛_, ⋆, _$_, _∵_, !, qed, by, move, rewrite, fsplit, fjoin, suffices, frame, done, look, init, store, forget, stop, from, load, lit, neg-lit, of-opd, bin, and-then, no-more, first, blocks, stays, leaves-loop, exec, assigns, assigns-last, land, returns, enter, alloc1, alloc0, params1, pass1, pass0, free1, free0, again, fmOf, RattleType, owns, Is, pointee, u32, RefT, now, sliceTy, ShrSlice, shr-slice-lawful, shr-slice-copy, owned, Args, Vals, onEntry, Meets, says, needs, arg, holds, asks, asks-lent, calls-plain, calls-lent, by-test, Takens, Ends, ends, known, shown, number, truth, aBest, byValue, lent, machine, Lent}
+use Rattle.holes.proofs.Walk.{_≡_, refl, sym, subst, _∙_, ℕ, _+_, _-_, _<_, _≤_, _^_, arith, Bool, true, false, _&&_, List, [], _∷_, ltb, leb, length, getD, take, URA, fullShare, Ty, named, imm, w32, w64, tyInt, tyBool, tyRef, Val, vbool, vint, SProp, ent, id⊢, Lft, Share, Fml, ftrue, fat, froom, fdies, flft, ltb-true, Memory, Routine, afterTurn, Heap, Env, WpFn, Tables, Atoms, Fun, givenOf, tables, tablesOf, Given, Item, Sq, runs, atRet, ‵, _⊛_, ⋆, _$_, _∵_, !, qed, by, move, rewrite, fsplit, fjoin, suffices, frame, done, look, init, store, forget, stop, from, load, lit, neg-lit, of-opd, bin, and-then, no-more, first, blocks, stays, leaves-loop, exec, assigns, assigns-last, land, returns, enter, alloc1, alloc0, params1, pass1, pass0, free1, free0, again, fmOf, RattleType, owns, Is, pointee, u32, RefT, now, sliceTy, ShrSlice, shr-slice-lawful, shr-slice-copy, owned, Args, Vals, onEntry, Meets, says, needs, arg, holds, asks, asks-lent, calls-plain, calls-lent, by-cases, Takens, Ends, ends, known, shown, number, truth, aBest, byValue, lent, machine, Lent}
 use lib.Dec.{lit<}
 use lib.Seq.{length-take-le}
 use Rattle.model.specs.HoleStore.{leastFit}
@@ -141,7 +141,7 @@ module _ {M : Type 1} (𝓤 : URA M) (H : Heap 𝓤) (A : Atoms 𝓤) (W : Given
         by ! (exits r is (best-is t r on e′))))
 
     turns : (t : Turn) → Turned t
-    turns t = by-test (test t) (more t) (leaves t)
+    turns t = by-cases (test t) (more t) (leaves t)
 
     goes-on : Sq W (Ctx 0 noKey) (runs (𝓣 .C) (𝓣 .Λ) En body.t-3 (atRet En Post))
     goes-on = first ! $ blocks ! $ loop-from W 𝓣 En body.turn-1 body.t-4 Post left I turns (record { i = 0; u = noKey; u-fits = lit< tt; up-to = omega arith; same = key-start (now s) count within count-fits need need-fits })
