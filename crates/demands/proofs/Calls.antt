@@ -1,5 +1,6 @@
 -- A call by the exported functions' definitions, on a book that stands for a heap, is the call on the words that the refinement knows.
 --     room, opens    an opening is not refused exactly where the arena is of 1 to 262,144 pages and the book is long enough for it
+--     refused-book   a refused one leaves the book as it was
 --     no-fault       numbers 1 and 2 do not apply to a book that stands for a heap
 --     call-is        `call` is the refinement's `callReply`
 use Prim.Native.Nat.{ℕ, _+_, _≤_}
@@ -59,6 +60,11 @@ module _ (n : ℕ) (b : List ℕ) where
   pub opens : Room n b → Opens n b
   unfolding openOn
   opens r = rw (fits-length n (length b) (r .some-pages) (r .few-pages) (r .long))
+
+  -- a refused one leaves the book as it was
+  pub refused-book : (Opens n b → ⊥) → openOn b n .book ≡ b
+  unfolding openOn
+  refused-book r = by-cases (eqb (lengthFault n (length b)) 0) (λ e. absurd (r (rw e))) (λ e. rw e)
 
   pub opened-by : Opens n b → openOn b n .book ≡ opened n b
   unfolding openOn

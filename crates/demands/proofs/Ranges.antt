@@ -13,6 +13,7 @@ use Rattle.facts.proofs.Bools.{by-cases, and-swap}
 use Rattle.words.specs.Word.{countOf, pageOf}
 use Rattle.classes.specs.declared.Shape.{Shape}
 use Rattle.fields.specs.Field.{arena, class, hole, page, size, frontier, holes, holePages, held, pages, partial, empty, cold, free, carved, listed, get}
+use Rattle.fields.specs.Ranges.{maxParked}
 use Rattle.model.specs.HoleStore.{rememberedMax}
 use Rattle.model.specs.Spot.{isArena}
 use Rattle.arena.specs.Load.{loadHoles}
@@ -27,7 +28,7 @@ use Rattle.pages.specs.declared.Park.the-variants.{Empty, Cold}
 use Rattle.calls.specs.Take.{pageReady, sound, walk, parkFair}
 use Rattle.calls.specs.Release.{pageFair, rowFair, spotAt, spotFair, releaseFair}
 use Rattle.calls.specs.Chunks.{pagesGiven, chunksFair}
-use Rattle.demands.specs.Ranges.{Link, partialOf, emptyOf, coldOf, nextOf, prevOf, linkField, Use, stateKnown, frontierFits, holesFew, holePagesFew, heldFits, memoryFits, holeEnds, code, visited, emptyTaken, coldFew, coldTaken, ownerIs, firstIs, prevIs, listedYes, listedNo, freeFits, carvedFits, virginFlag, listedFlag, freeWith, emptyFew, inRange, fits, strays}
+use Rattle.demands.specs.Ranges.{Link, partialOf, emptyOf, coldOf, nextOf, prevOf, linkField, Use, stateKnown, frontierFits, holesFew, holePagesFew, heldFits, memoryFits, holeEnds, code, visited, emptyFew, emptyTaken, coldFew, coldTaken, ownerIs, firstIs, prevIs, listedFlag, listedYes, listedNo, freeFits, freeWith, carvedFits, virginFlag, inRange, fits, strays}
 use Rattle.demands.specs.Number13.{takeFair, Number13}
 use Rattle.demands.specs.Reads.{countReads, recordReads, holeReads, commitReads, giveReads, runReads, entryReads, pageReads, walkReads, walkVisits, parkReads, takeReads, takeVisits, supply, yields, yieldAll, barren, backReads, rowReads, releaseReads, backsReads, chunksReads}
 use Rattle.demands.proofs.RefusalsLaws.{not-and}
@@ -80,11 +81,11 @@ module _ (b : List ℕ) where
       give-as (inRange b stateKnown) (inRange b frontierFits) (inRange b holesFew) (inRange b holePagesFew) (inRange b heldFits) (leb m (get b (arena held)))
 
 -- ---- releases
-back-as : (c f v l k : Bool) → ((c && (f && v)) && (l && k)) ≡ (c && (f && (l && (v && k))))
-back-as c f v l k = simp sorts
+back-as : (c f i l k : Bool) → ((c && (f && i)) && (l && k)) ≡ (c && (f && (l && (i && k))))
+back-as c f i l k = simp sorts
 
-row-as : (p e x k y : Bool) → (p && ((e && x) && (k && y))) ≡ (p && (e && (x && (k && y))))
-row-as p e x k y = simp and-assoc
+row-as : (p e f c k : Bool) → (p && ((e && f) && (c && k))) ≡ (p && (e && (f && (c && (k && true)))))
+row-as p e f c k = rw (and-true k, and-assoc e f (c && k))
 
 module _ (b : List ℕ) (c : ℕ) (sh : Shape) where
   back-ranges : (m q : ℕ) → pageFair b sh m q ≡ fits b (backReads b sh m q)
@@ -95,9 +96,7 @@ module _ (b : List ℕ) (c : ℕ) (sh : Shape) where
 
   row-ranges : rowFair b c ≡ fits b (rowReads c)
   unfolding rowFair fits rowReads
-  row-ranges =
-      rw (and-true (inRange b (coldFew c)))
-      (row-as (inRange b (code (partialOf c))) (inRange b (code (emptyOf c))) (inRange b (emptyFew c)) (inRange b (code (coldOf c))) (inRange b (coldFew c)))
+  row-ranges = row-as (inRange b (code (partialOf c))) (inRange b (code (emptyOf c))) (inRange b (emptyFew c)) (inRange b (code (coldOf c))) (inRange b (coldFew c))
 
   given-ranges : (t : Bool) (m : ℕ) → cond t (giveFair (get b (arena size)) b m) true ≡ fits b (cond t (giveReads m) [])
   given-ranges true m = give-ranges b m
@@ -212,7 +211,7 @@ module _ (b : List ℕ) (c : ℕ) (sh : Shape) where
     unfolding sound pageReady headerFair pageReads
     page-ranges f l on m e =
         let q = get b (linkField f) - 1 in
-        rw (add-zero (get b (page free q)), whole-as q, more b sh q, entry-ranges q m (get b (page free q)), page-uses f on (freeFits q) (carvedFits q (sh .capacity)) (virginFlag q) (runReads c q (below (sh .pages))) (entryReads q m (get b (page free q))), e)
+        rw (whole-as q, more b sh q, entry-ranges q m (get b (page free q)), page-uses f on (freeFits q) (carvedFits q (sh .capacity)) (virginFlag q) (runReads c q (below (sh .pages))) (entryReads q m (get b (page free q))), e, add-zero)
         (page-as (inRange b (visited f (sh .pages))) (fits b (runReads c q (below (sh .pages)))) (eqb (get b (page listed q)) l) (inRange b (freeFits q)) (inRange b (carvedFits q (sh .capacity))) (inRange b (virginFlag q)) (yields b sh q) (fits b (entryReads q m (get b (page free q)))))
 
     -- the partial list from a code on
@@ -240,7 +239,7 @@ module _ (b : List ℕ) (c : ℕ) (sh : Shape) where
     -- a store's newest page
     park-ranges : (p : Park) (f : Link) (count : Use)
         → get b (linkField f) ≡ get b (class (top p) c)
-        → inRange b count ≡ (leb 1 (get b (class (stored p) c)) && leb (get b (class (stored p) c)) 256)
+        → inRange b count ≡ (leb 1 (get b (class (stored p) c)) && leb (get b (class (stored p) c)) maxParked)
         → parkFair n b c sh p ≡ (fits b (parkReads b c sh f count) && (yields b sh (get b (linkField f) - 1) && true))
     unfolding parkFair parkReads
     park-ranges p f count e i =
@@ -254,7 +253,7 @@ module _ (b : List ℕ) (c : ℕ) (sh : Shape) where
           use-more (code (nextOf q)),
           i,
         )
-        (park-as (inRange b (code f)) (leb 1 (get b (class (stored p) c))) (leb (get b (class (stored p) c)) 256) (fits b (pageReads b c sh f (listedNo q) (sh .batch))) (yields b sh q) (inRange b (code (nextOf q))))
+        (park-as (inRange b (code f)) (leb 1 (get b (class (stored p) c))) (leb (get b (class (stored p) c)) maxParked) (fits b (pageReads b c sh f (listedNo q) (sh .batch))) (yields b sh q) (inRange b (code (nextOf q))))
 
 -- ---- the take's test: the frontier, then its source
 -- a code that is 0 is in its range

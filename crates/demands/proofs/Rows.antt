@@ -7,11 +7,11 @@ use mathlib.Core.Path.{_≡_, refl}
 use lib.Dec.{eqb, leb}
 use Rattle.facts.specs.Lists.{every, All, below}
 use Rattle.facts.proofs.Bools.{by-cases}
+use Rattle.words.specs.Host.{digit}
 use Rattle.words.specs.Word.{countOf, pageOf}
 use Rattle.classes.specs.declared.Shape.{Shape}
 use Rattle.fields.specs.Field.{arena, class, page, size, frontier, holes, holePages, pages, partial, empty, emptyCount, cold, coldCount, free, carved, listed, get}
 use Rattle.model.specs.HoleStore.{rememberedMax}
-use Rattle.words.specs.Host.{digit}
 use Rattle.model.specs.Spot.{spotOf, isEmpty, isCold, isArena}
 use Rattle.arena.specs.Load.{loadHoles}
 use Rattle.arena.specs.Fair.{recordFair, holeFair, holesFair, memoryFair, commitFair, giveFair}

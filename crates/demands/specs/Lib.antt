@@ -1,6 +1,7 @@
 pub mod Call
 pub mod Run
 pub mod Contracts
+pub mod Returns
 pub mod Demands
 pub mod Ranges
 pub mod Reads
