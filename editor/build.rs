@@ -1,9 +1,10 @@
 //! Links `libvigbuso.a`: the one in the folder that `VIGBUSO_STATICLIB_DIR` names, otherwise the repository's own, which
 //! `rt staticlib vigbuso` makes anew here if it is not there or older than its sources.
 
+use std::io::Write;
 use std::path::{Path, PathBuf};
 use std::process::Command;
-use std::time::SystemTime;
+use std::time::{Instant, SystemTime};
 use std::{env, fs};
 
 const ARCHIVE: &str = "libvigbuso.a";
@@ -11,6 +12,7 @@ const ARCHIVE: &str = "libvigbuso.a";
 fn main() {
     println!("cargo:rerun-if-changed=build.rs");
     println!("cargo:rerun-if-env-changed=VIGBUSO_STATICLIB_DIR");
+    refuse_other_targets();
     let folder = match env::var_os("VIGBUSO_STATICLIB_DIR") {
         Some(folder) => PathBuf::from(folder),
         None => own_folder(),
@@ -22,6 +24,14 @@ fn main() {
     println!("cargo:rustc-link-lib=static=vigbuso");
     // The test of the C header links the same archive.
     println!("cargo:rustc-env=VIGBUSO_ARCHIVE={}", archive.display());
+}
+
+/// The archive's code is for one kind of machine. The linker would say so less plainly.
+fn refuse_other_targets() {
+    let of = |name: &str| env::var(name).unwrap_or_default();
+    let target = of("TARGET");
+    let fits = of("CARGO_CFG_TARGET_ARCH") == "x86_64" && of("CARGO_CFG_TARGET_OS") == "linux";
+    assert!(fits, "{ARCHIVE} links only into programs for x86-64 Linux, and the target is {target}");
 }
 
 /// The repository's own archive, no older than what it is made of.
@@ -36,12 +46,12 @@ fn own_folder() -> PathBuf {
     let made = modified(&folder.join(ARCHIVE));
     let newest = sources.iter().filter_map(|source| newest(source)).max();
     if made.is_none() || made < newest {
-        build(root);
+        build(root, if made.is_none() { "is not there" } else { "is older than its sources" });
     }
     folder
 }
 
-/// The list of crates, and the folder of each crate in the archive.
+/// The list of crates, and the folder of each crate in the archive: `vigbuso`, and what it uses directly or by others.
 fn sources(root: &Path) -> Vec<PathBuf> {
     let list = root.join("crates.txt");
     let text = fs::read_to_string(&list).unwrap_or_else(|error| panic!("{}: {error}", list.display()));
@@ -67,9 +77,19 @@ fn newest(path: &Path) -> Option<SystemTime> {
     inside.filter_map(|entry| newest(&entry.path())).max().max(modified(path))
 }
 
-fn build(root: &Path) {
+/// Proves the library and makes the archive, and says so: it takes minutes.
+fn build(root: &Path, why: &str) {
+    let news = format!("{ARCHIVE} {why}: `rt staticlib vigbuso` proves the library anew, which takes minutes");
+    println!("cargo:warning={news}");
+    // Cargo shows a warning when this program has ended, so whoever waits at a terminal is told now.
+    if let Ok(mut terminal) = fs::OpenOptions::new().write(true).open("/dev/tty") {
+        // A terminal that cannot be written to is no reason to stop.
+        let _ = writeln!(terminal, "vigbuso: {news}");
+    }
+    let start = Instant::now();
     let status = Command::new("rt").args(["staticlib", "vigbuso"]).current_dir(root).status().unwrap_or_else(|error| {
         panic!("`rt` cannot be run ({error}): put it on the path, or name a folder with {ARCHIVE} in VIGBUSO_STATICLIB_DIR")
     });
     assert!(status.success(), "`rt staticlib vigbuso` failed: {status}");
+    println!("cargo:warning={ARCHIVE} was made in {} s", start.elapsed().as_secs());
 }

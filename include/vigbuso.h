@@ -8,7 +8,7 @@
  * VIGBUSO_BOOK_WORDS(pages). The heap keeps all that it knows there and nothing elsewhere. It never reads or writes the
  * arena's bytes, so they may stand anywhere.
  *
- * The two lookups and vigbuso_contains return their answer. Every other function returns 0 if it was carried out, otherwise
+ * The two lookups and vigbuso_contains return their answer. Every other function of the archive returns 0 if it was carried out, otherwise
  * the number of its refusal (enum vigbuso_refusal); the first that applies is returned. A refused call leaves the book, every
  * list and every out-parameter as they were.
  *
@@ -24,6 +24,12 @@
 #ifdef __cplusplus
 extern "C" {
 #endif
+
+/* The version of this header and of the archive that it is for. */
+#define VIGBUSO_VERSION_MAJOR 0
+#define VIGBUSO_VERSION_MINOR 1
+#define VIGBUSO_VERSION_PATCH 0
+#define VIGBUSO_VERSION "0.1.0"
 
 /* Bytes of a page, and of a granule: every block starts at a multiple of it. */
 #define VIGBUSO_PAGE_BYTES 65536u
@@ -42,24 +48,29 @@ extern "C" {
 /* The most blocks of one take: the length of a list that is long enough for every class. */
 #define VIGBUSO_BATCH 64u
 
-/* The most groups of a group release. */
-#define VIGBUSO_MAX_GROUPS 2056u
+/* The most chunks (document 01's groups) of a release by chunks. */
+#define VIGBUSO_MAX_CHUNKS 2056u
 
 /* What vigbuso_commit writes as first page for none. */
 #define VIGBUSO_NO_PAGE UINT32_MAX
 
-/* The host word: what the system answers within one call. */
+/*
+ * The host word: what the system answers within one call. An arena in plain memory, of which nothing is ever discarded, is
+ * VIGBUSO_HOST_GRANTED. VIGBUSO_HOST_ALL promises that the caller discards each page which goes cold and that it reads as
+ * zeroes then. With 0 the first take or commit disables the arena for good.
+ */
 enum vigbuso_host {
     VIGBUSO_HOST_RESERVATION = 1, /* the arena's reservation is granted */
     VIGBUSO_HOST_COMMIT = 2,      /* a commit of pages is granted */
     VIGBUSO_HOST_DISCARD = 4,     /* a discard is done */
     VIGBUSO_HOST_ZEROES = 8,      /* a done discard leaves zeroes */
-    VIGBUSO_HOST_ALL = 15
+    VIGBUSO_HOST_GRANTED = 3,     /* reservation and commits are granted, nothing is discarded */
+    VIGBUSO_HOST_ALL = 15         /* everything is granted, and discards leave zeroes */
 };
 
 /* The kind of a word, in its top two bits. A block word has its first granule, counted from the arena's start, in the
- * others; a group word has a count in the next 12 bits and a page in the low 18. */
-enum vigbuso_kind { VIGBUSO_NONE = 0, VIGBUSO_SMALL = 1, VIGBUSO_MEDIUM = 2, VIGBUSO_GROUP = 3 };
+ * others; a chunk word has a count in the next 12 bits and a page in the low 18. */
+enum vigbuso_kind { VIGBUSO_NONE = 0, VIGBUSO_SMALL = 1, VIGBUSO_MEDIUM = 2, VIGBUSO_CHUNK = 3 };
 
 #define VIGBUSO_KIND(word) ((uint32_t)(word) >> 30)
 
@@ -69,41 +80,92 @@ enum vigbuso_kind { VIGBUSO_NONE = 0, VIGBUSO_SMALL = 1, VIGBUSO_MEDIUM = 2, VIG
 /* The page of a block's first byte. */
 #define VIGBUSO_PAGE(word) (((uint32_t)(word) & 0x3FFFFFFFu) / (VIGBUSO_PAGE_BYTES / VIGBUSO_GRANULE_BYTES))
 
-/* The word of a group of count blocks on a page. */
-#define VIGBUSO_GROUP_WORD(count, page) (((uint32_t)VIGBUSO_GROUP << 30) | ((uint32_t)(count) << 18) | (uint32_t)(page))
+/* The word of a chunk of count blocks on a page. */
+#define VIGBUSO_CHUNK_WORD(count, page) (((uint32_t)VIGBUSO_CHUNK << 30) | ((uint32_t)(count) << 18) | (uint32_t)(page))
 
-/* What a release did with the page or span; VIGBUSO_RETIRED is added to the fate of a group that returned all blocks which
+/* What a release did with the page or span; VIGBUSO_RETIRED is added to the fate of a chunk that returned all blocks which
  * its page had out. */
 enum vigbuso_fate { VIGBUSO_KEPT = 0, VIGBUSO_COLD = 1, VIGBUSO_TO_ARENA = 2, VIGBUSO_RETIRED = 4 };
 
-/* Numbers of refusals, in checking order. */
+/* Numbers of refusals, in checking order; vigbuso_refusal_text says what each means. */
 enum vigbuso_refusal {
-    VIGBUSO_ARENA_LENGTH = 1,   /* the arena length, given at opening or stored as the book's first word, is 0 (an empty
-                                   book reads so) or above 262,144 */
-    VIGBUSO_BOOK_TOO_SHORT = 2, /* the book is too short */
-    VIGBUSO_HOST_WORD = 3,      /* the host word exceeds 15 */
-    VIGBUSO_CLASS = 4,          /* the class is 64 or more, medium 12 or more */
-    VIGBUSO_LIST_TOO_SHORT = 5, /* the list lent to a take is shorter than 64, medium than one span's blocks */
-    VIGBUSO_RUN_LENGTH = 6,     /* a run has 0 pages or 2^48 or more, or growth isn't to more pages */
-    VIGBUSO_EMPTY_LIST = 7,     /* the release or group list is empty */
-    VIGBUSO_GROUPS = 8,         /* groups exceed 2,056, or the fate list is shorter than the groups */
-    VIGBUSO_WRONG_KIND = 9,     /* a word has the wrong kind */
-    VIGBUSO_NOT_OUT = 10,       /* a block is not out in this class, or stands twice */
-    VIGBUSO_OTHER_PAGE = 11,    /* a block is on another page or span than the first; for groups, a page twice, a count 0
-                                   or not the list's, a page missing */
-    VIGBUSO_NOT_HELD = 12,      /* the run handed to vigbuso_release or to growth isn't wholly held by the direct calls */
-    VIGBUSO_BOOK_WORD = 13      /* another book word that the call reads is out of its range, or a listed page yields no
-                                   block */
+    VIGBUSO_ARENA_LENGTH = 1,
+    VIGBUSO_BOOK_TOO_SHORT = 2,
+    VIGBUSO_HOST_WORD = 3,
+    VIGBUSO_CLASS = 4,
+    VIGBUSO_LIST_TOO_SHORT = 5,
+    VIGBUSO_RUN_LENGTH = 6,
+    VIGBUSO_EMPTY_LIST = 7,
+    VIGBUSO_CHUNKS = 8,
+    VIGBUSO_WRONG_KIND = 9,
+    VIGBUSO_NOT_OUT = 10,
+    VIGBUSO_OTHER_PAGE = 11,
+    VIGBUSO_NOT_HELD = 12,
+    VIGBUSO_BOOK_WORD = 13
 };
 
+/* What the number that a call returned means. */
+static inline const char *vigbuso_refusal_text(uint32_t number) {
+    switch (number) {
+    case 1:
+        return "the arena length, given at opening or stored as the book's first word, is 0 (an empty book reads so) or "
+               "above 262,144";
+    case 2:
+        return "the book is too short";
+    case 3:
+        return "the host word exceeds 15";
+    case 4:
+        return "the class is 64 or more, medium 12 or more";
+    case 5:
+        return "the list lent to a take is shorter than 64, medium than one span's blocks";
+    case 6:
+        return "a run has 0 pages or 2^48 or more, or growth isn't to more pages";
+    case 7:
+        return "the list of blocks or of chunks is empty";
+    case 8:
+        return "there are more than 2,056 chunks, or fewer fates than chunks";
+    case 9:
+        return "a word has the wrong kind";
+    case 10:
+        return "a block is not out in this class, or stands twice";
+    case 11:
+        return "a block is on another page or span than the first; for chunks, a page twice, a count 0 or not the list's, "
+               "a page missing";
+    case 12:
+        return "the run handed to release or to growth isn't wholly held by the direct calls";
+    case 13:
+        return "another book word that the call reads is out of its range, or a listed page yields no block";
+    default:
+        return number == 0 ? "carried out" : "no refusal has this number";
+    }
+}
+
+/* Bytes of a small class's blocks; 0 if there is no such class. */
+static inline uint32_t vigbuso_block_bytes(uint32_t size_class) {
+    static const uint16_t bytes[46] = {
+        16,   32,   48,   64,   80,   96,   112,  128,  144,  176,  208,  240,  272,   320,   368,   416,
+        480,  544,  624,  704,  800,  912,  1040, 1184, 1344, 1520, 1712, 1936, 2192,  2480,  2800,  3152,
+        3552, 4000, 4512, 5088, 5728, 6448, 7264, 8176, 9200, 10352, 11648, 13104, 14752, 16384};
+    return size_class < 46u ? bytes[size_class] : size_class < VIGBUSO_SMALL_CLASSES ? 16384u : 0u;
+}
+
+/* Bytes of a medium class's blocks; 0 if there is no such class. */
+static inline uint32_t vigbuso_medium_block_bytes(uint32_t size_class) {
+    static const uint32_t bytes[12] = {18432, 20736, 23328, 26256, 29552, 33248,
+                                       37408, 42096, 47360, 53280, 59952, 65472};
+    return size_class < VIGBUSO_MEDIUM_CLASSES ? bytes[size_class] : 0u;
+}
+
 /*
- * The small class for a size in bytes: the first whose blocks are not smaller; 63 above 16,384.
+ * The small class for a size in bytes: the first whose blocks are not smaller; 63 above 16,384, where its blocks are too
+ * small: such a size is for vigbuso_medium_class_for_size.
  * Returns 0 to 63.
  */
 uint32_t vigbuso_class_for_size(uint64_t size);
 
 /*
- * The medium class for a size in bytes: the first whose blocks are not smaller; 11 at or below 16,384 and above 65,472.
+ * The medium class for a size in bytes: the first whose blocks are not smaller; 11 at or below 16,384 and above 65,472,
+ * where its blocks are too small: such a size is for vigbuso_commit.
  * Returns 0 to 11.
  */
 uint32_t vigbuso_medium_class_for_size(uint64_t size);
@@ -197,15 +259,15 @@ uint32_t vigbuso_medium_release_blocks(uint32_t *book, size_t book_len, uint32_t
                                        const uint32_t *list, size_t list_len, uint32_t *fate);
 
 /*
- * Releases blocks of a small class on several pages, with a group for each page that tells how many of them it has.
+ * Releases blocks of a small class on several pages, with a chunk for each page that tells how many of them it has.
  *   book    book_len words, written
  *   list    list_len block words, read; 1 at least
- *   groups  groups_len group words, read; 1 to 2,056
- *   fates   fates_len words, groups_len at least; the first groups_len are written, in the groups' order, the others kept
+ *   chunks  chunks_len chunk words, read; 1 to 2,056
+ *   fates   fates_len words, chunks_len at least; the first chunks_len are written, in the chunks' order, the others kept
  * Returns 0, or 1, 2, 3, 4, 7, 8, 9, 10, 11, 13.
  */
 uint32_t vigbuso_release_bin_chunks(uint32_t *book, size_t book_len, uint32_t size_class, uint32_t host,
-                                    const uint32_t *list, size_t list_len, const uint32_t *groups, size_t groups_len,
+                                    const uint32_t *list, size_t list_len, const uint32_t *chunks, size_t chunks_len,
                                     uint32_t *fates, size_t fates_len);
 
 #ifdef __cplusplus

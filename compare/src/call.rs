@@ -13,7 +13,7 @@ pub struct Lent {
 pub enum Call {
     Take { family: Family, class: u32, host: u32, lent: Lent },
     ReleaseBlocks { family: Family, class: u32, host: u32, list: Vec<u32> },
-    ReleaseChunks { class: u32, host: u32, list: Vec<u32>, groups: Vec<u32>, lent: Lent },
+    ReleaseChunks { class: u32, host: u32, list: Vec<u32>, chunks: Vec<u32>, lent: Lent },
     Commit { host: u32, pages: u64 },
     Grow { host: u32, first: u64, old: u64, new: u64 },
     Release { host: u32, first: u64, pages: u64 },
@@ -45,6 +45,9 @@ pub enum Answer {
     /// Something that CALLS.md rules out, in words.
     Broken(String),
 }
+
+/// A call with the answer that is due.
+pub type Due = (Call, Answer);
 
 /// The calls as they are counted: the names of CALLS.md without their prefix.
 #[derive(Clone, Copy, PartialEq, Eq, PartialOrd, Ord, Debug)]

@@ -49,11 +49,7 @@ impl Source {
 pub fn histories(words: &[String]) -> Result<bool, String> {
     let arguments = Arguments::read(words, &["calls", "seed", "pages", "scenario"])?;
     let calls: u64 = arguments.number("calls")?.unwrap_or(1_000_000);
-    let mut source = Source::new(&arguments, port::landed)?;
-    if Kind::ALL.iter().all(|&kind| !port::landed(kind)) {
-        say_what_is_missing();
-        return Ok(false);
-    }
+    let mut source = Source::new(&arguments, |_| true)?;
     let mut book = Book::new();
     let mut tally = Tally::default();
     let mut progress = Progress::begin();
@@ -83,9 +79,6 @@ pub fn histories(words: &[String]) -> Result<bool, String> {
 }
 
 fn say_what_is_missing() {
-    for kind in Kind::ALL.into_iter().filter(|&kind| !port::landed(kind)) {
-        println!("not compared: {} (its feature is off)", kind.name());
-    }
     println!("not the original's, compared with the tool's own reading: refusals 3 to 12, the report's pages held");
     println!("not compared here: refusals 1, 2 and 13, the book's words, counts that pass 2^64");
 }
@@ -140,7 +133,7 @@ pub fn replay(words: &[String]) -> Result<bool, String> {
     let arguments = Arguments::read(words, &["file"])?;
     let file = arguments.text("file").ok_or("replay needs --file")?;
     let text = fs::read_to_string(file).map_err(|error| format!("{file}: {error}"))?;
-    let (mut compared, mut left_out) = (0, 0);
+    let mut compared = 0;
     let mut room = Room::new(Fence::Back);
     for history in history::parse(&text)? {
         let mut book = Fenced::new(book_words(history.pages), Fence::Back);
@@ -149,10 +142,6 @@ pub fn replay(words: &[String]) -> Result<bool, String> {
             return Err(format!("an opening of {} pages is refused as {opened}", history.pages));
         }
         for (call, due) in &history.calls {
-            if !port::landed(call.kind()) {
-                left_out += 1;
-                continue;
-            }
             let got = port::ask(book.words_mut(), &mut room, call);
             if got != *due {
                 println!("{}\n# the port answers:\n# {}", history::line(call, due), history::line(call, &got));
@@ -161,6 +150,6 @@ pub fn replay(words: &[String]) -> Result<bool, String> {
             compared += 1;
         }
     }
-    println!("{compared} calls compared, {left_out} left out; 0 differences");
+    println!("{compared} calls compared; 0 differences");
     Ok(true)
 }

@@ -17,8 +17,7 @@
 
 use std::fmt::Write;
 
-use crate::call::{Answer, Call, Kind, Lent};
-use crate::run::Due;
+use crate::call::{Answer, Call, Due, Kind, Lent};
 use crate::words::{Family, NO_PAGE};
 
 #[derive(Clone, PartialEq, Eq, Debug)]
@@ -70,10 +69,10 @@ fn arguments(call: &Call) -> Vec<u64> {
         Call::ReleaseBlocks { class, host, list, .. } => {
             [u64::from(*class), u64::from(*host)].into_iter().chain(listed(list)).collect()
         }
-        Call::ReleaseChunks { class, host, list, groups, lent } => [u64::from(*class), u64::from(*host)]
+        Call::ReleaseChunks { class, host, list, chunks, lent } => [u64::from(*class), u64::from(*host)]
             .into_iter()
             .chain(listed(list))
-            .chain(listed(groups))
+            .chain(listed(chunks))
             .chain(lent_list(lent))
             .collect(),
         Call::Commit { host, pages } => vec![u64::from(*host), *pages],
@@ -179,7 +178,7 @@ fn parse_call(kind: Kind, from: &mut Numbers) -> Option<Call> {
             class: from.word()?,
             host: from.word()?,
             list: from.list()?,
-            groups: from.list()?,
+            chunks: from.list()?,
             lent: from.lent()?,
         },
         Kind::Commit => Call::Commit { host: from.word()?, pages: from.next()? },
@@ -213,7 +212,7 @@ fn parse_answer(call: &Call, from: &mut Numbers) -> Option<Answer> {
             Answer::Taken { virgin: from.flag()?, words: from.words(count)? }
         }
         Call::ReleaseBlocks { .. } => Answer::Fate(from.word()?),
-        Call::ReleaseChunks { groups, .. } => Answer::Fates(from.words(groups.len())?),
+        Call::ReleaseChunks { chunks, .. } => Answer::Fates(from.words(chunks.len())?),
         Call::Commit { .. } => match (from.word()?, from.flag()?) {
             (NO_PAGE, false) => Answer::NoRun,
             (first, fresh) => Answer::Run { first, fresh },

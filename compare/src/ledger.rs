@@ -8,7 +8,7 @@ use std::collections::BTreeMap;
 use crate::call::{Answer, Call};
 use crate::oracle;
 use crate::words::{
-    group_count, group_page, kind_of, page_of, Family, GROUP_KIND, HOST_ALL, MAX_GROUPS, RUN_LIMIT, SMALL_CLASSES,
+    chunk_count, chunk_page, kind_of, page_of, Family, CHUNK_KIND, HOST_ALL, MAX_CHUNKS, RUN_LIMIT, SMALL_CLASSES,
 };
 
 /// Small classes, then medium ones.
@@ -97,10 +97,10 @@ impl Ledger {
                 let first = self.run[page_of(list[0]) as usize];
                 self.take_back(*family, *class, first, &sorted(list), *fate);
             }
-            (Call::ReleaseChunks { class, list, groups, .. }, Answer::Fates(fates)) => {
+            (Call::ReleaseChunks { class, list, chunks, .. }, Answer::Fates(fates)) => {
                 let gone = sorted(list);
-                for (&group, &fate) in groups.iter().zip(fates) {
-                    self.take_back(Family::Small, *class, group_page(group), &gone, fate);
+                for (&chunk, &fate) in chunks.iter().zip(fates) {
+                    self.take_back(Family::Small, *class, chunk_page(chunk), &gone, fate);
                 }
             }
             (Call::Commit { pages, .. }, Answer::Run { first, .. }) => self.hold(*first, *pages as u32),
@@ -181,9 +181,9 @@ impl Ledger {
             Call::ReleaseBlocks { family, class, host, list } => {
                 self.class_refusal(*family, *class, *host).or_else(|| self.list_refusal(*family, *class, list))
             }
-            Call::ReleaseChunks { class, host, list, groups, lent } => self
+            Call::ReleaseChunks { class, host, list, chunks, lent } => self
                 .class_refusal(Family::Small, *class, *host)
-                .or_else(|| self.chunk_refusal(*class, list, groups, lent.len)),
+                .or_else(|| self.chunk_refusal(*class, list, chunks, lent.len)),
             Call::Commit { host, pages } => first_of(&[(3, *host > HOST_ALL), (6, bad_run(*pages))]),
             Call::Grow { host, first, old, new } => first_of(&[
                 (3, *host > HOST_ALL),
@@ -231,15 +231,15 @@ impl Ledger {
         (runs.iter().map(listed).sum::<usize>() != words.len()).then_some(10)
     }
 
-    fn chunk_refusal(&self, class: u32, list: &[u32], groups: &[u32], room: usize) -> Option<u32> {
-        if list.is_empty() || groups.is_empty() {
+    fn chunk_refusal(&self, class: u32, list: &[u32], chunks: &[u32], room: usize) -> Option<u32> {
+        if list.is_empty() || chunks.is_empty() {
             return Some(7);
         }
-        if groups.len() > MAX_GROUPS || room < groups.len() {
+        if chunks.len() > MAX_CHUNKS || room < chunks.len() {
             return Some(8);
         }
         let wrong_kind = |word: &u32| kind_of(*word) != Family::Small.kind();
-        if list.iter().any(wrong_kind) || groups.iter().any(|&group| kind_of(group) != GROUP_KIND) {
+        if list.iter().any(wrong_kind) || chunks.iter().any(|&chunk| kind_of(chunk) != CHUNK_KIND) {
             return Some(9);
         }
         self.block_refusal(Family::Small, class, list).or_else(|| {
@@ -247,7 +247,7 @@ impl Ledger {
             for &word in list {
                 *counts.entry(page_of(word)).or_default() += 1;
             }
-            let matched = groups.iter().all(|&group| counts.remove(&group_page(group)) == Some(group_count(group)));
+            let matched = chunks.iter().all(|&chunk| counts.remove(&chunk_page(chunk)) == Some(chunk_count(chunk)));
             (!matched || !counts.is_empty()).then_some(11)
         })
     }

@@ -21,10 +21,6 @@ pub fn sizes() -> Vec<u64> {
 
 /// Prints the differences and how many sizes were compared; true if there is no difference.
 pub fn run() -> bool {
-    if !port::lookups_landed() {
-        println!("not compared: class_for_size, medium_class_for_size (feature lookups is off)");
-        return false;
-    }
     let sizes = sizes();
     let mut differences = 0;
     for &size in &sizes {

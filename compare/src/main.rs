@@ -1,7 +1,6 @@
 //! Compares Vigbuso's exported calls with the Rust that they port. README.md says how to run it.
 
 mod arguments;
-mod boundaries;
 mod call;
 mod damaged;
 mod generate;
@@ -39,7 +38,6 @@ const USAGE: &str = "usage: compare COMMAND [--NAME VALUE ..]
                histories with the original's answers, computed by the checker on the model
   damaged      [--calls N] [--seed S] [--only HISTORY]
                calls with any arguments on damaged books
-  boundaries   document 01's examples at the limits, on the port
   speed        [--file F] [--seconds S]
                the port's time against the original's, for each scenario S seconds; the table is also written to F";
 
@@ -53,7 +51,6 @@ fn main() -> ExitCode {
         Some("replay") => histories::replay(rest),
         Some("model-test") => model_test::run(rest),
         Some("damaged") => damaged::run(rest),
-        Some("boundaries") => boundaries::run(rest),
         Some("speed") => speed::run(rest),
         _ => Err(USAGE.into()),
     };

@@ -5,7 +5,7 @@ use crate::call::{Call, Lent};
 use crate::ledger::{Ledger, Out};
 use crate::oracle;
 use crate::random::Random;
-use crate::words::{block_word, group_word, page_of, Family, MAX_GROUPS, PAGE_BYTES, PAGE_GRANULES, RUN_LIMIT};
+use crate::words::{block_word, chunk_word, page_of, Family, MAX_CHUNKS, PAGE_BYTES, PAGE_GRANULES, RUN_LIMIT};
 
 /// How many of a page's blocks are given back.
 #[derive(Clone, Copy, PartialEq, Eq, Debug)]
@@ -154,22 +154,22 @@ fn chunks(random: &mut Random, ledger: &Ledger, class: u32, host: u32, most: usi
         return None;
     }
     random.shuffle(&mut runs);
-    let most = most.min(MAX_GROUPS);
+    let most = most.min(MAX_CHUNKS);
     runs.truncate(if random.chance(1, 3) { most } else { 1 + random.index(most) });
-    let (mut list, mut groups) = (Vec::new(), Vec::new());
+    let (mut list, mut chunks) = (Vec::new(), Vec::new());
     for run in runs {
         let portion = if random.chance(1, 4) { Portion::All } else { portion };
         let words = blocks(random, run, portion);
-        groups.push(group_word(words.len() as u32, run.first));
+        chunks.push(chunk_word(words.len() as u32, run.first));
         list.extend(words);
     }
     match random.below(3) {
         0 => {}
         1 => random.shuffle(&mut list),
-        _ => random.shuffle(&mut groups),
+        _ => random.shuffle(&mut chunks),
     }
-    let lent = Lent { len: groups.len() + random.weighted(&[(3, 0), (1, 2)]), fill: random.word() as u32 };
-    Some(Call::ReleaseChunks { class, host, list, groups, lent })
+    let lent = Lent { len: chunks.len() + random.weighted(&[(3, 0), (1, 2)]), fill: random.word() as u32 };
+    Some(Call::ReleaseChunks { class, host, list, chunks, lent })
 }
 
 fn pick_direct(random: &mut Random, ledger: &Ledger, place: Place, frontier: u32) -> Option<(u64, u64)> {
@@ -278,25 +278,25 @@ fn wrong_list(random: &mut Random, ledger: &Ledger, family: Family, class: u32) 
 
 fn wrong_chunks(random: &mut Random, ledger: &Ledger, class: u32, host: u32) -> Call {
     let list = wrong_list(random, ledger, Family::Small, class);
-    let mut groups: Vec<u32> = Vec::new();
+    let mut chunks: Vec<u32> = Vec::new();
     let mut pages: Vec<u32> = list.iter().map(|&word| page_of(word)).collect();
     pages.sort_unstable();
     while let Some(&page) = pages.first() {
         let count = pages.iter().take_while(|&&other| other == page).count();
-        groups.push(group_word(count as u32, page));
+        chunks.push(chunk_word(count as u32, page));
         pages.drain(..count);
     }
     match random.below(7) {
-        0 => groups.clear(),
-        1 => groups.extend(groups.clone()),
-        2 => groups.push(group_word(random.below(3) as u32, random.below(u64::from(ledger.pages())) as u32)),
-        3 => groups.iter_mut().for_each(|group| *group ^= 1 << random.below(32)),
-        4 => groups.resize(groups.len() + random.pick(&[MAX_GROUPS, 3]), group_word(1, 0)),
+        0 => chunks.clear(),
+        1 => chunks.extend(chunks.clone()),
+        2 => chunks.push(chunk_word(random.below(3) as u32, random.below(u64::from(ledger.pages())) as u32)),
+        3 => chunks.iter_mut().for_each(|chunk| *chunk ^= 1 << random.below(32)),
+        4 => chunks.resize(chunks.len() + random.pick(&[MAX_CHUNKS, 3]), chunk_word(1, 0)),
         _ => {}
     }
     let len = match random.below(4) {
-        0 => random.index(groups.len() + 1),
-        _ => groups.len(),
+        0 => random.index(chunks.len() + 1),
+        _ => chunks.len(),
     };
-    Call::ReleaseChunks { class, host, list, groups, lent: Lent { len, fill: random.word() as u32 } }
+    Call::ReleaseChunks { class, host, list, chunks, lent: Lent { len, fill: random.word() as u32 } }
 }

@@ -1,86 +1,78 @@
 //! The port, through the C boundary of CALLS.md.
-//!
-//! A part of the calls whose feature is off is not linked: `landed` says which may be asked.
 
-use crate::call::{Answer, Call, Kind, Lent};
+use crate::call::{Answer, Call, Lent};
 use crate::memory::{Fence, Fenced};
 use crate::words::{Family, NO_PAGE};
 
-/// Declares exported functions of a part; where its feature is off, names that nobody may call.
-macro_rules! exported {
-    ($part:ident, $feature:literal, $(fn $name:ident($($argument:ident: $type:ty),*);)*) => {
-        #[allow(dead_code, clippy::too_many_arguments)]
-        mod $part {
-            #[cfg(feature = $feature)]
-            extern "C" {
-                $(pub fn $name($($argument: $type),*) -> u32;)*
-            }
-            $(
-                #[cfg(not(feature = $feature))]
-                pub unsafe fn $name($(_: $type),*) -> u32 {
-                    unreachable!(concat!("feature ", $feature, " is off"))
-                }
-            )*
-        }
-        use $part::*;
-    };
-}
-
-exported! { lookups, "lookups",
-    fn vigbuso_class_for_size(size: u64);
-    fn vigbuso_medium_class_for_size(size: u64);
-}
-
-exported! { arena, "arena",
-    fn vigbuso_open(book: *mut u32, words: usize, pages: u64);
-    fn vigbuso_commit(book: *mut u32, words: usize, host: u32, pages: u64, first: *mut u32, fresh: *mut u32);
+// The folder is the build script's.
+#[link(name = "vigbuso", kind = "static")]
+extern "C" {
+    fn vigbuso_class_for_size(size: u64) -> u32;
+    fn vigbuso_medium_class_for_size(size: u64) -> u32;
+    fn vigbuso_open(book: *mut u32, words: usize, pages: u64) -> u32;
+    fn vigbuso_commit(book: *mut u32, words: usize, host: u32, pages: u64, first: *mut u32, fresh: *mut u32) -> u32;
     fn vigbuso_grow_frontier(
-        book: *mut u32, words: usize, host: u32, first: u64, old_pages: u64, new_pages: u64, grown: *mut u32
-    );
-    fn vigbuso_release(book: *mut u32, words: usize, host: u32, first: u64, pages: u64);
-    fn vigbuso_contains(book: *const u32, words: usize, offset: u64, length: u64);
-    fn vigbuso_report(book: *const u32, words: usize, figures: *mut u64);
-}
-
-exported! { blocks, "blocks",
+        book: *mut u32,
+        words: usize,
+        host: u32,
+        first: u64,
+        old_pages: u64,
+        new_pages: u64,
+        grown: *mut u32,
+    ) -> u32;
+    fn vigbuso_release(book: *mut u32, words: usize, host: u32, first: u64, pages: u64) -> u32;
+    fn vigbuso_contains(book: *const u32, words: usize, offset: u64, length: u64) -> u32;
+    fn vigbuso_report(book: *const u32, words: usize, figures: *mut u64) -> u32;
     fn vigbuso_take_blocks(
-        book: *mut u32, words: usize, class: u32, host: u32,
-        list: *mut u32, len: usize, count: *mut u32, virgin: *mut u32
-    );
+        book: *mut u32,
+        words: usize,
+        class: u32,
+        host: u32,
+        list: *mut u32,
+        len: usize,
+        count: *mut u32,
+        virgin: *mut u32,
+    ) -> u32;
     fn vigbuso_medium_take_blocks(
-        book: *mut u32, words: usize, class: u32, host: u32,
-        list: *mut u32, len: usize, count: *mut u32, virgin: *mut u32
-    );
+        book: *mut u32,
+        words: usize,
+        class: u32,
+        host: u32,
+        list: *mut u32,
+        len: usize,
+        count: *mut u32,
+        virgin: *mut u32,
+    ) -> u32;
     fn vigbuso_release_blocks(
-        book: *mut u32, words: usize, class: u32, host: u32, list: *const u32, len: usize, fate: *mut u32
-    );
+        book: *mut u32,
+        words: usize,
+        class: u32,
+        host: u32,
+        list: *const u32,
+        len: usize,
+        fate: *mut u32,
+    ) -> u32;
     fn vigbuso_medium_release_blocks(
-        book: *mut u32, words: usize, class: u32, host: u32, list: *const u32, len: usize, fate: *mut u32
-    );
-}
-
-exported! { chunks, "chunks",
+        book: *mut u32,
+        words: usize,
+        class: u32,
+        host: u32,
+        list: *const u32,
+        len: usize,
+        fate: *mut u32,
+    ) -> u32;
     fn vigbuso_release_bin_chunks(
-        book: *mut u32, words: usize, class: u32, host: u32, list: *const u32, len: usize,
-        groups: *const u32, number: usize, fates: *mut u32, room: usize
-    );
-}
-
-/// Whether calls of this kind are linked.
-pub const fn landed(kind: Kind) -> bool {
-    match kind {
-        Kind::Commit | Kind::GrowFrontier | Kind::Release | Kind::Contains | Kind::Report => {
-            cfg!(feature = "arena")
-        }
-        Kind::TakeBlocks | Kind::MediumTakeBlocks | Kind::ReleaseBlocks | Kind::MediumReleaseBlocks => {
-            cfg!(feature = "blocks")
-        }
-        Kind::ReleaseBinChunks => cfg!(feature = "chunks"),
-    }
-}
-
-pub const fn lookups_landed() -> bool {
-    cfg!(feature = "lookups")
+        book: *mut u32,
+        words: usize,
+        class: u32,
+        host: u32,
+        list: *const u32,
+        len: usize,
+        chunks: *const u32,
+        number: usize,
+        fates: *mut u32,
+        room: usize,
+    ) -> u32;
 }
 
 pub fn class_for_size(size: u64) -> u32 {
@@ -105,13 +97,13 @@ const ROOM: usize = 1 << 18;
 /// Where the lists of a call stand, each against an unmapped page.
 pub struct Room {
     list: Fenced,
-    groups: Fenced,
+    chunks: Fenced,
     lent: Fenced,
 }
 
 impl Room {
     pub fn new(fence: Fence) -> Room {
-        Room { list: Fenced::new(ROOM, fence), groups: Fenced::new(ROOM, fence), lent: Fenced::new(ROOM, fence) }
+        Room { list: Fenced::new(ROOM, fence), chunks: Fenced::new(ROOM, fence), lent: Fenced::new(ROOM, fence) }
     }
 }
 
@@ -140,10 +132,11 @@ pub fn ask(book: &mut [u32], room: &mut Room, call: &Call) -> Answer {
             let placed = placed(&mut room.list, list);
             only_read(release_blocks(book, *family, [*class, *host], placed), &[(placed, list)])
         }
-        Call::ReleaseChunks { class, host, list, groups, lent } => {
-            let (words, chunks) = (placed(&mut room.list, list), placed(&mut room.groups, groups));
-            let answer = release_chunks(book, [*class, *host], words, chunks, filled(&mut room.lent, lent), lent);
-            only_read(answer, &[(words, list), (chunks, groups)])
+        Call::ReleaseChunks { class, host, list, chunks, lent } => {
+            let (words, placed_chunks) = (placed(&mut room.list, list), placed(&mut room.chunks, chunks));
+            let answer =
+                release_chunks(book, [*class, *host], words, placed_chunks, filled(&mut room.lent, lent), lent);
+            only_read(answer, &[(words, list), (placed_chunks, chunks)])
         }
         Call::Commit { host, pages } => commit(book, *host, *pages),
         Call::Grow { host, first, old, new } => grow(book, *host, [*first, *old, *new]),
@@ -234,7 +227,7 @@ pub fn plain_release_chunks(
     book: &mut [u32],
     [class, host]: [u32; 2],
     list: &[u32],
-    groups: &[u32],
+    chunks: &[u32],
     fates: &mut [u32],
 ) -> u32 {
     // SAFETY: slices are lent for the call.
@@ -246,8 +239,8 @@ pub fn plain_release_chunks(
             host,
             list.as_ptr(),
             list.len(),
-            groups.as_ptr(),
-            groups.len(),
+            chunks.as_ptr(),
+            chunks.len(),
             fates.as_mut_ptr(),
             fates.len(),
         )
@@ -258,19 +251,19 @@ fn release_chunks(
     book: &mut [u32],
     class_and_host: [u32; 2],
     list: &[u32],
-    groups: &[u32],
+    chunks: &[u32],
     fates: &mut [u32],
     lent: &Lent,
 ) -> Answer {
-    let number = plain_release_chunks(book, class_and_host, list, groups, fates);
+    let number = plain_release_chunks(book, class_and_host, list, chunks, fates);
     let kept = |from: usize| fates[from..].iter().all(|&entry| entry == lent.fill);
     if number != 0 {
         return refusal(number, kept(0));
     }
-    if groups.len() > fates.len() || !kept(groups.len()) {
+    if chunks.len() > fates.len() || !kept(chunks.len()) {
         return Answer::Broken("an entry past the groups' fates changed, or the fate list is shorter".into());
     }
-    Answer::Fates(fates[..groups.len()].to_vec())
+    Answer::Fates(fates[..chunks.len()].to_vec())
 }
 
 /// What is returned, first page and fresh.

@@ -45,8 +45,8 @@ impl Reference {
             Call::ReleaseBlocks { family, class, host, list } => {
                 Answer::Fate(original.release_blocks(*family, *class, *host, list))
             }
-            Call::ReleaseChunks { class, host, list, groups, .. } => {
-                Answer::Fates(original.release_bin_chunks(*class, *host, list, groups))
+            Call::ReleaseChunks { class, host, list, chunks, .. } => {
+                Answer::Fates(original.release_bin_chunks(*class, *host, list, chunks))
             }
             Call::Commit { host, pages } => match original.commit(*host, *pages) {
                 Some((first, fresh)) => Answer::Run { first, fresh },

@@ -1,14 +1,11 @@
 //! A plan run on the original and on the port, call by call.
 
-use crate::call::{Answer, Call, Kind};
+use crate::call::{Answer, Call, Due, Kind};
 use crate::memory::{Fence, Reserved};
 use crate::plan::Plan;
 use crate::port::{self, Room};
 use crate::reference::Reference;
 use crate::words::{book_words, MAX_PAGES};
-
-/// A call with the answer that is due.
-pub type Due = (Call, Answer);
 
 /// The first call on which the port differs.
 #[derive(Debug)]
@@ -61,9 +58,6 @@ pub fn compare(plan: &Plan, book: &mut Book, mut seen: impl FnMut(&Call, &Answer
     assert!(opened == 0, "an opening of {} pages is refused as {opened}", plan.pages);
     for (step, wanted) in plan.steps.iter().enumerate() {
         let Some(call) = wanted.call(&reference.ledger, reference.frontier()) else { continue };
-        if !port::landed(call.kind()) {
-            continue;
-        }
         let due = reference.answer(&call);
         let got = port::ask(book, room, &call);
         if got != due {

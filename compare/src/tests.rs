@@ -2,7 +2,6 @@
 
 use std::sync::Mutex;
 
-use crate::boundaries;
 use crate::call::{Answer, Call, Lent};
 use crate::generate::{self, SCENARIOS};
 use crate::history::{self, History};
@@ -12,7 +11,7 @@ use crate::random::Random;
 use crate::reference::Reference;
 use crate::run;
 use crate::shrink::shrink;
-use crate::words::{block_word, group_word, Family, HOST_ALL};
+use crate::words::{block_word, chunk_word, Family, HOST_ALL};
 
 /// The original has one arena for the process.
 static ORIGINAL: Mutex<()> = Mutex::new(());
@@ -71,15 +70,15 @@ fn blocks_p6_to_p10() {
         answers(&[take(Family::Small, 45), release(45, &[2051, 1027, 3]), take(Family::Small, 45)]),
         [taken(three.clone(), true), Answer::Fate(0), taken(back, false)]
     );
-    let groups = Call::ReleaseChunks {
+    let chunks = Call::ReleaseChunks {
         class: 45,
         host: HOST_ALL,
         list: three.clone(),
-        groups: vec![group_word(3, 0)],
+        chunks: vec![chunk_word(3, 0)],
         lent: Lent { len: 1, fill: 9 },
     };
     assert_eq!(
-        answers(&[take(Family::Small, 45), groups, take(Family::Small, 45)]),
+        answers(&[take(Family::Small, 45), chunks, take(Family::Small, 45)]),
         [taken(three.clone(), true), Answer::Fates(vec![4]), taken(three, false)]
     );
     let spans = (0..10).map(|block| block_word(Family::Medium, 4 + block * 1_152)).collect();
@@ -94,24 +93,6 @@ fn runs_p11_and_p12() {
     assert_eq!(answers(&[&calls[..], &again].concat())[4..], [run_at(8, false), run_at(0, false), run_at(4, false)]);
     let calls = [commit(grants, 4), give(0, 4), commit(refuses, 2), commit(grants, 2), commit(grants, 2)];
     assert_eq!(answers(&calls)[2..], [Answer::NoRun, run_at(0, false), run_at(2, false)]);
-}
-
-/// What `boundaries` asks for is what the original answers.
-#[test]
-fn boundaries_on_the_original() {
-    let _alone = ORIGINAL.lock().unwrap_or_else(|poisoned| poisoned.into_inner());
-    for (name, example) in boundaries::EXAMPLES.map(|example| (example.name, example.run)) {
-        let mut reference = None;
-        let seen = example(&mut |asked| match asked {
-            boundaries::Asked::Opening(pages) => {
-                reference = None;
-                reference = Some(Reference::open(pages));
-                Answer::Released
-            }
-            boundaries::Asked::Call(call) => reference.as_mut().expect("an opening comes first").answer(call),
-        });
-        assert!(seen.is_ok(), "{name}: {seen:?}");
-    }
 }
 
 /// A history of every scenario, read back from its text.

@@ -4,7 +4,8 @@ pub const PAGE_BYTES: usize = 65_536;
 pub const GRANULE_BYTES: usize = 16;
 pub const PAGE_GRANULES: u32 = (PAGE_BYTES / GRANULE_BYTES) as u32;
 pub const MAX_PAGES: u32 = 262_144;
-pub const MAX_GROUPS: usize = 2_056;
+/// The most chunks of a group release. A chunk is document 01's group, as in the library.
+pub const MAX_CHUNKS: usize = 2_056;
 /// A run of this many pages or more is refused as 6.
 pub const RUN_LIMIT: u64 = 1 << 48;
 pub const SMALL_CLASSES: u32 = 64;
@@ -63,16 +64,16 @@ pub const fn page_of(word: u32) -> u32 {
     granule_of(word) / PAGE_GRANULES
 }
 
-pub const GROUP_KIND: u32 = 3;
+pub const CHUNK_KIND: u32 = 3;
 
-pub const fn group_word(count: u32, page: u32) -> u32 {
-    (GROUP_KIND << 30) | (count << 18) | page
+pub const fn chunk_word(count: u32, page: u32) -> u32 {
+    (CHUNK_KIND << 30) | (count << 18) | page
 }
 
-pub const fn group_count(word: u32) -> u32 {
+pub const fn chunk_count(word: u32) -> u32 {
     (word >> 18) & 0xFFF
 }
 
-pub const fn group_page(word: u32) -> u32 {
+pub const fn chunk_page(word: u32) -> u32 {
     word & ((1 << 18) - 1)
 }

@@ -1,118 +1,70 @@
 //! Fills a crossword grid by a backtracking search whose records stand in heap blocks.
 //!
-//! Whenever the search turns back, the scores of the words that stood then go into a block of their own, and the blocks'
-//! words into a run of pages that grows; candidates of each open choice, the index of the word list and the best fill are
-//! in blocks too. The arena is a plain `Vec<u8>`. Every read is compared with what was written there. At the end all that
-//! was kept is read back, the grid, its score and the heap's status line are printed, and everything is released.
+//! The words that still fit into each open slot, the candidates of each open choice with their scores, the index of the word
+//! list and the best fill are in blocks; how the search went is in a run of pages that grows. What a choice has written is
+//! freed as the search turns back, and its blocks are used anew. The arena is a plain `Vec<u8>`. Every read is compared
+//! with what was written there. At the end, also of a search that ran out of turns or of room, the best fill, its score and
+//! the heap's status line are printed, and everything is released.
 //!
-//!     cargo run --release --example fill -- [--draw] [--svg FILE] [--turns N]
+//!     cargo run --release --example fill -- --draw
+//!     cargo run --release --example fill -- --grid examples/fill/15x15.txt --plot search.svg
 //!
-//! `--draw` prints the arena's pages by holder, `--svg` writes a picture of them, `--turns` sets how often the search
-//! turns back before it is content with its best fill.
+//! `--help` tells the options.
 
-#[path = "fill/grid.rs"]
-mod grid;
-#[path = "fill/index.rs"]
-mod index;
-#[path = "fill/pages.rs"]
-mod pages;
-#[path = "fill/picture.rs"]
-mod picture;
-#[path = "fill/search.rs"]
-mod search;
-#[path = "fill/store.rs"]
-mod store;
-#[path = "fill/trail.rs"]
-mod trail;
-#[path = "fill/words.rs"]
-mod words;
+#[path = "fill/mod.rs"]
+mod fill;
 
-use std::error::Error;
 use std::process::ExitCode;
 
-use grid::Grid;
-use search::Search;
-use store::Store;
-use words::Words;
+use fill::arguments::{Arguments, USAGE};
+use fill::job::{Done, Job};
+use fill::progress::Line;
+use fill::{picture, plot, Outcome};
 
-/// The grid: 24 blocks, 30 words of three to five letters.
-const GRID: &str = "
-    . . . # # # . . .
-    . . . . # # . . .
-    . . . . . # . . .
-    # # # . . . . . #
-    # # . . . . . # #
-    # . . . . . # # #
-    . . . # . . . . .
-    . . . # # . . . .
-    . . . # # # . . .
-";
-
-/// What a step of the example gives, or why it could not.
-type Outcome<T> = Result<T, Box<dyn Error>>;
-
-const WORDS: &str = include_str!("words.txt");
-
-/// Pages of the arena.
-const PAGES: usize = 64;
-
-struct Arguments {
-    draw: bool,
-    svg: Option<String>,
-    turns: usize,
-}
-
-fn arguments() -> Result<Arguments, String> {
-    let mut found = Arguments { draw: false, svg: None, turns: 20_000 };
-    let mut words = std::env::args().skip(1);
-    while let Some(word) = words.next() {
-        match word.as_str() {
-            "--draw" => found.draw = true,
-            "--svg" => found.svg = Some(words.next().ok_or("--svg wants a file")?),
-            "--turns" => {
-                let number = words.next().and_then(|number| number.parse().ok());
-                found.turns = number.ok_or("--turns wants a number")?;
-            }
-            _ => return Err("usage: fill [--draw] [--svg FILE] [--turns N]".into()),
+fn main() -> ExitCode {
+    match run() {
+        Ok(()) => ExitCode::SUCCESS,
+        Err(error) => {
+            eprintln!("fill: {error}");
+            ExitCode::FAILURE
         }
     }
-    Ok(found)
 }
 
-fn run(arguments: &Arguments) -> Outcome<()> {
-    let grid = Grid::parse(GRID)?;
-    let words = Words::parse(WORDS)?;
-    let mut store = Store::open(PAGES)?;
-    let mut search = Search::new(&grid, &words, &mut store)?;
-    search.run(&mut store, arguments.turns)?;
+fn run() -> Outcome<()> {
+    let arguments = Arguments::parse(std::env::args().skip(1))?;
+    if arguments.help {
+        print!("{USAGE}");
+        return Ok(());
+    }
+    let job = Job::new(&arguments)?;
+    let mut line = Line::new();
+    let done = job.run(&mut |progress| line.show(progress));
+    line.clear();
+    let done = done?;
+    print!("{}", job.text(&done));
+    draw(&arguments, &done)?;
+    match done.best {
+        Some(_) => Ok(()),
+        None => Err("no fill was found".into()),
+    }
+}
 
-    let best = search.best(&store)?.ok_or("the search found no fill: give it more turns")?;
-    print!("{}", grid.show(&best.letters));
-    println!("score {}, {} words out of {}", best.score, grid.slots().len(), words.len());
-    let turns = search.turns(&store)?;
-    let standing: usize = turns.iter().map(Vec::len).sum();
-    let average = standing as f64 / turns.len() as f64;
-    println!("{} fills, turned back {} times, {average:.1} words standing on average", search.fills(), turns.len());
-    println!("{} reads, each as it was written", store.reads());
-    println!("heap: {}", store.report()?);
-
+fn draw(arguments: &Arguments, done: &Done) -> Outcome<()> {
     if arguments.draw {
-        print!("\n{}", picture::text(&store.pages()?));
+        print!("\n{}", picture::text(&done.pages));
     }
     if let Some(file) = &arguments.svg {
-        std::fs::write(file, picture::svg(&store.pages()?)).map_err(|error| format!("{file}: {error}"))?;
-        println!("picture: {file}");
+        write(file, &picture::svg(&done.pages))?;
     }
-    search.release(&mut store)?;
-    store.close()?;
+    if let Some(file) = &arguments.plot {
+        write(file, &plot::svg(&done.history, arguments.pages))?;
+    }
     Ok(())
 }
 
-fn main() -> ExitCode {
-    let result = arguments().map_err(Into::into).and_then(|arguments| run(&arguments));
-    if let Err(error) = result {
-        eprintln!("fill: {error}");
-        return ExitCode::FAILURE;
-    }
-    ExitCode::SUCCESS
+fn write(file: &str, picture: &str) -> Outcome<()> {
+    std::fs::write(file, picture).map_err(|error| format!("{file}: {error}"))?;
+    println!("picture: {file}");
+    Ok(())
 }

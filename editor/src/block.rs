@@ -1,13 +1,27 @@
 //! Block words.
 
-use std::fmt;
+use core::fmt;
+use core::num::NonZero;
+use core::ops::Range;
 
 use crate::{GRANULE_BYTES, PAGE_BYTES};
 
-/// Bits of a block word that hold its granule.
-const GRANULE_BITS: u32 = 30;
+/// The word that names a block or a chunk between editor and heap. Its width is said here and nowhere else: the kind has
+/// the top two bits.
+///
+/// ```
+/// assert_eq!(vigbuso::Word::BITS, 32);
+/// ```
+pub type Word = u32;
 
-/// What kind of block a word names.
+/// Bits of a word below its kind.
+pub(crate) const LOW_BITS: u32 = Word::BITS - 2;
+
+/// Granules of a page.
+#[allow(clippy::cast_possible_truncation)] // 4,096
+pub(crate) const PAGE_GRANULES: Word = (PAGE_BYTES / GRANULE_BYTES) as Word;
+
+/// What kind of block a word names, and which of the two families a class is of.
 ///
 /// ```
 /// # use vigbuso::{Block, Kind};
@@ -21,29 +35,47 @@ pub enum Kind {
     Medium = 2,
 }
 
-/// A block that the heap hands out: a 32-bit word with the kind in its top two bits and the block's first granule,
-/// counted from the arena's start, in the others.
+/// A block that the heap hands out: a [`Word`] with the kind in its top two bits and the block's first granule, counted
+/// from the arena's start, in the others.
 ///
-/// It is only a number: a copy of it does not keep the block, and a block that was released twice, or never handed out, is
-/// [refused](crate::Refusal::NotOut). So it may be stored as its [`word`](Block::word), in the arena too, and read back.
+/// It is only a number, as an index is: it borrows nothing, and a copy of it does not keep the block. So it may be stored as
+/// its [`word`](Block::word), in the arena too, and read back. `Option<Block>` is no longer than `Block`.
+///
+/// # Stale and foreign blocks
+///
+/// - A *stale* block was released. Releasing it once more is refused as [`NotOut`](crate::Refusal::NotOut) and changes
+///   nothing, but only until a take hands the same bytes out again: from then on the old copy names the new block, and no
+///   call can tell the two apart. Nothing stops a program from reading or writing the arena by a stale block.
+/// - A *foreign* block was never handed out by this heap: made from a number, or of another heap. A release refuses it as
+///   `NotOut`, or as [`WrongKind`](crate::Refusal::WrongKind) if it is of the other family, unless the same block of this
+///   heap happens to be out.
+/// - A block that is out in another class is `NotOut` in this one.
+///
+/// No such block makes a call read or write anything but the book. A [`Pool`](crate::Pool) refuses stale and foreign blocks
+/// at once in debug builds, the stale ones also after the heap has them back.
 ///
 /// ```
-/// use vigbuso::{Block, Heap, Host, Kind};
+/// use vigbuso::{Block, Class, Heap, Kind};
 ///
-/// let blocks = Heap::open(64)?.take(0, Host::ALL)?;
+/// let class = Class::for_size(16).unwrap();
+/// let blocks = Heap::open(64)?.take(class)?;
 /// let block = blocks[0];
 /// assert_eq!((block.kind(), block.granule(), block.byte_offset()), (Kind::Small, 66, 1056));
 /// assert_eq!(block.word(), 1_073_741_890);
 /// assert_eq!(Block::from_word(1_073_741_890), Some(block));
+/// assert_eq!(size_of::<Option<Block>>(), size_of::<Block>());
 /// # Ok::<(), vigbuso::Refusal>(())
 /// ```
 #[derive(Clone, Copy, PartialEq, Eq, PartialOrd, Ord, Hash)]
 #[repr(transparent)]
-pub struct Block(u32);
+pub struct Block(NonZero<Word>);
 
 impl Block {
     /// Stands where no block was written: granule 0 is a page's header, so no block has it.
-    pub(crate) const FILLER: Block = Block((Kind::Small as u32) << GRANULE_BITS);
+    pub(crate) const FILLER: Block = match Block::small(0) {
+        Some(filler) => filler,
+        None => unreachable!(),
+    };
 
     /// The block that a word names; none if it is of another kind.
     ///
@@ -52,37 +84,40 @@ impl Block {
     /// assert_eq!(Block::from_word(0), None);
     /// assert_eq!(Block::from_word(0x4000_0003), Block::small(3));
     /// ```
-    pub const fn from_word(word: u32) -> Option<Block> {
-        match word >> GRANULE_BITS {
-            1 | 2 => Some(Block(word)),
+    #[must_use]
+    pub const fn from_word(word: Word) -> Option<Block> {
+        match (word >> LOW_BITS, NonZero::new(word)) {
+            (1 | 2, Some(word)) => Some(Block(word)),
             _ => None,
         }
     }
 
-    /// The small block at a granule; none if it exceeds 30 bits.
+    /// The small block at a granule; none if it has more bits than a word has below its kind.
     ///
     /// ```
     /// # use vigbuso::Block;
     /// assert_eq!(Block::small(3).map(Block::byte_offset), Some(48));
     /// assert_eq!(Block::small(1 << 30), None);
     /// ```
-    pub const fn small(granule: u32) -> Option<Block> {
+    #[must_use]
+    pub const fn small(granule: Word) -> Option<Block> {
         Block::of(Kind::Small, granule)
     }
 
-    /// The medium block at a granule; none if it exceeds 30 bits.
+    /// The medium block at a granule; none if it has more bits than a word has below its kind.
     ///
     /// ```
     /// # use vigbuso::Block;
     /// assert_eq!(Block::medium(4).map(Block::byte_offset), Some(64));
     /// ```
-    pub const fn medium(granule: u32) -> Option<Block> {
+    #[must_use]
+    pub const fn medium(granule: Word) -> Option<Block> {
         Block::of(Kind::Medium, granule)
     }
 
-    const fn of(kind: Kind, granule: u32) -> Option<Block> {
-        match granule >> GRANULE_BITS {
-            0 => Some(Block((kind as u32) << GRANULE_BITS | granule)),
+    const fn of(kind: Kind, granule: Word) -> Option<Block> {
+        match granule >> LOW_BITS {
+            0 => Block::from_word((kind as Word) << LOW_BITS | granule),
             _ => None,
         }
     }
@@ -93,8 +128,9 @@ impl Block {
     /// # use vigbuso::Block;
     /// assert_eq!(Block::small(3).map(Block::word), Some(0x4000_0003));
     /// ```
-    pub const fn word(self) -> u32 {
-        self.0
+    #[must_use]
+    pub const fn word(self) -> Word {
+        self.0.get()
     }
 
     /// Small or medium.
@@ -103,8 +139,9 @@ impl Block {
     /// # use vigbuso::{Block, Kind};
     /// assert_eq!(Block::medium(4).map(Block::kind), Some(Kind::Medium));
     /// ```
+    #[must_use]
     pub const fn kind(self) -> Kind {
-        match self.0 >> GRANULE_BITS {
+        match self.word() >> LOW_BITS {
             1 => Kind::Small,
             _ => Kind::Medium,
         }
@@ -116,8 +153,9 @@ impl Block {
     /// # use vigbuso::Block;
     /// assert_eq!(Block::small(66).map(Block::granule), Some(66));
     /// ```
-    pub const fn granule(self) -> u32 {
-        self.0 & ((1 << GRANULE_BITS) - 1)
+    #[must_use]
+    pub const fn granule(self) -> Word {
+        self.word() & ((1 << LOW_BITS) - 1)
     }
 
     /// The block's first byte, counted from the arena's start.
@@ -126,8 +164,27 @@ impl Block {
     /// # use vigbuso::Block;
     /// assert_eq!(Block::small(66).map(Block::byte_offset), Some(66 * 16));
     /// ```
+    #[must_use]
     pub const fn byte_offset(self) -> u64 {
         self.granule() as u64 * GRANULE_BYTES as u64
+    }
+
+    /// The block's first `len` bytes, to index the arena with. The block does not tell its size: `len` is at most its class's
+    /// [`bytes`](crate::Class::bytes), or the range goes on into the next block.
+    ///
+    /// ```
+    /// use vigbuso::{Class, Heap, PAGE_BYTES};
+    ///
+    /// let mut arena = vec![0; PAGE_BYTES];
+    /// let blocks = Heap::open(1)?.take(Class::for_size(5).unwrap())?;
+    /// arena[blocks[0].range(5)].copy_from_slice(b"ASHEN");
+    /// assert_eq!(blocks[0].range(5), 1056..1061);
+    /// # Ok::<(), vigbuso::Refusal>(())
+    /// ```
+    #[must_use]
+    pub const fn range(self, len: usize) -> Range<usize> {
+        let start = self.granule() as usize * GRANULE_BYTES;
+        start..start.saturating_add(len)
     }
 
     /// The page of the block's first byte.
@@ -136,8 +193,9 @@ impl Block {
     /// # use vigbuso::Block;
     /// assert_eq!(Block::small(4096 + 3).map(Block::page), Some(1));
     /// ```
+    #[must_use]
     pub const fn page(self) -> u32 {
-        self.granule() / (PAGE_BYTES / GRANULE_BYTES) as u32
+        self.granule() / PAGE_GRANULES
     }
 }
 

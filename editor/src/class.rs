@@ -1,86 +1,335 @@
 //! Sizes and classes.
 
-use crate::ffi;
+use core::fmt;
 
-/// The small classes are 0 to 63.
+use crate::block::PAGE_GRANULES;
+use crate::{Block, Kind, GRANULE_BYTES, PAGE_BYTES};
+
+/// The number of small classes.
+const SMALL: u32 = 64;
+
+/// The number of medium classes.
+const MEDIUM: u32 = 12;
+
+/// Bytes of each class's blocks, the small classes first. Tested against the library.
+const BYTES: [u32; Class::COUNT] = [
+    16, 32, 48, 64, 80, 96, 112, 128, 144, 176, 208, 240, 272, 320, 368, 416, 480, 544, 624, 704, 800, 912, 1_040,
+    1_184, 1_344, 1_520, 1_712, 1_936, 2_192, 2_480, 2_800, 3_152, 3_552, 4_000, 4_512, 5_088, 5_728, 6_448, 7_264,
+    8_176, 9_200, 10_352, 11_648, 13_104, 14_752, 16_384, 16_384, 16_384, 16_384, 16_384, 16_384, 16_384, 16_384,
+    16_384, 16_384, 16_384, 16_384, 16_384, 16_384, 16_384, 16_384, 16_384, 16_384, 16_384, // medium from here on
+    18_432, 20_736, 23_328, 26_256, 29_552, 33_248, 37_408, 42_096, 47_360, 53_280, 59_952, 65_472,
+];
+
+/// The place of the class for each number of granules: the first whose blocks are not smaller. The library's lookups answer
+/// the same, which is tested for every size, but make their tables anew in each call.
+static FIRST_FIT: [u8; Class::MAX_BYTES / GRANULE_BYTES + 1] = {
+    let mut table = [0; Class::MAX_BYTES / GRANULE_BYTES + 1];
+    let (mut granules, mut class) = (0, 0);
+    while granules < table.len() {
+        while (BYTES[class as usize] as usize) < granules * GRANULE_BYTES {
+            class += 1;
+        }
+        table[granules] = class;
+        granules += 1;
+    }
+    table
+};
+
+/// Bytes before the first block of a page, and of a span.
+const PAGE_HEADER: usize = 48;
+const SPAN_HEADER: usize = 64;
+
+/// Blocks that a span has at least.
+const SPAN_BLOCKS: usize = 8;
+
+/// A class of blocks that have one size: one of 64 small classes, whose blocks stand on single pages, or of 12 medium ones,
+/// whose blocks stand in spans of several pages.
+///
+/// [`Class::for_size`] finds the class of a record; takes and releases go by it.
 ///
 /// ```
-/// # use vigbuso::{Heap, Host, Refusal, SMALL_CLASSES};
-/// assert_eq!(Heap::open(1)?.take(SMALL_CLASSES, Host::ALL), Err(Refusal::Class));
-/// # Ok::<(), Refusal>(())
-/// ```
-pub const SMALL_CLASSES: u32 = 64;
-
-/// The medium classes are 0 to 11.
+/// use vigbuso::{Class, Heap, Kind};
 ///
+/// let class = Class::for_size(20_000).expect("at most 65,472 bytes");
+/// assert_eq!((class.kind(), class.bytes()), (Kind::Medium, 20_736));
+/// let blocks = Heap::open(64)?.take(class)?;
+/// assert_eq!(blocks.len(), class.capacity());
+/// # Ok::<(), vigbuso::Refusal>(())
 /// ```
-/// # use vigbuso::{Heap, Host, Refusal, MEDIUM_CLASSES};
-/// assert_eq!(Heap::open(1)?.medium_take(MEDIUM_CLASSES, Host::ALL), Err(Refusal::Class));
-/// # Ok::<(), Refusal>(())
-/// ```
-pub const MEDIUM_CLASSES: u32 = 12;
+#[derive(Clone, Copy, PartialEq, Eq, PartialOrd, Ord, Hash)]
+pub struct Class(u8);
 
-/// The most bytes of a small block.
-const SMALL_BYTES: u64 = 16_384;
+impl Class {
+    /// The number of classes, small and medium.
+    ///
+    /// ```
+    /// assert_eq!(vigbuso::Class::all().count(), vigbuso::Class::COUNT);
+    /// ```
+    pub const COUNT: usize = (SMALL + MEDIUM) as usize;
 
-/// The most bytes of a medium block.
-const MEDIUM_BYTES: u64 = 65_472;
+    /// Bytes of the largest block. A longer record is for a run of pages ([`Heap::commit`](crate::Heap::commit)).
+    ///
+    /// ```
+    /// # use vigbuso::Class;
+    /// assert!(Class::for_size(Class::MAX_BYTES).is_some());
+    /// assert!(Class::for_size(Class::MAX_BYTES + 1).is_none());
+    /// ```
+    pub const MAX_BYTES: usize = BYTES[Class::COUNT - 1] as usize;
 
-/// The small class for a size in bytes: the first whose blocks are not smaller. A size above 16,384 gets 63, whose blocks
-/// are too small for it: such a record is for [`medium_class_for_size`].
-///
-/// ```
-/// # use vigbuso::class_for_size;
-/// assert_eq!([0, 16, 17, 16_384, 16_385].map(class_for_size), [0, 0, 1, 45, 63]);
-/// ```
-pub fn class_for_size(size: u64) -> u32 {
-    ffi::class_for_size(size)
-}
+    /// The class for a record of so many bytes: the first whose blocks are not smaller, medium above 16,384; none above
+    /// [`MAX_BYTES`](Class::MAX_BYTES).
+    ///
+    /// ```
+    /// # use vigbuso::Class;
+    /// assert_eq!([0, 16, 17].map(Class::for_size), [0, 0, 1].map(Class::small));
+    /// assert_eq!(Class::for_size(16_384), Class::small(45));
+    /// assert_eq!([16_385, 18_433].map(Class::for_size), [0, 1].map(Class::medium));
+    /// assert_eq!(Class::for_size(65_473), None);
+    /// ```
+    #[must_use]
+    #[inline]
+    pub fn for_size(bytes: usize) -> Option<Class> {
+        FIRST_FIT.get(bytes.div_ceil(GRANULE_BYTES)).map(|&place| Class(place))
+    }
 
-/// The medium class for a size in bytes: the first whose blocks are not smaller. A size of at most 16,384 or above 65,472
-/// gets 11; the first is for [`class_for_size`], the second for a run of pages ([`Heap::commit`](crate::Heap::commit)).
-///
-/// ```
-/// # use vigbuso::medium_class_for_size;
-/// assert_eq!([18_432, 18_433, 65_472, 65_473, 100].map(medium_class_for_size), [0, 1, 11, 11, 11]);
-/// ```
-pub fn medium_class_for_size(size: u64) -> u32 {
-    ffi::medium_class_for_size(size)
-}
-
-/// The bytes of a small class's blocks; none if there is no such class.
-///
-/// ```
-/// # use vigbuso::block_bytes;
-/// assert_eq!([0, 44, 45, 63].map(block_bytes), [16, 14_752, 16_384, 16_384].map(Some));
-/// assert_eq!(block_bytes(64), None);
-/// ```
-pub fn block_bytes(class: u32) -> Option<u64> {
-    (class < SMALL_CLASSES).then(|| largest(0, SMALL_BYTES, |size| class_for_size(size) <= class))
-}
-
-/// The bytes of a medium class's blocks; none if there is no such class.
-///
-/// ```
-/// # use vigbuso::medium_block_bytes;
-/// assert_eq!([0, 11].map(medium_block_bytes), [18_432, 65_472].map(Some));
-/// assert_eq!(medium_block_bytes(12), None);
-/// ```
-pub fn medium_block_bytes(class: u32) -> Option<u64> {
-    (class < MEDIUM_CLASSES)
-        .then(|| largest(SMALL_BYTES + 1, MEDIUM_BYTES, |size| medium_class_for_size(size) <= class))
-}
-
-/// The largest number from `low` to `high` that fits, where all up to some number do. The sizes are thus read off the
-/// lookups: a second table of them could differ.
-fn largest(mut low: u64, mut high: u64, fits: impl Fn(u64) -> bool) -> u64 {
-    while low < high {
-        let middle = high - (high - low) / 2;
-        if fits(middle) {
-            low = middle;
+    /// The small class with a number, 0 to 63.
+    ///
+    /// ```
+    /// # use vigbuso::Class;
+    /// assert_eq!(Class::small(1).map(Class::bytes), Some(32));
+    /// assert_eq!(Class::small(64), None);
+    /// ```
+    #[must_use]
+    pub const fn small(number: u32) -> Option<Class> {
+        if number < SMALL {
+            Some(Class::at(number as usize))
         } else {
-            high = middle - 1;
+            None
         }
     }
-    low
+
+    /// The medium class with a number, 0 to 11.
+    ///
+    /// ```
+    /// # use vigbuso::Class;
+    /// assert_eq!(Class::medium(0).map(Class::bytes), Some(18_432));
+    /// assert_eq!(Class::medium(12), None);
+    /// ```
+    #[must_use]
+    pub const fn medium(number: u32) -> Option<Class> {
+        if number < MEDIUM {
+            Some(Class::at((SMALL + number) as usize))
+        } else {
+            None
+        }
+    }
+
+    /// The class at a place among all, below [`COUNT`](Class::COUNT).
+    #[allow(clippy::cast_possible_truncation)] // it is
+    pub(crate) const fn at(place: usize) -> Class {
+        Class(place as u8)
+    }
+
+    /// All classes, the small ones first.
+    ///
+    /// ```
+    /// # use vigbuso::Class;
+    /// let page_of_each: usize = Class::all().map(Class::pages).sum();
+    /// assert_eq!(page_of_each, 64 + 62);
+    /// ```
+    pub fn all() -> impl DoubleEndedIterator<Item = Class> + ExactSizeIterator + Clone {
+        (0..Class::COUNT).map(Class::at)
+    }
+
+    /// Its place among all classes: 0 to 63 small, 64 to 75 medium.
+    ///
+    /// ```
+    /// # use vigbuso::Class;
+    /// assert_eq!(Class::medium(0).map(Class::index), Some(64));
+    /// ```
+    #[must_use]
+    pub const fn index(self) -> usize {
+        self.0 as usize
+    }
+
+    /// Its number in its family: 0 to 63 small, 0 to 11 medium.
+    ///
+    /// ```
+    /// # use vigbuso::Class;
+    /// assert_eq!(Class::for_size(20_000).map(Class::number), Some(1));
+    /// ```
+    #[must_use]
+    pub const fn number(self) -> u32 {
+        match self.kind() {
+            Kind::Small => self.0 as u32,
+            Kind::Medium => self.0 as u32 - SMALL,
+        }
+    }
+
+    /// Its family, which is also the kind of its blocks' words.
+    ///
+    /// ```
+    /// # use vigbuso::{Class, Kind};
+    /// assert_eq!(Class::for_size(16_385).map(Class::kind), Some(Kind::Medium));
+    /// ```
+    #[must_use]
+    pub const fn kind(self) -> Kind {
+        if (self.0 as u32) < SMALL {
+            Kind::Small
+        } else {
+            Kind::Medium
+        }
+    }
+
+    /// Bytes of each of its blocks.
+    ///
+    /// ```
+    /// # use vigbuso::Class;
+    /// assert_eq!(Class::for_size(100).map(Class::bytes), Some(112));
+    /// ```
+    #[must_use]
+    pub const fn bytes(self) -> usize {
+        BYTES[self.index()] as usize
+    }
+
+    /// Pages of one of its runs: 1, or the pages of a span.
+    ///
+    /// ```
+    /// # use vigbuso::Class;
+    /// assert_eq!((Class::small(0).map(Class::pages), Class::medium(0).map(Class::pages)), (Some(1), Some(3)));
+    /// ```
+    #[must_use]
+    pub const fn pages(self) -> usize {
+        match self.kind() {
+            Kind::Small => 1,
+            Kind::Medium => (SPAN_HEADER + SPAN_BLOCKS * self.bytes()).div_ceil(PAGE_BYTES),
+        }
+    }
+
+    /// Blocks of a page, or of a span.
+    ///
+    /// ```
+    /// # use vigbuso::Class;
+    /// assert_eq!((Class::small(0).map(Class::capacity), Class::medium(0).map(Class::capacity)), (Some(4_093), Some(10)));
+    /// ```
+    #[must_use]
+    pub const fn capacity(self) -> usize {
+        (self.pages() * PAGE_BYTES - self.header()) / self.bytes()
+    }
+
+    const fn header(self) -> usize {
+        match self.kind() {
+            Kind::Small => PAGE_HEADER,
+            Kind::Medium => SPAN_HEADER,
+        }
+    }
+
+    /// The first page of the page or span in which a block of this class starts here; none where no block of this class can
+    /// start.
+    ///
+    /// ```
+    /// # use vigbuso::{Block, Class};
+    /// let class = Class::medium(0).unwrap();
+    /// // Block 4 of the span that begins at page 7.
+    /// let block = Block::medium(7 * 4_096 + 4 + 4 * 18_432 / 16).unwrap();
+    /// assert_eq!((block.page(), class.first_page(block)), (8, Some(7)));
+    /// assert_eq!(class.first_page(Block::medium(5).unwrap()), None);
+    /// ```
+    #[must_use]
+    pub fn first_page(self, block: Block) -> Option<u32> {
+        if block.kind() != self.kind() {
+            return None;
+        }
+        let granules = u64::from(PAGE_GRANULES);
+        let (header, size) = ((self.header() / GRANULE_BYTES) as u64, (self.bytes() / GRANULE_BYTES) as u64);
+        let (granule, capacity) = (u64::from(block.granule()), self.capacity() as u64);
+        match self.kind() {
+            Kind::Small => {
+                let place = (granule % granules).checked_sub(header)?;
+                (place % size == 0 && place / size < capacity).then_some(block.page())
+            }
+            Kind::Medium => {
+                // No two blocks of a span have the same place on their pages, so at most one index fits.
+                let mut firsts = (0..capacity).filter_map(|index| granule.checked_sub(header + index * size));
+                u32::try_from(firsts.find(|first| first % granules == 0)? / granules).ok()
+            }
+        }
+    }
+}
+
+impl fmt::Display for Class {
+    fn fmt(&self, f: &mut fmt::Formatter) -> fmt::Result {
+        let family = match self.kind() {
+            Kind::Small => "small",
+            Kind::Medium => "medium",
+        };
+        write!(f, "{family} class {} of {} bytes", self.number(), self.bytes())
+    }
+}
+
+impl fmt::Debug for Class {
+    fn fmt(&self, f: &mut fmt::Formatter) -> fmt::Result {
+        write!(f, "{:?}Class({})", self.kind(), self.number())
+    }
+}
+
+#[cfg(test)]
+mod tests {
+    use super::*;
+    use crate::{ffi, Heap};
+    use std::collections::HashSet;
+
+    /// Of every size: the class is the library's, its blocks suffice, and those of the class before do not.
+    #[test]
+    fn the_tables_are_the_librarys() {
+        let mut before: Option<Class> = None;
+        for bytes in 0..=Class::MAX_BYTES {
+            let class = Class::for_size(bytes).expect("a size that is not too large");
+            assert_eq!(Some((class.kind(), class.number())), ffi::size_class(bytes as u64));
+            if before.is_some_and(|before| before != class) {
+                assert_eq!(before.map(Class::bytes), Some(bytes - 1));
+            }
+            assert!(class.bytes() >= bytes);
+            before = Some(class);
+        }
+        assert_eq!(before.map(Class::index), Some(Class::COUNT - 1));
+        let too_large = [Class::MAX_BYTES + 1, usize::MAX];
+        assert_eq!(too_large.map(Class::for_size), [None, None]);
+        assert_eq!(too_large.map(|bytes| ffi::size_class(bytes as u64)), [None, None]);
+        assert!((45..64).all(|number| Class::small(number).map(Class::bytes) == Some(16_384)));
+    }
+
+    /// A heap of one run has just a run's blocks, and each starts where the class says.
+    #[test]
+    fn capacities_and_places_are_the_librarys() {
+        for class in Class::all() {
+            let mut heap = Heap::open(class.pages() as u64).expect("a run");
+            let mut granules = HashSet::new();
+            loop {
+                let taken = heap.take(class).expect("an opened book");
+                if taken.is_empty() {
+                    break;
+                }
+                assert!(taken.iter().all(|&block| class.first_page(block) == Some(0)), "{class}");
+                granules.extend(taken.iter().map(|block| block.granule()));
+            }
+            assert_eq!(granules.len(), class.capacity(), "{class}");
+            let all = 0..crate::Word::try_from(class.pages()).expect("few pages") * PAGE_GRANULES;
+            let block = |granule| match class.kind() {
+                Kind::Small => Block::small(granule),
+                Kind::Medium => Block::medium(granule),
+            };
+            let starts = all.filter(|&granule| class.first_page(block(granule).expect("30 bits")) == Some(0));
+            assert_eq!(starts.collect::<HashSet<_>>(), granules, "{class}");
+        }
+    }
+
+    #[test]
+    fn no_two_blocks_of_a_span_have_the_same_place() {
+        for class in Class::all().filter(|class| class.kind() == Kind::Medium) {
+            let places: HashSet<usize> =
+                (0..class.capacity()).map(|index| index * class.bytes() % PAGE_BYTES).collect();
+            assert_eq!(places.len(), class.capacity());
+        }
+    }
 }

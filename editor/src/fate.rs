@@ -2,20 +2,22 @@
 
 /// What a release did with the page, or with the span of medium blocks.
 ///
-/// [`Heap::release`](crate::Heap::release) answers the first three, [`Heap::medium_release`](crate::Heap::medium_release)
-/// only `Kept` and `Arena`, as there a span that went cold counts as kept. The retired fates are those of a group release
-/// that returned all blocks which the page had out: such a page is carved anew when it is used again.
+/// [`Heap::release`](crate::Heap::release) answers the first three, for a medium class only `Kept` and `Arena`, as there a
+/// span that went cold counts as kept. The retired fates are those of chunks that returned all blocks which the page had
+/// out: such a page is carved anew when it is used again.
 ///
 /// ```
-/// use vigbuso::{Fate, Heap, Host};
+/// use vigbuso::{Class, Fate, Heap};
 ///
 /// let mut heap = Heap::open(64)?;
-/// let blocks = heap.take(45, Host::ALL)?;
-/// let fate = heap.release(45, Host::ALL, &blocks)?;
+/// let class = Class::for_size(16_384).unwrap();
+/// let blocks = heap.take(class)?;
+/// let fate = heap.release(class, &blocks)?;
 /// assert_eq!((fate, fate.number(), fate.is_retired()), (Fate::Kept, 0, false));
 /// # Ok::<(), vigbuso::Refusal>(())
 /// ```
 #[derive(Clone, Copy, PartialEq, Eq, Hash, Debug)]
+#[repr(u32)]
 pub enum Fate {
     /// The class keeps it, in use or among its empty ones.
     Kept = 0,
@@ -42,6 +44,7 @@ impl Fate {
     /// assert_eq!(Fate::from_number(6), Some(Fate::ArenaRetired));
     /// assert_eq!(Fate::from_number(3), None);
     /// ```
+    #[must_use]
     pub fn from_number(number: u32) -> Option<Fate> {
         Fate::ALL.into_iter().find(|fate| fate.number() == number)
     }
@@ -51,15 +54,17 @@ impl Fate {
     /// ```
     /// assert_eq!(vigbuso::Fate::ColdRetired.number(), 1 + 4);
     /// ```
+    #[must_use]
     pub const fn number(self) -> u32 {
         self as u32
     }
 
-    /// Whether a group release retired the page.
+    /// Whether a release by chunks retired the page.
     ///
     /// ```
     /// assert!(vigbuso::Fate::KeptRetired.is_retired());
     /// ```
+    #[must_use]
     pub const fn is_retired(self) -> bool {
         self.number() & 4 != 0
     }
@@ -70,6 +75,7 @@ impl Fate {
     /// # use vigbuso::Fate;
     /// assert!(Fate::Arena.is_arena() && Fate::ArenaRetired.is_arena() && !Fate::Cold.is_arena());
     /// ```
+    #[must_use]
     pub const fn is_arena(self) -> bool {
         self.number() & 3 == 2
     }

@@ -1,5 +1,5 @@
-//! The boundary: the C functions of `libvigbuso.a` (docs/CALLS.md), and a safe function over each. Nothing else in this
-//! crate is `unsafe`.
+//! The boundary: the C functions of `libvigbuso.a` (docs/CALLS.md), and a safe function over each; and the memory of a book.
+//! Nothing else in this crate is `unsafe`.
 //!
 //! # What the caller owes
 //!
@@ -9,22 +9,26 @@
 //! 3. The functions are declared as docs/CALLS.md has them.
 //!
 //! 1 and 2 are what `&[T]` and `&mut [T]` already promise, so each function below takes such borrows and passes on their
-//! pointer and length; out-parameters are locals. [`Block`] and [`Chunk`] are `repr(transparent)` over `u32` and every
-//! word is a valid one, so a list of them is lent as a list of words. 3 is on this page, and the tests run every
-//! function.
+//! pointer and length; out-parameters are locals. [`Block`] and [`Chunk`] are `repr(transparent)` over [`Word`] and [`Fate`] is
+//! a `u32`, so a list of them is lent as a list of words. 3 is on this page, and the tests run every function.
 //!
 //! # What the library owes
 //!
 //! Proved, for every number, every list and every book: a call reads and writes only what it is lent, and within the
 //! lengths given; it returns; it answers 0 or one of document 01's numbers; refused, it leaves everything lent as it was.
-//! It keeps no pointer and has no state but the book. So no call here has a condition on its arguments' values.
+//! It keeps no pointer and has no state but the book. So no call here has a condition on its arguments' values. What it
+//! writes into a list is what its contract says: a take writes words of blocks, which are not 0, and a release by chunks
+//! writes fates.
 
-use crate::{Block, Refusal};
+use alloc::alloc::{alloc_zeroed, Layout};
+use alloc::vec::Vec;
 
-use crate::Chunk;
+use crate::{Block, Chunk, Class, Fate, Host, Kind, Refusal, Report, Run, Word};
 
 extern "C" {
+    #[cfg(test)]
     fn vigbuso_class_for_size(size: u64) -> u32;
+    #[cfg(test)]
     fn vigbuso_medium_class_for_size(size: u64) -> u32;
     fn vigbuso_open(book: *mut u32, book_len: usize, pages: u64) -> u32;
     fn vigbuso_commit(book: *mut u32, book_len: usize, host: u32, pages: u64, first: *mut u32, fresh: *mut u32) -> u32;
@@ -45,7 +49,7 @@ extern "C" {
         book_len: usize,
         class: u32,
         host: u32,
-        list: *mut u32,
+        list: *mut Word,
         list_len: usize,
         count: *mut u32,
         virgin: *mut u32,
@@ -55,7 +59,7 @@ extern "C" {
         book_len: usize,
         class: u32,
         host: u32,
-        list: *mut u32,
+        list: *mut Word,
         list_len: usize,
         count: *mut u32,
         virgin: *mut u32,
@@ -65,7 +69,7 @@ extern "C" {
         book_len: usize,
         class: u32,
         host: u32,
-        list: *const u32,
+        list: *const Word,
         list_len: usize,
         fate: *mut u32,
     ) -> u32;
@@ -74,7 +78,7 @@ extern "C" {
         book_len: usize,
         class: u32,
         host: u32,
-        list: *const u32,
+        list: *const Word,
         list_len: usize,
         fate: *mut u32,
     ) -> u32;
@@ -83,20 +87,13 @@ extern "C" {
         book_len: usize,
         class: u32,
         host: u32,
-        list: *const u32,
+        list: *const Word,
         list_len: usize,
-        groups: *const u32,
-        groups_len: usize,
+        chunks: *const Word,
+        chunks_len: usize,
         fates: *mut u32,
         fates_len: usize,
     ) -> u32;
-}
-
-/// Which of the two families a call of a class is for.
-#[derive(Clone, Copy)]
-pub(crate) enum Family {
-    Small,
-    Medium,
 }
 
 /// Whether a call was carried out.
@@ -107,14 +104,36 @@ fn carried_out(number: u32) -> Result<(), Refusal> {
     }
 }
 
-pub(crate) fn class_for_size(size: u64) -> u32 {
-    // SAFETY: a number for a number.
-    unsafe { vigbuso_class_for_size(size) }
+fn fate(number: u32) -> Fate {
+    Fate::from_number(number).expect("a release answers one of document 01's fates")
 }
 
-pub(crate) fn medium_class_for_size(size: u64) -> u32 {
+/// A size's family and its class there; none if it is too large for both. The two lookups answer a class for every size:
+/// each is asked only where its answer's blocks are large enough. [`Class::for_size`] is held to this.
+#[cfg(test)]
+pub(crate) fn size_class(size: u64) -> Option<(Kind, u32)> {
     // SAFETY: a number for a number.
-    unsafe { vigbuso_medium_class_for_size(size) }
+    match size {
+        0..=16_384 => Some((Kind::Small, unsafe { vigbuso_class_for_size(size) })),
+        16_385..=65_472 => Some((Kind::Medium, unsafe { vigbuso_medium_class_for_size(size) })),
+        _ => None,
+    }
+}
+
+/// So many words of 0, not touched yet; none if there is no memory for them.
+#[allow(clippy::cast_ptr_alignment, clippy::same_length_and_capacity)] // the layout is that of the array
+pub(crate) fn zeroed(words: usize) -> Option<Vec<u32>> {
+    let layout = Layout::array::<u32>(words).ok()?;
+    if layout.size() == 0 {
+        return Some(Vec::new());
+    }
+    // SAFETY: the layout's size is not 0.
+    let memory = unsafe { alloc_zeroed(layout) }.cast::<u32>();
+    if memory.is_null() {
+        return None;
+    }
+    // SAFETY: the global allocator gave this memory for an array of so many `u32`, and 0 is one.
+    Some(unsafe { Vec::from_raw_parts(memory, words, words) })
 }
 
 pub(crate) fn open(book: &mut [u32], pages: u64) -> Result<(), Refusal> {
@@ -123,32 +142,29 @@ pub(crate) fn open(book: &mut [u32], pages: u64) -> Result<(), Refusal> {
 }
 
 /// First page and fresh.
-pub(crate) fn commit(book: &mut [u32], host: u32, pages: u64) -> Result<(u32, u32), Refusal> {
+pub(crate) fn commit(book: &mut [u32], host: Host, pages: u64) -> Result<(u32, u32), Refusal> {
     let (mut first, mut fresh) = (0, 0);
     // SAFETY: the slice and the two locals are lent for the call.
-    carried_out(unsafe { vigbuso_commit(book.as_mut_ptr(), book.len(), host, pages, &mut first, &mut fresh) })?;
+    carried_out(unsafe {
+        vigbuso_commit(book.as_mut_ptr(), book.len(), host.bits(), pages, &raw mut first, &raw mut fresh)
+    })?;
     Ok((first, fresh))
 }
 
 /// Grown.
-pub(crate) fn grow_frontier(
-    book: &mut [u32],
-    host: u32,
-    first: u64,
-    old_pages: u64,
-    new_pages: u64,
-) -> Result<u32, Refusal> {
+pub(crate) fn grow_frontier(book: &mut [u32], host: Host, run: Run, new_pages: u64) -> Result<u32, Refusal> {
     let mut grown = 0;
+    let Run { first, pages } = run;
     // SAFETY: the slice and the local are lent for the call.
     carried_out(unsafe {
-        vigbuso_grow_frontier(book.as_mut_ptr(), book.len(), host, first, old_pages, new_pages, &mut grown)
+        vigbuso_grow_frontier(book.as_mut_ptr(), book.len(), host.bits(), first, pages, new_pages, &raw mut grown)
     })?;
     Ok(grown)
 }
 
-pub(crate) fn release_run(book: &mut [u32], host: u32, first: u64, pages: u64) -> Result<(), Refusal> {
+pub(crate) fn release_run(book: &mut [u32], host: Host, run: Run) -> Result<(), Refusal> {
     // SAFETY: the slice is lent for the call.
-    carried_out(unsafe { vigbuso_release(book.as_mut_ptr(), book.len(), host, first, pages) })
+    carried_out(unsafe { vigbuso_release(book.as_mut_ptr(), book.len(), host.bits(), run.first, run.pages) })
 }
 
 pub(crate) fn contains(book: &[u32], offset: u64, length: u64) -> u32 {
@@ -156,78 +172,87 @@ pub(crate) fn contains(book: &[u32], offset: u64, length: u64) -> u32 {
     unsafe { vigbuso_contains(book.as_ptr(), book.len(), offset, length) }
 }
 
-/// Commits, reuses, abandoned, pages held, idle pages.
-pub(crate) fn report(book: &[u32]) -> Result<[u64; 5], Refusal> {
-    let mut figures = [0; 5];
+pub(crate) fn report(book: &[u32]) -> Result<Report, Refusal> {
+    let mut figures = [0; Report::FIGURES];
     // SAFETY: the slice is lent for the call, to be read, and the local of five to be written.
     carried_out(unsafe { vigbuso_report(book.as_ptr(), book.len(), figures.as_mut_ptr()) })?;
-    Ok(figures)
+    Ok(Report::new(figures))
 }
 
 /// Count and virgin; the list's first count entries are written.
-pub(crate) fn take(
-    book: &mut [u32],
-    family: Family,
-    class: u32,
-    host: u32,
-    list: &mut [Block],
-) -> Result<(u32, u32), Refusal> {
-    let take_blocks = match family {
-        Family::Small => vigbuso_take_blocks,
-        Family::Medium => vigbuso_medium_take_blocks,
+pub(crate) fn take(book: &mut [u32], class: Class, host: Host, list: &mut [Block]) -> Result<(u32, u32), Refusal> {
+    let take_blocks = match class.kind() {
+        Kind::Small => vigbuso_take_blocks,
+        Kind::Medium => vigbuso_medium_take_blocks,
     };
     let (mut count, mut virgin) = (0, 0);
-    let (words, len) = (list.as_mut_ptr().cast::<u32>(), list.len());
-    // SAFETY: both slices and the two locals are lent for the call; a `Block` is a `u32`, and any may be written.
+    let (words, len) = (list.as_mut_ptr().cast::<Word>(), list.len());
+    // SAFETY: both slices and the two locals are lent for the call; a `Block` is a `Word`, and the words that are written are
+    // those of blocks.
     carried_out(unsafe {
-        take_blocks(book.as_mut_ptr(), book.len(), class, host, words, len, &mut count, &mut virgin)
+        take_blocks(
+            book.as_mut_ptr(),
+            book.len(),
+            class.number(),
+            host.bits(),
+            words,
+            len,
+            &raw mut count,
+            &raw mut virgin,
+        )
     })?;
     Ok((count, virgin))
 }
 
-/// The fate.
-pub(crate) fn release(book: &mut [u32], family: Family, class: u32, host: u32, list: &[Block]) -> Result<u32, Refusal> {
-    let release_blocks = match family {
-        Family::Small => vigbuso_release_blocks,
-        Family::Medium => vigbuso_medium_release_blocks,
+pub(crate) fn release(book: &mut [u32], class: Class, host: Host, list: &[Block]) -> Result<Fate, Refusal> {
+    let release_blocks = match class.kind() {
+        Kind::Small => vigbuso_release_blocks,
+        Kind::Medium => vigbuso_medium_release_blocks,
     };
-    let mut fate = 0;
-    let (words, len) = (list.as_ptr().cast::<u32>(), list.len());
-    // SAFETY: both slices and the local are lent for the call, the list to be read; a `Block` is a `u32`.
-    carried_out(unsafe { release_blocks(book.as_mut_ptr(), book.len(), class, host, words, len, &mut fate) })?;
-    Ok(fate)
+    let mut number = 0;
+    let (words, len) = (list.as_ptr().cast::<Word>(), list.len());
+    // SAFETY: both slices and the local are lent for the call, the list to be read; a `Block` is a `Word`.
+    carried_out(unsafe {
+        release_blocks(book.as_mut_ptr(), book.len(), class.number(), host.bits(), words, len, &raw mut number)
+    })?;
+    Ok(fate(number))
 }
 
-/// Writes a fate for each group.
+/// Writes a fate for each chunk. The class is small.
 pub(crate) fn release_chunks(
     book: &mut [u32],
-    class: u32,
-    host: u32,
+    class: Class,
+    host: Host,
     list: &[Block],
     chunks: &[Chunk],
-    fates: &mut [u32],
+    fates: &mut [Fate],
 ) -> Result<(), Refusal> {
-    // SAFETY: the four slices are lent for the call, list and groups to be read; a `Block` and a `Chunk` are a `u32`.
+    if class.kind() != Kind::Small {
+        return Err(Refusal::WrongKind);
+    }
+    // SAFETY: the four slices are lent for the call, list and chunks to be read; a `Block` and a `Chunk` are a `Word`; a `Fate`
+    // is a `u32`, and the numbers that are written are those of fates.
     carried_out(unsafe {
         vigbuso_release_bin_chunks(
             book.as_mut_ptr(),
             book.len(),
-            class,
-            host,
-            list.as_ptr().cast::<u32>(),
+            class.number(),
+            host.bits(),
+            list.as_ptr().cast::<Word>(),
             list.len(),
-            chunks.as_ptr().cast::<u32>(),
+            chunks.as_ptr().cast::<Word>(),
             chunks.len(),
-            fates.as_mut_ptr(),
+            fates.as_mut_ptr().cast::<u32>(),
             fates.len(),
         )
     })
 }
 
-/// The refusals that a `Heap` rules out can be seen here only.
+/// The refusals that the types above rule out can be seen here only.
 #[cfg(test)]
 mod tests {
     use super::*;
+    use std::vec;
 
     const WORDS: usize = 40_000 + 4_112;
 
@@ -235,6 +260,18 @@ mod tests {
         let mut book = vec![0; WORDS];
         open(&mut book, 1).expect("a page, and a book for it");
         book
+    }
+
+    fn small(number: u32) -> Class {
+        Class::small(number).expect("0 to 63")
+    }
+
+    #[test]
+    fn p1_to_p5_sizes() {
+        let small = |size| unsafe { vigbuso_class_for_size(size) };
+        let medium = |size| unsafe { vigbuso_medium_class_for_size(size) };
+        assert_eq!([0, 16_384, 16_385, u64::MAX].map(small), [0, 45, 63, 63]);
+        assert_eq!([18_432, 18_433, 65_472, 65_473, 16_384].map(medium), [0, 1, 11, 11, 11]);
     }
 
     #[test]
@@ -248,21 +285,30 @@ mod tests {
     }
 
     #[test]
-    fn a_host_word_has_four_bits() {
-        assert_eq!(commit(&mut opened(), 16, 1), Err(Refusal::HostWord));
-        assert_eq!(grow_frontier(&mut opened(), 16, 0, 1, 2), Err(Refusal::HostWord));
-        assert_eq!(release_run(&mut opened(), u32::MAX, 0, 1), Err(Refusal::HostWord));
+    fn a_host_word_has_four_bits_and_a_class_is_there() {
+        let mut book = opened();
+        let (words, len) = (book.as_mut_ptr(), book.len());
+        let (mut list, mut one, mut two) = ([0; 64], 0, 0);
+        let room = list.as_mut_ptr();
+        let mut take =
+            |class, host| unsafe { vigbuso_take_blocks(words, len, class, host, room, 64, &raw mut one, &raw mut two) };
+        assert_eq!([take(0, 16), take(64, u32::MAX), take(64, 15)], [3, 3, 4]);
+        let medium = unsafe { vigbuso_medium_take_blocks(words, len, 12, 15, room, 64, &raw mut one, &raw mut two) };
+        assert_eq!(medium, 4);
+        assert_eq!(unsafe { vigbuso_release(words, len, 16, 0, 1) }, 3);
+        assert_eq!(book, opened());
     }
 
     #[test]
     fn a_take_wants_room_for_a_batch() {
-        for (family, class, room) in [(Family::Small, 0, 64), (Family::Medium, 0, 10), (Family::Medium, 11, 8)] {
+        let medium = |number| Class::medium(number).expect("0 to 11");
+        for (class, room) in [(small(0), 64), (medium(0), 10), (medium(11), 8)] {
             let mut list = vec![Block::FILLER; room];
             let mut book = vec![0; WORDS + 9 * 4_112];
             open(&mut book, 10).expect("ten pages, and a book for them");
-            assert_eq!(take(&mut book, family, class, 15, &mut list[1..]), Err(Refusal::ListTooShort));
+            assert_eq!(take(&mut book, class, Host::ALL, &mut list[1..]), Err(Refusal::ListTooShort));
             assert!(list.iter().all(|&block| block == Block::FILLER));
-            assert_eq!(take(&mut book, family, class, 15, &mut list), Ok((room as u32, 1)));
+            assert_eq!(take(&mut book, class, Host::ALL, &mut list).map(|(count, _)| count as usize), Ok(room));
         }
     }
 
@@ -273,21 +319,28 @@ mod tests {
         let before = book.clone();
         let mut list = [Block::FILLER; 64];
         assert_eq!(report(&book), Err(Refusal::BookWord));
-        assert_eq!(take(&mut book, Family::Small, 0, 15, &mut list), Err(Refusal::BookWord));
-        assert_eq!(commit(&mut book, 15, 1), Err(Refusal::BookWord));
+        assert_eq!(take(&mut book, small(0), Host::ALL, &mut list), Err(Refusal::BookWord));
+        assert_eq!(commit(&mut book, Host::ALL, 1), Err(Refusal::BookWord));
         assert_eq!(contains(&book, 0, 1), 0);
         assert_eq!(book, before);
     }
 
     #[test]
-    fn groups_want_a_fate_each() {
+    fn chunks_want_a_fate_each() {
         let mut book = opened();
         let mut list = [Block::FILLER; 64];
-        take(&mut book, Family::Small, 0, 15, &mut list).expect("64 blocks of a page");
+        take(&mut book, small(0), Host::ALL, &mut list).expect("64 blocks of a page");
         let chunks = Chunk::of(&list);
-        assert_eq!(release_chunks(&mut book, 0, 15, &list, &chunks, &mut []), Err(Refusal::Groups));
-        let mut fates = [7; 3];
-        assert_eq!(release_chunks(&mut book, 0, 15, &list, &chunks, &mut fates), Ok(()));
-        assert_eq!(fates, [4, 7, 7]);
+        assert_eq!(release_chunks(&mut book, small(0), Host::ALL, &list, &chunks, &mut []), Err(Refusal::Chunks));
+        let mut fates = [Fate::Cold; 3];
+        assert_eq!(release_chunks(&mut book, small(0), Host::ALL, &list, &chunks, &mut fates), Ok(()));
+        assert_eq!(fates, [Fate::KeptRetired, Fate::Cold, Fate::Cold]);
+    }
+
+    #[test]
+    fn words_of_zero() {
+        assert_eq!(zeroed(0), Some(Vec::new()));
+        assert_eq!(zeroed(3), Some(vec![0; 3]));
+        assert_eq!(zeroed(usize::MAX), None);
     }
 }

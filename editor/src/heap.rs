@@ -1,11 +1,10 @@
 //! The heap.
 
-use std::fmt;
+use alloc::vec;
+use alloc::vec::Vec;
+use core::fmt;
 
-use crate::ffi::{self, Family};
-use crate::{Block, Committed, Fate, Host, Refusal, Report, Run, Taken};
-
-use crate::Chunk;
+use crate::{ffi, Block, Chunk, Class, Committed, Fate, Host, OpenError, Refusal, ReleaseError, Report, Run, Taken};
 
 /// The most pages of an arena.
 ///
@@ -18,37 +17,51 @@ pub const MAX_PAGES: u64 = 262_144;
 /// What a commit writes as first page for none.
 const NO_PAGE: u32 = u32::MAX;
 
-/// Words of a book for an arena of so many pages.
-const fn book_words(pages: u64) -> usize {
-    40_000 + 4_112 * pages as usize
+/// Words that a book for an arena of so many pages has at least: 40,000 and 4,112 for each page.
+///
+/// ```
+/// assert_eq!(vigbuso::book_words(64), 303_168);
+/// ```
+#[must_use]
+pub const fn book_words(pages: u64) -> usize {
+    #[allow(clippy::cast_possible_truncation)] // the library links into 64-bit programs only
+    let pages = pages as usize;
+    pages.saturating_mul(4_112).saturating_add(40_000)
 }
 
 /// A heap of blocks in an arena of pages, with the book in which all that it knows stands.
 ///
-/// A heap is a value: equal heaps answer equal calls equally, and a clone goes its own way. The book has 40,000 + 4,112
-/// words of 4 bytes for each page, of which only those of pages that were handed out are ever touched.
+/// A heap is a value: equal heaps answer equal calls equally, and a clone goes its own way. The book has
+/// [`book_words`] words of 4 bytes, of which only those of pages that were handed out are ever touched. It is the heap's own,
+/// or [lent by the caller](Heap::on).
+///
+/// Every call passes a host word, the system's answers. The heap keeps one, [`Host::GRANTED`] unless
+/// [another is set](Heap::set_host); the methods whose names end in `_with` are told it each time, for programs that have a
+/// system below the heap.
 ///
 /// ```
-/// use vigbuso::{class_for_size, Heap, Host, Refusal};
+/// use vigbuso::{Class, Heap, Refusal};
 ///
 /// let mut heap = Heap::open(64)?;
-/// let class = class_for_size(100);
-/// let blocks = heap.take(class, Host::ALL)?;
-/// heap.release(class, Host::ALL, &blocks[..1])?;
+/// let class = Class::for_size(100).expect("not too large");
+/// let mut blocks = heap.take(class)?;
+/// heap.release_all(class, &mut blocks)?;
 /// // Not out any more: refused, and nothing has changed.
 /// let before = heap.clone();
-/// assert_eq!(heap.release(class, Host::ALL, &blocks[..1]), Err(Refusal::NotOut));
+/// assert_eq!(heap.release(class, &blocks[..1]).unwrap_err().refusal(), Refusal::NotOut);
 /// assert_eq!(heap, before);
 /// # Ok::<(), Refusal>(())
 /// ```
 #[derive(Clone, PartialEq, Eq)]
-pub struct Heap {
-    book: Vec<u32>,
+pub struct Heap<B = Vec<u32>> {
+    pub(crate) book: B,
     pages: u64,
+    pub(crate) host: Host,
 }
 
 impl Heap {
-    /// Opens a heap on an arena of so many pages, 1 to [`MAX_PAGES`].
+    /// Opens a heap on an arena of so many pages, 1 to [`MAX_PAGES`], with a book of its own. If there is no memory for the
+    /// book the program ends, as it does where a `Vec` cannot grow; [`Heap::try_open`] answers instead.
     ///
     /// ```
     /// # use vigbuso::Heap;
@@ -61,11 +74,112 @@ impl Heap {
     ///
     /// [`Refusal::ArenaLength`].
     pub fn open(pages: u64) -> Result<Heap, Refusal> {
-        // No book has to be there for a length that is refused.
-        let words = if pages <= MAX_PAGES { book_words(pages) } else { 0 };
-        let mut book = vec![0; words];
-        ffi::open(&mut book, pages)?;
-        Ok(Heap { book, pages })
+        Heap::on(vec![0; own_words(pages)], pages)
+    }
+
+    /// Opens a heap as [`Heap::open`] does, and answers where there is no memory for the book.
+    ///
+    /// ```
+    /// # use vigbuso::Heap;
+    /// assert_eq!(Heap::try_open(64)?, Heap::open(64)?);
+    /// # Ok::<(), Box<dyn std::error::Error>>(())
+    /// ```
+    ///
+    /// # Errors
+    ///
+    /// [`OpenError::Refused`] with [`Refusal::ArenaLength`], [`OpenError::NoMemory`].
+    pub fn try_open(pages: u64) -> Result<Heap, OpenError> {
+        let words = own_words(pages);
+        let book = ffi::zeroed(words).ok_or(OpenError::NoMemory { bytes: words.saturating_mul(size_of::<u32>()) })?;
+        Heap::on(book, pages).map_err(OpenError::Refused)
+    }
+}
+
+/// Words of a heap's own book. None has to be there for a length that is refused.
+fn own_words(pages: u64) -> usize {
+    if pages <= MAX_PAGES {
+        book_words(pages)
+    } else {
+        0
+    }
+}
+
+impl<B: AsRef<[u32]> + AsMut<[u32]>> Heap<B> {
+    /// Opens a heap on an arena of so many pages and on a book that the caller lends or gives: a `&mut [u32]`, a
+    /// `Box<[u32]>`, a static. It has at least [`book_words`] words, and what they hold does not matter.
+    ///
+    /// ```
+    /// use vigbuso::{book_words, Class, Heap};
+    ///
+    /// let mut book = vec![7; book_words(64)];
+    /// let mut heap = Heap::on(&mut book[..], 64)?;
+    /// let blocks = heap.take(Class::for_size(24).unwrap())?;
+    /// assert_eq!(blocks.len(), 64);
+    /// # Ok::<(), vigbuso::Refusal>(())
+    /// ```
+    ///
+    /// # Errors
+    ///
+    /// [`Refusal::ArenaLength`], [`BookTooShort`](Refusal::BookTooShort).
+    pub fn on(mut book: B, pages: u64) -> Result<Heap<B>, Refusal> {
+        ffi::open(book.as_mut(), pages)?;
+        Ok(Heap { book, pages, host: Host::GRANTED })
+    }
+
+    /// Goes on with a book as an earlier heap left it, which may have been stored meanwhile. Its length and its arena's record
+    /// are tested here; if other words of it were damaged, calls that come to them are refused as
+    /// [`BookWord`](Refusal::BookWord).
+    ///
+    /// ```
+    /// use vigbuso::{Class, Heap};
+    ///
+    /// let mut heap = Heap::open(64)?;
+    /// let class = Class::for_size(24).unwrap();
+    /// let blocks = heap.take(class)?;
+    /// let mut again = Heap::resume(heap.into_book())?;
+    /// again.release(class, &blocks)?;
+    /// # Ok::<(), vigbuso::Refusal>(())
+    /// ```
+    ///
+    /// # Errors
+    ///
+    /// [`Refusal::ArenaLength`], [`BookTooShort`](Refusal::BookTooShort), [`BookWord`](Refusal::BookWord).
+    pub fn resume(book: B) -> Result<Heap<B>, Refusal> {
+        ffi::report(book.as_ref())?;
+        let pages = book.as_ref().first().copied().map_or(0, u64::from);
+        Ok(Heap { book, pages, host: Host::GRANTED })
+    }
+
+    /// Opens the heap anew on the same book: every block and every run that was out is forgotten. The host word is kept.
+    ///
+    /// ```
+    /// # use vigbuso::{Class, Heap};
+    /// let mut heap = Heap::open(64)?;
+    /// let blocks = heap.take(Class::for_size(24).unwrap())?;
+    /// heap.reopen(60)?; // the book is long enough for fewer pages too
+    /// assert_eq!(heap.report()?.idle, 60);
+    /// # Ok::<(), vigbuso::Refusal>(())
+    /// ```
+    ///
+    /// # Errors
+    ///
+    /// [`Refusal::ArenaLength`], [`BookTooShort`](Refusal::BookTooShort); the heap is as it was then.
+    pub fn reopen(&mut self, pages: u64) -> Result<(), Refusal> {
+        ffi::open(self.book.as_mut(), pages)?;
+        self.pages = pages;
+        Ok(())
+    }
+
+    /// The book. It can be kept, and [`resume`](Heap::resume)d.
+    ///
+    /// ```
+    /// # use vigbuso::{book_words, Heap};
+    /// assert_eq!(Heap::open(5)?.into_book().len(), book_words(5));
+    /// # Ok::<(), vigbuso::Refusal>(())
+    /// ```
+    #[must_use]
+    pub fn into_book(self) -> B {
+        self.book
     }
 
     /// The arena's length.
@@ -75,137 +189,230 @@ impl Heap {
     /// assert_eq!(Heap::open(5)?.pages(), 5);
     /// # Ok::<(), vigbuso::Refusal>(())
     /// ```
+    #[must_use]
     pub fn pages(&self) -> u64 {
         self.pages
     }
 
-    /// Takes up to 64 blocks of a small class; none is an empty list. They come from partial pages, otherwise from one
-    /// empty page, otherwise from the newest cold one, otherwise from a new one.
+    /// The host word of the methods that are told none.
     ///
     /// ```
-    /// # use vigbuso::{class_for_size, Heap, Host};
-    /// let blocks = Heap::open(64)?.take(class_for_size(24), Host::ALL)?;
-    /// assert_eq!(blocks.len(), 64);
+    /// # use vigbuso::{Heap, Host};
+    /// assert_eq!(Heap::open(5)?.host(), Host::GRANTED);
+    /// # Ok::<(), vigbuso::Refusal>(())
+    /// ```
+    #[must_use]
+    pub fn host(&self) -> Host {
+        self.host
+    }
+
+    /// Sets the host word of the methods that are told none. See [`Host::ALL`] for what it would promise.
+    ///
+    /// ```
+    /// # use vigbuso::{Heap, Host};
+    /// let mut heap = Heap::open(5)?;
+    /// heap.set_host(Host::GRANTED | Host::DISCARD);
+    /// assert!(heap.host().has(Host::DISCARD));
+    /// # Ok::<(), vigbuso::Refusal>(())
+    /// ```
+    pub fn set_host(&mut self, host: Host) {
+        self.host = host;
+    }
+
+    /// Takes up to 64 blocks of a small class, up to one span's of a medium class; none is an empty list. They come from
+    /// partial pages, otherwise from one empty page, otherwise from the newest cold one, otherwise from a new one. So they may
+    /// be on several pages.
+    ///
+    /// ```
+    /// # use vigbuso::{Class, Heap};
+    /// let mut heap = Heap::open(64)?;
+    /// let lens = [24, 20_000].map(|bytes| heap.take(Class::for_size(bytes).unwrap()).unwrap().len());
+    /// assert_eq!(lens, [64, 9]);
     /// # Ok::<(), vigbuso::Refusal>(())
     /// ```
     ///
     /// # Errors
     ///
-    /// [`Refusal::Class`].
-    pub fn take(&mut self, class: u32, host: Host) -> Result<Taken, Refusal> {
-        self.take_of(Family::Small, class, host)
+    /// None on a book that only this heap has written; [`Refusal::BookWord`] on a damaged one.
+    pub fn take(&mut self, class: Class) -> Result<Taken, Refusal> {
+        self.take_with(self.host, class)
     }
 
-    /// Takes up to one span's blocks of a medium class; none is an empty list.
+    /// [`Heap::take`] with the system's answers.
     ///
     /// ```
-    /// # use vigbuso::{medium_class_for_size, Heap, Host};
-    /// let blocks = Heap::open(64)?.medium_take(medium_class_for_size(20_000), Host::ALL)?;
-    /// assert_eq!(blocks.len(), 9);
+    /// # use vigbuso::{Class, Heap, Host};
+    /// let blocks = Heap::open(64)?.take_with(Host::RESERVATION, Class::for_size(24).unwrap())?;
+    /// assert!(blocks.is_empty()); // the commit was not granted
     /// # Ok::<(), vigbuso::Refusal>(())
     /// ```
     ///
     /// # Errors
     ///
-    /// [`Refusal::Class`].
-    pub fn medium_take(&mut self, class: u32, host: Host) -> Result<Taken, Refusal> {
-        self.take_of(Family::Medium, class, host)
-    }
-
-    fn take_of(&mut self, family: Family, class: u32, host: Host) -> Result<Taken, Refusal> {
+    /// As [`Heap::take`].
+    pub fn take_with(&mut self, host: Host, class: Class) -> Result<Taken, Refusal> {
         let mut taken = Taken::NONE;
-        let (count, virgin) = ffi::take(&mut self.book, family, class, host.bits(), taken.room())?;
+        let (count, virgin) = ffi::take(self.book.as_mut(), class, host, taken.room())?;
         taken.set(count, virgin);
         Ok(taken)
     }
 
-    /// Releases blocks of a small class that are all on one page, and tells what became of it.
+    /// Releases blocks that are all on one page, of a medium class in one span, and tells what became of it.
+    /// [`Heap::release_all`] takes blocks of any pages.
     ///
     /// ```
-    /// # use vigbuso::{Fate, Heap, Host};
+    /// # use vigbuso::{Class, Fate, Heap};
     /// let mut heap = Heap::open(64)?;
-    /// let blocks = heap.take(0, Host::ALL)?;
-    /// assert_eq!(heap.release(0, Host::ALL, &blocks[3..7])?, Fate::Kept);
+    /// let class = Class::for_size(24).unwrap();
+    /// let blocks = heap.take(class)?;
+    /// assert_eq!(heap.release(class, &blocks[3..7])?, Fate::Kept);
     /// # Ok::<(), vigbuso::Refusal>(())
     /// ```
     ///
     /// # Errors
     ///
-    /// [`Refusal::Class`], [`EmptyList`](Refusal::EmptyList), [`WrongKind`](Refusal::WrongKind),
-    /// [`NotOut`](Refusal::NotOut), [`OtherPage`](Refusal::OtherPage).
-    pub fn release(&mut self, class: u32, host: Host, blocks: &[Block]) -> Result<Fate, Refusal> {
-        self.release_of(Family::Small, class, host, blocks)
+    /// [`Refusal::EmptyList`], [`WrongKind`](Refusal::WrongKind), [`NotOut`](Refusal::NotOut),
+    /// [`OtherPage`](Refusal::OtherPage), with the first block to blame.
+    pub fn release(&mut self, class: Class, blocks: &[Block]) -> Result<Fate, ReleaseError> {
+        self.release_with(self.host, class, blocks)
     }
 
-    /// Releases blocks of a medium class that are all in one span, and tells what became of it.
+    /// [`Heap::release`] with the system's answers.
     ///
     /// ```
-    /// # use vigbuso::{Fate, Heap, Host, Refusal};
+    /// # use vigbuso::{Class, Fate, Heap, Host};
     /// let mut heap = Heap::open(64)?;
-    /// let blocks = heap.medium_take(0, Host::ALL)?;
-    /// assert_eq!(heap.release(0, Host::ALL, &blocks), Err(Refusal::WrongKind));
-    /// assert_eq!(heap.medium_release(0, Host::ALL, &blocks)?, Fate::Kept);
-    /// # Ok::<(), Refusal>(())
+    /// let class = Class::for_size(24).unwrap();
+    /// let blocks = heap.take(class)?;
+    /// assert_eq!(heap.release_with(Host::ALL, class, &blocks)?, Fate::Kept);
+    /// # Ok::<(), vigbuso::Refusal>(())
     /// ```
     ///
     /// # Errors
     ///
     /// As [`Heap::release`].
-    pub fn medium_release(&mut self, class: u32, host: Host, blocks: &[Block]) -> Result<Fate, Refusal> {
-        self.release_of(Family::Medium, class, host, blocks)
-    }
-
-    fn release_of(&mut self, family: Family, class: u32, host: Host, blocks: &[Block]) -> Result<Fate, Refusal> {
-        ffi::release(&mut self.book, family, class, host.bits(), blocks).map(fate)
+    pub fn release_with(&mut self, host: Host, class: Class, blocks: &[Block]) -> Result<Fate, ReleaseError> {
+        ffi::release(self.book.as_mut(), class, host, blocks).map_err(|refusal| self.blame(refusal, class, blocks))
     }
 
     /// Releases blocks of a small class that are on several pages. There is a chunk for each page, with its number of
-    /// listed blocks, and a fate for each chunk in their order. [`Chunk::of`] makes them of a list.
+    /// listed blocks, and a fate for each chunk in their order. [`Chunk::of`] makes them of a list; [`Heap::release_all`] does
+    /// all this by itself.
     ///
     /// A chunk that returns all blocks which its page has out retires the page: it is carved anew when used again.
     ///
     /// ```
-    /// # use vigbuso::{Chunk, Fate, Heap, Host};
+    /// # use vigbuso::{Chunk, Class, Fate, Heap};
     /// let mut heap = Heap::open(64)?;
-    /// let mut blocks = heap.take(45, Host::ALL)?.to_vec();
-    /// blocks.extend(heap.take(45, Host::ALL)?);
-    /// let fates = heap.release_chunks(45, Host::ALL, &blocks, &Chunk::of(&blocks))?;
+    /// let class = Class::for_size(16_384).unwrap();
+    /// let mut blocks = heap.take(class)?.to_vec();
+    /// blocks.extend(heap.take(class)?);
+    /// let fates = heap.release_chunks(class, &blocks, &Chunk::of(&blocks))?;
     /// assert_eq!(fates, [Fate::KeptRetired, Fate::KeptRetired]);
     /// # Ok::<(), vigbuso::Refusal>(())
     /// ```
     ///
     /// # Errors
     ///
-    /// As [`Heap::release`], and [`Refusal::Groups`] for more than [`Chunk::MOST`] chunks.
+    /// As [`Heap::release`], and [`Refusal::Chunks`] for more than [`Chunk::MOST`] chunks. A medium class has no chunks and is
+    /// refused as [`WrongKind`](Refusal::WrongKind).
     pub fn release_chunks(
         &mut self,
-        class: u32,
-        host: Host,
+        class: Class,
         blocks: &[Block],
         chunks: &[Chunk],
-    ) -> Result<Vec<Fate>, Refusal> {
-        let mut fates = vec![0; chunks.len()];
-        ffi::release_chunks(&mut self.book, class, host.bits(), blocks, chunks, &mut fates)?;
-        Ok(fates.into_iter().map(fate).collect())
+    ) -> Result<Vec<Fate>, ReleaseError> {
+        let mut fates = vec![Fate::Kept; chunks.len()];
+        self.release_chunks_into(class, blocks, chunks, &mut fates)?;
+        Ok(fates)
+    }
+
+    /// [`Heap::release_chunks`] that writes the fates into a list of at least as many entries; entries past the chunks keep
+    /// their content.
+    ///
+    /// ```
+    /// # use vigbuso::{Chunk, Class, Fate, Heap};
+    /// let mut heap = Heap::open(64)?;
+    /// let class = Class::for_size(24).unwrap();
+    /// let blocks = heap.take(class)?;
+    /// let mut fates = [Fate::Kept; 8];
+    /// heap.release_chunks_into(class, &blocks, &Chunk::of(&blocks), &mut fates)?;
+    /// assert_eq!(fates[..2], [Fate::KeptRetired, Fate::Kept]);
+    /// # Ok::<(), vigbuso::Refusal>(())
+    /// ```
+    ///
+    /// # Errors
+    ///
+    /// As [`Heap::release_chunks`], and [`Refusal::Chunks`] for fewer fates than chunks.
+    pub fn release_chunks_into(
+        &mut self,
+        class: Class,
+        blocks: &[Block],
+        chunks: &[Chunk],
+        fates: &mut [Fate],
+    ) -> Result<(), ReleaseError> {
+        self.release_chunks_with(self.host, class, blocks, chunks, fates)
+    }
+
+    /// [`Heap::release_chunks_into`] with the system's answers.
+    ///
+    /// ```
+    /// # use vigbuso::{Chunk, Class, Fate, Heap, Host};
+    /// let mut heap = Heap::open(64)?;
+    /// let class = Class::for_size(24).unwrap();
+    /// let blocks = heap.take(class)?;
+    /// let mut fates = [Fate::Kept];
+    /// heap.release_chunks_with(Host::ALL, class, &blocks, &Chunk::of(&blocks), &mut fates)?;
+    /// # Ok::<(), vigbuso::Refusal>(())
+    /// ```
+    ///
+    /// # Errors
+    ///
+    /// As [`Heap::release_chunks_into`].
+    pub fn release_chunks_with(
+        &mut self,
+        host: Host,
+        class: Class,
+        blocks: &[Block],
+        chunks: &[Chunk],
+        fates: &mut [Fate],
+    ) -> Result<(), ReleaseError> {
+        ffi::release_chunks(self.book.as_mut(), class, host, blocks, chunks, fates)
+            .map_err(|refusal| self.blame_chunks(refusal, class, blocks, chunks))
     }
 
     /// Asks for a run of so many pages, to be used directly; none if neither a hole nor the frontier has them, or the
     /// system does not grant them.
     ///
     /// ```
-    /// # use vigbuso::{Heap, Host, Refusal};
+    /// # use vigbuso::{Heap, Refusal};
     /// let mut heap = Heap::open(64)?;
-    /// assert_eq!(heap.commit(Host::ALL, 60)?.map(|answer| answer.run.first), Some(0));
-    /// assert_eq!(heap.commit(Host::ALL, 5)?, None);
-    /// assert_eq!(heap.commit(Host::ALL, 0), Err(Refusal::RunLength));
+    /// assert_eq!(heap.commit(60)?.map(|answer| answer.run.first), Some(0));
+    /// assert_eq!(heap.commit(5)?, None);
+    /// assert_eq!(heap.commit(0), Err(Refusal::RunLength));
     /// # Ok::<(), Refusal>(())
     /// ```
     ///
     /// # Errors
     ///
     /// [`Refusal::RunLength`].
-    pub fn commit(&mut self, host: Host, pages: u64) -> Result<Option<Committed>, Refusal> {
-        let (first, fresh) = ffi::commit(&mut self.book, host.bits(), pages)?;
+    pub fn commit(&mut self, pages: u64) -> Result<Option<Committed>, Refusal> {
+        self.commit_with(self.host, pages)
+    }
+
+    /// [`Heap::commit`] with the system's answers.
+    ///
+    /// ```
+    /// # use vigbuso::{Heap, Host};
+    /// assert_eq!(Heap::open(64)?.commit_with(Host::RESERVATION, 1)?, None);
+    /// # Ok::<(), vigbuso::Refusal>(())
+    /// ```
+    ///
+    /// # Errors
+    ///
+    /// As [`Heap::commit`].
+    pub fn commit_with(&mut self, host: Host, pages: u64) -> Result<Option<Committed>, Refusal> {
+        let (first, fresh) = ffi::commit(self.book.as_mut(), host, pages)?;
         Ok((first != NO_PAGE).then(|| Committed { run: Run { first: first.into(), pages }, fresh: fresh == 1 }))
     }
 
@@ -213,18 +420,35 @@ impl Heap {
     /// the arena suffices and the system grants the added pages.
     ///
     /// ```
-    /// # use vigbuso::{Heap, Host, Run};
+    /// # use vigbuso::{Heap, Run};
     /// let mut heap = Heap::open(64)?;
-    /// let run = heap.commit(Host::ALL, 3)?.unwrap().run;
-    /// assert_eq!(heap.grow_frontier(Host::ALL, run, 5)?, Some(Run { first: 0, pages: 5 }));
+    /// let run = heap.commit(3)?.unwrap().run;
+    /// assert_eq!(heap.grow_frontier(run, 5)?, Some(Run { first: 0, pages: 5 }));
     /// # Ok::<(), vigbuso::Refusal>(())
     /// ```
     ///
     /// # Errors
     ///
     /// [`Refusal::RunLength`], [`NotHeld`](Refusal::NotHeld).
-    pub fn grow_frontier(&mut self, host: Host, run: Run, new_pages: u64) -> Result<Option<Run>, Refusal> {
-        let grown = ffi::grow_frontier(&mut self.book, host.bits(), run.first, run.pages, new_pages)?;
+    pub fn grow_frontier(&mut self, run: Run, new_pages: u64) -> Result<Option<Run>, Refusal> {
+        self.grow_frontier_with(self.host, run, new_pages)
+    }
+
+    /// [`Heap::grow_frontier`] with the system's answers.
+    ///
+    /// ```
+    /// # use vigbuso::{Heap, Host};
+    /// let mut heap = Heap::open(64)?;
+    /// let run = heap.commit(3)?.unwrap().run;
+    /// assert_eq!(heap.grow_frontier_with(Host::RESERVATION, run, 5)?, None);
+    /// # Ok::<(), vigbuso::Refusal>(())
+    /// ```
+    ///
+    /// # Errors
+    ///
+    /// As [`Heap::grow_frontier`].
+    pub fn grow_frontier_with(&mut self, host: Host, run: Run, new_pages: u64) -> Result<Option<Run>, Refusal> {
+        let grown = ffi::grow_frontier(self.book.as_mut(), host, run, new_pages)?;
         Ok((grown == 1).then_some(Run { pages: new_pages, ..run }))
     }
 
@@ -232,62 +456,77 @@ impl Heap {
     /// stand side by side.
     ///
     /// ```
-    /// # use vigbuso::{Heap, Host, Refusal};
+    /// # use vigbuso::{Heap, Refusal};
     /// let mut heap = Heap::open(64)?;
-    /// let run = heap.commit(Host::ALL, 3)?.unwrap().run;
-    /// heap.release_run(Host::ALL, run)?;
-    /// assert_eq!(heap.release_run(Host::ALL, run), Err(Refusal::NotHeld));
+    /// let run = heap.commit(3)?.unwrap().run;
+    /// heap.release_run(run)?;
+    /// assert_eq!(heap.release_run(run), Err(Refusal::NotHeld));
     /// # Ok::<(), Refusal>(())
     /// ```
     ///
     /// # Errors
     ///
     /// [`Refusal::RunLength`], [`NotHeld`](Refusal::NotHeld).
-    pub fn release_run(&mut self, host: Host, run: Run) -> Result<(), Refusal> {
-        ffi::release_run(&mut self.book, host.bits(), run.first, run.pages)
+    pub fn release_run(&mut self, run: Run) -> Result<(), Refusal> {
+        self.release_run_with(self.host, run)
+    }
+
+    /// [`Heap::release_run`] with the system's answers.
+    ///
+    /// ```
+    /// # use vigbuso::{Heap, Host};
+    /// let mut heap = Heap::open(64)?;
+    /// let run = heap.commit(3)?.unwrap().run;
+    /// heap.release_run_with(Host::ALL, run)?;
+    /// # Ok::<(), vigbuso::Refusal>(())
+    /// ```
+    ///
+    /// # Errors
+    ///
+    /// As [`Heap::release_run`].
+    pub fn release_run_with(&mut self, host: Host, run: Run) -> Result<(), Refusal> {
+        ffi::release_run(self.book.as_mut(), host, run)
     }
 
     /// Whether these bytes, counted from the arena's start, are in the arena. Before the first commit, and after a refused
     /// reservation, none is.
     ///
     /// ```
-    /// # use vigbuso::{Heap, Host};
+    /// # use vigbuso::{Class, Heap};
     /// let mut heap = Heap::open(1)?;
     /// assert!(!heap.contains(0, 16));
-    /// heap.take(0, Host::ALL)?;
+    /// let blocks = heap.take(Class::for_size(16).unwrap())?;
     /// assert!(heap.contains(65_520, 16) && !heap.contains(65_520, 17));
     /// # Ok::<(), vigbuso::Refusal>(())
     /// ```
+    #[must_use]
     pub fn contains(&self, offset: u64, length: u64) -> bool {
-        ffi::contains(&self.book, offset, length) == 1
+        ffi::contains(self.book.as_ref(), offset, length) == 1
     }
 
     /// The arena's figures.
     ///
     /// ```
-    /// # use vigbuso::{Heap, Host};
+    /// # use vigbuso::Heap;
     /// let mut heap = Heap::open(64)?;
-    /// heap.commit(Host::ALL, 3)?;
+    /// heap.commit(3)?;
     /// assert_eq!(heap.report()?.held, 3);
     /// # Ok::<(), vigbuso::Refusal>(())
     /// ```
     ///
     /// # Errors
     ///
-    /// None on a book that only this heap has written; the call has them for damaged ones.
+    /// None on a book that only this heap has written; [`Refusal::BookWord`] on a damaged one.
     pub fn report(&self) -> Result<Report, Refusal> {
-        let [commits, reuses, abandoned, held, idle] = ffi::report(&self.book)?;
-        Ok(Report { commits, reuses, abandoned, held, idle })
+        ffi::report(self.book.as_ref())
     }
 }
 
-fn fate(number: u32) -> Fate {
-    Fate::from_number(number).expect("a release answers one of document 01's fates")
-}
-
 /// The book's words would fill pages.
-impl fmt::Debug for Heap {
+impl<B: AsRef<[u32]>> fmt::Debug for Heap<B> {
     fn fmt(&self, f: &mut fmt::Formatter) -> fmt::Result {
-        f.debug_struct("Heap").field("pages", &self.pages).field("report", &self.report()).finish_non_exhaustive()
+        let report = ffi::report(self.book.as_ref());
+        let mut heap = f.debug_struct("Heap");
+        heap.field("pages", &self.pages).field("host", &self.host).field("report", &report).finish_non_exhaustive()
     }
 }

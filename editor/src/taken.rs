@@ -1,15 +1,16 @@
 //! What a take answers.
 
-use std::fmt;
-use std::ops::Deref;
+use core::fmt;
+use core::ops::{Deref, DerefMut};
 
 use crate::Block;
 
 /// The most blocks of one take.
 ///
 /// ```
-/// # use vigbuso::{Heap, Host, BATCH};
-/// assert_eq!(Heap::open(1)?.take(0, Host::ALL)?.len(), BATCH);
+/// # use vigbuso::{Class, Heap, BATCH};
+/// let blocks = Heap::open(1)?.take(Class::for_size(16).unwrap())?;
+/// assert_eq!(blocks.len(), BATCH);
 /// # Ok::<(), vigbuso::Refusal>(())
 /// ```
 pub const BATCH: usize = 64;
@@ -17,16 +18,20 @@ pub const BATCH: usize = 64;
 /// The blocks of one take, as a slice: the latest popped first; empty if the heap had none to give. It needs no memory
 /// of its own.
 ///
-/// ```
-/// use vigbuso::{Heap, Host};
+/// They may be on more than one page, as soon as the class has two partial pages: [`Heap::release_all`](crate::Heap::release_all)
+/// takes them back together, [`Heap::release`](crate::Heap::release) page by page.
 ///
-/// let taken = Heap::open(64)?.take(45, Host::ALL)?;
+/// ```
+/// use vigbuso::{Class, Heap};
+///
+/// let taken = Heap::open(64)?.take(Class::for_size(16_384).unwrap())?;
 /// let granules: Vec<u32> = taken.iter().map(|block| block.granule()).collect();
 /// assert_eq!(granules, [2051, 1027, 3]);
 /// assert!(taken.is_virgin());
 /// # Ok::<(), vigbuso::Refusal>(())
 /// ```
 #[derive(Clone)]
+#[must_use = "the blocks are out until they are released"]
 pub struct Taken {
     list: [Block; BATCH],
     count: usize,
@@ -50,27 +55,34 @@ impl Taken {
     /// The blocks.
     ///
     /// ```
-    /// # use vigbuso::{Heap, Host};
-    /// let taken = Heap::open(64)?.medium_take(0, Host::ALL)?;
+    /// # use vigbuso::{Class, Heap};
+    /// let taken = Heap::open(64)?.take(Class::medium(0).unwrap())?;
     /// assert_eq!(taken.blocks().len(), 10);
     /// # Ok::<(), vigbuso::Refusal>(())
     /// ```
+    #[must_use]
     pub fn blocks(&self) -> &[Block] {
         &self.list[..self.count]
     }
 
-    /// Whether every byte of the blocks is as the arena's owner left it on a fresh page, or as a zeroing discard did:
-    /// a block came, and each came from a page not released to since it was last carved from the arena or from a cold
-    /// page whose discard zeroed it.
+    /// Whether no block was released to their pages since these were carved: a block came, and each came from a page not
+    /// released to since it was last carved from the arena or from a cold page whose discard zeroed it.
+    ///
+    /// It speaks of pages and not of bytes. The blocks read as zeroes only if whoever keeps the arena sees to it: pages were
+    /// zero at the start, those that go back to the arena ([`Fate::Arena`](crate::Fate::Arena),
+    /// [`Heap::release_run`](crate::Heap::release_run)) are zeroed or discarded, and the host word says no more than is done
+    /// ([`Host::ALL`](crate::Host::ALL) with a plain `Vec` does not).
     ///
     /// ```
-    /// # use vigbuso::{Heap, Host};
+    /// # use vigbuso::{Class, Heap};
     /// let mut heap = Heap::open(64)?;
-    /// let taken = heap.take(45, Host::ALL)?;
-    /// heap.release(45, Host::ALL, &taken)?;
-    /// assert!(taken.is_virgin() && !heap.take(45, Host::ALL)?.is_virgin());
+    /// let class = Class::for_size(16_384).unwrap();
+    /// let taken = heap.take(class)?;
+    /// heap.release(class, &taken)?;
+    /// assert!(taken.is_virgin() && !heap.take(class)?.is_virgin());
     /// # Ok::<(), vigbuso::Refusal>(())
     /// ```
+    #[must_use]
     pub fn is_virgin(&self) -> bool {
         self.virgin
     }
@@ -84,9 +96,16 @@ impl Deref for Taken {
     }
 }
 
+/// So that [`Heap::release_all`](crate::Heap::release_all) can sort them.
+impl DerefMut for Taken {
+    fn deref_mut(&mut self) -> &mut [Block] {
+        &mut self.list[..self.count]
+    }
+}
+
 impl<'a> IntoIterator for &'a Taken {
     type Item = &'a Block;
-    type IntoIter = std::slice::Iter<'a, Block>;
+    type IntoIter = core::slice::Iter<'a, Block>;
 
     fn into_iter(self) -> Self::IntoIter {
         self.blocks().iter()
@@ -95,7 +114,7 @@ impl<'a> IntoIterator for &'a Taken {
 
 impl IntoIterator for Taken {
     type Item = Block;
-    type IntoIter = std::iter::Take<std::array::IntoIter<Block, BATCH>>;
+    type IntoIter = core::iter::Take<core::array::IntoIter<Block, BATCH>>;
 
     fn into_iter(self) -> Self::IntoIter {
         self.list.into_iter().take(self.count)
@@ -112,6 +131,6 @@ impl Eq for Taken {}
 
 impl fmt::Debug for Taken {
     fn fmt(&self, f: &mut fmt::Formatter) -> fmt::Result {
-        f.debug_struct("Taken").field("blocks", &self.blocks()).field("virgin", &self.virgin).finish()
+        f.debug_struct("Taken").field("blocks", &self.blocks()).field("virgin", &self.virgin).finish_non_exhaustive()
     }
 }

@@ -1,9 +1,15 @@
 //! Document 01's examples on an arena of 64 pages, through the safe calls.
 
-use vigbuso::{class_for_size, medium_class_for_size, Block, Heap, Host, Run, Taken};
+use vigbuso::{Block, Chunk, Class, Fate, Heap, Host, Run, Taken};
 
 fn heap() -> Heap {
-    Heap::open(64).expect("64 pages")
+    let mut heap = Heap::open(64).expect("64 pages");
+    heap.set_host(Host::ALL);
+    heap
+}
+
+fn class(number: u32) -> Class {
+    Class::small(number).expect("0 to 63")
 }
 
 fn small(granules: &[u32]) -> Vec<Block> {
@@ -15,29 +21,30 @@ fn granules(taken: &Taken) -> Vec<u32> {
 }
 
 fn first_page(heap: &mut Heap, host: Host, pages: u64) -> Option<u64> {
-    heap.commit(host, pages).expect("a run has such a length").map(|answer| answer.run.first)
+    heap.commit_with(host, pages).expect("a run has such a length").map(|answer| answer.run.first)
 }
 
 fn give(heap: &mut Heap, first: u64, pages: u64) {
-    heap.release_run(Host::ALL, Run { first, pages }).expect("the run is held");
+    heap.release_run(Run { first, pages }).expect("the run is held");
 }
 
+/// What the lookups answer where `Class::for_size` does not ask them (P3, P5) is tested beside their declarations.
 #[test]
 fn p1_to_p5_sizes() {
-    assert_eq!([0, 16_384, 16_385].map(class_for_size), [0, 45, 63]);
-    assert_eq!([18_432, 18_433, 65_472, 65_473].map(medium_class_for_size), [0, 1, 11, 11]);
+    assert_eq!([0, 16_384].map(Class::for_size), [0, 45].map(Class::small));
+    assert_eq!([18_432, 18_433, 65_472].map(Class::for_size), [0, 1, 11].map(Class::medium));
 }
 
 #[test]
 fn p6_and_p7_a_take_a_release_and_a_take() {
     let mut heap = heap();
-    let taken = heap.take(0, Host::ALL).expect("class 0");
+    let taken = heap.take(class(0)).expect("class 0");
     assert_eq!(granules(&taken), (3..=66).rev().collect::<Vec<_>>());
     assert!(taken.is_virgin());
     assert_eq!(taken[0].word(), 1_073_741_890);
 
-    heap.release(0, Host::ALL, &small(&[10])).expect("granule 10 is out");
-    let taken = heap.take(0, Host::ALL).expect("class 0");
+    heap.release(class(0), &small(&[10])).expect("granule 10 is out");
+    let taken = heap.take(class(0)).expect("class 0");
     assert_eq!(granules(&taken), (67..=129).rev().chain([10]).collect::<Vec<_>>());
     assert!(!taken.is_virgin());
 }
@@ -45,26 +52,24 @@ fn p6_and_p7_a_take_a_release_and_a_take() {
 #[test]
 fn p8_released_as_one_page() {
     let mut heap = heap();
-    let taken = heap.take(45, Host::ALL).expect("class 45");
+    let taken = heap.take(class(45)).expect("class 45");
     assert_eq!(granules(&taken), [2051, 1027, 3]);
-    heap.release(45, Host::ALL, &taken).expect("all on one page");
-    assert_eq!(granules(&heap.take(45, Host::ALL).expect("class 45")), [3, 1027, 2051]);
+    heap.release(class(45), &taken).expect("all on one page");
+    assert_eq!(granules(&heap.take(class(45)).expect("class 45")), [3, 1027, 2051]);
 }
 
 #[test]
-fn p9_released_as_a_group() {
-    use vigbuso::{Chunk, Fate};
-
+fn p9_released_as_a_chunk() {
     let mut heap = heap();
-    let taken = heap.take(45, Host::ALL).expect("class 45");
-    let fates = heap.release_chunks(45, Host::ALL, &taken, &Chunk::of(&taken)).expect("one group");
+    let taken = heap.take(class(45)).expect("class 45");
+    let fates = heap.release_chunks(class(45), &taken, &Chunk::of(&taken)).expect("one chunk");
     assert_eq!(fates, [Fate::KeptRetired]);
-    assert_eq!(granules(&heap.take(45, Host::ALL).expect("class 45")), [2051, 1027, 3]);
+    assert_eq!(granules(&heap.take(class(45)).expect("class 45")), [2051, 1027, 3]);
 }
 
 #[test]
 fn p10_a_medium_take() {
-    let taken = heap().medium_take(0, Host::ALL).expect("medium class 0");
+    let taken = heap().take(Class::medium(0).expect("0 to 11")).expect("medium class 0");
     let mut bytes: Vec<u64> = taken.iter().map(|block| block.byte_offset()).collect();
     bytes.sort_unstable();
     assert_eq!(bytes, (0..10).map(|i| 64 + 18_432 * i).collect::<Vec<_>>());

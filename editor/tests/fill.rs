@@ -1,70 +1,258 @@
-//! The example `fill` as a user runs it: its grid, its score and its pictures are checked from the outside.
+//! The example `fill`: its parts one by one, and the whole as a user runs it.
+
+#[allow(dead_code)]
+#[path = "../examples/fill/mod.rs"]
+mod fill;
 
 use std::collections::{HashMap, HashSet};
-use std::path::Path;
-use std::process::Command;
+use std::path::{Path, PathBuf};
+use std::process::{Command, Output};
+
+use fill::arguments::Arguments;
+use fill::grid::Grid;
+use fill::job::{Done, Job};
+use fill::search::{Progress, Stop};
+use fill::words::Words;
+use fill::{picture, plot, progress};
 
 const WORDS: &str = include_str!("../examples/words.txt");
+const LARGE: &str = include_str!("../examples/fill/15x15.txt");
 const README: &str = include_str!("../../README.md");
-/// The README's picture.
-const PICTURE: &str = include_str!("../arena.svg");
+/// The README's pictures.
+const ARENA: &str = include_str!("../arena.svg");
+const SEARCH: &str = include_str!("../search.svg");
 
-fn fill(picture: &Path) -> String {
-    let mut cargo = Command::new(env!("CARGO"));
-    cargo.args(["run", "--quiet", "--offline", "--example", "fill", "--", "--draw", "--svg"]).arg(picture);
-    let run = cargo.current_dir(env!("CARGO_MANIFEST_DIR")).output().expect("cargo is run");
-    assert!(run.status.success(), "{}", String::from_utf8_lossy(&run.stderr));
-    String::from_utf8(run.stdout).expect("plain text")
+/// What the search finds in the small grid.
+const SMALL_FILL: &str = "\
+J A B # # # R I B
+O R A L # # A D O
+B E G I N # V O W
+# # # L A B E L #
+# # H A V E N # #
+# L O C A L # # #
+F A N # L O Y A L
+E V E # # W A G E
+W A Y # # # K E G
+score 598: 30 words out of 12713
+";
+
+fn job(turns: usize, pages: usize) -> Job {
+    Job::new(&Arguments { pages, turns, ..Arguments::default() }).expect("the default grid and words")
+}
+
+fn large(turns: usize) -> Job {
+    Job { grid: Grid::parse(LARGE).expect("a grid"), ..job(turns, 32) }
+}
+
+fn run(job: &Job) -> Done {
+    job.run(&mut |_| ()).expect("a search")
+}
+
+fn shown(job: &Job, done: &Done) -> String {
+    job.grid.show(&done.best.as_ref().expect("a fill").letters)
 }
 
 /// The words in a grid's lines, and in its columns.
-fn words_of(rows: &[Vec<char>]) -> Vec<String> {
+fn words_of(grid: &str) -> Vec<String> {
+    let rows: Vec<Vec<char>> =
+        grid.lines().map(|line| line.chars().filter(|letter| *letter != ' ').collect()).collect();
     let columns = (0..rows[0].len()).map(|column| rows.iter().map(|row| row[column]).collect());
     let lines: Vec<String> = rows.iter().map(|row| row.iter().collect()).chain(columns).collect();
     let words = lines.iter().flat_map(|line| line.split('#')).filter(|word| word.len() > 1);
     words.map(str::to_lowercase).collect()
 }
 
-/// The number that stands before a word in a text.
-fn number_before(text: &str, word: &str) -> usize {
-    let before = text.split(word).next().and_then(|before| before.split_whitespace().next_back());
-    before.and_then(|number| number.parse().ok()).unwrap_or_else(|| panic!("no number before `{word}` in: {text}"))
+/// The fill has so many words, all of the list, none twice, and their scores make its score.
+fn assert_fill(job: &Job, done: &Done, count: usize) {
+    let listed: HashSet<&str> = WORDS.lines().filter(|line| !line.starts_with('#')).collect();
+    let words = words_of(&shown(job, done));
+    assert_eq!(words.len(), count);
+    assert_eq!(words.iter().collect::<HashSet<_>>().len(), count, "a word stands twice: {words:?}");
+    let scores: HashMap<&[u8], u16> =
+        (3..=15).flat_map(|length| job.words.of_length(length)).map(|word| (&word.letters[..], word.score)).collect();
+    assert!(words.iter().all(|word| listed.contains(word.as_str())), "{words:?}");
+    let score: u32 = words.iter().map(|word| u32::from(scores[word.as_bytes()])).sum();
+    assert_eq!(done.best.as_ref().map(|best| best.score), Some(score));
 }
 
 #[test]
-fn the_grid_is_filled_and_the_pages_are_drawn() {
-    let picture = Path::new(env!("CARGO_TARGET_TMPDIR")).join("arena.svg");
-    let output = fill(&picture);
+fn the_small_grid_is_filled() {
+    let job = job(2_000, 32);
+    let done = run(&job);
+    assert_fill(&job, &done, 30);
+    assert_eq!((done.stop, done.turns), (Stop::Turns, 2_000));
+}
 
-    let scores: HashMap<&str, usize> = WORDS
-        .lines()
-        .filter_map(|line| line.split_once(' '))
-        .filter_map(|(word, score)| Some((word, score.parse().ok()?)))
-        .collect();
-    let rows: Vec<Vec<char>> =
-        output.lines().take(9).map(|line| line.chars().filter(|letter| *letter != ' ').collect()).collect();
-    let words = words_of(&rows);
-    assert_eq!(words.len(), 30);
-    assert_eq!(words.iter().collect::<HashSet<_>>().len(), 30, "a word stands twice: {words:?}");
-    let score: usize = words.iter().map(|word| scores[word.as_str()]).sum();
-    assert!(output.contains(&format!("\nscore {score}, ")), "{output}");
-    assert!(output.contains(" reads, each as it was written\n"), "{output}");
+#[test]
+fn the_large_grid_is_filled() {
+    let squares: Vec<&str> = LARGE.split_whitespace().collect();
+    assert_eq!(squares.len(), 15 * 15);
+    assert!(squares.iter().eq(squares.iter().rev()), "half a turn gives the same pattern");
+    let job = large(2_000);
+    let done = run(&job);
+    assert_fill(&job, &done, 32);
+    assert_eq!(words_of(&shown(&job, &done)).iter().map(String::len).max(), Some(15));
+}
 
-    let status = output.lines().find(|line| line.starts_with("heap: ")).expect("a status line");
-    let held = number_before(status, " pages held");
-    let idle = number_before(status, " idle");
-    let drawn = output.split("by holder\n").nth(1).expect("the pages are drawn");
-    let symbols = drawn.lines().take((held + idle).div_ceil(16)).flat_map(|line| line.split_whitespace().skip(1));
-    assert_eq!(symbols.clone().count(), held + idle);
-    assert_eq!(symbols.filter(|symbol| !["_", "."].contains(symbol)).count(), held);
+#[test]
+fn a_longer_search_is_no_worse() {
+    let scores = [1_000, 4_000].map(|turns| run(&job(turns, 32)).best.expect("a fill").score);
+    assert!(scores[0] <= scores[1], "{scores:?}");
+}
 
-    let svg = std::fs::read_to_string(&picture).expect("the picture is written");
-    assert!(svg.starts_with("<svg ") && svg.ends_with("</svg>\n"));
-    let labels = svg.matches("class=\"size\"").count() - svg.matches(">hole</text>").count();
-    assert_eq!(labels, held, "a label for each page that is held");
+#[test]
+fn everything_is_tried_in_a_tiny_grid() {
+    let grid = Grid::parse(". . .\n. # .\n. . .").expect("a grid");
+    let words = Words::parse("cat 5\ncow 6\ntip 7\nwig 1\npat 90").expect("words");
+    let job = Job { grid, words, ..job(1_000, 32) };
+    let done = run(&job);
+    assert_eq!((done.stop, done.best.is_none()), (Stop::Tried, true));
+    let words = Words::parse("cat 5\ncow 6\ntip 7\nwig 1\nwip 2\ntop 3").expect("words");
+    let job = Job { words, ..job };
+    let done = run(&job);
+    assert_eq!((done.stop, shown(&job, &done)), (Stop::Tried, "C A T\nO # I\nW I P\n".to_string()));
+    assert_eq!(done.best.map(|best| best.score), Some(5 + 6 + 7 + 2));
+}
 
-    assert_eq!(svg, PICTURE, "arena.svg is to be drawn anew");
+/// With few pages the search ends early, but a fill that it had found is still there.
+#[test]
+fn the_best_fill_is_kept_when_the_arena_is_full() {
+    let mut kept = 0;
+    for pages in 1..32 {
+        let job = job(2_000, pages);
+        let done = match job.run(&mut |_| ()) {
+            Ok(done) => done,
+            Err(error) => {
+                assert_eq!(error.to_string(), format!("too few pages to begin with: {pages}"));
+                continue;
+            }
+        };
+        if done.stop != Stop::Full {
+            break;
+        }
+        if done.best.is_some() {
+            assert_fill(&job, &done, 30);
+            assert!(job.text(&done).contains("until the arena was full\n"));
+            kept += 1;
+        }
+    }
+    assert!(kept > 0, "with no number of pages was the arena full after a fill");
+}
+
+#[test]
+fn blocks_are_used_anew() {
+    let (short, long) = (run(&job(1_000, 32)), run(&job(8_000, 32)));
+    assert!(long.tally.records > 50 * long.tally.blocks(), "{} in {}", long.tally.records, long.tally.blocks());
+    assert!(long.tally.records > 4 * short.tally.records);
+    assert!(long.tally.blocks() < 2 * short.tally.blocks(), "the search's room does not grow with its turns");
+    assert!(long.tally.most <= long.tally.blocks());
+    assert!(long.report.held <= short.report.held + 8, "{} after {}", long.report, short.report);
+}
+
+#[test]
+fn the_history_grows_no_longer_than_its_pages() {
+    let done = run(&job(18_000, 32));
+    let turns: Vec<u32> = done.history.iter().map(|sample| sample.turn).collect();
+    assert!(turns.len() > 8_000 && turns.len() <= 4 * 65_536 / 16, "{} samples", turns.len());
+    assert!(turns.is_sorted() && turns.last() == Some(&18_000));
+    assert!(done.history.iter().all(|sample| u64::from(sample.pages_held) <= done.report.held));
+}
+
+#[test]
+fn spans_are_one_field_and_neighbours_have_other_colours() {
+    let done = run(&job(2_000, 32));
+    let svg = picture::svg(&done.pages);
+    let medium = ">29552</text>";
+    assert_eq!(svg.matches(medium).count(), 1, "a span of four pages has one label");
+    assert!(picture::text(&done.pages).contains('-'));
+    let legend = svg.rsplit("class=\"size\"").next().expect("the legend comes last");
+    let colours: Vec<&str> = legend.split(" fill=\"#").skip(1).map(|rest| &rest[..6]).collect();
+    let parts = |colour: &str| [0, 2, 4].map(|at| i32::from_str_radix(&colour[at..at + 2], 16).expect("a colour"));
+    for pair in colours.windows(2) {
+        let apart: i32 = parts(pair[0]).iter().zip(parts(pair[1])).map(|(a, b)| (a - b).abs()).sum();
+        assert!(apart > 60, "{pair:?} are too like each other");
+    }
+}
+
+#[test]
+fn pictures_say_what_they_show() {
+    let done = run(&job(500, 32));
+    for svg in [picture::svg(&done.pages), plot::svg(&done.history, 32)] {
+        assert!(svg.starts_with("<svg ") && svg.ends_with("</svg>\n"));
+        assert_eq!((svg.matches("<title ").count(), svg.matches("<desc ").count()), (1, 1));
+    }
+}
+
+#[test]
+fn words_have_scores_of_their_own_or_by_their_letters() {
+    let words = Words::parse("# a remark\nbox\nbee 7\nCat\nit's\n\nbox\n").expect("words");
+    let scores: Vec<u16> = words.of_length(3).iter().map(|word| word.score).collect();
+    assert_eq!((scores, words.len(), words.left_out()), (vec![10 * (4 + 1 + 8) / 3, 7], 2, 2));
+    let error = Words::parse("cat many").expect_err("no score");
+    assert_eq!(error, "`cat many`: `many` is no score of at most 65535");
+}
+
+#[test]
+fn bad_grids_and_arguments_are_refused() {
+    assert!(Grid::parse(". .\n.").is_err_and(|error| error == "the grid's rows differ in length"));
+    assert!(Grid::parse(". x").is_err_and(|error| error.starts_with("`x` is no square")));
+    assert!(Grid::parse("# .\n. #").is_err_and(|error| error == "the grid has no room for a word"));
+    let parse = |words: &[&str]| Arguments::parse(words.iter().map(ToString::to_string));
+    assert_eq!(parse(&[]), Ok(Arguments::default()));
+    assert_eq!(parse(&["--turns", "7"]).map(|found| found.turns), Ok(7));
+    assert_eq!(parse(&["--turns", "0"]), Err("--turns wants a number above 0, not `0`".into()));
+    assert_eq!(parse(&["--pages"]), Err("--pages wants a value".into()));
+    assert!(parse(&["--page", "1"]).is_err_and(|error| error.starts_with("`--page` is no option")));
+}
+
+#[test]
+fn a_progress_line_says_how_far_it_is() {
+    let progress = Progress { turns: 5, standing: 3, best: None, blocks_out: 9 };
+    assert_eq!(progress::text(&progress), "turned back 5 times, 3 words standing, 9 blocks out, no fill yet");
+}
+
+fn cargo_fill(arguments: &[&Path]) -> Output {
+    let mut cargo = Command::new(env!("CARGO"));
+    cargo.args(["run", "--quiet", "--offline", "--example", "fill", "--"]).args(arguments);
+    cargo.current_dir(env!("CARGO_MANIFEST_DIR")).output().expect("cargo is run")
+}
+
+/// What a user sees: the same at every run, in the README and its pictures too.
+#[test]
+fn the_readme_shows_the_output() {
+    let file = |name: &str| -> PathBuf { Path::new(env!("CARGO_TARGET_TMPDIR")).join(name) };
+    let (arena, search) = (file("arena.svg"), file("search.svg"));
+    let arguments = ["--draw".as_ref(), "--svg".as_ref(), &*arena, "--plot".as_ref(), &*search];
+    let run = cargo_fill(&arguments);
+    assert!(run.status.success() && run.stderr.is_empty(), "{}", String::from_utf8_lossy(&run.stderr));
+    let output = String::from_utf8(run.stdout.clone()).expect("plain text");
+    assert!(output.starts_with(SMALL_FILL), "{output}");
+    assert_drawn(&output);
+
+    let read = |path: &Path| std::fs::read_to_string(path).expect("the picture is written");
+    assert_eq!(read(&arena), ARENA, "arena.svg is to be drawn anew");
+    assert_eq!(read(&search), SEARCH, "search.svg is to be drawn anew");
+    assert_eq!(cargo_fill(&arguments).stdout, run.stdout, "every run is the same");
     let printed = output.split("\n\n").next().expect("some output");
     assert!(README.contains(printed), "the README has another output than\n{printed}");
-    assert_eq!(fill(&picture), output, "every run is the same");
+}
+
+/// As many pages are drawn as held as the status line says.
+fn assert_drawn(output: &str) {
+    let status = output.lines().find(|line| line.starts_with("heap: ")).expect("a status line");
+    let numbers: Vec<usize> = status.split(' ').filter_map(|word| word.parse().ok()).collect();
+    let (held, idle) = (numbers[0], numbers[1]);
+    let drawn = output.split("by holder\n").nth(1).expect("the pages are drawn");
+    let rows = drawn.lines().take((held + idle).div_ceil(16));
+    let symbols: String = rows.map(|row| row[6..].replace([' ', '-'], "")).collect();
+    assert_eq!(symbols.len(), held + idle);
+    assert_eq!(symbols.replace(['_', '.'], "").len(), held);
+}
+
+#[test]
+fn a_search_without_a_fill_fails() {
+    let run = cargo_fill(&["--pages".as_ref(), "9".as_ref()]);
+    assert!(!run.status.success());
+    assert!(String::from_utf8_lossy(&run.stdout).starts_with("no fill: 30 words out of "));
+    assert_eq!(String::from_utf8_lossy(&run.stderr), "fill: no fill was found\n");
 }

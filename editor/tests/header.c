@@ -1,6 +1,7 @@
-/* Every function of include/vigbuso.h, called from C. Prints each difference; exit status 0 if there is none. */
+/* Every function of include/vigbuso.h, called from C or C++. Prints each difference; exit status 0 if there is none. */
 #include <stdio.h>
 #include <stdlib.h>
+#include <string.h>
 
 #include "vigbuso.h"
 
@@ -16,7 +17,7 @@ static void is(int line, const char *what, uint64_t found, uint64_t expected) {
     }
 }
 
-enum { PAGES = 64, HOST = VIGBUSO_HOST_ALL };
+enum { PAGES = 64, HOST = VIGBUSO_HOST_GRANTED };
 
 static const size_t words = VIGBUSO_BOOK_WORDS(PAGES);
 static uint32_t *book;
@@ -27,6 +28,29 @@ static void lookups(void) {
     IS(vigbuso_class_for_size(UINT64_MAX), 63);
     IS(vigbuso_medium_class_for_size(18433), 1);
     IS(vigbuso_medium_class_for_size(65473), 11);
+}
+
+/* Each class's blocks are large enough for the sizes that the lookups give it, and for no more. */
+static void block_bytes(void) {
+    for (uint32_t c = 0; c < VIGBUSO_SMALL_CLASSES; c++) {
+        IS(vigbuso_class_for_size(vigbuso_block_bytes(c)), c < 45 ? c : 45);
+        IS(vigbuso_class_for_size(vigbuso_block_bytes(c) + 1), c < 45 ? c + 1 : 63);
+    }
+    for (uint32_t c = 0; c < VIGBUSO_MEDIUM_CLASSES; c++) {
+        IS(vigbuso_medium_class_for_size(vigbuso_medium_block_bytes(c)), c);
+        IS(vigbuso_medium_class_for_size(vigbuso_medium_block_bytes(c) + 1), c < 11 ? c + 1 : 11);
+    }
+    IS(vigbuso_block_bytes(VIGBUSO_SMALL_CLASSES), 0);
+    IS(vigbuso_medium_block_bytes(VIGBUSO_MEDIUM_CLASSES), 0);
+}
+
+static void texts(void) {
+    char version[32];
+    sprintf(version, "%d.%d.%d", VIGBUSO_VERSION_MAJOR, VIGBUSO_VERSION_MINOR, VIGBUSO_VERSION_PATCH);
+    IS(strcmp(version, VIGBUSO_VERSION), 0);
+    IS(strcmp(vigbuso_refusal_text(VIGBUSO_HOST_WORD), "the host word exceeds 15"), 0);
+    IS(strcmp(vigbuso_refusal_text(0), "carried out"), 0);
+    IS(strcmp(vigbuso_refusal_text(VIGBUSO_BOOK_WORD + 1), "no refusal has this number"), 0);
 }
 
 static void opening(void) {
@@ -89,29 +113,31 @@ static void report(void) {
     IS(figures[4], PAGES - 4);
 }
 
-static void groups(void) {
-    uint32_t list[VIGBUSO_BATCH], count = 0, virgin = 0, fates[2] = {7, 7}, group;
+static void chunks(void) {
+    uint32_t list[VIGBUSO_BATCH], count = 0, virgin = 0, fates[2] = {7, 7}, chunk;
     IS(vigbuso_take_blocks(book, words, 45, HOST, list, VIGBUSO_BATCH, &count, &virgin), 0);
     IS(count, 3);
-    group = VIGBUSO_GROUP_WORD(count, VIGBUSO_PAGE(list[0]));
-    IS(vigbuso_release_bin_chunks(book, words, 45, HOST, list, count, &group, 1, fates, 0), VIGBUSO_GROUPS);
-    IS(vigbuso_release_bin_chunks(book, words, 45, HOST, list, count, &group, 1, fates, 2), 0);
+    chunk = VIGBUSO_CHUNK_WORD(count, VIGBUSO_PAGE(list[0]));
+    IS(vigbuso_release_bin_chunks(book, words, 45, HOST, list, count, &chunk, 1, fates, 0), VIGBUSO_CHUNKS);
+    IS(vigbuso_release_bin_chunks(book, words, 45, HOST, list, count, &chunk, 1, fates, 2), 0);
     IS(fates[0], VIGBUSO_KEPT + VIGBUSO_RETIRED);
     IS(fates[1], 7);
 }
 
 int main(void) {
-    book = calloc(words, sizeof *book);
+    book = (uint32_t *)calloc(words, sizeof *book);
     if (book == NULL) {
         return 2;
     }
     lookups();
+    block_bytes();
+    texts();
     opening();
     small_blocks();
     medium_blocks();
     runs();
     report();
-    groups();
+    chunks();
     free(book);
     printf("%d differences\n", differences);
     return differences != 0;

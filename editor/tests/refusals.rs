@@ -1,98 +1,177 @@
-//! Refusals that a `Heap` can meet, each without a trace, and what they print.
+//! Refusals that a `Heap` can meet, each without a trace, the block that each names, and what they print.
 
 use std::error::Error;
+use std::fmt::Debug;
 
-use vigbuso::{Block, Heap, Host, Refusal, Run, MAX_PAGES};
+use vigbuso::{Block, Chunk, Class, Heap, Host, OpenError, Refusal, ReleaseError, Run, MAX_PAGES};
 
-/// A heap with 64 blocks of class 0 and of class 1, a span of medium class 0 and a run of two pages.
+/// A heap with 64 blocks of two small classes, a span of a medium class and a run of two pages.
 struct Scene {
     heap: Heap,
     blocks: Vec<Block>,
     others: Vec<Block>,
-    spans: Vec<Block>,
+    span: Vec<Block>,
     run: Run,
+}
+
+fn small(number: u32) -> Class {
+    Class::small(number).expect("0 to 63")
+}
+
+fn medium(number: u32) -> Class {
+    Class::medium(number).expect("0 to 11")
+}
+
+fn chunk(count: u32, page: u32) -> Chunk {
+    Chunk::new(count, page).expect("12 bits and 18")
 }
 
 fn scene() -> Scene {
     let mut heap = Heap::open(64).expect("64 pages");
-    let blocks = heap.take(0, Host::ALL).expect("class 0").to_vec();
-    let others = heap.take(1, Host::ALL).expect("class 1").to_vec();
-    let spans = heap.medium_take(0, Host::ALL).expect("medium class 0").to_vec();
-    let run = heap.commit(Host::ALL, 2).expect("two pages").expect("there is room").run;
-    Scene { heap, blocks, others, spans, run }
+    let blocks = heap.take(small(0)).expect("class 0").to_vec();
+    let others = heap.take(small(1)).expect("class 1").to_vec();
+    let span = heap.take(medium(0)).expect("medium class 0").to_vec();
+    let run = heap.commit(2).expect("two pages").expect("there is room").run;
+    Scene { heap, blocks, others, span, run }
 }
 
 /// The call is refused as said, and the heap is as before.
-fn refuses<T: std::fmt::Debug>(expected: Refusal, call: impl FnOnce(&mut Scene) -> Result<T, Refusal>) {
+fn refuses<T: Debug, E: Into<Refusal> + Copy>(expected: Refusal, call: impl FnOnce(&mut Scene) -> Result<T, E>) -> E {
     let mut scene = scene();
     let before = scene.heap.clone();
-    assert_eq!(call(&mut scene).map(|_| ()), Err(expected));
+    let error = call(&mut scene).expect_err("a refusal");
+    assert_eq!(error.into(), expected);
     assert_eq!(scene.heap, before, "a refusal changes nothing: {expected}");
+    error
+}
+
+/// The same, and the error names the block at a place.
+fn blames<T: Debug>(expected: Refusal, place: usize, call: impl FnOnce(&mut Scene) -> Result<T, ReleaseError>) {
+    let error = refuses(expected, call);
+    assert_eq!(error.block().map(|(place, _)| place), Some(place), "{error}");
 }
 
 #[test]
 fn openings() {
     for pages in [0, MAX_PAGES + 1, u64::MAX] {
         assert_eq!(Heap::open(pages), Err(Refusal::ArenaLength));
+        assert_eq!(Heap::try_open(pages), Err(OpenError::Refused(Refusal::ArenaLength)));
     }
-}
-
-#[test]
-fn classes() {
-    refuses(Refusal::Class, |s| s.heap.take(64, Host::ALL));
-    refuses(Refusal::Class, |s| s.heap.medium_take(12, Host::ALL));
-    refuses(Refusal::Class, |s| s.heap.release(u32::MAX, Host::ALL, &s.blocks));
-    refuses(Refusal::Class, |s| s.heap.medium_release(12, Host::ALL, &s.spans));
+    assert_eq!(Heap::on([0; 100], 1).map(|_| ()), Err(Refusal::BookTooShort));
+    assert_eq!(Heap::resume(vec![0; 50_000]), Err(Refusal::ArenaLength));
+    assert_eq!(Heap::resume(vec![1; 44_111]), Err(Refusal::BookTooShort));
+    refuses(Refusal::BookTooShort, |s| s.heap.reopen(65));
 }
 
 #[test]
 fn lists() {
-    refuses(Refusal::EmptyList, |s| s.heap.release(0, Host::ALL, &[]));
-    refuses(Refusal::EmptyList, |s| s.heap.medium_release(0, Host::ALL, &[]));
-    refuses(Refusal::WrongKind, |s| s.heap.release(0, Host::ALL, &s.spans));
-    refuses(Refusal::WrongKind, |s| s.heap.medium_release(0, Host::ALL, &s.blocks));
-    refuses(Refusal::NotOut, |s| s.heap.release(0, Host::ALL, &s.others));
-    refuses(Refusal::NotOut, |s| s.heap.release(0, Host::ALL, &[s.blocks[0], s.blocks[1], s.blocks[0]]));
-    refuses(Refusal::NotOut, |s| s.heap.release(0, Host::ALL, &[Block::small(1 << 29).unwrap()]));
+    assert_eq!(refuses(Refusal::EmptyList, |s| s.heap.release(small(0), &[])).block(), None);
+    refuses(Refusal::EmptyList, |s| s.heap.release(medium(0), &[]));
+    blames(Refusal::WrongKind, 0, |s| s.heap.release(small(0), &s.span));
+    blames(Refusal::WrongKind, 0, |s| s.heap.release(medium(0), &s.blocks));
+    blames(Refusal::WrongKind, 2, |s| s.heap.release(small(0), &[s.blocks[0], s.others[0], s.span[0], s.span[1]]));
+    blames(Refusal::NotOut, 0, |s| s.heap.release(small(0), &s.others));
+    blames(Refusal::NotOut, 2, |s| s.heap.release(small(0), &[s.blocks[0], s.blocks[1], s.blocks[0]]));
+    blames(Refusal::NotOut, 0, |s| s.heap.release(small(0), &[Block::small(1 << 29).unwrap()]));
+}
+
+#[test]
+fn the_first_block_that_is_not_out() {
+    for stale in [0, 1, 5, 62, 63] {
+        let mut s = scene();
+        s.heap.release(small(0), &s.blocks[stale..=stale]).expect("it is out");
+        let before = s.heap.clone();
+        let error = s.heap.release(small(0), &s.blocks).expect_err("one is not out");
+        assert_eq!(error.block(), Some((stale, s.blocks[stale])));
+        assert_eq!(error.released(), 0);
+        let error = s.heap.release_chunks(small(0), &s.blocks, &Chunk::of(&s.blocks)).expect_err("one is not out");
+        assert_eq!(error.block(), Some((stale, s.blocks[stale])));
+        assert_eq!(s.heap, before);
+    }
+    for stale in [0, 4, 9] {
+        let mut s = scene();
+        s.heap.release(medium(0), &s.span[stale..=stale]).expect("it is out");
+        let before = s.heap.clone();
+        let error = s.heap.release(medium(0), &s.span).expect_err("one is not out");
+        assert_eq!(error.block(), Some((stale, s.span[stale])));
+        assert_eq!(s.heap, before);
+    }
+    blames(Refusal::NotOut, 3, |s| s.heap.release(medium(0), &[s.span[2], s.span[0], s.span[1], s.span[2]]));
 }
 
 #[test]
 fn blocks_of_two_pages() {
-    let mut heap = Heap::open(64).expect("64 pages");
-    let mut blocks = heap.take(45, Host::ALL).expect("a page of three").to_vec();
-    blocks.extend(heap.take(45, Host::ALL).expect("another page of three"));
-    let before = heap.clone();
-    assert_eq!(heap.release(45, Host::ALL, &blocks), Err(Refusal::OtherPage));
-    assert_eq!(heap, before);
+    for class in [small(45), medium(3)] {
+        let mut heap = Heap::open(64).expect("64 pages");
+        let mut blocks = heap.take(class).expect("a run").to_vec();
+        let run = blocks.len();
+        blocks.extend(heap.take(class).expect("another run"));
+        let before = heap.clone();
+        let error = heap.release(class, &blocks).expect_err("two runs");
+        assert_eq!((error.refusal(), error.block()), (Refusal::OtherPage, Some((run, blocks[run]))));
+        assert_eq!(heap, before);
+        heap.release_all(class, &mut blocks).expect("all are out");
+    }
 }
 
 #[test]
 fn runs() {
-    refuses(Refusal::RunLength, |s| s.heap.commit(Host::ALL, 0));
-    refuses(Refusal::RunLength, |s| s.heap.commit(Host::ALL, 1 << 48));
-    refuses(Refusal::RunLength, |s| s.heap.grow_frontier(Host::ALL, s.run, s.run.pages));
-    refuses(Refusal::RunLength, |s| s.heap.release_run(Host::ALL, Run { pages: 0, ..s.run }));
-    refuses(Refusal::NotHeld, |s| s.heap.release_run(Host::ALL, Run { first: 0, pages: 1 }));
-    refuses(Refusal::NotHeld, |s| s.heap.release_run(Host::ALL, Run { first: u64::MAX, pages: 3 }));
-    refuses(Refusal::NotHeld, |s| s.heap.grow_frontier(Host::ALL, Run { pages: 3, ..s.run }, 4));
+    refuses(Refusal::RunLength, |s| s.heap.commit(0));
+    refuses(Refusal::RunLength, |s| s.heap.commit(1 << 48));
+    refuses(Refusal::RunLength, |s| s.heap.grow_frontier(s.run, s.run.pages));
+    refuses(Refusal::RunLength, |s| s.heap.release_run(Run { pages: 0, ..s.run }));
+    refuses(Refusal::NotHeld, |s| s.heap.release_run(Run { first: 0, pages: 1 }));
+    refuses(Refusal::NotHeld, |s| s.heap.release_run(Run { first: u64::MAX, pages: 3 }));
+    refuses(Refusal::NotHeld, |s| s.heap.grow_frontier(Run { pages: 3, ..s.run }, 4));
 }
 
 #[test]
-fn groups() {
-    use vigbuso::Chunk;
+fn chunks() {
+    refuses(Refusal::EmptyList, |s| s.heap.release_chunks(small(0), &s.blocks, &[]));
+    refuses(Refusal::EmptyList, |s| s.heap.release_chunks(small(0), &[], &[chunk(1, 0)]));
+    refuses(Refusal::Chunks, |s| s.heap.release_chunks(small(0), &s.blocks, &vec![chunk(1, 0); 2_057]));
+    refuses(Refusal::Chunks, |s| s.heap.release_chunks_into(small(0), &s.blocks, &[chunk(64, 0)], &mut []));
+    refuses(Refusal::WrongKind, |s| s.heap.release_chunks(medium(0), &s.span, &[chunk(10, 2)]));
+    blames(Refusal::WrongKind, 0, |s| s.heap.release_chunks(small(0), &s.span, &[chunk(10, 0)]));
+    blames(Refusal::NotOut, 0, |s| s.heap.release_chunks(small(0), &s.others, &[chunk(64, 1)]));
+    blames(Refusal::OtherPage, 0, |s| s.heap.release_chunks(small(0), &s.blocks, &[chunk(63, 0)]));
+    let zero = |s: &mut Scene| s.heap.release_chunks(small(0), &s.blocks, &[chunk(64, 0), chunk(0, 1)]);
+    assert_eq!(refuses(Refusal::OtherPage, zero).block(), None);
+    blames(Refusal::OtherPage, 0, |s| s.heap.release_chunks(small(0), &s.blocks, &[chunk(32, 0), chunk(32, 0)]));
+}
 
-    fn chunk(count: u32, page: u32) -> Chunk {
-        Chunk::new(count, page).expect("12 bits and 18")
+/// A list of many runs: what stands before the refused block may be back, and the error tells how much.
+#[test]
+fn release_all_stops_at_a_stale_block() {
+    for class in [small(0), small(20), small(45), medium(0)] {
+        let mut heap = Heap::open(256).expect("256 pages");
+        let mut blocks: Vec<Block> = (0..20).flat_map(|_| heap.take(class).expect("there is room")).collect();
+        blocks.sort_unstable();
+        let stale = blocks.len() * 2 / 3;
+        heap.release(class, &blocks[stale..=stale]).expect("it is out");
+        let block = blocks[stale];
+        let error = heap.release_all(class, &mut blocks).expect_err("one is not out");
+        assert_eq!((error.refusal(), error.block()), (Refusal::NotOut, Some((stale, block))), "{class}");
+        assert!(error.released() <= stale);
+        let mut rest: Vec<Block> = blocks[error.released()..].iter().copied().filter(|&other| other != block).collect();
+        heap.release_all(class, &mut rest).expect("the others are out");
+        let error = heap.release_all(class, &mut blocks).expect_err("none is out");
+        assert_eq!(error.block(), Some((0, blocks[0])));
     }
+}
 
-    refuses(Refusal::EmptyList, |s| s.heap.release_chunks(0, Host::ALL, &s.blocks, &[]));
-    refuses(Refusal::EmptyList, |s| s.heap.release_chunks(0, Host::ALL, &[], &[chunk(1, 0)]));
-    refuses(Refusal::Groups, |s| s.heap.release_chunks(0, Host::ALL, &s.blocks, &vec![chunk(1, 0); 2_057]));
-    refuses(Refusal::WrongKind, |s| s.heap.release_chunks(0, Host::ALL, &s.spans, &[chunk(10, 0)]));
-    refuses(Refusal::NotOut, |s| s.heap.release_chunks(0, Host::ALL, &s.others, &[chunk(64, 1)]));
-    refuses(Refusal::OtherPage, |s| s.heap.release_chunks(0, Host::ALL, &s.blocks, &[chunk(63, 0)]));
-    refuses(Refusal::OtherPage, |s| s.heap.release_chunks(0, Host::ALL, &s.blocks, &[chunk(64, 0), chunk(0, 1)]));
-    refuses(Refusal::OtherPage, |s| s.heap.release_chunks(0, Host::ALL, &s.blocks, &[chunk(32, 0), chunk(32, 0)]));
+/// With nothing granted the first take disables the arena for good; a heap's own word grants.
+#[test]
+fn a_heap_keeps_its_host_word() {
+    let mut heap = Heap::open(64).expect("64 pages");
+    assert!(heap.take_with(Host::NONE, small(0)).expect("no refusal").is_empty());
+    assert!(heap.take(small(0)).expect("no refusal").is_empty());
+    heap.reopen(64).expect("the book is long enough");
+    assert_eq!(heap.take(small(0)).expect("no refusal").len(), 64);
+    heap.set_host(Host::RESERVATION);
+    assert_eq!(heap.commit(1), Ok(None));
+    heap.reopen(64).expect("the book is long enough");
+    assert_eq!(heap.host(), Host::RESERVATION);
 }
 
 #[test]

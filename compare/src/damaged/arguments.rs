@@ -4,9 +4,8 @@ use std::collections::{BTreeMap, VecDeque};
 
 use crate::call::{Answer, Call, Kind, Lent};
 use crate::oracle;
-use crate::port;
 use crate::random::Random;
-use crate::words::{block_word, group_word, page_of, Family, HOST_ALL, HOST_COMMIT, MAX_GROUPS, PAGE_BYTES, RUN_LIMIT};
+use crate::words::{block_word, chunk_word, page_of, Family, HOST_ALL, HOST_COMMIT, MAX_CHUNKS, PAGE_BYTES, RUN_LIMIT};
 
 /// Words and runs that are kept to make arguments of.
 const KEPT: usize = 600;
@@ -14,7 +13,6 @@ const KEPT: usize = 600;
 pub struct Pool {
     pages: u32,
     classes: Vec<(Family, u32)>,
-    kinds: Vec<Kind>,
     /// Blocks that were taken, with their class.
     words: VecDeque<(Family, u32, u32)>,
     runs: VecDeque<(u64, u64)>,
@@ -28,8 +26,7 @@ impl Pool {
             _ => (Family::Small, random.between(40, 46) as u32),
         });
         let classes = classes.collect();
-        let kinds = Kind::ALL.into_iter().filter(|&kind| port::landed(kind)).collect();
-        Pool { pages, classes, kinds, words: VecDeque::new(), runs: VecDeque::new() }
+        Pool { pages, classes, words: VecDeque::new(), runs: VecDeque::new() }
     }
 
     pub fn pages(&self) -> u32 {
@@ -61,7 +58,7 @@ impl Pool {
             1 => random.below(80) as u32,
             _ => class,
         };
-        let kind = random.pick(&self.kinds);
+        let kind = random.pick(&Kind::ALL);
         match kind {
             Kind::TakeBlocks | Kind::MediumTakeBlocks => {
                 Call::Take { family, class, host, lent: list(random, family, class) }
@@ -144,24 +141,24 @@ impl Pool {
         let list = self.blocks(random, Family::Small, class, false);
         let mut counts: BTreeMap<u32, u32> = BTreeMap::new();
         list.iter().for_each(|&word| *counts.entry(page_of(word)).or_default() += 1);
-        let mut groups: Vec<u32> =
-            counts.into_iter().map(|(page, count)| group_word(count & 0xFFF, page & 0x3_FFFF)).collect();
-        random.shuffle(&mut groups);
+        let mut chunks: Vec<u32> =
+            counts.into_iter().map(|(page, count)| chunk_word(count & 0xFFF, page & 0x3_FFFF)).collect();
+        random.shuffle(&mut chunks);
         match random.below(20) {
-            0 => groups.push(random.word() as u32),
-            1 => groups.iter_mut().for_each(|group| *group ^= 1 << random.below(32)),
-            2 => groups.extend(groups.clone()),
-            3 => groups.resize(MAX_GROUPS + random.index(3), group_word(1, 0)),
-            4 => groups.truncate(groups.len() / 2),
-            5 if groups.len() > 1 => {
+            0 => chunks.push(random.word() as u32),
+            1 => chunks.iter_mut().for_each(|chunk| *chunk ^= 1 << random.below(32)),
+            2 => chunks.extend(chunks.clone()),
+            3 => chunks.resize(MAX_CHUNKS + random.index(3), chunk_word(1, 0)),
+            4 => chunks.truncate(chunks.len() / 2),
+            5 if chunks.len() > 1 => {
                 // Two counts that are wrong, though they add up.
-                groups[0] = groups[0].wrapping_add(1 << 18);
-                groups[1] = groups[1].wrapping_sub(1 << 18);
+                chunks[0] = chunks[0].wrapping_add(1 << 18);
+                chunks[1] = chunks[1].wrapping_sub(1 << 18);
             }
             _ => {}
         }
-        let room = if random.chance(1, 20) { random.index(groups.len() + 1) } else { groups.len() + random.index(3) };
-        Call::ReleaseChunks { class, host, list, groups, lent: Lent { len: room, fill: random.word() as u32 } }
+        let room = if random.chance(1, 20) { random.index(chunks.len() + 1) } else { chunks.len() + random.index(3) };
+        Call::ReleaseChunks { class, host, list, chunks, lent: Lent { len: room, fill: random.word() as u32 } }
     }
 }
 

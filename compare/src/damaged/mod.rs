@@ -16,9 +16,8 @@ use self::arguments::Pool;
 use self::book::Twins;
 use self::damage::Damage;
 use crate::arguments::Arguments;
-use crate::call::{Answer, Call, Kind};
+use crate::call::{Answer, Call};
 use crate::history;
-use crate::port;
 use crate::random::Random;
 use crate::tally::Tally;
 use crate::words::{book_words, HOST_ALL, MAX_PAGES};
@@ -33,10 +32,6 @@ pub fn run(words: &[String]) -> Result<bool, String> {
     let calls: u64 = arguments.number("calls")?.unwrap_or(200_000);
     let seed: u64 = arguments.number("seed")?.unwrap_or(1);
     let only: Option<u64> = arguments.number("only")?;
-    if !port::landed(Kind::Commit) {
-        println!("not run: no call on a book is linked (feature arena is off)");
-        return Ok(false);
-    }
     match arguments.text("worker") {
         Some(_) => Ok(work(calls, seed, only)),
         None => watch::run(calls, seed, only),
@@ -63,9 +58,6 @@ fn work(calls: u64, seed: u64, only: Option<u64>) -> bool {
         "{} words overwritten; {} calls on damaged books, {} of them carried out",
         counts.words, counts.calls, counts.done
     );
-    for kind in Kind::ALL.into_iter().filter(|&kind| !port::landed(kind)) {
-        println!("not called: {} (its feature is off)", kind.name());
-    }
     println!("0 faults");
     true
 }

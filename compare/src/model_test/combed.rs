@@ -3,12 +3,13 @@
 //! too that the calls lead to this heap, and that histories from an opening and from it answer alike.
 
 use super::{equations, names, Case};
+use crate::call::Due;
 use crate::call::{Answer, Call};
 use crate::generate::{self, HOLE_LIMIT};
 use crate::history::History;
 use crate::plan::{Intent, Plan, Step};
 use crate::random::Random;
-use crate::run::{self, Due};
+use crate::run;
 use crate::words::HOST_ALL;
 
 /// Pages above the frontier when the holes are there.

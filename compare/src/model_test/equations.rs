@@ -110,8 +110,8 @@ fn call_term(call: &Call) -> String {
     let arguments = match call {
         Call::Take { class, host, lent, .. } => format!("{class} {host} {}", lent_list(lent)),
         Call::ReleaseBlocks { class, host, list, .. } => format!("{class} {host} {}", words(list)),
-        Call::ReleaseChunks { class, host, list, groups, lent } => {
-            format!("{class} {host} {} {} {}", words(list), words(groups), lent_list(lent))
+        Call::ReleaseChunks { class, host, list, chunks, lent } => {
+            format!("{class} {host} {} {} {}", words(list), words(chunks), lent_list(lent))
         }
         Call::Commit { host, pages } => format!("{host} {pages}"),
         Call::Grow { host, first, old, new } => format!("{host} {first} {old} {new}"),

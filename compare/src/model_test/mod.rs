@@ -137,7 +137,7 @@ fn affordable(history: History) -> History {
                 pages.min(&u64::from(history.pages)) * before
             }
             // Each word is looked for on each page of the class.
-            Call::ReleaseChunks { list, groups, .. } => 4 * list.len() as u64 * (groups.len() as u64 + 40),
+            Call::ReleaseChunks { list, chunks, .. } => 4 * list.len() as u64 * (chunks.len() as u64 + 40),
             _ => 0,
         };
         match (call, cost <= left) {

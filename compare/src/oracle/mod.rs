@@ -14,7 +14,7 @@ mod original {
 
 use std::sync::atomic::{AtomicBool, Ordering};
 
-use crate::words::{block_word, granule_of, group_count, group_page, Family, GRANULE_BYTES, PAGE_BYTES, SMALL_BATCH};
+use crate::words::{block_word, chunk_count, chunk_page, granule_of, Family, GRANULE_BYTES, PAGE_BYTES, SMALL_BATCH};
 use original::{arena, classes, heap, page};
 
 // Document 01: debug assertions off.
@@ -161,11 +161,11 @@ impl Original {
     }
 
     /// The fates of the groups, in their order; 4 more for a page that was retired.
-    pub fn release_bin_chunks(&mut self, class: u32, host: u32, list: &[u32], groups: &[u32]) -> Vec<u32> {
-        let mut made = chunks(list, groups);
+    pub fn release_bin_chunks(&mut self, class: u32, host: u32, list: &[u32], chunks: &[u32]) -> Vec<u32> {
+        let mut made = make_chunks(list, chunks);
         self.release_chunks(class, host, &mut made);
         let fates = fates::take();
-        assert!(fates.len() == groups.len(), "{} groups have {} fates", groups.len(), fates.len());
+        assert!(fates.len() == chunks.len(), "{} groups have {} fates", chunks.len(), fates.len());
         let retired = |chunk: &heap::PageReleaseChunk| chunk.n & heap::PAGE_RELEASE_RETIRED != 0;
         made.chunks.iter().zip(fates).map(|(chunk, fate)| if retired(chunk) { fate + 4 } else { fate }).collect()
     }
@@ -265,15 +265,15 @@ pub fn chain(family: Family, list: &[u32]) -> Chain {
 }
 
 /// Links the blocks of a group release, and makes a chunk of each group.
-pub fn chunks(list: &[u32], groups: &[u32]) -> Chunks {
+pub fn make_chunks(list: &[u32], chunks: &[u32]) -> Chunks {
     let (head, _) = link(list);
-    let chunk = |&group: &u32| heap::PageReleaseChunk {
-        page: address(group_page(group) as usize * PAGE_BYTES).cast(),
+    let made = |&chunk: &u32| heap::PageReleaseChunk {
+        page: address(chunk_page(chunk) as usize * PAGE_BYTES).cast(),
         head: std::ptr::null_mut(),
         tail: std::ptr::null_mut(),
-        n: group_count(group) as u16,
+        n: chunk_count(chunk) as u16,
     };
-    Chunks { head, len: list.len() as u32, chunks: groups.iter().map(chunk).collect() }
+    Chunks { head, len: list.len() as u32, chunks: chunks.iter().map(made).collect() }
 }
 
 /// Links the blocks in the list's order, and answers the first and the last.

@@ -9,7 +9,7 @@ use super::rounds::{Clock, Round};
 use super::scenarios::time_takes;
 use super::sides::{Class, Side, PAGES};
 use crate::random::Random;
-use crate::words::{group_word, page_of, Family};
+use crate::words::{chunk_word, page_of, Family};
 
 /// Takes and releases of a search.
 const TURNS: usize = 600;
@@ -28,7 +28,7 @@ pub fn row() -> String {
 enum Turn {
     Take(Class),
     Release(Class, Vec<u32>),
-    Groups(Class, Vec<u32>, Vec<u32>),
+    Chunks(Class, Vec<u32>, Vec<u32>),
     Commit,
     Give(u32),
 }
@@ -52,7 +52,7 @@ fn take_turn<S: Side>(side: &mut S, turn: &Turn, taken: &mut S::Taken) {
     match turn {
         Turn::Take(class) => side.take(*class, taken),
         Turn::Release(class, words) => side.release_list(*class, words),
-        Turn::Groups(class, words, groups) => side.release_grouped(*class, words, groups),
+        Turn::Chunks(class, words, chunks) => side.release_with_chunks(*class, words, chunks),
         Turn::Commit => {
             side.commit(2);
         }
@@ -98,16 +98,16 @@ fn run_turn<S: Side>(side: &mut S, runs: &mut Vec<u32>) -> Turn {
 
 /// Blocks of one page go back by list, those of several by groups.
 fn back(class: Class, words: Vec<u32>) -> Turn {
-    let mut groups: Vec<(u32, u32)> = Vec::new();
+    let mut chunks: Vec<(u32, u32)> = Vec::new();
     for &word in &words {
-        match groups.iter_mut().find(|(page, _)| *page == page_of(word)) {
+        match chunks.iter_mut().find(|(page, _)| *page == page_of(word)) {
             Some((_, count)) => *count += 1,
-            None => groups.push((page_of(word), 1)),
+            None => chunks.push((page_of(word), 1)),
         }
     }
-    if groups.len() == 1 {
+    if chunks.len() == 1 {
         return Turn::Release(class, words);
     }
-    let groups = groups.into_iter().map(|(page, count)| group_word(count, page)).collect();
-    Turn::Groups(class, words, groups)
+    let chunks = chunks.into_iter().map(|(page, count)| chunk_word(count, page)).collect();
+    Turn::Chunks(class, words, chunks)
 }

@@ -1,13 +1,11 @@
-//! What is measured. A scenario is one variant with its rows, the calls it needs and a round written once for both sides.
+//! What is measured. A scenario is one variant with its rows and a round written once for both sides.
 
 use super::fill;
 use super::rounds::{Clock, Round};
 use super::sides::{Class, Side, PAGES};
-use crate::call::Kind;
 use crate::oracle;
-use crate::port;
 use crate::random::Random;
-use crate::words::{group_word, page_of, Family};
+use crate::words::{chunk_word, page_of, Family};
 
 #[derive(Clone, Copy)]
 pub enum Scenario {
@@ -26,7 +24,7 @@ pub enum Scenario {
     /// Takes in an arena of so many pages.
     Arena { class: Class, pages: u32 },
     /// Group releases: of so many pages so many blocks each.
-    Groups { class: Class, pages: u32, blocks: u32, order: Order },
+    Chunks { class: Class, pages: u32, blocks: u32, order: Order },
     /// A search that takes and gives back blocks of some classes, and now and then a run.
     Fill,
 }
@@ -62,9 +60,9 @@ pub fn all() -> Vec<Scenario> {
     let whole = [0, 10, 45].map(|class| Scenario::Whole { class: small(class) });
     let listed = LISTS.map(|blocks| Scenario::Listed { class: small(0), blocks });
     let arena = ARENAS.map(|pages| Scenario::Arena { class: small(10), pages });
-    let group = |order| move |(pages, blocks)| Scenario::Groups { class: small(10), pages, blocks, order };
-    let in_order = [(1, 8), (8, 8), (8, 64), (32, 64), (128, 8), (512, 8), (8, 314)].map(group(Order::Pages));
-    let mixed = [(8, 8), (32, 64), (128, 8), (1_000, 4)].map(group(Order::Mixed));
+    let chunks = |order| move |(pages, blocks)| Scenario::Chunks { class: small(10), pages, blocks, order };
+    let in_order = [(1, 8), (8, 8), (8, 64), (32, 64), (128, 8), (512, 8), (8, 314)].map(chunks(Order::Pages));
+    let mixed = [(8, 8), (32, 64), (128, 8), (1_000, 4)].map(chunks(Order::Mixed));
     let arena_calls = remembered.into_iter().chain(no_fit);
     let list_calls = batches.into_iter().chain(single).chain(whole).chain(listed).chain(arena);
     arena_calls.chain(list_calls).chain(in_order).chain(mixed).chain([Scenario::Fill]).collect()
@@ -76,15 +74,6 @@ const BATCH: usize = 8;
 const REPEATS: usize = 4;
 
 impl Scenario {
-    pub fn landed(&self) -> bool {
-        port::landed(match self {
-            Scenario::Remembered { .. } | Scenario::NoFit { .. } => Kind::Commit,
-            Scenario::Batches { .. } | Scenario::Single { .. } | Scenario::Whole { .. } => Kind::TakeBlocks,
-            Scenario::Listed { .. } | Scenario::Arena { .. } => Kind::TakeBlocks,
-            Scenario::Groups { .. } | Scenario::Fill => Kind::ReleaseBinChunks,
-        })
-    }
-
     /// In the order of the round's times.
     pub fn rows(&self) -> Vec<Row> {
         let with = |holes, calls: &[&str]| {
@@ -116,7 +105,7 @@ impl Scenario {
                     format!("take of {blocks}, free list, {name}, arena of {pages} pages"),
                 ])
             }
-            Scenario::Groups { class, pages, blocks, order } => {
+            Scenario::Chunks { class, pages, blocks, order } => {
                 let retired = if blocks == capacity(class) { ", retired" } else { "" };
                 let mixed = if order == Order::Mixed { ", mixed" } else { "" };
                 plain(&[format!("group release, {pages} × {blocks} blocks{retired}{mixed}, {}", name(class))])
@@ -136,7 +125,7 @@ impl Scenario {
             Scenario::Whole { class } => whole(side, clock, class),
             Scenario::Listed { class, blocks } => listed(side, clock, class, blocks),
             Scenario::Arena { class, .. } => arena(side, clock, class),
-            Scenario::Groups { class, pages, blocks, order } => groups(side, clock, class, [pages, blocks], order),
+            Scenario::Chunks { class, pages, blocks, order } => chunks(side, clock, class, [pages, blocks], order),
             Scenario::Fill => fill::round(side, clock),
         }
     }
@@ -300,7 +289,7 @@ fn arena<S: Side>(side: &mut S, clock: Clock, class: Class) -> Round {
 }
 
 /// Of each page the same share for each call, as often as it goes.
-fn groups<S: Side>(side: &mut S, clock: Clock, class: Class, [pages, blocks]: [u32; 2], order: Order) -> Round {
+fn chunks<S: Side>(side: &mut S, clock: Clock, class: Class, [pages, blocks]: [u32; 2], order: Order) -> Round {
     let filled = fill(side, clock, class, pages);
     let number = (capacity(class) / blocks).min(PARKED) as usize;
     let words = |call: usize| {
@@ -311,9 +300,9 @@ fn groups<S: Side>(side: &mut S, clock: Clock, class: Class, [pages, blocks]: [u
         }
         words
     };
-    let group: Vec<u32> = filled.iter().map(|page| group_word(blocks, page_of(page[0]))).collect();
-    let mut at_hand: Vec<S::Groups> = (0..number).map(|call| S::groups(&words(call), &group)).collect();
-    let ((), time) = clock.time(number, || at_hand.iter_mut().for_each(|groups| side.release_groups(class, groups)));
+    let chunks: Vec<u32> = filled.iter().map(|page| chunk_word(blocks, page_of(page[0]))).collect();
+    let mut at_hand: Vec<S::Chunks> = (0..number).map(|call| S::make_chunks(&words(call), &chunks)).collect();
+    let ((), time) = clock.time(number, || at_hand.iter_mut().for_each(|made| side.release_chunks(class, made)));
     let mut answers = filled.concat();
     answers.extend(time_takes(side, clock, class, 2).0.concat());
     Round { times: vec![time], answers }

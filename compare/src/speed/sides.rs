@@ -7,7 +7,7 @@
 use crate::memory::Reserved;
 use crate::oracle::{self, Chain, Chunks, Original};
 use crate::port;
-use crate::words::{book_words, Family, HOST_COMMIT, HOST_RESERVE, MAX_GROUPS, NO_PAGE, SMALL_BATCH};
+use crate::words::{book_words, Family, HOST_COMMIT, HOST_RESERVE, MAX_CHUNKS, NO_PAGE, SMALL_BATCH};
 
 const HOST: u32 = HOST_RESERVE | HOST_COMMIT;
 
@@ -26,7 +26,7 @@ pub trait Side {
     /// A release list at hand.
     type List;
     /// A list and its groups at hand.
-    type Groups;
+    type Chunks;
 
     /// A heap on which nothing was asked yet, with an arena of so many pages.
     fn reopen(&mut self, pages: u32);
@@ -39,10 +39,10 @@ pub trait Side {
     fn release(&mut self, class: Class, list: &Self::List);
     /// A release with the making of the chain, where it needs one.
     fn release_list(&mut self, class: Class, words: &[u32]);
-    fn groups(words: &[u32], groups: &[u32]) -> Self::Groups;
-    fn release_groups(&mut self, class: Class, groups: &mut Self::Groups);
+    fn make_chunks(words: &[u32], chunks: &[u32]) -> Self::Chunks;
+    fn release_chunks(&mut self, class: Class, chunks: &mut Self::Chunks);
     /// A group release with the making of the chain, where it needs one.
-    fn release_grouped(&mut self, class: Class, words: &[u32], groups: &[u32]);
+    fn release_with_chunks(&mut self, class: Class, words: &[u32], chunks: &[u32]);
     /// Whether no call was refused since the opening.
     fn is_sound(&self) -> bool;
 }
@@ -60,7 +60,7 @@ impl OriginalSide {
 impl Side for OriginalSide {
     type Taken = Option<(*mut u8, u32)>;
     type List = Chain;
-    type Groups = Chunks;
+    type Chunks = Chunks;
 
     fn reopen(&mut self, pages: u32) {
         self.0.reopen(pages);
@@ -100,18 +100,18 @@ impl Side for OriginalSide {
         self.release(class, &oracle::chain(class.0, words));
     }
 
-    fn groups(words: &[u32], groups: &[u32]) -> Chunks {
-        oracle::chunks(words, groups)
+    fn make_chunks(words: &[u32], chunks: &[u32]) -> Chunks {
+        oracle::make_chunks(words, chunks)
     }
 
     #[inline]
-    fn release_groups(&mut self, Class(_, class): Class, groups: &mut Chunks) {
-        self.0.release_chunks(class, HOST, groups);
+    fn release_chunks(&mut self, Class(_, class): Class, chunks: &mut Chunks) {
+        self.0.release_chunks(class, HOST, chunks);
     }
 
     #[inline]
-    fn release_grouped(&mut self, class: Class, words: &[u32], groups: &[u32]) {
-        self.release_groups(class, &mut oracle::chunks(words, groups));
+    fn release_with_chunks(&mut self, class: Class, words: &[u32], chunks: &[u32]) {
+        self.release_chunks(class, &mut oracle::make_chunks(words, chunks));
     }
 
     fn is_sound(&self) -> bool {
@@ -135,7 +135,7 @@ pub struct PortSide {
 
 impl PortSide {
     pub fn open() -> PortSide {
-        PortSide { book: Reserved::new(book_words(MOST_PAGES)), fates: vec![0; MAX_GROUPS], refused: 0 }
+        PortSide { book: Reserved::new(book_words(MOST_PAGES)), fates: vec![0; MAX_CHUNKS], refused: 0 }
     }
 
     fn book(&mut self) -> &mut [u32] {
@@ -154,16 +154,16 @@ impl Default for Lent {
 }
 
 /// A list, its groups, and the room for their fates.
-pub struct Grouped {
+pub struct ChunkLists {
     words: Vec<u32>,
-    groups: Vec<u32>,
+    chunks: Vec<u32>,
     fates: Vec<u32>,
 }
 
 impl Side for PortSide {
     type Taken = Lent;
     type List = Vec<u32>;
-    type Groups = Grouped;
+    type Chunks = ChunkLists;
 
     fn reopen(&mut self, pages: u32) {
         self.refused = port::open(self.book(), u64::from(pages));
@@ -207,20 +207,20 @@ impl Side for PortSide {
         self.refused |= number;
     }
 
-    fn groups(words: &[u32], groups: &[u32]) -> Grouped {
-        Grouped { words: words.to_vec(), groups: groups.to_vec(), fates: vec![0; groups.len()] }
+    fn make_chunks(words: &[u32], chunks: &[u32]) -> ChunkLists {
+        ChunkLists { words: words.to_vec(), chunks: chunks.to_vec(), fates: vec![0; chunks.len()] }
     }
 
     #[inline]
-    fn release_groups(&mut self, Class(_, class): Class, at_hand: &mut Grouped) {
-        let Grouped { words, groups, fates } = at_hand;
-        self.refused |= port::plain_release_chunks(self.book(), [class, HOST], words, groups, fates);
+    fn release_chunks(&mut self, Class(_, class): Class, at_hand: &mut ChunkLists) {
+        let ChunkLists { words, chunks, fates } = at_hand;
+        self.refused |= port::plain_release_chunks(self.book(), [class, HOST], words, chunks, fates);
     }
 
     #[inline]
-    fn release_grouped(&mut self, Class(_, class): Class, words: &[u32], groups: &[u32]) {
+    fn release_with_chunks(&mut self, Class(_, class): Class, words: &[u32], chunks: &[u32]) {
         let book = self.book.words_mut();
-        self.refused |= port::plain_release_chunks(book, [class, HOST], words, groups, &mut self.fates);
+        self.refused |= port::plain_release_chunks(book, [class, HOST], words, chunks, &mut self.fates);
     }
 
     fn is_sound(&self) -> bool {

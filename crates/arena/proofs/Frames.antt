@@ -1,5 +1,5 @@
--- What the arena's stores and the owners' writes leave as it was. Assumes nothing.
-use Prim.Native.Nat.{ℕ, zero, suc, _+_, _-_, _≤_, _<_}
+-- What the arena's stores and the owners' writes leave as it was.
+use Prim.Native.Nat.{ℕ, zero, suc, _+_, _≤_, _<_}
 use native.Mathlib.Omega.{arith}
 use mathlib.Core.Bool.{Bool, true, false, _&&_}
 use mathlib.Core.List.{List, [], _∷_}
@@ -7,14 +7,22 @@ use mathlib.Core.Path.{_≡_, refl, ap, _∙_}
 use lib.Dec.{eqb, ltb, leb}
 use lib.ListN.{length}
 use borrow.Author.Tests.{lt-ltb, ne-eqb}
+use Rattle.words.specs.Limits.{holeSlots}
 use Rattle.fields.specs.Field.{Field, arena, memory, class, hole, page, out, slot, ArenaField, state, frontier, holes, holePages, commits, commitsHigh, reuses, reusesHigh, abandoned, abandonedHigh, start, pages, owner, arenaOff, pageOff, put, words}
 use Rattle.fields.proofs.Laws.{put-put-same, put-comm, length-put}
 use Rattle.fields.proofs.Changes.{Changes, changes-none, changes-put}
 use Rattle.model.specs.declared.Hole.{Hole}
-use Rattle.model.specs.HoleStore.{Memory}
+use Rattle.model.specs.HoleStore.{HoleStore, Memory}
 use Rattle.model.specs.Arena.{Arena}
+use Rattle.arena.specs.Load.{loadHoles}
 use Rattle.arena.specs.Store.{storeHoles, storeMemory, memoryWords, storeCounts, storeTop, storeStore, storeArena}
 use Rattle.arena.specs.Owners.{own}
+
+-- as many holes are loaded as are asked for
+pub loaded-length : (b : List ℕ) (i k : ℕ) → length (loadHoles b i k) ≡ k
+unfolding loadHoles
+loaded-length b i zero = refl
+loaded-length b i (suc k) = ap suc (loaded-length b (suc i) k)
 
 -- the words that hold the arena: all of its record but the length and HELD, the memory, the holes
 abbrev pub isStored : Field → Bool
@@ -27,14 +35,14 @@ isStored (out p i) = false
 isStored (slot p i) = false
 
 module _ (b : List ℕ) where
-  holes-change : (i : ℕ) (hs : List Hole) → i + length hs ≤ 4096 → Changes isStored b (storeHoles b i hs)
+  pub holes-change : (i : ℕ) (hs : List Hole) → i + length hs ≤ holeSlots → Changes isStored b (storeHoles b i hs)
   unfolding storeHoles
   holes-change i [] l = changes-none isStored b
   holes-change i (h ∷ hs) l =
-      let o : ltb i 4096 ≡ true = lt-ltb i 4096 (omega arith) in
+      let o : ltb i holeSlots ≡ true = lt-ltb i holeSlots (omega arith) in
       changes-put isStored b _ (hole pages i) (h .pages) o refl (changes-put isStored b _ (hole start i) (h .first) o refl (holes-change (suc i) hs (omega arith)))
 
-  memory-changes : (x : List ℕ) (f : Memory) (m : ℕ) → m ≤ 129 → Changes isStored b x → Changes isStored b (storeMemory x f m)
+  pub memory-changes : (x : List ℕ) (f : Memory) (m : ℕ) → m ≤ 129 → Changes isStored b x → Changes isStored b (storeMemory x f m)
   unfolding storeMemory
   memory-changes x f zero l k = k
   memory-changes x f (suc m) l k = changes-put isStored b _ (memory m) _ (lt-ltb m 129 (omega arith)) refl (memory-changes x f m (omega arith) k)
@@ -48,9 +56,13 @@ module _ (b : List ℕ) where
       changed holePages refl _ _ (changed holes refl _ _ (changed frontier refl _ _ (changed state refl _ _
       (changed abandonedHigh refl _ _ (changed abandoned refl _ _ (changed reusesHigh refl _ _ (changed reuses refl _ _ (changed commitsHigh refl _ _ (changed commits refl _ _ h)))))))))
 
-  pub arena-changes : (a : Arena) → length (a .store .holes) ≤ 4096 → Changes isStored b (storeArena b a)
-  unfolding storeArena storeStore memoryWords
-  arena-changes a l = record-changes _ _ _ _ _ _ _ _ (memory-changes _ (a .store .memory) 129 (omega arith) (holes-change 0 (a .store .holes) (omega arith)))
+  pub store-changes : (s : HoleStore) → length (s .holes) ≤ holeSlots → Changes isStored b (storeStore b s)
+  unfolding storeStore memoryWords
+  store-changes s l = memory-changes _ (s .memory) 129 (omega arith) (holes-change 0 (s .holes) (omega arith))
+
+  pub arena-changes : (a : Arena) → length (a .store .holes) ≤ holeSlots → Changes isStored b (storeArena b a)
+  unfolding storeArena
+  arena-changes a l = record-changes _ _ _ _ _ _ _ _ (store-changes (a .store) l)
 
 -- ---- owners
 abbrev pub isOwner : Field → Bool

@@ -1,18 +1,18 @@
 -- The calls that go straight to the arena, on any words: the answer and the book afterwards, refusals included (document 01, "A run
 -- of pages" and "Numbers for a refused call"). n is the arena's length, h the host word. Each reads the model's arena from the words,
--- does the model's step, and writes it back. Assumes nothing.
-use Prim.Native.Nat.{ℕ, zero, suc, _+_, _-_, _*_, _^_}
-use mathlib.Core.List.{List, [], _∷_}
+-- does the model's step, and writes it back.
+use Prim.Native.Nat.{ℕ, _+_, _-_}
+use mathlib.Core.List.{List}
 use mathlib.Core.Option.{Option, none, some}
-use mathlib.Core.Bool.{Bool, true, false, cond, not, _&&_, _||_}
-use lib.Dec.{eqb, leb, ltb}
-use Rattle.fields.specs.Field.{arena, page, owner, size, state, frontier, holes, holePages, held, commits, commitsHigh, reuses, reusesHigh, abandoned, abandonedHigh, get, put}
-use Rattle.model.specs.Lists.{every, below}
-use Rattle.model.specs.Chunks.{hostMax}
-use Rattle.model.specs.Heap.{badRun, direct}
+use mathlib.Core.Bool.{Bool, true, false, cond, not, _&&_}
+use lib.Dec.{eqb, leb}
+use Rattle.facts.specs.Lists.{every, below}
+use Rattle.fields.specs.Field.{arena, page, owner, frontier, held, get, put}
+use Rattle.model.specs.declared.Figures.{Figures}
+use Rattle.model.specs.Heap.{badRun, badGrowth, direct, figuresWith}
 use Rattle.model.specs.Arena as Model
 use Rattle.model.specs.Arena.{Arena, Given, Grown}
-use Rattle.arena.specs.Load.{loadArena, wide}
+use Rattle.arena.specs.Load.{loadArena}
 use Rattle.arena.specs.Store.{storeArena}
 use Rattle.arena.specs.Fair.{recordFair, commitFair, giveFair}
 use Rattle.arena.specs.Owners.{ownerCode, own, ownFresh, ownRun, heldWith}
@@ -44,9 +44,9 @@ commitFor n b h m w =
 unfoldable pub given : List ℕ → ℕ → ℕ → List ℕ
 given b q m = put (own (storeArena b (Model.give m q (loadArena b))) q m 0) (arena held) (get b (arena held) - m)
 
--- ---- the direct calls, from number 3 on
+-- ---- the direct calls, from number 6 on
 unfoldable pub commitCall : ℕ → List ℕ → ℕ → ℕ → Committed
-commitCall n b h m = cond (ltb hostMax h) (commitRefused b 3) (cond (badRun m) (commitRefused b 6) (commitFor n b h m (ownerCode direct)))
+commitCall n b h m = cond (badRun m) (commitRefused b 6) (commitFor n b h m (ownerCode direct))
 
 -- number 12: the run lies below LENGTH and FRONTIER, and each page of it says that the direct calls hold it
 unfoldable pub everyDirect : List ℕ → ℕ → ℕ → Bool
@@ -74,28 +74,24 @@ grownBook b g e m = put (ownRun (advance b (g .arena)) (grownBy (g .grew) e) m (
 unfoldable pub growCall : ℕ → List ℕ → ℕ → ℕ → ℕ → ℕ → Done
 growCall n b h q old new =
     let g = Model.grow n h (q + old) (new - old) (loadArena b) in
-    cond (ltb hostMax h) (doneRefused b 3)
-    (cond (badRun old || (badRun new || leb new old)) (doneRefused b 6)
+    cond (badGrowth old new) (doneRefused b 6)
     (cond (not (heldDirect n b q old)) (doneRefused b 12)
     (cond (not (recordFair n b)) (doneRefused b 13)
-    (record { code = 0; book = grownBook b g (q + old) (new - old); yes = g .grew }))))
+    (record { code = 0; book = grownBook b g (q + old) (new - old); yes = g .grew })))
 
-unfoldable pub releaseCall : ℕ → List ℕ → ℕ → ℕ → ℕ → Done
-releaseCall n b h q m =
-    cond (ltb hostMax h) (doneRefused b 3)
-    (cond (badRun m) (doneRefused b 6)
+unfoldable pub releaseCall : ℕ → List ℕ → ℕ → ℕ → Done
+releaseCall n b q m =
+    cond (badRun m) (doneRefused b 6)
     (cond (not (heldDirect n b q m)) (doneRefused b 12)
     (cond (not (giveFair n b m)) (doneRefused b 13)
-    (record { code = 0; book = given b q m; yes = true }))))
+    (record { code = 0; book = given b q m; yes = true })))
 
 unfoldable pub containsCall : ℕ → List ℕ → ℕ → ℕ → Bool
 containsCall n b o k = Model.contains n o k (loadArena b)
 
--- the report's five figures: commits, reuses, abandoned, pages held, idle pages
-abbrev pub figures : ℕ → List ℕ → List ℕ
-figures n b =
-    wide b commits commitsHigh ∷ wide b reuses reusesHigh ∷ wide b abandoned abandonedHigh ∷ get b (arena held)
-    ∷ (get b (arena holePages) + (n - get b (arena frontier))) ∷ []
+-- a report's figures
+abbrev pub figures : ℕ → List ℕ → Figures
+figures n b = figuresWith n (loadArena b) (get b (arena held))
 
 unfoldable pub reportCode : ℕ → List ℕ → ℕ
 reportCode n b = cond (recordFair n b) 0 13

@@ -1,12 +1,12 @@
 -- Number 13's tests for the steps of the arena (docs/RANGES.md): every word that the step reads is in its range. n is the arena's
--- length. Assumes nothing.
+-- length.
 use Prim.Native.Nat.{ℕ, _+_}
 use mathlib.Core.List.{List}
-use mathlib.Core.Bool.{Bool, true, false, cond, _&&_}
+use mathlib.Core.Bool.{Bool, true, cond, _&&_}
 use lib.Dec.{leb}
+use Rattle.facts.specs.Lists.{every}
 use Rattle.fields.specs.Field.{arena, memory, state, frontier, holes, holePages, held, get}
 use Rattle.model.specs.declared.Hole.{Hole}
-use Rattle.model.specs.Lists.{every}
 use Rattle.model.specs.HoleStore.{holeSlots, holePagesMax, rememberedMax}
 use Rattle.arena.specs.Load.{loadHoles}
 

@@ -1,10 +1,7 @@
 pub mod Load
 pub mod Store
-pub mod Record
 pub mod Fair
 pub mod Owners
-pub mod Plan
 pub mod Calls
-pub mod Act
 pub mod Open
 pub mod Represents

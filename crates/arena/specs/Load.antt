@@ -1,10 +1,11 @@
--- The arena that the words hold. Any words hold one; number 13's tests (Fair) say which of them a step may use. Assumes nothing.
-use Prim.Native.Nat.{ℕ, zero, suc, _+_, _*_, _^_}
+-- The arena that the words hold. Any words hold one; number 13's tests (Fair) say which of them a step may use.
+use Prim.Native.Nat.{ℕ, zero, suc}
 use mathlib.Core.List.{List, [], _∷_}
 use mathlib.Core.Option.{Option, none, some}
 use mathlib.Core.Bool.{cond}
 use lib.Dec.{leb}
-use Rattle.fields.specs.Field.{ArenaField, arena, memory, hole, state, frontier, holes, holePages, commits, commitsHigh, reuses, reusesHigh, abandoned, abandonedHigh, start, pages, get}
+use Rattle.fields.specs.Field.{arena, memory, hole, state, frontier, holes, holePages, commits, commitsHigh, reuses, reusesHigh, abandoned, abandonedHigh, start, pages, get}
+use Rattle.fields.specs.Wide.{getWide}
 use Rattle.model.specs.declared.Hole.{Hole}
 use Rattle.model.specs.HoleStore as Model
 use Rattle.model.specs.HoleStore.{HoleStore, rememberedMax}
@@ -30,10 +31,6 @@ abbrev pub indexCode : Option ℕ → ℕ
 indexCode none = 0
 indexCode (some i) = suc i
 
--- a count of 64 bits stands in two words, the low one first
-abbrev pub wide : List ℕ → ArenaField → ArenaField → ℕ
-wide b low high = get b (arena low) + get b (arena high) * 2 ^ 32
-
 abbrev pub loadHole : List ℕ → ℕ → Hole
 loadHole b i = Model.hole (get b (hole start i)) (get b (hole pages i))
 
@@ -54,7 +51,7 @@ loadArena b = record {
   status = statusOf (get b (arena state));
   frontier = get b (arena frontier);
   store = loadStore b;
-  commits = wide b commits commitsHigh;
-  reuses = wide b reuses reusesHigh;
-  abandoned = wide b abandoned abandonedHigh;
+  commits = getWide b commits commitsHigh;
+  reuses = getWide b reuses reusesHigh;
+  abandoned = getWide b abandoned abandonedHigh;
 }

@@ -1,8 +1,8 @@
--- Who holds each page, on the words. Assumes nothing.
+-- Who holds each page, on the words.
 use Prim.Native.Nat.{ℕ, zero, suc, _+_, _-_}
 use mathlib.Core.List.{List}
 use mathlib.Core.Option.{Option, none, some}
-use Rattle.fields.specs.Field.{arena, page, owner, frontier, held, get, put}
+use Rattle.fields.specs.Field.{page, owner, put}
 use Rattle.model.specs.Heap.{Holder, nobody, direct, class}
 
 -- OWNER: 0 nobody, 1 + the class's id, 77 the direct calls

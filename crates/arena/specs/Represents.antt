@@ -1,13 +1,11 @@
 -- The words stand for the model's arena and for who holds each page: the part of the representation that the arena's calls keep.
--- Assumes nothing.
-use Prim.Native.Nat.{ℕ, _≤_, _<_}
+use Prim.Native.Nat.{ℕ, _<_}
 use mathlib.Core.List.{List}
 use mathlib.Core.Bool.{true}
 use mathlib.Core.Path.{_≡_}
 use lib.Dec.{leb}
 use lib.ListN.{length}
 use Rattle.fields.specs.Field.{arena, page, owner, size, state, held, get, words}
-use Rattle.model.specs.Arena.{Arena}
 use Rattle.model.specs.Heap.{Heap, heldPages}
 use Rattle.arena.specs.Load.{loadArena, statusCode}
 use Rattle.arena.specs.Owners.{ownerCode}

@@ -1,10 +1,11 @@
--- The words that hold an arena: the holes, the memory, the record. Assumes nothing.
-use Prim.Native.Nat.{ℕ, zero, suc, _/_, _%_, _^_}
+-- The words that hold an arena: the holes, the memory, the record.
+use Prim.Native.Nat.{ℕ, zero, suc}
 use mathlib.Core.List.{List, [], _∷_}
 use lib.ListN.{length}
-use Rattle.fields.specs.Field.{ArenaField, arena, memory, hole, state, frontier, holes, holePages, commits, commitsHigh, reuses, reusesHigh, abandoned, abandonedHigh, start, pages, put}
+use Rattle.fields.specs.Field.{arena, memory, hole, state, frontier, holes, holePages, commits, commitsHigh, reuses, reusesHigh, abandoned, abandonedHigh, start, pages, put}
+use Rattle.fields.specs.Wide.{putWide}
 use Rattle.model.specs.declared.Hole.{Hole}
-use Rattle.model.specs.HoleStore.{HoleStore, Memory}
+use Rattle.model.specs.HoleStore.{HoleStore, Memory, rememberedMax}
 use Rattle.model.specs.Arena.{Arena}
 use Rattle.arena.specs.Load.{statusCode, indexCode}
 
@@ -22,10 +23,7 @@ storeMemory b m (suc n) = put (storeMemory b m n) (memory n) (indexCode (m n))
 
 -- how many lengths have a word; shut, so that no proof unrolls the recursion
 unfoldable pub memoryWords : ℕ
-memoryWords = 129
-
-abbrev pub putWide : List ℕ → ArenaField → ArenaField → ℕ → List ℕ
-putWide b low high v = put (put b (arena low) (v % 2 ^ 32)) (arena high) (v / 2 ^ 32)
+memoryWords = suc rememberedMax
 
 unfoldable pub storeCounts : List ℕ → ℕ → ℕ → ℕ → List ℕ
 storeCounts b c r a = putWide (putWide (putWide b commits commitsHigh c) reuses reusesHigh r) abandoned abandonedHigh a

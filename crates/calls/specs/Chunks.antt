@@ -1,22 +1,24 @@
 -- A group release on the words (`release_bin_chunks`; a group is a chunk): the tests of numbers 7 to 11 and 13 in their order, each
 -- over both lists, then the chunks in order, then the runs that go to the arena. ws is the list, gs the chunks, fs the lent fates.
--- Assumes nothing.
-use Prim.Native.Nat.{ℕ, zero, suc, _+_, _*_}
-use mathlib.Core.Bool.{Bool, true, false, cond, not, _&&_, _||_}
+use Prim.Native.Nat.{ℕ, _+_, _*_}
+use mathlib.Core.Bool.{Bool, true, cond, not, _&&_, _||_}
 use mathlib.Core.List.{List, [], _∷_, _++_, map}
 use lib.Dec.{eqb, ltb, leb}
 use lib.ListN.{length, drop}
+use Rattle.facts.specs.Lists.{isNil, filter, every, elem, distinct}
 use Rattle.words.specs.Word.{chunkKind, countOf, pageOf}
 use Rattle.classes.specs.declared.Shape.{Shape}
-use Rattle.fields.specs.Field.{arena, class, page, frontier, emptyCount, coldCount, free, carved, get, put}
-use Rattle.model.specs.Lists.{isNil, filter, every, elem, distinct}
+use Rattle.fields.specs.Field.{arena, class, page, frontier, free, carved, get}
+use Rattle.model.specs.Spot.{spotOf, isEmpty, isCold, isArena, arenaFate, retired}
 use Rattle.model.specs.Release.{ofKind}
-use Rattle.model.specs.Chunks.{chunksMax, hostMax}
+use Rattle.model.specs.Chunks.{chunksMax}
 use Rattle.arena.specs.Fair.{giveFair}
 use Rattle.arena.specs.Calls as Arena
-use Rattle.pages.specs.Runs.{flag}
+use Rattle.words.specs.Host.{digit}
+use Rattle.pages.specs.declared.Park.the-variants.{Empty, Cold}
+use Rattle.pages.specs.Links.{stored}
 use Rattle.pages.specs.Stack.{back, indexOf}
-use Rattle.calls.specs.Release.{startOf, outAt, pageFair, rowFair, spotOf, Released, released, relisted, parkAt}
+use Rattle.calls.specs.Release.{startOf, outAt, pageFair, rowFair, Released, placed}
 
 -- a chunk's blocks: those of the list on its page, in the list's order
 unfoldable pub blocksOn : List ℕ → List ℕ → ℕ → List ℕ
@@ -39,10 +41,10 @@ unfoldable pub runsGiven : List ℕ → Shape → List ℕ → ℕ → ℕ → �
 runsGiven b sh [] e k = 0
 runsGiven b sh (g ∷ gs) e k =
     let s = spotOf sh e k in
-    cond (returnsAll b g) (flag (eqb s 2) + runsGiven b sh gs (e + flag (eqb s 0)) (k + flag (eqb s 1))) (runsGiven b sh gs e k)
+    cond (returnsAll b g) (digit (isArena s) + runsGiven b sh gs (e + digit (isEmpty s)) (k + digit (isCold s))) (runsGiven b sh gs e k)
 
 abbrev pub pagesGiven : List ℕ → ℕ → Shape → List ℕ → ℕ
-pagesGiven b c sh gs = runsGiven b sh gs (get b (class emptyCount c)) (get b (class coldCount c)) * sh .pages
+pagesGiven b c sh gs = runsGiven b sh gs (get b (class (stored Empty) c)) (get b (class (stored Cold) c)) * sh .pages
 
 unfoldable pub chunksFair : ℕ → List ℕ → ℕ → Shape → List ℕ → Bool
 chunksFair n b c sh gs =
@@ -52,17 +54,9 @@ chunksFair n b c sh gs =
     && cond (eqb (pagesGiven b c sh gs) 0) true (giveFair n b (pagesGiven b c sh gs))))
 
 -- ---- the act
-unfoldable pub emptied : List ℕ → ℕ → List ℕ
-emptied b q = put (put b (page carved q) 0) (page free q) 0
-
-abbrev pub markRetired : Released → Released
-markRetired r = record { code = r .code; book = r .book; fate = 4 + r .fate }
-
 -- one chunk: blocks is come back to page q, which is retired if none is out then
 unfoldable pub chunkBackAt : List ℕ → ℕ → Shape → ℕ → ℕ → List ℕ → Released
-chunkBackAt b c sh h q is =
-    let d = back b q is in
-    cond (eqb (get d (page carved q)) (get d (page free q))) (markRetired (parkAt (emptied d q) c sh h q)) (released (relisted d c q) 0)
+chunkBackAt b c sh h q is = placed true (back b q is) c sh h q
 
 -- the chunks in order: the book, the fates, and the runs for the arena
 pub record Settled : Type 0 where
@@ -71,7 +65,7 @@ pub record Settled : Type 0 where
   pub gives : List ℕ
 
 abbrev pub givesOf : ℕ → ℕ → List ℕ
-givesOf q fate = cond (eqb fate 6) (q ∷ []) []
+givesOf q fate = cond (eqb fate (retired arenaFate)) (q ∷ []) []
 
 unfoldable pub settleChunks : List ℕ → ℕ → Shape → ℕ → List ℕ → List ℕ → Settled
 settleChunks b c sh h ws [] = record { book = b; fates = []; gives = [] }
@@ -102,7 +96,3 @@ releaseChunks n b c sh h ws gs fs =
     (cond (not (chunksFair n b c sh gs)) (chunksNone b fs 13)
     (let s = settleChunks b c sh h ws gs in
     record { code = 0; book = giveRuns (s .book) (sh .pages) (s .gives); fates = s .fates ++ drop (length gs) fs }))))))
-
--- from number 3 on
-unfoldable pub chunksCall : ℕ → List ℕ → ℕ → Shape → ℕ → List ℕ → List ℕ → List ℕ → ChunksReleased
-chunksCall n b c sh h ws gs fs = cond (ltb hostMax h) (chunksNone b fs 3) (releaseChunks n b c sh h ws gs fs)

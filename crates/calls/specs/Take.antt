@@ -1,25 +1,25 @@
 -- A take on the words (document 01, "Blocks out and back"): the tests of number 13 over all that it will read, then the act.
--- n is the arena's length, c the class's id, sh its shape, l the lent list. Assumes nothing.
---     sound       a page of the class is in its ranges and gives a block
+-- n is the arena's length, c the class's id, sh its shape, l the lent list.
+--     sound       a page of the class is in its ranges and gives a block; m is how many are wanted
 --     walk        the partial list from a code on, as far as a take of m blocks goes
 --     fillFrom    blocks from the partial list's head on
 --     fromPark    one page of the empty or the cold store
 --     takeNew     a new run from the arena
-use Prim.Native.Nat.{ℕ, zero, suc, _+_, _-_}
+use Prim.Native.Nat.{ℕ, zero, suc, _-_}
 use mathlib.Core.Bool.{Bool, true, false, cond, not, _&&_, _||_}
-use mathlib.Core.List.{List, [], _∷_, _++_, map}
+use mathlib.Core.List.{List, [], _++_, map}
 use mathlib.Core.Option.{Option, none, some}
 use lib.Dec.{eqb, ltb, leb}
 use lib.ListN.{length, drop}
+use Rattle.facts.specs.Lists.{every}
 use Rattle.classes.specs.declared.Shape.{Shape}
-use Rattle.fields.specs.Field.{arena, class, page, frontier, partial, empty, cold, next, prev, free, carved, listed, virgin, get, put}
-use Rattle.model.specs.Lists.{every}
+use Rattle.fields.specs.Field.{arena, class, page, frontier, partial, empty, cold, next, prev, free, carved, listed, virgin, get}
 use Rattle.model.specs.Page.{wordOf}
-use Rattle.model.specs.Chunks.{hostMax}
-use Rattle.arena.specs.Calls.{Committed, commitFor}
+use Rattle.arena.specs.Calls.{commitFor}
 use Rattle.pages.specs.Runs.{whole}
 use Rattle.pages.specs.Stack.{tops, latest, draw, hasMore}
-use Rattle.pages.specs.Links.{link, unlink, top, tally, wake}
+use Rattle.pages.specs.Links.{link, unlink, top, stored, wake}
+use Rattle.pages.specs.Fair.{headerFair, storeFair}
 use Rattle.pages.specs.declared.Park.{Park}
 use Rattle.pages.specs.declared.Park.the-variants.{Empty, Cold}
 use Rattle.pages.specs.Carve.{newRun}
@@ -36,15 +36,14 @@ abbrev pub tookNone : List ℕ → List ℕ → ℕ → Took
 tookNone b l k = record { code = k; book = b; count = 0; list = l; virgin = false }
 
 -- ---- the plan
+-- the page's own words are in their ranges, LISTED is l, and the page gives a block
+unfoldable pub pageReady : List ℕ → Shape → ℕ → ℕ → Bool
+pageReady b sh l q = headerFair b sh 0 q && (eqb (get b (page listed q)) l && hasMore b sh q)
+
 unfoldable pub sound : ℕ → List ℕ → ℕ → Shape → ℕ → ℕ → ℕ → Bool
 sound n b c sh l m q =
     whole n b sh c q
-    && (eqb (get b (page listed q)) l
-    && (leb (get b (page free q)) (get b (page carved q))
-    && (leb (get b (page carved q)) (sh .capacity)
-    && (leb (get b (page virgin q)) 1
-    && (hasMore b sh q
-    && every (λ i. ltb i (get b (page carved q))) (tops b q m (get b (page free q))))))))
+    && (pageReady b sh l q && every (λ i. ltb i (get b (page carved q))) (tops b q m (get b (page free q))))
 
 -- at most k pages, m blocks still wanted, from a code on; y is the code of the page before, so that no page is met twice
 unfoldable pub walk : ℕ → List ℕ → ℕ → Shape → ℕ → ℕ → ℕ → ℕ → Bool
@@ -58,10 +57,9 @@ walk n b c sh (suc k) m code y =
 unfoldable pub parkFair : ℕ → List ℕ → ℕ → Shape → Park → Bool
 parkFair n b c sh k =
     let q = get b (class (top k) c) - 1 in
-    leb (get b (class (top k) c)) (get b (arena frontier))
-    && (not (eqb (get b (class (tally k) c)) 0)
-    && (leb (get b (class (tally k) c)) 256
-    && (sound n b c sh 0 (sh .batch) q && leb (get b (page next q)) (get b (arena frontier)))))
+    storeFair b c k
+    && (not (eqb (get b (class (stored k) c)) 0)
+    && (sound n b c sh 0 (sh .batch) q && leb (get b (page next q)) (get b (arena frontier))))
 
 -- ---- the act
 pub record Filled : Type 0 where
@@ -76,8 +74,8 @@ abbrev pub thenFilled : Bool → List ℕ → Filled → Filled
 thenFilled v ws f = record { book = f .book; blocks = f .blocks ++ ws; virgin = v && f .virgin }
 
 -- a page that gave its last block leaves the list
-unfoldable pub relist : List ℕ → ℕ → Shape → ℕ → List ℕ
-relist b c sh q = cond (hasMore b sh q) b (unlink b c q)
+unfoldable pub unlistSpent : List ℕ → ℕ → Shape → ℕ → List ℕ
+unlistSpent b c sh q = cond (hasMore b sh q) b (unlink b c q)
 
 -- from at most k pages, m blocks wanted
 unfoldable pub fillFrom : List ℕ → ℕ → Shape → ℕ → ℕ → Filled
@@ -86,7 +84,7 @@ fillFrom b c sh (suc k) m =
     let q = get b (class partial c) - 1 in
     cond (eqb m 0 || eqb (get b (class partial c)) 0) (filledNone b)
     (thenFilled (eqb (get b (page virgin q)) 1) (map (wordOf sh q) (latest b sh q m))
-    (fillFrom (relist (draw b sh q m) c sh q) c sh k (m - length (latest b sh q m))))
+    (fillFrom (unlistSpent (draw b sh q m) c sh q) c sh k (m - length (latest b sh q m))))
 
 abbrev pub took : List ℕ → Filled → Took
 took l f = record { code = 0; book = f .book; count = length (f .blocks); list = f .blocks ++ drop (length (f .blocks)) l; virgin = f .virgin }
@@ -120,6 +118,6 @@ takeBlocks n b c sh h l =
     (cond (not (eqb (get b (class cold c)) 0)) (fromPark n b c sh Cold l)
     (takeNew n b c sh h l))))
 
--- a class's take from number 3 on
+-- a class's take from number 5 on
 unfoldable pub takeCall : ℕ → List ℕ → ℕ → Shape → ℕ → List ℕ → Took
-takeCall n b c sh h l = cond (ltb hostMax h) (tookNone b l 3) (cond (ltb (length l) (sh .batch)) (tookNone b l 5) (takeBlocks n b c sh h l))
+takeCall n b c sh h l = cond (ltb (length l) (sh .batch)) (tookNone b l 5) (takeBlocks n b c sh h l)

@@ -1,4 +1,4 @@
--- The passes of a group release, once its listed blocks are struck. Assumes nothing.
+-- The passes of a group release, once its listed blocks are struck.
 --     match-asks, fair-asks, settle-asks    what each pass asks follows from the tests before it
 --     mismatch, unfair, settled             the ways out of the passes
 use Prim.Native.Nat.{ℕ, _+_, _≤_, _<_}
@@ -9,34 +9,32 @@ use mathlib.Core.Path.{_≡_, refl, sym, ap, _∙_}
 use lib.Dec.{eqb, ltb, leb}
 use lib.ListN.{length, drop, length-append}
 use borrow.Author.Tests.{lt-ltb, leb-true, le-leb, eq-eqb, eqb-true, eqb-false, ne-eqb}
+use Rattle.facts.specs.Lists.{every, All}
+use Rattle.facts.proofs.Bools.{by-cases, and-left, and-right}
 use Rattle.words.specs.Word.{countOf, pageOf}
 use Rattle.classes.specs.declared.Shape.{Shape}
 use Rattle.fields.specs.Field.{Field, arena, class, page, slot, region, off, frontier, state, holes, holePages, held, partial, empty, emptyCount, cold, coldCount, next, prev, free, carved, listed, get, words}
 use Rattle.fields.proofs.Changes.{Changes, changes-none, changes-put}
-use Rattle.model.specs.Lists.{All, every}
-use Rattle.model.proofs.Counts.{by-cases, and-l, and-r}
 use Rattle.arena.specs.Fair.{recordFair, giveFair}
-use Rattle.calls.specs.Release.{pageAt, pageFair, rowFair}
+use Rattle.pages.specs.Stack.{pageAt}
+use Rattle.calls.specs.Release.{pageFair, rowFair}
 use Rattle.calls.specs.Chunks.{chunkFits, chunksMatch, returnsAll, runsGiven, pagesGiven, chunksFair, giveRuns}
-use Rattle.release.specs.Fair.{linksFair}
-use Rattle.release.proofs.FairWays.{links-fair}
+use Rattle.pages.specs.Fair.{linksFair}
+use Rattle.release.proofs.FairSteps.{links-fair}
 use Rattle.tally.specs.Match.{MatchAsks, Matched}
 use Rattle.chunks.specs.Pass.{pushOne, pushAll, givesIn}
 use Rattle.chunks.specs.PushAsks.{wordsOn, PushAllAsks}
 use Rattle.chunks.specs.FairAsks.{ChunksFairAsks}
 use Rattle.chunks.specs.PlaceAsks.{placeFair, PlaceAsks, Placed}
 use Rattle.chunks.specs.GiveAsks.{givesFair, GiveChunksAsks}
-use Rattle.chunks.specs.CallAsks.{placed, settledTo, passes, StruckAsks, SettleAsks, ChunksAnswered}
-use Rattle.chunks.proofs.PushLaws.{push-free, on-here, on-other}
+use Rattle.chunks.specs.CallAsks.{allPlaced, settledTo, passes, StruckAsks, SettleAsks, ChunksAnswered}
+use Rattle.chunks.proofs.PushLaws.{push-free, on-here, on-more}
 use Rattle.chunks.proofs.GatherGives.{idle, ofClass, gives-count, gives-in, fates-length, all-changes}
 use Rattle.chunks.proofs.CallTests.{fair-pages, words-on, fits-count, fits-lands, match-apart, match-fits, chunks-below, slots-left, page-there}
 
 -- ---- the blocks back on their stacks: of the words that are tested, only FREE is another
 abbrev stacked : Field → Bool
 stacked f = eqb (region f) 6 || (eqb (region f) 4 && eqb (off f) 4)
-
-on-more : (w : ℕ) (ws : List ℕ) (q : ℕ) → wordsOn ws q ≤ wordsOn (w ∷ ws) q
-on-more w ws q = by-cases (eqb (pageAt w) q) (λ e. omega (arith, on-here w ws q e)) (λ e. omega (arith, on-other w ws q e))
 
 push-stacks : (b : List ℕ) (sh : Shape) (ws : List ℕ) → PushAllAsks b sh ws → Changes stacked b (pushAll b sh ws)
 unfolding pushAll pushOne
@@ -59,7 +57,7 @@ eqb-turned x y =
 every-both : (t u v : ℕ → Bool) → ((g : ℕ) → t g ≡ true → u g ≡ true → v g ≡ true) → (gs : List ℕ) → every t gs ≡ true → every u gs ≡ true → every v gs ≡ true
 every-both t u v k [] e f = refl
 every-both t u v k (g ∷ gs) e f =
-    rw (k g (and-l (t g) (every t gs) e) (and-l (u g) (every u gs) f)) (every-both t u v k gs (and-r (t g) (every t gs) e) (and-r (u g) (every u gs) f))
+    rw (k g (and-left (t g) (every t gs) e) (and-left (u g) (every u gs) f)) (every-both t u v k gs (and-right (t g) (every t gs) e) (and-right (u g) (every u gs) f))
 
 -- ---- what the passes ask
 module _ (n : ℕ) (b : List ℕ) (c : ℕ) (sh : Shape) (ws gs fs : List ℕ) (a : StruckAsks n b c sh ws gs fs) where
@@ -73,20 +71,20 @@ module _ (n : ℕ) (b : List ℕ) (c : ℕ) (sh : Shape) (ws gs fs : List ℕ) (
     module _ (f : chunksFair n b c sh gs ≡ true) (h : ℕ) where
       fair-low : get b (arena frontier) ≤ n
       unfolding chunksFair
-      fair-low = leb-true (get b (arena frontier)) n (and-l (leb (get b (arena frontier)) n) _ f)
+      fair-low = leb-true (get b (arena frontier)) n (and-left (leb (get b (arena frontier)) n) _ f)
 
       fair-rest : (every (λ g. pageFair b sh (countOf g) (pageOf g)) gs && (rowFair b c && cond (eqb (pagesGiven b c sh gs) 0) true (giveFair n b (pagesGiven b c sh gs)))) ≡ true
       unfolding chunksFair
-      fair-rest = and-r (leb (get b (arena frontier)) n) _ f
+      fair-rest = and-right (leb (get b (arena frontier)) n) _ f
 
       pages : every (λ g. pageFair b sh (countOf g) (pageOf g)) gs ≡ true
       pages = fair-pages n b c sh gs f
 
       fair-row : rowFair b c ≡ true
-      fair-row = and-l (rowFair b c) _ (and-r (every (λ g. pageFair b sh (countOf g) (pageOf g)) gs) _ fair-rest)
+      fair-row = and-left (rowFair b c) _ (and-right (every (λ g. pageFair b sh (countOf g) (pageOf g)) gs) _ fair-rest)
 
       fair-gives : cond (eqb (pagesGiven b c sh gs) 0) true (giveFair n b (pagesGiven b c sh gs)) ≡ true
-      fair-gives = and-r (rowFair b c) _ (and-r (every (λ g. pageFair b sh (countOf g) (pageOf g)) gs) _ fair-rest)
+      fair-gives = and-right (rowFair b c) _ (and-right (every (λ g. pageFair b sh (countOf g) (pageOf g)) gs) _ fair-rest)
 
       pushing : PushAllAsks b sh ws
       pushing = record {
@@ -141,21 +139,21 @@ module _ (n : ℕ) (b : List ℕ) (c : ℕ) (sh : Shape) (ws gs fs : List ℕ) (
       all-idle (g ∷ hs) i =
           let q = pageOf g in
           let t = chunkFits b ws in
-          let k = fits-count n b c sh (a .call .single) ws gs (a .runs) m g (and-l (t g) (every t hs) i) in
+          let k = fits-count n b c sh (a .call .single) ws gs (a .runs) m g (and-left (t g) (every t hs) i) in
           let e : idle (pushAll b sh ws) (pageOf g) ≡ returnsAll b g
           = rw (stack .kept (page carved q) refl refl, push-free b sh ws pushing q, k) (eqb-turned (get b (page carved q)) (get b (page free q) + wordsOn ws q)) in
-          (e, all-idle hs (and-r (t g) (every t hs) i))
+          (e, all-idle hs (and-right (t g) (every t hs) i))
 
       book : List ℕ
-      book = placed b c sh h ws gs .book
+      book = allPlaced b c sh h ws gs .book
 
       fates : List ℕ
-      fates = placed b c sh h ws gs .fates ++ drop (length gs) fs
+      fates = allPlaced b c sh h ws gs .fates ++ drop (length gs) fs
 
-      moved : Changes ofClass (pushAll b sh ws) (placed b c sh h ws gs .book)
+      moved : Changes ofClass (pushAll b sh ws) (allPlaced b c sh h ws gs .book)
       moved = all-changes c hc sh (a .call .class .sound) h (pushAll b sh ws) gs
 
-      given-kept : (x : ℕ) → giveFair n (placed b c sh h ws gs .book) x ≡ giveFair n b x
+      given-kept : (x : ℕ) → giveFair n (allPlaced b c sh h ws gs .book) x ≡ giveFair n b x
       unfolding giveFair recordFair
       given-kept x =
           let k = moved .kept in
@@ -168,7 +166,7 @@ module _ (n : ℕ) (b : List ℕ) (c : ℕ) (sh : Shape) (ws gs fs : List ℕ) (
             k (arena held) refl refl ∙ j (arena held) refl refl,
           )
 
-      runs-are : length (givesIn gs (placed b c sh h ws gs .fates ++ drop (length gs) fs)) ≡ runsGiven b sh gs (get b (class emptyCount c)) (get b (class coldCount c))
+      runs-are : length (givesIn gs (allPlaced b c sh h ws gs .fates ++ drop (length gs) fs)) ≡ runsGiven b sh gs (get b (class emptyCount c)) (get b (class coldCount c))
       runs-are =
           let s = a .call .class .sound in
           ap length (sym (gives-in c hc sh s h (pushAll b sh ws) gs (drop (length gs) fs)))
@@ -176,14 +174,14 @@ module _ (n : ℕ) (b : List ℕ) (c : ℕ) (sh : Shape) (ws gs fs : List ℕ) (
           (all-idle gs (match-fits n b c sh (a .call .single) ws gs (a .runs) m))
           ∙ rw (stack .kept (class emptyCount c) hc refl, stack .kept (class coldCount c) hc refl)
 
-      giving : GiveChunksAsks n (placed b c sh h ws gs .book) sh gs (placed b c sh h ws gs .fates ++ drop (length gs) fs)
+      giving : GiveChunksAsks n (allPlaced b c sh h ws gs .book) sh gs (allPlaced b c sh h ws gs .fates ++ drop (length gs) fs)
       unfolding givesFair
       giving = record {
         few = a .call .class .few;
         long = omega (arith, moved .long, stack .long, a .call .class .long);
         single = a .call .single;
         below = chunks-below n b c sh (a .call .single) ws gs (a .runs) m;
-        fates = omega (arith, length-append (placed b c sh h ws gs .fates) (drop (length gs) fs), fates-length c hc sh (a .call .class .sound) h (pushAll b sh ws) gs);
+        fates = omega (arith, length-append (allPlaced b c sh h ws gs .fates) (drop (length gs) fs), fates-length c hc sh (a .call .class .sound) h (pushAll b sh ws) gs);
         fair = rw (runs-are, given-kept (pagesGiven b c sh gs)) fair-gives;
       }
 
@@ -214,7 +212,7 @@ module _ (n : ℕ) (b : List ℕ) (c : ℕ) (sh : Shape) (ws gs fs : List ℕ) (
         pub settle-next : u ≡ true → SettleAsks n b′ c sh h ws gs fs
         settle-next x = rw (k .left) (settle-asks matches (fairs ∙ x) h)
 
-        pub settled : (b″ fs″ : List ℕ) → u ≡ true → ChunksAnswered 0 b″ fs″ (settledTo (placed b′ c sh h ws gs) sh gs fs) → ChunksAnswered 0 b″ fs″ (passes n b c sh h ws gs fs)
+        pub settled : (b″ fs″ : List ℕ) → u ≡ true → ChunksAnswered 0 b″ fs″ (settledTo (allPlaced b′ c sh h ws gs) sh gs fs) → ChunksAnswered 0 b″ fs″ (passes n b c sh h ws gs fs)
         unfolding passes
         settled b″ fs″ x p = rw (matches, fairs ∙ x) (rw (k .left) at p)
 
@@ -227,7 +225,7 @@ module _ (n : ℕ) (b : List ℕ) (c : ℕ) (sh : Shape) (h : ℕ) (ws gs fs : L
     pub give-next : GiveChunksAsks n b₂ sh gs fs₂
     give-next = rw (p .left, p .fates, e) (a .giving)
 
-    pub settles : (b₃ : List ℕ) → b₃ ≡ giveRuns b₂ (sh .pages) (givesIn gs fs₂) → ChunksAnswered 0 b₃ fs₂ (settledTo (placed b c sh h ws gs) sh gs fs)
+    pub settles : (b₃ : List ℕ) → b₃ ≡ giveRuns b₂ (sh .pages) (givesIn gs fs₂) → ChunksAnswered 0 b₃ fs₂ (settledTo (allPlaced b c sh h ws gs) sh gs fs)
     settles b₃ x =
         let z = gives-in c (lt-ltb c 76 (a .placing .known)) sh (a .placing .sound) h (pushAll b sh ws) gs (drop (length gs) fs) in
         record { answer = refl; left = x ∙ rw (p .left, p .fates, e, ← z); fates = p .fates ∙ rw e }

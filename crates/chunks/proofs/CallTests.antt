@@ -1,4 +1,4 @@
--- Numbers 11 and 13 of a group release on the struck book: no test reads an out bit. And what the tests tell of the pages. Assumes nothing.
+-- Numbers 11 and 13 of a group release on the struck book: no test reads an out bit. And what the tests tell of the pages.
 --     match-kept, chunks-fair-kept    the tests are those of the book before
 --     lands                           the first page of a word's run, and of a chunk's, is the page itself, below the frontier
 --     chunks-land                     number 11 passed: the chunks' pages are pages of listed words
@@ -11,23 +11,27 @@ use mathlib.Core.Path.{_≡_, refl, ap, _∙_}
 use lib.Dec.{eqb, ltb, leb}
 use lib.ListN.{length}
 use borrow.Author.Tests.{ltb-true, lt-ltb, leb-true, eq-eqb, eqb-true, not-true}
+use Rattle.facts.specs.Lists.{every, elem, distinct}
+use Rattle.facts.proofs.Bools.{by-cases, and-left, and-right}
+use Rattle.facts.proofs.Lists.{every-same}
 use Rattle.words.specs.Word.{countOf, pageOf}
 use Rattle.classes.specs.declared.Shape.{Shape}
 use Rattle.fields.specs.Field.{arena, class, page, frontier, state, holes, holePages, held, partial, empty, emptyCount, cold, coldCount, next, prev, free, carved, listed, virgin, get, words}
 use Rattle.fields.proofs.Changes.{Changes}
-use Rattle.model.specs.Lists.{every, elem, distinct}
-use Rattle.model.proofs.Counts.{by-cases, and-l, and-r}
 use Rattle.arena.specs.Fair.{recordFair, giveFair}
 use Rattle.pages.specs.Runs.{whole}
-use Rattle.calls.specs.Release.{pageAt, startOf, inRunOf, pageFair, rowFair}
+use Rattle.pages.specs.Stack.{pageAt}
+use Rattle.pages.specs.Fair.{headerFair}
+use Rattle.calls.specs.Release.{startOf, inRunOf, pageFair, rowFair}
 use Rattle.calls.specs.Chunks.{blocksOn, chunkFits, chunksMatch, returnsAll, runsGiven, pagesGiven, chunksFair}
-use Rattle.release.proofs.Bits.{isBit, every-same, start-kept}
-use Rattle.release.proofs.FairWays.{room-left, carved-low}
+use Rattle.pages.proofs.Marks.{isMark}
+use Rattle.release.proofs.Bits.{start-kept}
+use Rattle.release.proofs.FairSteps.{page-room, page-carved}
 use Rattle.tally.specs.Match.{onPage}
 use Rattle.chunks.specs.PushAsks.{wordsOn}
 
 -- ---- the tests read no out bit
-module _ (b b′ : List ℕ) (h : Changes isBit b b′) where
+module _ (b b′ : List ℕ) (h : Changes isMark b b′) where
   blocks-kept : (ws : List ℕ) (q : ℕ) → blocksOn b′ ws q ≡ blocksOn b ws q
   unfolding blocksOn
   blocks-kept [] q = refl
@@ -43,7 +47,7 @@ module _ (b b′ : List ℕ) (h : Changes isBit b b′) where
       rw (every-same (chunkFits b′ ws) (chunkFits b ws) gs (fits-kept ws), every-same (λ w. elem (startOf b′ w) (map pageOf gs)) (λ w. elem (startOf b w) (map pageOf gs)) ws (λ w. rw (start-kept b b′ h w)))
 
   page-kept : (sh : Shape) (m q : ℕ) → pageFair b′ sh m q ≡ pageFair b sh m q
-  unfolding pageFair
+  unfolding pageFair headerFair
   page-kept sh m q =
       let k = h .kept in
       rw (
@@ -95,28 +99,28 @@ module _ (b b′ : List ℕ) (h : Changes isBit b b′) where
 -- ---- the pages' part of number 13
 pub fair-pages : (n : ℕ) (b : List ℕ) (c : ℕ) (sh : Shape) (gs : List ℕ) → chunksFair n b c sh gs ≡ true → every (λ g. pageFair b sh (countOf g) (pageOf g)) gs ≡ true
 unfolding chunksFair
-fair-pages n b c sh gs f = and-l (every (λ g. pageFair b sh (countOf g) (pageOf g)) gs) _ (and-r (leb (get b (arena frontier)) n) _ f)
+fair-pages n b c sh gs f = and-left (every (λ g. pageFair b sh (countOf g) (pageOf g)) gs) _ (and-right (leb (get b (arena frontier)) n) _ f)
 
 -- ---- where the listed words are, in a class whose runs are one page
 module _ (n : ℕ) (b : List ℕ) (c : ℕ) (sh : Shape) (one : sh .pages ≡ 1) where
   module _ (w : ℕ) (r : inRunOf n b sh c w ≡ true) where
     run-rest : (ltb (pageAt w) (get b (arena frontier)) && (leb (startOf b w) (pageAt w) && (ltb (pageAt w) (startOf b w + sh .pages) && whole n b sh c (startOf b w)))) ≡ true
     unfolding inRunOf
-    run-rest = and-r (ltb (pageAt w) n) _ r
+    run-rest = and-right (ltb (pageAt w) n) _ r
 
     run-start : startOf b w ≡ pageAt w
     run-start =
-        let x = and-r (ltb (pageAt w) (get b (arena frontier))) _ run-rest in
-        let l = leb-true (startOf b w) (pageAt w) (and-l (leb (startOf b w) (pageAt w)) _ x) in
-        let m = ltb-true (pageAt w) (startOf b w + sh .pages) (and-l (ltb (pageAt w) (startOf b w + sh .pages)) (whole n b sh c (startOf b w)) (and-r (leb (startOf b w) (pageAt w)) _ x)) in
+        let x = and-right (ltb (pageAt w) (get b (arena frontier))) _ run-rest in
+        let l = leb-true (startOf b w) (pageAt w) (and-left (leb (startOf b w) (pageAt w)) _ x) in
+        let m = ltb-true (pageAt w) (startOf b w + sh .pages) (and-left (ltb (pageAt w) (startOf b w + sh .pages)) (whole n b sh c (startOf b w)) (and-right (leb (startOf b w) (pageAt w)) _ x)) in
         omega arith
 
     run-below : pageAt w < n
     unfolding inRunOf
-    run-below = ltb-true (pageAt w) n (and-l (ltb (pageAt w) n) _ r)
+    run-below = ltb-true (pageAt w) n (and-left (ltb (pageAt w) n) _ r)
 
     run-low : pageAt w < get b (arena frontier)
-    run-low = ltb-true (pageAt w) (get b (arena frontier)) (and-l (ltb (pageAt w) (get b (arena frontier))) _ run-rest)
+    run-low = ltb-true (pageAt w) (get b (arena frontier)) (and-left (ltb (pageAt w) (get b (arena frontier))) _ run-rest)
 
   -- a page of the arena, below the frontier
   pub record Lands (q : ℕ) : Type 0 where
@@ -128,16 +132,16 @@ module _ (n : ℕ) (b : List ℕ) (c : ℕ) (sh : Shape) (one : sh .pages ≡ 1)
   words-on [] r = refl
   words-on (w ∷ ws) r =
       let t = inRunOf n b sh c in
-      let u = and-l (t w) (every t ws) r in
-      rw (lt-ltb (pageAt w) n (run-below w u), eq-eqb (startOf b w) (pageAt w) (run-start w u)) (words-on ws (and-r (t w) (every t ws) r))
+      let u = and-left (t w) (every t ws) r in
+      rw (lt-ltb (pageAt w) n (run-below w u), eq-eqb (startOf b w) (pageAt w) (run-start w u)) (words-on ws (and-right (t w) (every t ws) r))
 
   pub on-words : (ws : List ℕ) → every (inRunOf n b sh c) ws ≡ true → (q : ℕ) → length (blocksOn b ws q) ≡ wordsOn ws q
   unfolding blocksOn wordsOn
   on-words [] r q = refl
   on-words (w ∷ ws) r q =
       let t = inRunOf n b sh c in
-      let e = run-start w (and-l (t w) (every t ws) r) in
-      let ih = on-words ws (and-r (t w) (every t ws) r) q in
+      let e = run-start w (and-left (t w) (every t ws) r) in
+      let ih = on-words ws (and-right (t w) (every t ws) r) q in
       by-cases (eqb (pageAt w) q)
       (λ d. rw (e, d) (ap suc ih))
       (λ d. rw (e, d) ih)
@@ -147,10 +151,10 @@ module _ (n : ℕ) (b : List ℕ) (c : ℕ) (sh : Shape) (one : sh .pages ≡ 1)
   some-lands [] r q h = absurd (omega arith)
   some-lands (w ∷ ws) r q h =
       let t = inRunOf n b sh c in
-      let u = and-l (t w) (every t ws) r in
+      let u = and-left (t w) (every t ws) r in
       by-cases (eqb (pageAt w) q)
       (λ d. let e = eqb-true (pageAt w) q d in record { below = rw e at (run-below w u); low = rw e at (run-low w u) })
-      (λ d. some-lands ws (and-r (t w) (every t ws) r) q (rw d at h))
+      (λ d. some-lands ws (and-right (t w) (every t ws) r) q (rw d at h))
 
   some-chunk : (ws : List ℕ) → every (inRunOf n b sh c) ws ≡ true → (qs : List ℕ) → every (λ w. elem (startOf b w) qs) ws ≡ true → (q : ℕ) → 1 ≤ wordsOn ws q → elem q qs ≡ true
   unfolding wordsOn
@@ -159,30 +163,30 @@ module _ (n : ℕ) (b : List ℕ) (c : ℕ) (sh : Shape) (one : sh .pages ≡ 1)
       let t = inRunOf n b sh c in
       let u : ℕ → Bool = λ w. elem (startOf b w) qs in
       by-cases (eqb (pageAt w) q)
-      (λ d. rw (run-start w (and-l (t w) (every t ws) r), eqb-true (pageAt w) q d) at (and-l (u w) (every u ws) e))
-      (λ d. some-chunk ws (and-r (t w) (every t ws) r) qs (and-r (u w) (every u ws) e) q (rw d at h))
+      (λ d. rw (run-start w (and-left (t w) (every t ws) r), eqb-true (pageAt w) q d) at (and-left (u w) (every u ws) e))
+      (λ d. some-chunk ws (and-right (t w) (every t ws) r) qs (and-right (u w) (every u ws) e) q (rw d at h))
 
   -- ---- numbers 11 and 13 have passed
   module _ (ws gs : List ℕ) (r : every (inRunOf n b sh c) ws ≡ true) (m : chunksMatch b ws gs ≡ true) where
     pub match-apart : distinct (map pageOf gs) ≡ true
     unfolding chunksMatch
-    match-apart = and-l (distinct (map pageOf gs)) (every (chunkFits b ws) gs && every (λ w. elem (startOf b w) (map pageOf gs)) ws) m
+    match-apart = and-left (distinct (map pageOf gs)) (every (chunkFits b ws) gs && every (λ w. elem (startOf b w) (map pageOf gs)) ws) m
 
     match-rest : (every (chunkFits b ws) gs && every (λ w. elem (startOf b w) (map pageOf gs)) ws) ≡ true
     unfolding chunksMatch
-    match-rest = and-r (distinct (map pageOf gs)) (every (chunkFits b ws) gs && every (λ w. elem (startOf b w) (map pageOf gs)) ws) m
+    match-rest = and-right (distinct (map pageOf gs)) (every (chunkFits b ws) gs && every (λ w. elem (startOf b w) (map pageOf gs)) ws) m
 
     pub match-fits : every (chunkFits b ws) gs ≡ true
-    match-fits = and-l (every (chunkFits b ws) gs) (every (λ w. elem (startOf b w) (map pageOf gs)) ws) match-rest
+    match-fits = and-left (every (chunkFits b ws) gs) (every (λ w. elem (startOf b w) (map pageOf gs)) ws) match-rest
 
     pub fits-count : (g : ℕ) → chunkFits b ws g ≡ true → countOf g ≡ wordsOn ws (pageOf g)
     unfolding chunkFits
-    fits-count g f = eqb-true (countOf g) (length (blocksOn b ws (pageOf g))) (and-r (not (eqb (countOf g) 0)) _ f) ∙ on-words ws r (pageOf g)
+    fits-count g f = eqb-true (countOf g) (length (blocksOn b ws (pageOf g))) (and-right (not (eqb (countOf g) 0)) _ f) ∙ on-words ws r (pageOf g)
 
     pub fits-lands : (g : ℕ) → chunkFits b ws g ≡ true → Lands (pageOf g)
     unfolding chunkFits
     fits-lands g f =
-        let z = not-true (eqb (countOf g) 0) (and-l (not (eqb (countOf g) 0)) (eqb (countOf g) (length (blocksOn b ws (pageOf g)))) f) in
+        let z = not-true (eqb (countOf g) 0) (and-left (not (eqb (countOf g) 0)) (eqb (countOf g) (length (blocksOn b ws (pageOf g)))) f) in
         some-lands ws r (pageOf g) (some (countOf g) (wordsOn ws (pageOf g)) z (fits-count g f))
       where
         some : (x y : ℕ) → eqb x 0 ≡ false → x ≡ y → 1 ≤ y
@@ -192,7 +196,7 @@ module _ (n : ℕ) (b : List ℕ) (c : ℕ) (sh : Shape) (one : sh .pages ≡ 1)
     -- what holds of every chunk that fits
     every-fits : (t : ℕ → Bool) → ((g : ℕ) → chunkFits b ws g ≡ true → t g ≡ true) → (hs : List ℕ) → every (chunkFits b ws) hs ≡ true → every t hs ≡ true
     every-fits t k [] e = refl
-    every-fits t k (g ∷ hs) e = rw (k g (and-l (chunkFits b ws g) (every (chunkFits b ws) hs) e)) (every-fits t k hs (and-r (chunkFits b ws g) (every (chunkFits b ws) hs) e))
+    every-fits t k (g ∷ hs) e = rw (k g (and-left (chunkFits b ws g) (every (chunkFits b ws) hs) e)) (every-fits t k hs (and-right (chunkFits b ws g) (every (chunkFits b ws) hs) e))
 
     pub chunks-below : every (λ g. ltb (pageOf g) n) gs ≡ true
     chunks-below = every-fits (λ g. ltb (pageOf g) n) (λ g f. lt-ltb (pageOf g) n (fits-lands g f .below)) gs match-fits
@@ -207,12 +211,12 @@ module _ (n : ℕ) (b : List ℕ) (c : ℕ) (sh : Shape) (one : sh .pages ≡ 1)
           by-cases (eqb q (pageOf g))
           (λ d.
           let p = pageOf g in
-          let k = and-l (u g) (every u hs) j in
-          rw (eqb-true q p d) (omega (arith, fits-count g (and-l (t g) (every t hs) i), room-left b sh (countOf g) p k, carved-low b sh (countOf g) p k)))
-          (λ d. room-at q hs (rw d at e) (and-r (t g) (every t hs) i) (and-r (u g) (every u hs) j))
+          let k = and-left (u g) (every u hs) j in
+          rw (eqb-true q p d) (omega (arith, fits-count g (and-left (t g) (every t hs) i), page-room b sh (countOf g) p k, page-carved b sh (countOf g) p k)))
+          (λ d. room-at q hs (rw d at e) (and-right (t g) (every t hs) i) (and-right (u g) (every u hs) j))
 
       pub slots-left : (q : ℕ) → 1 ≤ wordsOn ws q → get b (page free q) + wordsOn ws q ≤ 4096
-      slots-left q h = room-at q gs (some-chunk ws r (map pageOf gs) (and-r (every (chunkFits b ws) gs) (every (λ w. elem (startOf b w) (map pageOf gs)) ws) match-rest) q h) match-fits f
+      slots-left q h = room-at q gs (some-chunk ws r (map pageOf gs) (and-right (every (chunkFits b ws) gs) (every (λ w. elem (startOf b w) (map pageOf gs)) ws) match-rest) q h) match-fits f
 
     pub page-there : words n ≤ length b → (q : ℕ) → 1 ≤ wordsOn ws q → words (q + 1) ≤ length b
     page-there l q h = omega (arith, some-lands ws r q h .below)

@@ -1,5 +1,5 @@
 -- A group release in passes ends as the definition says (calls, specs/Chunks): the struck blocks back on their stacks, then the pages
--- placed in the chunks' order, is the chunks settled one after the other. Of a class whose runs are one page. Assumes nothing.
+-- placed in the chunks' order, is the chunks settled one after the other. Of a class whose runs are one page.
 --     page-start     a word that is out is on the page that its run begins at
 --     strikes        all struck: their out bits are 0
 --     settle-as      settling, with each page's stack height and blocks as they were before the first chunk
@@ -13,23 +13,24 @@ use mathlib.Core.Path.{_≡_, refl, sym, ap, _∙_}
 use lib.Dec.{eqb, ltb, leb}
 use lib.ListN.{length, length-map}
 use borrow.Author.Tests.{lt-ltb, ltb-true, leb-true, eq-eqb, eqb-true, eqb-false, ne-eqb, not-true}
+use Rattle.facts.specs.Lists.{every, All, elem, distinct}
+use Rattle.facts.proofs.Bools.{by-cases, and-left, and-right}
+use Rattle.facts.proofs.Lists.{every-same}
 use Rattle.words.specs.Word.{countOf, pageOf}
 use Rattle.classes.specs.declared.Shape.{Shape}
 use Rattle.classes.specs.Sound.{Sound}
 use Rattle.fields.specs.Field.{arena, page, slot, out, frontier, first, free, virgin, get, put, words}
 use Rattle.fields.proofs.Laws.{put-comm}
 use Rattle.fields.proofs.Changes.{Changes, changes-trans}
-use Rattle.model.specs.Lists.{All, every, elem, distinct}
-use Rattle.model.proofs.Counts.{by-cases, and-l, and-r}
 use Rattle.pages.specs.Runs.{whole}
-use Rattle.pages.specs.Stack.{marks, push, back, indexOf}
+use Rattle.pages.specs.Stack.{marks, push, pushed, back, indexOf, pageAt}
 use Rattle.pages.proofs.Downs.{small}
-use Rattle.calls.specs.Release.{pageAt, startOf, inRunOf, outAt, pageFair}
+use Rattle.pages.proofs.Frames.{back-free}
+use Rattle.calls.specs.Release.{startOf, inRunOf, outAt, pageFair}
 use Rattle.calls.specs.Chunks.{blocksOn, chunkFits, chunksMatch, chunkBackAt, givesOf, Settled, settleChunks}
 use Rattle.release.specs.Strike.{bitOf, struckCount, struck}
-use Rattle.release.proofs.Bits.{every-same}
 use Rattle.release.proofs.StrikeLaws.{run-of-out, index-of-out, page-of-out}
-use Rattle.release.proofs.FairWays.{room-left, carved-low}
+use Rattle.release.proofs.FairSteps.{page-room, page-carved}
 use Rattle.chunks.specs.Pass.{pushAll, placeAt, placeAll}
 use Rattle.chunks.proofs.GatherPlace.{stirs, onBook, place-past, place-changes}
 use Rattle.chunks.proofs.GatherPush.{cleared, laid, laidAll, blocksOf, Fits, laid-changes, onPages, pushes}
@@ -40,9 +41,9 @@ module _ (n c : ℕ) (sh : Shape) (s : Sound sh) (one : sh .pages ≡ 1) where
   unfolding inRunOf
   page-start b w o =
       let p = pageAt w in
-      let r = and-r (ltb p (get b (arena frontier))) _ (and-r (ltb p n) _ (run-of-out n c sh s b w o)) in
-      let l = leb-true (startOf b w) p (and-l (leb (startOf b w) p) _ r) in
-      let m = ltb-true p (startOf b w + sh .pages) (and-l (ltb p (startOf b w + sh .pages)) (whole n b sh c (startOf b w)) (and-r (leb (startOf b w) p) _ r)) in
+      let r = and-right (ltb p (get b (arena frontier))) _ (and-right (ltb p n) _ (run-of-out n c sh s b w o)) in
+      let l = leb-true (startOf b w) p (and-left (leb (startOf b w) p) _ r) in
+      let m = ltb-true p (startOf b w + sh .pages) (and-left (ltb p (startOf b w + sh .pages)) (whole n b sh c (startOf b w)) (and-right (leb (startOf b w) p) _ r)) in
       omega arith
 
   pub strikes : (b : List ℕ) (ws : List ℕ) → struckCount n b c sh ws ≡ length ws → struck n b c sh ws ≡ cleared b sh ws
@@ -59,18 +60,18 @@ module _ (n c : ℕ) (sh : Shape) (s : Sound sh) (one : sh .pages ≡ 1) where
   pub all-start : (b : List ℕ) (ws : List ℕ) → every (outAt n b c sh) ws ≡ true → every (λ w. eqb (startOf b w) (pageAt w)) ws ≡ true
   all-start b [] o = refl
   all-start b (w ∷ ws) o =
-      let z = page-start b w (and-l (outAt n b c sh w) (every (outAt n b c sh) ws) o) in
-      rw (eq-eqb (startOf b w) (pageAt w) z) (all-start b ws (and-r (outAt n b c sh w) (every (outAt n b c sh) ws) o))
+      let z = page-start b w (and-left (outAt n b c sh w) (every (outAt n b c sh) ws) o) in
+      rw (eq-eqb (startOf b w) (pageAt w) z) (all-start b ws (and-right (outAt n b c sh w) (every (outAt n b c sh) ws) o))
 
   all-on-pages : (b : List ℕ) (qs ws : List ℕ) → every (outAt n b c sh) ws ≡ true → every (λ w. elem (startOf b w) qs) ws ≡ true → every (onPages n sh qs) ws ≡ true
   all-on-pages b qs [] o e = refl
   all-on-pages b qs (w ∷ ws) o e =
-      let u = and-l (outAt n b c sh w) (every (outAt n b c sh) ws) o in
+      let u = and-left (outAt n b c sh w) (every (outAt n b c sh) ws) o in
       let z = page-start b w u in
       let i : indexOf sh (pageAt w) w < 4096 = rw z at (index-of-out n c sh s b w u) in
-      let x : elem (pageAt w) qs ≡ true = rw z at (and-l (elem (startOf b w) qs) (every (λ w. elem (startOf b w) qs) ws) e) in
+      let x : elem (pageAt w) qs ≡ true = rw z at (and-left (elem (startOf b w) qs) (every (λ w. elem (startOf b w) qs) ws) e) in
       rw (lt-ltb (pageAt w) n (page-of-out n c sh s b w u), lt-ltb (indexOf sh (pageAt w) w) 4096 i, x)
-      (all-on-pages b qs ws (and-r (outAt n b c sh w) (every (outAt n b c sh) ws) o) (and-r (elem (startOf b w) qs) (every (λ w. elem (startOf b w) qs) ws) e))
+      (all-on-pages b qs ws (and-right (outAt n b c sh w) (every (outAt n b c sh) ws) o) (and-right (elem (startOf b w) qs) (every (λ w. elem (startOf b w) qs) ws) e))
 
 -- ---- a page's blocks
 low-blocks : (n : ℕ) (sh : Shape) (qs ws : List ℕ) (q : ℕ) → every (onPages n sh qs) ws ≡ true → every small (blocksOf sh ws q) ≡ true
@@ -78,9 +79,9 @@ unfolding blocksOf
 low-blocks n sh qs [] q o = refl
 low-blocks n sh qs (w ∷ ws) q o =
     let u = onPages n sh qs in
-    let ih = low-blocks n sh qs ws q (and-r (u w) (every u ws) o) in
+    let ih = low-blocks n sh qs ws q (and-right (u w) (every u ws) o) in
     let i : small (indexOf sh (pageAt w) w) ≡ true
-    = and-l (small (indexOf sh (pageAt w) w)) (elem (pageAt w) qs) (and-r (ltb (pageAt w) n) (small (indexOf sh (pageAt w) w) && elem (pageAt w) qs) (and-l (u w) (every u ws) o)) in
+    = and-left (small (indexOf sh (pageAt w) w)) (elem (pageAt w) qs) (and-right (ltb (pageAt w) n) (small (indexOf sh (pageAt w) w) && elem (pageAt w) qs) (and-left (u w) (every u ws) o)) in
     by-cases (eqb (pageAt w) q)
     (λ e. let j : small (indexOf sh q w) ≡ true = rw (eqb-true (pageAt w) q e) at i in rw (e, j) ih)
     (λ e. rw e ih)
@@ -92,18 +93,18 @@ pub blocks-on : (sh : Shape) (b ws : List ℕ) (q : ℕ) → starts b ws ≡ tru
 unfolding blocksOn blocksOf
 blocks-on sh b [] q e = refl
 blocks-on sh b (w ∷ ws) q e =
-    let z = eqb-true (startOf b w) (pageAt w) (and-l (eqb (startOf b w) (pageAt w)) (starts b ws) e) in
-    let ih = blocks-on sh b ws q (and-r (eqb (startOf b w) (pageAt w)) (starts b ws) e) in
+    let z = eqb-true (startOf b w) (pageAt w) (and-left (eqb (startOf b w) (pageAt w)) (starts b ws) e) in
+    let ih = blocks-on sh b ws q (and-right (eqb (startOf b w) (pageAt w)) (starts b ws) e) in
     by-cases (eqb (pageAt w) q)
     (λ d. rw (z, d, ih))
     (λ d. rw (z, d, ih))
 
 -- ---- one chunk: its blocks, then its page
-chunk-back : (b : List ℕ) (c : ℕ) (sh : Shape) (h q : ℕ) (is : List ℕ) → chunkBackAt b c sh h q is ≡ placeAt (laid b q (get b (page free q)) is) c sh h q
-unfolding chunkBackAt placeAt back laid
-chunk-back b c sh h q is =
+chunk-back : (b : List ℕ) (c : ℕ) (sh : Shape) (h q : ℕ) (is : List ℕ) → every small is ≡ true → chunkBackAt b c sh h q is ≡ placeAt (laid b q (get b (page free q)) is) c sh h q
+unfolding chunkBackAt placeAt back pushed laid
+chunk-back b c sh h q is low =
     let m = get b (page free q) in
-    rw (put-comm (push (marks b q 0 is) q m is) (page virgin q) (page free q) 0 (m + length is) refl refl refl)
+    rw (back-free b q is low, put-comm (push (marks b q 0 is) q m is) (page virgin q) (page free q) 0 (m + length is) refl refl refl)
 
 module _ (c : ℕ) (sh : Shape) (h : ℕ) (hc : ltb c 76 ≡ true) (few : sh .capacity ≤ 4096) where
   -- ---- blocks of other pages may as well come back after it
@@ -111,7 +112,7 @@ module _ (c : ℕ) (sh : Shape) (h : ℕ) (hc : ltb c 76 ≡ true) (few : sh .ca
     place-marks : (is : List ℕ) → every small is ≡ true → (b : List ℕ) → placeAt (marks b p 0 is) c sh h q ≡ onBook (λ x. marks x p 0 is) (placeAt b c sh h q)
     place-marks [] l b = refl
     place-marks (i ∷ is) l b =
-        rw (place-past c q hc (out p i) 0 (and-l (small i) (every small is) l) (rw d) sh few (marks b p 0 is) h, place-marks is (and-r (small i) (every small is) l) b)
+        rw (place-past c q hc (out p i) 0 (and-left (small i) (every small is) l) (rw d) sh few (marks b p 0 is) h, place-marks is (and-right (small i) (every small is) l) b)
 
     place-push : (m : ℕ) (is : List ℕ) → m + length is ≤ 4096 → (b : List ℕ) → placeAt (push b p m is) c sh h q ≡ onBook (λ x. push x p m is) (placeAt b c sh h q)
     place-push m [] l b = refl
@@ -147,9 +148,9 @@ module _ (c : ℕ) (sh : Shape) (h : ℕ) (hc : ltb c 76 ≡ true) (few : sh .ca
     placed-as [] u a b = refl
     placed-as (g ∷ gs) u a b =
         let q = pageOf g in
-        let e = not-true (elem q (map pageOf gs)) (and-l (not (elem q (map pageOf gs))) (distinct (map pageOf gs)) u) in
+        let e = not-true (elem q (map pageOf gs)) (and-left (not (elem q (map pageOf gs))) (distinct (map pageOf gs)) u) in
         let d = laid b q (k q) (f q) in
-        rw (place-lays q (map pageOf gs) e (a .1) d, placed-as gs (and-r (not (elem q (map pageOf gs))) (distinct (map pageOf gs)) u) (a .1) (placeAt d c sh h q .book))
+        rw (place-lays q (map pageOf gs) e (a .1) d, placed-as gs (and-right (not (elem q (map pageOf gs))) (distinct (map pageOf gs)) u) (a .1) (placeAt d c sh h q .book))
 
   -- ---- what placing one page leaves to the others
   module _ (q : ℕ) (b b′ : List ℕ) (z : Changes (stirs q) b b′) where
@@ -175,13 +176,13 @@ module _ (c : ℕ) (sh : Shape) (h : ℕ) (hc : ltb c 76 ≡ true) (few : sh .ca
         let q = pageOf g in
         let qs = map pageOf gs in
         let is = blocksOf sh ws q in
-        let new = not-true (elem q qs) (and-l (not (elem q qs)) (distinct qs) u) in
+        let new = not-true (elem q qs) (and-left (not (elem q qs)) (distinct qs) u) in
         let d = laid b q (k q) is in
         let r : chunkBackAt b c sh h (pageOf g) (map (indexOf sh (pageOf g)) (blocksOn b ws (pageOf g))) ≡ placeAt (laid b (pageOf g) (k (pageOf g)) (blocksOf sh ws (pageOf g))) c sh h (pageOf g)
-        = ap (chunkBackAt b c sh h q) (blocks-on sh b ws q e) ∙ chunk-back b c sh h q is ∙ ap (λ m. placeAt (laid b q m is) c sh h q) (l .0) in
+        = ap (chunkBackAt b c sh h q) (blocks-on sh b ws q e) ∙ chunk-back b c sh h q is (a .0 .low) ∙ ap (λ m. placeAt (laid b q m is) c sh h q) (l .0) in
         let z = changes-trans (stirs q) b d _ (laid-changes q (k q) is (a .0 .room) (a .0 .low) b) (place-changes c q hc sh few h d) in
         let b′ = placeAt d c sh h q .book in
-        rw (r, settle-as gs (and-r (not (elem q qs)) (distinct qs) u) (a .1) b′ (starts-kept q b b′ z ws e) (frees-kept q b b′ z k qs new (l .1)))
+        rw (r, settle-as gs (and-right (not (elem q qs)) (distinct qs) u) (a .1) b′ (starts-kept q b b′ z ws e) (frees-kept q b b′ z k qs new (l .1)))
 
 -- ---- the whole
 module _ (n : ℕ) (b : List ℕ) (c : ℕ) (sh : Shape) (ws : List ℕ) (s : Sound sh) (one : sh .pages ≡ 1) (hb : leb (words n) (length b) ≡ true) (outs : every (outAt n b c sh) ws ≡ true) where
@@ -192,8 +193,8 @@ module _ (n : ℕ) (b : List ℕ) (c : ℕ) (sh : Shape) (ws : List ℕ) (s : So
   unfolding chunkFits
   chunk-fits qs g o m f =
       let q = pageOf g in
-      let k = eqb-true (countOf g) (length (blocksOn b ws q)) (and-r (not (eqb (countOf g) 0)) (eqb (countOf g) (length (blocksOn b ws q))) m) in
-      record { room = omega (arith, k, length-on q, room-left b sh (countOf g) q f, carved-low b sh (countOf g) q f, s .few); low = low-blocks n sh qs ws q o }
+      let k = eqb-true (countOf g) (length (blocksOn b ws q)) (and-right (not (eqb (countOf g) 0)) (eqb (countOf g) (length (blocksOn b ws q))) m) in
+      record { room = omega (arith, k, length-on q, page-room b sh (countOf g) q f, page-carved b sh (countOf g) q f, s .few); low = low-blocks n sh qs ws q o }
 
   pub chunks-fit : (qs gs : List ℕ) → every (onPages n sh qs) ws ≡ true → every (chunkFits b ws) gs ≡ true → every (λ g. pageFair b sh (countOf g) (pageOf g)) gs ≡ true
       → All (Fits (λ q. get b (page free q)) (blocksOf sh ws)) (map pageOf gs)
@@ -201,7 +202,7 @@ module _ (n : ℕ) (b : List ℕ) (c : ℕ) (sh : Shape) (ws : List ℕ) (s : So
   chunks-fit qs (g ∷ gs) o m f =
       let t = chunkFits b ws in
       let u : ℕ → Bool = λ g. pageFair b sh (countOf g) (pageOf g) in
-      (chunk-fits qs g o (and-l (t g) (every t gs) m) (and-l (u g) (every u gs) f), chunks-fit qs gs o (and-r (t g) (every t gs) m) (and-r (u g) (every u gs) f))
+      (chunk-fits qs g o (and-left (t g) (every t gs) m) (and-left (u g) (every u gs) f), chunks-fit qs gs o (and-right (t g) (every t gs) m) (and-right (u g) (every u gs) f))
 
   all-free : (qs : List ℕ) → All (λ q. get b (page free q) ≡ get b (page free q)) qs
   all-free [] = tt
@@ -214,9 +215,9 @@ module _ (n : ℕ) (b : List ℕ) (c : ℕ) (sh : Shape) (ws : List ℕ) (s : So
       let qs = map pageOf gs in
       let fits = every (chunkFits b ws) gs in
       let chunked = every (λ w. elem (startOf b w) qs) ws in
-      let u = and-l (distinct qs) (fits && chunked) m in
-      let o = all-on-pages n c sh s one b qs ws outs (and-r fits chunked (and-r (distinct qs) (fits && chunked) m)) in
-      let a = chunks-fit qs gs o (and-l fits chunked (and-r (distinct qs) (fits && chunked) m)) f in
+      let u = and-left (distinct qs) (fits && chunked) m in
+      let o = all-on-pages n c sh s one b qs ws outs (and-right fits chunked (and-right (distinct qs) (fits && chunked) m)) in
+      let a = chunks-fit qs gs o (and-left fits chunked (and-right (distinct qs) (fits && chunked) m)) f in
       let height : ℕ → ℕ = λ q. get b (page free q) in
       ap (λ d. placeAll d c sh h gs) (ap (λ d. pushAll d sh ws) (strikes n c sh s one b ws k) ∙ pushes sh n height qs u ws o a b hb (λ q. refl))
       ∙ placed-as c sh h hc (s .few) height (blocksOf sh ws) gs u a b

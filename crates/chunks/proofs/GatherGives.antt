@@ -1,11 +1,10 @@
--- How many runs the chunks' placing leaves for the arena: as many as number 13 was tested for (`runsGiven`: heap, specs/Chunks).
+-- How many runs the chunks' placing leaves for the arena: as many as number 13 was tested for (`runsGiven`: calls, specs/Chunks).
 --     Adds           what placing one page adds to the two stores and to the runs for the arena
 --     place-adds     it goes by the page's words and the stores' counts
 --     gives-count    all chunks
---     gives-in       the runs are the pages of fate 6
+--     gives-in       the runs are the pages whose fate says so
 --     all-changes    what placing all may change: nothing of the arena's record
--- Assumes nothing.
-use Prim.Native.Nat.{ℕ, zero, suc, _+_, _≤_}
+use Prim.Native.Nat.{ℕ, suc, _+_}
 use native.Mathlib.Omega.{arith}
 use mathlib.Core.Bool.{Bool, true, false, cond, not, _&&_, _||_, true≢false}
 use mathlib.Core.List.{List, [], _∷_, _++_, map}
@@ -13,34 +12,36 @@ use mathlib.Core.Path.{_≡_, refl, sym, ap, _∙_}
 use lib.Dec.{eqb, ltb, leb}
 use lib.ListN.{length, length-append}
 use borrow.Author.Tests.{ltb-true, ne-eqb, eqb-false, not-true}
+use Rattle.facts.specs.Lists.{All, elem, distinct}
+use Rattle.facts.proofs.Bools.{by-cases, and-left, and-right}
 use Rattle.words.specs.Word.{pageOf}
 use Rattle.classes.specs.declared.Shape.{Shape}
 use Rattle.classes.specs.Sound.{Sound}
 use Rattle.fields.specs.Field.{Field, arena, memory, class, hole, page, out, slot, region, off, emptyCount, coldCount, next, free, carved, virgin, get, put, words}
 use Rattle.fields.proofs.Laws.{get-put-same, get-put-other, length-put}
 use Rattle.fields.proofs.Changes.{Changes, changes-none, changes-trans, changes-mono}
-use Rattle.model.specs.Lists.{All, elem, distinct}
 use Rattle.model.specs.Page.{isMedium}
-use Rattle.model.specs.Release.{coldFate}
-use Rattle.model.proofs.Counts.{by-cases, and-l, and-r}
 use Rattle.pages.specs.declared.Park.{Park}
 use Rattle.pages.specs.declared.Park.the-variants.{Empty, Cold}
-use Rattle.pages.specs.Runs.{flag}
-use Rattle.pages.specs.Links.{top, tally, stow}
+use Rattle.words.specs.Host.{digit}
+use Rattle.pages.specs.Links.{top, stored, stow}
 use Rattle.pages.specs.Carve.{carveAnew}
 use Rattle.pages.proofs.Frames.{changes-stow}
-use Rattle.calls.specs.Release.{Released, released, unlisted, relisted, keepsEmpty, spotOf, spotAt, parkAs, parkAt}
-use Rattle.calls.specs.Chunks.{emptied, markRetired, givesOf, returnsAll, runsGiven}
+use Rattle.model.specs.declared.Spot.{Spot}
+use Rattle.model.specs.declared.Spot.the-variants.{ToEmpty, ToCold, ToArena}
+use Rattle.model.specs.Spot.{isEmpty, isCold, isArena, fateOf, retired}
+use Rattle.calls.specs.Release.{Released, released, unlisted, relisted, spotAt, parkAs, parkAt, emptied, markRetired}
+use Rattle.calls.specs.Chunks.{givesOf, returnsAll, runsGiven}
 use Rattle.release.specs.Act.{coldVirgin}
-use Rattle.release.proofs.Parking.{unlisted-changes, relisted-changes, carve-changes}
+use Rattle.release.proofs.ParkSteps.{unlisted-changes, relisted-changes, carve-changes}
 use Rattle.chunks.specs.Pass.{placeAt, placeAll, givesIn}
 use Rattle.chunks.proofs.GatherPlace.{stirs, place-changes}
 
 -- where t tells whether the page has no block out, and k is its spot then
-pub record Adds (c q e k : ℕ) (t : Bool) (spot : ℕ) (r : Released) : Type 0 where
-  pub empty : get (r .book) (class emptyCount c) ≡ cond t (e + flag (eqb spot 0)) e
-  pub cold : get (r .book) (class coldCount c) ≡ cond t (k + flag (eqb spot 1)) k
-  pub gives : length (givesOf q (r .fate)) ≡ cond t (flag (eqb spot 2)) 0
+pub record Adds (c q e k : ℕ) (t : Bool) (spot : Spot) (r : Released) : Type 0 where
+  pub empty : get (r .book) (class emptyCount c) ≡ cond t (e + digit (isEmpty spot)) e
+  pub cold : get (r .book) (class coldCount c) ≡ cond t (k + digit (isCold spot)) k
+  pub gives : length (givesOf q (r .fate)) ≡ cond t (digit (isArena spot)) 0
 
 abbrev notEmpties : Field → Bool
 notEmpties f = not (eqb (region f) 2 && eqb (off f) 2)
@@ -48,38 +49,29 @@ notEmpties f = not (eqb (region f) 2 && eqb (off f) 2)
 abbrev notColds : Field → Bool
 notColds f = not (eqb (region f) 2 && eqb (off f) 4)
 
-spot-le : (sh : Shape) (e k : ℕ) → spotOf sh e k ≤ 2
-unfolding spotOf
-spot-le sh e k = by (keepsEmpty sh e) (ltb k (sh .colds))
-  where
-    by : (t u : Bool) → cond t 0 (cond u 1 2) ≤ 2
-    by true u = omega arith
-    by false true = omega arith
-    by false false = omega arith
-
-cold-stays : (sh : Shape) (q : ℕ) → length (givesOf q (4 + coldFate sh)) ≡ 0
+cold-stays : (sh : Shape) (q : ℕ) → length (givesOf q (retired (fateOf sh ToCold))) ≡ 0
 cold-stays sh q = by (isMedium sh)
   where
-    by : (t : Bool) → length (givesOf q (4 + cond t 0 1)) ≡ 0
+    by : (t : Bool) → length (givesOf q (retired (cond t 0 1))) ≡ 0
     by true = refl
     by false = refl
 
 module _ (n c q : ℕ) (hc : ltb c 76 ≡ true) where
-  stow-counts : (b : List ℕ) (p : Park) → leb (words n) (length b) ≡ true → get (stow b c p q) (class (tally p) c) ≡ get b (class (tally p) c) + 1
+  stow-counts : (b : List ℕ) (p : Park) → leb (words n) (length b) ≡ true → get (stow b c p q) (class (stored p) c) ≡ get b (class (stored p) c) + 1
   unfolding stow
   stow-counts b p hb =
       let b₁ = put b (page next q) (get b (class (top p) c)) in
-      get-put-same n (put b₁ (class (top p) c) (q + 1)) (class (tally p) c) _ (rw (length-put b₁ (class (top p) c) (q + 1), length-put b (page next q) (get b (class (top p) c))) hb) hc refl
+      get-put-same n (put b₁ (class (top p) c) (q + 1)) (class (stored p) c) _ (rw (length-put b₁ (class (top p) c) (q + 1), length-put b (page next q) (get b (class (top p) c))) hb) hc refl
 
   module _ (sh : Shape) (s : Sound sh) (h : ℕ) where
-    as-adds : (b : List ℕ) → leb (words n) (length b) ≡ true → (spot : ℕ) → spot ≤ 2
+    as-adds : (b : List ℕ) → leb (words n) (length b) ≡ true → (spot : Spot)
         → Adds c q (get b (class emptyCount c)) (get b (class coldCount c)) true spot (markRetired (parkAs b c sh h q spot))
-    as-adds b hb zero l = record {
+    as-adds b hb ToEmpty = record {
       empty = stow-counts b Empty hb;
       cold = changes-stow notColds b c q hc Empty refl refl refl .kept (class coldCount c) hc refl ∙ omega arith;
       gives = refl;
     }
-    as-adds b hb (suc zero) l =
+    as-adds b hb ToCold =
         let d = carveAnew b sh q (coldVirgin sh h) in
         let z = carve-changes b c sh h q (coldVirgin sh h) s in
         record {
@@ -87,8 +79,7 @@ module _ (n c q : ℕ) (hc : ltb c 76 ≡ true) where
           cold = stow-counts d Cold (rw (z .long) hb) ∙ ap (λ x. x + 1) (z .kept (class coldCount c) hc refl);
           gives = cold-stays sh q;
         }
-    as-adds b hb (suc (suc zero)) l = record { empty = omega arith; cold = omega arith; gives = refl }
-    as-adds b hb (suc (suc (suc k))) l = absurd (omega arith)
+    as-adds b hb ToArena = record { empty = omega arith; cold = omega arith; gives = refl }
 
     pub place-adds : (b : List ℕ) → leb (words n) (length b) ≡ true
         → Adds c q (get b (class emptyCount c)) (get b (class coldCount c)) (eqb (get b (page carved q)) (get b (page free q))) (spotAt b c sh) (placeAt b c sh h q)
@@ -104,11 +95,11 @@ module _ (n c q : ℕ) (hc : ltb c 76 ≡ true) where
         d₁ : List ℕ
         d₁ = put (put d₀ (page carved q) 0) (page free q) 0
 
-        same : (k : Park) → get d₁ (class (tally k) c) ≡ get b (class (tally k) c)
+        same : (k : Park) → get d₁ (class (stored k) c) ≡ get b (class (stored k) c)
         same k =
-            get-put-other (put d₀ (page carved q) 0) (page free q) (class (tally k) c) 0 refl hc refl
-            ∙ get-put-other d₀ (page carved q) (class (tally k) c) 0 refl hc refl
-            ∙ get-put-other b (page virgin q) (class (tally k) c) 0 refl hc refl
+            get-put-other (put d₀ (page carved q) 0) (page free q) (class (stored k) c) 0 refl hc refl
+            ∙ get-put-other d₀ (page carved q) (class (stored k) c) 0 refl hc refl
+            ∙ get-put-other b (page virgin q) (class (stored k) c) 0 refl hc refl
 
         by : (t : Bool) → Adds c q (get b (class emptyCount c)) (get b (class coldCount c)) t (spotAt b c sh) (cond t (markRetired (parkAs (unlisted d₁ c q) c sh h q (spotAt d₁ c sh))) (released (relisted d₀ c q) 0))
         by true =
@@ -119,7 +110,7 @@ module _ (n c q : ℕ) (hc : ltb c 76 ≡ true) where
             let l : length (unlisted d₁ c q) ≡ length b
             = z .long ∙ length-put (put d₀ (page carved q) 0) (page free q) 0 ∙ length-put d₀ (page carved q) 0 ∙ length-put b (page virgin q) 0 in
             let x : spotAt d₁ c sh ≡ spotAt b c sh = rw (same Empty, same Cold) in
-            rw x (rw (e, k) at (as-adds u (rw l hb) (spotAt b c sh) (spot-le sh _ _)))
+            rw x (rw (e, k) at (as-adds u (rw l hb) (spotAt b c sh)))
         by false =
             let z = relisted-changes d₀ c q (ltb-true c 76 hc) in
             record {
@@ -155,11 +146,11 @@ module _ (c : ℕ) (hc : ltb c 76 ≡ true) (sh : Shape) (s : Sound sh) (h : ℕ
   gives-count n b₀ (g ∷ gs) u b hb i =
       let q = pageOf g in
       let qs = map pageOf gs in
-      let new = not-true (elem q qs) (and-l (not (elem q qs)) (distinct qs) u) in
+      let new = not-true (elem q qs) (and-left (not (elem q qs)) (distinct qs) u) in
       let r = placeAt b c sh h q in
       let z = place-changes c q hc sh (s .few) h b in
       let a = place-adds n c q hc sh s h b hb in
-      let ih = gives-count n b₀ gs (and-r (not (elem q qs)) (distinct qs) u) (r .book) (rw (z .long) hb) (idle-kept b₀ q b (r .book) z gs new (i .1)) in
+      let ih = gives-count n b₀ gs (and-right (not (elem q qs)) (distinct qs) u) (r .book) (rw (z .long) hb) (idle-kept b₀ q b (r .book) z gs new (i .1)) in
       let l = length-append (givesOf q (r .fate)) (placeAll (r .book) c sh h gs .gives) in
       by-cases (returnsAll b₀ g)
       (λ t. let a₁ = rw (i .0 ∙ t) at a in rw t (l ∙ rw (a₁ .gives, ih, a₁ .empty, a₁ .cold)))

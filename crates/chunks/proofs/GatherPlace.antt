@@ -3,7 +3,6 @@
 --     past-put ..    a write goes past a step that leaves its field aside
 --     place-past     it goes past a whole placing, which has the same fate
 --     place-changes  what placing may change
--- Assumes nothing.
 use Prim.Native.Nat.{ℕ, zero, suc, _+_, _≤_}
 use native.Mathlib.Omega.{arith}
 use mathlib.Core.Bool.{Bool, true, false, cond, not, _&&_, _||_}
@@ -12,24 +11,25 @@ use mathlib.Core.Path.{_≡_, refl}
 use lib.Dec.{eqb, ltb, leb}
 use lib.ListN.{length}
 use borrow.Author.Tests.{lt-ltb, eq-eqb}
+use Rattle.facts.specs.Lists.{every}
+use Rattle.facts.proofs.Bools.{and-left, and-right}
 use Rattle.classes.specs.declared.Shape.{Shape}
 use Rattle.fields.specs.Field.{Field, PageField, class, page, slot, out, region, off, row, partial, emptyCount, coldCount, next, prev, free, carved, listed, virgin, get, put, ok}
 use Rattle.fields.specs.Outcome.{putAt}
 use Rattle.fields.proofs.Laws.{get-put-other, put-comm}
 use Rattle.fields.proofs.Changes.{Changes, changes-none, changes-put, changes-trans, differ}
-use Rattle.model.specs.Lists.{every}
-use Rattle.model.proofs.Counts.{and-l, and-r}
 use Rattle.pages.specs.declared.Park.{Park}
 use Rattle.pages.specs.declared.Park.the-variants.{Empty, Cold}
-use Rattle.pages.specs.Runs.{flag}
+use Rattle.words.specs.Host.{digit}
 use Rattle.pages.specs.Stack.{downs, marks, push}
-use Rattle.pages.specs.Links.{pointNext, linked, cutOut, link, unlink, top, tally, stow}
+use Rattle.pages.specs.Links.{pointNext, linked, cutOut, link, unlink, top, stored, stow}
 use Rattle.pages.specs.Carve.{stocked, carveAnew}
 use Rattle.pages.proofs.Downs.{small, length-downs}
 use Rattle.pages.proofs.Frames.{stocked-le}
 use Rattle.pages.proofs.Frames.{changes-link, changes-unlink, changes-stow, changes-carve}
-use Rattle.calls.specs.Release.{Released, released, unlisted, relisted, parkAs, spotAt, parkAt}
-use Rattle.calls.specs.Chunks.{emptied, markRetired}
+use Rattle.model.specs.declared.Spot.{Spot}
+use Rattle.model.specs.declared.Spot.the-variants.{ToEmpty, ToCold, ToArena}
+use Rattle.calls.specs.Release.{Released, released, unlisted, relisted, parkAs, parkedIn, spotAt, parkAt, emptied, markRetired}
 use Rattle.release.specs.Act.{coldVirgin}
 use Rattle.chunks.specs.Pass.{placeAt}
 
@@ -60,7 +60,7 @@ module _ (t : Field → Bool) (f : Field) (v : ℕ) (of : ok f ≡ true) (tf : t
   pub past-marks : (b d : List ℕ) (q u : ℕ) (is : List ℕ) → ((i : ℕ) → t (out q i) ≡ false) → every small is ≡ true → d ≡ put b f v → marks d q u is ≡ put (marks b q u is) f v
   past-marks b d q u [] ts l e = e
   past-marks b d q u (i ∷ is) ts l e =
-      past-put (marks b q u is) (marks d q u is) (out q i) u (and-l (small i) (every small is) l) (ts i) (past-marks b d q u is ts (and-r (small i) (every small is) l) e)
+      past-put (marks b q u is) (marks d q u is) (out q i) u (and-left (small i) (every small is) l) (ts i) (past-marks b d q u is ts (and-right (small i) (every small is) l) e)
 
 -- ---- past the placing of page q
 pub own : (q : ℕ) → not (eqb q q) ≡ false
@@ -121,8 +121,8 @@ module _ (c q : ℕ) (hc : ltb c 76 ≡ true) (f : Field) (v : ℕ) (of : ok f �
   stow-past : (b : List ℕ) (k : Park) → stow (put b f v) c k q ≡ put (stow b c k q) f v
   unfolding stow
   stow-past b k =
-      rw (idle b (class (top k) c) hc refl, idle b (class (tally k) c) hc refl)
-      (past _ _ (class (tally k) c) _ hc refl
+      rw (idle b (class (top k) c) hc refl, idle b (class (stored k) c) hc refl)
+      (past _ _ (class (stored k) c) _ hc refl
       (past _ _ (class (top k) c) _ hc refl
       (past b _ (page next q) _ refl refl refl)))
 
@@ -138,14 +138,14 @@ module _ (c q : ℕ) (hc : ltb c 76 ≡ true) (f : Field) (v : ℕ) (of : ok f �
         let l : 0 + length (downs 0 k) ≤ 4096 = omega (arith, length-downs 0 k, stocked-le sh k refl few) in
         past _ _ (page free q) k refl (own q)
         (past _ _ (page carved q) k refl (own q)
-        (past _ _ (page virgin q) (flag z) refl refl
+        (past _ _ (page virgin q) (digit z) refl refl
         (past-push (aside q) f v of tf b _ q 0 (downs 0 k) (λ i. own q) l refl)))
 
-    as-past : (b : List ℕ) (h s : ℕ) → parkAs (put b f v) c sh h q s ≡ onBook after (parkAs b c sh h q s)
+    as-past : (b : List ℕ) (h : ℕ) (s : Spot) → parkAs (put b f v) c sh h q s ≡ onBook after (parkAs b c sh h q s)
     unfolding after
-    as-past b h zero = rw (stow-past b Empty)
-    as-past b h (suc zero) = rw (carve-past b (coldVirgin sh h), stow-past (carveAnew b sh q (coldVirgin sh h)) Cold)
-    as-past b h (suc (suc s)) = refl
+    as-past b h ToEmpty = rw (stow-past b Empty)
+    as-past b h ToCold = rw (carve-past b (coldVirgin sh h), stow-past (carveAnew b sh q (coldVirgin sh h)) Cold)
+    as-past b h ToArena = refl
 
     park-past : (b : List ℕ) (h : ℕ) → parkAt (put b f v) c sh h q ≡ onBook after (parkAt b c sh h q)
     unfolding parkAt
@@ -188,13 +188,13 @@ module _ (c q : ℕ) (hc : ltb c 76 ≡ true) where
       by false = changes-none (stirs q) b
 
   module _ (sh : Shape) (few : sh .capacity ≤ 4096) (h : ℕ) where
-    as-stirs : (b : List ℕ) (s : ℕ) → Changes (stirs q) b (parkAs b c sh h q s .book)
-    as-stirs b zero = changes-stow (stirs q) b c q hc Empty refl refl refl
-    as-stirs b (suc zero) =
+    as-stirs : (b : List ℕ) (s : Spot) → Changes (stirs q) b (parkedIn b c sh h q s)
+    as-stirs b ToEmpty = changes-stow (stirs q) b c q hc Empty refl refl refl
+    as-stirs b ToCold =
         let d = carveAnew b sh q (coldVirgin sh h) in
         changes-trans (stirs q) b d _ (changes-carve (stirs q) b q (stirs-own q) refl (λ i. stirs-own q) sh (coldVirgin sh h) (stirs-own q) few)
         (changes-stow (stirs q) d c q hc Cold refl refl refl)
-    as-stirs b (suc (suc s)) = changes-none (stirs q) b
+    as-stirs b ToArena = changes-none (stirs q) b
 
     park-stirs : (b : List ℕ) → Changes (stirs q) b (parkAt b c sh h q .book)
     unfolding parkAt

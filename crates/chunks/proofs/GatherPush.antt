@@ -4,7 +4,6 @@
 --     laidAll       to several pages; h has their stacks' heights, f each one's blocks
 --     blocksOf      a page's blocks of the list
 --     pushes        the words' blocks, one by one, are the pages' blocks, page by page
--- Assumes nothing.
 use Prim.Native.Nat.{ℕ, suc, _+_, _≤_}
 use native.Mathlib.Omega.{arith}
 use mathlib.Core.Bool.{Bool, true, false, not, _&&_, true≢false, false≢true}
@@ -13,18 +12,16 @@ use mathlib.Core.Path.{_≡_, refl, sym, ap, _∙_}
 use lib.Dec.{eqb, ltb, leb}
 use lib.ListN.{length}
 use borrow.Author.Tests.{lt-ltb, eq-eqb, eqb-true, not-true}
+use Rattle.facts.specs.Lists.{filter, every, All, elem, distinct}
+use Rattle.facts.proofs.Bools.{by-cases, and-left, and-right}
 use Rattle.classes.specs.declared.Shape.{Shape}
 use Rattle.fields.specs.Field.{Field, page, slot, out, region, row, free, get, put, ok, same, words}
 use Rattle.fields.proofs.Laws.{get-put-same, get-put-other, put-comm, put-put-same, put-get, length-put}
 use Rattle.fields.proofs.Changes.{Changes, changes-put, changes-trans, same-eq}
-use Rattle.model.specs.Lists.{All, every, elem, filter, distinct}
-use Rattle.model.proofs.Counts.{by-cases, and-l, and-r}
-use Rattle.pages.specs.Stack.{marks, push, indexOf}
+use Rattle.pages.specs.Stack.{marks, push, indexOf, pageAt}
 use Rattle.pages.proofs.Downs.{small}
-use Rattle.pages.proofs.Marks.{length-marks, marks-changes}
+use Rattle.pages.proofs.Marks.{isMark, length-marks, marks-changes}
 use Rattle.pages.proofs.Pushes.{length-push, push-changes}
-use Rattle.calls.specs.Release.{pageAt}
-use Rattle.release.proofs.Bits.{isBit}
 use Rattle.chunks.specs.Pass.{pushOne, pushAll}
 use Rattle.chunks.proofs.GatherPlace.{aside, stirs, stirs-own, own, past-put, past-push, past-marks}
 
@@ -59,7 +56,7 @@ bits-comm b p q i j v hi hj = by (same (out p i) (out q j)) refl
 marks-bit : (b : List ℕ) (p i q v : ℕ) (is : List ℕ) → small i ≡ true → every small is ≡ true → marks (put b (out p i) v) q v is ≡ put (marks b q v is) (out p i) v
 marks-bit b p i q v [] hi l = refl
 marks-bit b p i q v (j ∷ js) hi l =
-    rw (marks-bit b p i q v js hi (and-r (small j) (every small js) l)) (bits-comm (marks b q v js) p q i j v hi (and-l (small j) (every small js) l))
+    rw (marks-bit b p i q v js hi (and-right (small j) (every small js) l)) (bits-comm (marks b q v js) p q i j v hi (and-left (small j) (every small js) l))
 
 module _ (q m : ℕ) (is : List ℕ) (room : m + length is ≤ 4096) (low : every small is ≡ true) where
   pub laid-past : (f : Field) (v : ℕ) → ok f ≡ true → aside q f ≡ true → (b : List ℕ) → laid (put b f v) q m is ≡ put (laid b q m is) f v
@@ -72,8 +69,8 @@ module _ (q m : ℕ) (is : List ℕ) (room : m + length is ≤ 4096) (low : ever
   laid-bit : (p i : ℕ) → small i ≡ true → (b : List ℕ) → laid (put b (out p i) 0) q m is ≡ put (laid b q m is) (out p i) 0
   unfolding laid
   laid-bit p i hi b =
-      past-put isBit (out p i) 0 hi refl _ _ (page free q) (m + length is) refl refl
-      (past-push isBit (out p i) 0 hi refl _ _ q m is (λ j. refl) room (marks-bit b p i q 0 is hi low))
+      past-put isMark (out p i) 0 hi refl _ _ (page free q) (m + length is) refl refl
+      (past-push isMark (out p i) 0 hi refl _ _ q m is (λ j. refl) room (marks-bit b p i q 0 is hi low))
 
   pub laid-changes : (b : List ℕ) → Changes (stirs q) b (laid b q m is)
   unfolding laid
@@ -104,7 +101,7 @@ module _ (n : ℕ) (b : List ℕ) (hb : leb (words n) (length b) ≡ true) (q m 
       let hy : leb (words n) (length y) ≡ true
       = rw (length-put (put x (out q i) 0) (slot q k) i, length-put x (out q i) 0, length-push (marks b q 0 is) q m is, length-marks b q 0 is) hb in
       let e : push (put (marks b q 0 is) (out q i) 0) q m is ≡ put x (out q i) 0
-      = past-push isBit (out q i) 0 hi refl (marks b q 0 is) _ q m is (λ j. refl) (omega arith) refl in
+      = past-push isMark (out q i) 0 hi refl (marks b q 0 is) _ q m is (λ j. refl) (omega arith) refl in
       let l : put (put (put x (page free q) k) (out q i) 0) (slot q k) i ≡ put y (page free q) k
       = past-put ofPage (page free q) k refl refl (put x (out q i) 0) _ (slot q k) i hk refl (past-put ofPage (page free q) k refl refl x _ (out q i) 0 hi refl refl) in
       let z : m + suc (length is) ≡ k + 1 = omega arith in
@@ -152,9 +149,9 @@ module _ (h : ℕ → ℕ) (f : ℕ → List ℕ) where
     free-at (p ∷ qs) e u a b hb =
         by-cases (eqb q p)
         (λ d. let z : p ≡ q = sym (eqb-true q p d) in
-        let y : elem q qs ≡ false = rw z at (not-true (elem p qs) (and-l (not (elem p qs)) (distinct qs) u)) in
+        let y : elem q qs ≡ false = rw z at (not-true (elem p qs) (and-left (not (elem p qs)) (distinct qs) u)) in
         rw z (free-kept q qs y (a .1) (laid b q (h q) (f q)) ∙ free-laid b hb))
-        (λ d. free-at qs (rw d at e) (and-r (not (elem p qs)) (distinct qs) u) (a .1) (laid b p (h p) (f p)) (rw (length-laid b p (h p) (f p)) hb))
+        (λ d. free-at qs (rw d at e) (and-right (not (elem p qs)) (distinct qs) u) (a .1) (laid b p (h p) (f p)) (rw (length-laid b p (h p) (f p)) hb))
 
 -- one block more, of a page that is among them
 module _ (n : ℕ) (h : ℕ → ℕ) (f g : ℕ → List ℕ) (q i : ℕ) (hq : ltb q n ≡ true) (hi : small i ≡ true) (more : g q ≡ i ∷ f q) (others : (p : ℕ) → eqb q p ≡ false → g p ≡ f p) where
@@ -186,10 +183,10 @@ module _ (n : ℕ) (h : ℕ → ℕ) (f g : ℕ → List ℕ) (q i : ℕ) (hq : 
   lays-more (p ∷ qs) e u a b hb =
       by-cases (eqb q p)
       (λ d. let z : p ≡ q = sym (eqb-true q p d) in
-      let y : elem q qs ≡ false = rw z at (not-true (elem p qs) (and-l (not (elem p qs)) (distinct qs) u)) in
+      let y : elem q qs ≡ false = rw z at (not-true (elem p qs) (and-left (not (elem p qs)) (distinct qs) u)) in
       let a₀ : Fits h g q = rw z at (a .0) in
       rw z (lays-first qs y (a .1) a₀ b hb))
-      (λ d. rw (others p d) (lays-more qs (rw d at e) (and-r (not (elem p qs)) (distinct qs) u) (a .1) (laid b p (h p) (f p)) (rw (length-laid b p (h p) (f p)) hb)))
+      (λ d. rw (others p d) (lays-more qs (rw d at e) (and-right (not (elem p qs)) (distinct qs) u) (a .1) (laid b p (h p) (f p)) (rw (length-laid b p (h p) (f p)) hb)))
 
 -- ---- the list's words
 -- a page with chunk, in a book of n pages, whose block has an out bit
@@ -213,7 +210,7 @@ module _ (sh : Shape) where
       let i = indexOf sh (pageAt w) w in
       let r : h q + suc (length (blocksOf sh ws q)) ≤ 4096 = rw z at (a .room) in
       let l : (small i && every small (blocksOf sh ws q)) ≡ true = rw z at (a .low) in
-      record { room = omega arith; low = and-r (small i) (every small (blocksOf sh ws q)) l })
+      record { room = omega arith; low = and-right (small i) (every small (blocksOf sh ws q)) l })
       (λ e.
       let z = blocks-else w ws q e in
       record { room = rw z at (a .room); low = rw z at (a .low) })
@@ -238,16 +235,16 @@ module _ (sh : Shape) where
     pushes (w ∷ ws) o a b hb k =
         let q = pageAt w in
         let i = indexOf sh (pageAt w) w in
-        let hw = and-l (onPages n sh qs w) (every (onPages n sh qs) ws) o in
-        let hq : ltb (pageAt w) n ≡ true = and-l (ltb (pageAt w) n) (small i && elem q qs) hw in
-        let hr = and-r (ltb (pageAt w) n) (small i && elem q qs) hw in
-        let hi : small (indexOf sh (pageAt w) w) ≡ true = and-l (small i) (elem q qs) hr in
-        let he : elem (pageAt w) qs ≡ true = and-r (small i) (elem q qs) hr in
+        let hw = and-left (onPages n sh qs w) (every (onPages n sh qs) ws) o in
+        let hq : ltb (pageAt w) n ≡ true = and-left (ltb (pageAt w) n) (small i && elem q qs) hw in
+        let hr = and-right (ltb (pageAt w) n) (small i && elem q qs) hw in
+        let hi : small (indexOf sh (pageAt w) w) ≡ true = and-left (small i) (elem q qs) hr in
+        let he : elem (pageAt w) qs ≡ true = and-right (small i) (elem q qs) hr in
         let d = put b (out q i) 0 in
         let r = laidAll b h (blocksOf sh ws) qs in
         let a′ = all-less h w ws qs a in
         let ih : pushAll (cleared d sh ws) sh ws ≡ laidAll d h (blocksOf sh ws) qs =
-        pushes ws (and-r (onPages n sh qs w) (every (onPages n sh qs) ws) o) a′ d (rw (length-put b (out q i) 0) hb) (λ p. get-put-other b (out q i) (page free p) 0 hi refl refl ∙ k p) in
+        pushes ws (and-right (onPages n sh qs w) (every (onPages n sh qs) ws) o) a′ d (rw (length-put b (out q i) 0) hb) (λ p. get-put-other b (out q i) (page free p) 0 hi refl refl ∙ k p) in
         let e : laidAll d h (blocksOf sh ws) qs ≡ put r (out q i) 0 = lays-bit h (blocksOf sh ws) q i hi qs a′ b in
         let t : get (put r (out q i) 0) (page free q) ≡ h q + length (blocksOf sh ws q)
         = get-put-other r (out q i) (page free q) 0 hi refl refl ∙ free-at h (blocksOf sh ws) n q hq qs he apart a′ b hb in

@@ -2,10 +2,11 @@
 --     given-length     the book's length stays
 --     given-fair       a give of m pages leaves a book that is fair for the rest
 --     gives-append     runs of two lists
--- Assumes nothing.
 use Prim.Native.Nat.{ℕ, suc, _+_, _-_, _*_, _≤_, _<_}
 use native.Mathlib.Omega.{arith}
 use native.Mathlib.Numerals.{add-one}
+use mir.Val.{Fits}
+use mir.Syntax.{w32}
 use mathlib.Core.Bool.{true, false}
 use mathlib.Core.List.{List, [], _∷_, _++_}
 use mathlib.Core.Path.{_≡_, refl, sym, ap, _∙_}
@@ -13,25 +14,25 @@ use lib.Dec.{eqb, ltb, leb}
 use lib.ListN.{length, getD, drop}
 use lib.Seq.{drop-cons}
 use borrow.Author.Tests.{ltb-true, le-leb, leb-true, eq-eqb, ne-eqb}
+use Rattle.facts.proofs.Lists.{drop-past}
+use Rattle.facts.proofs.Bools.{by-cases, and-left, and-right}
 use Rattle.words.specs.Word.{pageOf}
 use Rattle.classes.specs.declared.Shape.{Shape}
 use Rattle.fields.specs.Field.{ArenaField, arena, state, frontier, holes, holePages, held, words, get, put, same}
 use Rattle.fields.proofs.Laws.{get-put-same, get-put-other, length-put}
 use Rattle.fields.proofs.Changes.{Changes, changes-none}
 use Rattle.model.specs.HoleStore as Model
-use Rattle.model.proofs.Counts.{by-cases, and-l, and-r}
-use Rattle.arena.specs.declared.Arena.{Arena}
-use Rattle.arena.specs.Record.{recordOf, storeRecord}
+use Rattle.holes.specs.declared.Arena.{Arena}
+use Rattle.holes.specs.Record.{recordOf, storeRecord}
 use Rattle.arena.specs.Store.{storeTop, storeCounts}
 use Rattle.arena.specs.Fair.{recordFair, giveFair}
 use Rattle.arena.specs.Owners.{own}
 use Rattle.arena.specs.Calls.{given}
-use Rattle.arena.specs.Act.{accepting, appendWords, giveWords, giveRecord, givenWith, giveActs}
-use Rattle.arena.proofs.StoreLaws.{hole-length, remember-length}
+use Rattle.holes.specs.Act.{accepting, appendWords, giveWords, giveRecord, givenWith, giveActs}
+use Rattle.holes.proofs.StoreLaws.{hole-length, remember-length}
 use Rattle.arena.proofs.Frames.{isStored, isOwner, record-changes, own-changes}
-use Rattle.arena.proofs.Acts.{FairRecord, fair-record, give-acts}
+use Rattle.holes.proofs.Acts.{FairRecord, fair-record, give-acts}
 use Rattle.runs.specs.Asks.{GiveIn}
-use Rattle.release.proofs.Ways.{drop-past}
 use Rattle.calls.specs.Chunks.{givesOf, giveRuns}
 use Rattle.chunks.specs.Pass.{givesIn}
 use Rattle.chunks.specs.GiveAsks.{givesFair, GiveChunkAsks, GiveChunksAsks}
@@ -77,14 +78,14 @@ give-count : (a : Arena) (m : ℕ) → a .count ≤ 4096 → giveRecord a m .cou
 unfolding giveRecord
 give-count a m l =
     by-cases (accepting m a)
-    (λ e. rw e (omega (arith, ltb-true (a .count) 4096 (and-l _ _ e))))
+    (λ e. rw e (omega (arith, ltb-true (a .count) 4096 (and-left _ _ e))))
     (λ e. rw e l)
 
 give-total : (a : Arena) (m : ℕ) → a .total ≤ 65536 → giveRecord a m .total ≤ 65536
 unfolding giveRecord
 give-total a m l =
     by-cases (accepting m a)
-    (λ e. rw e (leb-true (a .total + m) 65536 (and-r (ltb (a .count) 4096) _ e)))
+    (λ e. rw e (leb-true (a .total + m) 65536 (and-right (ltb (a .count) 4096) _ e)))
     (λ e. rw e l)
 
 -- ---- the test
@@ -97,11 +98,11 @@ module _ (n : ℕ) (b : List ℕ) where
   module _ (x : ℕ) where
     pub fair-told : giveFair n b x ≡ true → recordFair n b ≡ true
     unfolding giveFair
-    fair-told e = and-l _ _ e
+    fair-told e = and-left _ _ e
 
     pub held-told : giveFair n b x ≡ true → x ≤ get b (arena held)
     unfolding giveFair
-    held-told e = leb-true x (get b (arena held)) (and-r (recordFair n b) _ e)
+    held-told e = leb-true x (get b (arena held)) (and-right (recordFair n b) _ e)
 
     pub fair-less : recordFair n b ≡ true → x ≤ get b (arena held) → giveFair n b x ≡ true
     unfolding giveFair
@@ -189,7 +190,7 @@ module _ (n : ℕ) (b : List ℕ) (sh : Shape) (g f : ℕ) (gs fs : List ℕ) (a
   chunk-asks = record {
     few = a .few;
     long = a .long;
-    inside = rw (a .single) (omega (arith, ltb-true (pageOf g) n (and-l _ _ (a .below))));
+    inside = rw (a .single) (omega (arith, ltb-true (pageOf g) n (and-left _ _ (a .below))));
     fair = by-cases (eqb f 6) (λ e. rw e (fair-less n b (sh .pages) (first-fair e) (rw (a .single) (omega (arith, enough e))))) (λ e. rw e);
   }
 
@@ -208,12 +209,16 @@ module _ (n : ℕ) (b : List ℕ) (sh : Shape) (g f : ℕ) (gs fs : List ℕ) (a
     few = a .few;
     long = rw left-length (a .long);
     single = a .single;
-    below = and-r (ltb (pageOf g) n) _ (a .below);
+    below = and-right (ltb (pageOf g) n) _ (a .below);
     fates = omega (arith, a .fates);
     fair = left-fair;
   }
 
 -- ---- one chunk
+-- the fate of a retired run for the arena
+pub fate-fits : Fits w32 (4 + 2)
+fate-fits = record { fits = omega arith }
+
 module _ (n : ℕ) (b : List ℕ) (m g f : ℕ) where
   pub give-none : (f ≡ 6 → ⊥) → b ≡ giveRuns b m (givesOf (pageOf g) f)
   give-none h = rw (ne-eqb f 6 h)

@@ -4,9 +4,9 @@ pub mod Gather
 pub mod GatherGives
 pub mod PushLaws
 pub mod GiveLaws
-pub mod FairWays
+pub mod FairSteps
 pub mod PlaceKept
 pub mod PlaceSteps
 pub mod CallTests
 pub mod CallPasses
-pub mod CallWays
+pub mod CallSteps

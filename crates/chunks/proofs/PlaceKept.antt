@@ -1,5 +1,5 @@
 -- Placing a chunk's page leaves the words that placing another reads in their ranges: each code written is the page's own, 0, or one that
--- passed its test, and a store's count grows only below its limit. Assumes nothing.
+-- passed its test, and a store's count grows only below its limit.
 --     Row, Ties       what `rowFair` and `linksFair` test, as bounds
 --     Steady b c b′   b′ has the length and FRONTIER of b, the class's row is in range, and so are a page's links wherever they were in b
 --     put-code ..     one write keeps a steady book so
@@ -17,23 +17,28 @@ use lib.Dec.{eqb, ltb, leb}
 use lib.ListN.{length, getD, set}
 use lib.Seq.{getD-set-same, getD-set-other, set-out}
 use borrow.Author.Tests.{leb-true, ltb-true, eqb-true, eqb-false, le-leb, lt-ltb, eq-eqb, ne-eqb}
+use Rattle.facts.proofs.Bools.{and-left, and-right}
 use Rattle.classes.specs.declared.Shape.{Shape}
 use Rattle.classes.specs.Sound.{Sound}
 use Rattle.fields.specs.Field.{Field, PageField, arena, class, page, word, part, whole, region, off, frontier, partial, next, prev, free, carved, listed, virgin, words, get, put, ok}
 use Rattle.fields.specs.Outcome.{putAt}
 use Rattle.fields.specs.Ranges.{maxParked}
-use Rattle.fields.proofs.Laws.{and-left, and-right, get-put-same, get-put-other, length-put}
+use Rattle.fields.proofs.Laws.{get-put-same, get-put-other, length-put}
 use Rattle.fields.proofs.Changes.{differ, Changes, changes-none, changes-put}
 use Rattle.pages.specs.declared.Park.{Park}
 use Rattle.pages.specs.declared.Park.the-variants.{Empty, Cold}
-use Rattle.pages.specs.Links.{pointNext, linked, cutOut, link, unlink, top, tally, stow}
+use Rattle.pages.specs.Links.{pointNext, linked, cutOut, link, unlink, top, stored, stow}
 use Rattle.pages.specs.Carve.{carveAnew}
 use Rattle.pages.proofs.Frames.{changes-carve}
-use Rattle.calls.specs.Release.{rowFair, unlisted, relisted, released, keepsEmpty, spotOf, spotAt, parkAs, parkAt}
-use Rattle.calls.specs.Chunks.{emptied, markRetired}
-use Rattle.release.specs.Fair.{linksFair}
+use Rattle.model.specs.declared.Spot.{Spot}
+use Rattle.model.specs.declared.Spot.the-variants.{ToEmpty, ToCold, ToArena}
+use Rattle.model.specs.Spot.{isEmpty, isCold}
+use Rattle.calls.specs.Release.{rowFair, unlisted, relisted, released, spotAt, parkedIn, parkAt, emptied, markRetired}
+use Rattle.pages.specs.Fair.{linksFair, storeFair}
 use Rattle.release.specs.Act.{coldVirgin, ParkingAsks}
-use Rattle.release.proofs.Parking.{unlisted-changes}
+use Rattle.release.proofs.FairSteps.{count-low}
+use Rattle.release.proofs.Spots.{empty-room, cold-room}
+use Rattle.release.proofs.ParkSteps.{unlisted-changes}
 use Rattle.chunks.specs.Pass.{placeAt}
 use Rattle.chunks.specs.PlaceAsks.{Limits}
 
@@ -41,7 +46,7 @@ use Rattle.chunks.specs.PlaceAsks.{Limits}
 pub record Row (b : List ℕ) (c : ℕ) : Type 0 where
   pub head : get b (class partial c) ≤ get b (arena frontier)
   pub tops : (k : Park) → get b (class (top k) c) ≤ get b (arena frontier)
-  pub counts : (k : Park) → get b (class (tally k) c) ≤ maxParked
+  pub counts : (k : Park) → get b (class (stored k) c) ≤ maxParked
 
 abbrev pub Ties : List ℕ → ℕ → Type 0
 Ties b x = get b (page listed x) ≡ 1 → (get b (page next x) ≤ get b (arena frontier)) × (get b (page prev x) ≤ get b (arena frontier))
@@ -58,12 +63,12 @@ module _ (b : List ℕ) (c : ℕ) where
   row-out e =
       let f = get b (arena frontier) in
       let e₁ = and-right (leb (get b (class partial c)) f) _ e in
-      let e₂ = and-right (leb (get b (class (top Empty) c)) f) _ e₁ in
-      let e₃ = and-right (leb (get b (class (tally Empty) c)) maxParked) _ e₂ in
+      let e₂ = and-left (storeFair b c Empty) _ e₁ in
+      let e₃ = and-right (storeFair b c Empty) _ e₁ in
       record {
         head = leb-true _ f (and-left _ _ e);
-        tops = λ k. elim k [ Empty ↦ leb-true _ f (and-left _ _ e₁) | Cold ↦ leb-true _ f (and-left _ _ e₃) ];
-        counts = λ k. elim k [ Empty ↦ leb-true _ maxParked (and-left _ _ e₂) | Cold ↦ leb-true _ maxParked (and-right (leb (get b (class (top Cold) c)) f) _ e₃) ];
+        tops = λ k. elim k [ Empty ↦ leb-true _ f (and-left _ _ e₂) | Cold ↦ leb-true _ f (and-left _ _ e₃) ];
+        counts = λ k. count-low b c k e;
       }
 
 module _ (b : List ℕ) (x : ℕ) where
@@ -138,7 +143,7 @@ isListed f = eqb (region f) 4 && eqb (off f) 6
 abbrev isBody : Field → Bool
 isBody f = leb 5 (region f) || (eqb (region f) 4 && (eqb (off f) 4 || (eqb (off f) 5 || eqb (off f) 7)))
 
-no-code : (k : Park) (c : ℕ) → isCode (class (tally k) c) ≡ false
+no-code : (k : Park) (c : ℕ) → isCode (class (stored k) c) ≡ false
 no-code Empty c = refl
 no-code Cold c = refl
 
@@ -150,7 +155,7 @@ code-top : (k : Park) (c : ℕ) → isCode (class (top k) c) ≡ true
 code-top Empty c = refl
 code-top Cold c = refl
 
-count-tally : (k : Park) (c : ℕ) → isCount (class (tally k) c) ≡ true
+count-tally : (k : Park) (c : ℕ) → isCount (class (stored k) c) ≡ true
 count-tally Empty c = refl
 count-tally Cold c = refl
 
@@ -170,7 +175,7 @@ module _ (b : List ℕ) (c : ℕ) (hc : ltb c 76 ≡ true) where
           row = record {
             head = rw (e, kept (class partial c) hc refl) (s .row .head);
             tops = λ j. rw (e, kept (class (top j) c) hc refl) (s .row .tops j);
-            counts = λ j. rw (kept (class (tally j) c) hc refl) (s .row .counts j);
+            counts = λ j. rw (kept (class (stored j) c) hc refl) (s .row .counts j);
           };
           links = λ x h d.
               let z = s .links x h (sym (kept (page listed x) refl refl) ∙ d) in
@@ -196,16 +201,16 @@ module _ (b : List ℕ) (c : ℕ) (hc : ltb c 76 ≡ true) where
           row = record {
             head = below (class partial c) refl (s .row .head);
             tops = λ j. below (class (top j) c) refl (s .row .tops j);
-            counts = λ j. rw (kept (class (tally j) c) hc (no-code j c)) (s .row .counts j);
+            counts = λ j. rw (kept (class (stored j) c) hc (no-code j c)) (s .row .counts j);
           };
           links = λ x h d.
               let z = s .links x h (sym (kept (page listed x) refl refl) ∙ d) in
               (below (page next x) refl (z .0), below (page prev x) refl (z .1));
         }
 
-    put-count : (k : Park) (v : ℕ) → v ≤ maxParked → Steady b c (put b′ (class (tally k) c) v)
+    put-count : (k : Park) (v : ℕ) → v ≤ maxParked → Steady b c (put b′ (class (stored k) c) v)
     put-count k v l =
-        let f = class (tally k) c in
+        let f = class (stored k) c in
         let kept : (g : Field) → ok g ≡ true → isCount g ≡ false → get (put b′ f v) g ≡ get b′ g = λ g o d. get-put-other b′ f g v hc o (differ isCount f g (count-tally k c) d) in
         let e = kept (arena frontier) refl refl in
         record {
@@ -214,7 +219,7 @@ module _ (b : List ℕ) (c : ℕ) (hc : ltb c 76 ≡ true) where
           row = record {
             head = rw (e, kept (class partial c) hc refl) (s .row .head);
             tops = λ j. rw (e, kept (class (top j) c) hc (no-count j c)) (s .row .tops j);
-            counts = λ j. low-put b′ f (class (tally j) c) v maxParked refl refl l (s .row .counts j);
+            counts = λ j. low-put b′ f (class (stored j) c) v maxParked refl refl l (s .row .counts j);
           };
           links = λ x h d.
               let z = s .links x h (sym (kept (page listed x) refl refl) ∙ d) in
@@ -233,7 +238,7 @@ module _ (b : List ℕ) (c : ℕ) (hc : ltb c 76 ≡ true) where
           row = record {
             head = rw (e, kept (class partial c) hc refl) (s .row .head);
             tops = λ j. rw (e, kept (class (top j) c) hc refl) (s .row .tops j);
-            counts = λ j. rw (kept (class (tally j) c) hc refl) (s .row .counts j);
+            counts = λ j. rw (kept (class (stored j) c) hc refl) (s .row .counts j);
           };
           links = λ x h d. rw (e, kept (page next x) refl refl, kept (page prev x) refl refl) (by x h (listed-put b′ q x v d));
         }
@@ -310,52 +315,33 @@ module _ (b : List ℕ) (c : ℕ) (hc : ltb c 76 ≡ true) (q : ℕ) (hq : q < g
           unlink-steady (rw (s .low) at (z .0)) (rw (s .low) at (z .1))
       by false e = s
 
-  stow-steady : (k : Park) → get b′ (class (tally k) c) < maxParked → Steady b c (stow b′ c k q)
+  stow-steady : (k : Park) → get b′ (class (stored k) c) < maxParked → Steady b c (stow b′ c k q)
   unfolding stow
   stow-steady k l =
       let h = get b′ (class (top k) c) in
       let lh : h ≤ get b (arena frontier) = rw (s .low) at (s .row .tops k) in
       let s₁ = put-code b c hc b′ s (page next q) h refl refl refl lh in
       let s₂ = put-code b c hc _ s₁ (class (top k) c) (q + 1) hc refl (code-top k c) (omega arith) in
-      put-count b c hc _ s₂ k (get b′ (class (tally k) c) + 1) (omega arith)
+      put-count b c hc _ s₂ k (get b′ (class (stored k) c) + 1) (omega arith)
 
 -- ---- a page with none out
-module _ (sh : Shape) (e k : ℕ) where
-  empty-room : spotOf sh e k ≡ 0 → e < sh .empties
-  unfolding spotOf
-  empty-room h = by (keepsEmpty sh e) refl (ltb k (sh .colds)) h
-    where
-      by : (t : Bool) → keepsEmpty sh e ≡ t → (u : Bool) → _≡_ {A = ℕ} (cond t 0 (cond u 1 2)) 0 → e < sh .empties
-      by true z u h = ltb-true e (sh .empties) (and-left _ _ z)
-      by false z true h = absurd (omega arith)
-      by false z false h = absurd (omega arith)
-
-  cold-room : spotOf sh e k ≡ 1 → k < sh .colds
-  unfolding spotOf
-  cold-room h = by (keepsEmpty sh e) (ltb k (sh .colds)) refl h
-    where
-      by : (t u : Bool) → ltb k (sh .colds) ≡ u → _≡_ {A = ℕ} (cond t 0 (cond u 1 2)) 1 → k < sh .colds
-      by true u z h = absurd (omega arith)
-      by false true z h = ltb-true k (sh .colds) z
-      by false false z h = absurd (omega arith)
-
 module _ (b : List ℕ) (c : ℕ) (hc : ltb c 76 ≡ true) (q : ℕ) (hq : q < get b (arena frontier)) (there : words (q + 1) ≤ length b) (sh : Shape) (so : Sound sh) (h : ℕ) where
-  as-steady : (b′ : List ℕ) → Steady b c b′ → (t : ℕ) → (t ≡ 0 → get b′ (class (tally Empty) c) < maxParked) → (t ≡ 1 → get b′ (class (tally Cold) c) < maxParked)
-      → Steady b c (parkAs b′ c sh h q t .book)
-  as-steady b′ s zero e k = stow-steady b c hc q hq there b′ s Empty (e refl)
-  as-steady b′ s (suc zero) e k =
+  as-steady : (b′ : List ℕ) → Steady b c b′ → (t : Spot) → (isEmpty t ≡ true → get b′ (class (stored Empty) c) < maxParked) → (isCold t ≡ true → get b′ (class (stored Cold) c) < maxParked)
+      → Steady b c (parkedIn b′ c sh h q t)
+  as-steady b′ s ToEmpty e k = stow-steady b c hc q hq there b′ s Empty (e refl)
+  as-steady b′ s ToCold e k =
       let d = carveAnew b′ sh q (coldVirgin sh h) in
       let m : Changes isBody b′ d = changes-carve isBody b′ q refl refl (λ i. refl) sh (coldVirgin sh h) refl (so .few) in
-      stow-steady b c hc q hq there d (still-steady b c hc b′ s d m) Cold (rw (m .kept (class (tally Cold) c) hc refl) (k refl))
-  as-steady b′ s (suc (suc t)) e k = s
+      stow-steady b c hc q hq there d (still-steady b c hc b′ s d m) Cold (rw (m .kept (class (stored Cold) c) hc refl) (k refl))
+  as-steady b′ s ToArena e k = s
 
   park-steady : Limits sh → Ties b q → (b′ : List ℕ) → Steady b c b′ → Steady b c (parkAt b′ c sh h q .book)
   unfolding parkAt
   park-steady l t b′ s =
       let m = unlisted-changes b′ c q (ltb-true c 76 hc) in
       as-steady (unlisted b′ c q) (unlisted-steady b c hc q hq there b′ s t) (spotAt b′ c sh)
-      (λ e. rw (m .kept (class (tally Empty) c) hc refl) (omega (arith, empty-room sh _ _ e, l .empties)))
-      (λ e. rw (m .kept (class (tally Cold) c) hc refl) (omega (arith, cold-room sh _ _ e, l .colds)))
+      (λ e. rw (m .kept (class (stored Empty) c) hc refl) (omega (arith, empty-room sh _ _ e, l .empties)))
+      (λ e. rw (m .kept (class (stored Cold) c) hc refl) (omega (arith, cold-room sh _ _ e, l .colds)))
 
   -- ---- a chunk's page
   pub placed-steady : Limits sh → Ties b q → (b′ : List ℕ) → Steady b c b′ → Steady b c (placeAt b′ c sh h q .book)

@@ -1,4 +1,4 @@
--- Placing one chunk's page, and the loop over the chunks. Assumes nothing.
+-- Placing one chunk's page, and the loop over the chunks.
 use Prim.Native.Nat.{ℕ, zero, suc, _+_, _-_, _≤_, _<_}
 use native.Mathlib.Omega.{arith}
 use native.Mathlib.Numerals.{add-one}
@@ -11,48 +11,35 @@ use lib.Dec.{ltb, leb}
 use lib.ListN.{length, getD, set, take, drop, length-set, take-append-drop}
 use lib.Seq.{drop-cons, drop-length, take-suc-set, drop-set-lt}
 use borrow.Author.Tests.{leb-true, lt-ltb, ltb-true, eq-eqb, ne-eqb}
+use Rattle.facts.specs.Lists.{every}
+use Rattle.facts.proofs.Bools.{and-left, and-right}
 use Rattle.words.specs.Word.{pageOf}
 use Rattle.classes.specs.declared.Shape.{Shape}
 use Rattle.classes.specs.Sizes.{smallSizes, mediumSizes}
 use Rattle.classes.specs.Shape.{smallShape, mediumShape, shapeOf}
 use Rattle.fields.specs.Field.{arena, page, frontier, free, carved, virgin, words, get, put}
-use Rattle.fields.proofs.Laws.{and-left, and-right}
-use Rattle.model.specs.Lists.{every}
-use Rattle.model.specs.Page.{isMedium}
-use Rattle.model.specs.Release.{coldFate}
+use Rattle.model.specs.Spot.{arenaFate}
 use Rattle.pages.specs.Asks.{LinkAsks}
-use Rattle.calls.specs.Release.{relisted, unlisted, spotAt, parkAs, parkAt}
-use Rattle.calls.specs.Chunks.{emptied}
-use Rattle.release.specs.Fair.{linksFair}
+use Rattle.calls.specs.Release.{relisted, spotAt, parkAt, emptied}
+use Rattle.pages.specs.Fair.{linksFair}
 use Rattle.release.specs.Act.{ParkingAsks, Parked}
+use Rattle.release.proofs.Spots.{fate-low}
 use Rattle.chunks.specs.Pass.{placeAt, placeAll}
 use Rattle.chunks.specs.PlaceAsks.{Limits, placeFair, PlaceAsks, Placed}
 use Rattle.chunks.proofs.PlaceKept.{Steady, row-out, ties-out, steady-none, virgin-steady, emptied-steady, placed-steady, asks-kept}
 
-pub retired : (b b₁ b₂ : List ℕ) (q : ℕ) → b₁ ≡ put b (page carved q) 0 → b₂ ≡ put b₁ (page free q) 0 → b₂ ≡ emptied b q
+pub retires : (b b₁ b₂ : List ℕ) (q : ℕ) → b₁ ≡ put b (page carved q) 0 → b₂ ≡ put b₁ (page free q) 0 → b₂ ≡ emptied b q
 unfolding emptied
-retired b b₁ b₂ q e k = k ∙ rw e
+retires b b₁ b₂ q e k = k ∙ rw e
 
 -- ---- one page
-cold-fate-low : (sh : Shape) → coldFate sh ≤ 2
-cold-fate-low sh = by (isMedium sh)
-  where
-    by : (t : Bool) → cond t 0 1 ≤ 2
-    by true = omega arith
-    by false = omega arith
-
-as-low : (b : List ℕ) (c : ℕ) (sh : Shape) (h q t : ℕ) → parkAs b c sh h q t .fate ≤ 2
-as-low b c sh h q zero = omega arith
-as-low b c sh h q (suc zero) = cold-fate-low sh
-as-low b c sh h q (suc (suc t)) = omega arith
-
 module _ (b : List ℕ) (c : ℕ) (sh : Shape) (h q : ℕ) where
-  fate-low : parkAt b c sh h q .fate ≤ 2
+  parked-low : parkAt b c sh h q .fate ≤ arenaFate
   unfolding parkAt
-  fate-low = as-low (unlisted b c q) c sh h q (spotAt b c sh)
+  parked-low = fate-low sh (spotAt b c sh)
 
   pub fate-fits : (m r : ℕ) (b′ : List ℕ) → leb m 4 ≡ true → Parked r b′ (parkAt b c sh h q) → Fits w32 (m + r)
-  fate-fits m r b′ l p = record { fits = omega (arith, leb-true m 4 l, p .fate, fate-low) }
+  fate-fits m r b′ l p = record { fits = omega (arith, leb-true m 4 l, p .fate, parked-low) }
 
 module _ (b : List ℕ) (c : ℕ) (sh : Shape) (h q : ℕ) (b₁ : List ℕ) (e : b₁ ≡ put b (page virgin q) 0) where
   virgin-asks : ParkingAsks b c sh q → ParkingAsks b₁ c sh q

@@ -1,7 +1,6 @@
 -- Blocks pushed one after another, the list's last first.
 --     push-length     the book's length stays
 --     push-free       FREE of a page grows by the words on it
--- Assumes nothing.
 use Prim.Native.Nat.{ℕ, zero, suc, _+_, _-_, _≤_, _<_}
 use native.Mathlib.Omega.{arith}
 use mir.Val.{Fits}
@@ -13,12 +12,11 @@ use lib.Dec.{eqb, ltb}
 use lib.ListN.{length, getD, drop}
 use lib.Seq.{drop-cons, drop-length}
 use borrow.Author.Tests.{lt-ltb, le-leb, eqb-true, eq-eqb}
+use Rattle.facts.proofs.Bools.{by-cases}
 use Rattle.classes.specs.declared.Shape.{Shape}
 use Rattle.fields.specs.Field.{page, slot, free, words, get, put, Has}
 use Rattle.fields.proofs.Laws.{get-put-same, get-put-other, length-put}
-use Rattle.model.proofs.Counts.{by-cases}
-use Rattle.calls.specs.Release.{pageAt}
-use Rattle.pages.specs.Stack.{indexOf}
+use Rattle.pages.specs.Stack.{indexOf, pageAt}
 use Rattle.chunks.specs.Pass.{pushOne, pushAll}
 use Rattle.chunks.specs.PushAsks.{wordsOn, PushOneAsks, PushAllAsks}
 
@@ -75,7 +73,7 @@ on-none : (q : ℕ) → wordsOn [] q ≡ 0
 unfolding wordsOn
 on-none q = refl
 
-on-more : (w : ℕ) (ws : List ℕ) (q : ℕ) → wordsOn ws q ≤ wordsOn (w ∷ ws) q
+pub on-more : (w : ℕ) (ws : List ℕ) (q : ℕ) → wordsOn ws q ≤ wordsOn (w ∷ ws) q
 on-more w ws q = by-cases (eqb (pageAt w) q) (λ e. omega (arith, on-here w ws q e)) (λ e. omega (arith, on-other w ws q e))
 
 -- the words after the first ask no more

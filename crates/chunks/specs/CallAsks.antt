@@ -1,4 +1,4 @@
--- A group release in passes: from number 11 on, what its functions ask, and what they answer. Assumes nothing.
+-- A group release in passes: from number 11 on, what its functions ask, and what they answer.
 --     passes           numbers 11 and 13, and the act, on a book whose listed blocks are struck; a refusal leaves them struck
 --     ChunksAnswered   a call answered a number, and left the book and the fates
 use Prim.Native.Nat.{ℕ, _≤_}
@@ -6,9 +6,9 @@ use mathlib.Core.Bool.{true, false, cond, not, _&&_, _||_}
 use mathlib.Core.List.{List, _++_}
 use mathlib.Core.Path.{_≡_}
 use lib.ListN.{length, drop}
+use Rattle.facts.specs.Lists.{isNil, every}
 use Rattle.words.specs.Word.{chunkKind}
 use Rattle.classes.specs.declared.Shape.{Shape}
-use Rattle.model.specs.Lists.{every, isNil}
 use Rattle.model.specs.Release.{ofKind}
 use Rattle.model.specs.Chunks.{chunksMax}
 use Rattle.calls.specs.Release.{inRunOf}
@@ -20,8 +20,8 @@ use Rattle.chunks.specs.PlaceAsks.{Limits, PlaceAsks}
 use Rattle.chunks.specs.GiveAsks.{GiveChunksAsks}
 
 -- the blocks back on their stacks, and the pages placed
-abbrev pub placed : List ℕ → ℕ → Shape → ℕ → List ℕ → List ℕ → Settled
-placed b c sh h ws gs = placeAll (pushAll b sh ws) c sh h gs
+abbrev pub allPlaced : List ℕ → ℕ → Shape → ℕ → List ℕ → List ℕ → Settled
+allPlaced b c sh h ws gs = placeAll (pushAll b sh ws) c sh h gs
 
 -- what is left of it: the runs go to the arena, and the fates stand before what the lent list has past the chunks
 abbrev pub settledTo : Settled → Shape → List ℕ → List ℕ → ChunksReleased
@@ -31,7 +31,7 @@ unfoldable pub passes : ℕ → List ℕ → ℕ → Shape → ℕ → List ℕ 
 passes n b c sh h ws gs fs =
     cond (not (chunksMatch b ws gs)) (chunksNone b fs 11)
     (cond (not (chunksFair n b c sh gs)) (chunksNone b fs 13)
-    (settledTo (placed b c sh h ws gs) sh gs fs))
+    (settledTo (allPlaced b c sh h ws gs) sh gs fs))
 
 -- ---- what is asked
 -- a class whose runs are one page, in an arena of n pages
@@ -59,7 +59,7 @@ pub record StruckAsks (n : ℕ) (b : List ℕ) (c : ℕ) (sh : Shape) (ws gs fs 
 pub record SettleAsks (n : ℕ) (b : List ℕ) (c : ℕ) (sh : Shape) (h : ℕ) (ws gs fs : List ℕ) : Type 0 where
   pub pushing : PushAllAsks b sh ws
   pub placing : PlaceAsks (pushAll b sh ws) c sh gs fs
-  pub giving : GiveChunksAsks n (placed b c sh h ws gs .book) sh gs (placed b c sh h ws gs .fates ++ drop (length gs) fs)
+  pub giving : GiveChunksAsks n (allPlaced b c sh h ws gs .book) sh gs (allPlaced b c sh h ws gs .fates ++ drop (length gs) fs)
 
 -- ---- what is answered
 pub record ChunksAnswered (r : ℕ) (b′ fs′ : List ℕ) (o : ChunksReleased) : Type 0 where

@@ -1,22 +1,24 @@
--- Number 13's tests of a group release, part by part, and what each asks. Assumes nothing.
+-- Number 13's tests of a group release, part by part, and what each asks.
 --     chunkFair     the page of a chunk, for so many blocks
---     spotted       the counts after one page more at a spot: 0 empty, 1 cold, 2 to the arena
+--     spotted       the counts after one page more at a spot
 --     counted       the counts after one chunk more
 use Prim.Native.Nat.{ℕ, _+_, _^_, _<_, _≤_}
 use mathlib.Core.Bool.{Bool, true, cond}
 use mathlib.Core.List.{List}
 use mathlib.Core.Path.{_≡_}
-use lib.Dec.{eqb, ltb}
+use lib.Dec.{ltb}
 use lib.ListN.{length}
+use Rattle.facts.specs.Lists.{every}
 use Rattle.words.specs.Word.{countOf, pageOf}
 use Rattle.classes.specs.declared.Shape.{Shape}
 use Rattle.classes.specs.Sound.{Sound}
 use Rattle.fields.specs.Field.{page, free, carved, words, get}
 use Rattle.fields.specs.Ranges.{maxParked}
-use Rattle.model.specs.Lists.{every}
 use Rattle.model.specs.Chunks.{chunksMax}
-use Rattle.pages.specs.Runs.{flag}
-use Rattle.calls.specs.Release.{pageFair, rowFair, spotOf}
+use Rattle.words.specs.Host.{digit}
+use Rattle.model.specs.declared.Spot.{Spot}
+use Rattle.model.specs.Spot.{spotOf, isEmpty, isCold, isArena}
+use Rattle.calls.specs.Release.{pageFair, rowFair}
 use Rattle.calls.specs.Chunks.{returnsAll}
 use Rattle.release.specs.Asks.{ClassAsks}
 use Rattle.chunks.specs.declared.fair.Stores.{Stores}
@@ -24,8 +26,8 @@ use Rattle.chunks.specs.declared.fair.Stores.{Stores}
 abbrev pub chunkFair : List ℕ → Shape → ℕ → Bool
 chunkFair b sh g = pageFair b sh (countOf g) (pageOf g)
 
-abbrev pub spotted : Stores → ℕ → Stores
-spotted s k = record { empties = s .empties + flag (eqb k 0); colds = s .colds + flag (eqb k 1); runs = s .runs + flag (eqb k 2) }
+abbrev pub spotted : Stores → Spot → Stores
+spotted s k = record { empties = s .empties + digit (isEmpty k); colds = s .colds + digit (isCold k); runs = s .runs + digit (isArena k) }
 
 unfoldable pub counted : List ℕ → Shape → ℕ → Stores → Stores
 counted b sh g s = cond (returnsAll b g) (spotted s (spotOf sh (s .empties) (s .colds))) s
@@ -40,8 +42,7 @@ pub record ReturnsAsks (b : List ℕ) (g : ℕ) : Type 0 where
   pub there : words (pageOf g + 1) ≤ length b
   pub room : get b (page free (pageOf g)) + countOf g ≤ get b (page carved (pageOf g))
 
-pub record SpottedAsks (s : Stores) (k : ℕ) : Type 0 where
-  pub spot : k ≤ 2
+pub record SpottedAsks (s : Stores) : Type 0 where
   pub empties : s .empties < 2 ^ 31
   pub colds : s .colds < 2 ^ 31
   pub runs : s .runs < 2 ^ 31

@@ -1,16 +1,16 @@
 -- What giving the chunks' runs to the arena asks: pages of an arena of n pages, and number 13's test for all that is given.
--- Assumes nothing.
 use Prim.Native.Nat.{ℕ, _+_, _*_, _≤_}
 use mathlib.Core.Bool.{Bool, true, cond}
 use mathlib.Core.List.{List}
 use mathlib.Core.Path.{_≡_}
 use lib.Dec.{eqb, ltb}
 use lib.ListN.{length}
+use Rattle.facts.specs.Lists.{every}
 use Rattle.words.specs.Word.{pageOf}
 use Rattle.classes.specs.declared.Shape.{Shape}
 use Rattle.fields.specs.Field.{words}
 use Rattle.fields.specs.Ranges.{maxPages}
-use Rattle.model.specs.Lists.{every}
+use Rattle.model.specs.Spot.{arenaFate, retired}
 use Rattle.arena.specs.Fair.{giveFair}
 use Rattle.chunks.specs.Pass.{givesIn}
 
@@ -22,7 +22,7 @@ pub record GiveChunkAsks (n : ℕ) (b : List ℕ) (m g f : ℕ) : Type 0 where
   pub few : n ≤ maxPages
   pub long : words n ≤ length b
   pub inside : pageOf g + m ≤ n
-  pub fair : cond (eqb f 6) (giveFair n b m) true ≡ true
+  pub fair : cond (eqb f (retired arenaFate)) (giveFair n b m) true ≡ true
 
 pub record GiveChunksAsks (n : ℕ) (b : List ℕ) (sh : Shape) (gs fs : List ℕ) : Type 0 where
   pub few : n ≤ maxPages

@@ -1,20 +1,19 @@
 -- The act of a group release in passes over the list and the chunks, on a book whose listed blocks are struck (release, specs/Strike).
 -- It ends as `settleChunks` (calls, specs/Chunks) says, which goes chunk by chunk. A small class's run is one page, so that a block's
--- page is the one that has its granule. Assumes nothing.
+-- page is the one that has its granule.
 --     pushAll      the listed blocks back on their pages' stacks, the list's last first
 --     placeAt      where a chunk's page goes, once its blocks are back
 --     placeAll     the chunks in order
---     givesIn      the pages with fate 6, in the chunks' order
-use Prim.Native.Nat.{ℕ, suc, _+_}
-use mathlib.Core.Bool.{cond}
+--     givesIn      the pages whose fate is the arena, retired, in the chunks' order
+use Prim.Native.Nat.{ℕ, _+_}
+use mathlib.Core.Bool.{true}
 use mathlib.Core.List.{List, [], _∷_, _++_}
-use lib.Dec.{eqb}
 use Rattle.words.specs.Word.{pageOf}
 use Rattle.classes.specs.declared.Shape.{Shape}
-use Rattle.fields.specs.Field.{page, slot, free, carved, virgin, get, put}
-use Rattle.pages.specs.Stack.{indexOf}
-use Rattle.calls.specs.Release.{pageAt, Released, released, relisted, parkAt}
-use Rattle.calls.specs.Chunks.{emptied, markRetired, givesOf, Settled}
+use Rattle.fields.specs.Field.{page, slot, free, virgin, get, put}
+use Rattle.pages.specs.Stack.{indexOf, pageAt}
+use Rattle.calls.specs.Release.{Released, placed}
+use Rattle.calls.specs.Chunks.{givesOf, Settled}
 
 -- block i on the stack of page q
 unfoldable pub pushOne : List ℕ → ℕ → ℕ → List ℕ
@@ -25,9 +24,7 @@ pushAll b sh [] = b
 pushAll b sh (w ∷ ws) = pushOne (pushAll b sh ws) (pageAt w) (indexOf sh (pageAt w) w)
 
 unfoldable pub placeAt : List ℕ → ℕ → Shape → ℕ → ℕ → Released
-placeAt b c sh h q =
-    let d = put b (page virgin q) 0 in
-    cond (eqb (get d (page carved q)) (get d (page free q))) (markRetired (parkAt (emptied d q) c sh h q)) (released (relisted d c q) 0)
+placeAt b c sh h q = placed true (put b (page virgin q) 0) c sh h q
 
 unfoldable pub placeAll : List ℕ → ℕ → Shape → ℕ → List ℕ → Settled
 placeAll b c sh h [] = record { book = b; fates = []; gives = [] }

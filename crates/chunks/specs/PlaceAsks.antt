@@ -1,18 +1,18 @@
--- What placing the chunks' pages asks of the words, and what it leaves. Assumes nothing.
+-- What placing the chunks' pages asks of the words, and what it leaves.
 use Prim.Native.Nat.{ℕ, _<_, _≤_}
 use mathlib.Core.Bool.{Bool, true, _&&_}
 use mathlib.Core.List.{List, _++_}
 use mathlib.Core.Path.{_≡_}
 use lib.Dec.{ltb}
 use lib.ListN.{length, drop}
+use Rattle.facts.specs.Lists.{every}
 use Rattle.words.specs.Word.{pageOf}
 use Rattle.classes.specs.declared.Shape.{Shape}
 use Rattle.classes.specs.Sound.{Sound}
 use Rattle.fields.specs.Field.{arena, frontier, words, get}
 use Rattle.fields.specs.Ranges.{maxPages, maxParked}
-use Rattle.model.specs.Lists.{every}
 use Rattle.calls.specs.Release.{rowFair}
-use Rattle.release.specs.Fair.{linksFair}
+use Rattle.pages.specs.Fair.{linksFair}
 use Rattle.chunks.specs.Pass.{placeAll}
 
 -- a store that is filled to its limit passes number 13

@@ -1,14 +1,13 @@
 -- What pushing the listed blocks asks: the page of every listed word is there, and its stack has room for the words on it.
--- Assumes nothing.
 use Prim.Native.Nat.{ℕ, _+_, _<_, _≤_}
 use mathlib.Core.List.{List}
 use lib.Dec.{eqb}
 use lib.ListN.{length}
+use Rattle.facts.specs.Lists.{filter}
 use Rattle.classes.specs.declared.Shape.{Shape}
 use Rattle.classes.specs.Sound.{Sound}
 use Rattle.fields.specs.Field.{page, free, words, get}
-use Rattle.model.specs.Lists.{filter}
-use Rattle.calls.specs.Release.{pageAt}
+use Rattle.pages.specs.Stack.{pageAt, pageSlots}
 
 -- how many listed words have their granule on page q
 unfoldable pub wordsOn : List ℕ → ℕ → ℕ
@@ -17,9 +16,9 @@ wordsOn ws q = length (filter (λ w. eqb (pageAt w) q) ws)
 pub record PushOneAsks (b : List ℕ) (sh : Shape) (w : ℕ) : Type 0 where
   pub sound : Sound sh
   pub there : words (pageAt w + 1) ≤ length b
-  pub slot : get b (page free (pageAt w)) < 4096
+  pub slot : get b (page free (pageAt w)) < pageSlots
 
 pub record PushAllAsks (b : List ℕ) (sh : Shape) (ws : List ℕ) : Type 0 where
   pub sound : Sound sh
   pub there : (q : ℕ) → 1 ≤ wordsOn ws q → words (q + 1) ≤ length b
-  pub slots : (q : ℕ) → 1 ≤ wordsOn ws q → get b (page free q) + wordsOn ws q ≤ 4096
+  pub slots : (q : ℕ) → 1 ≤ wordsOn ws q → get b (page free q) + wordsOn ws q ≤ pageSlots

@@ -1,6 +1,6 @@
 // A group release: the numbers in their order, each over both lists, and then the passes. A refusal leaves every word as it was.
-ghost use Rattle.calls.specs.Chunks.{releaseChunks, chunksCall};
-ghost use Rattle.chunks.specs.CallAsks.{placed, settledTo, passes, CallAsks, StrikeAsks, StruckAsks, SettleAsks, ChunksAnswered};
+ghost use Rattle.calls.specs.Chunks.{releaseChunks};
+ghost use Rattle.chunks.specs.CallAsks.{allPlaced, settledTo, passes, CallAsks, StrikeAsks, StruckAsks, SettleAsks, ChunksAnswered};
 use super::fair::chunks_fair;
 use super::gives::give_chunks;
 use super::place::place_chunks;
@@ -9,6 +9,7 @@ use classes::Shape;
 use release::all_of_kind;
 use release::strike::strike;
 use release::strike::unstrike;
+use tally::MAX_CHUNKS;
 use tally::chunks_match;
 use words::Word;
 
@@ -24,7 +25,7 @@ fn settle_chunks(
     fates: &mut [u32],
 )
     requires { ⌜ SettleAsks n (now meta) c shape host (now list) (now chunks) (now fates) ⌝ }
-    ensures { λ _. ⌜ ChunksAnswered 0 (now (meta .exit)) (now (fates .exit)) (settledTo (placed (now (meta .entry)) c shape host (now (list .entry)) (now (chunks .entry))) shape (now (chunks .entry)) (now (fates .entry))) ⌝ }
+    ensures { λ _. ⌜ ChunksAnswered 0 (now (meta .exit)) (now (fates .exit)) (settledTo (allPlaced (now (meta .entry)) c shape host (now (list .entry)) (now (chunks .entry))) shape (now (chunks .entry)) (now (fates .entry))) ⌝ }
 {
     push_blocks(meta, shape, list);
     place_chunks(meta, c, shape, host, chunks, fates);
@@ -83,7 +84,7 @@ fn strike_chunks(
 }
 
 // Numbers 7, 8 and 9, and those after them.
-fn release_chunks(
+pub fn release_chunks(
     meta: &mut [u32],
     n: u32,
     c: u32,
@@ -102,7 +103,7 @@ fn release_chunks(
     if chunks.len() == 0 {
         return 7;
     }
-    if chunks.len() > 2056 {
+    if chunks.len() > MAX_CHUNKS {
         return 8;
     }
     if fates.len() < chunks.len() {
@@ -115,24 +116,4 @@ fn release_chunks(
         return 9;
     }
     9
-}
-
-// From number 3 on.
-pub fn chunks_call(
-    meta: &mut [u32],
-    n: u32,
-    c: u32,
-    shape: Shape,
-    host: u32,
-    list: &[u32],
-    chunks: &[u32],
-    fates: &mut [u32],
-) -> u32
-    requires { ⌜ CallAsks n (now meta) c shape ⌝ }
-    ensures { λ r. ⌜ ChunksAnswered r (now (meta .exit)) (now (fates .exit)) (chunksCall n (now (meta .entry)) c shape host (now (list .entry)) (now (chunks .entry)) (now (fates .entry))) ⌝ }
-{
-    if host > 15 {
-        return 3;
-    }
-    release_chunks(meta, n, c, shape, host, list, chunks, fates)
 }

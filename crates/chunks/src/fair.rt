@@ -1,12 +1,13 @@
 // Number 13 for a group release: the chunks' pages, the row, and the arena where runs go to it.
 ghost use mathlib.Core.Path.{_≡_};
+ghost use Rattle.facts.specs.Lists.{every};
 ghost use Rattle.calls.specs.Chunks.{returnsAll, runsGiven, pagesGiven, chunksFair};
-ghost use Rattle.model.specs.Lists.{every};
-ghost use Rattle.release.specs.Fair.{PageAsks};
+ghost use Rattle.pages.specs.Asks.{PageAsks};
 ghost use Rattle.words.specs.Word.{pageOf};
 ghost use Rattle.chunks.specs.GiveAsks.{givesFair};
 ghost use Rattle.chunks.specs.FairAsks.{chunkFair, spotted, counted, PagesAsks, ReturnsAsks, SpottedAsks, CountAsks, RunsAsks, PagesGivenAsks, ChunksFairAsks};
 use classes::Shape;
+use model::Spot;
 use words::Word;
 
 // The counts of the two stores, and of the runs for the arena, as the chunks are gone through.
@@ -50,28 +51,26 @@ fn returns_all(meta: &[u32], chunk: u32) -> bool
 }
 
 // One page more at a spot.
-fn count_spot(s: Stores, spot: u32) -> Stores
-    requires { ⌜ SpottedAsks s spot ⌝ }
+fn count_spot(s: Stores, spot: Spot) -> Stores
+    requires { ⌜ SpottedAsks s ⌝ }
     ensures { λ r. ⌜ r ≡ spotted s spot ⌝ }
 {
-    if spot == 0 {
-        return Stores {
+    match spot {
+        Spot::ToEmpty => Stores {
             empties: s.empties + 1,
             colds: s.colds,
             runs: s.runs,
-        };
-    }
-    if spot == 1 {
-        return Stores {
+        },
+        Spot::ToCold => Stores {
             empties: s.empties,
             colds: s.colds + 1,
             runs: s.runs,
-        };
-    }
-    Stores {
-        empties: s.empties,
-        colds: s.colds,
-        runs: s.runs + 1,
+        },
+        Spot::ToArena => Stores {
+            empties: s.empties,
+            colds: s.colds,
+            runs: s.runs + 1,
+        },
     }
 }
 

@@ -5,14 +5,16 @@ ghost use Rattle.calls.specs.Chunks.{givesOf, giveRuns};
 ghost use Rattle.chunks.specs.Pass.{givesIn};
 ghost use Rattle.chunks.specs.GiveAsks.{GiveChunkAsks, GiveChunksAsks};
 use classes::Shape;
+use release::ARENA_FATE;
+use release::RETIRED;
 use words::Word;
 
-// The chunk's page, if its fate is 6.
+// The chunk's page, if its fate is the arena.
 fn give_chunk(meta: &mut [u32], n: u32, pages: u32, chunk: u32, fate: u32)
     requires { ⌜ GiveChunkAsks n (now meta) pages chunk fate ⌝ }
     ensures { λ _. ⌜ now (meta .exit) ≡ giveRuns (now (meta .entry)) pages (givesOf (pageOf chunk) fate) ⌝ }
 {
-    if fate != 6 {
+    if fate != RETIRED + ARENA_FATE {
         return;
     }
     runs::give::give(meta, n, Word::of(chunk).page(), pages);

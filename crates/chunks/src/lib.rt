@@ -5,4 +5,4 @@ mod gives;
 mod place;
 mod push;
 
-pub use call::chunks_call;
+pub use call::release_chunks;

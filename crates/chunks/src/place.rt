@@ -1,12 +1,14 @@
 // Where the chunks' pages go once their blocks are back, in the chunks' order.
 ghost use mathlib.Core.Path.{_≡_};
 ghost use Rattle.words.specs.Word.{pageOf};
-ghost use Rattle.calls.specs.Chunks.{emptied};
-ghost use Rattle.release.specs.Fair.{PageAsks};
+ghost use Rattle.calls.specs.Release.{emptied};
+ghost use Rattle.pages.specs.Asks.{PageAsks};
 ghost use Rattle.release.specs.Act.{ParkingAsks, Parked};
 ghost use Rattle.chunks.specs.Pass.{placeAt};
 ghost use Rattle.chunks.specs.PlaceAsks.{PlaceAsks, Placed};
 use classes::Shape;
+use release::KEPT_FATE;
+use release::RETIRED;
 use release::park_empty_page;
 use release::relist;
 use words::Word;
@@ -34,10 +36,10 @@ pub fn place_chunk(meta: &mut [u32], c: u32, shape: Shape, host: u32, q: u32) ->
     fields::page::set_virgin(meta, q, 0);
     if fields::page::carved(meta, q) == fields::page::free(meta, q) {
         retire(meta, q);
-        return 4 + park_empty_page(meta, c, shape, host, q);
+        return RETIRED + park_empty_page(meta, c, shape, host, q);
     }
     relist(meta, c, q);
-    0
+    KEPT_FATE
 }
 
 // The chunks' pages in their order; each one's fate stands at its chunk's place.

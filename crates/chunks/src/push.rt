@@ -1,21 +1,13 @@
 // The listed blocks, which are struck, back on their pages' stacks.
 ghost use mathlib.Core.Path.{_≡_};
-ghost use Rattle.calls.specs.Release.{pageAt};
-ghost use Rattle.pages.specs.Stack.{indexOf};
+ghost use Rattle.pages.specs.Stack.{indexOf, pageAt};
 ghost use Rattle.stack.specs.Inverse.{inverse};
 ghost use Rattle.chunks.specs.Pass.{pushOne, pushAll};
 ghost use Rattle.chunks.specs.PushAsks.{PushOneAsks, PushAllAsks};
 use classes::Shape;
+use pages::page_at;
 use stack::index_by;
 use stack::inverse_of;
-use words::Word;
-
-// The page that has the word's granule.
-fn page_at(w: u32) -> u32
-    ensures { λ r. ⌜ r ≡ pageAt w ⌝ }
-{
-    Word::of(w).granule() / 4096
-}
 
 fn push_block(meta: &mut [u32], shape: Shape, inv: u64, w: u32)
     requires { ⌜ PushOneAsks (now meta) shape w ⌝ }

@@ -1,4 +1,4 @@
--- Pages per span are the fewest that hold 8 blocks, for every size; the class of a size is the first that fits. Assumes nothing.
+-- Pages per span are the fewest that hold 8 blocks, for every size; the class of a size is the first that fits.
 use Prim.Native.Nat.{ℕ, zero, suc, _-_, _*_, _/_, _≤_, _<_, zero-le, suc-le-suc}
 use mathlib.Core.Path.{_≡_, refl}
 use mathlib.Core.Bool.{Bool, true, false, cond}

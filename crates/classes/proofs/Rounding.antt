@@ -1,5 +1,5 @@
--- Sizes of equally many granules have the same class: the lookup tables need an entry for every 16th size only. Assumes nothing.
-use Prim.Native.Nat.{ℕ, _+_, _-_, _*_, _/_, _%_, _≤_, _<_}
+-- Sizes of equally many granules have the same class: the lookup tables need an entry for every 16th size only.
+use Prim.Native.Nat.{ℕ, _+_, _-_, _/_, _%_, _≤_, _<_}
 use mathlib.Core.Path.{_≡_, refl}
 use mathlib.Core.Bool.{Bool, true, false}
 use mathlib.Core.List.{List, [], _∷_}
@@ -7,9 +7,10 @@ use mathlib.Core.Logic.{_⊎_, inl, inr}
 use native.Mathlib.Omega.{arith}
 use lib.Dec.{leb, eqb}
 use borrow.Author.Tests.{leb-true, leb-false, le-leb, lt-leb, lt-ltb, le-ltb, eqb-true}
+use Rattle.facts.proofs.Bools.{and-left, and-right}
 use Rattle.classes.specs.Sizes.{smallSizes, mediumSizes, maxSmallSize, maxMediumSize}
 use Rattle.classes.specs.Lookup.{firstFit, classForSize, mediumClassForSize}
-use Rattle.classes.proofs.Table.{and-l, and-r, every}
+use Rattle.classes.proofs.Table.{every}
 
 -- granules of a size, rounded up
 abbrev pub granules : ℕ → ℕ
@@ -29,8 +30,8 @@ same-fit : (a b : ℕ) (xs : List ℕ) → granules a ≡ granules b → every w
 unfolding firstFit
 same-fit a b [] e t = refl
 same-fit a b (x ∷ xs) e t =
-    let w : x % 16 ≡ 0 = eqb-true (x % 16) 0 (and-l (whole x) (every whole xs) t) in
-    rw (same-test a b x (leb a x) (leb b x) refl refl e w, same-fit a b xs e (and-r (whole x) (every whole xs) t)) refl
+    let w : x % 16 ≡ 0 = eqb-true (x % 16) 0 (and-left (whole x) (every whole xs) t) in
+    rw (same-test a b x (leb a x) (leb b x) refl refl e w, same-fit a b xs e (and-right (whole x) (every whole xs) t)) refl
 
 pub small-rounded : (near size : ℕ) → near ≤ maxSmallSize → size ≤ maxSmallSize → granules near ≡ granules size → classForSize near ≡ classForSize size
 unfolding classForSize smallSizes

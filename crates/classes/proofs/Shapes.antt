@@ -1,4 +1,4 @@
--- Every class's shape is sound: one computed test over each of the two size tables. Assumes nothing.
+-- Every class's shape is sound: one computed test over each of the two size tables.
 use Prim.Native.Nat.{ℕ, _+_, _-_, _*_, _≤_, _<_}
 use mathlib.Core.Path.{_≡_, refl}
 use mathlib.Core.List.{List}
@@ -6,11 +6,12 @@ use mathlib.Core.Bool.{Bool, true, false, cond, _&&_}
 use lib.Dec.{leb, ltb}
 use borrow.Author.Tests.{leb-true}
 use lib.ListN.{getD}
+use Rattle.facts.proofs.Bools.{and-left, and-right}
 use Rattle.classes.specs.declared.Shape.{Shape}
 use Rattle.classes.specs.Sizes.{smallSizes, mediumSizes, pageBytes}
 use Rattle.classes.specs.Shape.{smallShape, mediumShape, shapeOf}
 use Rattle.classes.specs.Sound.{Sound}
-use Rattle.classes.proofs.Table.{and-l, and-r, every, every-at}
+use Rattle.classes.proofs.Table.{every, every-at}
 
 abbrev within : ℕ → ℕ → ℕ → Bool
 within low n high = leb low n && leb n high
@@ -20,17 +21,17 @@ sound s = within 1 (s .kind) 2 && (leb 1 (s .block) && (leb 1 (s .header) && (wi
 
 is-sound : (s : Shape) → sound s ≡ true → Sound s
 is-sound s t = record {
-  named = leb-true 1 (s .kind) (search (and-l, and-r) depth 9);
-  known = leb-true (s .kind) 2 (search (and-l, and-r) depth 9);
-  wide = leb-true 1 (s .block) (search (and-l, and-r) depth 9);
-  led = leb-true 1 (s .header) (search (and-l, and-r) depth 9);
-  paged = leb-true 1 (s .pages) (search (and-l, and-r) depth 9);
-  short = leb-true (s .pages) 8 (search (and-l, and-r) depth 9);
-  blocks = leb-true 1 (s .capacity) (search (and-l, and-r) depth 9);
-  few = leb-true (s .capacity) 4096 (search (and-l, and-r) depth 9);
-  gives = leb-true 1 (s .batch) (search (and-l, and-r) depth 9);
-  limited = leb-true (s .batch) 64 (search (and-l, and-r) depth 9);
-  fits = leb-true (s .header + s .capacity * s .block) (4096 * s .pages) (search (and-l, and-r) depth 9);
+  named = leb-true 1 (s .kind) (search (and-left, and-right) depth 9);
+  known = leb-true (s .kind) 2 (search (and-left, and-right) depth 9);
+  wide = leb-true 1 (s .block) (search (and-left, and-right) depth 9);
+  led = leb-true 1 (s .header) (search (and-left, and-right) depth 9);
+  paged = leb-true 1 (s .pages) (search (and-left, and-right) depth 9);
+  short = leb-true (s .pages) 8 (search (and-left, and-right) depth 9);
+  blocks = leb-true 1 (s .capacity) (search (and-left, and-right) depth 9);
+  few = leb-true (s .capacity) 4096 (search (and-left, and-right) depth 9);
+  gives = leb-true 1 (s .batch) (search (and-left, and-right) depth 9);
+  limited = leb-true (s .batch) 64 (search (and-left, and-right) depth 9);
+  fits = leb-true (s .header + s .capacity * s .block) (4096 * s .pages) (search (and-left, and-right) depth 9);
 }
 
 true-cond : {A : Type 0} (t : A → Bool) (b : Bool) (x y : A) → t x ≡ true → t y ≡ true → t (cond b x y) ≡ true
@@ -56,7 +57,7 @@ usable size = within 1 size pageBytes
 usable-at : (sizes : List ℕ) (d c : ℕ) → every usable sizes ≡ true → usable d ≡ true → (0 < getD sizes c d) × (getD sizes c d ≤ pageBytes)
 usable-at sizes d c t e =
     let u : usable (getD sizes c d) ≡ true = every-at usable sizes d c t e in
-    (leb-true 1 (getD sizes c d) (search and-l), leb-true (getD sizes c d) pageBytes (search and-r))
+    (leb-true 1 (getD sizes c d) (search and-left), leb-true (getD sizes c d) pageBytes (search and-right))
 
 pub small-usable : (c : ℕ) → (0 < getD smallSizes c 16384) × (getD smallSizes c 16384 ≤ pageBytes)
 unfolding smallSizes

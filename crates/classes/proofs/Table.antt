@@ -1,22 +1,15 @@
--- A rule of a table, proved at all of its entries by one test that antt computes, one entry after the other. Assumes nothing.
+-- A rule of a table, proved at all of its entries by one test that antt computes, one entry after the other.
 use Prim.Native.Nat.{ℕ, zero, suc, _+_, _*_, _<_}
 use mathlib.Core.Path.{_≡_, refl}
-use mathlib.Core.Bool.{Bool, true, false, _&&_}
+use mathlib.Core.Bool.{Bool, true, _&&_}
 use mathlib.Core.List.{List, [], _∷_}
 use native.Mathlib.Nat.{add-zero, mul-zero, le-of-suc-le-suc, not-suc-le-zero}
 use native.Mathlib.Omega.{arith}
 use lib.Dec.{eqb}
 use lib.ListN.{length, getD}
 use borrow.Author.Tests.{eqb-true}
+use Rattle.facts.proofs.Bools.{and-left, and-right}
 use Rattle.classes.specs.Lookup.{obeys}
-
-pub and-l : (a b : Bool) → (a && b) ≡ true → a ≡ true
-and-l true b e = refl
-and-l false b e = e
-
-pub and-r : (a b : Bool) → (a && b) ≡ true → b ≡ true
-and-r true b e = e
-and-r false b e = cc
 
 -- a test passes at every entry
 abbrev pub every : (ℕ → Bool) → List ℕ → Bool
@@ -26,17 +19,17 @@ every t (x ∷ xs) = t x && every t xs
 -- so it passes at any place, if it passes at what stands past the end
 pub every-at : (t : ℕ → Bool) (xs : List ℕ) (d k : ℕ) → every t xs ≡ true → t d ≡ true → t (getD xs k d) ≡ true
 every-at t [] d k h e = e
-every-at t (x ∷ xs) d zero h e = and-l (t x) (every t xs) h
-every-at t (x ∷ xs) d (suc k) h e = every-at t xs d k (and-r (t x) (every t xs) h) e
+every-at t (x ∷ xs) d zero h e = and-left (t x) (every t xs) h
+every-at t (x ∷ xs) d (suc k) h e = every-at t xs d k (and-right (t x) (every t xs) h) e
 
 -- a lookup table that passes the test of its rule has the rule's answer at each place
 pub obeys-at : (rule : ℕ → ℕ) (size : ℕ) (xs : List ℕ) (k : ℕ) → obeys rule size xs ≡ true → k < length xs → getD xs k 0 ≡ rule (size + 16 * k)
 unfolding obeys
 obeys-at rule size [] k t h = absurd (not-suc-le-zero h)
-obeys-at rule size (x ∷ xs) zero t h = rw (mul-zero, add-zero) (eqb-true x (rule size) (and-l (eqb x (rule size)) (obeys rule (size + 16) xs) t))
+obeys-at rule size (x ∷ xs) zero t h = rw (mul-zero, add-zero) (eqb-true x (rule size) (and-left (eqb x (rule size)) (obeys rule (size + 16) xs) t))
 obeys-at rule size (x ∷ xs) (suc k) t h =
     let e : size + 16 * suc k ≡ (size + 16) + 16 * k = omega arith in
-    rw e (obeys-at rule (size + 16) xs k (and-r (eqb x (rule size)) (obeys rule (size + 16) xs) t) (le-of-suc-le-suc h))
+    rw e (obeys-at rule (size + 16) xs k (and-right (eqb x (rule size)) (obeys rule (size + 16) xs) t) (le-of-suc-le-suc h))
 
 -- within a table, what would stand past its end does not matter
 pub getD-within : (xs : List ℕ) (d e k : ℕ) → k < length xs → getD xs k d ≡ getD xs k e

@@ -1,4 +1,4 @@
--- Document 01's examples of the lookups, P1 to P5: which rule, the size, and the class that it must be. Assumes nothing.
+-- Document 01's examples of the lookups, P1 to P5: which rule, the size, and the class that it must be.
 use Prim.Native.Nat.{ℕ}
 use mathlib.Core.List.{List, [], _∷_}
 use Rattle.classes.specs.Lookup.{classForSize, mediumClassForSize}

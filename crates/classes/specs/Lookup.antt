@@ -1,4 +1,4 @@
--- The class of a size (document 01, "A size gives a class"): the rule of both lookups, for every number of bytes. Assumes nothing.
+-- The class of a size (document 01, "A size gives a class"): the rule of both lookups, for every number of bytes.
 use Prim.Native.Nat.{ℕ, suc, _+_}
 use mathlib.Core.Bool.{Bool, true, cond, _&&_}
 use mathlib.Core.List.{List, [], _∷_}

@@ -1,4 +1,4 @@
--- What the rules of `Sizes` and `Lookup` mean, apart from how they are computed. Assumes nothing.
+-- What the rules of `Sizes` and `Lookup` mean, apart from how they are computed.
 use Prim.Native.Nat.{ℕ, _+_, _*_, _≤_, _<_}
 use mathlib.Core.List.{List}
 use lib.ListN.{length, getD}

@@ -1,4 +1,4 @@
--- The shape of each class: 0 to 63 small, 64 to 75 medium. Assumes nothing.
+-- The shape of each class: 0 to 63 small, 64 to 75 medium.
 use Prim.Native.Nat.{ℕ, _-_, _/_}
 use mathlib.Core.Bool.{cond}
 use lib.Dec.{ltb}

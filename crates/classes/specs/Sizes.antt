@@ -1,4 +1,4 @@
--- The size classes of document 01, "A size gives a class", in bytes. Assumes nothing.
+-- The size classes of document 01, "A size gives a class", in bytes.
 use Prim.Native.Nat.{ℕ, _+_, _-_, _*_, _/_}
 use mathlib.Core.List.{List, [], _∷_}
 

@@ -1,4 +1,4 @@
--- What the heap's proofs ask of a shape: its runs have room for their blocks, and its numbers are in range. Assumes nothing.
+-- What the heap's proofs ask of a shape: its runs have room for their blocks, and its numbers are in range.
 use Prim.Native.Nat.{_+_, _*_, _≤_}
 use Rattle.classes.specs.declared.Shape.{Shape}
 

@@ -1,40 +1,35 @@
 -- A call by the exported functions' definitions, on a book that stands for a heap, is the call on the words that the refinement knows.
--- Assumes nothing.
 --     room, opens    an opening is not refused exactly where the arena is of 1 to 262,144 pages and the book is long enough for it
+--     refused-book   a refused one leaves the book as it was
 --     no-fault       numbers 1 and 2 do not apply to a book that stands for a heap
 --     call-is        `call` is the refinement's `callReply`
 use Prim.Native.Nat.{ℕ, _+_, _≤_}
 use native.Mathlib.Omega.{arith}
-use mathlib.Core.Bool.{true, false, _&&_}
-use mathlib.Core.List.{List, []}
+use mathlib.Core.Bool.{true, false, _&&_, false≢true}
+use mathlib.Core.List.{List}
 use mathlib.Core.Path.{_≡_}
 use lib.Dec.{eqb, ltb, leb}
 use lib.ListN.{length}
-use borrow.Author.Tests.{eqb-true, leb-true, le-leb}
-use Rattle.classes.specs.Shape.{shapeOf}
+use borrow.Author.Tests.{eqb-true, leb-true, le-leb, lt-leb, ltb-true, ltb-false}
+use Rattle.facts.proofs.Bools.{by-cases, and-left, and-right}
+use Rattle.words.specs.Host.{badHost}
 use Rattle.fields.specs.Field.{arena, size, get, words}
 use Rattle.fields.specs.Ranges.{maxPages, lengthFault, metaFault}
 use Rattle.model.specs.Calls as Calls
-use Rattle.model.specs.Calls.{Call, contained}
-use Rattle.model.specs.Chunks.{hostMax}
+use Rattle.model.specs.Calls.{Call, names, hostIn, wayTo, wayOf}
 use Rattle.model.specs.Heap.{Heap}
 use Rattle.arena.specs.Fair.{recordFair}
 use Rattle.arena.specs.Calls.{reportCode}
 use Rattle.arena.specs.Open.{opened}
-use Rattle.calls.specs.Take.{takeCall}
-use Rattle.calls.specs.Release.{releaseCall}
-use Rattle.calls.specs.Chunks.{chunksCall}
 use Rattle.direct.specs.Answer.{reportOf}
+use Rattle.vigbuso.specs.Faults.{callFault, classFault}
 use Rattle.vigbuso.specs.Direct as Direct
-use Rattle.vigbuso.specs.Direct.{openOn, commitOn, growOn, containsOn, reportOn, figuresOut}
+use Rattle.vigbuso.specs.Direct.{openOn, commitOn, growOn, containsOn, reportOn}
 use Rattle.vigbuso.specs.Blocks as Blocks
 use Rattle.vigbuso.specs.Blocks.{takeOn, chunksOn}
 use Rattle.refinement.specs.Represents.{Represents}
-use Rattle.refinement.specs.Direct.{reply, noClassReply, commitReply, growReply, releaseReply, reportedOf, directReply}
-use Rattle.refinement.specs.Classes.{takeReply}
-use Rattle.refinement.specs.Releases.{listReply, chunksReply}
-use Rattle.refinement.specs.Run.{callReply}
-use Rattle.model.proofs.Counts.{by-cases, and-l, and-r}
+use Rattle.refinement.specs.Direct.{turnedReply, directReply}
+use Rattle.refinement.specs.Run.{replyAs, callReply}
 use Rattle.demands.specs.Call.{call}
 use Rattle.demands.specs.Run.{Opens, Room}
 
@@ -46,7 +41,7 @@ pub room-of : (n : ℕ) (b : List ℕ) → lengthFault n (length b) ≡ 0 → Ro
 room-of n b e =
     by-cases (leb 1 n && leb n maxPages)
     (λ u. by-cases (leb (words n) (length b))
-    (λ v. record { some-pages = leb-true 1 n (and-l _ _ u); few-pages = leb-true n maxPages (and-r (leb 1 n) _ u); long = leb-true (words n) (length b) v })
+    (λ v. record { some-pages = leb-true 1 n (and-left _ _ u); few-pages = leb-true n maxPages (and-right (leb 1 n) _ u); long = leb-true (words n) (length b) v })
     (λ v. let z : lengthFault n (length b) ≡ 2 = rw (u, v) in absurd (omega (arith, e, z))))
     (λ u. let z : lengthFault n (length b) ≡ 1 = rw u in absurd (omega (arith, e, z)))
 
@@ -66,7 +61,12 @@ module _ (n : ℕ) (b : List ℕ) where
   unfolding openOn
   opens r = rw (fits-length n (length b) (r .some-pages) (r .few-pages) (r .long))
 
-  pub opened-by : Opens n b → openOn b n .meta ≡ opened n b
+  -- a refused one leaves the book as it was
+  pub refused-book : (Opens n b → ⊥) → openOn b n .book ≡ b
+  unfolding openOn
+  refused-book r = by-cases (eqb (lengthFault n (length b)) 0) (λ e. absurd (r (rw e))) (λ e. rw e)
+
+  pub opened-by : Opens n b → openOn b n .book ≡ opened n b
   unfolding openOn
   opened-by o = rw (fault-of o)
 
@@ -79,79 +79,55 @@ module _ (n : ℕ) (b : List ℕ) (some-pages : 1 ≤ n) (few-pages : n ≤ maxP
   sized : get b (arena size) ≡ n
   sized = R .arena .length
 
-  take-known : (low many c h : ℕ) (l : List ℕ) → ltb c many ≡ true → takeOn low many b c h l ≡ takeCall n b (low + c) (shapeOf (low + c)) h l
-  unfolding takeOn takeCall
-  take-known low many c h l e = rw (no-fault, sized, e) (by-cases (ltb hostMax h) (λ u. rw u) (λ u. rw u))
+  -- ---- number 3
+  call-turned : (h : ℕ) → badHost h ≡ true → callFault b h ≡ 3
+  unfolding callFault
+  call-turned h e = rw (no-fault, e)
 
-  take-unknown : (low many c h : ℕ) (l : List ℕ) → ltb c many ≡ false → takeReply (takeOn low many b c h l) ≡ noClassReply b h
-  unfolding takeOn
-  take-unknown low many c h l e = rw (no-fault, e) (by-cases (ltb hostMax h) (λ u. rw u) (λ u. rw u))
+  class-turned : (h many c : ℕ) → badHost h ≡ true → classFault b h many c ≡ 3
+  unfolding classFault
+  class-turned h many c e = rw (call-turned h e)
 
-  release-known : (low many c h : ℕ) (ws : List ℕ) → ltb c many ≡ true → Blocks.releaseOn low many b c h ws ≡ releaseCall n b (low + c) (shapeOf (low + c)) h ws
-  unfolding Blocks.releaseOn releaseCall
-  release-known low many c h ws e = rw (no-fault, sized, e) (by-cases (ltb hostMax h) (λ u. rw u) (λ u. rw u))
+  turned-is : (x : Call) → badHost (hostIn x) ≡ true → call b x ≡ turnedReply b 3
+  unfolding call takeOn Blocks.releaseOn chunksOn commitOn growOn Direct.releaseOn
+  turned-is (Calls.takeBlocks c h l) e = rw (class-turned h 64 c e)
+  turned-is (Calls.mediumTakeBlocks c h l) e = rw (class-turned h 12 c e)
+  turned-is (Calls.releaseBlocks c h ws) e = rw (class-turned h 64 c e)
+  turned-is (Calls.mediumReleaseBlocks c h ws) e = rw (class-turned h 12 c e)
+  turned-is (Calls.releaseBinChunks c h ws gs fs) e = rw (class-turned h 64 c e)
+  turned-is (Calls.commit h m) e = rw (call-turned h e)
+  turned-is (Calls.growFrontier h q old new) e = rw (call-turned h e)
+  turned-is (Calls.release h q m) e = rw (call-turned h e)
+  turned-is (Calls.contains o k) e = absurd (false≢true e)
+  turned-is Calls.report e = absurd (false≢true e)
 
-  release-unknown : (low many c h : ℕ) (ws : List ℕ) → ltb c many ≡ false → listReply (Blocks.releaseOn low many b c h ws) ≡ noClassReply b h
-  unfolding Blocks.releaseOn
-  release-unknown low many c h ws e = rw (no-fault, e) (by-cases (ltb hostMax h) (λ u. rw u) (λ u. rw u))
+  -- ---- the numbers after it
+  module _ (h : ℕ) (good : badHost h ≡ false) where
+    call-fits : callFault b h ≡ 0
+    unfolding callFault
+    call-fits = rw (no-fault, good)
 
-  chunks-known : (c h : ℕ) (ws gs fs : List ℕ) → ltb c 64 ≡ true → chunksOn b c h ws gs fs ≡ chunksCall n b c (shapeOf c) h ws gs fs
-  unfolding chunksOn chunksCall
-  chunks-known c h ws gs fs e = rw (no-fault, sized, e) (by-cases (ltb hostMax h) (λ u. rw u) (λ u. rw u))
+    class-fits : (many c : ℕ) → ltb c many ≡ true → classFault b h many c ≡ 0
+    unfolding classFault
+    class-fits many c e = rw (call-fits, lt-leb many c (ltb-true c many e))
 
-  chunks-unknown : (c h : ℕ) (ws gs fs : List ℕ) → ltb c 64 ≡ false → chunksReply (chunksOn b c h ws gs fs) ≡ noClassReply b h
-  unfolding chunksOn
-  chunks-unknown c h ws gs fs e = rw (no-fault, e) (by-cases (ltb hostMax h) (λ u. rw u) (λ u. rw u))
+    class-none : (many c : ℕ) → ltb c many ≡ false → classFault b h many c ≡ 4
+    unfolding classFault
+    class-none many c e = rw (call-fits, le-leb many c (ltb-false c many e))
 
-  commit-is : (h m : ℕ) → commitReply (commitOn b h m) ≡ directReply n b (Calls.commit h m)
-  unfolding commitOn directReply
-  commit-is h m = rw (no-fault, sized)
-
-  grow-is : (h q old new : ℕ) → growReply (growOn b h q old new) ≡ directReply n b (Calls.growFrontier h q old new)
-  unfolding growOn directReply
-  grow-is h q old new = rw (no-fault, sized)
-
-  release-is : (h q m : ℕ) → releaseReply (Direct.releaseOn b h q m) ≡ directReply n b (Calls.release h q m)
-  unfolding Direct.releaseOn directReply
-  release-is h q m = rw (no-fault, sized)
-
-  contains-is : (o k : ℕ) → reply 0 (contained (containsOn b o k)) b ≡ directReply n b (Calls.contains o k)
-  unfolding containsOn directReply
-  contains-is o k = rw (no-fault, sized)
-
-  report-is : reply (Direct.reportCode (reportOn b)) (reportedOf (figuresOut (reportOn b) [])) b ≡ directReply n b Calls.report
-  unfolding reportOn directReply reportOf reportCode
-  report-is = rw (no-fault, sized) (by-cases (recordFair n b) (λ u. rw u) (λ u. rw u))
-
-  small-take : (c h : ℕ) (l : List ℕ) → takeReply (takeOn 0 64 b c h l) ≡ callReply n b (Calls.takeBlocks c h l)
-  unfolding callReply directReply
-  small-take c h l = by-cases (ltb c 64) (λ e. rw (e, take-known 0 64 c h l e, zero-plus c)) (λ e. rw (e, take-unknown 0 64 c h l e))
-
-  medium-take : (c h : ℕ) (l : List ℕ) → takeReply (takeOn 64 12 b c h l) ≡ callReply n b (Calls.mediumTakeBlocks c h l)
-  unfolding callReply directReply
-  medium-take c h l = by-cases (ltb c 12) (λ e. rw (e, take-known 64 12 c h l e)) (λ e. rw (e, take-unknown 64 12 c h l e))
-
-  small-release : (c h : ℕ) (ws : List ℕ) → listReply (Blocks.releaseOn 0 64 b c h ws) ≡ callReply n b (Calls.releaseBlocks c h ws)
-  unfolding callReply directReply
-  small-release c h ws = by-cases (ltb c 64) (λ e. rw (e, release-known 0 64 c h ws e, zero-plus c)) (λ e. rw (e, release-unknown 0 64 c h ws e))
-
-  medium-release : (c h : ℕ) (ws : List ℕ) → listReply (Blocks.releaseOn 64 12 b c h ws) ≡ callReply n b (Calls.mediumReleaseBlocks c h ws)
-  unfolding callReply directReply
-  medium-release c h ws = by-cases (ltb c 12) (λ e. rw (e, release-known 64 12 c h ws e)) (λ e. rw (e, release-unknown 64 12 c h ws e))
-
-  chunks-is : (c h : ℕ) (ws gs fs : List ℕ) → chunksReply (chunksOn b c h ws gs fs) ≡ callReply n b (Calls.releaseBinChunks c h ws gs fs)
-  unfolding callReply directReply
-  chunks-is c h ws gs fs = by-cases (ltb c 64) (λ e. rw (e, chunks-known c h ws gs fs e)) (λ e. rw (e, chunks-unknown c h ws gs fs e))
+  past-three : (x : Call) → badHost (hostIn x) ≡ false → call b x ≡ replyAs n b x (wayTo (names x))
+  unfolding call takeOn Blocks.releaseOn chunksOn commitOn growOn Direct.releaseOn containsOn reportOn directReply reportOf reportCode
+  past-three (Calls.takeBlocks c h l) g = by-cases (ltb c 64) (λ e. rw (e, class-fits h g 64 c e, sized, zero-plus c)) (λ e. rw (e, class-none h g 64 c e))
+  past-three (Calls.mediumTakeBlocks c h l) g = by-cases (ltb c 12) (λ e. rw (e, class-fits h g 12 c e, sized)) (λ e. rw (e, class-none h g 12 c e))
+  past-three (Calls.releaseBlocks c h ws) g = by-cases (ltb c 64) (λ e. rw (e, class-fits h g 64 c e, sized, zero-plus c)) (λ e. rw (e, class-none h g 64 c e))
+  past-three (Calls.mediumReleaseBlocks c h ws) g = by-cases (ltb c 12) (λ e. rw (e, class-fits h g 12 c e, sized)) (λ e. rw (e, class-none h g 12 c e))
+  past-three (Calls.releaseBinChunks c h ws gs fs) g = by-cases (ltb c 64) (λ e. rw (e, class-fits h g 64 c e, sized)) (λ e. rw (e, class-none h g 64 c e))
+  past-three (Calls.commit h m) g = rw (call-fits h g, sized)
+  past-three (Calls.growFrontier h q old new) g = rw (call-fits h g, sized)
+  past-three (Calls.release h q m) g = rw (call-fits h g, sized)
+  past-three (Calls.contains o k) g = rw (no-fault, sized)
+  past-three Calls.report g = rw (no-fault, sized) (by-cases (recordFair n b) (λ u. rw u) (λ u. rw u))
 
   pub call-is : (x : Call) → call b x ≡ callReply n b x
-  unfolding call callReply
-  call-is (Calls.takeBlocks c h l) = small-take c h l
-  call-is (Calls.mediumTakeBlocks c h l) = medium-take c h l
-  call-is (Calls.releaseBlocks c h ws) = small-release c h ws
-  call-is (Calls.mediumReleaseBlocks c h ws) = medium-release c h ws
-  call-is (Calls.releaseBinChunks c h ws gs fs) = chunks-is c h ws gs fs
-  call-is (Calls.commit h m) = commit-is h m
-  call-is (Calls.growFrontier h q old new) = grow-is h q old new
-  call-is (Calls.release h q m) = release-is h q m
-  call-is (Calls.contains o k) = contains-is o k
-  call-is Calls.report = report-is
+  unfolding callReply wayOf
+  call-is x = by-cases (badHost (hostIn x)) (λ e. rw e (turned-is x e)) (λ e. rw e (past-three x e))

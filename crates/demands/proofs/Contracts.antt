@@ -1,4 +1,4 @@
--- What a caller sees of the exported functions is the reply of `call`, and of `run` (specs/Contracts). Assumes nothing.
+-- What a caller sees of the exported functions is the reply of `call`, and of `run` (specs/Contracts).
 --     shows-call    of one function
 --     trace-run     of calls in turn, from an opening
 use Prim.Native.Nat.{ℕ, zero, suc, _+_, _≤_, _<_}
@@ -7,23 +7,22 @@ use mathlib.Core.Bool.{Bool, true, false}
 use mathlib.Core.List.{List, [], _∷_}
 use mathlib.Core.Option.{Option, none, some}
 use mathlib.Core.Path.{_≡_, refl, sym, ap, ap₂, _∙_, subst}
-use lib.Dec.{eqb, leb, ltb}
+use lib.Dec.{eqb, leb}
 use lib.ListN.{length}
 use borrow.Author.Tests.{eqb-true, ne-eqb, leb-true}
-use Rattle.words.specs.Host.{digit}
+use Rattle.facts.specs.Lists.{every}
+use Rattle.facts.proofs.Bools.{by-cases, and-left, and-right}
+use Rattle.words.specs.Host.{badHost}
 use Rattle.fields.specs.Field.{arena, size, state, frontier, holePages, get}
 use Rattle.fields.specs.Ranges.{maxPages, metaFault}
 use Rattle.fields.specs.Outcome.{Did}
 use Rattle.model.specs.declared.Hole.{Hole}
-use Rattle.model.specs.Lists.{every}
 use Rattle.model.specs.Calls as Calls
 use Rattle.model.specs.Calls.{Call, taken, fate}
-use Rattle.model.specs.Chunks.{hostMax}
 use Rattle.model.specs.HoleStore.{holeAt}
 use Rattle.model.specs.Heap.{answerRun, badRun}
 use Rattle.model.specs.BestFit.{Commits, from-hole, from-frontier, unusable, ungranted, exhausted}
 use Rattle.model.proofs.BestFit.{commits}
-use Rattle.model.proofs.Counts.{by-cases, and-l, and-r}
 use Rattle.arena.specs.Load.{loadArena, loadStore}
 use Rattle.arena.specs.Fair.{holeFair, holesFair, recordFair, memoryFair, commitFair}
 use Rattle.arena.specs.Calls.{commitCall, commitFor}
@@ -32,17 +31,16 @@ use Rattle.release.specs.Act.{answerAs}
 use Rattle.runs.specs.Answer as Runs
 use Rattle.runs.specs.Answer.{commitCode}
 use Rattle.direct.specs.Answer.{grownAs, growCode, reportOf}
-use Rattle.vigbuso.specs.Direct.{openOn, commitOn, firstOut, freshOut, grownOut, reportOn, ReportEnds}
+use Rattle.vigbuso.specs.Faults.{callFault}
+use Rattle.vigbuso.specs.Direct.{openOn, commitOn, noPage, firstOut, freshOut, grownOut, reportOn, figuresIn, ReportEnds}
 use Rattle.vigbuso.specs.Blocks.{codeOut, countOut, virginOut, releaseCode, fateOut}
-use Rattle.refinement.specs.Direct.{Reply, reply, reportedOf}
+use Rattle.refinement.specs.Direct.{Reply, reply}
+use Rattle.refinement.specs.Run.{repliesFrom}
 use Rattle.demands.specs.Call.{call}
-use Rattle.demands.specs.Run.{Opens, repliesFrom, run}
+use Rattle.demands.specs.Run.{Opens, run}
 use Rattle.demands.specs.Contracts.{runSeen, Shows, take-blocks, medium-take-blocks, release-blocks, medium-release-blocks, release-bin-chunks, commit, grow-frontier, release, contains, report, Trace, ends, calls}
 use Rattle.demands.proofs.Calls.{room-of}
-
-is-one : (v : Bool) → eqb (digit v) 1 ≡ v
-is-one true = refl
-is-one false = refl
+use Rattle.refinement.proofs.Basics.{digit-eqb}
 
 not-zero : (k : ℕ) → eqb (suc k) 0 ≡ false
 not-zero k = ne-eqb (suc k) 0 (λ e. omega (arith, e))
@@ -57,7 +55,7 @@ none-some e = let z : _≡_ {A = ℕ} 0 1 = cc in omega arith
 module _ (b : List ℕ) where
   take-read : (k m : ℕ) (l : List ℕ) (v : Bool) (m₀ v₀ : ℕ)
       → reply k (taken m l v) b ≡ reply (codeOut (answerOf k m v)) (taken (countOut (answerOf k m v) m₀) l (eqb (virginOut (answerOf k m v) v₀) 1)) b
-  take-read zero m l v m₀ v₀ = rw is-one
+  take-read zero m l v m₀ v₀ = rw digit-eqb
   take-read (suc k) m l v m₀ v₀ = rw (not-zero k)
 
   list-read : (k f f₀ : ℕ) → reply k (fate f) b ≡ reply (releaseCode (answerAs k f)) (fate (fateOut (answerAs k f) f₀)) b
@@ -69,32 +67,32 @@ module _ (b : List ℕ) where
   grow-read zero false g₀ = refl
   grow-read (suc k) y g₀ = rw (not-zero k)
 
-  commit-read : (k : ℕ) (q : Option ℕ) (f : Bool) (q₀ f₀ : ℕ) → ((p : ℕ) → k ≡ 0 → q ≡ some p → eqb p 4294967295 ≡ false)
+  commit-read : (k : ℕ) (q : Option ℕ) (f : Bool) (q₀ f₀ : ℕ) → ((p : ℕ) → k ≡ 0 → q ≡ some p → eqb p noPage ≡ false)
       → reply k (answerRun q f) b ≡ reply (commitCode (Runs.answerOf k q f)) (runSeen (firstOut (Runs.answerOf k q f) q₀) (freshOut (Runs.answerOf k q f) f₀)) b
   commit-read zero none f q₀ f₀ low = refl
-  commit-read zero (some p) f q₀ f₀ low = rw (low p refl refl, is-one)
+  commit-read zero (some p) f q₀ f₀ low = rw (low p refl refl, digit-eqb)
   commit-read (suc k) q f q₀ f₀ low = rw (not-zero k)
 
 -- ---- the run that a commit answers lies in the arena, so its first page is not the greatest number
 every-at : (t : Hole → Bool) (i : ℕ) (hs : List Hole) → i < length hs → every t hs ≡ true → t (holeAt i hs) ≡ true
 every-at t i [] l e = absurd (omega arith)
-every-at t zero (h ∷ hs) l e = and-l (t h) _ e
-every-at t (suc i) (h ∷ hs) l e = every-at t i hs (omega arith) (and-r (t h) _ e)
+every-at t zero (h ∷ hs) l e = and-left (t h) _ e
+every-at t (suc i) (h ∷ hs) l e = every-at t i hs (omega arith) (and-right (t h) _ e)
 
 module _ (n : ℕ) (b : List ℕ) (m : ℕ) (fair : commitFair n b m ≡ true) where
   low-frontier : get b (arena frontier) ≤ n
   unfolding commitFair recordFair
-  low-frontier = leb-true (get b (arena frontier)) n (and-l _ _ (and-r (leb (get b (arena state)) 2) _ (and-l _ _ fair)))
+  low-frontier = leb-true (get b (arena frontier)) n (and-left _ _ (and-right (leb (get b (arena state)) 2) _ (and-left _ _ fair)))
 
   fair-holes : every (holeFair (get b (arena holePages)) (get b (arena frontier))) (loadArena b .store .holes) ≡ true
   unfolding commitFair holesFair loadArena loadStore
-  fair-holes = and-r (memoryFair b m) _ (and-r (recordFair n b) _ fair)
+  fair-holes = and-right (memoryFair b m) _ (and-right (recordFair n b) _ fair)
 
   hole-low : (i : ℕ) → i < length (loadArena b .store .holes) → holeAt i (loadArena b .store .holes) .first ≤ n
   hole-low i l =
       let h = holeAt i (loadArena b .store .holes) in
       let e = every-at (holeFair (get b (arena holePages)) (get b (arena frontier))) i (loadArena b .store .holes) l fair-holes in
-      let z : h .first + h .pages ≤ get b (arena frontier) = leb-true (h .first + h .pages) (get b (arena frontier)) (and-r (leb (h .pages) (get b (arena holePages))) _ (and-r (leb 1 (h .pages)) _ e)) in
+      let z : h .first + h .pages ≤ get b (arena frontier) = leb-true (h .first + h .pages) (get b (arena frontier)) (and-right (leb (h .pages) (get b (arena holePages))) _ (and-right (leb 1 (h .pages)) _ e)) in
       omega (arith, z, low-frontier)
 
   run-low : {h : ℕ} {r : Option ℕ} {f : Bool} → Commits n h m (loadArena b) r f → (p : ℕ) → r ≡ some p → p ≤ n
@@ -109,19 +107,19 @@ unfolding metaFault
 sized b u = room-of (get b (arena size)) b (eqb-true (metaFault b) 0 u) .few-pages
 
 -- ---- the calls
-commit-low : (b : List ℕ) (h m p : ℕ) → commitOn b h m .code ≡ 0 → commitOn b h m .run ≡ some p → eqb p 4294967295 ≡ false
-unfolding commitOn commitCall commitFor
+commit-low : (b : List ℕ) (h m p : ℕ) → commitOn b h m .code ≡ 0 → commitOn b h m .run ≡ some p → eqb p noPage ≡ false
+unfolding commitOn commitCall commitFor callFault
 commit-low b h m p c e =
     by-cases (eqb (metaFault b) 0)
-    (λ u. by-cases (ltb hostMax h) (λ v. absurd (none-some (rw (u, v) at e))) (λ v.
+    (λ u. by-cases (badHost h) (λ v. absurd (none-some (rw (u, v) at e))) (λ v.
     by-cases (badRun m) (λ w. absurd (none-some (rw (u, v, w) at e))) (λ w.
     by-cases (commitFair (get b (arena size)) b m)
     (λ x. let z : p ≤ get b (arena size) = run-low (get b (arena size)) b m x (commits (get b (arena size)) h m (loadArena b)) p (rw (u, v, w, x) at e) in
-    ne-eqb p 4294967295 (λ y. omega (arith, y, z, sized b u)))
+    ne-eqb p noPage (λ y. omega (arith, y, z, sized b u)))
     (λ x. absurd (none-some (rw (u, v, w, x) at e))))))
-    (λ u. absurd (none-some (rw u at e)))
+    (λ u. absurd (none-some (rw (u, u) at e)))
 
-report-says : (b fs fs′ : List ℕ) (r : ℕ) → ReportEnds (reportOn b) r fs fs′ → reply r (reportedOf fs′) b ≡ call b Calls.report
+report-says : (b fs fs′ : List ℕ) (r : ℕ) → ReportEnds (reportOn b) r fs fs′ → reply r (Calls.reported (figuresIn fs′)) b ≡ call b Calls.report
 unfolding call reportOn reportOf
 report-says b fs fs′ r e =
     rw (e .code, e .figures)
@@ -139,12 +137,12 @@ shows-call (release-bin-chunks c h r b′ ws gs fs fs′ e) = rw (e .code, e .bo
 shows-call {b} (commit h m r q q′ f f′ b′ e) = rw (e .code, e .book, e .first, e .fresh) (sym (commit-read _ _ _ _ q f (commit-low b h m)))
 shows-call (grow-frontier h q old new r g g′ b′ e) = rw (e .code, e .book, e .grown) (sym (grow-read _ _ _ g))
 shows-call (release h q m r b′ e) = rw (e .code, e .book)
-shows-call (contains o k r e) = rw (e, is-one)
+shows-call (contains o k r e) = rw (e, digit-eqb)
 shows-call {b} (report r fs fs′ e) = report-says b fs fs′ r e
 
-trace-replies : {b : List ℕ} {xs : List Call} {ws : List Reply} → Trace b xs ws → ws ≡ repliesFrom b xs
+trace-replies : {b : List ℕ} {xs : List Call} {ws : List Reply} → Trace b xs ws → ws ≡ repliesFrom call b xs
 trace-replies (ends b) = refl
-trace-replies (calls b x w xs ws s t) = ap₂ _∷_ (shows-call s) (trace-replies t ∙ ap (λ (v : Reply). repliesFrom (v .book) xs) (shows-call s))
+trace-replies (calls b x w xs ws s t) = ap₂ _∷_ (shows-call s) (trace-replies t ∙ ap (λ (v : Reply). repliesFrom call (v .book) xs) (shows-call s))
 
 pub trace-run : (n : ℕ) (b b′ : List ℕ) (xs : List Call) (ws : List Reply) → Did 0 b′ (openOn b n) → Trace b′ xs ws → Opens n b × (ws ≡ run n b xs)
-trace-run n b b′ xs ws d t = (sym (d .answer), trace-replies t ∙ ap (λ (m : List ℕ). repliesFrom m xs) (d .left))
+trace-run n b b′ xs ws d t = (sym (d .answer), trace-replies t ∙ ap (λ (m : List ℕ). repliesFrom call m xs) (d .book))

@@ -1,129 +1,134 @@
--- Demand 2 after a history on the words: what the arena answers, and that a take is not empty without need. Assumes nothing.
+-- Demand 2 after a history on the words: what the arena answers, and that a take is not empty without need.
 --     commit-fits    a direct commit that is not refused is answered by best fit
---     run-fits       so is the commit that a class's call asks for
+--     run-fits       so is the commit that a class's call asks for, and it asks for one exactly as `Asks` says
 --     take-yields    a take that is not refused answers a block, or the arena has no run for it
 use Prim.Native.Nat.{ℕ, _≤_}
-use native.Mathlib.Omega.{arith}
 use mathlib.Core.Bool.{Bool, true, false, cond, false≢true}
 use mathlib.Core.List.{List, [], _∷_}
 use mathlib.Core.Logic.{_⊎_, inl, inr}
-use mathlib.Core.Option.{Option, none, some}
-use mathlib.Core.Path.{_≡_, refl, sym, _∙_}
+use mathlib.Core.Option.{Option, none, some, Option·none-ne-some}
+use mathlib.Core.Path.{_≡_, refl, sym, ap, _∙_}
 use lib.Dec.{ltb}
 use lib.ListN.{length}
 use borrow.Author.Tests.{le-ltb}
+use Rattle.facts.specs.Lists.{isNil}
+use Rattle.facts.proofs.Bools.{by-cases}
+use Rattle.words.specs.Host.{hostMax, badHost}
 use Rattle.classes.specs.declared.Shape.{Shape}
 use Rattle.classes.specs.Shape.{shapeOf}
-use Rattle.model.specs.Lists.{isNil}
 use Rattle.model.specs.Calls as Calls
-use Rattle.model.specs.Calls.{Call, Named, names, hostOf, Request, blocksOf, isRefused}
+use Rattle.model.specs.Calls.{Call, Named, names, wayOf, hostOf, Request, blocksOf, isRefused}
 use Rattle.model.specs.Page.{Page}
 use Rattle.model.specs.Arena as Arenas
 use Rattle.model.specs.Arena.{Arena}
-use Rattle.model.specs.Class.{Class, Cold, Result, Ask, done, asks, serve, takeFrom}
+use Rattle.model.specs.Class as Classes
+use Rattle.model.specs.Class.{Class, Cold, Result, Ask, done, asks, serve, refuse, onRun, takeFrom}
 use Rattle.model.specs.Release.{Site, onPage, releaseList}
-use Rattle.model.specs.Chunks.{releaseChunks, answer, hostMax}
+use Rattle.model.specs.Chunks.{releaseChunks, answer}
 use Rattle.model.specs.Heap.{badRun, runWith, asked, offer, finish, interact, classCall, commitCall, directCall, step}
 use Rattle.model.specs.History.{heapAfter}
 use Rattle.model.specs.BestFit.{Commits, Remembers, from-hole, from-frontier, unusable, ungranted, exhausted}
 use Rattle.model.specs.Yields.{TakeYields, refuses, yields, asks-first}
-use Rattle.model.proofs.Counts.{by-cases}
 use Rattle.model.proofs.Theorems.{best-fit, yielding}
-use Rattle.calls.specs.Take.{Took, takeCall}
 use Rattle.arena.specs.Load.{loadArena}
-use Rattle.refinement.specs.Classes.{takeReply}
-use Rattle.refinement.specs.Run.{callReply}
 use Rattle.demands.specs.Run.{Opens, bookAfter, next}
-use Rattle.demands.specs.Demands.{CommitFits, RunFits, nothing, given, Spent}
-use Rattle.demands.proofs.Histories.{run-represents, next-is, next-agrees}
+use Rattle.demands.specs.Demands.{CommitFits, RunFits, unasked, nothing, given, Asks, Spent}
+use Rattle.demands.proofs.Histories.{run-represents, next-agrees}
+use Rattle.demands.proofs.Codes.{host-of, next-host, next-step, next-unrefused, next-zero}
 
--- ---- a request of a class is done, or asks for m pages
-data AsksFor (m : ℕ) : Ask → Type 0 where
-  is-done : {r : Result} → AsksFor m (done r)
-  is-asked : {k : Option ℕ → Result} → AsksFor m (asks m k)
+-- ---- a request stays with its class, or goes to the arena for m pages; A says that it should
+data Reaches (m : ℕ) (A : Type 0) : Ask → Type 0 where
+  home : {r : Result} → (A → ⊥) → Reaches m A (done r)
+  away : {k : Option ℕ → Result} → A → Reaches m A (asks m k)
 
-asks-cond : (m : ℕ) (t : Bool) (x y : Ask) → AsksFor m x → AsksFor m y → AsksFor m (cond t x y)
-asks-cond m true x y p q = p
-asks-cond m false x y p q = q
+module _ (sh : Shape) (m : ℕ) (A : Type 0) (no : A → ⊥) where
+  at-home : {r : Result} → Reaches m A (done r)
+  at-home = home no
+
+  home-cond : (t : Bool) (x y : Ask) → Reaches m A x → Reaches m A y → Reaches m A (cond t x y)
+  home-cond true x y p q = p
+  home-cond false x y p q = q
+
+  page-home : (h : ℕ) (s : Class) (ws : List ℕ) (x : Option Site) → Reaches m A (onPage sh h s ws x)
+  unfolding onPage
+  page-home h s ws none = at-home
+  page-home h s ws (some x) = search (home-cond, at-home)
+
+  list-home : (s : Class) (h : ℕ) (ws : List ℕ) → Reaches m A (answer sh s (Calls.giveBack h ws))
+  unfolding answer releaseList
+  list-home s h ws = search (home-cond, at-home, page-home)
+
+  chunks-home : (s : Class) (h : ℕ) (ws gs fs : List ℕ) → Reaches m A (answer sh s (Calls.giveChunks h ws gs fs))
+  unfolding answer releaseChunks
+  chunks-home s h ws gs fs = search (home-cond, at-home) depth 9
 
 module _ (sh : Shape) where
-  take-asks : (l : List ℕ) (ps es : List Page) (cs : List Cold) (fs : List Page) → AsksFor (sh .pages) (takeFrom sh l ps es cs fs)
+  take-reaches : (A : Type 0) (l : List ℕ) (ps es : List Page) (cs : List Cold) (fs : List Page) → (A → (ps ≡ []) × (es ≡ []) × (cs ≡ [])) → (ps ≡ [] → es ≡ [] → cs ≡ [] → A)
+      → Reaches (sh .pages) A (takeFrom sh l ps es cs fs)
   unfolding takeFrom
-  take-asks l (p ∷ ps) es cs fs = is-done
-  take-asks l [] (e ∷ es) cs fs = is-done
-  take-asks l [] [] (c ∷ cs) fs = is-done
-  take-asks l [] [] [] fs = is-asked
+  take-reaches A l (p ∷ ps) es cs fs f g = home (λ a. false≢true (ap isNil (f a .0)))
+  take-reaches A l [] (e ∷ es) cs fs f g = home (λ a. false≢true (ap isNil (f a .1)))
+  take-reaches A l [] [] (c ∷ cs) fs f g = home (λ a. false≢true (ap isNil (f a .2)))
+  take-reaches A l [] [] [] fs f g = away (g refl refl refl)
 
-  page-asks : (h : ℕ) (s : Class) (ws : List ℕ) (x : Option Site) → AsksFor (sh .pages) (onPage sh h s ws x)
-  unfolding onPage
-  page-asks h s ws none = is-done
-  page-asks h s ws (some x) = search (asks-cond, is-done)
+  ask-unrefused : (l : List ℕ) (fs : List Page) (g : Option ℕ) → isRefused (serve (takeFrom sh l [] [] [] fs) g .answer) ≡ false
+  unfolding takeFrom onRun Classes.served
+  ask-unrefused l fs none = refl
+  ask-unrefused l fs (some q) = refl
 
-  answer-asks : (s : Class) (r : Request) → AsksFor (sh .pages) (answer sh s r)
-  unfolding answer releaseList releaseChunks
-  answer-asks s (Calls.take h l) = search (asks-cond, is-done, take-asks)
-  answer-asks s (Calls.giveBack h ws) = search (asks-cond, is-done, page-asks)
-  answer-asks s (Calls.giveChunks h ws gs fs) = search (asks-cond, is-done) depth 9
+  module _ (s : Class) (code : ℕ) (g : Option ℕ) where
+    -- the number is 0 exactly if the class, given g, does not refuse
+    record Codes (r : Request) : Type 0 where
+      unrefused : code ≡ 0 → isRefused (serve (answer sh s r) g .answer) ≡ false
+      zero : isRefused (serve (answer sh s r) g .answer) ≡ false → code ≡ 0
 
--- a take asks only if no page of the class is at hand
-done-asks : {r : Result} {m : ℕ} {k : Option ℕ → Result} → _≡_ {A = Ask} (done r) (asks m k) → ⊥
-done-asks e = let z : _≡_ {A = ℕ} 0 1 = cc in omega arith
+    refused-home : (k : ℕ) (r : Request) → (code ≡ 0 → isRefused (serve (refuse s k) g .answer) ≡ false) → Reaches (sh .pages) (Asks s r code) (refuse s k)
+    refused-home k r z = home (λ a. false≢true (sym (z (a .unrefused))))
 
-module _ (sh : Shape) (m : ℕ) (k : Option ℕ → Result) where
-  take-spent : (l : List ℕ) (ps es : List Page) (cs : List Cold) (fs : List Page) → takeFrom sh l ps es cs fs ≡ asks m k → (ps ≡ []) × (es ≡ []) × (cs ≡ [])
-  unfolding takeFrom
-  take-spent l (p ∷ ps) es cs fs e = absurd (done-asks e)
-  take-spent l [] (p ∷ es) cs fs e = absurd (done-asks e)
-  take-spent l [] [] (c ∷ cs) fs e = absurd (done-asks e)
-  take-spent l [] [] [] fs e = (refl, refl, refl)
+    take-home : (h : ℕ) (l : List ℕ) → (code ≡ 0 → isRefused (serve (answer sh s (Calls.take h l)) g .answer) ≡ false)
+        → (isRefused (serve (answer sh s (Calls.take h l)) g .answer) ≡ false → code ≡ 0) → Reaches (sh .pages) (Asks s (Calls.take h l) code) (answer sh s (Calls.take h l))
+    unfolding answer
+    take-home h l z y =
+        by-cases (ltb (length l) (sh .batch)) (λ u. rw u (refused-home 5 (Calls.take h l) (rw u at z)))
+        (λ u. rw u (take-reaches (Asks s (Calls.take h l) code) l (s .partial) (s .empty) (s .cold) (s .full) (λ a. (a .spent .partial, a .spent .empty, a .spent .cold))
+        (λ p q r. record { take = refl; unrefused = (rw (u, p, q, r) at y) (ask-unrefused l (s .full) g); spent = record { partial = p; empty = q; cold = r } })))
 
-  answer-spent : (s : Class) (h : ℕ) (l : List ℕ) → answer sh s (Calls.take h l) ≡ asks m k → Spent s
-  unfolding answer
-  answer-spent s h l e =
-      by-cases (ltb hostMax h) (λ t. absurd (done-asks (rw t at e)))
-      (λ t. by-cases (ltb (length l) (sh .batch)) (λ u. absurd (done-asks (rw (t, u) at e)))
-      (λ u. let r = take-spent l (s .partial) (s .empty) (s .cold) (s .full) (rw (t, u) at e) in record { partial = r .0; empty = r .1; cold = r .2 }))
+    reaches : (r : Request) → Codes r → Reaches (sh .pages) (Asks s r code) (answer sh s r)
+    reaches (Calls.take h l) z = take-home h l (z .unrefused) (z .zero)
+    reaches (Calls.giveBack h ws) z = list-home sh (sh .pages) _ (λ a. false≢true (a .take)) s h ws
+    reaches (Calls.giveChunks h ws gs fs) z = chunks-home sh (sh .pages) _ (λ a. false≢true (a .take)) s h ws gs fs
 
 -- ---- what the arena answers it
-some-none : {q : ℕ} → _≡_ {A = Option ℕ} (some q) none → ⊥
-some-none e = let z : _≡_ {A = ℕ} 0 1 = cc in omega arith
-
 none-fits : {n h m : ℕ} {a : Arena} {r : Option ℕ} {f : Bool} → Commits n h m a r f → r ≡ none → Commits n h m a none false
-none-fits (from-hole i u g l w) e = absurd (some-none e)
-none-fits (from-frontier u g s l) e = absurd (some-none e)
+none-fits (from-hole i u g l w) e = absurd (Option·none-ne-some _ (sym e))
+none-fits (from-frontier u g s l) e = absurd (Option·none-ne-some _ (sym e))
 none-fits (unusable u) e = unusable u
 none-fits (ungranted u) e = ungranted u
 none-fits (exhausted u v) e = exhausted u v
 
-given-fits : {n h m : ℕ} {a : Arena} (r : Option ℕ) (f : Bool) → Commits n h m a r f → RunFits n h m a (runWith m r)
-given-fits none f c = nothing
-given-fits (some q) f c = given q f c
-
 module _ (n h m : ℕ) (a : Arena) (fits : Commits n h m a (Arenas.commit n h m a .run) (Arenas.commit n h m a .fresh)) where
-  offer-fits : {q : Ask} → AsksFor m q → RunFits n h m a (runWith (asked q) (offer n h a q .run))
+  given-fits : {A : Type 0} → A → (r : Option ℕ) (f : Bool) → Commits n h m a r f → RunFits n h m a A (runWith m r)
+  given-fits p none f c = nothing p (none-fits c refl)
+  given-fits p (some q) f c = given p q f c
+
+  offer-fits : {A : Type 0} {q : Ask} → Reaches m A q → RunFits n h m a A (runWith (asked q) (offer n h a q .run))
   unfolding offer
-  offer-fits is-done = nothing
-  offer-fits is-asked = given-fits (Arenas.commit n h m a .run) (Arenas.commit n h m a .fresh) fits
+  offer-fits (home f) = unasked f
+  offer-fits (away p) = given-fits p (Arenas.commit n h m a .run) (Arenas.commit n h m a .fresh) fits
 
   serve-yields : (r : Option ℕ) → Arenas.commit n h m a .run ≡ r → (k : Option ℕ → Result) → ((q : ℕ) → isNil (blocksOf (k (some q) .answer)) ≡ false)
       → (isNil (blocksOf (k r .answer)) ≡ false) ⊎ Commits n h m a none false
   serve-yields none e k y = inr (none-fits fits e)
   serve-yields (some q) e k y = inl (y q)
 
-  offer-yields : {q : Ask} → AsksFor m q → TakeYields q → isRefused (serve q (offer n h a q .run) .answer) ≡ false
-      → (isNil (blocksOf (serve q (offer n h a q .run) .answer)) ≡ false) ⊎ (((k : Option ℕ → Result) × (q ≡ asks m k)) × Commits n h m a none false)
+  offer-yields : {A : Type 0} {q : Ask} → Reaches m A q → TakeYields q → isRefused (serve q (offer n h a q .run) .answer) ≡ false
+      → (isNil (blocksOf (serve q (offer n h a q .run) .answer)) ≡ false) ⊎ (A × Commits n h m a none false)
   unfolding offer
-  offer-yields is-done (refuses r) u = absurd (false≢true (sym u ∙ r))
-  offer-yields is-done (yields y) u = inl y
-  offer-yields (is-asked {k}) (asks-first y) u = elim (serve-yields (Arenas.commit n h m a .run) refl k y) [ inl z ↦ inl z | inr w ↦ inr ((k, refl), w) ]
+  offer-yields (home f) (refuses r) u = absurd (false≢true (sym u ∙ r))
+  offer-yields (home f) (yields y) u = inl y
+  offer-yields (away {k} p) (asks-first y) u = elim (serve-yields (Arenas.commit n h m a .run) refl k y) [ inl z ↦ inl z | inr w ↦ inr (p, w) ]
 
 -- ---- after a history
-taken-unrefused : (w : Took) → takeReply w .code ≡ 0 → isRefused (takeReply w .answer) ≡ false
-taken-unrefused w e = rw e
-
-abbrev takeAsk : ℕ → List Call → ℕ → ℕ → List ℕ → Ask
-takeAsk n xs c h l = answer (shapeOf c) (heapAfter n xs .classes c) (Calls.take h l)
-
 module _ (n : ℕ) (b : List ℕ) (o : Opens n b) (xs : List Call) where
   loads : loadArena (bookAfter n b xs) ≡ heapAfter n xs .arena
   loads = run-represents n b o xs .arena .loads
@@ -132,7 +137,7 @@ module _ (n : ℕ) (b : List ℕ) (o : Opens n b) (xs : List Call) where
   memory-fits = rw loads (best-fit n xs .remembers)
 
   pub commit-fits : (h m : ℕ) → h ≤ hostMax → badRun m ≡ false → CommitFits n h m (loadArena (bookAfter n b xs)) (next n b xs (Calls.commit h m) .answer)
-  unfolding step directCall commitCall
+  unfolding step wayOf directCall commitCall
   commit-fits h m low good = record {
     run = Arenas.commit n h m (heapAfter n xs .arena) .run;
     fresh = Arenas.commit n h m (heapAfter n xs .arena) .fresh;
@@ -140,31 +145,60 @@ module _ (n : ℕ) (b : List ℕ) (o : Opens n b) (xs : List Call) where
     answer = next-agrees n b o xs (Calls.commit h m) .answer ∙ rw (le-ltb hostMax h low, good);
   }
 
-  pub run-fits : (x : Call) (d : Named) → names x ≡ some d
-      → RunFits n (hostOf (d .request)) (shapeOf (d .class) .pages) (loadArena (bookAfter n b xs)) (step n (heapAfter n xs) x .run)
-  unfolding step classCall interact finish
-  run-fits x d e =
-      rw (e, loads) (offer-fits n (hostOf (d .request)) (shapeOf (d .class) .pages) (heapAfter n xs .arena) (best-fit n xs .commits (hostOf (d .request)) (shapeOf (d .class) .pages))
-      (answer-asks (shapeOf (d .class)) (heapAfter n xs .classes (d .class)) (d .request)))
+  -- a call that names a class and passed number 3 is answered by the class, after what the arena gives it
+  module _ (x : Call) (d : Named) (e : names x ≡ some d) where
+    abbrev ask : Ask
+    ask = answer (shapeOf (d .class)) (heapAfter n xs .classes (d .class)) (d .request)
 
-  -- the answer to a take is the class's, after what the arena gives it
+    abbrev gives : Option ℕ
+    gives = offer n (hostOf (d .request)) (heapAfter n xs .arena) ask .run
+
+    abbrev Asked : Type 0
+    Asked = Asks (heapAfter n xs .classes (d .class)) (d .request) (next n b xs x .code)
+
+    module _ (host : badHost (hostOf (d .request)) ≡ false) where
+      codes : Codes (shapeOf (d .class)) (heapAfter n xs .classes (d .class)) (next n b xs x .code) gives (d .request)
+      unfolding classCall interact finish
+      codes = record {
+        unrefused = next-unrefused n b o xs x d e host;
+        zero = next-zero n b o xs x d e host;
+      }
+
+      served : next n b xs x .answer ≡ serve ask gives .answer
+      unfolding classCall interact finish
+      served = next-agrees n b o xs x .answer ∙ rw (next-step n b o xs x d e host)
+
+      reached : Reaches (shapeOf (d .class) .pages) Asked ask
+      reached = reaches (shapeOf (d .class)) (heapAfter n xs .classes (d .class)) (next n b xs x .code) gives (d .request) codes
+
+      class-fits : RunFits n (hostOf (d .request)) (shapeOf (d .class) .pages) (loadArena (bookAfter n b xs)) Asked (classCall n (heapAfter n xs) (d .class) (d .request) .run)
+      unfolding classCall interact finish
+      class-fits =
+          rw loads
+          (offer-fits n (hostOf (d .request)) (shapeOf (d .class) .pages) (heapAfter n xs .arena) (best-fit n xs .commits (hostOf (d .request)) (shapeOf (d .class) .pages)) reached)
+
+    no-run : badHost (hostOf (d .request)) ≡ true → step n (heapAfter n xs) x .run ≡ none
+    unfolding step wayOf
+    no-run t = rw (host-of x d e, t)
+
+    pub run-fits : RunFits n (hostOf (d .request)) (shapeOf (d .class) .pages) (loadArena (bookAfter n b xs)) Asked (step n (heapAfter n xs) x .run)
+    run-fits =
+        by-cases (badHost (hostOf (d .request)))
+        (λ t. rw (no-run t) (unasked (λ a. false≢true (sym (next-host n b o xs x d e (a .unrefused)) ∙ t))))
+        (λ t. rw (next-step n b o xs x d e t) (class-fits t))
+
   module _ (x : Call) (c h : ℕ) (l : List ℕ) (e : names x ≡ some (record { class = c; request = Calls.take h l })) where
-    served : next n b xs x .answer ≡ serve (takeAsk n xs c h l) (offer n h (heapAfter n xs .arena) (takeAsk n xs c h l) .run) .answer
-    unfolding step classCall interact finish
-    served = next-agrees n b o xs x .answer ∙ rw e
+    abbrev taking : Named
+    taking = record { class = c; request = Calls.take h l }
 
-    unrefused : next n b xs x .code ≡ 0 → isRefused (next n b xs x .answer) ≡ false
-    unfolding callReply
-    unrefused z = rw (next-is n b o xs x, e) (taken-unrefused (takeCall n (bookAfter n b xs) c (shapeOf c) h l) (rw (next-is n b o xs x, e) at z))
-
-    spent : {A : Type 0} {m : ℕ} {a : Arena} → A ⊎ (((k : Option ℕ → Result) × (takeAsk n xs c h l ≡ asks m k)) × Commits n h m a none false)
-        → A ⊎ (Spent (heapAfter n xs .classes c) × Commits n h m a none false)
+    spent : {A B : Type 0} → A ⊎ (Asked x taking e × B) → A ⊎ (Spent (heapAfter n xs .classes c) × B)
     spent (inl p) = inl p
-    spent {m = m} (inr p) = inr (answer-spent (shapeOf c) m (p .0 .0) (heapAfter n xs .classes c) h l (p .0 .1), p .1)
+    spent (inr p) = inr (p .0 .spent, p .1)
 
     pub take-yields : next n b xs x .code ≡ 0
         → (isNil (blocksOf (next n b xs x .answer)) ≡ false) ⊎ (Spent (heapAfter n xs .classes c) × Commits n h (shapeOf c .pages) (loadArena (bookAfter n b xs)) none false)
     take-yields z =
-        rw (loads, served)
-        (spent (offer-yields n h (shapeOf c .pages) (heapAfter n xs .arena) (best-fit n xs .commits h (shapeOf c .pages)) (answer-asks (shapeOf c) (heapAfter n xs .classes c) (Calls.take h l))
-        (yielding n xs .takes c h l) (rw served at (unrefused z))))
+        let t = next-host n b o xs x taking e z in
+        rw (loads, served x taking e t)
+        (spent (offer-yields n h (shapeOf c .pages) (heapAfter n xs .arena) (best-fit n xs .commits h (shapeOf c .pages)) (reached x taking e t) (yielding n xs .takes c h l)
+        (codes x taking e t .unrefused z)))

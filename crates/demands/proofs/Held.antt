@@ -1,64 +1,52 @@
--- A run held by the direct calls can be released, and no other: number 12 goes by what the calls and their answers tell. Assumes nothing.
-use Prim.Native.Nat.{ℕ, zero, suc, _+_, _-_, _≤_, _<_}
+-- A run held by the direct calls can be released or grown, and no other: number 12 goes by what the calls and their answers tell.
+--     held-releases, held-grows       a direct release, a growth is not refused exactly if each page of the run is held so
+--     unheld-refused, unheld-stays    else it is refused as 12
+--     growth-fits                     and a growth that is not refused is answered yes or no with its reason
+use Prim.Native.Nat.{ℕ, _+_, _-_, _≤_, _<_}
 use native.Mathlib.Omega.{arith}
-use native.Mathlib.Decide.{ℕ-discrete}
-use mathlib.Core.Bool.{Bool, true, false, false≢true}
+use mathlib.Core.Bool.{true, false, false≢true}
 use mathlib.Core.List.{List}
 use mathlib.Core.Logic.{_↔_}
-use mathlib.Core.Path.{_≡_, refl, sym, _∙_}
+use mathlib.Core.Path.{_≡_, refl, sym, ap, _∙_}
 use lib.Dec.{eqb, leb}
-use borrow.Author.Tests.{eqb-true, le-leb, le-ltb}
-use Rattle.model.specs.Lists.{every, below}
+use borrow.Author.Tests.{eqb-true, eqb-false, leb-true, leb-false, le-leb, lt-leb, le-ltb}
+use Rattle.facts.proofs.Bools.{by-cases, and-right}
+use Rattle.facts.proofs.Lists.{every-at, every-of}
+use Rattle.words.specs.Host.{hostMax, commitGranted}
 use Rattle.model.specs.Calls as Calls
-use Rattle.model.specs.Calls.{Call, isRefused}
-use Rattle.model.specs.Chunks.{hostMax}
-use Rattle.model.specs.Heap.{Holder, nobody, direct, class, isDirect, isHeld, badRun, heldDirect, releaseCall, directCall, step}
+use Rattle.model.specs.Calls.{Call, wayOf, isRefused}
+use Rattle.model.specs.Arena.{Arena, grow}
+use Rattle.model.specs.Heap.{isDirect, badRun, heldDirect, growCall, releaseCall, directCall, step}
 use Rattle.model.specs.History.{heapAfter}
 use Rattle.model.specs.Entries.{directAfter}
-use Rattle.model.proofs.Counts.{by-cases, and-l, and-r}
 use Rattle.model.proofs.Theorems.{conserved}
-use Rattle.arena.specs.Calls.{Done}
-use Rattle.vigbuso.specs.Direct.{releaseOn}
-use Rattle.refinement.specs.Direct.{releaseReply}
+use Rattle.arena.specs.Load.{loadArena}
+use Rattle.vigbuso.specs.Direct.{growOn, releaseOn}
 use Rattle.refinement.proofs.ArenaReached.{reached-after, held-below}
+use Rattle.refinement.proofs.DirectCalls.{direct-held, good-run}
 use Rattle.demands.specs.Call.{call}
 use Rattle.demands.specs.Run.{Opens, bookAfter, next, told}
-use Rattle.demands.proofs.Histories.{next-agrees}
+use Rattle.demands.specs.Demands.{Grows, grew, elsewhere, exhausted, ungranted, GrowFits}
+use Rattle.demands.proofs.Histories.{run-represents, next-agrees}
+use Rattle.demands.proofs.Codes.{zero-of, unrefused-of}
 use Rattle.demands.proofs.Told.{told-direct}
 
-every-of : (t : ℕ → Bool) (m : ℕ) → ((k : ℕ) → k < m → t k ≡ true) → every t (below m) ≡ true
-every-of t zero h = refl
-every-of t (suc m) h = rw (h m (omega arith), every-of t m (λ k l. h k (omega arith)))
-
-every-at : (t : ℕ → Bool) (m k : ℕ) → every t (below m) ≡ true → k < m → t k ≡ true
-every-at t zero k e l = absurd (omega arith)
-every-at t (suc m) k e l =
-    elim (ℕ-discrete k m) [
-      | yes p ↦ rw p (and-l (t m) _ e)
-      | no p ↦ every-at t m k (and-r (t m) _ e) (omega (arith, p))
-    ]
-
-direct-held : (w : Holder) → isDirect w ≡ true → 1 ≤ isHeld w
-direct-held nobody e = absurd (false≢true e)
-direct-held direct e = omega arith
-direct-held (class c) e = absurd (false≢true e)
-
-some-run : (m : ℕ) → badRun m ≡ false → 1 ≤ m
-unfolding badRun
-some-run zero e = absurd (false≢true (sym e))
-some-run (suc m) e = omega arith
-
-unrefused : (w : Done) → isRefused (releaseReply w .answer) ≡ false → releaseReply w .code ≡ 0
-unrefused w e = by-cases (eqb (w .code) 0) (λ z. eqb-true (w .code) 0 z) (λ z. absurd (false≢true (sym (rw z at e))))
-
-done-unrefused : (w : Done) → releaseReply w .code ≡ 0 → isRefused (releaseReply w .answer) ≡ false
-done-unrefused w e = rw e
+grow-fits : (n h e m : ℕ) (a : Arena) → Grows n h e m a (grow n h e m a .grew)
+unfolding grow
+grow-fits n h e m a =
+    by-cases (eqb (a .frontier) e)
+    (λ f. by-cases (leb (e + m) n)
+    (λ l. by-cases (commitGranted h)
+    (λ c. rw (f, l, c) (grew (eqb-true (a .frontier) e f) (leb-true (e + m) n l) c))
+    (λ c. rw (f, l, c) (ungranted c)))
+    (λ l. rw (f, l) (exhausted (leb-false (e + m) n l))))
+    (λ f. rw f (elsewhere (eqb-false (a .frontier) e f)))
 
 module _ (n : ℕ) (xs : List Call) (h q m : ℕ) (low : h ≤ hostMax) (good : badRun m ≡ false) where
   held-run : ((k : ℕ) → k < m → isDirect (heapAfter n xs .holder (q + k)) ≡ true) → heldDirect n (heapAfter n xs) q m ≡ true
   unfolding heldDirect
   held-run f =
-      let some : 1 ≤ m = some-run m good in
+      let some : 1 ≤ m = good-run m good in
       let r = reached-after n xs in
       let z = held-below n (heapAfter n xs) r (q + (m - 1)) (direct-held (heapAfter n xs .holder (q + (m - 1))) (f (m - 1) (omega arith))) in
       let l : q + m ≤ n = omega (arith, z, r .bound) in
@@ -66,31 +54,48 @@ module _ (n : ℕ) (xs : List Call) (h q m : ℕ) (low : h ≤ hostMax) (good : 
 
   run-held : heldDirect n (heapAfter n xs) q m ≡ true → (k : ℕ) → k < m → isDirect (heapAfter n xs .holder (q + k)) ≡ true
   unfolding heldDirect
-  run-held e k l = every-at (λ k. isDirect (heapAfter n xs .holder (q + k))) m k (and-r (leb (q + m) n) _ e) l
+  run-held e k l = every-at (λ k. isDirect (heapAfter n xs .holder (q + k))) m k (and-right (leb (q + m) n) _ e) l
 
   -- with a host word and a run that are in order, the test of 12 decides
   step-held : heldDirect n (heapAfter n xs) q m ≡ true → isRefused (step n (heapAfter n xs) (Calls.release h q m) .answer) ≡ false
-  unfolding step directCall releaseCall
+  unfolding step wayOf directCall releaseCall
   step-held e = rw (le-ltb hostMax h low, good, e)
 
-  step-not : heldDirect n (heapAfter n xs) q m ≡ false → isRefused (step n (heapAfter n xs) (Calls.release h q m) .answer) ≡ true
-  unfolding step directCall releaseCall
+  step-not : heldDirect n (heapAfter n xs) q m ≡ false → step n (heapAfter n xs) (Calls.release h q m) .answer ≡ Calls.refused 12
+  unfolding step wayOf directCall releaseCall
   step-not e = rw (le-ltb hostMax h low, good, e)
+
+module _ (n : ℕ) (xs : List Call) (h q old new : ℕ) (low : h ≤ hostMax) (good : badRun old ≡ false) (good′ : badRun new ≡ false) (more : old < new) where
+  step-grows : heldDirect n (heapAfter n xs) q old ≡ true → step n (heapAfter n xs) (Calls.growFrontier h q old new) .answer ≡ Calls.grown (grow n h (q + old) (new - old) (heapAfter n xs .arena) .grew)
+  unfolding step wayOf directCall growCall
+  step-grows e = rw (le-ltb hostMax h low, good, good′, lt-leb new old more, e)
+
+  step-stays : heldDirect n (heapAfter n xs) q old ≡ false → step n (heapAfter n xs) (Calls.growFrontier h q old new) .answer ≡ Calls.refused 12
+  unfolding step wayOf directCall growCall
+  step-stays e = rw (le-ltb hostMax h low, good, good′, lt-leb new old more, e)
 
 module _ (n : ℕ) (b : List ℕ) (o : Opens n b) (xs : List Call) where
   tells : (x : ℕ) → directAfter (told n b xs) x ≡ isDirect (heapAfter n xs .holder x)
   tells x = told-direct n b o xs x ∙ conserved n xs .direct x
+
+  -- a run with a page that is not held so
+  not-held : (h q m : ℕ) → h ≤ hostMax → badRun m ≡ false → (k : ℕ) → k < m → directAfter (told n b xs) (q + k) ≡ false → heldDirect n (heapAfter n xs) q m ≡ false
+  not-held h q m low good k l e =
+      by-cases (heldDirect n (heapAfter n xs) q m) (λ t. absurd (false≢true (sym e ∙ tells (q + k) ∙ run-held n xs h q m low good t k l))) (λ t. t)
+
+  pub unheld-refused : (h q m : ℕ) → h ≤ hostMax → badRun m ≡ false → (k : ℕ) → k < m → directAfter (told n b xs) (q + k) ≡ false → next n b xs (Calls.release h q m) .answer ≡ Calls.refused 12
+  unheld-refused h q m low good k l e = next-agrees n b o xs (Calls.release h q m) .answer ∙ step-not n xs h q m low good (not-held h q m low good k l e)
 
   module _ (h q m : ℕ) (low : h ≤ hostMax) (good : badRun m ≡ false) where
     released-held : next n b xs (Calls.release h q m) .code ≡ 0 → heldDirect n (heapAfter n xs) q m ≡ true
     unfolding call
     released-held e =
         by-cases (heldDirect n (heapAfter n xs) q m) (λ t. t)
-        (λ t. absurd (false≢true (sym (rw (next-agrees n b o xs (Calls.release h q m) .answer) at (done-unrefused (releaseOn (bookAfter n b xs) h q m) e)) ∙ step-not n xs h q m low good t)))
+        (λ t. absurd (false≢true (sym (rw (next-agrees n b o xs (Calls.release h q m) .answer) at (unrefused-of (releaseOn (bookAfter n b xs) h q m .code) Calls.released refl e)) ∙ ap isRefused (step-not n xs h q m low good t))))
 
     held-released : heldDirect n (heapAfter n xs) q m ≡ true → next n b xs (Calls.release h q m) .code ≡ 0
     unfolding call
-    held-released t = unrefused (releaseOn (bookAfter n b xs) h q m) (rw (next-agrees n b o xs (Calls.release h q m) .answer) (step-held n xs h q m low good t))
+    held-released t = zero-of (releaseOn (bookAfter n b xs) h q m .code) Calls.released (rw (next-agrees n b o xs (Calls.release h q m) .answer) (step-held n xs h q m low good t))
 
   pub held-releases : (h q m : ℕ) → h ≤ hostMax → badRun m ≡ false
       → (next n b xs (Calls.release h q m) .code ≡ 0) ↔ ((k : ℕ) → k < m → directAfter (told n b xs) (q + k) ≡ true)
@@ -98,3 +103,35 @@ module _ (n : ℕ) (b : List ℕ) (o : Opens n b) (xs : List Call) where
     λ e k l. tells (q + k) ∙ run-held n xs h q m low good (released-held h q m low good e) k l,
     λ f. held-released h q m low good (held-run n xs h q m low good (λ k l. sym (tells (q + k)) ∙ f k l)),
   )
+
+  module _ (h q old new : ℕ) (low : h ≤ hostMax) (good : badRun old ≡ false) (good′ : badRun new ≡ false) (more : old < new) where
+    grown-held : next n b xs (Calls.growFrontier h q old new) .code ≡ 0 → heldDirect n (heapAfter n xs) q old ≡ true
+    unfolding call
+    grown-held e =
+        let w = growOn (bookAfter n b xs) h q old new in
+        let u : isRefused (step n (heapAfter n xs) (Calls.growFrontier h q old new) .answer) ≡ false = rw (next-agrees n b o xs (Calls.growFrontier h q old new) .answer) at (unrefused-of (w .code) (Calls.grown (w .yes)) refl e) in
+        by-cases (heldDirect n (heapAfter n xs) q old) (λ t. t) (λ t. absurd (false≢true (sym u ∙ ap isRefused (step-stays n xs h q old new low good good′ more t))))
+
+    held-grown : heldDirect n (heapAfter n xs) q old ≡ true → next n b xs (Calls.growFrontier h q old new) .code ≡ 0
+    unfolding call
+    held-grown t =
+        let w = growOn (bookAfter n b xs) h q old new in
+        let u : isRefused (step n (heapAfter n xs) (Calls.growFrontier h q old new) .answer) ≡ false = rw (step-grows n xs h q old new low good good′ more t) in
+        zero-of (w .code) (Calls.grown (w .yes)) (rw (next-agrees n b o xs (Calls.growFrontier h q old new) .answer) u)
+
+    pub held-grows : (next n b xs (Calls.growFrontier h q old new) .code ≡ 0) ↔ ((k : ℕ) → k < old → directAfter (told n b xs) (q + k) ≡ true)
+    held-grows = (
+      λ e k l. tells (q + k) ∙ run-held n xs h q old low good (grown-held e) k l,
+      λ f. held-grown (held-run n xs h q old low good (λ k l. sym (tells (q + k)) ∙ f k l)),
+    )
+
+    pub growth-fits : next n b xs (Calls.growFrontier h q old new) .code ≡ 0
+        → GrowFits n h (q + old) (new - old) (loadArena (bookAfter n b xs)) (next n b xs (Calls.growFrontier h q old new) .answer)
+    growth-fits e = record {
+      yes = grow n h (q + old) (new - old) (heapAfter n xs .arena) .grew;
+      fits = rw (run-represents n b o xs .arena .loads) (grow-fits n h (q + old) (new - old) (heapAfter n xs .arena));
+      answer = next-agrees n b o xs (Calls.growFrontier h q old new) .answer ∙ step-grows n xs h q old new low good good′ more (grown-held e);
+    }
+
+    pub unheld-stays : (k : ℕ) → k < old → directAfter (told n b xs) (q + k) ≡ false → next n b xs (Calls.growFrontier h q old new) .answer ≡ Calls.refused 12
+    unheld-stays k l e = next-agrees n b o xs (Calls.growFrontier h q old new) .answer ∙ step-stays n xs h q old new low good good′ more (not-held h q old low good k l e)

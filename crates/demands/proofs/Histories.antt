@@ -1,4 +1,4 @@
--- A history on the words is the model's. Assumes nothing.
+-- A history on the words is the model's.
 --     run-is            the replies of `run` are the refinement's, from an unrefused opening on any book
 --     run-answers       its answers are the model's
 --     run-fair          number 13 is never among its codes
@@ -11,9 +11,9 @@ use mathlib.Core.Path.{_≡_, refl, sym, ap, _∙_, subst}
 use lib.Dec.{leb}
 use lib.ListN.{length}
 use borrow.Author.Tests.{le-leb}
+use Rattle.facts.specs.Lists.{All}
 use Rattle.fields.specs.Field.{words}
 use Rattle.fields.specs.Ranges.{maxPages}
-use Rattle.model.specs.Lists.{All}
 use Rattle.model.specs.Calls.{Call}
 use Rattle.model.specs.Heap.{Heap, step, newHeap}
 use Rattle.model.specs.History.{heapAfter, answers}
@@ -21,20 +21,19 @@ use Rattle.arena.specs.Open.{opened}
 use Rattle.vigbuso.specs.Direct.{openOn}
 use Rattle.refinement.specs.Represents.{Represents}
 use Rattle.refinement.specs.Direct.{Reply, Agrees}
-use Rattle.refinement.specs.Run as Words
-use Rattle.refinement.specs.Run.{callReply, answersIn}
+use Rattle.refinement.specs.Run.{callReply, repliesFrom, bookFrom, answersIn}
 use Rattle.refinement.proofs.ArenaReached.{heap-next}
 use Rattle.refinement.proofs.OpenRep.{opened-represents}
 use Rattle.refinement.proofs.Whole as Whole
 use Rattle.refinement.proofs.Whole.{call-whole}
 use Rattle.demands.specs.Call.{call}
-use Rattle.demands.specs.Run.{Opens, repliesFrom, bookFrom, run, bookAfter, next}
+use Rattle.demands.specs.Run.{Opens, run, bookAfter, next}
 use Rattle.demands.proofs.Calls.{room, opened-by, call-is}
 
 -- the calls xs, on a book that stands for the heap after the history ys
 record Same (n : ℕ) (b : List ℕ) (xs : List Call) : Type 0 where
-  replies : repliesFrom b xs ≡ Words.repliesFrom n b xs
-  book : bookFrom b xs ≡ Words.bookFrom n b xs
+  replies : repliesFrom call b xs ≡ repliesFrom (callReply n) b xs
+  book : bookFrom call b xs ≡ bookFrom (callReply n) b xs
 
 module _ (n : ℕ) (some-pages : 1 ≤ n) (few-pages : n ≤ maxPages) where
   same : (xs ys : List Call) (b : List ℕ) → Represents n b (heapAfter n ys) → Same n b xs
@@ -46,24 +45,24 @@ module _ (n : ℕ) (some-pages : 1 ≤ n) (few-pages : n ≤ maxPages) where
       let R₁ : Represents n b₁ (heapAfter n (ys ++ x ∷ [])) = subst (λ (H : Heap). Represents n b₁ H) (sym g) (call-whole n few-pages ys b R x .heap) in
       let ih = same xs (ys ++ x ∷ []) b₁ R₁ in
       record {
-        replies = ap (λ (r : Reply). r ∷ repliesFrom (r .book) xs) e ∙ ap (λ (rs : List Reply). callReply n b x ∷ rs) (ih .replies);
-        book = ap (λ (r : Reply). bookFrom (r .book) xs) e ∙ ih .book;
+        replies = ap (λ (r : Reply). r ∷ repliesFrom call (r .book) xs) e ∙ ap (λ (rs : List Reply). callReply n b x ∷ rs) (ih .replies);
+        book = ap (λ (r : Reply). bookFrom call (r .book) xs) e ∙ ih .book;
       }
 
 module _ (n : ℕ) (b : List ℕ) (o : Opens n b) (xs : List Call) where
   long : leb (words n) (length b) ≡ true
   long = le-leb (words n) (length b) (room n b o .long)
 
-  whole : Same n (openOn b n .meta) xs
+  whole : Same n (openOn b n .book) xs
   whole =
       let r = room n b o in
       subst (λ (d : List ℕ). Same n d xs) (sym (opened-by n b o)) (same n (r .some-pages) (r .few-pages) xs [] (opened n b) (opened-represents n b long))
 
-  pub run-is : run n b xs ≡ Words.repliesFrom n (opened n b) xs
-  run-is = whole .replies ∙ ap (λ (d : List ℕ). Words.repliesFrom n d xs) (opened-by n b o)
+  pub run-is : run n b xs ≡ repliesFrom (callReply n) (opened n b) xs
+  run-is = whole .replies ∙ ap (λ (d : List ℕ). repliesFrom (callReply n) d xs) (opened-by n b o)
 
-  pub book-is : bookAfter n b xs ≡ Words.bookAfter n b xs
-  book-is = whole .book ∙ ap (λ (d : List ℕ). Words.bookFrom n d xs) (opened-by n b o)
+  pub book-is : bookAfter n b xs ≡ bookFrom (callReply n) (opened n b) xs
+  book-is = whole .book ∙ ap (λ (d : List ℕ). bookFrom (callReply n) d xs) (opened-by n b o)
 
   pub run-answers : answersIn (run n b xs) ≡ answers n xs
   run-answers = ap answersIn run-is ∙ Whole.run-answers n (room n b o .few-pages) b long xs
@@ -82,9 +81,9 @@ module _ (n : ℕ) (b : List ℕ) (o : Opens n b) (xs : List Call) where
   next-agrees x = rw next-is (call-whole n (room n b o .few-pages) xs (bookAfter n b xs) run-represents x)
 
 -- every reply of a history is one of those
-replies-split : (b : List ℕ) (xs : List Call) (x : Call) (ys : List Call) → repliesFrom b (xs ++ x ∷ ys) ≡ repliesFrom b xs ++ (call (bookFrom b xs) x ∷ repliesFrom (call (bookFrom b xs) x .book) ys)
+replies-split : (b : List ℕ) (xs : List Call) (x : Call) (ys : List Call) → repliesFrom call b (xs ++ x ∷ ys) ≡ repliesFrom call b xs ++ (call (bookFrom call b xs) x ∷ repliesFrom call (call (bookFrom call b xs) x .book) ys)
 replies-split b [] x ys = refl
 replies-split b (y ∷ xs) x ys = ap (λ (rs : List Reply). call b y ∷ rs) (replies-split (call b y .book) xs x ys)
 
-pub run-calls : (n : ℕ) (b : List ℕ) (xs : List Call) (x : Call) (ys : List Call) → run n b (xs ++ x ∷ ys) ≡ run n b xs ++ (next n b xs x ∷ repliesFrom (next n b xs x .book) ys)
-run-calls n b = replies-split (openOn b n .meta)
+pub run-calls : (n : ℕ) (b : List ℕ) (xs : List Call) (x : Call) (ys : List Call) → run n b (xs ++ x ∷ ys) ≡ run n b xs ++ (next n b xs x ∷ repliesFrom call (next n b xs x .book) ys)
+run-calls n b = replies-split (openOn b n .book)

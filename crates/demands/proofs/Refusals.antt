@@ -1,9 +1,9 @@
 -- Demand 1: every exported function answers the first number of document 01's table that applies to the call, and a refusal changes
--- nothing. Assumes nothing.
+-- nothing.
 --     .. -refuses         for each function
 --     demand-1            all of them, in one record
 --     refused-exactly     a call is refused exactly when a number of its table applies
-use Prim.Native.Nat.{ℕ, zero, suc, _≤_}
+use Prim.Native.Nat.{ℕ, zero, suc}
 use native.Mathlib.Omega.{arith}
 use mathlib.Core.Bool.{Bool, true, false, not, true≢false}
 use mathlib.Core.List.{List, [], _∷_}
@@ -12,14 +12,14 @@ use mathlib.Core.Path.{_≡_, refl, sym, ap, _∙_}
 use mathlib.Core.Logic.{_↔_}
 use lib.Dec.{eqb, leb, ltb}
 use borrow.Author.Tests.{ltb-true, lt-leb, eqb-true}
+use Rattle.facts.specs.Lists.{every, any}
+use Rattle.facts.proofs.Bools.{by-cases, and-left, and-right}
 use Rattle.words.specs.Host.{digit}
 use Rattle.classes.specs.Lookup.{classForSize, mediumClassForSize}
 use Rattle.classes.proofs.Meaning.{small-class, medium-class}
 use Rattle.fields.specs.Field.{arena, size, state, get}
 use Rattle.fields.specs.Ranges.{metaFault}
-use Rattle.model.specs.Lists.{any}
 use Rattle.model.specs.Arena.{contains, isReady}
-use Rattle.model.proofs.Counts.{by-cases, and-l, and-r}
 use Rattle.arena.specs.Load.{statusOf, loadArena}
 use Rattle.arena.specs.Calls.{containsCall}
 use Rattle.runs.specs.Answer.{answerOf, commitCode}
@@ -28,9 +28,10 @@ use Rattle.take.specs.TakeAnswer as Takes
 use Rattle.release.specs.Act.{answerAs}
 use Rattle.vigbuso.specs.Direct.{firstOut, freshOut, grownOut, containsOn}
 use Rattle.vigbuso.specs.Blocks.{codeOut, countOut, virginOut, releaseCode, fateOut}
-use Rattle.demands.specs.Refusals.{Row, firstNumber, rises, Refuses, OpenRefuses, CommitRefuses, GrowRefuses, GiveRefuses, ReportRefuses, TakeRefuses, ReleaseRefuses, ChunksRefuses, containsTable, ContainsAnswers, SizeAnswers, Demand1}
+use Rattle.demands.specs.Refusals.{Row, firstNumber, checkingOrder, inOrder, Refuses, OpenRefuses, CommitRefuses, GrowRefuses, GiveRefuses, ReportRefuses, TakeRefuses, ReleaseRefuses, ChunksRefuses, containsTable, ContainsAnswers, SizeAnswers, Demand1}
 use Rattle.demands.proofs.RefusalsLaws.{Ends, book-turn}
 use Rattle.demands.proofs.RefusalsCalls.{open-table, commit-table, grow-table, give-table, report-table, take-table, release-table, chunks-table}
+use Rattle.pages.proofs.Downs.{digit-le}
 
 -- ---- the answer's number is the definition's, and where it is one, the out-parameters stay as they were
 commit-number : (k : ℕ) (q : Option ℕ) (f : Bool) → commitCode (answerOf k q f) ≡ k
@@ -77,12 +78,12 @@ release-fate (suc k) f old d = refl
 
 -- ---- from a definition to what its function answers and leaves
 module _ {R : Type 0} (code : R → ℕ) (Same : R → Type 0) (rows : List Row) (o : R) (t : Ends code Same rows o) where
-  refuses : (After : Type 0) (r : ℕ) → rises 0 rows ≡ true → r ≡ code o → ((code o ≡ 0 → ⊥) → Same o → After) → Refuses rows r After
+  refuses : (After : Type 0) (r : ℕ) → inOrder checkingOrder rows ≡ true → r ≡ code o → ((code o ≡ 0 → ⊥) → Same o → After) → Refuses rows r After
   refuses After r u e f = record { order = u; number = e ∙ t .number; kept = λ d. let g : code o ≡ 0 → ⊥ = λ z. d (e ∙ z) in f g (t .kept g) }
 
 -- ---- the functions
 pub open-refuses : OpenRefuses
-open-refuses b n r b′ e = refuses _ _ _ _ (open-table b n) _ r refl (e .answer) λ d s. e .left ∙ s
+open-refuses b n r b′ e = refuses _ _ _ _ (open-table b n) _ r refl (e .answer) λ d s. e .book ∙ s
 
 pub commit-refuses : CommitRefuses
 commit-refuses b h m r b′ q q′ f f′ e =
@@ -118,10 +119,6 @@ small-answers bytes r e = lt-leb 64 r (omega (arith, small-class bytes))
 pub medium-answers : SizeAnswers mediumClassForSize 12
 medium-answers bytes r e = lt-leb 12 r (omega (arith, medium-class bytes))
 
-digit-small : (t : Bool) → digit t ≤ 1
-digit-small true = omega arith
-digit-small false = omega arith
-
 beyond-ready : (s : ℕ) → leb s 2 ≡ false → isReady (statusOf s) ≡ false
 beyond-ready zero e = refl
 beyond-ready (suc zero) e = e
@@ -143,7 +140,7 @@ module _ (b : List ℕ) (o k : ℕ) where
       (λ e. rw e)
 
 pub contains-answers : ContainsAnswers
-contains-answers b o k r e = record { plain = rw e (digit-small (containsOn b o k)); no = λ d. e ∙ ap digit (contains-no b o k d) }
+contains-answers b o k r e = record { plain = rw e (digit-le (containsOn b o k)); no = λ d. e ∙ ap digit (contains-no b o k d) }
 
 -- ---- the demand
 pub demand-1 : Demand1
@@ -164,16 +161,20 @@ demand-1 = record {
 }
 
 -- ---- "refused exactly when one of these papers' numbers applies to it"
-none-applies : (k : ℕ) (rows : List Row) → rises k rows ≡ true → firstNumber rows ≡ 0 → any (λ row. row .1) rows ≡ false
-none-applies k [] u e = refl
-none-applies k (row ∷ rows) u e =
-    by-cases (row .1)
-    (λ f. absurd (let z = ltb-true k (row .0) (and-l (ltb k (row .0)) _ u) in let y : row .0 ≡ 0 = rw f at e in omega arith))
-    (λ f. rw f (none-applies (row .0) rows (and-r (ltb k (row .0)) _ u) (rw f at e)))
+none-applies : (ks : List ℕ) (rows : List Row) → every (ltb 0) ks ≡ true → inOrder ks rows ≡ true → firstNumber rows ≡ 0 → any (λ row. row .1) rows ≡ false
+none-applies ks [] p u e = refl
+none-applies [] (row ∷ rows) p u e = absurd (true≢false (sym u))
+none-applies (k ∷ ks) (row ∷ rows) p u e =
+    let p′ = and-right (ltb 0 k) _ p in
+    by-cases (eqb k (row .0))
+    (λ i. by-cases (row .1)
+    (λ f. absurd (let z = ltb-true 0 k (and-left (ltb 0 k) _ p) in let y : row .0 ≡ 0 = rw f at e in let x = eqb-true k (row .0) i in omega arith))
+    (λ f. rw f (none-applies ks rows p′ (rw i at u) (rw f at e))))
+    (λ i. none-applies ks (row ∷ rows) p′ (rw i at u) e)
 
 first-none : (rows : List Row) → any (λ row. row .1) rows ≡ false → firstNumber rows ≡ 0
 first-none [] e = refl
 first-none (row ∷ rows) e = by-cases (row .1) (λ f. absurd (true≢false (rw f at e))) (λ f. rw f (first-none rows (rw f at e)))
 
 pub refused-exactly : {rows : List Row} {r : ℕ} {Same : Type 0} → Refuses rows r Same → (r ≡ 0) ↔ (any (λ row. row .1) rows ≡ false)
-refused-exactly {rows} e = (λ z. none-applies 0 rows (e .order) (sym (e .number) ∙ z), λ z. e .number ∙ first-none rows z)
+refused-exactly {rows} e = (λ z. none-applies checkingOrder rows refl (e .order) (sym (e .number) ∙ z), λ z. e .number ∙ first-none rows z)

@@ -1,12 +1,15 @@
 -- Each definition that an exported function's contract cites answers the first number of its table that applies, and keeps what it was
--- lent where there is one. n is the arena's length in the book b. Assumes nothing.
-use Prim.Native.Nat.{ℕ, zero, suc, _+_}
+-- lent where there is one. n is the arena's length in the book b.
+use Prim.Native.Nat.{ℕ, _+_}
 use mathlib.Core.Bool.{Bool, true, false, cond, not, _||_}
 use mathlib.Core.List.{List, [], _∷_, map}
 use mathlib.Core.Option.{Option, none, some}
 use mathlib.Core.Path.{_≡_, refl, _∙_}
-use lib.Dec.{eqb, ltb}
+use lib.Dec.{eqb, ltb, leb}
 use lib.ListN.{length}
+use Rattle.facts.specs.Lists.{isNil, every, distinct}
+use Rattle.facts.proofs.Bools.{by-cases}
+use Rattle.words.specs.Host.{badHost}
 use Rattle.words.specs.Word.{chunkKind}
 use Rattle.classes.specs.declared.Shape.{Shape}
 use Rattle.classes.specs.Shape.{shapeOf}
@@ -14,8 +17,8 @@ use Rattle.fields.specs.Field.{arena, class, page, size, frontier, partial, emp
 use Rattle.fields.specs.Outcome.{Outcome}
 use Rattle.fields.specs.Outcome as Fields
 use Rattle.fields.specs.Ranges.{metaFault}
-use Rattle.model.specs.Lists.{isNil, every, distinct}
-use Rattle.model.specs.Heap.{badRun}
+use Rattle.model.specs.declared.Spot.{Spot}
+use Rattle.model.specs.Heap.{badRun, badGrowth}
 use Rattle.model.specs.Release.{ofKind}
 use Rattle.arena.specs.Fair.{recordFair, commitFair, giveFair}
 use Rattle.arena.specs.Calls as Arena
@@ -26,66 +29,72 @@ use Rattle.pages.specs.Stack.{back, indexOf}
 use Rattle.calls.specs.Take.{Took, tookNone, walk, parkFair, fromPartial, fromPark, onRun, takeNew, takeBlocks, takeCall}
 use Rattle.calls.specs.Release as Back
 use Rattle.calls.specs.Release.{releasedNone, startOf, outAt, firstOf, unlisted, spotAt, giveBackAt, parkAs, parkAt, lastStep, releaseFair, releaseBlocks}
-use Rattle.calls.specs.Chunks.{ChunksReleased, chunksNone, chunksFair, releaseChunks, chunksCall}
+use Rattle.calls.specs.Chunks.{ChunksReleased, chunksNone, chunksFair, releaseChunks}
 use Rattle.direct.specs.declared.Report.{Report}
-use Rattle.direct.specs.Answer.{badGrowth, reportOf}
+use Rattle.direct.specs.Answer.{reportOf}
+use Rattle.vigbuso.specs.Faults.{callFault, classFault}
 use Rattle.vigbuso.specs.Direct as Direct
 use Rattle.vigbuso.specs.Direct.{openOn, commitOn, growOn, reportOn, reportCode, figuresOut}
 use Rattle.vigbuso.specs.Blocks as Blocks
 use Rattle.vigbuso.specs.Blocks.{takeOn, chunksOn}
-use Rattle.model.proofs.Counts.{by-cases}
-use Rattle.demands.specs.Refusals.{badHost, shortList, nothingListed, manyChunks, wrongKind, notOut, otherPage, chunksDiffer, notHeld, takeFair, openTable, commitTable, growTable, giveTable, reportTable, takeTable, releaseTable, chunksTable}
-use Rattle.demands.proofs.RefusalsLaws.{not-and, le-not-lt, Ends, ends, turn, unless, book-turn, choose, before}
+use Rattle.demands.specs.Refusals.{shortList, nothingListed, manyChunks, wrongKind, notOut, otherPage, chunksDiffer, notHeld, openTable, commitTable, growTable, giveTable, reportTable, takeTable, releaseTable, chunksTable}
+use Rattle.demands.specs.Number13.{takeFair}
+use Rattle.demands.proofs.Ranges.{record-strays, commit-strays, give-strays, take-strays, release-strays, chunks-strays}
+use Rattle.demands.proofs.RefusalsLaws.{not-and, le-not-lt, Ends, ends, turn, unless, book-turn, chain, choose, before}
 
 -- ---- opening
-pub open-table : (b : List ℕ) (n : ℕ) → Ends {R = Outcome} (λ o. o .code) (λ o. o .meta ≡ b) (openTable b n) (openOn b n)
+pub open-table : (b : List ℕ) (n : ℕ) → Ends {R = Outcome} (λ o. o .code) (λ o. o .book ≡ b) (openTable b n) (openOn b n)
 unfolding openOn
 open-table b n = book-turn _ _ _ (λ k. Fields.ends k b) _ (λ k. refl) (λ k. refl) (ends _ _ _ refl) n b
 
 -- ---- the direct calls
 pub commit-table : (b : List ℕ) (h m : ℕ) → Ends {R = Committed} (λ o. o .code) (λ o. o .book ≡ b) (commitTable b h m) (commitOn b h m)
-unfolding commitOn metaFault commitCall commitFor
+unfolding commitOn callFault metaFault commitCall commitFor
 commit-table b h m =
-    book-turn _ _ _ (commitRefused b) _ (λ k. refl) (λ k. refl)
+    rw (← (commit-strays b m), chain (metaFault b) 3 (badHost h) (commitRefused b) _ refl)
+    (book-turn _ _ _ (commitRefused b) _ (λ k. refl) (λ k. refl)
     (turn _ _ (badHost h) 3 _ _ _ refl refl λ e.
     turn _ _ (badRun m) 6 _ _ _ refl refl λ e.
     unless _ _ (commitFair (get b (arena size)) b m) 13 _ _ _ refl refl λ e.
     ends _ _ _ refl)
     (get b (arena size))
-    b
+    b)
 
 pub grow-table : (b : List ℕ) (h q old new : ℕ) → Ends {R = Done} (λ o. o .code) (λ o. o .book ≡ b) (growTable b h q old new) (growOn b h q old new)
-unfolding growOn metaFault growCall
+unfolding growOn callFault metaFault growCall
 grow-table b h q old new =
-    book-turn _ _ _ (doneRefused b) _ (λ k. refl) (λ k. refl)
+    rw (← (record-strays b), chain (metaFault b) 3 (badHost h) (doneRefused b) _ refl)
+    (book-turn _ _ _ (doneRefused b) _ (λ k. refl) (λ k. refl)
     (turn _ _ (badHost h) 3 _ _ _ refl refl λ e.
     turn _ _ (badGrowth old new) 6 _ _ _ refl refl λ e.
     turn _ _ (notHeld (get b (arena size)) b q old) 12 _ _ _ refl refl λ e.
     turn _ _ (not (recordFair (get b (arena size)) b)) 13 _ _ _ refl refl λ e.
     ends _ _ _ refl)
     (get b (arena size))
-    b
+    b)
 
 pub give-table : (b : List ℕ) (h q m : ℕ) → Ends {R = Done} (λ o. o .code) (λ o. o .book ≡ b) (giveTable b h q m) (Direct.releaseOn b h q m)
-unfolding Direct.releaseOn metaFault Arena.releaseCall
+unfolding Direct.releaseOn callFault metaFault Arena.releaseCall
 give-table b h q m =
-    book-turn _ _ _ (doneRefused b) _ (λ k. refl) (λ k. refl)
+    rw (← (give-strays b m), chain (metaFault b) 3 (badHost h) (doneRefused b) _ refl)
+    (book-turn _ _ _ (doneRefused b) _ (λ k. refl) (λ k. refl)
     (turn _ _ (badHost h) 3 _ _ _ refl refl λ e.
     turn _ _ (badRun m) 6 _ _ _ refl refl λ e.
     turn _ _ (notHeld (get b (arena size)) b q m) 12 _ _ _ refl refl λ e.
     turn _ _ (not (giveFair (get b (arena size)) b m)) 13 _ _ _ refl refl λ e.
     ends _ _ _ refl)
     (get b (arena size))
-    b
+    b)
 
 pub report-table : (b fs : List ℕ) → Ends {R = Report} reportCode (λ o. figuresOut o fs ≡ fs) (reportTable b) (reportOn b)
 unfolding reportOn metaFault reportOf
 report-table b fs =
-    book-turn _ _ _ Report.Refused _ (λ k. refl) (λ k. refl)
+    rw (← (record-strays b))
+    (book-turn _ _ _ Report.Refused _ (λ k. refl) (λ k. refl)
     (unless _ _ (recordFair (get b (arena size)) b) 13 _ _ _ refl refl λ e.
     ends _ _ _ refl)
     (get b (arena size))
-    b
+    b)
 
 -- ---- takes
 module _ (n : ℕ) (b : List ℕ) (c : ℕ) (sh : Shape) (h : ℕ) (l : List ℕ) where
@@ -123,23 +132,21 @@ module _ (n : ℕ) (b : List ℕ) (c : ℕ) (sh : Shape) (h : ℕ) (l : List ℕ
       new-row))))
 
 pub take-table : (low many : ℕ) (b : List ℕ) (c h : ℕ) (l : List ℕ) → Ends {R = Took} (λ t. t .code) (λ t. (t .book ≡ b) × (t .list ≡ l)) (takeTable low many b c h l) (takeOn low many b c h l)
-unfolding takeOn metaFault takeCall
+unfolding takeOn classFault callFault metaFault takeCall
 take-table low many b c h l =
     let sh = shapeOf (low + c) in
-    book-turn _ _ _ (tookNone b l) _ (λ k. refl) (λ k. (refl, refl))
+    rw (← (take-strays b (low + c) sh), chain (callFault b h) 4 (leb many c) (tookNone b l) _ refl, chain (metaFault b) 3 (badHost h) (tookNone b l) _ refl)
+    (book-turn _ _ _ (tookNone b l) _ (λ k. refl) (λ k. (refl, refl))
     (turn _ _ (badHost h) 3 _ _ _ refl (refl, refl) λ e.
-    rw (le-not-lt many c, e)
-    (unless _ _ (ltb c many) 4 _ _ _ refl (refl, refl) λ e.
+    turn _ _ (leb many c) 4 _ _ _ refl (refl, refl) λ e.
     turn _ _ (shortList sh l) 5 _ _ _ refl (refl, refl) λ e.
-    take-row (get b (arena size)) b (low + c) sh h l))
+    take-row (get b (arena size)) b (low + c) sh h l)
     (get b (arena size))
-    b
+    b)
 
 -- ---- releases by list
-park-code : (b : List ℕ) (c : ℕ) (sh : Shape) (h q s : ℕ) → parkAs b c sh h q s .code ≡ 0
-park-code b c sh h q zero = refl
-park-code b c sh h q (suc zero) = refl
-park-code b c sh h q (suc (suc s)) = refl
+park-code : (b : List ℕ) (c : ℕ) (sh : Shape) (h q : ℕ) (s : Spot) → parkAs b c sh h q s .code ≡ 0
+park-code b c sh h q s = refl
 
 back-code : (b : List ℕ) (c : ℕ) (sh : Shape) (h q : ℕ) (is : List ℕ) → giveBackAt b c sh h q is .code ≡ 0
 unfolding giveBackAt parkAt
@@ -155,36 +162,38 @@ last-code sh q r = same (eqb (r .fate) 2)
     same false = refl
 
 pub release-table : (low many : ℕ) (b : List ℕ) (c h : ℕ) (ws : List ℕ) → Ends {R = Back.Released} (λ o. o .code) (λ o. o .book ≡ b) (releaseTable low many b c h ws) (Blocks.releaseOn low many b c h ws)
-unfolding Blocks.releaseOn metaFault Back.releaseCall releaseBlocks
+unfolding Blocks.releaseOn classFault callFault metaFault releaseBlocks
 release-table low many b c h ws =
     let n = get b (arena size) in
     let sh = shapeOf (low + c) in
     let q = startOf b (firstOf ws) in
     let is = map (indexOf sh q) ws in
-    book-turn _ _ _ (releasedNone b) _ (λ k. refl) (λ k. refl)
+    rw (← (release-strays b (low + c) sh (length ws) q), chain (callFault b h) 4 (leb many c) (releasedNone b) _ refl, chain (metaFault b) 3 (badHost h) (releasedNone b) _ refl)
+    (book-turn _ _ _ (releasedNone b) _ (λ k. refl) (λ k. refl)
     (turn _ _ (badHost h) 3 _ _ _ refl refl λ e.
-    rw (le-not-lt many c, e, not-and (every (outAt n b (low + c) sh) ws) (distinct ws))
-    (unless _ _ (ltb c many) 4 _ _ _ refl refl λ e.
-    turn _ _ (isNil ws) 7 _ _ _ refl refl λ e.
+    turn _ _ (leb many c) 4 _ _ _ refl refl λ e.
+    rw (not-and (every (outAt n b (low + c) sh) ws) (distinct ws))
+    (turn _ _ (isNil ws) 7 _ _ _ refl refl λ e.
     turn _ _ (wrongKind (sh .kind) ws) 9 _ _ _ refl refl λ e.
     turn _ _ (notOut n b (low + c) sh ws) 10 _ _ _ refl refl λ e.
     turn _ _ (otherPage b ws) 11 _ _ _ refl refl λ e.
     turn _ _ (not (releaseFair n b (low + c) sh (length ws) q)) 13 _ _ _ refl refl λ e.
     ends _ _ _ (last-code sh q (giveBackAt b (low + c) sh h q is) ∙ back-code b (low + c) sh h q is)))
     n
-    b
+    b)
 
 -- ---- group releases
 pub chunks-table : (b : List ℕ) (c h : ℕ) (ws gs fs : List ℕ) → Ends {R = ChunksReleased} (λ o. o .code) (λ o. (o .book ≡ b) × (o .fates ≡ fs)) (chunksTable b c h ws gs fs) (chunksOn b c h ws gs fs)
-unfolding chunksOn metaFault chunksCall releaseChunks
+unfolding chunksOn classFault callFault metaFault releaseChunks
 chunks-table b c h ws gs fs =
     let n = get b (arena size) in
     let sh = shapeOf c in
-    book-turn _ _ _ (chunksNone b fs) _ (λ k. refl) (λ k. (refl, refl))
+    rw (← (chunks-strays b c sh gs), chain (callFault b h) 4 (leb 64 c) (chunksNone b fs) _ refl, chain (metaFault b) 3 (badHost h) (chunksNone b fs) _ refl)
+    (book-turn _ _ _ (chunksNone b fs) _ (λ k. refl) (λ k. (refl, refl))
     (turn _ _ (badHost h) 3 _ _ _ refl (refl, refl) λ e.
-    rw (le-not-lt 64 c, e, not-and (every (ofKind (sh .kind)) ws) (every (ofKind chunkKind) gs), not-and (every (outAt n b c sh) ws) (distinct ws))
-    (unless _ _ (ltb c 64) 4 _ _ _ refl (refl, refl) λ e.
-    turn _ _ (nothingListed ws gs) 7 _ _ _ refl (refl, refl) λ e.
+    turn _ _ (leb 64 c) 4 _ _ _ refl (refl, refl) λ e.
+    rw (not-and (every (ofKind (sh .kind)) ws) (every (ofKind chunkKind) gs), not-and (every (outAt n b c sh) ws) (distinct ws))
+    (turn _ _ (nothingListed ws gs) 7 _ _ _ refl (refl, refl) λ e.
     turn _ _ (manyChunks gs fs) 8 _ _ _ refl (refl, refl) λ e.
     turn _ _ (wrongKind (sh .kind) ws || wrongKind chunkKind gs) 9 _ _ _ refl (refl, refl) λ e.
     turn _ _ (notOut n b c sh ws) 10 _ _ _ refl (refl, refl) λ e.
@@ -192,4 +201,4 @@ chunks-table b c h ws gs fs =
     turn _ _ (not (chunksFair n b c sh gs)) 13 _ _ _ refl (refl, refl) λ e.
     ends _ _ _ refl))
     n
-    b
+    b)

@@ -1,5 +1,5 @@
 -- A chain of tests, each with a number that it answers, is a table of rows: one law for a test, and one for the tests of a book's
--- length. R is what a definition of a call yields, with its number and what its refusals keep. Assumes nothing.
+-- length. R is what a definition of a call yields, with its number and what its refusals keep.
 use Prim.Native.Nat.{ℕ}
 use native.Mathlib.Omega.{arith}
 use mathlib.Core.Bool.{Bool, true, false, cond, not, _&&_, _||_}
@@ -8,9 +8,9 @@ use mathlib.Core.Path.{_≡_, refl}
 use lib.Dec.{eqb, ltb, leb}
 use lib.ListN.{length}
 use borrow.Author.Tests.{ltb-true, ltb-false, lt-leb, le-leb, eqb-true, eqb-false}
+use Rattle.facts.proofs.Bools.{by-cases}
 use Rattle.fields.specs.Field.{words}
 use Rattle.fields.specs.Ranges.{within, between, maxPages, lengthFault}
-use Rattle.model.proofs.Counts.{by-cases}
 use Rattle.demands.specs.Refusals.{badLength, tooShort, Row, firstNumber}
 
 -- ---- tests
@@ -56,6 +56,12 @@ module _ {R : Type 0} (code : R → ℕ) (Same : R → Type 0) where
 
     pub book-turn : (n : ℕ) (b : List ℕ) → Ends code Same ((1, badLength n) ∷ (2, tooShort n b) ∷ rows) (cond (eqb (lengthFault n (length b)) 0) o (x (lengthFault n (length b))))
     book-turn n b = rw (sized n, le-not-lt (words n) (length b)) (fault (badLength n) (tooShort n b))
+
+-- a test of number k after those of the number f: as numbers, and as the chain
+pub chain : {R : Type 0} (f k : ℕ) (t : Bool) (x : ℕ → R) (o : R) → eqb k 0 ≡ false
+    → cond (eqb (cond (eqb f 0) (cond t k 0) f) 0) o (x (cond (eqb f 0) (cond t k 0) f)) ≡ cond (eqb f 0) (cond t (x k) o) (x f)
+chain f k true x o d = by-cases (eqb f 0) (λ e. rw (e, d)) (λ e. rw (e, e))
+chain f k false x o d = by-cases (eqb f 0) (λ e. rw e) (λ e. rw (e, e))
 
 -- one row alone, where a choice is made before its test
 module _ {R : Type 0} (code : R → ℕ) (Same : R → Type 0) (k : ℕ) where

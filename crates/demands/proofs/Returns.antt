@@ -1,17 +1,19 @@
--- A block that is out can be released, and no other. Assumes nothing.
---     out-kind        a word that a class has out has the class's kind
---     word-returns    so a release of a word alone is not refused exactly if it is out, which is that it is an entry's not yet released
---     list-out        and a release that is not refused, by list or by groups, has only such words
-use Prim.Native.Nat.{ℕ, zero, suc, _+_, _-_, _*_, _^_, _≤_, _<_}
+-- A release by list is refused exactly as the history and the list's words tell.
+--     list-returns    it is not refused exactly if the list is `ListOut`
+--     word-returns    so a block alone is released exactly if it is out, which is that it is an entry's not yet released
+use Prim.Native.Nat.{ℕ, _+_, _*_, _^_, _≤_, _<_}
 use native.Mathlib.Omega.{arith}
 use native.Mathlib.Nat.{mul-le-mul-right}
-use mathlib.Core.Bool.{true, false, false≢true}
+use mathlib.Core.Bool.{Bool, true, false, cond, not, _&&_, false≢true}
 use mathlib.Core.List.{List, [], _∷_}
 use mathlib.Core.Logic.{_↔_}
 use mathlib.Core.Option.{Option, none, some}
-use mathlib.Core.Path.{_≡_, refl, sym}
-use lib.Dec.{eqb, leb, ltb}
-use borrow.Author.Tests.{eq-eqb, eqb-true, leb-true, leb-false, ltb-true, ltb-false, le-ltb}
+use mathlib.Core.Path.{_≡_, refl, sym, _∙_}
+use lib.Dec.{eqb}
+use borrow.Author.Tests.{eq-eqb, eqb-true, not-false, ltb-false, le-ltb}
+use Rattle.facts.specs.Lists.{isNil, every, isSome, elem, distinct}
+use Rattle.facts.proofs.Bools.{by-cases, and-left, and-right}
+use Rattle.words.specs.Host.{hostMax, badHost}
 use Rattle.words.specs.Word.{kindBits}
 use Rattle.words.proofs.RoundTrip.{kind-block}
 use Rattle.classes.specs.declared.Shape.{Shape}
@@ -19,132 +21,182 @@ use Rattle.classes.specs.Shape.{shapeOf}
 use Rattle.classes.specs.Sound.{Sound}
 use Rattle.classes.proofs.Shapes.{shape-sound}
 use Rattle.fields.specs.Ranges.{maxPages}
-use Rattle.model.specs.Lists.{All, total, every, isSome}
 use Rattle.model.specs.Calls as Calls
-use Rattle.model.specs.Calls.{Call, Named, names, Request, listOf, isRefused}
-use Rattle.model.specs.Page.{Page, wordOf, wordsFrom, pageGranules, carvedWords, isOut}
-use Rattle.model.specs.Class.{Class, serve}
-use Rattle.model.specs.Release.{Site, locate, ofKind, outHere, onPage, releaseList}
-use Rattle.model.specs.Chunks.{answer, hostMax}
-use Rattle.model.specs.Heap.{offer, finish, interact, classCall, step}
-use Rattle.model.specs.History.{events, heapAfter}
+use Rattle.model.specs.Calls.{Call, names, isRefused}
+use Rattle.model.specs.Page.{wordOf, pageGranules, isOut}
+use Rattle.model.specs.Class.{Class, Ask, serve, refuse}
+use Rattle.model.specs.Release.{Site, locate, ofKind, outHere, onPage, siteOfFirst, releaseList}
+use Rattle.model.specs.Chunks.{answer}
+use Rattle.model.specs.Heap.{offer, finish, interact, classCall}
+use Rattle.model.specs.History.{heapAfter}
 use Rattle.model.specs.Entries.{OutIn, AllOut}
-use Rattle.model.specs.Ledger.{heldBy}
-use Rattle.model.proofs.Counts.{by-cases, every-count}
-use Rattle.model.proofs.ArenaLaws.{above-at, covers-in}
-use Rattle.model.proofs.Pages.{outOf, on, GoodPage}
-use Rattle.model.proofs.Sites.{Tells, locate-tells, here-out}
-use Rattle.model.proofs.Accounts.{held-le}
-use Rattle.model.proofs.HeapLaws.{kept}
+use Rattle.model.proofs.Counts.{elem-count, every-count}
+use Rattle.model.proofs.Sites.{Once, GoodClass, SiteLaws, Tells, locate-law, locate-tells}
 use Rattle.model.proofs.Theorems.{outs}
-use Rattle.calls.specs.Release.{Released, releaseCall}
-use Rattle.refinement.specs.Releases.{listReply}
-use Rattle.refinement.specs.Run.{classReply, callReply}
-use Rattle.demands.specs.Run.{Opens, bookAfter, next, told}
+use Rattle.demands.specs.Run.{Opens, next, told}
+use Rattle.demands.specs.Returns.{BlockOf, OneRun, ListOut}
 use Rattle.demands.proofs.Calls.{room}
-use Rattle.demands.proofs.Histories.{next-is, next-agrees}
 use Rattle.demands.proofs.Told.{told-out, out-told}
+use Rattle.demands.proofs.Codes.{next-host, next-unrefused, next-zero}
+use Rattle.demands.proofs.Sizes.{one-first}
+use Rattle.demands.proofs.Places.{out-block, Lies, lies, lies-on, same-page, good-class, once-class, low-site}
 
--- ---- a page
-module _ (sh : Shape) (ok : Sound sh) where
-  word-kind : (q i : ℕ) → q + sh .pages ≤ maxPages → i < sh .capacity → ofKind (sh .kind) (wordOf sh q i) ≡ true
-  unfolding ofKind wordOf
-  word-kind q i low inside =
-      let g : q * pageGranules + (sh .header + i * sh .block) < 2 ^ kindBits = omega (arith, mul-le-mul-right (sh .block) inside, ok .fits, ok .wide) in
-      eq-eqb _ (sh .kind) (kind-block (sh .kind) g)
+-- ---- lists
+pub elem-first : (w : ℕ) (ws : List ℕ) → elem w (w ∷ ws) ≡ true
+elem-first w ws = rw (eq-eqb w w refl)
 
-  words-kind : (q k : ℕ) → q + sh .pages ≤ maxPages → k ≤ sh .capacity → every (ofKind (sh .kind)) (wordsFrom sh q 0 k) ≡ true
-  words-kind q zero low l = refl
-  words-kind q (suc k) low l = rw (word-kind q (0 + k) low (omega arith), words-kind q k low (omega arith))
+pub elem-later : (w v : ℕ) (ws : List ℕ) → elem v ws ≡ true → elem v (w ∷ ws) ≡ true
+elem-later w v ws m = by-cases (eqb v w) (λ e. rw e) (λ e. rw (e, m))
 
-  module _ (w : ℕ) where
-    page-kind : (p : Page) → GoodPage sh p → p .first + sh .pages ≤ maxPages → 1 ≤ outOf sh w p → ofKind (sh .kind) w ≡ true
-    unfolding carvedWords
-    page-kind p good low h =
-        every-count (ofKind (sh .kind)) w (wordsFrom sh (p .first) 0 (p .carved)) (words-kind (p .first) (p .carved) low (good .within)) (omega arith)
+elem-only : (w v : ℕ) → elem v (w ∷ []) ≡ true → v ≡ w
+elem-only w v m = by-cases (eqb v w) (λ e. eqb-true v w e) (λ e. absurd (false≢true (rw e at m)))
 
-    -- pages that lie in the arena
-    abbrev Low : List Page → Type 0
-    Low ps = (y : ℕ) → 1 ≤ total (on sh y) ps → y < maxPages
+pub every-elem : (t : ℕ → Bool) (ws : List ℕ) → ((w : ℕ) → elem w ws ≡ true → t w ≡ true) → every t ws ≡ true
+every-elem t [] f = refl
+every-elem t (w ∷ ws) f = rw (f w (elem-first w ws), every-elem t ws (λ v m. f v (elem-later w v ws m)))
 
-    low-page : (p : Page) (ps : List Page) → Low (p ∷ ps) → p .first + sh .pages ≤ maxPages
-    low-page p ps low =
-        let y = p .first + sh .pages - 1 in
-        omega (arith, ok .paged, low y (omega (arith, ok .paged, covers-in (sh .pages) (p .first) y (omega (arith, ok .paged)) (omega (arith, ok .paged)))))
+-- ---- tests in turn: a request that is not refused passed each
+pub passed : (s : Class) (k : ℕ) (b : Bool) (q : Ask) (g : Option ℕ) → isRefused (serve (cond b (refuse s k) q) g .answer) ≡ false → (b ≡ false) × (isRefused (serve q g .answer) ≡ false)
+passed s k true q g u = absurd (false≢true (sym u))
+passed s k false q g u = (refl, u)
 
-    pages-kind : (ps : List Page) → All (GoodPage sh) ps → Low ps → 1 ≤ total (outOf sh w) ps → ofKind (sh .kind) w ≡ true
-    pages-kind [] good low h = absurd (omega arith)
-    pages-kind (p ∷ ps) good low h =
-        by-cases (leb 1 (outOf sh w p))
-        (λ e. page-kind p (good .0) (low-page p ps low) (leb-true 1 (outOf sh w p) e))
-        (λ e. pages-kind ps (good .1) (λ y l. low y (omega arith)) (omega (arith, leb-false 1 (outOf sh w p) e)))
-
--- ---- a class: the release of a word that is out, alone
-module _ (sh : Shape) (s : Class) (w h : ℕ) where
-  page-unrefused : (o : Option Site) → Tells (isOut sh w) s o → isSome o ≡ true → (g : Option ℕ) → isRefused (serve (onPage sh h s (w ∷ []) o) g .answer) ≡ false
+-- ---- a class, of whose words each is a block of one run only
+module _ (sh : Shape) (ok : Sound sh) (s : Class) (good : GoodClass sh s) (once : Once sh s) (one : (q q′ w : ℕ) → BlockOf sh q w → BlockOf sh q′ w → q ≡ q′) (h : ℕ) (g : Option ℕ) where
+  -- number 11
+  page-together : (ws : List ℕ) (o : Option Site) → SiteLaws sh s o → isRefused (serve (onPage sh h s ws o) g .answer) ≡ false → OneRun sh ws
   unfolding onPage
-  page-unrefused none t e g = absurd (false≢true e)
-  page-unrefused (some x) t e g = rw t
+  page-together ws none l u = absurd (false≢true (sym u))
+  page-together ws (some x) l u =
+      let e : every (λ w. isOut sh w (x .page)) ws ≡ true = by-cases (every (λ w. isOut sh w (x .page)) ws) (λ t. t) (λ t. absurd (false≢true (sym (rw t at u)))) in
+      record { first = x .page .first; blocks = λ w m. out-block sh ok (x .page) w (l .page) (every-count (λ w. isOut sh w (x .page)) w ws e (elem-count w ws m)) }
 
-  alone-unrefused : h ≤ hostMax → ofKind (sh .kind) w ≡ true → outHere sh s w ≡ true → (g : Option ℕ) → isRefused (serve (answer sh s (Calls.giveBack h (w ∷ []))) g .answer) ≡ false
-  unfolding answer releaseList outHere
-  alone-unrefused low kind e g = rw (le-ltb hostMax h low, kind, e) (page-unrefused (locate (isOut sh w) s) (locate-tells (isOut sh w) s) e g)
+  page-unrefused : (ws : List ℕ) (x : Site) → every (λ w. isOut sh w (x .page)) ws ≡ true → isRefused (serve (onPage sh h s ws (some x)) g .answer) ≡ false
+  unfolding onPage
+  page-unrefused ws x e = rw e
+
+  together-page : (w : ℕ) (ws : List ℕ) → every (outHere sh s) (w ∷ ws) ≡ true → OneRun sh (w ∷ ws) → (o : Option Site) → SiteLaws sh s o → Tells (isOut sh w) s o → isSome o ≡ true
+      → isRefused (serve (onPage sh h s (w ∷ ws) o) g .answer) ≡ false
+  together-page w ws out r none l t e = absurd (false≢true e)
+  together-page w ws out r (some x) l t e =
+      page-unrefused (w ∷ ws) x
+      (every-elem (λ v. isOut sh v (x .page)) (w ∷ ws) (λ v m.
+      let y = lies sh ok s good v (every-count (outHere sh s) v (w ∷ ws) out (elem-count v (w ∷ ws) m)) in
+      let a = one (x .page .first) (r .first) w (out-block sh ok (x .page) w (l .page) t) (r .blocks w (elem-first w ws)) in
+      let c = one (y .site .page .first) (r .first) v (lies-on sh ok s good v y) (r .blocks v m) in
+      same-page sh ok s good once v y x l (a ∙ sym c)))
+
+  first-laws : (ws : List ℕ) → SiteLaws sh s (siteOfFirst sh s ws)
+  first-laws [] = tt
+  first-laws (w ∷ ws) = locate-law sh s good (isOut sh w)
+
+  first-unrefused : (ws : List ℕ) → isNil ws ≡ false → every (outHere sh s) ws ≡ true → OneRun sh ws → isRefused (serve (onPage sh h s ws (siteOfFirst sh s ws)) g .answer) ≡ false
+  unfolding outHere
+  first-unrefused [] e out r = absurd (false≢true (sym e))
+  first-unrefused (w ∷ ws) e out r = together-page w ws out r (locate (isOut sh w) s) (locate-law sh s good (isOut sh w)) (locate-tells (isOut sh w) s) (and-left (isSome (locate (isOut sh w) s)) _ out)
+
+  -- all numbers after 3
+  record Tests (ws : List ℕ) : Type 0 where
+    listed : isNil ws ≡ false
+    kinds : every (ofKind (sh .kind)) ws ≡ true
+    out : every (outHere sh s) ws ≡ true
+    single : distinct ws ≡ true
+    together : OneRun sh ws
+
+  list-tests : (ws : List ℕ) → isRefused (serve (answer sh s (Calls.giveBack h ws)) g .answer) ≡ false → Tests ws
+  unfolding answer releaseList
+  list-tests ws u =
+      let p7 = passed s 7 (isNil ws) _ g u in
+      let p9 = passed s 9 (not (every (ofKind (sh .kind)) ws)) _ g (p7 .1) in
+      let p10 = passed s 10 (not (every (outHere sh s) ws && distinct ws)) _ g (p9 .1) in
+      let t = not-false (every (outHere sh s) ws && distinct ws) (p10 .0) in
+      record {
+        listed = p7 .0;
+        kinds = not-false (every (ofKind (sh .kind)) ws) (p9 .0);
+        out = and-left (every (outHere sh s) ws) (distinct ws) t;
+        single = and-right (every (outHere sh s) ws) (distinct ws) t;
+        together = page-together ws (siteOfFirst sh s ws) (first-laws ws) (p10 .1);
+      }
+
+  tests-list : (ws : List ℕ) → Tests ws → isRefused (serve (answer sh s (Calls.giveBack h ws)) g .answer) ≡ false
+  unfolding answer releaseList
+  tests-list ws t = rw (t .listed, t .kinds, t .out, t .single) (first-unrefused ws (t .listed) (t .out) (t .together))
 
 -- ---- the heap after a history
-module _ (n : ℕ) (small : n ≤ maxPages) (xs : List Call) where
-  abbrev class : ℕ → Class
-  class c = heapAfter n xs .classes c
+word-kind : (sh : Shape) (ok : Sound sh) (q i : ℕ) → q + sh .pages ≤ maxPages → i < sh .capacity → ofKind (sh .kind) (wordOf sh q i) ≡ true
+unfolding ofKind wordOf
+word-kind sh ok q i low inside =
+    let g : q * pageGranules + (sh .header + i * sh .block) < 2 ^ kindBits = omega (arith, mul-le-mul-right (sh .block) inside, ok .fits, ok .wide) in
+    eq-eqb _ (sh .kind) (kind-block (sh .kind) g)
 
-  held-low : (c y : ℕ) → 1 ≤ heldBy c (heapAfter n xs .holder y) → y < maxPages
-  held-low c y h =
-      let k = kept n xs in
-      let H = heapAfter n xs in
-      by-cases (ltb y (H .arena .frontier))
-      (λ e. omega (arith, ltb-true y (H .arena .frontier) e, k .inv .bound))
-      (λ e. absurd (omega (arith, held-le c (H .holder y), k .inv .one y, above-at (H .arena .frontier) y (ltb-false y (H .arena .frontier) e))))
+module _ (n : ℕ) (small : n ≤ maxPages) (xs : List Call) (c : ℕ) where
+  abbrev class : Class
+  class = heapAfter n xs .classes c
 
-  out-kind : (c w : ℕ) → outHere (shapeOf c) (class c) w ≡ true → ofKind (shapeOf c .kind) w ≡ true
-  out-kind c w e =
-      let inv = kept n xs .inv in
-      let sh = shapeOf c in
-      let ok = shape-sound c in
-      let u = here-out sh ok (class c) (inv .good c) w e in
-      by-cases (leb 1 (total (outOf sh w) (class c .partial)))
-      (λ d. pages-kind sh ok w (class c .partial) (inv .good c .partial) (λ y l. held-low c y (omega (arith, inv .mine c y))) (leb-true 1 (total (outOf sh w) (class c .partial)) d))
-      (λ d. pages-kind sh ok w (class c .full) (inv .good c .full) (λ y l. held-low c y (omega (arith, inv .mine c y))) (omega (arith, leb-false 1 (total (outOf sh w) (class c .partial)) d)))
+  abbrev lying : ℕ → Type 0
+  lying w = Lies (shapeOf c) (shape-sound c) class (good-class n small xs c) w
 
-  step-returns : (c w : ℕ) → OutIn (events n xs) c w → (x : Call) (h : ℕ) → h ≤ hostMax
-      → names x ≡ some (record { class = c; request = Calls.giveBack h (w ∷ []) }) → isRefused (step n (heapAfter n xs) x .answer) ≡ false
-  unfolding step classCall interact finish
-  step-returns c w o x h low d =
-      let e = outs n xs .out c w .1 o in
-      rw d (alone-unrefused (shapeOf c) (class c) w h low (out-kind c w e) e (offer n h (heapAfter n xs .arena) (answer (shapeOf c) (class c) (Calls.giveBack h (w ∷ []))) .run))
+  out-kind : (w : ℕ) → lying w → ofKind (shapeOf c .kind) w ≡ true
+  out-kind w y =
+      let s = lies-on (shapeOf c) (shape-sound c) class (good-class n small xs c) w y in
+      rw (s .word) (word-kind (shapeOf c) (shape-sound c) (y .site .page .first) (s .index) (low-site n small xs c (y .site) (y .law)) (s .inside))
 
 -- ---- on the words
-list-unrefused : (w : Released) → isRefused (listReply w .answer) ≡ false → listReply w .code ≡ 0
-list-unrefused w e = by-cases (eqb (w .code) 0) (λ z. eqb-true (w .code) 0 z) (λ z. absurd (false≢true (sym (rw z at e))))
-
-class-unrefused : (n : ℕ) (b : List ℕ) (c : ℕ) (r : Request) → classReply n b c r .code ≡ 0 → isRefused (classReply n b c r .answer) ≡ false
-class-unrefused n b c (Calls.take h l) e = rw e
-class-unrefused n b c (Calls.giveBack h ws) e = rw e
-class-unrefused n b c (Calls.giveChunks h ws gs fs) e = rw e
-
 module _ (n : ℕ) (b : List ℕ) (o : Opens n b) (xs : List Call) where
-  pub list-out : (x : Call) (d : Named) → names x ≡ some d → next n b xs x .code ≡ 0 → AllOut (told n b xs) (d .class) (listOf (d .request))
-  unfolding callReply
-  list-out x d e z =
-      let u : isRefused (next n b xs x .answer) ≡ false = rw (next-is n b o xs x, e) (class-unrefused n (bookAfter n b xs) (d .class) (d .request) (rw (next-is n b o xs x, e) at z)) in
-      let r = outs n xs .released x d e (rw (next-agrees n b o xs x .answer) at u) in
-      record { out = λ w m. out-told n b o xs (d .class) w (r .out w m); once = r .once }
+  abbrev small : n ≤ maxPages
+  small = room n b o .few-pages
 
-  out-returns : (c w : ℕ) → OutIn (told n b xs) c w → (x : Call) (h : ℕ) → h ≤ hostMax
-      → names x ≡ some (record { class = c; request = Calls.giveBack h (w ∷ []) }) → next n b xs x .code ≡ 0
-  unfolding callReply
-  out-returns c w e x h low d =
-      let r = step-returns n (room n b o .few-pages) xs c w (told-out n b o xs c w e) x h low d in
-      let z : isRefused (next n b xs x .answer) ≡ false = rw (next-agrees n b o xs x .answer) r in
-      rw (next-is n b o xs x, d) (list-unrefused (releaseCall n (bookAfter n b xs) c (shapeOf c) h (w ∷ [])) (rw (next-is n b o xs x, d) at z))
+  -- number 10's test, by the history
+  pub out-here : (c w : ℕ) → OutIn (told n b xs) c w → outHere (shapeOf c) (heapAfter n xs .classes c) w ≡ true
+  out-here c w p = outs n xs .out c w .1 (told-out n b o xs c w p)
+
+  pub all-out : (c : ℕ) (ws : List ℕ) → every (outHere (shapeOf c) (heapAfter n xs .classes c)) ws ≡ true → distinct ws ≡ true → AllOut (told n b xs) c ws
+  all-out c ws e u = record {
+    out = λ w m. out-told n b o xs c w (outs n xs .out c w .0 (every-count (outHere (shapeOf c) (heapAfter n xs .classes c)) w ws e (elem-count w ws m)));
+    once = u;
+  }
+
+  pub out-all : (c : ℕ) (ws : List ℕ) → AllOut (told n b xs) c ws → every (outHere (shapeOf c) (heapAfter n xs .classes c)) ws ≡ true
+  out-all c ws p = every-elem (outHere (shapeOf c) (heapAfter n xs .classes c)) ws (λ w m. out-here c w (p .out w m))
+
+  module _ (c : ℕ) (x : Call) (h : ℕ) (ws : List ℕ) (d : names x ≡ some (record { class = c; request = Calls.giveBack h ws })) where
+    abbrev gives : Option ℕ
+    gives = offer n h (heapAfter n xs .arena) (answer (shapeOf c) (heapAfter n xs .classes c) (Calls.giveBack h ws)) .run
+
+    abbrev Passes : Type 0
+    Passes = Tests (shapeOf c) (shape-sound c) (heapAfter n xs .classes c) (good-class n small xs c) (once-class n small xs c) (one-first c) h gives ws
+
+    module _ (host : badHost h ≡ false) where
+      passes : next n b xs x .code ≡ 0 → Passes
+      unfolding classCall interact finish
+      passes z = list-tests (shapeOf c) (shape-sound c) (heapAfter n xs .classes c) (good-class n small xs c) (once-class n small xs c) (one-first c) h gives ws (next-unrefused n b o xs x _ d host z)
+
+      returned : Passes → next n b xs x .code ≡ 0
+      unfolding classCall interact finish
+      returned t = next-zero n b o xs x _ d host (tests-list (shapeOf c) (shape-sound c) (heapAfter n xs .classes c) (good-class n small xs c) (once-class n small xs c) (one-first c) h gives ws t)
+
+    pub list-returns : (next n b xs x .code ≡ 0) ↔ ListOut (told n b xs) c h ws
+    list-returns = (
+      λ z. let host = next-host n b o xs x _ d z in
+          let t = passes host z in
+          record { host = ltb-false hostMax h host; listed = t .listed; kinds = t .kinds; out = all-out c ws (t .out) (t .single); together = t .together },
+      λ p. returned (le-ltb hostMax h (p .host)) (record { listed = p .listed; kinds = p .kinds; out = out-all c ws (p .out); single = p .out .once; together = p .together }),
+    )
+
+  -- a block alone
+  alone-out : (c w h : ℕ) → h ≤ hostMax → OutIn (told n b xs) c w → ListOut (told n b xs) c h (w ∷ [])
+  alone-out c w h low p =
+      let y = lies (shapeOf c) (shape-sound c) (heapAfter n xs .classes c) (good-class n small xs c) w (out-here c w p) in
+      record {
+        host = low;
+        listed = refl;
+        kinds = rw (out-kind n small xs c w y);
+        out = record { out = λ v m. rw (elem-only w v m) p; once = refl };
+        together = record { first = y .site .page .first; blocks = λ v m. rw (elem-only w v m) (lies-on (shapeOf c) (shape-sound c) (heapAfter n xs .classes c) (good-class n small xs c) w y) };
+      }
 
   pub word-returns : (c w : ℕ) (x : Call) (h : ℕ) → h ≤ hostMax → names x ≡ some (record { class = c; request = Calls.giveBack h (w ∷ []) })
       → (next n b xs x .code ≡ 0) ↔ OutIn (told n b xs) c w
-  word-returns c w x h low d = (λ z. list-out x _ d z .out w (rw (eq-eqb w w refl)), λ e. out-returns c w e x h low d)
+  word-returns c w x h low d = (
+    λ z. list-returns c x h (w ∷ []) d .0 z .out .out w (elem-first w []),
+    λ p. list-returns c x h (w ∷ []) d .1 (alone-out c w h low p),
+  )

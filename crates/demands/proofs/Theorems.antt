@@ -1,15 +1,16 @@
--- Demands 2 and 3 hold of every history of the exported calls, on the words. Assumes nothing.
+-- Demands 2 and 3 hold of every history of the exported calls, on the words.
 use Prim.Native.Nat.{ℕ, _≤_}
 use mathlib.Core.List.{List, _∷_, _++_}
 use mathlib.Core.Logic.{_↔_}
 use mathlib.Core.Path.{_≡_}
+use Rattle.facts.specs.Lists.{All}
 use Rattle.fields.specs.Ranges.{maxPages}
 use Rattle.fields.specs.Outcome.{Did}
-use Rattle.model.specs.Lists.{All}
 use Rattle.model.specs.declared.Hole.{Hole}
 use Rattle.model.specs.Calls.{Call, Answer}
 use Rattle.model.specs.Heap.{Heap}
 use Rattle.model.specs.History.{answers, events, heapAfter, answersOf, runsOf}
+use Rattle.model.specs.Entries.{Entry}
 use Rattle.model.specs.Examples.{history, onNewHeap}
 use Rattle.model.proofs.Theorems as Model
 use Rattle.model.proofs.Alone as Alone
@@ -17,18 +18,21 @@ use Rattle.arena.specs.Load.{loadArena}
 use Rattle.vigbuso.specs.Direct.{openOn}
 use Rattle.refinement.specs.Represents.{Represents}
 use Rattle.refinement.specs.Direct.{Reply}
-use Rattle.refinement.specs.Run.{callReply, answersIn}
+use Rattle.refinement.specs.Run.{callReply, repliesFrom, answersIn}
 use Rattle.demands.specs.Call.{call}
-use Rattle.demands.specs.Run.{Opens, Room, repliesFrom, run, bookAfter, next, told}
+use Rattle.demands.specs.Run.{Opens, Room, run, bookAfter, next, told}
 use Rattle.demands.specs.Contracts.{Shows, Trace}
-use Rattle.demands.specs.Demands.{Demand2, Demand3}
+use Rattle.demands.specs.Demands.{Demand2, Demand3, TableBytes}
 use Rattle.demands.proofs.Calls as Calls
 use Rattle.demands.proofs.Contracts as Contracts
 use Rattle.demands.proofs.Histories as Histories
 use Rattle.demands.proofs.Told.{told-answers, told-disjoint, told-iso}
+use Rattle.demands.proofs.Sizes as Sizes
 use Rattle.demands.proofs.Fits.{commit-fits, run-fits, memory-fits, take-yields}
-use Rattle.demands.proofs.Returns.{word-returns, list-out}
-use Rattle.demands.proofs.Held.{held-releases}
+use Rattle.demands.proofs.Returns.{word-returns, list-returns}
+use Rattle.demands.proofs.ChunkReturns.{chunks-return}
+use Rattle.demands.proofs.Held.{held-releases, unheld-refused, held-grows, unheld-stays, growth-fits}
+use Rattle.demands.proofs.Unused.{commit-unused, growth-unused, class-unused}
 
 -- what a caller sees of an exported function, by its contract, is the reply of `call`; of calls in turn from an opening, that of `run`
 pub shows-call : {b : List ℕ} {x : Call} {w : Reply} → Shows b x w → w ≡ call b x
@@ -41,8 +45,12 @@ trace-run = Contracts.trace-run
 pub opens-exactly : (n : ℕ) (b : List ℕ) → Opens n b ↔ Room n b
 opens-exactly n b = (Calls.room n b, Calls.opens n b)
 
+-- a refused opening may stand anywhere: what follows it is answered as without it
+pub refused-opening-stays : (n : ℕ) (b : List ℕ) → (Opens n b → ⊥) → (xs : List Call) → repliesFrom call (openOn b n .book) xs ≡ repliesFrom call b xs
+refused-opening-stays n b r xs = rw (Calls.refused-book n b r)
+
 -- every call of a history is a call on the book that the calls before it left
-pub run-calls : (n : ℕ) (b : List ℕ) (xs : List Call) (x : Call) (ys : List Call) → run n b (xs ++ x ∷ ys) ≡ run n b xs ++ (next n b xs x ∷ repliesFrom (next n b xs x .book) ys)
+pub run-calls : (n : ℕ) (b : List ℕ) (xs : List Call) (x : Call) (ys : List Call) → run n b (xs ++ x ∷ ys) ≡ run n b xs ++ (next n b xs x ∷ repliesFrom call (next n b xs x .book) ys)
 run-calls = Histories.run-calls
 
 -- on a book that stands for a heap, a call is the refinement's
@@ -75,10 +83,22 @@ demand-2 n b o xs = record {
   remembers = memory-fits n b o xs;
   takes = take-yields n b o xs;
   returns = word-returns n b o xs;
-  outs = list-out n b o xs;
+  returnsList = list-returns n b o xs;
+  returnsChunks = chunks-return n b o xs;
   releases = held-releases n b o xs;
+  unheld = unheld-refused n b o xs;
+  grows = held-grows n b o xs;
+  unheldGrowth = unheld-stays n b o xs;
+  growths = growth-fits n b o xs;
+  newRuns = commit-unused n b o xs;
+  newPages = growth-unused n b o xs;
+  newOfClass = class-unused n b o xs;
   apart = told-iso n b o xs (Model.iso-disjoint n (Calls.room n b o .few-pages) xs);
 }
+
+-- the bytes of an entry, of `disjoint`, `apart` and `Unused`, are its class's size in document 01's tables
+pub block-bytes : (e : Entry) → TableBytes e
+block-bytes = Sizes.block-bytes
 
 -- a class's answers are the model's
 both : (n₁ n₂ : ℕ) (b₁ b₂ : List ℕ) → Opens n₁ b₁ → Opens n₂ b₂ → (c : ℕ) (xs ys : List Call)

@@ -1,5 +1,5 @@
 -- What is told of a history on the words, its calls with their answers, is what the model's events have of it; a class's answers, entries
--- and holds read no more of events than that. Assumes nothing.
+-- and holds read no more of events than that.
 --     told-is           the calls with their answers are the model's events without the runs
 --     told-answers      so a class's answers are the model's
 --     told-disjoint     and what the model's events have as `Disjoint` and `IsoDisjoint`, these have
@@ -9,14 +9,14 @@ use mathlib.Core.List.{List, [], _∷_, map, head-eq-of-cons-eq, tail-eq-of-cons
 use mathlib.Core.Logic.{inl, inr}
 use mathlib.Core.Option.{none}
 use mathlib.Core.Path.{_≡_, refl, sym, ap, ap₂, _∙_}
+use Rattle.facts.specs.Lists.{every}
+use Rattle.facts.proofs.Bools.{by-cases}
 use Rattle.classes.specs.Sizes.{pageBytes}
-use Rattle.model.specs.Lists.{every}
 use Rattle.model.specs.Calls.{Call, Answer, names}
 use Rattle.model.specs.Heap.{Heap, step, newHeap}
 use Rattle.model.specs.History.{Event, eventsFrom, events, answersOf, isOf}
 use Rattle.model.specs.Entries.{Entry, Live, OutIn, releases, directNext, directFrom, directAfter}
 use Rattle.model.specs.Demands.{Disjoint, IsoDisjoint}
-use Rattle.model.proofs.Counts.{by-cases}
 use Rattle.refinement.specs.Direct.{Reply}
 use Rattle.refinement.specs.Run.{answersIn}
 use Rattle.demands.specs.Run.{Opens, answered, told, run}

@@ -6,12 +6,12 @@
 use Prim.Native.Nat.{ℕ}
 use mathlib.Core.List.{List, []}
 use Rattle.model.specs.Calls as Calls
-use Rattle.model.specs.Calls.{Call, contained}
+use Rattle.model.specs.Calls.{Call, contained, reported}
 use Rattle.vigbuso.specs.Direct as Direct
-use Rattle.vigbuso.specs.Direct.{commitOn, growOn, containsOn, reportOn, reportCode, figuresOut}
+use Rattle.vigbuso.specs.Direct.{commitOn, growOn, containsOn, reportOn, reportCode, figuresOut, figuresIn}
 use Rattle.vigbuso.specs.Blocks as Blocks
 use Rattle.vigbuso.specs.Blocks.{takeOn, chunksOn}
-use Rattle.refinement.specs.Direct.{Reply, reply, commitReply, growReply, releaseReply, reportedOf}
+use Rattle.refinement.specs.Direct.{Reply, reply, commitReply, growReply, releaseReply}
 use Rattle.refinement.specs.Classes.{takeReply}
 use Rattle.refinement.specs.Releases.{listReply, chunksReply}
 
@@ -25,4 +25,4 @@ call b (Calls.commit h m) = commitReply (commitOn b h m)
 call b (Calls.growFrontier h q old new) = growReply (growOn b h q old new)
 call b (Calls.release h q m) = releaseReply (Direct.releaseOn b h q m)
 call b (Calls.contains o k) = reply 0 (contained (containsOn b o k)) b
-call b Calls.report = reply (reportCode (reportOn b)) (reportedOf (figuresOut (reportOn b) [])) b
+call b Calls.report = reply (reportCode (reportOn b)) (reported (figuresIn (figuresOut (reportOn b) []))) b

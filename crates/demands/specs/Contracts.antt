@@ -1,5 +1,4 @@
 -- What a caller sees of the exported functions, by their contracts alone (crates/vigbuso/src): on any book, any numbers and any list.
--- Assumes nothing.
 --     Shows    a call of the exported function of that name, on the book b, returns and leaves what the reply says
 --     Trace    calls in turn, each on the book as the last one left it, and what is seen of them
 -- r is what the function returns; a name with ′ is what a lent slice or an out-parameter holds afterwards.
@@ -10,17 +9,17 @@ use mathlib.Core.Path.{_≡_}
 use lib.Dec.{eqb}
 use Rattle.words.specs.Host.{digit}
 use Rattle.model.specs.Calls as Calls
-use Rattle.model.specs.Calls.{Call, Answer, taken, fate, fates, noRun, released, contained}
+use Rattle.model.specs.Calls.{Call, Answer, taken, fate, fates, noRun, released, contained, reported}
 use Rattle.direct.specs.Answer.{Releases}
 use Rattle.vigbuso.specs.Direct as Direct
-use Rattle.vigbuso.specs.Direct.{commitOn, CommitEnds, growOn, GrowEnds, containsOn, reportOn, ReportEnds}
+use Rattle.vigbuso.specs.Direct.{noPage, commitOn, CommitEnds, growOn, GrowEnds, containsOn, reportOn, figuresIn, ReportEnds}
 use Rattle.vigbuso.specs.Blocks as Blocks
 use Rattle.vigbuso.specs.Blocks.{takeOn, TakeEnds, ReleaseEnds, chunksOn, ChunksEnds}
-use Rattle.refinement.specs.Direct.{Reply, reply, reportedOf}
+use Rattle.refinement.specs.Direct.{Reply, reply}
 
 -- a commit's two out-parameters: for none, the first page is the greatest number
 abbrev pub runSeen : ℕ → ℕ → Answer
-runSeen q f = cond (eqb q 4294967295) noRun (Calls.run q (eqb f 1))
+runSeen q f = cond (eqb q noPage) noRun (Calls.run q (eqb f 1))
 
 -- each premise is what the function ensures
 pub data Shows (b : List ℕ) : Call → Reply → Type 0 where
@@ -39,7 +38,7 @@ pub data Shows (b : List ℕ) : Call → Reply → Type 0 where
       → Shows b (Calls.growFrontier h q old new) (reply r (Calls.grown (eqb g′ 1)) b′)
   release : (h q m r : ℕ) (b′ : List ℕ) → Releases r b′ (Direct.releaseOn b h q m) → Shows b (Calls.release h q m) (reply r released b′)
   contains : (o k r : ℕ) → r ≡ digit (containsOn b o k) → Shows b (Calls.contains o k) (reply 0 (contained (eqb r 1)) b)
-  report : (r : ℕ) (fs fs′ : List ℕ) → ReportEnds (reportOn b) r fs fs′ → Shows b Calls.report (reply r (reportedOf fs′) b)
+  report : (r : ℕ) (fs fs′ : List ℕ) → ReportEnds (reportOn b) r fs fs′ → Shows b Calls.report (reply r (reported (figuresIn fs′)) b)
 
 pub data Trace : List ℕ → List Call → List Reply → Type 0 where
   ends : (b : List ℕ) → Trace b [] []

@@ -1,28 +1,31 @@
 -- Demands 2 and 3, as statements about every history of calls on the words, from an opening on any book. proofs/Theorems proves them.
--- Assumes nothing.
-use Prim.Native.Nat.{ℕ, _+_, _≤_, _<_}
+use Prim.Native.Nat.{ℕ, _+_, _-_, _/_, _≤_, _<_}
 use mathlib.Core.Bool.{Bool, true, false}
 use mathlib.Core.List.{List, [], _∷_}
 use mathlib.Core.Logic.{_⊎_, _↔_}
 use mathlib.Core.Option.{Option, none, some}
 use mathlib.Core.Path.{_≡_}
+use lib.ListN.{getD}
+use Rattle.facts.specs.Lists.{isNil}
+use Rattle.words.specs.Host.{hostMax, commitGranted}
+use Rattle.classes.specs.Sizes.{smallSizes, mediumSizes, pageBytes}
 use Rattle.classes.specs.Shape.{shapeOf}
 use Rattle.model.specs.declared.Hole.{Hole}
-use Rattle.model.specs.Lists.{isNil}
+use Rattle.model.specs.Cover.{inRun}
 use Rattle.model.specs.Calls as Calls
-use Rattle.model.specs.Calls.{Call, Answer, Named, names, hostOf, listOf, blocksOf}
+use Rattle.model.specs.Calls.{Call, Answer, Named, names, hostOf, Request, blocksOf}
 use Rattle.model.specs.HoleStore.{hole}
 use Rattle.model.specs.Arena.{Arena}
 use Rattle.model.specs.Class.{Class}
-use Rattle.model.specs.Chunks.{hostMax}
 use Rattle.model.specs.Heap.{badRun, answerRun, step}
-use Rattle.model.specs.History.{answers, events, heapAfter, callsOf, answersOf, runsOf}
-use Rattle.model.specs.Entries.{OutIn, AllOut, directAfter}
+use Rattle.model.specs.History.{Event, answers, events, heapAfter, callsOf, answersOf, runsOf}
+use Rattle.model.specs.Entries.{Entry, Live, HasByte, blockBytes, OutIn, directAfter}
 use Rattle.model.specs.BestFit.{Commits, Remembers}
 use Rattle.model.specs.Demands.{Disjoint, IsoDisjoint}
 use Rattle.arena.specs.Load.{loadArena}
 use Rattle.refinement.specs.Run.{answersIn}
 use Rattle.demands.specs.Run.{Opens, run, bookAfter, next, told}
+use Rattle.demands.specs.Returns.{ListOut, ChunksOut}
 
 -- ---- Demand 3, "one claim about whole histories, not one for each call"
 pub record Demand3 : Type 0 where
@@ -42,16 +45,47 @@ pub record CommitFits (n h m : ℕ) (a : Arena) (x : Answer) : Type 0 where
   pub fits : Commits n h m a run fresh
   pub answer : x ≡ answerRun run fresh
 
--- what the arena gives a class at a call: nothing, or a run of the class's length by best fit
-pub data RunFits (n h m : ℕ) (a : Arena) : Option Hole → Type 0 where
-  nothing : RunFits n h m a none
-  given : (q : ℕ) (fresh : Bool) → Commits n h m a (some q) fresh → RunFits n h m a (some (hole q m))
-
 -- no page of the class is at hand: none is partial, empty or cold
 pub record Spent (s : Class) : Type 0 where
   pub partial : s .partial ≡ []
   pub empty : s .empty ≡ []
   pub cold : s .cold ≡ []
+
+-- a class's call asks the arena for a run: it is a take, not refused, and no page of the class is at hand
+abbrev pub isTake : Request → Bool
+isTake (Calls.take h l) = true
+isTake (Calls.giveBack h ws) = false
+isTake (Calls.giveChunks h ws gs fs) = false
+
+pub record Asks (s : Class) (r : Request) (code : ℕ) : Type 0 where
+  pub take : isTake r ≡ true
+  pub unrefused : code ≡ 0
+  pub spent : Spent s
+
+-- what the arena gives a class at a call that asks (Asked) or not: nothing if it does not ask; if it does, none with its reason, or a
+-- run of the class's length by best fit
+pub data RunFits (n h m : ℕ) (a : Arena) (Asked : Type 0) : Option Hole → Type 0 where
+  unasked : (Asked → ⊥) → RunFits n h m a Asked none
+  nothing : Asked → Commits n h m a none false → RunFits n h m a Asked none
+  given : Asked → (q : ℕ) (fresh : Bool) → Commits n h m a (some q) fresh → RunFits n h m a Asked (some (hole q m))
+
+-- a growth by m pages of a run that ends before page e: yes if it ends at the frontier, the arena suffices and the commit is granted,
+-- else no, with its reason
+pub data Grows (n h e m : ℕ) (a : Arena) : Bool → Type 0 where
+  grew : a .frontier ≡ e → e + m ≤ n → commitGranted h ≡ true → Grows n h e m a true
+  elsewhere : (a .frontier ≡ e → ⊥) → Grows n h e m a false
+  exhausted : n < e + m → Grows n h e m a false
+  ungranted : commitGranted h ≡ false → Grows n h e m a false
+
+pub record GrowFits (n h e m : ℕ) (a : Arena) (x : Answer) : Type 0 where
+  pub yes : Bool
+  pub fits : Grows n h e m a yes
+  pub answer : x ≡ Calls.grown yes
+
+-- nobody has a page of this run: none is held by the direct calls, and no entry not yet released has a byte in it
+pub record Unused (vs : List Event) (q m : ℕ) : Type 0 where
+  pub offDirect : (k : ℕ) → k < m → directAfter vs (q + k) ≡ false
+  pub offBlocks : (e : Entry) → Live 0 vs e → (b : ℕ) → HasByte e b → inRun m q (b / pageBytes) ≡ false
 
 -- after the history xs; the arena, holes and all, is what the words of the book say it is
 pub record Demand2 (n : ℕ) (b : List ℕ) (xs : List Call) : Type 0 where
@@ -60,7 +94,8 @@ pub record Demand2 (n : ℕ) (b : List ℕ) (xs : List Call) : Type 0 where
   pub arena : loadArena (bookAfter n b xs) ≡ heapAfter n xs .arena
   pub commits : (h m : ℕ) → h ≤ hostMax → badRun m ≡ false → CommitFits n h m (loadArena (bookAfter n b xs)) (next n b xs (Calls.commit h m) .answer)
   pub runs : (x : Call) (d : Named) → names x ≡ some d
-      → RunFits n (hostOf (d .request)) (shapeOf (d .class) .pages) (loadArena (bookAfter n b xs)) (step n (heapAfter n xs) x .run)
+      → RunFits n (hostOf (d .request)) (shapeOf (d .class) .pages) (loadArena (bookAfter n b xs)) (Asks (heapAfter n xs .classes (d .class)) (d .request) (next n b xs x .code))
+      (step n (heapAfter n xs) x .run)
   pub remembers : Remembers (loadArena (bookAfter n b xs) .store)
   -- a take that is not refused answers a block, or its class has no page at hand and the arena no run for it
   pub takes : (x : Call) (c h : ℕ) (l : List ℕ) → names x ≡ some (record { class = c; request = Calls.take h l }) → next n b xs x .code ≡ 0
@@ -69,10 +104,33 @@ pub record Demand2 (n : ℕ) (b : List ℕ) (xs : List Call) : Type 0 where
   -- the class not yet released has its word
   pub returns : (c w : ℕ) (x : Call) (h : ℕ) → h ≤ hostMax → names x ≡ some (record { class = c; request = Calls.giveBack h (w ∷ []) })
       → (next n b xs x .code ≡ 0) ↔ OutIn (told n b xs) c w
-  -- and of any release that is not refused, by list or by groups, each block is out in the class, and none stands twice
-  pub outs : (x : Call) (d : Named) → names x ≡ some d → next n b xs x .code ≡ 0 → AllOut (told n b xs) (d .class) (listOf (d .request))
+  -- so is a list exactly if numbers 3 and 7 to 11 do not apply, by the history and by its words; so are groups
+  pub returnsList : (c : ℕ) (x : Call) (h : ℕ) (ws : List ℕ) → names x ≡ some (record { class = c; request = Calls.giveBack h ws })
+      → (next n b xs x .code ≡ 0) ↔ ListOut (told n b xs) c h ws
+  pub returnsChunks : (c h : ℕ) (ws gs fs : List ℕ) → c < 64
+      → (next n b xs (Calls.releaseBinChunks c h ws gs fs) .code ≡ 0) ↔ ChunksOut (told n b xs) c h ws gs fs
   -- a run can be released directly exactly if each of its pages is held by the direct calls
   pub releases : (h q m : ℕ) → h ≤ hostMax → badRun m ≡ false
       → (next n b xs (Calls.release h q m) .code ≡ 0) ↔ ((k : ℕ) → k < m → directAfter (told n b xs) (q + k) ≡ true)
+  -- else it is refused as 12
+  pub unheld : (h q m : ℕ) → h ≤ hostMax → badRun m ≡ false → (k : ℕ) → k < m → directAfter (told n b xs) (q + k) ≡ false
+      → next n b xs (Calls.release h q m) .answer ≡ Calls.refused 12
+  -- so with a growth, and one that is not refused is answered by `Grows`
+  pub grows : (h q old new : ℕ) → h ≤ hostMax → badRun old ≡ false → badRun new ≡ false → old < new
+      → (next n b xs (Calls.growFrontier h q old new) .code ≡ 0) ↔ ((k : ℕ) → k < old → directAfter (told n b xs) (q + k) ≡ true)
+  pub unheldGrowth : (h q old new : ℕ) → h ≤ hostMax → badRun old ≡ false → badRun new ≡ false → old < new → (k : ℕ) → k < old → directAfter (told n b xs) (q + k) ≡ false
+      → next n b xs (Calls.growFrontier h q old new) .answer ≡ Calls.refused 12
+  pub growths : (h q old new : ℕ) → h ≤ hostMax → badRun old ≡ false → badRun new ≡ false → old < new
+      → next n b xs (Calls.growFrontier h q old new) .code ≡ 0
+      → GrowFits n h (q + old) (new - old) (loadArena (bookAfter n b xs)) (next n b xs (Calls.growFrontier h q old new) .answer)
+  -- what is given out was nobody's: the run that a direct commit answers, the pages that a growth adds, the run that a class gets
+  pub newRuns : (h m q : ℕ) (fresh : Bool) → next n b xs (Calls.commit h m) .answer ≡ Calls.run q fresh → Unused (told n b xs) q m
+  pub newPages : (h q old new : ℕ) → next n b xs (Calls.growFrontier h q old new) .answer ≡ Calls.grown true → Unused (told n b xs) (q + old) (new - old)
+  pub newOfClass : (x : Call) (d : Named) (r : Hole) → names x ≡ some d → step n (heapAfter n xs) x .run ≡ some r → Unused (told n b xs) (r .first) (r .pages)
   -- blocks not yet released lie in the arena and have no byte in common
   pub apart : IsoDisjoint n (told n b xs)
+
+-- an entry's bytes, which `HasByte` counts in granules, are its class's size in document 01's tables
+pub record TableBytes (e : Entry) : Type 0 where
+  pub small : e .class < 64 → blockBytes e ≡ getD smallSizes (e .class) 0
+  pub medium : (k : ℕ) → e .class ≡ 64 + k → k < 12 → blockBytes e ≡ getD mediumSizes k 0

@@ -1,5 +1,5 @@
--- Demand 1: document 01's table "Numbers for a refused call, in checking order", for each exported function. Assumes nothing.
---     badLength to takeFair      when each number applies, with document 01's sentence
+-- Demand 1: document 01's table "Numbers for a refused call, in checking order", for each exported function.
+--     badLength to notHeld       when each number applies, with document 01's sentence
 --     openTable to chunksTable   for each function the numbers that it can answer, in checking order, and whether each applies
 --     firstNumber                the first of them that applies, 0 if none does
 --     Refuses                    a call answered that number, and changed nothing where it is not 0
@@ -7,34 +7,33 @@
 -- b is the book, n the arena's length in it, c a class, sh its shape, h the host word, ws a list of blocks, gs of groups, fs the lent
 -- fates. Each condition says by itself when its number applies, also where an earlier number answers first.
 use Prim.Native.Nat.{ℕ, _+_, _≤_}
-use mathlib.Core.Bool.{Bool, true, false, cond, not, _&&_, _||_}
+use mathlib.Core.Bool.{Bool, true, false, cond, not, _||_}
 use mathlib.Core.List.{List, [], _∷_}
 use mathlib.Core.Path.{_≡_}
 use lib.Dec.{eqb, ltb, leb}
 use lib.ListN.{length}
+use Rattle.facts.specs.Lists.{isNil, every, distinct}
 use Rattle.words.specs.Word.{chunkKind}
-use Rattle.words.specs.Host.{digit}
+use Rattle.words.specs.Host.{badHost, digit}
 use Rattle.classes.specs.declared.Shape.{Shape}
 use Rattle.classes.specs.Shape.{shapeOf}
 use Rattle.classes.specs.Lookup.{classForSize, mediumClassForSize}
-use Rattle.fields.specs.Field.{arena, class, size, state, frontier, partial, empty, cold, words, get}
+use Rattle.fields.specs.Field.{arena, size, words, get}
 use Rattle.fields.specs.Outcome.{Did}
-use Rattle.fields.specs.Ranges.{maxPages, inRange}
-use Rattle.model.specs.Lists.{isNil, every, distinct}
-use Rattle.model.specs.Heap.{badRun}
+use Rattle.fields.specs.Ranges.{maxPages}
+use Rattle.model.specs.Heap.{badRun, badGrowth}
 use Rattle.model.specs.Release.{ofKind}
-use Rattle.model.specs.Chunks.{chunksMax, hostMax}
-use Rattle.arena.specs.Fair.{recordFair, commitFair, giveFair}
+use Rattle.model.specs.Chunks.{chunksMax}
 use Rattle.arena.specs.Calls.{heldDirect}
-use Rattle.pages.specs.declared.Park.the-variants.{Empty, Cold}
-use Rattle.direct.specs.Answer.{badGrowth, Releases}
-use Rattle.calls.specs.Take.{walk, parkFair}
-use Rattle.calls.specs.Release.{startOf, outAt, firstOf, releaseFair}
-use Rattle.calls.specs.Chunks.{chunksMatch, chunksFair}
+use Rattle.direct.specs.Answer.{Releases}
+use Rattle.calls.specs.Release.{startOf, outAt, firstOf}
+use Rattle.calls.specs.Chunks.{chunksMatch}
 use Rattle.vigbuso.specs.Direct as Direct
 use Rattle.vigbuso.specs.Direct.{openOn, commitOn, CommitEnds, growOn, GrowEnds, containsOn, reportOn, ReportEnds}
 use Rattle.vigbuso.specs.Blocks as Blocks
 use Rattle.vigbuso.specs.Blocks.{takeOn, TakeEnds, ReleaseEnds, chunksOn, ChunksEnds}
+use Rattle.demands.specs.Ranges.{stateKnown, inRange, strays}
+use Rattle.demands.specs.Reads.{recordReads, commitReads, giveReads, takeReads, barren, releaseReads, chunksReads}
 
 -- ---- when each number applies
 -- 1. "Arena length, given at opening or stored as the book's first word, is 0 (an empty book reads so) or above 262,144."
@@ -45,9 +44,7 @@ badLength n = eqb n 0 || ltb maxPages n
 abbrev pub tooShort : ℕ → List ℕ → Bool
 tooShort n b = ltb (length b) (words n)
 
--- 3. "The host word exceeds 15."
-abbrev pub badHost : ℕ → Bool
-badHost h = ltb hostMax h
+-- 3. "The host word exceeds 15.": `badHost`
 
 -- 4. "The class is 64 or more, medium 12 or more."
 abbrev pub noClass : ℕ → ℕ → Bool
@@ -87,16 +84,8 @@ chunksDiffer b ws gs = not (chunksMatch b ws gs)
 abbrev pub notHeld : ℕ → List ℕ → ℕ → ℕ → Bool
 notHeld n b q m = not (heldDirect n b q m)
 
--- 13. "Another book word that the call reads is out of its range, or a listed page yields no block." The tests are those of
--- docs/RANGES.md: `commitFair`, `giveFair`, `recordFair`, `releaseFair`, `chunksFair`. A take reads the frontier, then its source:
--- the partial list as far as it goes, or the newest empty page, or the newest cold one, or what a commit reads.
-unfoldable pub takeFair : ℕ → List ℕ → ℕ → Shape → Bool
-takeFair n b c sh =
-    leb (get b (arena frontier)) n
-    && cond (not (eqb (get b (class partial c)) 0)) (walk n b c sh (sh .batch) (sh .batch) (get b (class partial c)) 0)
-    (cond (not (eqb (get b (class empty c)) 0)) (parkFair n b c sh Empty)
-    (cond (not (eqb (get b (class cold c)) 0)) (parkFair n b c sh Cold)
-    (commitFair n b (sh .pages))))
+-- 13. "Another book word that the call reads is out of its range, or a listed page yields no block.": `strays` and `barren`, over the
+-- rows that the call reads of the one table, Specs/Ranges. That the tests of the code are just these is Specs/Number13.
 
 -- ---- a table's rows are a number and whether it applies
 abbrev pub Row : Type 0
@@ -106,10 +95,14 @@ abbrev pub firstNumber : List Row → ℕ
 firstNumber [] = 0
 firstNumber (row ∷ rows) = cond (row .1) (row .0) (firstNumber rows)
 
--- the numbers rise, from above k on: the first that applies is the least
-abbrev pub rises : ℕ → List Row → Bool
-rises k [] = true
-rises k (row ∷ rows) = ltb k (row .0) && rises (row .0) rows
+-- the order in which a call is checked, and that a table keeps it: its numbers stand there one behind another
+abbrev pub checkingOrder : List ℕ
+checkingOrder = 1 ∷ 2 ∷ 3 ∷ 4 ∷ 5 ∷ 6 ∷ 7 ∷ 8 ∷ 9 ∷ 10 ∷ 11 ∷ 12 ∷ 13 ∷ []
+
+abbrev pub inOrder : List ℕ → List Row → Bool
+inOrder ks [] = true
+inOrder [] (row ∷ rows) = false
+inOrder (k ∷ ks) (row ∷ rows) = cond (eqb k (row .0)) (inOrder ks rows) (inOrder ks (row ∷ rows))
 
 -- ---- the tables
 -- vigbuso_open
@@ -120,38 +113,38 @@ openTable b n = (1, badLength n) ∷ (2, tooShort n b) ∷ []
 abbrev pub commitTable : List ℕ → ℕ → ℕ → List Row
 commitTable b h m =
     let n = get b (arena size) in
-    (1, badLength n) ∷ (2, tooShort n b) ∷ (3, badHost h) ∷ (6, badRun m) ∷ (13, not (commitFair n b m)) ∷ []
+    (1, badLength n) ∷ (2, tooShort n b) ∷ (3, badHost h) ∷ (6, badRun m) ∷ (13, strays b (commitReads b m)) ∷ []
 
 -- vigbuso_grow_frontier
 abbrev pub growTable : List ℕ → ℕ → ℕ → ℕ → ℕ → List Row
 growTable b h q old new =
     let n = get b (arena size) in
-    (1, badLength n) ∷ (2, tooShort n b) ∷ (3, badHost h) ∷ (6, badGrowth old new) ∷ (12, notHeld n b q old) ∷ (13, not (recordFair n b)) ∷ []
+    (1, badLength n) ∷ (2, tooShort n b) ∷ (3, badHost h) ∷ (6, badGrowth old new) ∷ (12, notHeld n b q old) ∷ (13, strays b recordReads) ∷ []
 
 -- vigbuso_release
 abbrev pub giveTable : List ℕ → ℕ → ℕ → ℕ → List Row
 giveTable b h q m =
     let n = get b (arena size) in
-    (1, badLength n) ∷ (2, tooShort n b) ∷ (3, badHost h) ∷ (6, badRun m) ∷ (12, notHeld n b q m) ∷ (13, not (giveFair n b m)) ∷ []
+    (1, badLength n) ∷ (2, tooShort n b) ∷ (3, badHost h) ∷ (6, badRun m) ∷ (12, notHeld n b q m) ∷ (13, strays b (giveReads m)) ∷ []
 
 -- vigbuso_report
 abbrev pub reportTable : List ℕ → List Row
 reportTable b =
     let n = get b (arena size) in
-    (1, badLength n) ∷ (2, tooShort n b) ∷ (13, not (recordFair n b)) ∷ []
+    (1, badLength n) ∷ (2, tooShort n b) ∷ (13, strays b recordReads) ∷ []
 
 -- vigbuso_contains answers none of these: it is no where one applies
 abbrev pub containsTable : List ℕ → List Row
 containsTable b =
     let n = get b (arena size) in
-    (1, badLength n) ∷ (2, tooShort n b) ∷ (13, not (inRange 0 b (arena state))) ∷ []
+    (1, badLength n) ∷ (2, tooShort n b) ∷ (13, not (inRange b stateKnown)) ∷ []
 
 -- vigbuso_take_blocks, with class ids from 0 on and 64 classes; vigbuso_medium_take_blocks, with ids from 64 on and 12 classes
 abbrev pub takeTable : ℕ → ℕ → List ℕ → ℕ → ℕ → List ℕ → List Row
 takeTable low many b c h l =
     let n = get b (arena size) in
     let sh = shapeOf (low + c) in
-    (1, badLength n) ∷ (2, tooShort n b) ∷ (3, badHost h) ∷ (4, noClass many c) ∷ (5, shortList sh l) ∷ (13, not (takeFair n b (low + c) sh)) ∷ []
+    (1, badLength n) ∷ (2, tooShort n b) ∷ (3, badHost h) ∷ (4, noClass many c) ∷ (5, shortList sh l) ∷ (13, strays b (takeReads b (low + c) sh) || barren b (low + c) sh) ∷ []
 
 -- vigbuso_release_blocks, vigbuso_medium_release_blocks, in the same way
 abbrev pub releaseTable : ℕ → ℕ → List ℕ → ℕ → ℕ → List ℕ → List Row
@@ -166,7 +159,7 @@ releaseTable low many b c h ws =
     ∷ (9, wrongKind (sh .kind) ws)
     ∷ (10, notOut n b (low + c) sh ws)
     ∷ (11, otherPage b ws)
-    ∷ (13, not (releaseFair n b (low + c) sh (length ws) (startOf b (firstOf ws))))
+    ∷ (13, strays b (releaseReads b (low + c) sh (length ws) (startOf b (firstOf ws))))
     ∷ []
 
 -- vigbuso_release_bin_chunks
@@ -183,13 +176,13 @@ chunksTable b c h ws gs fs =
     ∷ (9, wrongKind (sh .kind) ws || wrongKind chunkKind gs)
     ∷ (10, notOut n b c sh ws)
     ∷ (11, chunksDiffer b ws gs)
-    ∷ (13, not (chunksFair n b c sh gs))
+    ∷ (13, strays b (chunksReads b c sh gs))
     ∷ []
 
 -- ---- "Each returns its number and changes nothing."
 -- A call with these rows answered r; Same says that all that it was lent to write is as it was: book, list, out-parameters.
 pub record Refuses (rows : List Row) (r : ℕ) (Same : Type 0) : Type 0 where
-  pub order : rises 0 rows ≡ true
+  pub order : inOrder checkingOrder rows ≡ true
   pub number : r ≡ firstNumber rows
   pub kept : (r ≡ 0 → ⊥) → Same
 

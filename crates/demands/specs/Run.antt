@@ -1,4 +1,4 @@
--- Histories on the words (document 01, "The histories of demand 3"). Assumes nothing.
+-- Histories on the words (document 01, "The histories of demand 3").
 --     Opens       an arena of n pages is opened on the book b, and not refused; `Room` says when
 --     run         the replies to the calls of a history from that opening; `bookAfter` the book that it leaves
 --     next        the reply to one more call
@@ -14,6 +14,7 @@ use Rattle.model.specs.Calls.{Call}
 use Rattle.model.specs.History.{Event}
 use Rattle.vigbuso.specs.Direct.{openOn}
 use Rattle.refinement.specs.Direct.{Reply}
+use Rattle.refinement.specs.Run.{repliesFrom, bookFrom}
 use Rattle.demands.specs.Call.{call}
 
 -- "It starts from an unrefused opening"
@@ -27,19 +28,11 @@ pub record Room (n : ℕ) (b : List ℕ) : Type 0 where
   pub long : words n ≤ length b
 
 -- "Each call gets the book as the last one left it"
-abbrev pub repliesFrom : List ℕ → List Call → List Reply
-repliesFrom b [] = []
-repliesFrom b (x ∷ xs) = call b x ∷ repliesFrom (call b x .book) xs
-
-abbrev pub bookFrom : List ℕ → List Call → List ℕ
-bookFrom b [] = b
-bookFrom b (x ∷ xs) = bookFrom (call b x .book) xs
-
 abbrev pub run : ℕ → List ℕ → List Call → List Reply
-run n b xs = repliesFrom (openOn b n .meta) xs
+run n b xs = repliesFrom call (openOn b n .book) xs
 
 abbrev pub bookAfter : ℕ → List ℕ → List Call → List ℕ
-bookAfter n b xs = bookFrom (openOn b n .meta) xs
+bookAfter n b xs = bookFrom call (openOn b n .book) xs
 
 abbrev pub next : ℕ → List ℕ → List Call → Call → Reply
 next n b xs x = call (bookAfter n b xs) x

@@ -1,1 +1,1 @@
-mod Ways
+mod CallSteps

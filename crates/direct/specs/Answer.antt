@@ -1,25 +1,22 @@
 -- The answers of the code, as document 01's numbers and values.
 --     Grew, Releases    a growth, a release answered r and left the book b, as the definition says
 --     reportOf          what a report answers
--- Assumes nothing.
-use Prim.Native.Nat.{ℕ, zero, suc, _+_, _-_}
+use Prim.Native.Nat.{ℕ, zero, suc}
 use mathlib.Core.List.{List}
-use mathlib.Core.Bool.{Bool, true, false, cond, not, _||_}
+use mathlib.Core.Bool.{Bool, true, false, cond, not}
 use mathlib.Core.Path.{_≡_}
-use lib.Dec.{leb}
-use Rattle.fields.specs.Field.{arena, frontier, holePages, held, commits, commitsHigh, reuses, reusesHigh, abandoned, abandonedHigh, get}
-use Rattle.model.specs.Heap.{badRun}
+use Rattle.facts.specs.Lists.{isSome}
+use Rattle.model.specs.Heap.{direct}
 use Rattle.runs.specs.declared.Commit.{Commit}
 use Rattle.runs.specs.declared.Commit.the-variants.{Refused, Run, Nothing}
 use Rattle.direct.specs.declared.Grow.{Grow}
 use Rattle.direct.specs.declared.Grow.the-variants.{Yes, No}
-use Rattle.direct.specs.declared.Figures.{Figures}
 use Rattle.direct.specs.declared.Report.{Report}
 use Rattle.direct.specs.declared.Report.the-variants.{Told}
-use Rattle.arena.specs.Load.{wide}
+use Rattle.arena.specs.Owners.{ownerCode}
 use Rattle.arena.specs.Fair.{recordFair, giveFair}
-use Rattle.arena.specs.Calls.{Committed, commitRefused, Done, doneRefused, given}
-use Rattle.arena.specs.Act.{ranYes, growActs}
+use Rattle.arena.specs.Calls.{Committed, commitRefused, Done, doneRefused, given, figures}
+use Rattle.holes.specs.Act.{growActs}
 
 -- a growth: a refusal's number, yes or no
 abbrev pub grownAs : ℕ → Bool → Grow
@@ -43,15 +40,11 @@ growCommit (Run q f) = Yes
 growCommit Nothing = No
 
 pub record Grows (r : Grow) (b : List ℕ) (o : Committed) : Type 0 where
-  pub answer : r ≡ grownAs (o .code) (ranYes (o .run))
+  pub answer : r ≡ grownAs (o .code) (isSome (o .run))
   pub book : b ≡ o .book
 
 unfoldable pub fairGrow : ℕ → List ℕ → ℕ → ℕ → ℕ → Committed
-fairGrow n b h e m = cond (recordFair n b) (growActs n b h e m 77) (commitRefused b 13)
-
--- number 6 for a growth
-abbrev pub badGrowth : ℕ → ℕ → Bool
-badGrowth old new = badRun old || (badRun new || leb new old)
+fairGrow n b h e m = cond (recordFair n b) (growActs n b h e m (ownerCode direct)) (commitRefused b 13)
 
 -- a release
 pub record Releases (r : ℕ) (b : List ℕ) (o : Done) : Type 0 where
@@ -62,15 +55,6 @@ pub record Releases (r : ℕ) (b : List ℕ) (o : Done) : Type 0 where
 unfoldable pub heldRelease : ℕ → List ℕ → ℕ → ℕ → Done
 heldRelease n b q m = cond (not (giveFair n b m)) (doneRefused b 13) (record { code = 0; book = given b q m; yes = true })
 
--- a report: the figures in document 01's order
-abbrev pub figuresOf : ℕ → List ℕ → Figures
-figuresOf n b = record {
-  commits = wide b commits commitsHigh;
-  reuses = wide b reuses reusesHigh;
-  abandoned = wide b abandoned abandonedHigh;
-  held = get b (arena held);
-  idle = get b (arena holePages) + (n - get b (arena frontier));
-}
-
+-- a report
 unfoldable pub reportOf : ℕ → List ℕ → Report
-reportOf n b = cond (recordFair n b) (Told (figuresOf n b)) (Report.Refused 13)
+reportOf n b = cond (recordFair n b) (Told (figures n b)) (Report.Refused 13)

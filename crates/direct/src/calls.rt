@@ -1,23 +1,27 @@
-// The direct calls, from number 3 on: the book is long enough for an arena of `size` pages.
-use super::Figures;
+// The direct calls, from number 6 on: the book is long enough for an arena of `size` pages.
 use super::Grow;
 use super::Report;
+use arena::DIRECT;
+use model::Figures;
 use runs::Commit;
 use runs::Request;
 use runs::give;
 use runs::growth;
 use runs::load;
 use runs::owners;
+use words::limits::MAX_PAGES;
 ghost use mathlib.Core.Path.{_≡_};
 ghost use mathlib.Core.Bool.{true};
 ghost use Prim.Native.Nat.{_+_, _-_, _≤_, _<_};
-ghost use Rattle.model.specs.Heap.{badRun};
+ghost use Rattle.words.specs.Limits.{maxPages};
+ghost use Rattle.model.specs.Heap.{badRun, badGrowth, direct};
+ghost use Rattle.arena.specs.Owners.{ownerCode};
 ghost use Rattle.arena.specs.Fair.{recordFair};
-ghost use Rattle.arena.specs.Calls.{commitCall, releaseCall, growCall, containsCall};
-ghost use Rattle.arena.specs.Act.{clamped, growActs};
+ghost use Rattle.arena.specs.Calls.{commitCall, releaseCall, growCall, containsCall, figures};
+ghost use Rattle.holes.specs.Act.{clamped, growActs};
 ghost use Rattle.runs.specs.Asks.{BookIn};
 ghost use Rattle.runs.specs.Answer.{Answers};
-ghost use Rattle.direct.specs.Answer.{growCommit, Releases, Grows, Grew, fairGrow, badGrowth, figuresOf, reportOf, heldRelease};
+ghost use Rattle.direct.specs.Answer.{growCommit, Releases, Grows, Grew, fairGrow, reportOf, heldRelease};
 
 fn bad_run(pages: u64) -> bool
     ensures { λ r. ⌜ r ≡ badRun pages ⌝ }
@@ -32,8 +36,8 @@ fn bad_run(pages: u64) -> bool
 fn clamp(pages: u64) -> u32
     ensures { λ r. ⌜ r ≡ clamped pages ⌝ }
 {
-    if 262_144 < pages {
-        return 262_145;
+    if MAX_PAGES < pages {
+        return (MAX_PAGES + 1) as u32;
     }
     pages as u32
 }
@@ -42,13 +46,10 @@ pub fn commit(meta: &mut [u32], size: u32, host: u32, pages: u64) -> Commit
     requires { ⌜ BookIn (now meta) size ⌝ }
     ensures { λ r. ⌜ Answers r (now (meta .exit)) (commitCall size (now (meta .entry)) host pages) ⌝ }
 {
-    if 15 < host {
-        return Commit::Refused(3);
-    }
     if bad_run(pages) {
         return Commit::Refused(6);
     }
-    runs::commit_for(meta, size, host, clamp(pages), 77)
+    runs::commit_for(meta, size, host, clamp(pages), DIRECT)
 }
 
 // A run that the direct calls hold.
@@ -63,13 +64,10 @@ fn release_held(meta: &mut [u32], size: u32, first: u32, pages: u32) -> u32
     13
 }
 
-pub fn release(meta: &mut [u32], size: u32, host: u32, first: u64, pages: u64) -> u32
+pub fn release(meta: &mut [u32], size: u32, first: u64, pages: u64) -> u32
     requires { ⌜ BookIn (now meta) size ⌝ }
-    ensures { λ r. ⌜ Releases r (now (meta .exit)) (releaseCall size (now (meta .entry)) host first pages) ⌝ }
+    ensures { λ r. ⌜ Releases r (now (meta .exit)) (releaseCall size (now (meta .entry)) first pages) ⌝ }
 {
-    if 15 < host {
-        return 3;
-    }
     if bad_run(pages) {
         return 6;
     }
@@ -92,22 +90,22 @@ fn grow_of(c: Commit) -> Grow
 
 // A run that the direct calls hold and that ends at page `end`, on a record in its ranges.
 fn grow_held(meta: &mut [u32], size: u32, host: u32, end: u32, pages: u32) -> Grow
-    requires { ⌜ BookIn (now meta) size × (recordFair size (now meta) ≡ true) × (pages ≤ 262145) ⌝ }
-    ensures { λ r. ⌜ Grows r (now (meta .exit)) (growActs size (now (meta .entry)) host end pages 77) ⌝ }
+    requires { ⌜ BookIn (now meta) size × (recordFair size (now meta) ≡ true) × (pages ≤ maxPages + 1) ⌝ }
+    ensures { λ r. ⌜ Grows r (now (meta .exit)) (growActs size (now (meta .entry)) host end pages (ownerCode direct)) ⌝ }
 {
     let a = load::load_record(meta);
     let q = Request {
         size,
         pages,
         host,
-        owner: 77,
+        owner: DIRECT,
         held: fields::arena::held(meta),
     };
     grow_of(growth::grow_run(meta, a, end, q))
 }
 
 fn grow_fair(meta: &mut [u32], size: u32, host: u32, end: u32, pages: u32) -> Grow
-    requires { ⌜ BookIn (now meta) size × (pages ≤ 262145) ⌝ }
+    requires { ⌜ BookIn (now meta) size × (pages ≤ maxPages + 1) ⌝ }
     ensures { λ r. ⌜ Grows r (now (meta .exit)) (fairGrow size (now (meta .entry)) host end pages) ⌝ }
 {
     if load::record_fair(meta, size) {
@@ -132,9 +130,6 @@ pub fn grow_frontier(meta: &mut [u32], size: u32, host: u32, first: u64, old: u6
     requires { ⌜ BookIn (now meta) size ⌝ }
     ensures { λ r. ⌜ Grew r (now (meta .exit)) (growCall size (now (meta .entry)) host first old new) ⌝ }
 {
-    if 15 < host {
-        return Grow::Refused(3);
-    }
     if bad_growth(old, new) {
         return Grow::Refused(6);
     }
@@ -161,7 +156,7 @@ pub fn contains(meta: &[u32], size: u32, offset: u64, length: u64) -> bool
 
 fn figures(meta: &[u32], size: u32) -> Figures
     requires { ⌜ BookIn (now meta) size × (recordFair size (now meta) ≡ true) ⌝ }
-    ensures { λ r. ⌜ r ≡ figuresOf size (now (meta .entry)) ⌝ }
+    ensures { λ r. ⌜ r ≡ figures size (now (meta .entry)) ⌝ }
 {
     let a = load::load_record(meta);
     Figures {

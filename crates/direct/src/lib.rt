@@ -2,20 +2,13 @@
 pub mod calls;
 pub mod open;
 
+use model::Figures;
+
 // What a growth answers.
 pub enum Grow {
     Refused(u32),
     Yes,
     No,
-}
-
-// The report's figures.
-pub struct Figures {
-    pub commits: u64,
-    pub reuses: u64,
-    pub abandoned: u64,
-    pub held: u64,
-    pub idle: u64,
 }
 
 pub enum Report {

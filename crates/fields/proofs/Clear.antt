@@ -1,4 +1,4 @@
--- Clearing out bits: a whole word at once, one stretch after another, and what is read afterwards. Assumes nothing.
+-- Clearing out bits: a whole word at once, one stretch after another, and what is read afterwards.
 use Prim.Native.Nat.{ℕ, zero, suc, _+_, _-_, _*_, _/_, _%_, _^_, _≤_, _<_}
 use native.Mathlib.Omega.{arith}
 use native.Mathlib.Nat.{le-refl, add-zero, zero-add, suc-add, zero-mod, mod-one, mod-eq-of-lt, div-one}

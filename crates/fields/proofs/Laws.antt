@@ -4,11 +4,11 @@
 --     put-get                        a write of what is there changes nothing
 --     length-put                     a write keeps the length
 --     get-room                       what is read is a value that the field can hold
--- All arithmetic of the layout is in `separate`. Assumes nothing.
-use Prim.Native.Nat.{ℕ, _+_, _*_, _/_, _%_, _≤_, _<_}
+-- All arithmetic of the layout is in `separate`.
+use Prim.Native.Nat.{ℕ, _+_, _*_, _≤_, _<_}
 use native.Mathlib.Omega.{arith}
 use native.Mathlib.Decide.{ℕ-discrete, decLe}
-use mathlib.Core.Bool.{Bool, true, false, _&&_}
+use mathlib.Core.Bool.{true, false, _&&_}
 use mathlib.Core.List.{List}
 use mathlib.Core.Logic.{_⊎_, inl, inr, _≢_, ⊎-elim}
 use mathlib.Core.Path.{_≡_, refl, sym, ap, _∙_}
@@ -16,6 +16,7 @@ use lib.Dec.{eqb, ltb, leb}
 use lib.ListN.{length, getD, set, length-set}
 use lib.Seq.{getD-set-same, getD-set-other, set-getD, set-set, set-comm, set-out}
 use borrow.Author.Tests.{leb-true, ltb-true, eqb-false, lt-ltb}
+use Rattle.facts.proofs.Bools.{and-left, and-right, and-false}
 use Rattle.fields.specs.Field.{Field, arena, memory, class, hole, page, out, slot, ArenaField, ClassField, HoleField, PageField, arenaOff, classOff, holeOff, pageOff, word, Part, bits, part, read, place, get, put, same, ok, valid, words, room}
 use Rattle.fields.proofs.Parts.{Split, below, above, holdable, read-place, read-small, place-read, place-place, read-place-other, place-comm}
 
@@ -57,17 +58,6 @@ pageOff-lt PageField.virgin = omega arith
 pageOff-lt PageField.tally = omega arith
 
 -- ---- tests
-pub and-false : (a b : Bool) → (a && b) ≡ false → (a ≡ false) ⊎ (b ≡ false)
-and-false true b e = inr e
-and-false false b e = inl refl
-
-pub and-left : (a b : Bool) → (a && b) ≡ true → a ≡ true
-and-left true b e = refl
-and-left false b e = e
-
-pub and-right : (a b : Bool) → (a && b) ≡ true → b ≡ true
-and-right true b e = e
-and-right false b e = cc
 
 both : (k l x y : ℕ) → (eqb k l && eqb x y) ≡ false → k ≡ l → x ≡ y → ⊥
 both k l x y e u v = ⊎-elim (λ z. eqb-false k l z u) (λ z. eqb-false x y z v) (and-false _ _ e)

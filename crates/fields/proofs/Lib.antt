@@ -2,7 +2,6 @@ pub mod Parts
 pub mod Shifts
 pub mod Laws
 pub mod Changes
-pub mod Wide
 pub mod Outcome
 pub mod Sound
 pub mod Clear

@@ -1,4 +1,4 @@
--- Bits of a word set at once, and two entries that are one word. Assumes nothing.
+-- Bits of a word set at once, and two entries that are one word.
 --     ones-set    by a mask
 --     marked      out bits of blocks that follow one another, in one word
 --     struck      an out bit that is set, cleared
@@ -6,14 +6,13 @@
 use Prim.Native.Nat.{ℕ, zero, suc, _+_, _-_, _*_, _/_, _%_, _^_, _≤_, _<_}
 use native.Mathlib.Omega.{arith}
 use native.Mathlib.Nat.{le-refl, one-mul, mod-one, mod-eq-of-lt, div-one}
-use native.Mathlib.Numerals.{add-one}
 use mathlib.Core.List.{List}
 use mathlib.Core.Path.{_≡_, refl, sym, ap, _∙_}
 use lib.Bits.{bitAnd, bitOr, or-add-and, and-high}
 use lib.ListN.{length, getD, set}
 use lib.Pow.{pow-pos, pow-add, pow-mono, ones-lt, high-ones, shl-exact, shr-shr, mod-pow-add, recompose}
-use lib.Seq.{lt-length-set, getD-set-same, set-getD, set-set}
-use Rattle.fields.specs.Field.{bits, place, out, slot, put, get}
+use lib.Seq.{getD-set-same, set-getD, set-set}
+use Rattle.fields.specs.Field.{bits, place, out, slot, put}
 use Rattle.fields.specs.Mark.{markOut}
 use Rattle.fields.proofs.Parts.{below, read-le, read-place-other}
 use Rattle.fields.proofs.Shifts.{one-shl}

@@ -1,29 +1,15 @@
--- Outcomes one after another, and the laws of `putAt`: those of `put`, at a stored number. Assumes nothing.
+-- The laws of `putAt`: those of `put`, at a stored number.
 use Prim.Native.Nat.{ℕ, zero, suc, _-_}
 use native.Mathlib.Numerals.{sub-one}
-use mathlib.Core.Bool.{Bool, true, false, _&&_}
+use mathlib.Core.Bool.{Bool, true, false}
 use mathlib.Core.List.{List}
-use mathlib.Core.Path.{_≡_, refl, sym, ap, _∙_}
-use lib.Dec.{eqb, leb, ltb, eqb·suc-suc}
+use mathlib.Core.Path.{_≡_, refl}
+use lib.Dec.{leb, ltb, eqb·suc-suc}
 use lib.ListN.{length}
-use Rattle.fields.specs.Field.{PageField, Field, arena, memory, class, hole, page, out, slot, words, get, put, ok, same, valid}
-use Rattle.fields.specs.Outcome.{Outcome, Did, onCode, andThen, putAt, sameAt}
+use Rattle.fields.specs.Field.{PageField, Field, page, words, get, put, ok, same}
+use Rattle.fields.specs.Outcome.{putAt, sameAt}
 use Rattle.fields.proofs.Laws.{get-put-same, get-put-other, length-put}
 use Rattle.fields.proofs.Changes.{Changes, changes-put}
-
-pub then-stop : (r : ℕ) (b : List ℕ) (o : Outcome) (f : List ℕ → Outcome) → (r ≡ 0 → ⊥) → Did r b o → Did r b (andThen o f)
-unfolding andThen
-then-stop r b o f h s = go (o .code) refl
-  where
-    go : (k : ℕ) → o .code ≡ k → Did r b (onCode k o (f (o .meta)))
-    go zero e = absurd (h (s .answer ∙ e))
-    go (suc k) e = s
-
-pub then-go : (r s : ℕ) (b b′ : List ℕ) (o : Outcome) (f : List ℕ → Outcome) → r ≡ 0 → Did r b o → Did s b′ (f b) → Did s b′ (andThen o f)
-unfolding andThen
-then-go r s b b′ o f h t u =
-    let e : o .code ≡ 0 = sym (t .answer) ∙ h in
-    rw (e, ← (t .left)) u
 
 at-page : (k : PageField) (q : ℕ) (g : Field) → sameAt k (suc q) g ≡ false → same (page k q) g ≡ false
 at-page k q g e = rw eqb·suc-suc at e

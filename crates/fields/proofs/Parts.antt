@@ -1,9 +1,8 @@
--- Parts of a word: what is read after a write to the same part and to another, and two writes. Assumes nothing.
-use Prim.Native.Nat.{ℕ, zero, suc, _+_, _-_, _*_, _/_, _%_, _^_, _≤_, _<_}
+-- Parts of a word: what is read after a write to the same part and to another, and two writes.
+use Prim.Native.Nat.{ℕ, _+_, _-_, _*_, _/_, _%_, _^_, _≤_, _<_}
 use native.Mathlib.Omega.{arith}
 use native.Mathlib.Nat.{mod-lt, mod-mod, mod-eq-of-lt, zero-mod}
 use mathlib.Core.Path.{_≡_, refl, sym, ap, _∙_}
-use mathlib.Core.Logic.{_⊎_, inl, inr}
 use lib.Pow.{pow-pos, split, high, low, shr-shr, field, mod-mod-pow}
 use Rattle.fields.specs.Field.{Part, whole, bits, read, place}
 

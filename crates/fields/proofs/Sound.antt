@@ -1,16 +1,16 @@
--- Numbers 1 and 2: each way out of the functions that answer them, and what their absence tells. Assumes nothing.
-use Prim.Native.Nat.{ℕ, zero, suc, _+_, _*_, _≤_, _<_}
+-- Numbers 1 and 2: each way out of the functions that answer them, and what their absence tells.
+use Prim.Native.Nat.{ℕ, _+_, _*_, _≤_, _<_}
 use native.Mathlib.Omega.{arith}
-use mathlib.Core.Bool.{Bool, true, false, _&&_, cond}
+use mathlib.Core.Bool.{Bool, true, false, cond}
 use mathlib.Core.List.{List, [], _∷_}
-use mathlib.Core.Path.{_≡_, refl, sym, ap, _∙_}
+use mathlib.Core.Path.{_≡_, refl}
 use lib.Dec.{leb}
 use lib.ListN.{length}
 use borrow.Author.Tests.{le-leb, lt-leb}
 use Rattle.fields.specs.Field.{arena, size, get, words}
 use Rattle.fields.specs.Ranges.{within, between, maxPages, lengthFault, metaFault, Sound}
 
-both : (s l : Bool) (r : ℕ) → r ≡ cond s (cond l 0 2) 1 → r ≡ 0 → (s ≡ true) × (l ≡ true)
+pub both : (s l : Bool) (r : ℕ) → r ≡ cond s (cond l 0 2) 1 → r ≡ 0 → (s ≡ true) × (l ≡ true)
 both true true r e z = (refl, refl)
 both true false r e z = absurd (omega arith)
 both false l r e z = absurd (omega arith)
@@ -25,14 +25,14 @@ module _ (n long : ℕ) where
   pub no-pages : n ≡ 0 → 1 ≡ lengthFault n long
   no-pages e = rw e
 
-  pub too-many : 262144 < n → 1 ≡ lengthFault n long
-  too-many h = rw (le-leb 1 n (omega arith), lt-leb n 262144 h)
+  pub too-many : maxPages < n → 1 ≡ lengthFault n long
+  too-many h = rw (le-leb 1 n (omega arith), lt-leb n maxPages h)
 
-  pub too-short : (n ≡ 0 → ⊥) → n ≤ 262144 → long < 40000 + 4112 * n → 2 ≡ lengthFault n long
-  too-short d h l = rw (le-leb 1 n (omega arith), le-leb n 262144 h, lt-leb (words n) long l)
+  pub too-short : (n ≡ 0 → ⊥) → n ≤ maxPages → long < 40000 + 4112 * n → 2 ≡ lengthFault n long
+  too-short d h l = rw (le-leb 1 n (omega arith), le-leb n maxPages h, lt-leb (words n) long l)
 
-  pub fits : (n ≡ 0 → ⊥) → n ≤ 262144 → 40000 + 4112 * n ≤ long → 0 ≡ lengthFault n long
-  fits d h l = rw (le-leb 1 n (omega arith), le-leb n 262144 h, le-leb (words n) long l)
+  pub fits : (n ≡ 0 → ⊥) → n ≤ maxPages → 40000 + 4112 * n ≤ long → 0 ≡ lengthFault n long
+  fits d h l = rw (le-leb 1 n (omega arith), le-leb n maxPages h, le-leb (words n) long l)
 
 pub no-words : (b : List ℕ) → length b ≡ 0 → 1 ≡ metaFault b
 unfolding metaFault get

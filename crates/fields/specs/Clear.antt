@@ -1,4 +1,4 @@
--- Out bits cleared, as a page that comes from the arena has them. Assumes nothing.
+-- Out bits cleared, as a page that comes from the arena has them.
 use Prim.Native.Nat.{ℕ, zero, suc, _+_}
 use mathlib.Core.List.{List}
 use Rattle.fields.specs.Field.{out, put}

@@ -6,14 +6,15 @@
 --     ok            a length, class, hole and block are within their rows; valid n: and the page is below n
 --     room          the value is one that the field can hold
 --     words         the words of a book
--- A page's words 144 to 271 are kept for marks, and have no field yet. Assumes nothing.
+-- A page's words 144 to 271 are kept for marks, and have no field yet.
 use Prim.Native.Nat.{ℕ, _+_, _-_, _*_, _/_, _%_, _^_, _<_}
 use mathlib.Core.Bool.{Bool, true, _&&_}
 use mathlib.Core.List.{List}
 use lib.Dec.{eqb, ltb}
 use lib.ListN.{length, getD, set}
+use Rattle.words.specs.Limits.{holeSlots}
 
--- `size` is the arena's length in pages, the word LENGTH; a count is 64 bits, in two words
+-- `size` is the arena's length in pages, the word LENGTH (`length` is a list's); a count is 64 bits, in two words
 pub data ArenaField : Type 0 where
   size state frontier holes holePages commits commitsHigh reuses reusesHigh abandoned abandonedHigh held : ArenaField
 
@@ -161,7 +162,7 @@ abbrev pub ok : Field → Bool
 ok (arena k) = true
 ok (memory n) = ltb n 129
 ok (class k c) = ltb c 76
-ok (hole k i) = ltb i 4096
+ok (hole k i) = ltb i holeSlots
 ok (page k p) = true
 ok (out p i) = ltb i 4096
 ok (slot p i) = ltb i 4096
@@ -170,7 +171,7 @@ abbrev pub valid : ℕ → Field → Bool
 valid n (arena k) = true
 valid n (memory m) = ltb m 129
 valid n (class k c) = ltb c 76
-valid n (hole k i) = ltb i 4096
+valid n (hole k i) = ltb i holeSlots
 valid n (page k p) = ltb p n
 valid n (out p i) = ltb i 4096 && ltb p n
 valid n (slot p i) = ltb i 4096 && ltb p n

@@ -1,4 +1,4 @@
--- Out bits set, as those of blocks that a page carves. Assumes nothing.
+-- Out bits set, as those of blocks that a page carves.
 use Prim.Native.Nat.{ℕ, zero, suc, _+_}
 use mathlib.Core.List.{List}
 use Rattle.fields.specs.Field.{out, put}

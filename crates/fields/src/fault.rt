@@ -1,5 +1,6 @@
 // Numbers 1 and 2 of a refused call: the arena's length, and the book's.
 ghost use mathlib.Core.Path.{_≡_};
+use words::limits::MAX_PAGES;
 ghost use Rattle.fields.specs.Ranges.{lengthFault, metaFault};
 
 // For an opening: an arena of so many pages, in a book of so many words.
@@ -9,7 +10,7 @@ pub fn length_fault(pages: u64, words: usize) -> u32
     if pages == 0 {
         return 1;
     }
-    if 262_144 < pages {
+    if MAX_PAGES < pages {
         return 1;
     }
     if words < 40_000 + 4_112 * (pages as usize) {

@@ -2,9 +2,8 @@
 --     hole-at-get, set-at-set    the model's reading and storing by index are those of lists
 --     choose-is                  the remembered code, or the scan's, is the model's choice
 --     chosen-within              the hole chosen is stored
--- Assumes nothing.
 use mathlib.Core.Path.{_≡_, refl, sym, ap, subst, _∙_}
-use Prim.Native.Nat.{ℕ, zero, suc, _+_, _-_, _<_, _≤_}
+use Prim.Native.Nat.{ℕ, zero, suc, _-_, _<_, _≤_}
 use native.Mathlib.Omega.{arith}
 use mathlib.Core.Bool.{Bool, true, false, cond, _&&_}
 use mathlib.Core.List.{List, [], _∷_}
@@ -13,15 +12,16 @@ use lib.Dec.{eqb, leb, ltb}
 use lib.ListN.{length, getD, set, take}
 use lib.Seq.{getD-take, length-take-le}
 use borrow.Author.Tests.{ltb-true, leb-true, leb-false, lt-ltb, le-ltb, le-leb}
+use Rattle.facts.proofs.Bools.{by-cases, and-no}
 use Rattle.model.specs.declared.Hole.{Hole}
 use Rattle.model.specs.HoleStore as Model
 use Rattle.model.specs.HoleStore.{Fit, holeAt, setAt, leastFit, stillHolds, Choice, chooseIn, rememberedMax}
-use Rattle.arena.specs.declared.Plan.{Plan}
-use Rattle.holes.specs.declared.holes.Best.{Best}
+use Rattle.holes.specs.declared.Plan.{Plan}
 use Rattle.arena.specs.Load.{indexOf, indexCode}
-use Rattle.arena.specs.Plan.{chosen}
+use Rattle.holes.specs.Plan.{chosen}
 use Rattle.holes.specs.Scan.{noHole, bestOf, holeOf, recalledOf, remembered, searchedOf, settledOf, storedOf, leftOf}
-use Rattle.holes.proofs.Least.{Within, by-test, least-within}
+use Rattle.holes.proofs.Least.{Within, least-within}
+use Rattle.holes.proofs.StoreLaws.{code-of}
 
 pub hole-at-get : (i : ℕ) (hs : List Hole) → holeAt i hs ≡ getD hs i noHole
 hole-at-get i [] = refl
@@ -37,14 +37,6 @@ pub best-code : (o : Option Fit) → bestOf o .code ≡ indexCode (Model.indexOf
 best-code none = refl
 best-code (some f) = refl
 
-code-back : (code : ℕ) → indexCode (indexOf code) ≡ code
-code-back zero = refl
-code-back (suc i) = refl
-
-and-false : (t : Bool) → (t && false) ≡ false
-and-false true = refl
-and-false false = refl
-
 -- the model's choice, as a code
 still-none : (m : ℕ) (o : Option ℕ) → stillHolds m [] o ≡ false
 unfolding stillHolds
@@ -57,11 +49,11 @@ pick-code false a b = refl
 
 chosen-code : (hs : List Hole) (m code : ℕ) → indexCode (chosen hs m code) ≡ cond (leb m rememberedMax && stillHolds m hs (indexOf code)) code (indexCode (Model.indexOf (leastFit m hs)))
 unfolding chooseIn leastFit
-chosen-code [] m code = sym (ap (λ (t : Bool). cond t code 0) (ap (λ (t : Bool). leb m rememberedMax && t) (still-none m (indexOf code)) ∙ and-false (leb m rememberedMax)))
+chosen-code [] m code = sym (ap (λ (t : Bool). cond t code 0) (ap (λ (t : Bool). leb m rememberedMax && t) (still-none m (indexOf code)) ∙ and-no (leb m rememberedMax)))
 chosen-code (h ∷ hs) m code =
     let t : Bool = leb m rememberedMax && stillHolds m (h ∷ hs) (indexOf code) in
     let other : ℕ = indexCode (Model.indexOf (leastFit m (h ∷ hs))) in
-    pick-code t _ _ ∙ ap (λ (n : ℕ). cond t n other) (code-back code)
+    pick-code t _ _ ∙ ap (λ (n : ℕ). cond t n other) (code-of code)
 
 still-is : (ys : List Hole) (count m code : ℕ) → count ≤ length ys
     → stillHolds m (take count ys) (indexOf code) ≡ (leb 1 code && (leb code count && eqb (holeOf ys (recalledOf count code) .pages) m))
@@ -71,7 +63,7 @@ still-is ys count m (suc i) l =
     let long : length (take count ys) ≡ count = length-take-le count ys l in
     let one : leb 1 (suc i) ≡ true = le-leb 1 (suc i) (omega arith) in
     let back : suc i - 1 ≡ i = omega arith in
-    by-test (leb (suc i) count)
+    by-cases (leb (suc i) count)
     (λ e. let below : i < count = omega (arith, leb-true (suc i) count e) in
     let here : holeAt i (take count ys) ≡ getD ys (suc i - 1) noHole = hole-at-get i (take count ys) ∙ getD-take count ys i noHole below ∙ ap (λ (n : ℕ). getD ys n noHole) (sym back) in
     simp (one, e, here, lt-ltb i (length (take count ys)) (omega arith)))
@@ -103,10 +95,10 @@ choose-is ys count m code x l e =
     ∙ sym (chosen-code (take count ys) m code)
 
 pub searched-within : (count m code : ℕ) (x : Hole) → searchedOf count m code x ≤ count
-searched-within count m code x = by-test (remembered count m code x) (λ e. simp e (omega arith)) (λ e. simp e (omega arith))
+searched-within count m code x = by-cases (remembered count m code x) (λ e. simp e (omega arith)) (λ e. simp e (omega arith))
 
 pub recalled-within : (count code : ℕ) → recalledOf count code ≤ count
-recalled-within count code = by-test (leb code count) (λ e. simp e (omega (arith, leb-true code count e))) (λ e. simp e (omega arith))
+recalled-within count code = by-cases (leb code count) (λ e. simp e (omega (arith, leb-true code count e))) (λ e. simp e (omega arith))
 
 -- ---- the hole chosen is stored
 within-code : (k : ℕ) (o : Option Fit) → Within k o → indexCode (Model.indexOf o) ≤ k

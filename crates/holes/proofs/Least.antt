@@ -6,7 +6,6 @@
 --     key-stop        where a scan stops, the key says the least fit of all
 --     key-end         what such a key is read as
 --     lowest-least    the lowest index of n pages is the least fit's, where that has n pages
--- Assumes nothing.
 use mathlib.Core.Path.{_≡_, refl, sym, ap, subst, _∙_}
 use mathlib.Core.Logic.{_⊎_, inl, inr, ⊎-elim}
 use Prim.Native.Nat.{ℕ, suc, _+_, _-_, _*_, _/_, _%_, _<_, _≤_, _^_}
@@ -19,14 +18,10 @@ use lib.ListN.{length, getD, take, drop, take-append-drop}
 use lib.Seq.{take-suc, take-take, length-take-le}
 use native.Mathlib.Numerals.{add-one}
 use borrow.Author.Tests.{ltb-true, ltb-false, leb-true, leb-false, eqb-true, eqb-false, lt-ltb, le-ltb, le-leb, lt-leb, eq-eqb, ne-eqb}
+use Rattle.facts.proofs.Bools.{by-cases, and-left}
 use Rattle.model.specs.declared.Hole.{Hole}
 use Rattle.model.specs.HoleStore.{Fit, nearer, leastFit, lowest, next}
-use Rattle.holes.specs.declared.holes.Best.{Best}
 use Rattle.holes.specs.Scan.{noHole, bestOf, noKey, over, key, betterOf, bestAt}
-
-pub by-test : {P : Type 0} (t : Bool) → (t ≡ true → P) → (t ≡ false → P) → P
-by-test true f g = f refl
-by-test false f g = g refl
 
 -- ---- the index and the length of a least fit
 abbrev pub Within : ℕ → Option Fit → Type 0
@@ -50,13 +45,9 @@ unfolding leastFit
 least-within n [] = tt
 least-within n (h ∷ hs) = nearer-within n (length hs) h (leastFit n hs) (least-within n hs)
 
-first-true : (s t : Bool) → (s && t) ≡ true → s ≡ true
-first-true true t e = refl
-first-true false t e = e
-
 nearer-enough : (n : ℕ) (h : Hole) (o : Option Fit) → Enough n o → Enough n (nearer n h o)
 nearer-enough n h none p = either (Enough n) (leb n (h .pages)) _ _ (λ e. leb-true _ _ e) (λ _. tt)
-nearer-enough n h (some f) p = either (Enough n) (leb n (h .pages) && leb (h .pages) (f .pages)) _ _ (λ e. leb-true _ _ (first-true _ _ e)) (λ _. p)
+nearer-enough n h (some f) p = either (Enough n) (leb n (h .pages) && leb (h .pages) (f .pages)) _ _ (λ e. leb-true _ _ (and-left _ _ e)) (λ _. p)
 
 pub least-enough : (n : ℕ) (hs : List Hole) → Enough n (leastFit n hs)
 unfolding leastFit
@@ -71,33 +62,33 @@ later n k p (some f) = cond (leb n p && ltb p (f .pages)) (some (record { index 
 
 later-nearer : (n k p : ℕ) (g : Hole) (o : Option Fit) → nearer n g (later n k p o) ≡ later n (suc k) p (nearer n g o)
 later-nearer n k p g none =
-    by-test (leb n p)
-    (λ a. by-test (leb n (g .pages))
-    (λ b. by-test (leb (g .pages) p)
+    by-cases (leb n p)
+    (λ a. by-cases (leb n (g .pages))
+    (λ b. by-cases (leb (g .pages) p)
     (λ c. simp (a, b, c, le-ltb p (g .pages) (leb-true (g .pages) p c)))
     (λ c. simp (a, b, c, lt-ltb p (g .pages) (leb-false (g .pages) p c))))
     (λ b. simp (a, b)))
-    (λ a. by-test (leb n (g .pages)) (λ b. simp (a, b)) (λ b. simp (a, b)))
+    (λ a. by-cases (leb n (g .pages)) (λ b. simp (a, b)) (λ b. simp (a, b)))
 later-nearer n k p g (some f) =
-    by-test (leb n p)
-    (λ a. by-test (ltb p (f .pages))
+    by-cases (leb n p)
+    (λ a. by-cases (ltb p (f .pages))
     (λ q. let below : p < f .pages = ltb-true p (f .pages) q in
-    by-test (leb n (g .pages))
-    (λ b. by-test (leb (g .pages) p)
+    by-cases (leb n (g .pages))
+    (λ b. by-cases (leb (g .pages) p)
     (λ c. let m : g .pages ≤ p = leb-true (g .pages) p c in
     simp (a, q, b, c, le-leb (g .pages) (f .pages) (omega arith), le-ltb p (g .pages) m))
     (λ c. let m : p < g .pages = leb-false (g .pages) p c in
-    by-test (leb (g .pages) (f .pages)) (λ d. simp (a, q, b, c, d, lt-ltb p (g .pages) m)) (λ d. simp (a, q, b, c, d))))
+    by-cases (leb (g .pages) (f .pages)) (λ d. simp (a, q, b, c, d, lt-ltb p (g .pages) m)) (λ d. simp (a, q, b, c, d))))
     (λ b. simp (a, q, b)))
     (λ q. let above : f .pages ≤ p = ltb-false p (f .pages) q in
-    by-test (leb n (g .pages))
-    (λ b. by-test (leb (g .pages) (f .pages))
+    by-cases (leb n (g .pages))
+    (λ b. by-cases (leb (g .pages) (f .pages))
     (λ d. let m : g .pages ≤ f .pages = leb-true (g .pages) (f .pages) d in
     simp (a, q, b, d, le-ltb p (g .pages) (omega arith)))
     (λ d. simp (a, q, b, d)))
     (λ b. simp (a, q, b))))
-    (λ a. by-test (leb n (g .pages))
-    (λ b. by-test (leb (g .pages) (f .pages)) (λ d. simp (a, b, d)) (λ d. simp (a, b, d)))
+    (λ a. by-cases (leb n (g .pages))
+    (λ b. by-cases (leb (g .pages) (f .pages)) (λ d. simp (a, b, d)) (λ d. simp (a, b, d)))
     (λ b. simp (a, b)))
 
 later-is : (n : ℕ) (hs : List Hole) (h : Hole) → leastFit n (hs ++ (h ∷ [])) ≡ later n (length hs) (h .pages) (leastFit n hs)
@@ -116,11 +107,11 @@ lengthOf d (some f) = f .pages
 
 exact-tail : (n : ℕ) (g : Hole) (o o′ : Option Fit) (f : Fit) → (g .pages ≡ n → ⊥) → ((f′ : Fit) → o ≡ some f′ → f′ .pages ≡ n → o′ ≡ some f′) → nearer n g o ≡ some f → f .pages ≡ n → nearer n g o′ ≡ some f
 exact-tail n g none o′ f apart keeps e same =
-    by-test (leb n (g .pages))
+    by-cases (leb n (g .pages))
     (λ t. let d : g .pages ≡ f .pages = simp t at (ap (lengthOf (suc n)) e) in absurd (apart (omega arith)))
     (λ t. let d : suc n ≡ f .pages = simp t at (ap (lengthOf (suc n)) e) in absurd (apart (omega arith)))
 exact-tail n g (some h) o′ f apart keeps e same =
-    by-test (leb n (g .pages) && leb (g .pages) (h .pages))
+    by-cases (leb n (g .pages) && leb (g .pages) (h .pages))
     (λ t. let d : g .pages ≡ f .pages = simp t at (ap (lengthOf (suc n)) e) in absurd (apart (omega arith)))
     (λ t. let d : h .pages ≡ f .pages = simp t at (ap (lengthOf (suc n)) e) in ap (nearer n g) (keeps h refl (omega arith)) ∙ e)
 
@@ -128,7 +119,7 @@ exact-stays : (n : ℕ) (a b : List Hole) (f : Fit) → leastFit n a ≡ some f 
 unfolding leastFit
 exact-stays n [] b f e same = let d : suc n ≡ f .pages = ap (lengthOf (suc n)) e in absurd (omega arith)
 exact-stays n (g ∷ a) b f e same =
-    by-test (eqb (g .pages) n)
+    by-cases (eqb (g .pages) n)
     (λ t. let d : g .pages ≡ n = eqb-true (g .pages) n t in exact-head n g (leastFit n (a ++ b)) d (least-enough n (a ++ b)) ∙ sym (exact-head n g (leastFit n a) d (least-enough n a)) ∙ e)
     (λ t. exact-tail n g (leastFit n a) (leastFit n (a ++ b)) f (eqb-false (g .pages) n t) (λ f′ d q. exact-stays n a b f′ d q) e same)
 
@@ -141,22 +132,22 @@ Says need u (some f) = (u ≡ (f .pages - need) * 2 ^ 32 + f .index) × (need �
 -- a hole of p pages after k others
 later-says : (need k u p : ℕ) (o : Option Fit) → Within k o → k < 2 ^ 32 - 1 → p < 2 ^ 32 → need < 2 ^ 32 → u < 2 ^ 64 → Says need u o → Says need (betterOf need k p u) (later need k p o)
 later-says need k u p none w l fits need-fits u-fits says =
-    by-test (leb need p)
+    by-cases (leb need p)
     (λ e. let g : need ≤ p = leb-true need p e in
     let beyond : over need p ≡ p - need = omega arith in
     let less : key need k p < u = ⊎-elim (λ a. omega arith) (λ b. omega arith) says in
     simp (e, lt-ltb (key need k p) u less) (omega arith, g, fits))
     (λ e. let g : p < need = leb-false need p e in
     let beyond : over need p ≡ p + (2 ^ 32 - need) = omega arith in
-    by-test (ltb (key need k p) u) (λ d. simp (e, d) (inl (omega arith))) (λ d. simp (e, d) says))
+    by-cases (ltb (key need k p) u) (λ d. simp (e, d) (inl (omega arith))) (λ d. simp (e, d) says))
 later-says need k u p (some f) w l fits need-fits u-fits says =
     let at-u : u ≡ (f .pages - need) * 2 ^ 32 + f .index = says .0 in
     let enough : need ≤ f .pages = says .1 in
     let f-fits : f .pages < 2 ^ 32 = says .2 in
-    by-test (leb need p)
+    by-cases (leb need p)
     (λ e. let g : need ≤ p = leb-true need p e in
     let beyond : over need p ≡ p - need = omega arith in
-    by-test (ltb p (f .pages))
+    by-cases (ltb p (f .pages))
     (λ d. let m : p < f .pages = ltb-true p (f .pages) d in
     simp (e, d, lt-ltb (key need k p) u (omega arith)) (omega arith, g, fits))
     (λ d. let m : f .pages ≤ p = ltb-false p (f .pages) d in
@@ -193,7 +184,7 @@ module _ (ys : List Hole) (count : ℕ) (within : count ≤ length ys) (count-fi
   -- where no more holes are weighed, the key says the least fit of all
   pub key-stop : (i u : ℕ) → i ≤ count → (ltb i count && leb i u) ≡ false → Says need u (leastFit need (take i ys)) → Says need u (leastFit need (take count ys))
   key-stop i u up-to t says =
-      by-test (ltb i count)
+      by-cases (ltb i count)
       (λ a. let b : leb i u ≡ false = simp a at t in
       subst (Says need u) (sym (below-exact i u (leastFit need (take i ys)) (leb-false i u b) up-to refl says)) says)
       (λ a. let e : i ≡ count = omega (arith, ltb-false i count a) in subst (λ (n : ℕ). Says need u (leastFit need (take n ys))) e says)
@@ -202,7 +193,7 @@ at-key : (need k u : ℕ) (o : Option Fit) → k < 2 ^ 32 → Within k o → u <
 at-key need k u none l p u-fits says =
     ⊎-elim
     (λ a. simp (le-leb (2 ^ 32) (u / 2 ^ 32 + need) (omega arith)))
-    (λ b. by-test (leb (2 ^ 32) (u / 2 ^ 32 + need)) (λ d. simp d) (λ d. simp (d, eq-eqb u noKey b)))
+    (λ b. by-cases (leb (2 ^ 32) (u / 2 ^ 32 + need)) (λ d. simp d) (λ d. simp (d, eq-eqb u noKey b)))
     says
 at-key need k u (some f) l p u-fits says =
     let at-u : u ≡ (f .pages - need) * 2 ^ 32 + f .index = says .0 in
@@ -224,20 +215,20 @@ exact n (some f) = cond (eqb (f .pages) n) (some (f .index)) none
 
 nearer-exact : (n : ℕ) (h : Hole) (o : Option Fit) → Enough n o → cond (eqb (h .pages) n) (some 0) (next (exact n o)) ≡ exact n (nearer n h o)
 nearer-exact n h none p =
-    by-test (eqb (h .pages) n)
+    by-cases (eqb (h .pages) n)
     (λ e. let l : h .pages ≡ n = eqb-true _ _ e in simp (e, le-leb n (h .pages) (omega arith)))
-    (λ e. by-test (leb n (h .pages)) (λ d. simp (e, d)) (λ d. simp (e, d)))
+    (λ e. by-cases (leb n (h .pages)) (λ d. simp (e, d)) (λ d. simp (e, d)))
 nearer-exact n h (some f) p =
-    by-test (eqb (h .pages) n)
+    by-cases (eqb (h .pages) n)
     (λ e. let l : h .pages ≡ n = eqb-true _ _ e in simp (e, le-leb n (h .pages) (omega arith), le-leb (h .pages) (f .pages) (omega arith)))
-    (λ e. by-test (leb n (h .pages))
-    (λ d. by-test (leb (h .pages) (f .pages))
+    (λ e. by-cases (leb n (h .pages))
+    (λ d. by-cases (leb (h .pages) (f .pages))
     (λ a. let apart : (h .pages ≡ n → ⊥) = eqb-false _ _ e in
     let l : n ≤ h .pages = leb-true _ _ d in
     let m : h .pages ≤ f .pages = leb-true _ _ a in
     simp (e, d, a, ne-eqb (f .pages) n (λ (z : f .pages ≡ n). apart (omega arith))))
-    (λ a. by-test (eqb (f .pages) n) (λ z. simp (e, d, a, z)) (λ z. simp (e, d, a, z))))
-    (λ d. by-test (eqb (f .pages) n) (λ z. simp (e, d, z)) (λ z. simp (e, d, z))))
+    (λ a. by-cases (eqb (f .pages) n) (λ z. simp (e, d, a, z)) (λ z. simp (e, d, a, z))))
+    (λ d. by-cases (eqb (f .pages) n) (λ z. simp (e, d, z)) (λ z. simp (e, d, z))))
 
 pub lowest-least : (n : ℕ) (hs : List Hole) → lowest n hs ≡ exact n (leastFit n hs)
 unfolding lowest leastFit

@@ -1,8 +1,17 @@
-mod Again
-mod Big
+pub mod StoreLaws
+pub mod Choice
+pub mod Acts
+pub mod PlanLaws
+mod Calling
 mod Choosing
 mod Filled
 mod Laid
 mod Least
+mod Lending
+mod Literal
 mod Loading
+mod Looping
 mod Planning
+mod Proving
+mod Sized
+mod Walk

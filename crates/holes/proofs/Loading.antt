@@ -2,7 +2,6 @@
 --     load-step    the first i are loaded, so with hole i stored the first i + 1 are
 --     fair-step    they are in their range so far, and so with hole i
 --     rest-step    those from i on are as they were, so those from i + 1 on are, whatever is stored at i
--- Assumes nothing.
 use mathlib.Core.Path.{_≡_, refl, sym, ap, _∙_}
 use Prim.Native.Nat.{ℕ, zero, suc, _+_, _<_}
 use native.Mathlib.Omega.{arith}
@@ -11,8 +10,8 @@ use mathlib.Core.Bool.{Bool, true, false, _&&_, and-assoc}
 use mathlib.Core.List.{List, [], _∷_, _++_}
 use lib.ListN.{length, set, take, drop}
 use lib.Seq.{take-suc-set, drop-set-lt, drop-drop}
+use Rattle.facts.specs.Lists.{every}
 use Rattle.model.specs.declared.Hole.{Hole}
-use Rattle.model.specs.Lists.{every}
 use Rattle.arena.specs.Load.{loadHole, loadHoles}
 
 loads-last : (b : List ℕ) (i k : ℕ) → loadHoles b i k ++ (loadHole b (i + k) ∷ []) ≡ loadHoles b i (suc k)

@@ -1,7 +1,6 @@
 -- What `plan_in` answers is the model's plan.
 --     plan-is          the plan from a slice whose first count holes are those of the words
 --     picked-within    the code of a plan that was picked names a hole of the slice
--- Assumes nothing.
 use mathlib.Core.Path.{_≡_, refl, sym, ap, subst, _∙_}
 use Prim.Native.Nat.{ℕ, zero, suc, _+_, _-_, _<_, _≤_}
 use native.Mathlib.Omega.{arith}
@@ -11,19 +10,19 @@ use mathlib.Core.Option.{Option, none, some}
 use lib.Dec.{eqb, ltb}
 use lib.ListN.{length, getD, set, take, length-take}
 use lib.Seq.{getD-take, take-take, take-set-lt, take-set-le, set-out, length-take-le}
-use borrow.Author.Tests.{ltb-true, ltb-false, lt-ltb, le-ltb, ne-eqb}
+use borrow.Author.Tests.{ltb-true, ltb-false, ne-eqb}
+use Rattle.facts.proofs.Bools.{by-cases}
+use Rattle.facts.specs.Lists.{every}
 use Rattle.model.specs.declared.Hole.{Hole}
-use Rattle.model.specs.Lists.{every}
 use Rattle.model.specs.HoleStore as Model
-use Rattle.model.specs.HoleStore.{Fit, holeAt, setAt, lastHole, withoutLast, removeAt, nearer, leastFit, chooseIn}
-use Rattle.arena.specs.declared.Plan.{Plan}
-use Rattle.holes.specs.declared.holes.Best.{Best}
+use Rattle.model.specs.HoleStore.{Fit, holeAt, lastHole, withoutLast, nearer, leastFit, chooseIn}
+use Rattle.holes.specs.declared.Plan.{Plan}
 use Rattle.arena.specs.Load.{indexCode, loadHoles}
 use Rattle.arena.specs.Fair.{holeFair}
-use Rattle.arena.specs.Plan.{chosen, cutHoles, noPlan, planAt, planOf}
+use Rattle.holes.specs.Plan.{chosen, cutHoles, noPlan, planAt, planOf}
 use Rattle.holes.specs.Scan.{noHole, bestOf, holeOf, storedOf, drawnOf, pickedOf, plannedOf, cutOf, leftOf, cutBest}
-use Rattle.holes.proofs.Least.{by-test, exact, lowest-least}
-use Rattle.holes.proofs.Choosing.{hole-at-get, set-at-set, choice-within, chosen-within, stored-within}
+use Rattle.holes.proofs.Least.{exact, lowest-least}
+use Rattle.holes.proofs.Choosing.{hole-at-get, set-at-set, chosen-within, stored-within}
 
 -- ---- lists
 last-get : (hs : List Hole) → lastHole hs ≡ getD hs (length hs - 1) noHole
@@ -42,7 +41,7 @@ without-take (h ∷ g ∷ hs) =
 
 take-set : (n i : ℕ) (hs : List Hole) (x : Hole) → take n (set hs i x) ≡ set (take n hs) i x
 take-set n i hs x =
-    by-test (ltb i n)
+    by-cases (ltb i n)
     (λ e. take-set-lt n hs i x (ltb-true i n e))
     (λ e. let l : n ≤ i = ltb-false i n e in
     take-set-le n hs i x l ∙ sym (set-out (take n hs) i x (omega (arith, length-take n hs))))
@@ -60,8 +59,8 @@ least-length n (suc i) a b p (h ∷ hs) = ap (nearer n h) (least-length n i a b 
 
 -- ---- the lowest index of the old length
 low-code : (n : ℕ) (o : Option Fit) → cond (eqb (bestOf o .pages) n) (bestOf o .code) 0 ≡ indexCode (exact n o)
-low-code n none = by-test (eqb 0 n) (λ e. simp e) (λ e. simp e)
-low-code n (some f) = by-test (eqb (f .pages) n) (λ e. simp e) (λ e. simp e)
+low-code n none = by-cases (eqb 0 n) (λ e. simp e) (λ e. simp e)
+low-code n (some f) = by-cases (eqb (f .pages) n) (λ e. simp e) (λ e. simp e)
 
 -- a plan for none
 drawn-none : (x last : Hole) → drawnOf true 0 x last ≡ noPlan true
@@ -89,7 +88,7 @@ module _ (zs hs : List Hole) (count : ℕ) (same : take count zs ≡ hs) (long :
       → leastFit (x .pages) (take (cond (ltb m (x .pages)) count (count - 1)) (set zs i (cond (ltb m (x .pages)) (Model.hole (x .first) (x .pages - m)) last))) ≡ leastFit (x .pages) (cutHoles hs m i x)
   unfolding cutHoles
   left-list m i x last e =
-      by-test (ltb m (x .pages))
+      by-cases (ltb m (x .pages))
       (λ t. simp t (ap (leastFit (x .pages)) (take-set count i zs (Model.hole (x .first) (x .pages - m)) ∙ ap (λ (l : List Hole). set l i (Model.hole (x .first) (x .pages - m))) same)
       ∙ least-length (x .pages) i (x .first) (x .first + m) (x .pages - m) hs ∙ ap (leastFit (x .pages)) (sym (set-at-set i (Model.hole (x .first + m) (x .pages - m)) hs))))
       (λ t. let fewer : count - 1 ≤ count = omega arith in
@@ -149,7 +148,7 @@ plan-is b zs count total f m code fair l e same =
 
 drawn-code : (fair : Bool) (c : ℕ) (x last : Hole) → drawnOf fair c x last .code ≤ c
 unfolding drawnOf noPlan
-drawn-code fair c x last = by-test (eqb c 0) (λ e. simp e (omega arith)) (λ e. simp e (omega arith))
+drawn-code fair c x last = by-cases (eqb c 0) (λ e. simp e (omega arith)) (λ e. simp e (omega arith))
 
 pub picked-within : (zs : List Hole) (fair : Bool) (count m code : ℕ) → 0 < length zs → count ≤ length zs → pickedOf zs fair count m code .code - 1 < length zs
 unfolding pickedOf

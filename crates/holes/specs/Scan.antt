@@ -1,4 +1,4 @@
--- What the functions over a lent slice of holes answer. Assumes nothing.
+-- What the functions over a lent slice of holes answer.
 use Prim.Native.Nat.{ℕ, suc, _+_, _-_, _*_, _/_, _%_, _^_}
 use mathlib.Core.Option.{Option, none, some}
 use mathlib.Core.Bool.{Bool, cond, _&&_}
@@ -8,10 +8,10 @@ use lib.ListN.{getD, set, take}
 use Rattle.model.specs.declared.Hole.{Hole}
 use Rattle.model.specs.HoleStore as Model
 use Rattle.model.specs.HoleStore.{Fit, leastFit, rememberedMax}
-use Rattle.arena.specs.declared.Plan.{Plan}
+use Rattle.holes.specs.declared.Plan.{Plan}
 use Rattle.holes.specs.declared.holes.Best.{Best}
 use Rattle.arena.specs.Load.{indexCode}
-use Rattle.arena.specs.Plan.{chosen, noPlan}
+use Rattle.holes.specs.Plan.{chosen, noPlan}
 
 -- what stands past the end of a list of holes
 abbrev pub noHole : Hole

@@ -2,3 +2,29 @@
 pub mod holes;
 pub mod plans;
 pub mod record;
+
+// The arena's state, frontier and three counts, with the number of holes and of the pages in them.
+pub struct Arena {
+    pub state: u32,
+    pub frontier: u32,
+    pub count: u32,
+    pub total: u32,
+    pub commits: u64,
+    pub reuses: u64,
+    pub abandoned: u64,
+}
+
+// What a commit of some pages finds among the holes.
+pub struct Plan {
+    // Every hole is in its range.
+    pub fair: bool,
+    // The chosen hole: its index and one, or 0 for none.
+    pub code: u32,
+    pub first: u32,
+    pub pages: u32,
+    // The last hole, which replaces a used-up one.
+    pub lastfirst: u32,
+    pub lastpages: u32,
+    // The lowest index and one, or 0, of the chosen hole's length, once its front is cut off.
+    pub lowest: u32,
+}

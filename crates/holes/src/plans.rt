@@ -4,17 +4,17 @@ use super::holes::hole_at;
 use super::holes::load_holes;
 use super::holes::put_hole;
 use super::holes::scan;
-use arena::Arena;
-use arena::Plan;
+use crate::Arena;
+use crate::Plan;
 use model::Hole;
 ghost use mathlib.Core.Path.{_≡_};
-ghost use Prim.Native.Nat.{_+_, _-_, _<_, _≤_};
-ghost use lib.ListN.{length, getD, set, take};
+ghost use Prim.Native.Nat.{_-_, _<_, _≤_};
+ghost use lib.ListN.{length, set, take};
 ghost use Rattle.fields.specs.Field.{hole, start, word};
 ghost use Rattle.model.specs.HoleStore.{holeSlots};
 ghost use Rattle.arena.specs.Load.{indexCode, loadHoles};
-ghost use Rattle.arena.specs.Plan.{chosen, planOf};
-ghost use Rattle.holes.specs.Scan.{noHole, holeOf, recalledOf, searchedOf, settledOf, storedOf, drawnOf, pickedOf, plannedOf, cutOf, leftOf, cutBest};
+ghost use Rattle.holes.specs.Plan.{chosen, planOf};
+ghost use Rattle.holes.specs.Scan.{holeOf, recalledOf, searchedOf, settledOf, storedOf, drawnOf, pickedOf, plannedOf, cutOf, leftOf, cutBest};
 
 // The index that a code names; 0 stands for the first.
 fn place(code: u32) -> usize
@@ -171,7 +171,7 @@ fn cut_at(holes: &mut [Hole], p: Plan, count: u32, pages: u32) -> Best
 }
 
 // What is in `holes` is of no matter, and what is left there neither.
-fn plan_in(meta: &[u32], holes: &mut [Hole], a: Arena, pages: u32, code: u32) -> Plan
+pub fn plan_in(meta: &[u32], holes: &mut [Hole], a: Arena, pages: u32, code: u32) -> Plan
     requires { ⌜ (0 < length (now holes)) × (a .count ≤ length (now holes)) × (word (hole start (a .count)) ≤ length (now meta)) ⌝ }
     ensures { λ r. ⌜ r ≡ planOf (loadHoles (now (meta .entry)) 0 (a .count)) (a .total) (a .frontier) pages code ⌝ }
 {

@@ -1,12 +1,21 @@
-// The arena's record, lent by `&mut`: each step reads it, makes the next record, and stores that.
+// The arena's record, lent by `&mut` for one step: it is read, and the record after the step is stored in it.
 // The functions by value lend a copy, so that a caller needs no reference.
-use arena::Arena;
+use crate::Arena;
 use std::num::wrapping_add_u64;
 ghost use mathlib.Core.Path.{_≡_};
 ghost use Prim.Native.Nat.{_+_, _<_, _^_};
 ghost use mathlib.Core.Bool.{cond};
 ghost use Rattle.model.specs.Arena.{more};
-ghost use Rattle.arena.specs.Record.{advanced, counted, abandoning};
+ghost use Rattle.holes.specs.Record.{advanced, counted, abandoning};
+ghost use Rattle.holes.specs.Step.{stepped};
+
+// What a step adds: pages to the frontier, and one to each count that it names.
+pub struct Gain {
+    pub pages: u32,
+    pub commit: bool,
+    pub reuse: bool,
+    pub abandoned: bool,
+}
 
 // A count and one, kept to 64 bits.
 fn one_more(n: u64) -> u64
@@ -15,96 +24,78 @@ fn one_more(n: u64) -> u64
     wrapping_add_u64(n, 1)
 }
 
-fn moved(a: Arena, pages: u32) -> Arena
-    requires { ⌜ a .frontier + pages < 2 ^ 32 ⌝ }
-    ensures { λ r. ⌜ r ≡ advanced pages a ⌝ }
+fn more_if(n: u64, so: bool) -> u64
+    ensures { λ r. ⌜ r ≡ cond so (more n) n ⌝ }
+{
+    if so { one_more(n) } else { n }
+}
+
+fn after(a: Arena, g: Gain) -> Arena
+    requires { ⌜ a .frontier + g .pages < 2 ^ 32 ⌝ }
+    ensures { λ r. ⌜ r ≡ stepped g a ⌝ }
 {
     Arena {
         state: a.state,
-        frontier: a.frontier + pages,
+        frontier: a.frontier + g.pages,
         count: a.count,
         total: a.total,
-        commits: a.commits,
-        reuses: a.reuses,
-        abandoned: a.abandoned,
+        commits: more_if(a.commits, g.commit),
+        reuses: more_if(a.reuses, g.reuse),
+        abandoned: more_if(a.abandoned, g.abandoned),
     }
 }
 
-// A reuse is counted unless the run is fresh.
-fn reuses_after(n: u64, fresh: bool) -> u64
-    ensures { λ r. ⌜ r ≡ cond fresh n (more n) ⌝ }
+pub fn step(arena: &mut Arena, g: Gain)
+    requires { ⌜ now arena .frontier + g .pages < 2 ^ 32 ⌝ }
+    ensures { λ _. ⌜ now (arena .exit) ≡ stepped g (now (arena .entry)) ⌝ }
 {
-    if fresh { n } else { one_more(n) }
+    *arena = after(*arena, g);
 }
 
-fn with_commit(a: Arena, fresh: bool) -> Arena
-    ensures { λ r. ⌜ r ≡ counted fresh a ⌝ }
+fn step_by(mut arena: Arena, g: Gain) -> Arena
+    requires { ⌜ arena .frontier + g .pages < 2 ^ 32 ⌝ }
+    ensures { λ r. ⌜ r ≡ stepped g arena ⌝ }
 {
-    Arena {
-        state: a.state,
-        frontier: a.frontier,
-        count: a.count,
-        total: a.total,
-        commits: one_more(a.commits),
-        reuses: reuses_after(a.reuses, fresh),
-        abandoned: a.abandoned,
-    }
-}
-
-fn with_abandoned(a: Arena) -> Arena
-    ensures { λ r. ⌜ r ≡ abandoning a ⌝ }
-{
-    Arena {
-        state: a.state,
-        frontier: a.frontier,
-        count: a.count,
-        total: a.total,
-        commits: a.commits,
-        reuses: a.reuses,
-        abandoned: one_more(a.abandoned),
-    }
+    step(&mut arena, g);
+    arena
 }
 
 // The frontier moves on.
-pub fn advance(arena: &mut Arena, pages: u32)
-    requires { ⌜ now arena .frontier + pages < 2 ^ 32 ⌝ }
-    ensures { λ _. ⌜ now (arena .exit) ≡ advanced pages (now (arena .entry)) ⌝ }
-{
-    *arena = moved(*arena, pages);
-}
-
-// A commit is counted, and a reuse unless the run is fresh.
-pub fn count_commit(arena: &mut Arena, fresh: bool)
-    ensures { λ _. ⌜ now (arena .exit) ≡ counted fresh (now (arena .entry)) ⌝ }
-{
-    *arena = with_commit(*arena, fresh);
-}
-
-// A run that no hole could take is counted.
-pub fn abandon(arena: &mut Arena)
-    ensures { λ _. ⌜ now (arena .exit) ≡ abandoning (now (arena .entry)) ⌝ }
-{
-    *arena = with_abandoned(*arena);
-}
-
-pub fn advanced_by(mut arena: Arena, pages: u32) -> Arena
+pub fn advanced_by(arena: Arena, pages: u32) -> Arena
     requires { ⌜ arena .frontier + pages < 2 ^ 32 ⌝ }
     ensures { λ r. ⌜ r ≡ advanced pages arena ⌝ }
 {
-    advance(&mut arena, pages);
-    arena
+    let g = Gain {
+        pages,
+        commit: false,
+        reuse: false,
+        abandoned: false,
+    };
+    step_by(arena, g)
 }
 
-pub fn counted_as(mut arena: Arena, fresh: bool) -> Arena
+// A commit is counted, and a reuse unless the run is fresh.
+pub fn counted_as(arena: Arena, fresh: bool) -> Arena
     ensures { λ r. ⌜ r ≡ counted fresh arena ⌝ }
 {
-    count_commit(&mut arena, fresh);
-    arena
+    let g = Gain {
+        pages: 0,
+        commit: true,
+        reuse: !fresh,
+        abandoned: false,
+    };
+    step_by(arena, g)
 }
 
-pub fn abandoning(mut arena: Arena) -> Arena
+// A run that no hole could take is counted.
+pub fn abandoning(arena: Arena) -> Arena
     ensures { λ r. ⌜ r ≡ abandoning arena ⌝ }
 {
-    abandon(&mut arena);
-    arena
+    let g = Gain {
+        pages: 0,
+        commit: false,
+        reuse: false,
+        abandoned: true,
+    };
+    step_by(arena, g)
 }

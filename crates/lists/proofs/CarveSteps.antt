@@ -1,8 +1,8 @@
--- The ways out of the functions that carve, and what their loops keep. Assumes nothing.
+-- The ways out of the functions that carve, and what their loops keep.
 use Prim.Native.Nat.{ℕ, _+_, _-_, _*_, _/_, _≤_, _<_}
 use native.Mathlib.Omega.{arith}
 use native.Mathlib.Numerals.{add-one}
-use mathlib.Core.Bool.{Bool, true, false, cond}
+use mathlib.Core.Bool.{Bool, true}
 use mathlib.Core.List.{List}
 use mathlib.Core.Path.{_≡_, refl, ap, _∙_}
 use lib.ListN.{length}
@@ -12,11 +12,11 @@ use Rattle.fields.specs.Field.{page, slot, free, carved, virgin, listed, put}
 use Rattle.fields.specs.Clear.{clearOut}
 use Rattle.fields.proofs.Laws.{length-put}
 use Rattle.fields.proofs.Clear.{length-clear, clear-more}
-use Rattle.model.specs.Page.{isMedium}
-use Rattle.pages.specs.Runs.{flag, nameRun}
+use Rattle.words.specs.Host.{digit}
+use Rattle.pages.specs.Runs.{nameRun}
 use Rattle.pages.specs.Stack.{downs, push}
 use Rattle.pages.specs.Asks.{StockAsks, CarveAsks}
-use Rattle.pages.specs.Carve.{stocked, carveAnew, newRun}
+use Rattle.pages.specs.Carve.{stocked, carveAnew, bareRun, newRun}
 use Rattle.pages.proofs.Downs.{length-downs}
 use Rattle.pages.proofs.Frames.{stocked-le}
 
@@ -82,10 +82,10 @@ stocked-none sh h = rw (ne-eqb (sh .kind) 2 h)
 pub stock-asks : (b : List ℕ) (sh : Shape) (q k : ℕ) → CarveAsks b sh q → k ≡ stocked sh → StockAsks b q k
 stock-asks b sh q k h e = record { few = stocked-le sh k e (h .few); there = h .there }
 
-pub carve-done : (b : List ℕ) (sh : Shape) (q : ℕ) (v : Bool) (k f : ℕ) (b₁ b₂ b₃ b₄ : List ℕ) → k ≡ stocked sh → b₁ ≡ push b q 0 (downs 0 k) → f ≡ flag v → b₂ ≡ put b₁ (page virgin q) f → b₃ ≡ put b₂ (page carved q) k → b₄ ≡ put b₃ (page free q) k → b₄ ≡ carveAnew b sh q v
+pub carve-done : (b : List ℕ) (sh : Shape) (q : ℕ) (v : Bool) (k f : ℕ) (b₁ b₂ b₃ b₄ : List ℕ) → k ≡ stocked sh → b₁ ≡ push b q 0 (downs 0 k) → f ≡ digit v → b₂ ≡ put b₁ (page virgin q) f → b₃ ≡ put b₂ (page carved q) k → b₄ ≡ put b₃ (page free q) k → b₄ ≡ carveAnew b sh q v
 unfolding carveAnew
 carve-done b sh q v k f b₁ b₂ b₃ b₄ e e₁ e′ e₂ e₃ e₄ = rw (e₄, e₃, e₂, e₁, e′, e)
 
 pub new-done : (b : List ℕ) (sh : Shape) (q : ℕ) (b₁ b₂ b₃ b₄ : List ℕ) → b₁ ≡ nameRun b q q (sh .pages) → b₂ ≡ clearOut b₁ q 0 (32 * ((sh .capacity + 31) / 32)) → b₃ ≡ put b₂ (page listed q) 0 → b₄ ≡ carveAnew b₃ sh q true → b₄ ≡ newRun b sh q
-unfolding newRun
+unfolding newRun bareRun
 new-done b sh q b₁ b₂ b₃ b₄ e₁ e₂ e₃ e₄ = cc

@@ -1,3 +1,4 @@
 pub mod ListSteps
 pub mod RunSteps
 pub mod CarveSteps
+pub mod FairSteps

@@ -1,4 +1,4 @@
--- The ways out of the functions on a class's lists. Assumes nothing.
+-- The ways out of the functions on a class's lists.
 use Prim.Native.Nat.{ℕ, zero, suc, _+_, _-_}
 use native.Mathlib.Numerals.{sub-one}
 use mathlib.Core.Bool.{true}
@@ -13,7 +13,7 @@ use Rattle.fields.proofs.Laws.{get-put-other, length-put}
 use Rattle.pages.specs.declared.Park.{Park}
 use Rattle.pages.specs.declared.Park.the-variants.{Empty, Cold}
 use Rattle.pages.specs.Asks.{LinkAsks, WakeAsks}
-use Rattle.pages.specs.Links.{pointNext, linked, cutOut, link, unlink, top, tally, stow, unstow, wake}
+use Rattle.pages.specs.Links.{pointNext, linked, cutOut, link, unlink, top, stored, stow, unstow, wake}
 
 pub pointNext-none : (b b′ : List ℕ) (c code v : ℕ) → code ≡ 0 → b′ ≡ put b (class partial c) v → b′ ≡ pointNext b c code v
 pointNext-none b b′ c code v h e = rw h e
@@ -62,11 +62,11 @@ module _ (b : List ℕ) (c q : ℕ) where
   unfolding unlink
   unlink-done x y b₁ b₂ e f e₁ e₂ = cc
 
-  pub stow-done : (k : Park) (t m : ℕ) (b₁ b₂ b₃ : List ℕ) → t ≡ get b (class (top k) c) → m ≡ get b (class (tally k) c) → b₁ ≡ put b (page next q) t → b₂ ≡ put b₁ (class (top k) c) (q + 1) → b₃ ≡ put b₂ (class (tally k) c) (m + 1) → b₃ ≡ stow b c k q
+  pub stow-done : (k : Park) (t m : ℕ) (b₁ b₂ b₃ : List ℕ) → t ≡ get b (class (top k) c) → m ≡ get b (class (stored k) c) → b₁ ≡ put b (page next q) t → b₂ ≡ put b₁ (class (top k) c) (q + 1) → b₃ ≡ put b₂ (class (stored k) c) (m + 1) → b₃ ≡ stow b c k q
   unfolding stow
   stow-done k t m b₁ b₂ b₃ e f e₁ e₂ e₃ = cc
 
-  pub unstow-done : (k : Park) (x m : ℕ) (b₁ b₂ : List ℕ) → x ≡ get b (page next q) → m ≡ get b (class (tally k) c) → b₁ ≡ put b (class (top k) c) x → b₂ ≡ put b₁ (class (tally k) c) (m - 1) → b₂ ≡ unstow b c k q
+  pub unstow-done : (k : Park) (x m : ℕ) (b₁ b₂ : List ℕ) → x ≡ get b (page next q) → m ≡ get b (class (stored k) c) → b₁ ≡ put b (class (top k) c) x → b₂ ≡ put b₁ (class (stored k) c) (m - 1) → b₂ ≡ unstow b c k q
   unfolding unstow
   unstow-done k x m b₁ b₂ e f e₁ e₂ = cc
 

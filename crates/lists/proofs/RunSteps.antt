@@ -1,4 +1,4 @@
--- The ways out of the functions on runs, and what their loops keep. Assumes nothing.
+-- The ways out of the functions on runs, and what their loops keep.
 use Prim.Native.Nat.{ℕ, zero, suc, _+_, _-_, _≤_, _<_}
 use native.Mathlib.Omega.{arith}
 use native.Mathlib.Numerals.{add-one, sub-one}
@@ -8,10 +8,10 @@ use mathlib.Core.Path.{_≡_, refl, sym, ap, _∙_}
 use lib.Dec.{eqb}
 use lib.ListN.{length}
 use borrow.Author.Tests.{eq-eqb, ne-eqb, le-leb, lt-leb, not-true, not-false}
+use Rattle.facts.specs.Lists.{every, below}
 use Rattle.classes.specs.declared.Shape.{Shape}
 use Rattle.fields.specs.Field.{arena, page, frontier, owner, first, get, put}
 use Rattle.fields.proofs.Laws.{length-put}
-use Rattle.model.specs.Lists.{every, below}
 use Rattle.pages.specs.Runs.{ofRun, whole, nameRun}
 
 -- ---- one page, and all of a run

@@ -2,7 +2,7 @@
 ghost use mathlib.Core.Path.{_≡_};
 ghost use Prim.Native.Nat.{_*_};
 ghost use Rattle.fields.specs.Clear.{clearOut};
-ghost use Rattle.pages.specs.Runs.{flag};
+ghost use Rattle.words.specs.Host.{digit};
 ghost use Rattle.pages.specs.Stack.{downs, push};
 ghost use Rattle.pages.specs.Carve.{stocked, carveAnew, newRun};
 ghost use Rattle.pages.specs.Asks.{StockAsks, CarveAsks, ClearAsks, NewAsks};
@@ -32,8 +32,8 @@ fn stocked(shape: Shape) -> u32
     }
 }
 
-fn flag(v: bool) -> u32
-    ensures { λ r. ⌜ r ≡ flag v ⌝ }
+fn digit(v: bool) -> u32
+    ensures { λ r. ⌜ r ≡ digit v ⌝ }
 {
     if v { 1 } else { 0 }
 }
@@ -45,7 +45,7 @@ pub fn carve_anew(meta: &mut [u32], shape: Shape, q: u32, virgin: bool)
 {
     let k = stocked(shape);
     stock(meta, q, k);
-    fields::page::set_virgin(meta, q, flag(virgin));
+    fields::page::set_virgin(meta, q, digit(virgin));
     fields::page::set_carved(meta, q, k);
     fields::page::set_free(meta, q, k);
 }

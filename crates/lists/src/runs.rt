@@ -1,7 +1,7 @@
 // Whose the pages of a run are.
 ghost use mathlib.Core.Path.{_≡_};
 ghost use Prim.Native.Nat.{_+_};
-ghost use Rattle.model.specs.Lists.{every, below};
+ghost use Rattle.facts.specs.Lists.{every, below};
 ghost use Rattle.pages.specs.Runs.{ofRun, whole, nameRun};
 ghost use Rattle.pages.specs.Asks.{OfRunAsks, WholeAsks, RunAsks};
 use classes::Shape;

@@ -1,7 +1,7 @@
 // A class's stores of pages with no block out: stacks of pages, linked by NEXT.
 ghost use mathlib.Core.Path.{_≡_};
 ghost use Rattle.fields.specs.Field.{class, get, put};
-ghost use Rattle.pages.specs.Links.{top, tally, stow, unstow, wake};
+ghost use Rattle.pages.specs.Links.{top, stored, stow, unstow, wake};
 ghost use Rattle.pages.specs.Asks.{RowAsks, ParkAsks, UnparkAsks, WakeAsks};
 use crate::links::link_partial;
 use pages::Park;
@@ -30,7 +30,7 @@ fn set_store_top(meta: &mut [u32], c: u32, park: Park, v: u32)
 // How many pages it has.
 pub fn store_count(meta: &[u32], c: u32, park: Park) -> u32
     requires { ⌜ RowAsks (now meta) c ⌝ }
-    ensures { λ r. ⌜ r ≡ get (now (meta .entry)) (class (tally park) c) ⌝ }
+    ensures { λ r. ⌜ r ≡ get (now (meta .entry)) (class (stored park) c) ⌝ }
 {
     match park {
         Park::Empty => fields::class::empty_count(meta, c),
@@ -40,7 +40,7 @@ pub fn store_count(meta: &[u32], c: u32, park: Park) -> u32
 
 fn set_store_count(meta: &mut [u32], c: u32, park: Park, v: u32)
     requires { ⌜ RowAsks (now meta) c ⌝ }
-    ensures { λ _. ⌜ now (meta .exit) ≡ put (now (meta .entry)) (class (tally park) c) v ⌝ }
+    ensures { λ _. ⌜ now (meta .exit) ≡ put (now (meta .entry)) (class (stored park) c) v ⌝ }
 {
     match park {
         Park::Empty => fields::class::set_empty_count(meta, c, v),

@@ -1,4 +1,4 @@
--- A line of document 01's list: a medium class, its block bytes, pages and blocks per span. Assumes nothing.
+-- A line of document 01's list: a medium class, its block bytes, pages and blocks per span.
 use Prim.Native.Nat.{ℕ}
 use lib.ListN.{getD}
 use Rattle.classes.specs.Sizes.{mediumSizes, spanPages, spanCapacity}

@@ -1,13 +1,13 @@
--- One page at one call: where it was, what the arena and the class did with it, and where it is. Assumes nothing.
+-- One page at one call: where it was, what the arena and the class did with it, and where it is.
 use Prim.Native.Nat.{ℕ, _+_, _≤_}
 use mathlib.Core.Path.{_≡_, refl, sym, _∙_}
 use mathlib.Core.Bool.{Bool, true, false, cond, false≢true}
 use native.Mathlib.Omega.{arith}
 use lib.Dec.{eqb}
 use borrow.Author.Tests.{eqb-true, eqb-false, eq-eqb, ne-eqb}
+use Rattle.facts.proofs.Bools.{by-cases}
 use Rattle.model.specs.Heap.{Holder, nobody, direct, class, isDirect, isHeld}
 use Rattle.model.specs.Ledger.{heldBy}
-use Rattle.model.proofs.Counts.{by-cases}
 
 -- holders
 pub held-le : (c : ℕ) (o : Holder) → heldBy c o ≤ isHeld o

@@ -1,4 +1,4 @@
--- Demand 3, first half: a class's answers and the runs that it was given determine each other. Assumes nothing.
+-- Demand 3, first half: a class's answers and the runs that it was given determine each other.
 -- A class by itself is its calls and what it is given (`replay`); a history shows each class nothing else.
 use Prim.Native.Nat.{ℕ}
 use mathlib.Core.Path.{_≡_, refl, sym, ap, _∙_, subst, ap₂}
@@ -7,19 +7,20 @@ use mathlib.Core.Option.{Option, none, some}
 use mathlib.Core.Bool.{Bool, true, false, cond, false≢true}
 use mathlib.Core.Logic.{_↔_}
 use borrow.Author.Tests.{eqb-true}
+use Rattle.facts.proofs.Bools.{by-cases}
 use Rattle.classes.specs.declared.Shape.{Shape}
 use Rattle.classes.specs.Shape.{shapeOf}
 use Rattle.classes.specs.Sound.{Sound}
 use Rattle.classes.proofs.Shapes.{shape-sound}
 use Rattle.model.specs.Calls as Calls
-use Rattle.model.specs.Calls.{Call, Answer, Request, Named, names, hostOf}
+use Rattle.model.specs.Calls.{Call, Answer, Request, names, Way, turned, straight, toClass, wayOf, hostOf}
 use Rattle.model.specs.Page.{Page}
 use Rattle.model.specs.Class.{Class, Cold, Result, Ask, done, asks, serve, refuse, takeFrom}
 use Rattle.model.specs.Release.{Site, onPage, releaseList}
 use Rattle.model.specs.Chunks.{releaseChunks, answer}
 use Rattle.model.specs.Heap.{Heap, Outcome, step, route, classCall, interact, directCall, finish, offer, newHeap, runWith, asked, commitCall, growCall, releaseCall}
 use Rattle.model.specs.History.{Event, eventOf, eventsFrom, events, callsOf, answersOf, runsOf, isOf}
-use Rattle.model.proofs.Counts.{by-cases}
+use Rattle.model.proofs.Ways.{Goes, is-turned, is-straight, is-class, goes}
 use Rattle.model.proofs.Update.{update-same, update-other}
 use Rattle.model.proofs.NewRun.{Tells, run-tells}
 
@@ -61,12 +62,13 @@ serve-tells g g′ is-done f f′ e = f ∙ sym f′
 serve-tells g g′ (is-asked s) f f′ e = s g g′ e
 
 -- a class by itself: its calls and what it is given
-abbrev ask : ℕ → Class → Option Named → Ask
-ask c s none = refuse s 4
-ask c s (some d) = answer (shapeOf c) s (d .request)
+abbrev ask : ℕ → Class → Way → Ask
+ask c s turned = refuse s 3
+ask c s straight = refuse s 4
+ask c s (toClass d) = answer (shapeOf c) s (d .request)
 
 abbrev reply : ℕ → Class → Call → Option ℕ → Result
-reply c s x g = serve (ask c s (names x)) g
+reply c s x g = serve (ask c s (wayOf x)) g
 
 abbrev replay : ℕ → Class → List Call → List (Option ℕ) → List Answer
 replay c s [] gs = []
@@ -77,11 +79,12 @@ replay c s (x ∷ xs) (g ∷ gs) = reply c s x g .answer ∷ replay c (reply c s
 abbrev AllFit : ℕ → Class → List Call → List (Option ℕ) → Type 0
 AllFit c s [] gs = gs ≡ []
 AllFit c s (x ∷ xs) [] = ⊥
-AllFit c s (x ∷ xs) (g ∷ gs) = Fits (ask c s (names x)) g × AllFit c (reply c s x g .class) xs gs
+AllFit c s (x ∷ xs) (g ∷ gs) = Fits (ask c s (wayOf x)) g × AllFit c (reply c s x g .class) xs gs
 
-ask-shows : (c : ℕ) (s : Class) (d : Option Named) → Shows (shapeOf c) (ask c s d)
-ask-shows c s none = is-done
-ask-shows c s (some d) = answer-shows (shapeOf c) (shape-sound c) s (d .request)
+ask-shows : (c : ℕ) (s : Class) (w : Way) → Shows (shapeOf c) (ask c s w)
+ask-shows c s turned = is-done
+ask-shows c s straight = is-done
+ask-shows c s (toClass d) = answer-shows (shapeOf c) (shape-sound c) s (d .request)
 
 -- from answers to gifts
 replay-tells : (c : ℕ) (s : Class) (xs : List Call) (gs gs′ : List (Option ℕ)) → AllFit c s xs gs → AllFit c s xs gs′ → replay c s xs gs ≡ replay c s xs gs′ → gs ≡ gs′
@@ -89,7 +92,7 @@ replay-tells c s [] gs gs′ f f′ e = f ∙ sym f′
 replay-tells c s (x ∷ xs) [] gs′ f f′ e = absurd f
 replay-tells c s (x ∷ xs) (g ∷ gs) [] f f′ e = absurd f′
 replay-tells c s (x ∷ xs) (g ∷ gs) (g′ ∷ gs′) f f′ e =
-    let same : g ≡ g′ = serve-tells g g′ (ask-shows c s (names x)) (f .0) (f′ .0) (head-eq-of-cons-eq e) in
+    let same : g ≡ g′ = serve-tells g g′ (ask-shows c s (wayOf x)) (f .0) (f′ .0) (head-eq-of-cons-eq e) in
     let rest = subst (λ z. AllFit c (reply c s x z .class) xs gs′ → replay c (reply c s x g .class) xs gs ≡ replay c (reply c s x z .class) xs gs′ → gs ≡ gs′)
     same (replay-tells c (reply c s x g .class) xs gs gs′ (f .1)) in
     ap₂ _∷_ same (rest (f′ .1) (tail-eq-of-cons-eq e))
@@ -133,10 +136,11 @@ offer-fits size h H (done r) = refl
 offer-fits size h H (asks n k) = tt
 
 module _ (size : ℕ) (H : Heap) where
-  other : (c : ℕ) (x : Call) (d : Option Named) → isOf c d ≡ false → route size H x d .heap .classes c ≡ H .classes c
+  other : (c : ℕ) (x : Call) {w : Way} → Goes x w → isOf c (names x) ≡ false → route size H x w .heap .classes c ≡ H .classes c
   unfolding classCall interact finish
-  other c x none e = ap (λ f. f c) (direct-keeps size H x .kept)
-  other c x (some d) e = update-other (H .classes) (d .class) c _ e
+  other c x (is-turned t) e = refl
+  other c x (is-straight t n) e = ap (λ f. f c) (direct-keeps size H x .kept)
+  other c x (is-class d t n) e = update-other (H .classes) (d .class) c _ (rw n at e)
 
   own-call : (c : ℕ) (r : Request) → Own c (classCall size H c r) (answer (shapeOf c) (H .classes c) r)
   unfolding classCall interact finish
@@ -151,10 +155,11 @@ module _ (size : ℕ) (H : Heap) where
         fits = f;
       }
 
-  own : (c : ℕ) (x : Call) (d : Option Named) → isOf c d ≡ true → Own c (route size H x d) (ask c (H .classes c) d)
-  own c x none e = absurd (false≢true e)
-  own c x (some d) e =
-      subst (λ k. Own c (classCall size H k (d .request)) (answer (shapeOf c) (H .classes c) (d .request))) (sym (eqb-true (d .class) c e)) (own-call c (d .request))
+  own : (c : ℕ) (x : Call) {w : Way} → Goes x w → isOf c (names x) ≡ true → Own c (route size H x w) (ask c (H .classes c) w)
+  own c x (is-turned t) e = record { gift = none; run = refl; class = refl; answer = refl; fits = refl }
+  own c x (is-straight t n) e = absurd (false≢true (rw n at e))
+  own c x (is-class d t n) e =
+      subst (λ k. Own c (classCall size H k (d .request)) (answer (shapeOf c) (H .classes c) (d .request))) (sym (eqb-true (d .class) c (rw n at e))) (own-call c (d .request))
 
 -- a class's answers are a replay of its calls with what it was given
 record Replayed (c : ℕ) (s : Class) (xs : List Call) (es : List Event) : Type 0 where
@@ -164,7 +169,7 @@ record Replayed (c : ℕ) (s : Class) (xs : List Call) (es : List Event) : Type 
   fit : AllFit c s (callsOf c xs) gifts
 
 module _ (c : ℕ) (s : Class) (x : Call) (xs : List Call) (o : Outcome) (es : List Event) (ih : Replayed c (o .heap .classes c) xs es) where
-  replayed-own : isOf c (names x) ≡ true → Own c o (ask c s (names x)) → Replayed c s (x ∷ xs) (eventOf x o ∷ es)
+  replayed-own : isOf c (names x) ≡ true → Own c o (ask c s (wayOf x)) → Replayed c s (x ∷ xs) (eventOf x o ∷ es)
   replayed-own e own = record {
     gifts = own .gift ∷ ih .gifts;
     runs = rw e (ap₂ _∷_ (own .run) (ih .runs));
@@ -186,8 +191,8 @@ replayed size c H [] = record { gifts = []; runs = refl; answers = refl; fit = r
 replayed size c H (x ∷ xs) =
     let ih = replayed size c (step size H x .heap) xs in
     by-cases (isOf c (names x))
-    (λ e. replayed-own c (H .classes c) x xs (step size H x) _ ih e (own size H c x (names x) e))
-    (λ e. replayed-other c (H .classes c) x xs (step size H x) _ ih e (other size H c x (names x) e))
+    (λ e. replayed-own c (H .classes c) x xs (step size H x) _ ih e (own size H c x (goes x) e))
+    (λ e. replayed-other c (H .classes c) x xs (step size H x) _ ih e (other size H c x (goes x) e))
 
 -- from runs to gifts
 run-first : (n : ℕ) (g g′ : Option ℕ) → runWith n g ≡ runWith n g′ → g ≡ g′

@@ -1,4 +1,4 @@
--- Entries not yet released share no byte, with each other or with a page held by the direct calls. Assumes nothing.
+-- Entries not yet released share no byte, with each other or with a page held by the direct calls.
 use Prim.Native.Nat.{ℕ, zero, suc, _+_, _-_, _*_, _/_, _≤_, _<_}
 use mathlib.Core.Path.{_≡_, refl, sym, ap, _∙_, subst}
 use mathlib.Core.List.{List, [], _∷_, _++_}
@@ -8,27 +8,38 @@ use native.Mathlib.Omega.{arith}
 use native.Mathlib.Nat.{zero-add, mul-le-mul-right}
 use lib.Dec.{eqb, leb, ltb}
 use borrow.Author.Tests.{leb-true, leb-false, ltb-true, ltb-false, eqb-true, eq-eqb}
+use Rattle.facts.specs.Lists.{All, total, count}
+use Rattle.facts.proofs.Bools.{by-cases}
+use Rattle.words.specs.Limits.{maxPages}
 use Rattle.words.specs.Word.{granuleOf}
 use Rattle.classes.specs.declared.Shape.{Shape}
 use Rattle.classes.specs.Shape.{shapeOf}
 use Rattle.classes.specs.Sizes.{granuleBytes, pageBytes}
 use Rattle.classes.specs.Sound.{Sound}
 use Rattle.classes.proofs.Shapes.{shape-sound}
-use Rattle.model.specs.Lists.{All, total, count}
 use Rattle.model.specs.Calls.{Call}
 use Rattle.model.specs.Page.{Page, wordOf, wordsFrom, pageGranules, carvedWords}
 use Rattle.model.specs.Heap.{Heap}
 use Rattle.model.specs.History.{events, heapAfter}
 use Rattle.model.specs.Entries.{Entry, HasByte, In, Live, firstByte, blockBytes}
 use Rattle.model.specs.Ledger.{heldBy}
-use Rattle.model.specs.Demands.{arenaMax, Disjoint, IsoDisjoint}
-use Rattle.model.proofs.Counts.{by-cases, total-append}
+use Rattle.model.specs.Demands.{Disjoint, IsoDisjoint}
+use Rattle.model.proofs.Counts.{total-append}
 use Rattle.model.proofs.ArenaLaws.{above-at, covers-in}
 use Rattle.model.proofs.Pages.{all-append, outOf, on, GoodPage, words-once}
 use Rattle.model.proofs.Fold.{liveFrom, live-in}
 use Rattle.model.proofs.EntryCounts.{is, at, is-self, in-total}
 use Rattle.model.proofs.Accounts.{held-le, held-two, not-direct}
 use Rattle.model.proofs.HeapLaws.{Inv, kept}
+
+-- a counted word is the word of a block below
+pub which : (sh : Shape) (q k w : ℕ) → 1 ≤ count w (wordsFrom sh q 0 k) → (i : ℕ) × (i < k) × (w ≡ wordOf sh q i)
+which sh q zero w h = absurd (omega arith)
+which sh q (suc k) w h =
+    by-cases (eqb w (wordOf sh q (0 + k)))
+    (λ e. (k, omega arith, rw zero-add at (eqb-true w (wordOf sh q (0 + k)) e)))
+    (λ e. let z : 1 ≤ 0 + count w (wordsFrom sh q 0 k) = rw e at h in
+    let r = which sh q k w (omega arith) in (r .0, omega (arith, r .1), r .2))
 
 module _ (sh : Shape) (ok : Sound sh) where
   -- the block with word w stands on page p; byte b is one of the block's
@@ -41,21 +52,13 @@ module _ (sh : Shape) (ok : Sound sh) where
     from : granuleOf w * granuleBytes ≤ b
     to : b < granuleOf w * granuleBytes + sh .block * granuleBytes
 
-  which : (q k w : ℕ) → 1 ≤ count w (wordsFrom sh q 0 k) → (i : ℕ) × (i < k) × (w ≡ wordOf sh q i)
-  which q zero w h = absurd (omega arith)
-  which q (suc k) w h =
-      by-cases (eqb w (wordOf sh q (0 + k)))
-      (λ e. (k, omega arith, rw zero-add at (eqb-true w (wordOf sh q (0 + k)) e)))
-      (λ e. let z : 1 ≤ 0 + count w (wordsFrom sh q 0 k) = rw e at h in
-      let r = which q k w (omega arith) in (r .0, omega (arith, r .1), r .2))
-
   out-sits : (p : Page) (w : ℕ) → GoodPage sh p → 1 ≤ outOf sh w p → Sits p w
   unfolding carvedWords
   out-sits p w good h =
-      let r = which (p .first) (p .carved) w (omega arith) in
+      let r = which sh (p .first) (p .carved) w (omega arith) in
       record { index = r .0; inside = omega (arith, r .1, good .within); names = r .2 }
 
-  module _ (p : Page) (w : ℕ) (low : p .first + sh .pages ≤ arenaMax) (s : Sits p w) where
+  module _ (p : Page) (w : ℕ) (low : p .first + sh .pages ≤ maxPages) (s : Sits p w) where
     ends : sh .header + (s .index * sh .block + sh .block) ≤ sh .pages * pageGranules
     ends = omega (arith, mul-le-mul-right (sh .block) (s .inside), ok .fits)
 
@@ -66,7 +69,7 @@ module _ (sh : Shape) (ok : Sound sh) where
     on-page : (b : ℕ) → Bytes w b → on sh (b / pageBytes) p ≡ 1
     on-page b h = covers-in (sh .pages) (p .first) (b / pageBytes) (omega (arith, granule, h .from)) (omega (arith, granule, ends, h .to))
 
-  one-word : (p : Page) (w v b : ℕ) → p .first + sh .pages ≤ arenaMax → Sits p w → Sits p v → Bytes w b → Bytes v b → w ≡ v
+  one-word : (p : Page) (w v b : ℕ) → p .first + sh .pages ≤ maxPages → Sits p w → Sits p v → Bytes w b → Bytes v b → w ≡ v
   one-word p w v b low s t hw hv =
       let gw = granule p w low s in
       let gv = granule p v low t in
@@ -91,7 +94,7 @@ module _ (sh : Shape) (ok : Sound sh) where
       (λ e. inr (outs-sit ps w (good .1) (omega (arith, leb-false 1 (outOf sh w p) e))))
 
   -- the pages stand in an arena of this length
-  module _ (size : ℕ) (small : size ≤ arenaMax) where
+  module _ (size : ℕ) (small : size ≤ maxPages) where
     abbrev Low : List Page → Type 0
     Low ps = (y : ℕ) → 1 ≤ total (on sh y) ps → y < size
 
@@ -103,7 +106,7 @@ module _ (sh : Shape) (ok : Sound sh) where
     low-rest : (p : Page) (ps : List Page) → Low (p ∷ ps) → Low ps
     low-rest p ps low y h = low y (omega arith)
 
-    abbrev low : (p : Page) (ps : List Page) → Low (p ∷ ps) → p .first + sh .pages ≤ arenaMax
+    abbrev low : (p : Page) (ps : List Page) → Low (p ∷ ps) → p .first + sh .pages ≤ maxPages
     low p ps k = omega (arith, low-page p ps k)
 
     covered : (ps : List Page) (w b : ℕ) → Low ps → InPages ps w → Bytes w b → 1 ≤ total (on sh (b / pageBytes)) ps
@@ -156,7 +159,7 @@ module _ (f : Entry → ℕ) where
 at-self : (e : Entry) → at (e .call) (e .place) e ≡ 1
 at-self e = rw (eq-eqb (e .call) (e .call) refl, eq-eqb (e .place) (e .place) refl)
 
-module _ (size n : ℕ) (H : Heap) (es : List Entry) (f : ℕ → Bool) (l : ℕ → ℕ) (inv : Inv size n H es f l) (small : size ≤ arenaMax) where
+module _ (size n : ℕ) (H : Heap) (es : List Entry) (f : ℕ → Bool) (l : ℕ → ℕ) (inv : Inv size n H es f l) (small : size ≤ maxPages) where
   -- the pages of class c with blocks out
   abbrev pagesOf : ℕ → List Page
   pagesOf c = H .classes c .partial ++ H .classes c .full
@@ -225,7 +228,7 @@ module _ (size n : ℕ) (H : Heap) (es : List Entry) (f : ℕ → Bool) (l : ℕ
       let h : HasByte e (firstByte e) = record { from = omega arith; to = omega (arith, shape-sound (e .class) .wide) } in
       (firstByte e, h, subst (λ z. HasByte z (firstByte e)) same h)
 
-module _ (size : ℕ) (small : size ≤ arenaMax) (xs : List Call) where
+module _ (size : ℕ) (small : size ≤ maxPages) (xs : List Call) where
   live : (e : Entry) → Live 0 (events size xs) e → In e (liveFrom 0 [] (events size xs))
   live e o = live-in 0 e [] (events size xs) o
 

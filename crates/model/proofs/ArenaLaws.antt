@@ -1,4 +1,4 @@
--- The arena keeps account of pages: what a commit, a growth or a give takes from the idle pages or adds to them. Assumes nothing.
+-- The arena keeps account of pages: what a commit, a growth or a give takes from the idle pages or adds to them.
 use Prim.Native.Nat.{ℕ, _+_, _≤_}
 use mathlib.Core.Path.{_≡_, refl, sym, ap, _∙_, subst}
 use mathlib.Core.List.{List, [], _∷_}
@@ -6,13 +6,14 @@ use mathlib.Core.Option.{Option, none, some}
 use mathlib.Core.Bool.{Bool, true, false, cond}
 use native.Mathlib.Omega.{arith}
 use borrow.Author.Tests.{leb-true, eqb-true}
+use Rattle.facts.proofs.Bools.{by-cases, and-left, and-right}
+use Rattle.model.specs.Cover.{covers, coversAll, coversRun}
 use Rattle.words.specs.Host.{reservationGranted, commitGranted}
-use Rattle.model.specs.Lists.{covers, coversAll, coversRun}
 use Rattle.model.specs.HoleStore.{HoleStore, choose, accepts, append}
 use Rattle.model.specs.Arena.{Arena, Status, unasked, ready, disabled, withStatus, withFrontier, withStore, give, giveAll, Given, given, drawFrom, draw, grant, commitReady, commitAs, commit, canGrow, grow}
 use Rattle.model.specs.Ledger.{inHoles, above, abandons, allAbandon, grantAbandons, readyAbandons, commitAbandons, growAbandons}
 use Rattle.model.specs.BestFit.{LeastAt}
-use Rattle.model.proofs.Counts.{by-cases, and-l, and-r, total-append}
+use Rattle.model.proofs.Counts.{total-append}
 pub use Rattle.model.proofs.Runs.{covers-in, covers-before, covers-after, covers-le, above-at, above-not, above-cut}
 use Rattle.model.proofs.StoreLaws.{Chosen, at-hole, no-hole, chosen, choose-holes, holesWith, take-law}
 
@@ -113,7 +114,7 @@ module _ (size h e n : ℕ) (a : Arena) where
   unfolding grow
   grow-law x =
       by-cases (canGrow size e n a)
-      (λ d. let f = eqb-true (a .frontier) e (search and-l) in
+      (λ d. let f = eqb-true (a .frontier) e (search and-left) in
       by-cases (commitGranted h)
       (λ c. rw d (rw c (omega (arith, above-cut n e x, ap (λ f. above f x) f))))
       (λ c. rw d (rw c (omega (arith, above-cut n e x, ap (λ f. above f x) f, give-law n e x (withFrontier (e + n) a))))))
@@ -123,7 +124,7 @@ module _ (size h e n : ℕ) (a : Arena) where
   unfolding grow
   grow-rises =
       by-cases (canGrow size e n a)
-      (λ d. let f = eqb-true (a .frontier) e (search and-l) in
+      (λ d. let f = eqb-true (a .frontier) e (search and-left) in
       by-cases (commitGranted h)
       (λ c. rw d (rw c (omega arith)))
       (λ c. rw d (rw c (omega (arith, give-frontier n e (withFrontier (e + n) a))))))
@@ -133,7 +134,7 @@ module _ (size h e n : ℕ) (a : Arena) where
   unfolding grow
   grow-bound k =
       by-cases (canGrow size e n a)
-      (λ d. let l = leb-true (e + n) size (search and-r) in
+      (λ d. let l = leb-true (e + n) size (search and-right) in
       by-cases (commitGranted h)
       (λ c. rw d (rw c l))
       (λ c. rw d (rw c (omega (arith, give-frontier n e (withFrontier (e + n) a))))))

@@ -1,15 +1,15 @@
--- Every step of the arena keeps its hole store tidy. Assumes nothing.
+-- Every step of the arena keeps its hole store tidy.
 use Prim.Native.Nat.{ℕ, _+_, _≤_}
 use mathlib.Core.Path.{_≡_, sym, subst}
 use mathlib.Core.List.{List, [], _∷_}
 use mathlib.Core.Option.{Option, none, some}
 use mathlib.Core.Bool.{Bool}
 use lib.Dec.{leb}
+use Rattle.facts.proofs.Bools.{by-cases}
 use Rattle.words.specs.Host.{reservationGranted, commitGranted}
 use Rattle.model.specs.HoleStore.{HoleStore, choose, accepts}
 use Rattle.model.specs.Arena.{Arena, Status, unasked, ready, disabled, newArena, withStatus, withFrontier, withStore, give, giveAll, drawFrom, draw, grant, commitReady, commitAs, commit, canGrow, grow}
 use Rattle.model.specs.BestFit.{LeastAt}
-use Rattle.model.proofs.Counts.{by-cases}
 use Rattle.model.proofs.StoreLaws.{Chosen, at-hole, no-hole, chosen, choose-holes}
 use Rattle.model.proofs.Remembers.{Tidy, tidy-empty, tidy-choose, tidy-take, tidy-append}
 

@@ -1,15 +1,15 @@
--- A commit answers by best fit, or none with its reason, on every arena. Assumes nothing.
+-- A commit answers by best fit, or none with its reason, on every arena.
 use Prim.Native.Nat.{ℕ, _+_, _≤_, _<_}
 use mathlib.Core.Path.{_≡_, refl, ap, _∙_}
 use mathlib.Core.Option.{Option, none, some}
 use mathlib.Core.Bool.{Bool, true, false}
 use lib.Dec.{leb}
 use borrow.Author.Tests.{leb-true, leb-false}
+use Rattle.facts.proofs.Bools.{by-cases}
 use Rattle.words.specs.Host.{reservationGranted, commitGranted}
 use Rattle.model.specs.HoleStore.{HoleStore, holeAt, choose}
 use Rattle.model.specs.Arena.{Arena, Status, unasked, ready, disabled, withStatus, withStore, drawFrom, draw, grant, commitReady, commitAs, commit}
 use Rattle.model.specs.BestFit.{LeastAt, Which, NoneFits, usable, Commits, from-hole, from-frontier, unusable, ungranted, exhausted}
-use Rattle.model.proofs.Counts.{by-cases}
 use Rattle.model.proofs.StoreLaws.{Chosen, at-hole, no-hole, chosen, choose-holes}
 
 -- what is drawn from a store and a frontier, before the host is asked

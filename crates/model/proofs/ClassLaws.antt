@@ -1,5 +1,5 @@
 -- What a class's call does to its pages and blocks: no page comes but the run given, none goes but those given back,
--- what a take answers goes out, and what a release names, no more and no less, comes in. Assumes nothing.
+-- what a take answers goes out, and what a release names, no more and no less, comes in.
 use Prim.Native.Nat.{ℕ, _+_, _≤_}
 use mathlib.Core.Path.{_≡_, refl}
 use mathlib.Core.List.{List, [], _∷_, map}
@@ -9,17 +9,21 @@ use native.Mathlib.Omega.{arith}
 use lib.Dec.{eqb, leb}
 use lib.Seq.{take-append-seam}
 use borrow.Author.Tests.{eqb-true, eq-eqb, leb-true, leb-false, not-false}
+use Rattle.facts.specs.Lists.{every, All, total, elem, distinct, count}
+use Rattle.facts.proofs.Bools.{by-cases, and-right}
+use Rattle.model.specs.Cover.{covers, coversAll, coversRun}
 use Rattle.words.specs.Word.{pageOf}
 use Rattle.classes.specs.declared.Shape.{Shape}
 use Rattle.classes.specs.Sound.{Sound}
-use Rattle.model.specs.Lists.{All, count, elem, every, distinct, total, covers, coversAll, coversRun}
+use Rattle.model.specs.declared.Spot.{Spot}
+use Rattle.model.specs.declared.Spot.the-variants.{ToEmpty, ToCold, ToArena}
 use Rattle.model.specs.Calls.{Request, take, giveBack, giveChunks, fate, fates, refused, blocksOf, releasedBy}
 use Rattle.model.specs.Page.{Page, isMedium, carve, isOut, noneOut, reused, returned, retire}
 use Rattle.model.specs.Class.{Class, lists, Cold, Result, Ask, done, asks, serve, refuse, Filled, fillFromList, served, thawed, onRun, takeFrom}
-use Rattle.model.specs.Release.{Site, locate, Settled, park, parkEmpty, parkCold, letGo, markRetired, settle, outHere, onPage, siteOfFirst, releaseList}
+use Rattle.model.specs.Release.{Site, locate, Settled, spotIn, park, parkIn, markRetired, settle, outHere, onPage, siteOfFirst, releaseList}
 use Rattle.model.specs.Chunks.{startsAt, blocksOn, chunkFits, chunkedOn, chunked, settleChunk, settleChunks, releaseChunks, answer}
 use Rattle.model.specs.Ledger.{runsWith}
-use Rattle.model.proofs.Counts.{by-cases, and-r, every-count, filter-le, filter-passes, filter-keeps, distinct-count, total-append}
+use Rattle.model.proofs.Counts.{every-count, filter-le, filter-passes, filter-keeps, distinct-count, total-append}
 use Rattle.model.proofs.Pages.{all-append, outOf, on, out-le, is-out, out-is, GoodPage, EmptyPage, carve-empty, carve-on, reused-empty, reused-on, thawed-empty, thawed-on, Fills, fills, return-good, return-moves, none-out-of, retire-empty, return-on, retire-on}
 use Rattle.model.proofs.Sites.{outs, outCount, outFrom, outAt, Once, GoodClass, SiteLaw, SiteLaws, locate-law, Tells, locate-tells, out-once, out-first}
 
@@ -111,22 +115,14 @@ module _ (sh : Shape) (ok : Sound sh) where
     out : (f : Page → ℕ) → outs f (b .class) ≡ outs f s
 
   module _ (h : ℕ) (s : Class) (p : Page) (gs : GoodClass sh s) (gp : EmptyPage sh p) where
-    to-empty : ParkLaw s p (parkEmpty s p)
-    to-empty = record { good = record { partial = gs .partial; empty = (gp, gs .empty); full = gs .full }; pages = λ z. omega arith; out = λ f. omega arith }
-
-    to-cold : ParkLaw s p (parkCold sh h s p)
-    to-cold = record { good = record { partial = gs .partial; empty = gs .empty; full = gs .full }; pages = λ z. omega arith; out = λ f. omega arith }
-
-    to-arena : ParkLaw s p (letGo s p)
-    to-arena = record { good = record { partial = gs .partial; empty = gs .empty; full = gs .full }; pages = λ z. omega arith; out = λ f. omega arith }
-
-    parked-cond : (b : Bool) (x y : Settled) → ParkLaw s p x → ParkLaw s p y → ParkLaw s p (cond b x y)
-    parked-cond true x y k l = k
-    parked-cond false x y k l = l
+    park-in : (t : Spot) → ParkLaw s p (parkIn sh h s p t)
+    park-in ToEmpty = record { good = record { partial = gs .partial; empty = (gp, gs .empty); full = gs .full }; pages = λ z. omega arith; out = λ f. omega arith }
+    park-in ToCold = record { good = record { partial = gs .partial; empty = gs .empty; full = gs .full }; pages = λ z. omega arith; out = λ f. omega arith }
+    park-in ToArena = record { good = record { partial = gs .partial; empty = gs .empty; full = gs .full }; pages = λ z. omega arith; out = λ f. omega arith }
 
     park-law : ParkLaw s p (park sh h s p)
     unfolding park
-    park-law = search (parked-cond, to-empty, to-cold, to-arena)
+    park-law = park-in (spotIn sh s)
 
   module _ (h : ℕ) (s : Class) (ws : List ℕ) (x : Site) (law : SiteLaw sh s x) (once : (w : ℕ) → count w ws ≤ 1) (outs : (w : ℕ) → 1 ≤ count w ws → isOut sh w (x .page) ≡ true) where
     back-good : GoodPage sh (returned ws (x .page))
@@ -313,7 +309,7 @@ module _ (sh : Shape) (ok : Sound sh) where
   }
 
   second : (a b : Bool) → not (a && b) ≡ false → b ≡ true
-  second a b e = and-r a b (not-false (a && b) e)
+  second a b e = and-right a b (not-false (a && b) e)
 
   first-law : (s : Class) (ws : List ℕ) → GoodClass sh s → SiteLaws sh s (siteOfFirst sh s ws)
   first-law s [] good = tt
@@ -326,7 +322,7 @@ module _ (sh : Shape) (ok : Sound sh) where
     chunks-lawful : (gs fs l : List ℕ) → not (distinct (map pageOf gs) && (every (chunkFits sh s ws) gs && every (chunked sh s gs) ws)) ≡ false
         → Lawful sh s (giveChunks h ws gs fs) (done (record { class = settleChunks sh h ws s gs .class; answer = fates l; gives = settleChunks sh h ws s gs .gives }))
     chunks-lawful gs fs l placed =
-        let every-one = and-r (every (chunkFits sh s ws) gs) (every (chunked sh s gs) ws) (second (distinct (map pageOf gs)) (every (chunkFits sh s ws) gs && every (chunked sh s gs) ws) placed) in
+        let every-one = and-right (every (chunkFits sh s ws) gs) (every (chunked sh s gs) ws) (second (distinct (map pageOf gs)) (every (chunkFits sh s ws) gs && every (chunked sh s gs) ws) placed) in
         lawful-done (chunks-moves s ws gs l (settleChunks sh h ws s gs .class) (settleChunks sh h ws s gs .gives) good one every-one (chunks-law h ws (second (every (outHere sh s) ws) (distinct ws) passed) s gs good one))
 
   -- every request of a class is lawful

@@ -1,4 +1,4 @@
--- Every page is in exactly one place after every history. Assumes nothing.
+-- Every page is in exactly one place after every history.
 use Prim.Native.Nat.{ℕ, _+_}
 use mathlib.Core.Path.{_≡_}
 use mathlib.Core.List.{List}

@@ -1,27 +1,14 @@
--- Booleans, counting, and sums over lists. Assumes nothing.
-use Prim.Native.Nat.{ℕ, zero, suc, _+_, _-_, _≤_, _<_}
-use mathlib.Core.Path.{_≡_, refl, sym, ap, _∙_, subst}
+-- Booleans, counting, and sums over lists.
+use Prim.Native.Nat.{ℕ, _+_, _-_, _≤_}
+use mathlib.Core.Path.{_≡_, refl, sym, ap, _∙_}
 use mathlib.Core.List.{List, [], _∷_, _++_, reverse, reverseAux}
-use mathlib.Core.Bool.{Bool, true, false, cond, not, _&&_, _||_, false≢true, true≢false}
+use mathlib.Core.Bool.{Bool, true, false, not, false≢true, true≢false}
 use native.Mathlib.Omega.{arith}
-use native.Mathlib.Nat.{le-refl}
-use lib.Dec.{eqb, leb, ltb}
-use lib.ListN.{take, drop, take-append-drop, length}
-use borrow.Author.Tests.{eqb-true, eqb-false, eq-eqb, ne-eqb, not-true}
-use Rattle.model.specs.Lists.{count, elem, distinct, every, filter, total}
-
--- by cases on a test, with what it answered
-pub by-cases {ℓ} : {P : Type ℓ} (b : Bool) → (b ≡ true → P) → (b ≡ false → P) → P
-by-cases true f g = f refl
-by-cases false f g = g refl
-
-pub and-l : (a b : Bool) → (a && b) ≡ true → a ≡ true
-and-l true b e = refl
-and-l false b e = e
-
-pub and-r : (a b : Bool) → (a && b) ≡ true → b ≡ true
-and-r true b e = e
-and-r false b e = cc
+use lib.Dec.{eqb}
+use lib.ListN.{take, drop, take-append-drop}
+use borrow.Author.Tests.{eqb-true, not-true}
+use Rattle.facts.specs.Lists.{filter, every, total, elem, distinct, count}
+use Rattle.facts.proofs.Bools.{by-cases, and-left, and-right}
 
 pub count-append : (w : ℕ) (s t : List ℕ) → count w (s ++ t) ≡ count w s + count w t
 count-append w [] t = omega arith
@@ -55,8 +42,8 @@ pub every-count : (t : ℕ → Bool) (w : ℕ) (s : List ℕ) → every t s ≡ 
 every-count t w [] e h = absurd (omega arith)
 every-count t w (x ∷ s) e h =
     by-cases (eqb w x)
-    (λ b. rw (eqb-true w x b) (and-l (t x) (every t s) e))
-    (λ b. let h′ : 1 ≤ 0 + count w s = rw b at h in every-count t w s (and-r (t x) (every t s) e) (omega arith))
+    (λ b. rw (eqb-true w x b) (and-left (t x) (every t s) e))
+    (λ b. let h′ : 1 ≤ 0 + count w s = rw b at h in every-count t w s (and-right (t x) (every t s) e) (omega arith))
 
 pub filter-le : (t : ℕ → Bool) (w : ℕ) (s : List ℕ) → count w (filter t s) ≤ count w s
 filter-le t w [] = omega arith
@@ -86,9 +73,9 @@ filter-keeps t w (x ∷ s) e =
 pub distinct-count : (w : ℕ) (s : List ℕ) → distinct s ≡ true → count w s ≤ 1
 distinct-count w [] e = omega arith
 distinct-count w (x ∷ s) e =
-    let ih = distinct-count w s (and-r (not (elem x s)) (distinct s) e) in
+    let ih = distinct-count w s (and-right (not (elem x s)) (distinct s) e) in
     by-cases (eqb w x)
-    (λ b. rw b (let z = count-elem x s (not-true (elem x s) (and-l (not (elem x s)) (distinct s) e)) in
+    (λ b. rw b (let z = count-elem x s (not-true (elem x s) (and-left (not (elem x s)) (distinct s) e)) in
     let y : count w s ≡ count x s = rw (eqb-true w x b) in omega arith))
     (λ b. rw b (omega arith))
 

@@ -1,4 +1,4 @@
--- Counting entries: by class and word, and by call and place. Assumes nothing.
+-- Counting entries: by class and word, and by call and place.
 use Prim.Native.Nat.{ℕ, suc, _+_, _≤_, _<_}
 use mathlib.Core.Path.{_≡_, refl, sym, ap, _∙_}
 use mathlib.Core.List.{List, [], _∷_}
@@ -7,9 +7,10 @@ use mathlib.Core.Logic.{inl, inr}
 use native.Mathlib.Omega.{arith}
 use lib.Dec.{eqb}
 use borrow.Author.Tests.{eqb-true, eqb-false, eq-eqb, ne-eqb, not-false}
-use Rattle.model.specs.Lists.{total, count, elem, filter}
+use Rattle.facts.specs.Lists.{filter, total, elem, count}
+use Rattle.facts.proofs.Bools.{by-cases, and-left, and-right}
 use Rattle.model.specs.Entries.{Entry, In, entriesFrom, hasWord}
-use Rattle.model.proofs.Counts.{by-cases, and-l, and-r, elem-count, count-elem}
+use Rattle.model.proofs.Counts.{elem-count, count-elem}
 
 -- 1 if the entry is of class c and has the word; 1 if it is place i of call k
 abbrev pub is : ℕ → ℕ → Entry → ℕ
@@ -58,13 +59,13 @@ stays c d w ws es h = filter-same (is d w) (λ e. not (hasWord c ws e)) es (λ e
 pub word-stays : (c w : ℕ) (ws : List ℕ) (es : List Entry) → count w ws ≡ 0 → total (is c w) (filter (λ e. not (hasWord c ws e)) es) ≡ total (is c w) es
 word-stays c w ws es z =
     stays c c w ws es (λ e r. by-cases (eqb w (e .word))
-    (λ b. absurd (let y : count w ws ≡ count (e .word) ws = ap (λ v. count v ws) (eqb-true w (e .word) b) in omega (arith, elem-count (e .word) ws (and-r (eqb (e .class) c) (elem (e .word) ws) r))))
+    (λ b. absurd (let y : count w ws ≡ count (e .word) ws = ap (λ v. count v ws) (eqb-true w (e .word) b) in omega (arith, elem-count (e .word) ws (and-right (eqb (e .class) c) (elem (e .word) ws) r))))
     (λ b. by-cases (eqb (e .class) c) (λ a. rw (a, b)) (λ a. rw a)))
 
 pub other-stays : (c d w : ℕ) (ws : List ℕ) (es : List Entry) → eqb d c ≡ false → total (is d w) (filter (λ e. not (hasWord c ws e)) es) ≡ total (is d w) es
 other-stays c d w ws es n =
     stays c d w ws es (λ e r. by-cases (eqb (e .class) d)
-    (λ a. absurd (eqb-false d c n (sym (eqb-true (e .class) d a) ∙ eqb-true (e .class) c (and-l (eqb (e .class) c) (elem (e .word) ws) r))))
+    (λ a. absurd (eqb-false d c n (sym (eqb-true (e .class) d a) ∙ eqb-true (e .class) c (and-left (eqb (e .class) c) (elem (e .word) ws) r))))
     (λ a. rw a))
 
 pub is-self : (e : Entry) → is (e .class) (e .word) e ≡ 1
@@ -89,8 +90,8 @@ counted c w (e ∷ es) h =
     (λ a. record {
       entry = e;
       member = inl refl;
-      of-class = eqb-true (e .class) c (and-l (eqb (e .class) c) (eqb w (e .word)) a);
-      of-word = sym (eqb-true w (e .word) (and-r (eqb (e .class) c) (eqb w (e .word)) a));
+      of-class = eqb-true (e .class) c (and-left (eqb (e .class) c) (eqb w (e .word)) a);
+      of-word = sym (eqb-true w (e .word) (and-right (eqb (e .class) c) (eqb w (e .word)) a));
     })
     (λ a. let l : 1 ≤ 0 + total (is c w) es = rw a at h in
     let r = counted c w es (omega arith) in

@@ -1,14 +1,14 @@
--- The page that a test finds, and what the test finds after a change elsewhere. Assumes nothing.
+-- The page that a test finds, and what the test finds after a change elsewhere.
 use mathlib.Core.Path.{_≡_, refl, sym, ap, _∙_, ap₂}
 use mathlib.Core.List.{List, [], _∷_, _++_}
 use mathlib.Core.Option.{Option, none, some}
 use mathlib.Core.Bool.{Bool, true, false, cond}
 use mathlib.Core.Logic.{_↔_}
-use Rattle.model.specs.Lists.{All}
+use Rattle.facts.specs.Lists.{All}
+use Rattle.facts.proofs.Bools.{by-cases}
 use Rattle.model.specs.Page.{Page}
 use Rattle.model.specs.Class.{Class}
 use Rattle.model.specs.Release.{Found, Site, find, prepend, inPartial, inFull, orElse, mapFound, locate}
-use Rattle.model.proofs.Counts.{by-cases}
 
 pub all-at : {A : Type 0} (P : A → Type 0) (s : List A) (p : A) (t : List A) → All P (s ++ p ∷ t) ↔ (P p × All P (s ++ t))
 all-at P [] p t = (λ h. h, λ h. h)

@@ -1,15 +1,15 @@
--- The entries not yet released, as a list that each call changes. Assumes nothing.
+-- The entries not yet released, as a list that each call changes.
 use Prim.Native.Nat.{ℕ, suc}
 use mathlib.Core.Path.{_≡_, refl}
 use mathlib.Core.List.{List, [], _∷_, _++_}
 use mathlib.Core.Option.{Option, none, some}
 use mathlib.Core.Logic.{_⊎_, inl, inr}
 use mathlib.Core.Bool.{Bool, true, not}
-use Rattle.model.specs.Lists.{filter, every}
+use Rattle.facts.specs.Lists.{filter, every}
+use Rattle.facts.proofs.Bools.{by-cases, and-left, and-right}
 use Rattle.model.specs.Calls.{Answer, Named, names, blocksOf, releasedBy}
 use Rattle.model.specs.History.{Event}
 use Rattle.model.specs.Entries.{Entry, In, Live, entriesFrom, entriesOf, hasWord, releases}
-use Rattle.model.proofs.Counts.{by-cases, and-l, and-r}
 
 abbrev pub liveNext : ℕ → Option Named → Answer → List Entry → List Entry
 liveNext k none x es = es
@@ -49,7 +49,7 @@ stays-on : (k : ℕ) (e : Entry) (es : List Entry) (vs : List Event) → every (
 stays-on k e es [] h m = m
 stays-on k e es (v ∷ vs) h m =
     let f : Event → Bool = λ u. not (releases (names (u .call)) (u .answer) e) in
-    stays-on (suc k) e (liveNext k (names (v .call)) (v .answer) es) vs (and-r (f v) (every f vs) h) (stays k (names (v .call)) (v .answer) e es (and-l (f v) (every f vs) h) m)
+    stays-on (suc k) e (liveNext k (names (v .call)) (v .answer) es) vs (and-right (f v) (every f vs) h) (stays k (names (v .call)) (v .answer) e es (and-left (f v) (every f vs) h) m)
 
 pub live-in : (k : ℕ) (e : Entry) (es : List Entry) (vs : List Event) → Live k vs e → In e (liveFrom k es vs)
 live-in k e es [] o = absurd o

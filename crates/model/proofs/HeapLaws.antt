@@ -1,27 +1,31 @@
--- The invariant of the heap, and that every call keeps it. Assumes nothing.
-use Prim.Native.Nat.{ℕ, zero, suc, _+_, _-_, _≤_, _<_}
+-- The invariant of the heap, and that every call keeps it.
+use Prim.Native.Nat.{ℕ, suc, _+_, _-_, _≤_}
 use mathlib.Core.Path.{_≡_, refl, sym, ap, _∙_, subst}
-use mathlib.Core.List.{List, [], _∷_}
+use mathlib.Core.List.{List, [], _∷_, append-nil}
 use mathlib.Core.Option.{Option, none, some, Option·none-ne-some}
 use mathlib.Core.Bool.{Bool, true, false, cond, not}
 use native.Mathlib.Omega.{arith}
 use lib.Dec.{eqb, leb, ltb}
 use borrow.Author.Tests.{leb-true, leb-false, ltb-true, eqb-true, eqb-false, ne-eqb, not-false}
+use Rattle.facts.specs.Lists.{filter, every, total, update, count, below}
+use Rattle.facts.proofs.Bools.{by-cases, and-left, and-right, and-no}
+use Rattle.facts.proofs.Lists.{every-at}
+use Rattle.model.specs.Cover.{inRun, covers, coversAll, coversRun}
 use Rattle.classes.specs.declared.Shape.{Shape}
 use Rattle.classes.specs.Shape.{shapeOf}
 use Rattle.classes.proofs.Shapes.{shape-sound}
-use Rattle.model.specs.Lists.{total, covers, coversAll, coversRun, inRun, update, count, every, below}
 use Rattle.model.specs.Calls as Calls
-use Rattle.model.specs.Calls.{Call, Answer, Request, Named, names, hostOf, blocksOf, releasedBy, isRefused}
+use Rattle.model.specs.Calls.{Call, Answer, Request, Named, names, Way, wayOf, hostOf, blocksOf, releasedBy, isRefused}
 use Rattle.model.specs.Class.{Class, Result, Ask, serve}
 use Rattle.model.specs.Chunks.{answer}
 use Rattle.model.specs.Arena as Arenas
 use Rattle.model.specs.Arena.{Arena, Given, giveAll}
-use Rattle.model.specs.Heap.{Heap, Holder, Outcome, newHeap, isDirect, isHeld, heldDirect, offer, finish, interact, classCall, asked, step, route, directCall, commitCall, growCall, releaseCall, reportOf, answerRun, unchanged}
+use Rattle.model.specs.Heap.{Heap, Holder, Outcome, newHeap, isDirect, isHeld, heldDirect, offer, finish, interact, classCall, asked, step, route, directCall, commitCall, growCall, releaseCall, answerRun, unchanged}
 use Rattle.model.specs.History.{eventsFrom, heapFrom}
 use Rattle.model.specs.Entries.{Entry, entriesFrom, hasWord, directNext, directFrom, runOf}
 use Rattle.model.specs.Ledger.{inHoles, above, runsWith, heldBy, abandons, allAbandon, commitAbandons, growAbandons, offerAbandons, classAbandons, directAbandons, callAbandons, abandonedFrom}
-use Rattle.model.proofs.Counts.{by-cases, and-l, and-r, total-append}
+use Rattle.model.proofs.Counts.{total-append}
+use Rattle.model.proofs.Ways.{Goes, is-turned, is-straight, is-class, goes}
 use Rattle.model.proofs.ArenaLaws.{idle, above-at, covers-le, give-law, give-frontier, give-all-law, give-all-frontier, CommitLaw, commit-law, grow-law, grow-bound}
 use Rattle.model.proofs.Sites.{GoodClass, outCount}
 use Rattle.model.proofs.ClassLaws.{Moves, Lawful, lawful-done, lawful-asks, answer-lawful}
@@ -173,21 +177,14 @@ module _ (size n : ℕ) (H : Heap) (es : List Entry) (f : ℕ → Bool) (l : ℕ
   account-one : (y : ℕ) → isHeld (H .holder y) + idle y (H .arena) + l y ≡ 1
   account-one y = omega (arith, inv .one y)
 
-  every-below : (t : ℕ → Bool) (m k : ℕ) → every t (below m) ≡ true → k < m → t k ≡ true
-  every-below t zero k e h = absurd (omega arith)
-  every-below t (suc m) k e h =
-      by-cases (eqb k m)
-      (λ b. rw (eqb-true k m b) (and-l (t m) (every t (below m)) e))
-      (λ b. every-below t m k (and-r (t m) (every t (below m)) e) (omega (arith, eqb-false k m b)))
-
   direct-run : (q m : ℕ) → heldDirect size H q m ≡ true → (y : ℕ) → 1 ≤ covers m q y → isDirect (H .holder y) ≡ true
   unfolding heldDirect
   direct-run q m e y h =
       by-cases (inRun m q y)
-      (λ b. let le = leb-true q y (and-l (leb q y) (ltb y (q + m)) b) in
-      let lt = ltb-true y (q + m) (and-r (leb q y) (ltb y (q + m)) b) in
+      (λ b. let le = leb-true q y (and-left (leb q y) (ltb y (q + m)) b) in
+      let lt = ltb-true y (q + m) (and-right (leb q y) (ltb y (q + m)) b) in
       subst (λ v. isDirect (H .holder v) ≡ true) (omega arith)
-      (every-below (λ k. isDirect (H .holder (q + k))) m (y - q) (and-r (leb (q + m) size) (every (λ k. isDirect (H .holder (q + k))) (below m)) e) (omega arith)))
+      (every-at (λ k. isDirect (H .holder (q + k))) m (y - q) (and-right (leb (q + m) size) (every (λ k. isDirect (H .holder (q + k))) (below m)) e) (omega arith)))
       (λ b. absurd (let z : 1 ≤ 0 = rw b at h in omega arith))
 
   -- the pages that a direct call with this answer abandons
@@ -243,7 +240,7 @@ module _ (size n : ℕ) (H : Heap) (es : List Entry) (f : ℕ → Bool) (l : ℕ
       }
 
   direct-next : (x : Call) → Next x (directCall size H x)
-  unfolding directCall reportOf
+  unfolding directCall
   direct-next (Calls.takeBlocks c h ws) = next-same _ _ (λ y. refl) (λ y. refl)
   direct-next (Calls.mediumTakeBlocks c h ws) = next-same _ _ (λ y. refl) (λ y. refl)
   direct-next (Calls.releaseBlocks c h ws) = next-same _ _ (λ y. refl) (λ y. refl)
@@ -267,24 +264,44 @@ module _ (size n : ℕ) (H : Heap) (es : List Entry) (f : ℕ → Bool) (l : ℕ
   class-quiet (Calls.contains o m) d e a y = absurd (Option·none-ne-some d e)
   class-quiet Calls.report d e a y = absurd (Option·none-ne-some d e)
 
-  route-inv : (x : Call) (d : Option Named) → names x ≡ d
-      → Inv size (suc n) (route size H x d .heap) (liveNext n d (route size H x d .answer) es) (directNext x (route size H x d .answer) f) (λ y. l y + callAbandons size H x d y)
-  unfolding step classCall interact finish classAbandons
-  route-inv x none e =
-      let same : step size H x .answer ≡ directCall size H x .answer = ap (λ d. route size H x d .answer) e in
-      restate (direct-next x .next) (λ y. refl) (λ y. ap (λ a. l y + leaves x a y) same)
-  route-inv x (some d) e =
+  -- a refused call tells of no page held, and of no entry
+  refused-quiet : (x : Call) (k y : ℕ) → directNext x (Calls.refused k) f y ≡ f y
+  refused-quiet (Calls.takeBlocks c h ws) k y = refl
+  refused-quiet (Calls.mediumTakeBlocks c h ws) k y = refl
+  refused-quiet (Calls.releaseBlocks c h ws) k y = refl
+  refused-quiet (Calls.mediumReleaseBlocks c h ws) k y = refl
+  refused-quiet (Calls.releaseBinChunks c h ws gs fs) k y = refl
+  refused-quiet (Calls.commit h m) k y = refl
+  refused-quiet (Calls.growFrontier h q old new) k y = refl
+  refused-quiet (Calls.release h q m) k y = refl
+  refused-quiet (Calls.contains o m) k y = refl
+  refused-quiet Calls.report k y = refl
+
+  live-refused : (d : Option Named) (k : ℕ) → liveNext n d (Calls.refused k) es ≡ es
+  live-refused none k = refl
+  live-refused (some d) k = append-nil _ ∙ all-stay es
+    where
+      all-stay : (es : List Entry) → filter (λ e. not (hasWord (d .class) [] e)) es ≡ es
+      all-stay [] = refl
+      all-stay (e ∷ es) = rw (and-no (eqb (e .class) (d .class))) (ap (λ (t : List Entry). e ∷ t) (all-stay es))
+
+  route-inv : (x : Call) {w : Way} → Goes x w
+      → Inv size (suc n) (route size H x w .heap) (liveNext n (names x) (route size H x w .answer) es) (directNext x (route size H x w .answer) f) (λ y. l y + callAbandons size H x w y)
+  unfolding classCall interact finish classAbandons
+  route-inv x (is-turned t) = rw (live-refused (names x) 3) (next-same x (Calls.refused 3) (refused-quiet x 3) (λ y. refl) .next)
+  route-inv x (is-straight t e) = rw e (direct-next x .next)
+  route-inv x (is-class d t e) =
       let c = d .class in
       let h = hostOf (d .request) in
       let q = answer (shapeOf c) (H .classes c) (d .request) in
-      restate (class-inv c (d .request) q (offer size h (H .arena) q) (offerAbandons size h (H .arena) q)
+      rw e (restate (class-inv c (d .request) q (offer size h (H .arena) q) (offerAbandons size h (H .arena) q)
       (offered size h (shapeOf c) (H .classes c) (d .request) (H .arena) q (answer-lawful (shapeOf c) (shape-sound c) (H .classes c) (inv .good c) (λ y. omega (arith, inv .mine c y, held-le c (H .holder y), inv .one y)) (d .request))))
-      (λ y. class-quiet x d e (route size H x (some d) .answer) y)
-      (λ y. refl)
+      (λ y. class-quiet x d e (classCall size H c (d .request) .answer) y)
+      (λ y. refl))
 
-  pub step-inv : (x : Call) → Inv size (suc n) (step size H x .heap) (liveNext n (names x) (step size H x .answer) es) (directNext x (step size H x .answer) f) (λ y. l y + callAbandons size H x (names x) y)
+  pub step-inv : (x : Call) → Inv size (suc n) (step size H x .heap) (liveNext n (names x) (step size H x .answer) es) (directNext x (step size H x .answer) f) (λ y. l y + callAbandons size H x (wayOf x) y)
   unfolding step
-  step-inv x = route-inv x (names x) refl
+  step-inv x = route-inv x (goes x)
 
 -- after every history
 pub record Kept (size : ℕ) (H : Heap) (es : List Entry) (f : ℕ → Bool) (l : ℕ → ℕ) : Type 0 where

@@ -1,28 +1,27 @@
--- Along every history the hole store is tidy: hence best fit, what is remembered, the total of the holes, and the figure of idle pages. Assumes nothing.
+-- Along every history the hole store is tidy: hence best fit, what is remembered, the total of the holes, and the figure of idle pages.
 use Prim.Native.Nat.{ℕ, _+_, _-_, _≤_}
 use mathlib.Core.Path.{_≡_, refl}
 use mathlib.Core.List.{List, [], _∷_}
 use mathlib.Core.Option.{Option, none, some}
-use mathlib.Core.Bool.{Bool, true, false, cond, _||_, true≢false}
+use mathlib.Core.Bool.{Bool, true, false, cond, true≢false}
 use native.Mathlib.Omega.{arith}
 use lib.Dec.{eqb, leb}
 use borrow.Author.Tests.{eqb-false, leb-false}
+use Rattle.facts.specs.Lists.{total, below}
+use Rattle.facts.proofs.Bools.{by-cases}
 use Rattle.classes.specs.declared.Shape.{Shape}
 use Rattle.classes.specs.Shape.{shapeOf}
 use Rattle.classes.proofs.Shapes.{shape-sound}
-use Rattle.model.specs.Lists.{total, below}
 use Rattle.model.specs.Calls as Calls
-use Rattle.model.specs.Calls.{Call, Request, Named, names, hostOf}
-use Rattle.model.specs.Arena as Arenas
+use Rattle.model.specs.Calls.{Call, Request, Way, turned, straight, toClass, wayOf, hostOf}
 use Rattle.model.specs.Arena.{Arena}
 use Rattle.model.specs.Page.{Page}
 use Rattle.model.specs.Class.{Class, Cold, Result, Ask, done, asks, serve, takeFrom}
 use Rattle.model.specs.Release.{Site, onPage, releaseList}
 use Rattle.model.specs.Chunks.{answer, releaseChunks}
-use Rattle.model.specs.Heap.{Heap, Outcome, newHeap, offer, finish, interact, classCall, badRun, commitCall, growCall, releaseCall, idlePages, unchanged, directCall, route, step}
+use Rattle.model.specs.Heap.{Heap, Outcome, newHeap, offer, finish, interact, classCall, badRun, badGrowth, commitCall, growCall, releaseCall, idlePages, unchanged, directCall, route, step}
 use Rattle.model.specs.History.{heapFrom, heapAfter}
 use Rattle.model.specs.Demands.{BestFit}
-use Rattle.model.proofs.Counts.{by-cases}
 use Rattle.model.proofs.ArenaLaws.{idle}
 use Rattle.model.proofs.BestFit.{commits}
 use Rattle.model.proofs.Remembers.{Tidy, tidy-remembers}
@@ -92,13 +91,13 @@ module _ (size : ℕ) (H : Heap) (k : Tidy (H .arena .store)) where
   unfolding commitCall
   commit-tidy h n e = record { tidy = tidy-commit size h n (good-run n e) (H .arena) k }
 
-  longer : (old new : ℕ) → (badRun old || (badRun new || leb new old)) ≡ false → 1 ≤ new - old
+  longer : (old new : ℕ) → badGrowth old new ≡ false → 1 ≤ new - old
   longer old new e =
       by-cases (leb new old)
       (λ d. by-cases (badRun old) (λ c. absurd (true≢false (rw c at e))) (λ c. by-cases (badRun new) (λ b. absurd (true≢false (rw (c, b) at e))) (λ b. absurd (true≢false (rw (c, b, d) at e)))))
       (λ d. omega (arith, leb-false new old d))
 
-  grow-tidy : (h q old new : ℕ) → (badRun old || (badRun new || leb new old)) ≡ false → TidyAfter (growCall size H h q old new)
+  grow-tidy : (h q old new : ℕ) → badGrowth old new ≡ false → TidyAfter (growCall size H h q old new)
   unfolding growCall
   grow-tidy h q old new e = record { tidy = tidy-grow size h (new - old) (longer old new e) (q + old) (H .arena) k }
 
@@ -119,13 +118,14 @@ module _ (size : ℕ) (H : Heap) (k : Tidy (H .arena .store)) where
   tidy-direct (Calls.contains o b) = same _
   tidy-direct Calls.report = same _
 
-  tidy-route : (x : Call) (d : Option Named) → TidyAfter (route size H x d)
-  tidy-route x none = tidy-direct x
-  tidy-route x (some d) = tidy-class (d .class) (d .request)
+  tidy-route : (x : Call) (w : Way) → TidyAfter (route size H x w)
+  tidy-route x turned = same _
+  tidy-route x straight = tidy-direct x
+  tidy-route x (toClass d) = tidy-class (d .class) (d .request)
 
   pub tidy-step : (x : Call) → Tidy (step size H x .heap .arena .store)
   unfolding step
-  tidy-step x = tidy-route x (names x) .tidy
+  tidy-step x = tidy-route x (wayOf x) .tidy
 
 tidy-from : (size : ℕ) (H : Heap) (xs : List Call) → Tidy (H .arena .store) → Tidy (heapFrom size H xs .arena .store)
 tidy-from size H [] k = k

@@ -1,4 +1,4 @@
--- Lists of holes by index, with one hole set or used up: their length, sums, what holds of each, which lengths there are. Assumes nothing.
+-- Lists of holes by index, with one hole set or used up: their length, sums, what holds of each, which lengths there are.
 use Prim.Native.Nat.{ℕ, zero, suc, _+_, _≤_, _<_}
 use mathlib.Core.Path.{_≡_, refl, sym, ap, _∙_}
 use mathlib.Core.List.{List, [], _∷_, _++_}
@@ -9,10 +9,10 @@ use native.Mathlib.Nat.{zero-add}
 use lib.Dec.{eqb, ltb}
 use lib.ListN.{length}
 use borrow.Author.Tests.{lt-ltb, eq-eqb}
+use Rattle.facts.specs.Lists.{any, All, total, isSome}
+use Rattle.facts.proofs.Bools.{by-cases}
 use Rattle.model.specs.declared.Hole.{Hole}
-use Rattle.model.specs.Lists.{All, any, isSome, total}
 use Rattle.model.specs.HoleStore.{holeAt, setAt, withoutLast, lastHole, removeAt, next, lowest}
-use Rattle.model.proofs.Counts.{by-cases}
 
 module _ {A : Type 0} where
   pub all-map : (P Q : A → Type 0) → ((x : A) → P x → Q x) → (l : List A) → All P l → All Q l

@@ -1,4 +1,4 @@
--- The idle pages: holes lie below the frontier, and the report's figure counts the pages in holes and at or above the frontier. Assumes nothing.
+-- The idle pages: holes lie below the frontier, and the report's figure counts the pages in holes and at or above the frontier.
 use Prim.Native.Nat.{ℕ, zero, suc, _+_, _-_, _≤_}
 use mathlib.Core.Path.{_≡_, refl, sym, ap, _∙_}
 use mathlib.Core.List.{List, [], _∷_}
@@ -6,12 +6,13 @@ use mathlib.Core.Option.{some}
 use native.Mathlib.Omega.{arith}
 use lib.Dec.{ltb}
 use borrow.Author.Tests.{ltb-true, ltb-false}
+use Rattle.facts.specs.Lists.{All, total, below}
+use Rattle.facts.proofs.Bools.{by-cases}
+use Rattle.model.specs.Cover.{covers, coversRun}
 use Rattle.model.specs.declared.Hole.{Hole}
-use Rattle.model.specs.Lists.{All, total, below, covers, coversRun}
 use Rattle.model.specs.Arena.{Arena, commit}
 use Rattle.model.specs.Heap.{idlePages}
 use Rattle.model.specs.Ledger.{inHoles, above}
-use Rattle.model.proofs.Counts.{by-cases}
 use Rattle.model.proofs.Runs.{covers-in, above-at, above-not, above-cut}
 use Rattle.model.proofs.HoleLists.{all-map}
 use Rattle.model.proofs.Remembers.{Tidy}

@@ -1,4 +1,4 @@
--- What a class answers on a new run tells which run it is. Assumes nothing.
+-- What a class answers on a new run tells which run it is.
 use Prim.Native.Nat.{ℕ, zero, suc, _-_, _≤_, min}
 use mathlib.Core.Path.{_≡_, refl, sym, ap, _∙_}
 use mathlib.Core.List.{List, [], _∷_, reverse, reverse-reverse, append-nil, head-eq-of-cons-eq}

@@ -1,5 +1,5 @@
 -- A block is out in a class exactly if it is an entry of the class not yet released, and a release that is not refused has no other
--- word. Assumes nothing.
+-- word.
 use Prim.Native.Nat.{ℕ}
 use mathlib.Core.Path.{_≡_, refl}
 use mathlib.Core.List.{List, []}
@@ -9,20 +9,22 @@ use native.Mathlib.Omega.{arith}
 use lib.Dec.{ltb}
 use lib.ListN.{length}
 use borrow.Author.Tests.{not-false}
+use Rattle.facts.specs.Lists.{isNil, every, distinct}
+use Rattle.facts.proofs.Bools.{by-cases, and-left, and-right}
+use Rattle.words.specs.Host.{badHost}
 use Rattle.words.specs.Word.{chunkKind}
 use Rattle.classes.specs.declared.Shape.{Shape}
 use Rattle.classes.specs.Shape.{shapeOf}
 use Rattle.classes.proofs.Shapes.{shape-sound}
-use Rattle.model.specs.Lists.{distinct, every, isNil}
-use Rattle.model.specs.Calls.{Call, Named, names, Request, take, giveBack, giveChunks, listOf, hostOf, isRefused}
+use Rattle.model.specs.Calls.{Call, Named, names, hostIn, wayOf, Request, take, giveBack, giveChunks, listOf, hostOf, isRefused}
 use Rattle.model.specs.Class.{Class, Ask, serve, refuse}
 use Rattle.model.specs.Release.{ofKind, outHere, releaseList}
-use Rattle.model.specs.Chunks.{hostMax, chunksMax, answer, releaseChunks}
+use Rattle.model.specs.Chunks.{chunksMax, answer, releaseChunks}
 use Rattle.model.specs.Heap.{offer, finish, interact, classCall, step}
 use Rattle.model.specs.History.{events, heapAfter}
 use Rattle.model.specs.Entries.{OutIn, AllOut}
 use Rattle.model.specs.Demands.{Outs}
-use Rattle.model.proofs.Counts.{and-l, and-r, elem-count, every-count}
+use Rattle.model.proofs.Counts.{elem-count, every-count}
 use Rattle.model.proofs.Fold.{liveFrom, live-in, in-live}
 use Rattle.model.proofs.EntryCounts.{is, is-self, in-total, counted}
 use Rattle.model.proofs.Sites.{here-out, out-here}
@@ -41,16 +43,14 @@ module _ (sh : Shape) (s : Class) (g : Option ℕ) where
   list-tested : (h : ℕ) (ws : List ℕ) → isRefused (serve (answer sh s (giveBack h ws)) g .answer) ≡ false → (every (outHere sh s) ws && distinct ws) ≡ true
   unfolding answer releaseList
   list-tested h ws u =
-      let p3 = passed s 3 (ltb hostMax h) _ g u in
-      let p7 = passed s 7 (isNil ws) _ g (p3 .on) in
+      let p7 = passed s 7 (isNil ws) _ g u in
       let p9 = passed s 9 (not (every (ofKind (sh .kind)) ws)) _ g (p7 .on) in
       not-false (every (outHere sh s) ws && distinct ws) (passed s 10 (not (every (outHere sh s) ws && distinct ws)) _ g (p9 .on) .not-so)
 
   chunks-tested : (h : ℕ) (ws gs fs : List ℕ) → isRefused (serve (answer sh s (giveChunks h ws gs fs)) g .answer) ≡ false → (every (outHere sh s) ws && distinct ws) ≡ true
   unfolding answer releaseChunks
   chunks-tested h ws gs fs u =
-      let p3 = passed s 3 (ltb hostMax h) _ g u in
-      let p7 = passed s 7 (isNil ws || isNil gs) _ g (p3 .on) in
+      let p7 = passed s 7 (isNil ws || isNil gs) _ g u in
       let p8 = passed s 8 (ltb chunksMax (length gs) || ltb (length fs) (length gs)) _ g (p7 .on) in
       let p9 = passed s 9 (not (every (ofKind (sh .kind)) ws && every (ofKind chunkKind) gs)) _ g (p8 .on) in
       not-false (every (outHere sh s) ws && distinct ws) (passed s 10 (not (every (outHere sh s) ws && distinct ws)) _ g (p9 .on) .not-so)
@@ -80,15 +80,16 @@ module _ (size : ℕ) (xs : List Call) where
       out-here (shapeOf c) (shape-sound c) (class c) (k .inv .good c) w (omega (arith, k .inv .outs c w))
 
   release-told : (x : Call) (d : Named) → names x ≡ some d → isRefused (step size (heapAfter size xs) x .answer) ≡ false → AllOut (events size xs) (d .class) (listOf (d .request))
-  unfolding step classCall interact finish
+  unfolding step wayOf classCall interact finish
   release-told x d e u =
+      by-cases (badHost (hostIn x)) (λ h. absurd (true≢false (rw h at u))) λ h.
       let c = d .class in
       let ws = listOf (d .request) in
       let q = answer (shapeOf c) (class c) (d .request) in
-      let t = tested (shapeOf c) (class c) (offer size (hostOf (d .request)) (heapAfter size xs .arena) q .run) (d .request) (rw e at u) in
+      let t = tested (shapeOf c) (class c) (offer size (hostOf (d .request)) (heapAfter size xs .arena) q .run) (d .request) (rw (h, e) at u) in
       record {
-        out = λ w m. out-told c w (every-count (outHere (shapeOf c) (class c)) w ws (and-l (every (outHere (shapeOf c) (class c)) ws) (distinct ws) t) (elem-count w ws m));
-        once = and-r (every (outHere (shapeOf c) (class c)) ws) (distinct ws) t;
+        out = λ w m. out-told c w (every-count (outHere (shapeOf c) (class c)) w ws (and-left (every (outHere (shapeOf c) (class c)) ws) (distinct ws) t) (elem-count w ws m));
+        once = and-right (every (outHere (shapeOf c) (class c)) ws) (distinct ws) t;
       }
 
   pub outs : Outs size xs

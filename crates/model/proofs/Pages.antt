@@ -1,4 +1,4 @@
--- What a page keeps: its blocks out are the carved ones that are not free, and pops and returns move them one by one. Assumes nothing.
+-- What a page keeps: its blocks out are the carved ones that are not free, and pops and returns move them one by one.
 use Prim.Native.Nat.{ℕ, zero, suc, _+_, _-_, _*_, _/_, _^_, _≤_, _<_}
 use mathlib.Core.Path.{_≡_, refl}
 use mathlib.Core.List.{List, [], _∷_, _++_}
@@ -8,13 +8,15 @@ use native.Mathlib.Nat.{add-zero, add-suc, zero-add, mul-le-mul-right}
 use lib.Dec.{eqb, leb}
 use lib.ListN.{length}
 use borrow.Author.Tests.{eqb-true, ne-eqb, not-true, leb-true, leb-false}
+use Rattle.facts.specs.Lists.{All, total, elem, count}
+use Rattle.facts.proofs.Bools.{by-cases, and-left, and-right}
+use Rattle.model.specs.Cover.{covers}
 use Rattle.words.specs.Word.{kindBits}
 use Rattle.classes.specs.declared.Shape.{Shape}
 use Rattle.classes.specs.Sound.{Sound}
-use Rattle.model.specs.Lists.{All, count, elem, total, covers}
 use Rattle.model.specs.Page.{Page, pageGranules, wordOf, wordsFrom, isMedium, carveAs, carve, carvedWords, isOut, noneOut, hasMore, carvedNow, pop, returned, retire, reused}
 use Rattle.model.specs.Class.{Cold, Filled, after, fillFromList, thawed}
-use Rattle.model.proofs.Counts.{by-cases, and-l, and-r, count-append, count-reverse, count-cut, elem-count, count-elem, every-count}
+use Rattle.model.proofs.Counts.{count-append, count-reverse, count-cut, elem-count, count-elem, every-count}
 use Rattle.model.proofs.Runs.{covers-in}
 
 pub all-append : {A : Type 0} (P : A → Type 0) (s t : List A) → All P s → All P t → All P (s ++ t)
@@ -86,8 +88,8 @@ module _ (sh : Shape) (ok : Sound sh) where
   pub is-out : (w : ℕ) (p : Page) → isOut sh w p ≡ true → 1 ≤ outOf sh w p
   unfolding isOut
   is-out w p e =
-      let a = elem-count w (carvedWords sh p) (and-l (elem w (carvedWords sh p)) (not (elem w (p .free))) e) in
-      let b = count-elem w (p .free) (not-true (elem w (p .free)) (and-r (elem w (carvedWords sh p)) (not (elem w (p .free))) e)) in
+      let a = elem-count w (carvedWords sh p) (and-left (elem w (carvedWords sh p)) (not (elem w (p .free))) e) in
+      let b = count-elem w (p .free) (not-true (elem w (p .free)) (and-right (elem w (carvedWords sh p)) (not (elem w (p .free))) e)) in
       omega arith
 
   pub out-is : (w : ℕ) (p : Page) → 1 ≤ outOf sh w p → isOut sh w p ≡ true
@@ -196,8 +198,8 @@ module _ (sh : Shape) (ok : Sound sh) where
         omega (
           arith,
           once w,
-          elem-count w (carvedWords sh p) (and-l (elem w (carvedWords sh p)) (not (elem w (p .free))) o),
-          count-elem w (p .free) (not-true (elem w (p .free)) (and-r (elem w (carvedWords sh p)) (not (elem w (p .free))) o)),
+          elem-count w (carvedWords sh p) (and-left (elem w (carvedWords sh p)) (not (elem w (p .free))) o),
+          count-elem w (p .free) (not-true (elem w (p .free)) (and-right (elem w (carvedWords sh p)) (not (elem w (p .free))) o)),
         ))
         (λ e. omega (arith, good .linked w, leb-false 1 (count w ws) e))
 

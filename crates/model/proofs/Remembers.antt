@@ -1,5 +1,5 @@
 -- The hole store along the arena's steps: a length up to 128 is remembered exactly if some hole has it, the total is the holes' sum,
--- and both limits hold. Every step of 1 page or more keeps this. Assumes nothing.
+-- and both limits hold. Every step of 1 page or more keeps this.
 use Prim.Native.Nat.{ℕ, _+_, _-_, _≤_, _<_}
 use mathlib.Core.Path.{_≡_, refl, sym, _∙_}
 use mathlib.Core.List.{List, [], _∷_, _++_}
@@ -9,11 +9,12 @@ use native.Mathlib.Omega.{arith}
 use lib.Dec.{eqb, leb, ltb}
 use lib.ListN.{length, length-append}
 use borrow.Author.Tests.{leb-true, ltb-true, ltb-false, eqb-true, eqb-false, le-leb, ne-eqb}
+use Rattle.facts.specs.Lists.{All, total, isSome}
+use Rattle.facts.proofs.Bools.{by-cases, and-left, and-right}
 use Rattle.model.specs.declared.Hole.{Hole}
-use Rattle.model.specs.Lists.{All, isSome, total}
 use Rattle.model.specs.HoleStore.{HoleStore, Memory, store, emptyStore, hole, holeAt, setAt, removeAt, holeSlots, holePagesMax, rememberedMax, lowest, remember, refresh, stillHolds, chooseIn, choose, cutFrom, takeAt, accepts, append}
 use Rattle.model.specs.BestFit.{Remembers}
-use Rattle.model.proofs.Counts.{by-cases, and-l, and-r, total-append}
+use Rattle.model.proofs.Counts.{total-append}
 use Rattle.model.proofs.HoleLists.{hasLength, set-total, remove-total, set-length, remove-length, all-set, all-remove, all-snoc, all-at, set-other, remove-other, snoc-other, set-own, snoc-own, lowest-some, lowest-inside}
 
 -- what is remembered of length n: an index exactly if some hole has n pages. The index may be stale, but it is one of a store's.
@@ -141,7 +142,7 @@ module _ (n i : ℕ) (s : HoleStore) (k : Tidy s) (inside : i < length (s .holes
 pub tidy-append : (n q : ℕ) (s : HoleStore) → 1 ≤ n → accepts n s ≡ true → Tidy s → Tidy (append n q s)
 unfolding accepts append
 tidy-append n q s one e k =
-    let few = ltb-true (length (s .holes)) holeSlots (search and-l) in
+    let few = ltb-true (length (s .holes)) holeSlots (search and-left) in
     let hs = s .holes ++ hole q n ∷ [] in
     record {
       memory = λ j l. remember-at (λ o. IndexFor j hs o) n (some (length (s .holes))) (s .memory) j l
@@ -151,5 +152,5 @@ tidy-append n q s one e k =
       sum = rw total-append (omega (arith, k .sum));
       each = all-snoc (λ h. 1 ≤ h .pages) (s .holes) (hole q n) (k .each) one;
       slots = rw length-append (omega arith);
-      pages = leb-true (s .total + n) holePagesMax (search and-r);
+      pages = leb-true (s .total + n) holePagesMax (search and-right);
     }

@@ -1,12 +1,12 @@
--- Runs of pages, and the pages at or above a frontier. Assumes nothing.
+-- Runs of pages, and the pages at or above a frontier.
 use Prim.Native.Nat.{ℕ, _+_, _-_, _≤_, _<_}
 use mathlib.Core.Path.{_≡_}
 use native.Mathlib.Omega.{arith}
 use lib.Dec.{ltb}
 use borrow.Author.Tests.{ltb-true, ltb-false, le-leb, lt-leb, lt-ltb, le-ltb}
-use Rattle.model.specs.Lists.{covers, inRun}
+use Rattle.facts.proofs.Bools.{by-cases}
+use Rattle.model.specs.Cover.{inRun, covers}
 use Rattle.model.specs.Ledger.{above}
-use Rattle.model.proofs.Counts.{by-cases}
 
 module _ (n q x : ℕ) where
   pub covers-in : q ≤ x → x < q + n → covers n q x ≡ 1

@@ -1,4 +1,4 @@
--- A class's pages with blocks out: how often a word is out there, the page that a test finds, and the class without it. Assumes nothing.
+-- A class's pages with blocks out: how often a word is out there, the page that a test finds, and the class without it.
 use Prim.Native.Nat.{ℕ, _+_, _≤_}
 use mathlib.Core.Path.{_≡_, refl, sym, ap, subst}
 use mathlib.Core.List.{List, [], _∷_}
@@ -7,15 +7,16 @@ use mathlib.Core.Bool.{Bool, true, cond, false≢true}
 use native.Mathlib.Omega.{arith}
 use lib.Dec.{leb}
 use borrow.Author.Tests.{eqb-true, leb-true, leb-false}
+use Rattle.facts.specs.Lists.{All, total, isSome}
+use Rattle.facts.proofs.Bools.{by-cases}
 use Rattle.classes.specs.declared.Shape.{Shape}
 use Rattle.classes.specs.Sound.{Sound}
-use Rattle.model.specs.Lists.{All, isSome, total}
 use Rattle.model.specs.Page.{Page, isOut}
 use Rattle.model.specs.Class.{Class}
 use Rattle.model.specs.Release.{Found, find, prepend, Site, inPartial, inFull, orElse, mapFound, locate, outHere}
 use Rattle.model.specs.Chunks.{startsAt}
 use Rattle.model.specs.Ledger.{runsWith}
-use Rattle.model.proofs.Counts.{by-cases, total-at}
+use Rattle.model.proofs.Counts.{total-at}
 use Rattle.model.proofs.Runs.{covers-in}
 use Rattle.model.proofs.Find.{all-at, FoundLaws, found-law}
 use Rattle.model.proofs.Pages.{outOf, on, beginsOn, out-on, out-le, is-out, out-is, GoodPage, EmptyPage}

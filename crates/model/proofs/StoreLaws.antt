@@ -1,4 +1,4 @@
--- The hole store: a choice is the least hole that suffices, and taking keeps account of pages. Assumes nothing.
+-- The hole store: a choice is the least hole that suffices, and taking keeps account of pages.
 use Prim.Native.Nat.{ℕ, zero, suc, _+_, _-_, _≤_, _<_}
 use mathlib.Core.Path.{_≡_, refl, _∙_}
 use mathlib.Core.List.{List, [], _∷_}
@@ -8,11 +8,12 @@ use native.Mathlib.Omega.{arith}
 use lib.Dec.{leb, ltb}
 use lib.ListN.{length}
 use borrow.Author.Tests.{leb-true, leb-false, le-leb, ltb-true, ltb-false, eqb-true}
+use Rattle.facts.specs.Lists.{All, total}
+use Rattle.facts.proofs.Bools.{by-cases, and-left, and-right}
+use Rattle.model.specs.Cover.{covers}
 use Rattle.model.specs.declared.Hole.{Hole}
-use Rattle.model.specs.Lists.{All, total, covers}
 use Rattle.model.specs.HoleStore.{HoleStore, Memory, store, hole, Fit, nearer, leastFit, indexOf, holeAt, rememberedMax, stillHolds, chooseIn, choose, cutFrom, takeAt}
 use Rattle.model.specs.BestFit.{LeastAt, Which, remembered, lowest, NoneFits}
-use Rattle.model.proofs.Counts.{by-cases, and-l, and-r}
 use Rattle.model.proofs.Runs.{covers-cut}
 use Rattle.model.proofs.HoleLists.{all-map, all-of, set-total, remove-total}
 
@@ -59,7 +60,7 @@ module _ (n : ℕ) (h : Hole) (hs : List Hole) where
 
   nearer-fits : {o : Option Fit} → Fits n hs o → Fits n (h ∷ hs) (nearer n h o)
   nearer-fits (none-fits k) = search (fits-cond, alone-fits, still-none, leb-true, leb-false)
-  nearer-fits (fits f k) = search (fits-cond, closer-fits, stays-fit, longer, leb-true, and-l, and-r) depth 9
+  nearer-fits (fits f k) = search (fits-cond, closer-fits, stays-fit, longer, leb-true, and-left, and-right) depth 9
 
 pub least-fits : (n : ℕ) (hs : List Hole) → Fits n hs (leastFit n hs)
 unfolding leastFit
@@ -89,9 +90,9 @@ module _ (n : ℕ) (hs : List Hole) (t : ℕ) (m : Memory) where
   unfolding stillHolds
   from-memory r none q e = absurd (false≢true e)
   from-memory r (some i) q e =
-      let same = eqb-true (holeAt i hs .pages) n (search and-r) in
+      let same = eqb-true (holeAt i hs .pages) n (search and-right) in
       at-hole i (record {
-        inside = ltb-true i (length hs) (search and-l);
+        inside = ltb-true i (length hs) (search and-left);
         enough = omega arith;
         least = all-of (λ h. n ≤ h .pages → holeAt i hs .pages ≤ h .pages) (λ h p. omega arith) hs;
       }) (remembered r q)
@@ -101,7 +102,7 @@ unfolding chooseIn
 chosenIn n [] t m = no-hole tt
 chosenIn n (h ∷ hs) t m =
     by-cases (leb n rememberedMax && stillHolds n (h ∷ hs) (m n))
-    (λ e. rw e (from-memory n (h ∷ hs) t m e (m n) refl (and-r (leb n rememberedMax) (stillHolds n (h ∷ hs) (m n)) e)))
+    (λ e. rw e (from-memory n (h ∷ hs) t m e (m n) refl (and-right (leb n rememberedMax) (stillHolds n (h ∷ hs) (m n)) e)))
     (λ e. rw e (from-fit n (h ∷ hs) t m e (least-fits n (h ∷ hs))))
 
 pub chosen : (n : ℕ) (s : HoleStore) → Chosen n s (choose n s .index)

@@ -1,16 +1,17 @@
--- The demands hold of the model: every statement of specs/Demands, for every arena and every history. Assumes nothing.
+-- The demands hold of the model: every statement of specs/Demands, for every arena and every history.
 use Prim.Native.Nat.{ℕ, _≤_}
 use mathlib.Core.Path.{_≡_}
 use mathlib.Core.Logic.{_⊎_}
 use mathlib.Core.List.{List}
 use mathlib.Core.Bool.{false}
 use lib.Dec.{eqb}
+use Rattle.words.specs.Limits.{maxPages}
 use Rattle.classes.specs.Shape.{shapeOf}
 use Rattle.model.specs.Calls.{Call, Request}
 use Rattle.model.specs.Chunks.{answer}
 use Rattle.model.specs.Heap.{Heap}
 use Rattle.model.specs.History.{events}
-use Rattle.model.specs.Demands.{arenaMax, BestFit, Yielding, Outs, Conserved, Demand3, IsoDisjoint, Commute, StaysHome}
+use Rattle.model.specs.Demands.{BestFit, Yielding, Outs, Conserved, Demand3, IsoDisjoint, Commute, StaysHome}
 use Rattle.model.proofs.HistoryArena as Arenas
 use Rattle.model.proofs.Yields as Yields
 use Rattle.model.proofs.Conserved as Pages
@@ -41,11 +42,11 @@ conserved size xs = record {
 }
 
 -- Demand 3, both halves; a word has room for the granules of no longer arena
-pub demand-3 : (size : ℕ) → size ≤ arenaMax → Demand3 size
+pub demand-3 : (size : ℕ) → size ≤ maxPages → Demand3 size
 demand-3 size small = record { alone = Alone.alone size size; disjoint = Apart.disjoint size small }
 
 -- the second half in ISO C's words
-pub iso-disjoint : (size : ℕ) → size ≤ arenaMax → (xs : List Call) → IsoDisjoint size (events size xs)
+pub iso-disjoint : (size : ℕ) → size ≤ maxPages → (xs : List Call) → IsoDisjoint size (events size xs)
 iso-disjoint = Apart.iso-disjoint
 
 -- calls of two classes, one of which does not reach the arena, on any heap

@@ -1,4 +1,4 @@
--- What the code counts: on a good page none is out exactly if as many blocks are free as were carved. Assumes nothing.
+-- What the code counts: on a good page none is out exactly if as many blocks are free as were carved.
 use Prim.Native.Nat.{ℕ, suc, _+_, _≤_}
 use mathlib.Core.Path.{_≡_, refl, sym, ap, _∙_}
 use mathlib.Core.List.{List, [], _∷_, _++_}
@@ -7,11 +7,12 @@ use native.Mathlib.Omega.{arith}
 use lib.Dec.{eqb}
 use lib.ListN.{length, length-append}
 use borrow.Author.Tests.{eqb-true, eq-eqb}
+use Rattle.facts.specs.Lists.{every, elem, count}
+use Rattle.facts.proofs.Bools.{by-cases}
 use Rattle.classes.specs.declared.Shape.{Shape}
 use Rattle.classes.specs.Sound.{Sound}
-use Rattle.model.specs.Lists.{count, elem, every}
 use Rattle.model.specs.Page.{Page, carvedWords, noneOut}
-use Rattle.model.proofs.Counts.{by-cases, count-append, count-elem}
+use Rattle.model.proofs.Counts.{count-append, count-elem}
 use Rattle.model.proofs.NewRun.{length-words}
 use Rattle.model.proofs.Pages.{GoodPage, none-out-of}
 
@@ -41,7 +42,7 @@ module _ (x : ℕ) (t : List ℕ) (r : Split x t) where
   unfolding rest
   rest-length = ap length (r .is) ∙ rw (length-append, length-append) (omega arith)
 
-itself : (x : ℕ) → _≡_ {A = ℕ} (cond (eqb x x) 1 0) 1
+pub itself : (x : ℕ) → _≡_ {A = ℕ} (cond (eqb x x) 1 0) 1
 itself x = rw (eq-eqb x x refl)
 
 -- a list counted within another is no longer, and if it is as long the counts agree

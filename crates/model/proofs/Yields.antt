@@ -1,4 +1,4 @@
--- A listed page always yields a block, so a take is empty only if the arena was asked and gave none. Assumes nothing.
+-- A listed page always yields a block, so a take is empty only if the arena was asked and gave none.
 use Prim.Native.Nat.{ℕ, _-_, _≤_}
 use mathlib.Core.Path.{_≡_, refl, sym, ap, _∙_, subst}
 use mathlib.Core.List.{List, [], _∷_, map}
@@ -9,23 +9,25 @@ use lib.Dec.{eqb, ltb}
 use lib.ListN.{length, length-append, length-reverse, length-take}
 use lib.Seq.{take-append-seam}
 use borrow.Author.Tests.{ltb-true, eqb-true, ne-eqb, lt-ltb, not-true, not-false}
+use Rattle.facts.specs.Lists.{isNil, every, All, elem, distinct}
+use Rattle.facts.proofs.Bools.{by-cases, and-left, and-right}
 use Rattle.words.specs.Word.{countOf, pageOf}
 use Rattle.classes.specs.declared.Shape.{Shape}
 use Rattle.classes.specs.Shape.{shapeOf}
 use Rattle.classes.specs.Sound.{Sound}
 use Rattle.classes.proofs.Shapes.{shape-sound}
-use Rattle.model.specs.Lists.{All, elem, every, distinct, isNil}
+use Rattle.model.specs.declared.Spot.{Spot}
+use Rattle.model.specs.declared.Spot.the-variants.{ToEmpty, ToCold, ToArena}
 use Rattle.model.specs.Calls as Calls
-use Rattle.model.specs.Calls.{Call, Request, Named, names, blocksOf, fates}
+use Rattle.model.specs.Calls.{Call, Request, Way, turned, straight, toClass, wayOf, blocksOf, fates}
 use Rattle.model.specs.Page.{Page, isMedium, wordsFrom, carveAs, carve, isOut, noneOut, hasMore, carvedNow, pop, returned, retire, reused}
 use Rattle.model.specs.Class.{Class, lists, Cold, Result, Ask, done, asks, serve, refuse, after, fillFromList, served, thawed, onRun, takeFrom}
-use Rattle.model.specs.Release.{Found, Site, Settled, find, inPartial, inFull, orElse, mapFound, locate, park, parkEmpty, parkCold, letGo, markRetired, settle, onPage, siteOfFirst, releaseList}
+use Rattle.model.specs.Release.{Found, Site, Settled, find, inPartial, inFull, orElse, mapFound, locate, spotIn, park, parkIn, markRetired, settle, onPage, siteOfFirst, releaseList}
 use Rattle.model.specs.Chunks.{startsAt, blocksOn, fitsOn, chunkFits, settleChunk, settleChunks, releaseChunks, answer}
 use Rattle.model.specs.Heap.{Heap, step, route, classCall, interact, finish, newHeap}
 use Rattle.model.specs.History.{heapFrom, heapAfter}
 use Rattle.model.specs.Yields.{Listed, TakeYields, refuses, yields, asks-first}
 use Rattle.model.specs.Demands.{Yielding}
-use Rattle.model.proofs.Counts.{by-cases, and-l, and-r}
 use Rattle.model.proofs.Update.{update-all}
 use Rattle.model.proofs.NewRun.{length-words}
 use Rattle.model.proofs.Find.{all-at, FoundLaws, found-law, firstOf, pageIn, located-first, Skips, partial-skips, full-skips}
@@ -194,22 +196,14 @@ module _ (sh : Shape) (ok : Sound sh) where
     skip : (u : Page → Bool) → firstOf u (b .class) ≡ firstOf u s
 
   module _ (h : ℕ) (s : Class) (p : Page) (y : Listed sh s) (m : Again p) where
-    to-empty : Parked s (parkEmpty s p)
-    to-empty = record { listed = record { partial = y .partial; empty = (m, y .empty) }; skip = λ u. refl }
-
-    to-cold : Parked s (parkCold sh h s p)
-    to-cold = record { listed = record { partial = y .partial; empty = y .empty }; skip = λ u. refl }
-
-    to-arena : Parked s (letGo s p)
-    to-arena = record { listed = y; skip = λ u. refl }
-
-    parked-cond : (b : Bool) (x z : Settled) → Parked s x → Parked s z → Parked s (cond b x z)
-    parked-cond true x z k l = k
-    parked-cond false x z k l = l
+    park-in : (t : Spot) → Parked s (parkIn sh h s p t)
+    park-in ToEmpty = record { listed = record { partial = y .partial; empty = (m, y .empty) }; skip = λ u. refl }
+    park-in ToCold = record { listed = record { partial = y .partial; empty = y .empty }; skip = λ u. refl }
+    park-in ToArena = record { listed = y; skip = λ u. refl }
 
     parked : Parked s (park sh h s p)
     unfolding park
-    parked = search (parked-cond, to-empty, to-cold, to-arena)
+    parked = park-in (spotIn sh s)
 
   -- one page's release, of at least one block: every other page is found as before
   record SettledLaw (s : Class) (q : ℕ) (b : Settled) : Type 0 where
@@ -270,8 +264,8 @@ module _ (sh : Shape) (ok : Sound sh) where
       → (gs : List ℕ) → elem q (map pageOf gs) ≡ false → every (chunkFits sh s ws) gs ≡ true → every (chunkFits sh s′ ws) gs ≡ true
   all-fit ws q s s′ same [] n h = refl
   all-fit ws q s s′ same (g ∷ gs) n h =
-      let a = and-l (chunkFits sh s ws g) (every (chunkFits sh s ws) gs) h in
-      let b = and-r (chunkFits sh s ws g) (every (chunkFits sh s ws) gs) h in
+      let a = and-left (chunkFits sh s ws g) (every (chunkFits sh s ws) gs) h in
+      let b = and-right (chunkFits sh s ws g) (every (chunkFits sh s ws) gs) h in
       by-cases (eqb q (pageOf g))
       (λ e. absurd (true≢false (rw e at n)))
       (λ e. rw (fits-still ws s s′ g (same (pageOf g) e) a) (all-fit ws q s s′ same gs (rw e at n) b))
@@ -282,7 +276,7 @@ module _ (sh : Shape) (ok : Sound sh) where
   chunk-law h s ws g (some x) k f = go (blocksOn sh ws (x .page)) f
     where
       go : (bs : List ℕ) → (not (eqb (countOf g) 0) && eqb (countOf g) (length bs)) ≡ true → SettledLaw s (pageOf g) (settle sh h true bs x)
-      go [] f = absurd (true≢false (sym (and-r (not (eqb (countOf g) 0)) (eqb (countOf g) 0) f) ∙ not-true (eqb (countOf g) 0) (and-l (not (eqb (countOf g) 0)) (eqb (countOf g) 0) f)))
+      go [] f = absurd (true≢false (sym (and-right (not (eqb (countOf g) 0)) (eqb (countOf g) 0) f) ∙ not-true (eqb (countOf g) 0) (and-left (not (eqb (countOf g) 0)) (eqb (countOf g) 0) f)))
       go (w ∷ bs) f = subst (λ q. SettledLaw s q (settle sh h true (w ∷ bs) x)) (eqb-true (x .page .first) (pageOf g) (k .passes)) (settle-law h (startsAt (pageOf g)) s x k w bs true)
 
   chunks-listed : (h : ℕ) (ws : List ℕ) (s : Class) (gs : List ℕ) → Listed sh s → distinct (map pageOf gs) ≡ true → every (chunkFits sh s ws) gs ≡ true → Listed sh (settleChunks sh h ws s gs .class)
@@ -290,9 +284,9 @@ module _ (sh : Shape) (ok : Sound sh) where
   chunks-listed h ws s [] y d f = y
   chunks-listed h ws s (g ∷ gs) y d f =
       let o = locate (startsAt (pageOf g)) s in
-      let k = chunk-law h s ws g o (located (startsAt (pageOf g)) s y) (and-l (chunkFits sh s ws g) (every (chunkFits sh s ws) gs) f) in
-      chunks-listed h ws (settleChunk sh h s ws o .class) gs (k .listed) (and-r (not (elem (pageOf g) (map pageOf gs))) (distinct (map pageOf gs)) d)
-      (all-fit ws (pageOf g) s _ (k .skip) gs (not-true (elem (pageOf g) (map pageOf gs)) (and-l (not (elem (pageOf g) (map pageOf gs))) (distinct (map pageOf gs)) d)) (and-r (chunkFits sh s ws g) (every (chunkFits sh s ws) gs) f))
+      let k = chunk-law h s ws g o (located (startsAt (pageOf g)) s y) (and-left (chunkFits sh s ws g) (every (chunkFits sh s ws) gs) f) in
+      chunks-listed h ws (settleChunk sh h s ws o .class) gs (k .listed) (and-right (not (elem (pageOf g) (map pageOf gs))) (distinct (map pageOf gs)) d)
+      (all-fit ws (pageOf g) s _ (k .skip) gs (not-true (elem (pageOf g) (map pageOf gs)) (and-left (not (elem (pageOf g) (map pageOf gs))) (distinct (map pageOf gs)) d)) (and-right (chunkFits sh s ws g) (every (chunkFits sh s ws) gs) f))
 
   chunks-keep : (h : ℕ) (s : Class) (ws gs l : List ℕ) (c : Bool) → Listed sh s → not (distinct (map pageOf gs) && (every (chunkFits sh s ws) gs && c)) ≡ false
       → KeepsListed (done (record { class = settleChunks sh h ws s gs .class; answer = fates l; gives = settleChunks sh h ws s gs .gives }))
@@ -300,7 +294,7 @@ module _ (sh : Shape) (ok : Sound sh) where
       let a = distinct (map pageOf gs) in
       let b = every (chunkFits sh s ws) gs in
       let p = not-false (a && (b && c)) n in
-      keeps-done (chunks-listed h ws s gs y (and-l a (b && c) p) (and-l b c (and-r a (b && c) p)))
+      keeps-done (chunks-listed h ws s gs y (and-left a (b && c) p) (and-left b c (and-right a (b && c) p)))
 
   pub answer-keeps : (s : Class) → Listed sh s → (r : Request) → KeepsListed (answer sh s r)
   unfolding answer releaseList releaseChunks
@@ -316,10 +310,11 @@ module _ (sh : Shape) (ok : Sound sh) where
 abbrev AllListed : Heap → Type 0
 AllListed H = (c : ℕ) → Listed (shapeOf c) (H .classes c)
 
-route-listed : (size : ℕ) (H : Heap) → AllListed H → (x : Call) (d : Option Named) → AllListed (route size H x d .heap)
+route-listed : (size : ℕ) (H : Heap) → AllListed H → (x : Call) (w : Way) → AllListed (route size H x w .heap)
 unfolding classCall interact finish
-route-listed size H y x none c = rw (direct-keeps size H x .kept) (y c)
-route-listed size H y x (some d) c =
+route-listed size H y x turned c = y c
+route-listed size H y x straight c = rw (direct-keeps size H x .kept) (y c)
+route-listed size H y x (toClass d) c =
     let k = d .class in
     update-all (H .classes) (λ j s. Listed (shapeOf j) s) k _
     (serve-keeps (shapeOf k) (shape-sound k) (answer (shapeOf k) (H .classes k) (d .request)) _ (answer-keeps (shapeOf k) (shape-sound k) (H .classes k) (y k) (d .request)))
@@ -328,7 +323,7 @@ route-listed size H y x (some d) c =
 pub history-listed : (size : ℕ) (H : Heap) → AllListed H → (xs : List Call) → AllListed (heapFrom size H xs)
 unfolding step
 history-listed size H y [] = y
-history-listed size H y (x ∷ xs) = history-listed size (step size H x .heap) (route-listed size H y x (names x)) xs
+history-listed size H y (x ∷ xs) = history-listed size (step size H x .heap) (route-listed size H y x (wayOf x)) xs
 
 after-listed : (size : ℕ) (xs : List Call) → AllListed (heapAfter size xs)
 unfolding newHeap

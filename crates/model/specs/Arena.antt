@@ -1,13 +1,12 @@
 -- The arena: reservation, frontier, holes, and three counts (document 01, "A run of pages"). `size` is the arena's length in pages,
--- h the host word, n a run's pages, q its first page. Assumes nothing.
-use Prim.Native.Nat.{ℕ, _+_, _-_, _*_, _%_, _^_}
+-- h the host word, n a run's pages, q its first page.
+use Prim.Native.Nat.{ℕ, _+_, _*_, _%_, _^_}
 use mathlib.Core.List.{List, [], _∷_}
 use mathlib.Core.Option.{Option, none, some}
 use mathlib.Core.Bool.{Bool, true, false, cond, _&&_}
 use lib.Dec.{eqb, leb, ltb}
 use Rattle.words.specs.Host.{reservationGranted, commitGranted}
 use Rattle.classes.specs.Sizes.{pageBytes}
-use Rattle.model.specs.declared.Hole.{Hole}
 use Rattle.model.specs.HoleStore.{HoleStore, emptyStore, holeAt, choose, takeAt, accepts, append}
 
 -- the reservation is not asked for yet, granted, or refused: then "the arena is disabled for good"

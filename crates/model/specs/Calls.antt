@@ -1,10 +1,12 @@
--- The calls of a history and their answers (document 01, "The histories of demand 3"). Assumes nothing.
+-- The calls of a history and their answers (document 01, "The histories of demand 3").
 use Prim.Native.Nat.{ℕ, _+_}
 use mathlib.Core.List.{List, []}
 use mathlib.Core.Option.{Option, none, some}
 use mathlib.Core.Bool.{Bool, true, false, cond}
 use lib.Dec.{ltb}
 use lib.ListN as ListN
+use Rattle.words.specs.Host.{badHost}
+use Rattle.model.specs.declared.Figures.{Figures}
 
 -- one constructor for each call; a list counts as what it holds when its call begins
 pub data Call : Type 0 where
@@ -25,7 +27,7 @@ pub data Answer : Type 0 where
   run : (first : ℕ) (fresh : Bool) → Answer
   noRun released : Answer
   grown contained : Bool → Answer
-  reported : (commits reuses abandoned held idle : ℕ) → Answer
+  reported : Figures → Answer
 
 abbrev pub isRefused : Answer → Bool
 isRefused (refused n) = true
@@ -37,7 +39,7 @@ isRefused noRun = false
 isRefused released = false
 isRefused (grown b) = false
 isRefused (contained b) = false
-isRefused (reported a b c d e) = false
+isRefused (reported f) = false
 
 -- the blocks that a take answers: the entries below the count
 abbrev pub blocksOf : Answer → List ℕ
@@ -50,7 +52,7 @@ blocksOf noRun = []
 blocksOf released = []
 blocksOf (grown b) = []
 blocksOf (contained b) = []
-blocksOf (reported a b c d e) = []
+blocksOf (reported f) = []
 
 -- what a class is asked, by a call that names it
 pub data Request : Type 0 where
@@ -71,6 +73,19 @@ listOf (giveChunks h ws gs fs) = ws
 
 abbrev pub releasedBy : Request → Answer → List ℕ
 releasedBy r x = cond (isRefused x) [] (listOf r)
+
+-- the host word that a call is handed; 0 where it is handed none
+abbrev pub hostIn : Call → ℕ
+hostIn (takeBlocks c h l) = h
+hostIn (mediumTakeBlocks c h l) = h
+hostIn (releaseBlocks c h ws) = h
+hostIn (mediumReleaseBlocks c h ws) = h
+hostIn (releaseBinChunks c h ws gs fs) = h
+hostIn (commit h n) = h
+hostIn (growFrontier h q old new) = h
+hostIn (release h q n) = h
+hostIn (contains o b) = 0
+hostIn report = 0
 
 -- a class's call: its id (0 to 63 small, 64 to 75 medium) and what is asked
 pub record Named : Type 0 where
@@ -93,3 +108,15 @@ names (growFrontier h q old new) = none
 names (release h q n) = none
 names (contains o b) = none
 names report = none
+
+-- where a call goes: to the class that it names, else to the arena; by number 3, first of all, to neither
+pub data Way : Type 0 where
+  turned straight : Way
+  toClass : Named → Way
+
+abbrev pub wayTo : Option Named → Way
+wayTo none = straight
+wayTo (some d) = toClass d
+
+unfoldable pub wayOf : Call → Way
+wayOf x = cond (badHost (hostIn x)) turned (wayTo (names x))

@@ -1,13 +1,13 @@
--- Group releases (`release_bin_chunks`; a group is a chunk here), and one request of a class. Assumes nothing.
+-- Group releases (`release_bin_chunks`; a group is a chunk here), and one request of a class.
 use Prim.Native.Nat.{ℕ, _+_}
 use mathlib.Core.List.{List, [], _∷_, _++_, map}
 use mathlib.Core.Option.{Option, none, some}
 use mathlib.Core.Bool.{Bool, true, false, cond, not, _&&_, _||_}
 use lib.Dec.{eqb, ltb}
 use lib.ListN.{length, drop}
+use Rattle.facts.specs.Lists.{isNil, filter, every, elem, distinct}
 use Rattle.words.specs.Word.{chunkKind, countOf, pageOf}
 use Rattle.classes.specs.declared.Shape.{Shape}
-use Rattle.model.specs.Lists.{isNil, filter, every, elem, distinct}
 use Rattle.model.specs.Calls.{Request, take, giveBack, giveChunks, fates}
 use Rattle.model.specs.Page.{Page, isOut}
 use Rattle.model.specs.Class.{Class, Ask, done, refuse, takeFrom}
@@ -68,12 +68,8 @@ releaseChunks sh h s ws gs fs =
     (cond (not (distinct (map pageOf gs) && (every (chunkFits sh s ws) gs && every (chunked sh s gs) ws))) (refuse s 11)
     (let b = settleChunks sh h ws s gs in done (record { class = b .class; answer = fates (b .fates ++ drop (length gs) fs); gives = b .gives }))))))
 
--- the highest host word
-abbrev pub hostMax : ℕ
-hostMax = 15
-
--- one request of a class: number 3 first, then 5 for a take
+-- one request of a class, from number 5 on
 unfoldable pub answer : Shape → Class → Request → Ask
-answer sh s (take h l) = cond (ltb hostMax h) (refuse s 3) (cond (ltb (length l) (sh .batch)) (refuse s 5) (takeFrom sh l (s .partial) (s .empty) (s .cold) (s .full)))
-answer sh s (giveBack h ws) = cond (ltb hostMax h) (refuse s 3) (releaseList sh h s ws)
-answer sh s (giveChunks h ws gs fs) = cond (ltb hostMax h) (refuse s 3) (releaseChunks sh h s ws gs fs)
+answer sh s (take h l) = cond (ltb (length l) (sh .batch)) (refuse s 5) (takeFrom sh l (s .partial) (s .empty) (s .cold) (s .full))
+answer sh s (giveBack h ws) = releaseList sh h s ws
+answer sh s (giveChunks h ws gs fs) = releaseChunks sh h s ws gs fs

@@ -1,5 +1,5 @@
 -- One class and its takes (document 01, "Blocks out and back"). A class learns nothing of the heap but the run that it is given:
--- its call is done, or asks the arena once and goes on with the answer. Assumes nothing.
+-- its call is done, or asks the arena once and goes on with the answer.
 use Prim.Native.Nat.{ℕ, _+_, _-_}
 use mathlib.Core.List.{List, [], _∷_, _++_}
 use mathlib.Core.Option.{Option, none, some}

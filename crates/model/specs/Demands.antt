@@ -1,14 +1,13 @@
--- The demands, as statements about every history from an opening of an arena of `size` pages. proofs/Theorems proves each. Assumes nothing.
-use Prim.Native.Nat.{ℕ, _+_, _-_, _*_, _/_, _≤_, _<_}
+-- The demands, as statements about every history from an opening of an arena of `size` pages. proofs/Theorems proves each.
+use Prim.Native.Nat.{ℕ, _+_, _*_, _/_, _≤_, _<_}
 use mathlib.Core.Path.{_≡_}
 use mathlib.Core.Logic.{_↔_}
 use mathlib.Core.List.{List, []}
-use mathlib.Core.Bool.{Bool, true, false}
-use mathlib.Core.Option.{none, some}
-use lib.Dec.{eqb}
+use mathlib.Core.Bool.{true, false}
+use mathlib.Core.Option.{some}
+use Rattle.facts.specs.Lists.{total, below}
 use Rattle.classes.specs.Sizes.{pageBytes}
 use Rattle.classes.specs.Shape.{shapeOf}
-use Rattle.model.specs.Lists.{total, below}
 use Rattle.model.specs.Calls.{Call, Named, names, Request, take, listOf, Answer, isRefused}
 use Rattle.model.specs.Arena as Arenas
 use Rattle.model.specs.Class.{Class, Ask, done}
@@ -21,10 +20,6 @@ use Rattle.model.specs.Ledger.{inHoles, above, runsWith, heldBy, abandon
 use Rattle.model.specs.BestFit.{Commits, Remembers}
 use Rattle.model.specs.Yields.{Listed, TakeYields}
 use Rattle.model.specs.Heap.{newHeap}
-
--- the longest arena: number 1 is above it
-abbrev pub arenaMax : ℕ
-arenaMax = 262144
 
 -- Demand 2: a commit on the heap after a history answers by best fit, or none with its reason; and the memory is what document 01 makes it
 pub record BestFit (size : ℕ) (xs : List Call) : Type 0 where

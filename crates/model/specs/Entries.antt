@@ -1,5 +1,5 @@
 -- Entries not yet released, and pages held by the direct calls, told from the calls and answers of a history alone
--- (document 01, "The histories of demand 3"). Assumes nothing.
+-- (document 01, "The histories of demand 3").
 use Prim.Native.Nat.{ℕ, suc, _+_, _-_, _*_, _≤_, _<_}
 use mathlib.Core.List.{List, [], _∷_}
 use mathlib.Core.Option.{Option, none, some}
@@ -7,10 +7,11 @@ use mathlib.Core.Bool.{Bool, true, false, cond, not, _&&_}
 use mathlib.Core.Path.{_≡_}
 use mathlib.Core.Logic.{_⊎_}
 use lib.Dec.{eqb}
+use Rattle.facts.specs.Lists.{every, elem, distinct}
+use Rattle.model.specs.Cover.{covers, coversRun}
 use Rattle.words.specs.Word.{granuleOf}
 use Rattle.classes.specs.Sizes.{granuleBytes}
 use Rattle.classes.specs.Shape.{shapeOf}
-use Rattle.model.specs.Lists.{every, elem, distinct, covers, coversRun}
 use Rattle.model.specs.Calls as Calls
 use Rattle.model.specs.Calls.{Call, Answer, Named, names, blocksOf, releasedBy, isRefused}
 use Rattle.model.specs.History.{Event}
@@ -85,7 +86,7 @@ runOf Calls.noRun = none
 runOf Calls.released = none
 runOf (Calls.grown b) = none
 runOf (Calls.contained b) = none
-runOf (Calls.reported a b c d e) = none
+runOf (Calls.reported f) = none
 
 abbrev pub isGrown : Answer → Bool
 isGrown (Calls.refused n) = false
@@ -97,7 +98,7 @@ isGrown Calls.noRun = false
 isGrown Calls.released = false
 isGrown (Calls.grown b) = b
 isGrown (Calls.contained b) = false
-isGrown (Calls.reported a b c d e) = false
+isGrown (Calls.reported f) = false
 
 -- how often a call adds page x to those held, and takes it away
 abbrev pub adds : Call → Answer → ℕ → ℕ

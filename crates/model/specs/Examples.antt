@@ -1,22 +1,34 @@
--- Document 01's examples, one table. Histories are on an arena of 64 pages, with host word 15 but for P12's last take.
--- Assumes nothing.
-use Prim.Native.Nat.{ℕ, zero, suc, _+_, _-_, _/_}
+-- Document 01's examples, and rules of its where one that is a little different would answer something else: one table. Histories are
+-- on an arena of 64 pages. docs/RULES.md says which rule each row holds.
+use Prim.Native.Nat.{ℕ, zero, suc, _+_, _-_, _*_, _/_, _^_}
 use mathlib.Core.List.{List, [], _∷_, _++_, map}
-use mathlib.Core.Bool.{true, false}
-use lib.ListN.{replicate}
+use mathlib.Core.Option.{Option, none, some}
+use mathlib.Core.Bool.{Bool, true, false}
+use lib.ListN.{length, replicate}
+use Rattle.facts.specs.Lists.{below}
 use Rattle.words.specs.Word.{smallKind, mediumKind, blockWord, chunkWord}
 use Rattle.classes.specs.Sizes.{granuleBytes}
+use Rattle.classes.specs.Shape.{shapeOf}
 use Rattle.classes.specs.Examples as Lookups
 use Rattle.model.specs.declared.Hole.{Hole}
-use Rattle.model.specs.Lists.{below}
-use Rattle.model.specs.Calls.{Call, takeBlocks, mediumTakeBlocks, releaseBlocks, releaseBinChunks, commit, release, Answer, taken, fate, fates, run, noRun, released}
-use Rattle.model.specs.HoleStore.{hole}
+use Rattle.model.specs.Calls.{Call, takeBlocks, mediumTakeBlocks, releaseBlocks, releaseBinChunks, commit, release, contains, report, Answer, refused, taken, fate, fates, run, noRun, released, contained, reported}
+use Rattle.model.specs.HoleStore.{hole, store, choose, accepts}
+use Rattle.model.specs.Page.{Page, carveAs}
+use Rattle.model.specs.Class.{newClass, lists, Ask, serve, takeFrom}
+use Rattle.model.specs.Release.{Settled, park}
+use Rattle.model.specs.Chunks.{releaseChunks}
 use Rattle.model.specs.History.{answers, heapAfter}
 
--- what is told: the class of a size; or of a history, each call's answer, and the holes stored after the last
+-- what is told: the class of a size; of a history, each call's answer, and the holes stored after the last; an emptied run's fate, and
+-- how many empty and cold ones its class then has; whether a given run is stored; the hole that is chosen; or a class's answer that
+-- needs no arena
 pub data Told : Type 0 where
   lookup : (class : ℕ) → Told
   history : (answers : List Answer) (holes : List Hole) → Told
+  parked : (fate empty cold : ℕ) → Told
+  stored : Bool → Told
+  chosen : Option ℕ → Told
+  answered : Answer → Told
 
 pub record Example : Type 0 where
   pub found : Told
@@ -27,6 +39,27 @@ ofSize e = record { found = lookup (Lookups.answer e); expected = lookup (Lookup
 
 unfoldable pub onNewHeap : List Call → List Answer → List Hole → Example
 onNewHeap xs zs hs = record { found = history (answers 64 xs) (heapAfter 64 xs .arena .store .holes); expected = history zs hs }
+
+-- a run of class c is empty, where e empty ones and k cold ones are kept
+abbrev countParked : Settled → Told
+countParked b = parked (b .fate) (length (b .class .empty)) (length (b .class .cold))
+
+unfoldable pub onPark : ℕ → ℕ → ℕ → Told → Example
+onPark c e k t = record {
+  found = countParked (park (shapeOf c) 15 (lists [] (replicate e (carveAs (shapeOf c) false 0 true)) (replicate k (record { first = 0; zeroed = true })) []) (carveAs (shapeOf c) false 0 true));
+  expected = t;
+}
+
+-- n pages are given to a store of so many holes with so many pages
+unfoldable pub onGive : ℕ → ℕ → ℕ → Bool → Example
+onGive n holes pages b = record { found = stored (accepts n (store (replicate holes (hole 0 1)) pages (λ k. none))); expected = stored b }
+
+-- which of two holes of n pages is chosen, where the second is remembered
+unfoldable pub onChoice : ℕ → ℕ → Example
+onChoice n i = record { found = chosen (choose n (store (hole 0 n ∷ hole n n ∷ []) (n + n) (λ k. some 1)) .index); expected = chosen (some i) }
+
+unfoldable pub onClass : Ask → Answer → Example
+onClass q z = record { found = answered (serve q none .answer); expected = answered z }
 
 -- the words of small blocks, by their granules; of medium blocks, by their first bytes
 abbrev pub smalls : List ℕ → List ℕ
@@ -56,6 +89,92 @@ take45 = takeBlocks 45 15 (lent 64)
 abbrev three : List ℕ
 three = smalls (2051 ∷ 1027 ∷ 3 ∷ [])
 
+-- the three blocks of the page at q; all released, with that host word
+abbrev threeOf : ℕ → List ℕ
+threeOf q = smalls ((q + 2051) ∷ (q + 1027) ∷ (q + 3) ∷ [])
+
+abbrev give45 : ℕ → List ℕ → Call
+give45 host ws = releaseBlocks 45 host ws
+
+-- a take of class 45's three
+abbrev taken45 : ℕ → Bool → Answer
+taken45 q v = taken 3 (threeOf q ++ lent 61) v
+
+-- as they come back after such a release
+abbrev back45 : ℕ → Answer
+back45 q = taken 3 (smalls ((q + 3) ∷ (q + 1027) ∷ (q + 2051) ∷ []) ++ lent 61) false
+
+-- a page of class 45 with one block, released to
+abbrev spent : Page
+spent = record { first = 1; free = smalls (4099 ∷ []); carved = 3; virgin = false; retired = false }
+
+unfoldable pub rules : List Example
+rules =
+    -- "refused, the arena is disabled for good"
+    onNewHeap (commit 14 1 ∷ commit 15 1 ∷ contains 0 0 ∷ [])
+    (noRun ∷ noRun ∷ contained false ∷ []) []
+    -- "`contains` is no before the reservation"; up to the arena's end
+    ∷ onNewHeap (contains 0 0 ∷ commit 15 1 ∷ contains 4194304 0 ∷ contains 4194303 1 ∷ contains 4194303 2 ∷ [])
+    (contained false ∷ run 0 true ∷ contained true ∷ contained true ∷ contained false ∷ []) []
+    -- "2 to the 48th or more"
+    ∷ onNewHeap (commit 15 (2 ^ 48 - 1) ∷ commit 15 (2 ^ 48) ∷ [])
+    (noRun ∷ refused 6 ∷ []) []
+    -- "The host word exceeds 15."
+    ∷ onNewHeap (commit 16 1 ∷ takeBlocks 0 16 (lent 64) ∷ [])
+    (refused 3 ∷ refused 3 ∷ []) []
+    -- "these counts, pages held, and idle pages": a fresh run is no reuse
+    ∷ onNewHeap (commit 15 5 ∷ commit 15 4 ∷ release 15 0 5 ∷ commit 15 1 ∷ report ∷ [])
+    (run 0 true ∷ run 5 true ∷ released ∷ run 0 false ∷ reported (record { commits = 3; reuses = 1; abandoned = 0; held = 5; idle = 59 }) ∷ []) (hole 1 4 ∷ [])
+    -- "so is a cut's remainder", at its own index
+    ∷ onNewHeap (commit 15 9 ∷ release 15 0 2 ∷ release 15 3 5 ∷ commit 15 3 ∷ commit 15 2 ∷ [])
+    (run 0 true ∷ released ∷ released ∷ run 3 false ∷ run 6 false ∷ []) (hole 0 2 ∷ [])
+    -- "A used-up hole is replaced by the last one."
+    ∷ onNewHeap (commit 15 8 ∷ release 15 0 1 ∷ release 15 2 1 ∷ release 15 4 1 ∷ release 15 6 1 ∷ commit 15 1 ∷ commit 15 1 ∷ [])
+    (run 0 true ∷ released ∷ released ∷ released ∷ released ∷ run 6 false ∷ run 0 false ∷ []) (hole 4 1 ∷ hole 2 1 ∷ [])
+    -- "remembers per length up to 128 an index"
+    ∷ onChoice 128 1
+    ∷ onChoice 129 0
+    -- "if 4,096 holes are stored or the total would pass 65,536 pages"
+    ∷ onGive 1 4095 4095 true
+    ∷ onGive 1 4096 4096 false
+    ∷ onGive 1 1 65535 true
+    ∷ onGive 2 1 65535 false
+    -- "puts the list before the page's free list"
+    ∷ onNewHeap (take45 ∷ give45 15 (smalls (2051 ∷ [])) ∷ give45 15 (smalls (1027 ∷ [])) ∷ take45 ∷ [])
+    (taken45 0 true ∷ fate 0 ∷ fate 0 ∷ taken 2 (smalls (2051 ∷ 1027 ∷ []) ++ lent 62) false ∷ []) []
+    -- "otherwise it heads the partial list"; "The answer lists the latest popped first."
+    ∷ onNewHeap (take45 ∷ take45 ∷ give45 15 (smalls (3 ∷ [])) ∷ give45 15 (smalls (4099 ∷ [])) ∷ take45 ∷ [])
+    (taken45 0 true ∷ taken45 4096 true ∷ fate 0 ∷ fate 0 ∷ taken 2 (smalls (3 ∷ 4099 ∷ []) ++ lent 62) false ∷ []) []
+    -- "others keep the chain's order"
+    ∷ onNewHeap (take45 ∷ releaseBinChunks 45 15 (smalls (2051 ∷ 3 ∷ [])) (chunkWord 2 0 ∷ []) (9 ∷ 9 ∷ []) ∷ take45 ∷ [])
+    (taken45 0 true ∷ fates (0 ∷ 9 ∷ []) ∷ taken 2 (smalls (3 ∷ 2051 ∷ []) ++ lent 62) false ∷ []) []
+    -- "treats groups in order": the second's page heads the partial list
+    ∷ onNewHeap (take45 ∷ take45 ∷ releaseBinChunks 45 15 (smalls (2051 ∷ 6147 ∷ [])) (chunkWord 1 0 ∷ chunkWord 1 1 ∷ []) (9 ∷ 9 ∷ []) ∷ take45 ∷ [])
+    (taken45 0 true ∷ taken45 4096 true ∷ fates (0 ∷ 0 ∷ []) ∷ taken 2 (smalls (2051 ∷ 6147 ∷ []) ++ lent 62) false ∷ []) []
+    -- "last in first out", "the newest cold page"; virgin "from a cold page whose discard zeroed it": not with host word 7
+    ∷ onNewHeap (map (λ q. take45) (below 6) ++ map (λ q. give45 15 (threeOf (q * 4096))) (5 ∷ 4 ∷ 3 ∷ 2 ∷ 1 ∷ []) ++ give45 7 (threeOf 0) ∷ map (λ q. take45) (below 6))
+    (map (λ q. taken45 (q * 4096) true) (0 ∷ 1 ∷ 2 ∷ 3 ∷ 4 ∷ 5 ∷ []) ++ fate 0 ∷ fate 0 ∷ fate 0 ∷ fate 0 ∷ fate 1 ∷ fate 1 ∷ map (λ q. back45 (q * 4096)) (2 ∷ 3 ∷ 4 ∷ 5 ∷ []) ++ taken45 0 false ∷ taken45 4096 true ∷ []) []
+    -- "each came from a page not released to": of two pages, the first is virgin and the second is not
+    ∷ onClass (takeFrom (shapeOf 45) (lent 64) (carveAs (shapeOf 45) false 0 true ∷ spent ∷ []) [] [] []) (taken 4 (smalls (4099 ∷ []) ++ three ++ lent 60) false)
+    -- "a span from cold is never virgin"
+    ∷ onClass (takeFrom (shapeOf 75) (lent 8) [] [] (record { first = 0; zeroed = true } ∷ []) []) (taken 8 (mediums (rising 64 65472 8)) false)
+    -- "at most 4 empty, .. then 256 cold, then given to the arena"
+    ∷ onPark 45 3 0 (parked 0 4 0)
+    ∷ onPark 45 4 255 (parked 1 4 256)
+    ∷ onPark 45 4 256 (parked 2 4 256)
+    -- "Empty spans: 32 and 8 MiB; cold: 256"; "For medium, cold counts as 0": spans of 3, 5 and 8 pages
+    ∷ onPark 64 31 0 (parked 0 32 0)
+    ∷ onPark 64 32 255 (parked 0 32 256)
+    ∷ onPark 64 32 256 (parked 2 32 256)
+    ∷ onPark 69 24 0 (parked 0 25 0)
+    ∷ onPark 69 25 0 (parked 0 25 1)
+    ∷ onPark 75 15 0 (parked 0 16 0)
+    ∷ onPark 75 16 0 (parked 0 16 1)
+    -- "2,056 groups pass, 2,057 give 8": none of these is of a page that is there
+    ∷ onClass (releaseChunks (shapeOf 45) 15 newClass three (replicate 2056 (chunkWord 1 0)) (lent 2056)) (refused 10)
+    ∷ onClass (releaseChunks (shapeOf 45) 15 newClass three (replicate 2057 (chunkWord 1 0)) (lent 2057)) (refused 8)
+    ∷ []
+
 unfoldable pub examples : List Example
 examples =
     -- P1 to P5
@@ -84,4 +203,4 @@ examples =
     -- "Tempting: .. clearing virgin for a reused hole": P6 on one
     ∷ onNewHeap (commit 15 1 ∷ release 15 0 1 ∷ take0 ∷ [])
     (run 0 true ∷ released ∷ taken 64 (smalls (down 66 3)) true ∷ []) []
-    ∷ []
+    ∷ rules

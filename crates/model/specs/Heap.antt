@@ -1,20 +1,21 @@
--- The heap: the arena, who holds each page, the classes; and one call of it. Assumes nothing.
+-- The heap: the arena, who holds each page, the classes; and one call of it.
 use Prim.Native.Nat.{ℕ, _+_, _-_, _^_}
-use mathlib.Core.List.{List, []}
 use mathlib.Core.Option.{Option, none, some}
 use mathlib.Core.Bool.{Bool, true, false, cond, not, _&&_, _||_}
-use lib.Dec.{eqb, leb, ltb}
+use lib.Dec.{eqb, leb}
+use Rattle.facts.specs.Lists.{every, total, update, below}
+use Rattle.model.specs.Cover.{covers, coversAll, coversRun}
 use Rattle.classes.specs.declared.Shape.{Shape}
 use Rattle.classes.specs.Shape.{shapeOf}
 use Rattle.model.specs.declared.Hole.{Hole}
-use Rattle.model.specs.Lists.{total, every, below, covers, coversAll, coversRun, update}
+use Rattle.model.specs.declared.Figures.{Figures}
 use Rattle.model.specs.Calls as Calls
-use Rattle.model.specs.Calls.{Call, Answer, Named, names, hostOf, Request, refused, run, noRun, released, reported}
+use Rattle.model.specs.Calls.{Call, Answer, Way, turned, straight, toClass, wayOf, hostOf, Request, refused, run, noRun, released, reported}
 use Rattle.model.specs.HoleStore.{hole}
 use Rattle.model.specs.Arena as Arenas
 use Rattle.model.specs.Arena.{Arena, Given, given, newArena, giveAll}
 use Rattle.model.specs.Class.{Class, newClass, Result, Ask, done, asks, serve}
-use Rattle.model.specs.Chunks.{answer, hostMax}
+use Rattle.model.specs.Chunks.{answer}
 
 -- "who holds each page: a class, the hand (these direct calls), or nobody"
 pub data Holder : Type 0 where
@@ -94,6 +95,10 @@ withPages a w H = record { arena = a; holder = w; classes = H .classes }
 unfoldable pub badRun : ℕ → Bool
 badRun n = eqb n 0 || leb (2 ^ 48) n
 
+-- "or growth isn't to more pages"
+abbrev pub badGrowth : ℕ → ℕ → Bool
+badGrowth old new = badRun old || (badRun new || leb new old)
+
 abbrev pub answerRun : Option ℕ → Bool → Answer
 answerRun none f = noRun
 answerRun (some q) f = run q f
@@ -118,40 +123,41 @@ heldPages size H = total (λ x. isHeld (H .holder x)) (below size)
 abbrev pub idlePages : ℕ → Arena → ℕ
 idlePages size a = a .store .total + (size - a .frontier)
 
-unfoldable pub reportOf : ℕ → Heap → Answer
-reportOf size H = reported (H .arena .commits) (H .arena .reuses) (H .arena .abandoned) (heldPages size H) (idlePages size (H .arena))
+-- of an arena with so many pages held
+abbrev pub figuresWith : ℕ → Arena → ℕ → Figures
+figuresWith size a k = record { commits = a .commits; reuses = a .reuses; abandoned = a .abandoned; held = k; idle = idlePages size a }
 
--- a call that names no class of ours: number 3, or 4
-abbrev pub noClass : Heap → ℕ → Outcome
-noClass H h = unchanged H (refused (cond (ltb hostMax h) 3 4))
+abbrev pub figures : ℕ → Heap → Figures
+figures size H = figuresWith size (H .arena) (heldPages size H)
+
+-- a call that names no class of ours: number 4
+abbrev pub noClass : Heap → Outcome
+noClass H = unchanged H (refused 4)
 
 unfoldable pub directCall : ℕ → Heap → Call → Outcome
-directCall size H (Calls.takeBlocks c h l) = noClass H h
-directCall size H (Calls.mediumTakeBlocks c h l) = noClass H h
-directCall size H (Calls.releaseBlocks c h ws) = noClass H h
-directCall size H (Calls.mediumReleaseBlocks c h ws) = noClass H h
-directCall size H (Calls.releaseBinChunks c h ws gs fs) = noClass H h
+directCall size H (Calls.takeBlocks c h l) = noClass H
+directCall size H (Calls.mediumTakeBlocks c h l) = noClass H
+directCall size H (Calls.releaseBlocks c h ws) = noClass H
+directCall size H (Calls.mediumReleaseBlocks c h ws) = noClass H
+directCall size H (Calls.releaseBinChunks c h ws gs fs) = noClass H
 directCall size H (Calls.commit h n) =
-    cond (ltb hostMax h) (unchanged H (refused 3))
-    (cond (badRun n) (unchanged H (refused 6))
-    (commitCall size H h n))
+    cond (badRun n) (unchanged H (refused 6)) (commitCall size H h n)
 directCall size H (Calls.growFrontier h q old new) =
-    cond (ltb hostMax h) (unchanged H (refused 3))
-    (cond (badRun old || (badRun new || leb new old)) (unchanged H (refused 6))
+    cond (badGrowth old new) (unchanged H (refused 6))
     (cond (not (heldDirect size H q old)) (unchanged H (refused 12))
-    (growCall size H h q old new)))
+    (growCall size H h q old new))
 directCall size H (Calls.release h q n) =
-    cond (ltb hostMax h) (unchanged H (refused 3))
-    (cond (badRun n) (unchanged H (refused 6))
+    cond (badRun n) (unchanged H (refused 6))
     (cond (not (heldDirect size H q n)) (unchanged H (refused 12))
-    (releaseCall H q n)))
+    (releaseCall H q n))
 directCall size H (Calls.contains o b) = unchanged H (Calls.contained (Arenas.contains size o b (H .arena)))
-directCall size H Calls.report = unchanged H (reportOf size H)
+directCall size H Calls.report = unchanged H (reported (figures size H))
 
-abbrev pub route : ℕ → Heap → Call → Option Named → Outcome
-route size H x none = directCall size H x
-route size H x (some d) = classCall size H (d .class) (d .request)
+abbrev pub route : ℕ → Heap → Call → Way → Outcome
+route size H x turned = unchanged H (refused 3)
+route size H x straight = directCall size H x
+route size H x (toClass d) = classCall size H (d .class) (d .request)
 
 -- one call on an arena of `size` pages
 unfoldable pub step : ℕ → Heap → Call → Outcome
-step size H x = route size H x (names x)
+step size H x = route size H x (wayOf x)

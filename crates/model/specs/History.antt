@@ -1,12 +1,12 @@
 -- Histories from an opening: what was called and answered, and what a class saw of it (document 01, "The histories of demand 3").
--- All is told from the arena's length and the calls' arguments. Assumes nothing.
+-- All is told from the arena's length and the calls' arguments.
 use Prim.Native.Nat.{ℕ}
 use mathlib.Core.List.{List, [], _∷_, map}
 use mathlib.Core.Option.{Option, none, some}
 use mathlib.Core.Bool.{Bool, false}
 use lib.Dec.{eqb}
+use Rattle.facts.specs.Lists.{filter}
 use Rattle.model.specs.declared.Hole.{Hole}
-use Rattle.model.specs.Lists.{filter}
 use Rattle.model.specs.Calls.{Call, Answer, Named, names}
 use Rattle.model.specs.Heap.{Heap, Outcome, step, newHeap}
 

@@ -1,12 +1,13 @@
--- The hole store (document 01, "A run of pages"; the original's `HoleStore`). Assumes nothing.
+-- The hole store (document 01, "A run of pages"; the original's `HoleStore`).
 use Prim.Native.Nat.{ℕ, zero, suc, _+_, _-_}
 use mathlib.Core.List.{List, [], _∷_, _++_}
 use mathlib.Core.Option.{Option, none, some}
-use mathlib.Core.Bool.{Bool, true, false, cond, _&&_}
+use mathlib.Core.Bool.{Bool, false, cond, _&&_}
 use lib.Dec.{eqb, leb, ltb}
 use lib.ListN.{length}
+use Rattle.facts.specs.Lists.{update}
+pub use Rattle.words.specs.Limits.{holeSlots, holePagesMax, rememberedMax}
 use Rattle.model.specs.declared.Hole.{Hole}
-use Rattle.model.specs.Lists.{update}
 
 abbrev pub hole : ℕ → ℕ → Hole
 hole q n = record { first = q; pages = n }
@@ -25,16 +26,6 @@ store hs n m = record { holes = hs; total = n; memory = m }
 
 abbrev pub emptyStore : HoleStore
 emptyStore = store [] 0 (λ n. none)
-
--- at most so many holes, and so many pages in them; lengths are remembered up to this one
-abbrev pub holeSlots : ℕ
-holeSlots = 4096
-
-abbrev pub holePagesMax : ℕ
-holePagesMax = 65536
-
-abbrev pub rememberedMax : ℕ
-rememberedMax = 128
 
 -- lists of holes by index
 abbrev pub holeAt : ℕ → List Hole → Hole

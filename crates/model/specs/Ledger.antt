@@ -1,25 +1,22 @@
--- Where each page is: held by a class or the direct calls, in a hole, at or above the frontier, or abandoned. Assumes nothing.
-use Prim.Native.Nat.{ℕ, _+_, _-_, _≤_}
+-- Where each page is: held by a class or the direct calls, in a hole, at or above the frontier, or abandoned.
+use Prim.Native.Nat.{ℕ, _+_, _-_}
 use mathlib.Core.List.{List, [], _∷_}
 use mathlib.Core.Option.{Option, none, some}
-use mathlib.Core.Bool.{Bool, true, false, cond}
-use mathlib.Core.Path.{_≡_}
+use mathlib.Core.Bool.{cond}
 use lib.Dec.{eqb, leb}
+use Rattle.facts.specs.Lists.{total}
+use Rattle.model.specs.Cover.{covers}
 use Rattle.words.specs.Host.{reservationGranted, commitGranted}
 use Rattle.classes.specs.declared.Shape.{Shape}
 use Rattle.classes.specs.Shape.{shapeOf}
-use Rattle.model.specs.declared.Hole.{Hole}
-use Rattle.model.specs.Lists.{total, below, covers}
 use Rattle.model.specs.Calls as Calls
-use Rattle.model.specs.Calls.{Call, Named, names, hostOf, isRefused}
+use Rattle.model.specs.Calls.{Call, Way, turned, straight, toClass, wayOf, hostOf, isRefused}
 use Rattle.model.specs.HoleStore.{accepts}
 use Rattle.model.specs.Arena.{Arena, Status, unasked, ready, disabled, withStatus, withFrontier, give, draw, canGrow}
 use Rattle.model.specs.Page.{Page}
 use Rattle.model.specs.Class.{Class, Cold, Ask, done, asks, serve}
 use Rattle.model.specs.Chunks.{answer}
-use Rattle.model.specs.Heap.{Heap, Holder, nobody, direct, class, isHeld, heldPages, idlePages, offer, step}
-use Rattle.model.specs.History.{events, heapAfter}
-use Rattle.model.specs.Entries.{directAfter}
+use Rattle.model.specs.Heap.{Heap, Holder, nobody, direct, class, offer, directCall, step}
 
 -- how many holes have page x; is it at or above the frontier
 abbrev pub inHoles : ℕ → Arena → ℕ
@@ -87,11 +84,12 @@ directAbandons size H (Calls.release h q n) x = abandons n q (H .arena) x
 directAbandons size H (Calls.contains o b) x = 0
 directAbandons size H Calls.report x = 0
 
-abbrev pub callAbandons : ℕ → Heap → Call → Option Named → ℕ → ℕ
-callAbandons size H y none x = cond (isRefused (step size H y .answer)) 0 (directAbandons size H y x)
-callAbandons size H y (some d) x = classAbandons size H (d .class) (hostOf (d .request)) (answer (shapeOf (d .class)) (H .classes (d .class)) (d .request)) x
+abbrev pub callAbandons : ℕ → Heap → Call → Way → ℕ → ℕ
+callAbandons size H y turned x = 0
+callAbandons size H y straight x = cond (isRefused (directCall size H y .answer)) 0 (directAbandons size H y x)
+callAbandons size H y (toClass d) x = classAbandons size H (d .class) (hostOf (d .request)) (answer (shapeOf (d .class)) (H .classes (d .class)) (d .request)) x
 
 -- over a history: how often page x was abandoned
 abbrev pub abandonedFrom : ℕ → Heap → List Call → ℕ → ℕ
 abandonedFrom size H [] x = 0
-abandonedFrom size H (y ∷ ys) x = callAbandons size H y (names y) x + abandonedFrom size (step size H y .heap) ys x
+abandonedFrom size H (y ∷ ys) x = callAbandons size H y (wayOf y) x + abandonedFrom size (step size H y .heap) ys x

@@ -1,9 +1,10 @@
-pub mod Lists
+pub mod Cover
 pub mod Calls
 pub mod HoleStore
 pub mod Arena
 pub mod Page
 pub mod Class
+pub mod Spot
 pub mod Release
 pub mod Chunks
 pub mod Heap

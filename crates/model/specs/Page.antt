@@ -1,13 +1,13 @@
 -- A run of a class with its blocks: carving, popping, returning (document 01, "Blocks out and back"). A small class's run is one
--- page, a medium one's a span; `Page` is either. Assumes nothing.
+-- page, a medium one's a span; `Page` is either.
 use Prim.Native.Nat.{ℕ, zero, suc, _+_, _-_, _*_, min}
 use mathlib.Core.List.{List, [], _∷_, _++_, reverse}
 use mathlib.Core.Bool.{Bool, true, false, cond, not, _&&_, _||_}
 use lib.Dec.{eqb, ltb}
 use lib.ListN.{length, take, drop}
+use Rattle.facts.specs.Lists.{isNil, every, elem}
 use Rattle.words.specs.Word.{mediumKind, blockWord}
 use Rattle.classes.specs.declared.Shape.{Shape}
-use Rattle.model.specs.Lists.{isNil, every, elem}
 
 -- granules of a page
 abbrev pub pageGranules : ℕ

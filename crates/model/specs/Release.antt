@@ -1,17 +1,20 @@
--- Releases by list, and what becomes of a page (document 01, "Blocks out and back"). Assumes nothing.
-use Prim.Native.Nat.{ℕ, suc, _+_, _*_}
+-- Releases by list, and what becomes of a page (document 01, "Blocks out and back").
+use Prim.Native.Nat.{ℕ}
 use mathlib.Core.List.{List, [], _∷_, _++_}
 use mathlib.Core.Option.{Option, none, some}
-use mathlib.Core.Bool.{Bool, true, false, cond, not, _&&_}
-use lib.Dec.{eqb, leb, ltb}
+use mathlib.Core.Bool.{Bool, false, cond, not, _&&_}
+use lib.Dec.{eqb}
 use lib.ListN.{length}
+use Rattle.facts.specs.Lists.{isNil, every, isSome, distinct}
 use Rattle.words.specs.Word.{kindOf}
 use Rattle.words.specs.Host.{discardZeroed}
 use Rattle.classes.specs.declared.Shape.{Shape}
-use Rattle.model.specs.Lists.{isNil, isSome, every, distinct}
+use Rattle.model.specs.declared.Spot.{Spot}
+use Rattle.model.specs.declared.Spot.the-variants.{ToEmpty, ToCold, ToArena}
 use Rattle.model.specs.Calls.{fate}
-use Rattle.model.specs.Page.{Page, isMedium, isOut, noneOut, returned, retire}
+use Rattle.model.specs.Page.{Page, isOut, noneOut, returned, retire}
 use Rattle.model.specs.Class.{Class, lists, Ask, done, refuse}
+use Rattle.model.specs.Spot.{spotOf, fateOf, keptFate, retired}
 
 -- the first page of a list that passes a test, with what stands before and behind it
 pub record Found : Type 0 where
@@ -65,38 +68,35 @@ pub record Settled : Type 0 where
   pub fate : ℕ
   pub gives : List ℕ
 
--- "Release answers each page's fate: 0 kept, 1 cold, 2 to the arena; plus 4 if retired." "For medium, cold counts as 0"
-abbrev pub coldFate : Shape → ℕ
-coldFate sh = cond (isMedium sh) 0 1
-
-abbrev pub parkEmpty : Class → Page → Settled
-parkEmpty s p = record { class = lists (s .partial) (p ∷ s .empty) (s .cold) (s .full); fate = 0; gives = [] }
+abbrev pub parkEmpty : Shape → Class → Page → Settled
+parkEmpty sh s p = record { class = lists (s .partial) (p ∷ s .empty) (s .cold) (s .full); fate = fateOf sh ToEmpty; gives = [] }
 
 abbrev pub parkCold : Shape → ℕ → Class → Page → Settled
-parkCold sh h s p = record { class = lists (s .partial) (s .empty) (record { first = p .first; zeroed = discardZeroed h } ∷ s .cold) (s .full); fate = coldFate sh; gives = [] }
+parkCold sh h s p = record { class = lists (s .partial) (s .empty) (record { first = p .first; zeroed = discardZeroed h } ∷ s .cold) (s .full); fate = fateOf sh ToCold; gives = [] }
 
-abbrev pub letGo : Class → Page → Settled
-letGo s p = record { class = s; fate = 2; gives = p .first ∷ [] }
+abbrev pub letGo : Shape → Class → Page → Settled
+letGo sh s p = record { class = s; fate = fateOf sh ToArena; gives = p .first ∷ [] }
 
--- "at most 4 empty, last in first out, then 256 cold, then given to the arena"; for spans "32 and 8 MiB"
-abbrev pub keepsEmpty : Shape → Class → Bool
-keepsEmpty sh s = ltb (length (s .empty)) (sh .empties) && leb (suc (length (s .empty)) * sh .pages) (sh .emptypages)
+abbrev pub parkIn : Shape → ℕ → Class → Page → Spot → Settled
+parkIn sh h s p ToEmpty = parkEmpty sh s p
+parkIn sh h s p ToCold = parkCold sh h s p
+parkIn sh h s p ToArena = letGo sh s p
 
-abbrev pub keepsCold : Shape → Class → Bool
-keepsCold sh s = ltb (length (s .cold)) (sh .colds)
+abbrev pub spotIn : Shape → Class → Spot
+spotIn sh s = spotOf sh (length (s .empty)) (length (s .cold))
 
 unfoldable pub park : Shape → ℕ → Class → Page → Settled
-park sh h s p = cond (keepsEmpty sh s) (parkEmpty s p) (cond (keepsCold sh s) (parkCold sh h s p) (letGo s p))
+park sh h s p = parkIn sh h s p (spotIn sh s)
 
 abbrev pub markRetired : Settled → Settled
-markRetired b = record { class = b .class; fate = 4 + b .fate; gives = b .gives }
+markRetired b = record { class = b .class; fate = retired (b .fate); gives = b .gives }
 
 -- blocks come back to a page: one with none out is parked, retired first if a chunk returned them all
 unfoldable pub settle : Shape → ℕ → Bool → List ℕ → Site → Settled
 settle sh h retires ws x =
     cond (noneOut sh (returned ws (x .page)))
     (cond retires (markRetired (park sh h (x .without) (retire (x .page)))) (park sh h (x .without) (returned ws (x .page))))
-    (record { class = x .with (returned ws (x .page)); fate = 0; gives = [] })
+    (record { class = x .with (returned ws (x .page)); fate = keptFate; gives = [] })
 
 -- the tests of numbers 9 and 10
 unfoldable pub ofKind : ℕ → ℕ → Bool

@@ -1,13 +1,12 @@
--- No take is empty without need, as statements. Assumes nothing.
+-- No take is empty without need, as statements.
 use Prim.Native.Nat.{ℕ}
-use mathlib.Core.List.{List}
-use mathlib.Core.Option.{Option, none, some}
-use mathlib.Core.Bool.{Bool, true, false}
+use mathlib.Core.Option.{Option, some}
+use mathlib.Core.Bool.{true, false}
 use mathlib.Core.Path.{_≡_}
+use Rattle.facts.specs.Lists.{isNil, All}
 use Rattle.classes.specs.declared.Shape.{Shape}
-use Rattle.model.specs.Lists.{All, isNil}
-use Rattle.model.specs.Calls.{Answer, blocksOf, isRefused}
-use Rattle.model.specs.Page.{Page, hasMore, reused}
+use Rattle.model.specs.Calls.{blocksOf, isRefused}
+use Rattle.model.specs.Page.{hasMore, reused}
 use Rattle.model.specs.Class.{Class, Result, Ask, done, asks}
 
 -- every page of the partial list, and every empty page as it comes back, has a block to yield

@@ -1,4 +1,4 @@
--- Lists of blocks: from the highest down, within bounds, joined and turned. Assumes nothing.
+-- Lists of blocks: from the highest down, within bounds, joined and turned.
 --     small          the block has an out bit
 --     length-downs, count-downs, downs-below
 --     every-append, every-reverse, every-mono
@@ -12,9 +12,9 @@ use mathlib.Core.Path.{_≡_, refl, ap}
 use lib.Dec.{eqb, ltb}
 use lib.ListN.{length}
 use borrow.Author.Tests.{lt-ltb, le-ltb, ltb-true, ltb-false, eq-eqb, eqb-true, eqb-false}
-use Rattle.model.specs.Lists.{every, count}
-use Rattle.model.proofs.Counts.{by-cases, and-l, and-r}
-use Rattle.pages.specs.Runs.{flag}
+use Rattle.facts.specs.Lists.{every, count}
+use Rattle.facts.proofs.Bools.{by-cases, and-left, and-right}
+use Rattle.words.specs.Host.{digit}
 use Rattle.pages.specs.Stack.{downs}
 
 abbrev pub small : ℕ → Bool
@@ -31,48 +31,48 @@ downs-below a (suc k) m h = rw (lt-ltb (a + k) m (omega arith)) (downs-below a k
 module _ (P : ℕ → Bool) where
   pub every-append : (s t : List ℕ) → every P s ≡ true → every P t ≡ true → every P (s ++ t) ≡ true
   every-append [] t e f = f
-  every-append (x ∷ s) t e f = rw (and-l (P x) (every P s) e) (every-append s t (and-r (P x) (every P s) e) f)
+  every-append (x ∷ s) t e f = rw (and-left (P x) (every P s) e) (every-append s t (and-right (P x) (every P s) e) f)
 
   every-turned : (s t : List ℕ) → every P s ≡ true → every P t ≡ true → every P (reverseAux s t) ≡ true
   every-turned [] t e f = f
-  every-turned (x ∷ s) t e f = every-turned s (x ∷ t) (and-r (P x) (every P s) e) (rw (and-l (P x) (every P s) e) f)
+  every-turned (x ∷ s) t e f = every-turned s (x ∷ t) (and-right (P x) (every P s) e) (rw (and-left (P x) (every P s) e) f)
 
   pub every-reverse : (s : List ℕ) → every P s ≡ true → every P (reverse s) ≡ true
   every-reverse s e = every-turned s [] e refl
 
 pub every-mono : (P Q : ℕ → Bool) → ((i : ℕ) → P i ≡ true → Q i ≡ true) → (s : List ℕ) → every P s ≡ true → every Q s ≡ true
 every-mono P Q m [] e = refl
-every-mono P Q m (x ∷ s) e = rw (m x (and-l (P x) (every P s) e)) (every-mono P Q m s (and-r (P x) (every P s) e))
+every-mono P Q m (x ∷ s) e = rw (m x (and-left (P x) (every P s) e)) (every-mono P Q m s (and-right (P x) (every P s) e))
 
 -- what is below one bound is below another
 pub every-below : (m n : ℕ) → m ≤ n → (s : List ℕ) → every (λ i. ltb i m) s ≡ true → every (λ i. ltb i n) s ≡ true
 every-below m n h = every-mono (λ i. ltb i m) (λ i. ltb i n) (λ i e. lt-ltb i n (omega (arith, ltb-true i m e)))
 
 -- ---- counts
-pub flag-true : (a b : ℕ) → a < b → flag (ltb a b) ≡ 1
-flag-true a b h = rw (lt-ltb a b h)
+pub digit-true : (a b : ℕ) → a < b → digit (ltb a b) ≡ 1
+digit-true a b h = rw (lt-ltb a b h)
 
-pub flag-false : (a b : ℕ) → b ≤ a → flag (ltb a b) ≡ 0
-flag-false a b h = rw (le-ltb a b h)
+pub digit-false : (a b : ℕ) → b ≤ a → digit (ltb a b) ≡ 0
+digit-false a b h = rw (le-ltb a b h)
 
-pub flag-le : (t : Bool) → flag t ≤ 1
-flag-le true = omega arith
-flag-le false = omega arith
+pub digit-le : (t : Bool) → digit t ≤ 1
+digit-le true = omega arith
+digit-le false = omega arith
 
 -- by cases on a test of two numbers, with its value as a number
-pub flag-cases {ℓ} : {P : Type ℓ} (a b : ℕ) → (a < b → flag (ltb a b) ≡ 1 → P) → (b ≤ a → flag (ltb a b) ≡ 0 → P) → P
-flag-cases a b f g = by-cases (ltb a b) (λ e. f (ltb-true a b e) (rw e)) (λ e. g (ltb-false a b e) (rw e))
+pub digit-cases {ℓ} : {P : Type ℓ} (a b : ℕ) → (a < b → digit (ltb a b) ≡ 1 → P) → (b ≤ a → digit (ltb a b) ≡ 0 → P) → P
+digit-cases a b f g = by-cases (ltb a b) (λ e. f (ltb-true a b e) (rw e)) (λ e. g (ltb-false a b e) (rw e))
 
 pub eq-cases {ℓ} : {P : Type ℓ} (a b : ℕ) → (a ≡ b → _≡_ {A = ℕ} (cond (eqb a b) 1 0) 1 → P) → ((a ≡ b → ⊥) → _≡_ {A = ℕ} (cond (eqb a b) 1 0) 0 → P) → P
 eq-cases a b f g = by-cases (eqb a b) (λ e. f (eqb-true a b e) (rw e)) (λ e. g (eqb-false a b e) (rw e))
 
-pub count-downs : (j a k : ℕ) → count j (downs a k) + flag (ltb j a) ≡ flag (ltb j (a + k))
+pub count-downs : (j a k : ℕ) → count j (downs a k) + digit (ltb j a) ≡ digit (ltb j (a + k))
 count-downs j a zero = rw add-zero (omega arith)
 count-downs j a (suc k) =
     let ih = count-downs j a k in
     eq-cases j (a + k)
-    (λ e e′. flag-cases j (a + k) (λ f f′. flag-cases j (a + suc k) (λ g g′. omega arith) (λ g g′. omega arith)) (λ f f′. flag-cases j (a + suc k) (λ g g′. omega arith) (λ g g′. omega arith)))
-    (λ e e′. flag-cases j (a + k) (λ f f′. flag-cases j (a + suc k) (λ g g′. omega arith) (λ g g′. omega arith)) (λ f f′. flag-cases j (a + suc k) (λ g g′. omega (arith, e)) (λ g g′. omega arith)))
+    (λ e e′. digit-cases j (a + k) (λ f f′. digit-cases j (a + suc k) (λ g g′. omega arith) (λ g g′. omega arith)) (λ f f′. digit-cases j (a + suc k) (λ g g′. omega arith) (λ g g′. omega arith)))
+    (λ e e′. digit-cases j (a + k) (λ f f′. digit-cases j (a + suc k) (λ g g′. omega arith) (λ g g′. omega arith)) (λ f f′. digit-cases j (a + suc k) (λ g g′. omega (arith, e)) (λ g g′. omega arith)))
 
 pub small-counts : (is : List ℕ) → ((j : ℕ) → 4096 ≤ j → count j is ≡ 0) → every small is ≡ true
 small-counts [] h = refl

@@ -1,6 +1,7 @@
--- What each step on a class's pages may change: everything but the fields at which a test fails is as it was. Assumes nothing.
+-- What each step on a class's pages may change: everything but the fields at which a test fails is as it was.
 --     changes-linked .. changes-unstow, changes-name, changes-carve, changes-new, changes-pushed
---     back-pushed      blocks that come back: their out bits, then the stack
+--     back-free        blocks that come back leave FREE until they are counted
+use Rattle.facts.specs.Lists.{every}
 use Rattle.model.specs.Page.{isMedium}
 use Prim.Native.Nat.{ℕ, zero, suc, _+_, _-_, _*_, _/_, _≤_, _<_}
 use native.Mathlib.Omega.{arith}
@@ -15,12 +16,12 @@ use Rattle.fields.specs.Clear.{clearOut}
 use Rattle.fields.proofs.Changes.{Changes, changes-none, changes-put, changes-trans}
 use Rattle.fields.proofs.Outcome.{changes-putAt}
 use Rattle.fields.proofs.Clear.{changes-clear}
-use Rattle.model.specs.Lists.{every}
 use Rattle.pages.specs.declared.Park.{Park}
-use Rattle.pages.specs.Runs.{flag, nameRun}
-use Rattle.pages.specs.Stack.{downs, marks, pushed, back}
-use Rattle.pages.specs.Links.{pointNext, linked, cutOut, link, unlink, top, tally, stow, unstow}
-use Rattle.pages.specs.Carve.{stocked, carveAnew, outWords, newRun}
+use Rattle.words.specs.Host.{digit}
+use Rattle.pages.specs.Runs.{nameRun}
+use Rattle.pages.specs.Stack.{downs, marks, pushed}
+use Rattle.pages.specs.Links.{pointNext, linked, cutOut, link, unlink, top, stored, stow, unstow}
+use Rattle.pages.specs.Carve.{stocked, carveAnew, outWords, bareRun, newRun}
 use Rattle.pages.proofs.Downs.{small, length-downs}
 use Rattle.pages.proofs.Marks.{marks-kept}
 use Rattle.pages.proofs.Pushes.{push-changes}
@@ -62,15 +63,15 @@ module _ (t : Field → Bool) (b : List ℕ) (c q : ℕ) (hc : ltb c 76 ≡ true
       (changes-putAt t b _ prev x y hx (point-changes y x hh hy))))
 
   -- ---- the stores
-  module _ (k : Park) (ht : t (class (top k) c) ≡ true) (hk : t (class (tally k) c) ≡ true) where
+  module _ (k : Park) (ht : t (class (top k) c) ≡ true) (hk : t (class (stored k) c) ≡ true) where
     pub changes-unstow : Changes t b (unstow b c k q)
     unfolding unstow
-    changes-unstow = changes-put t b _ (class (tally k) c) _ hc hk (changes-put t b b (class (top k) c) _ hc ht (changes-none t b))
+    changes-unstow = changes-put t b _ (class (stored k) c) _ hc hk (changes-put t b b (class (top k) c) _ hc ht (changes-none t b))
 
     pub changes-stow : t (page next q) ≡ true → Changes t b (stow b c k q)
     unfolding stow
     changes-stow hn =
-        changes-put t b _ (class (tally k) c) _ hc hk
+        changes-put t b _ (class (stored k) c) _ hc hk
         (changes-put t b _ (class (top k) c) _ hc ht (changes-put t b b (page next q) _ refl hn (changes-none t b)))
 
 -- ---- runs and carving
@@ -94,12 +95,12 @@ module _ (t : Field → Bool) (b : List ℕ) (q : ℕ) (hf : t (page free q) ≡
       let l : 0 + length (downs 0 k) ≤ 4096 = omega (arith, length-downs 0 k, stocked-le sh k refl h) in
       changes-put t b _ (page free q) k refl hf
       (changes-put t b _ (page carved q) k refl hk
-      (changes-put t b _ (page virgin q) (flag v) refl hv (push-changes b q 0 t hs (downs 0 k) l)))
+      (changes-put t b _ (page virgin q) (digit v) refl hv (push-changes b q 0 t hs (downs 0 k) l)))
 
 pub changes-new : (t : Field → Bool) (b : List ℕ) (sh : Shape) (q : ℕ) → sh .capacity ≤ 4096
     → t (page free q) ≡ true → t (page virgin q) ≡ true → ((i : ℕ) → t (slot q i) ≡ true) → t (page carved q) ≡ true → t (page listed q) ≡ true
     → ((i : ℕ) → t (out q i) ≡ true) → ((y : ℕ) → q ≤ y → y < q + sh .pages → t (page first y) ≡ true) → Changes t b (newRun b sh q)
-unfolding newRun
+unfolding newRun bareRun
 changes-new t b sh q h hf hv hs hk hl ho hn =
     let b₁ = nameRun b q q (sh .pages) in
     let b₂ = clearOut b₁ q 0 (32 * outWords sh) in
@@ -109,6 +110,5 @@ changes-new t b sh q h hf hv hs hk hl ho hn =
     (changes-carve t (put b₂ (page listed q) 0) q hf hv hs sh true hk h)
 
 -- ---- blocks that come back
-pub back-pushed : (b : List ℕ) (q : ℕ) (is : List ℕ) → every small is ≡ true → back b q is ≡ pushed (marks b q 0 is) q is
-unfolding back pushed
-back-pushed b q is s = let e : get (marks b q 0 is) (page free q) ≡ get b (page free q) = marks-kept b q 0 is s (page free q) refl refl in rw e
+pub back-free : (b : List ℕ) (q : ℕ) (is : List ℕ) → every small is ≡ true → get (marks b q 0 is) (page free q) ≡ get b (page free q)
+back-free b q is s = marks-kept b q 0 is s (page free q) refl refl

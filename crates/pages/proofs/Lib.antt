@@ -5,3 +5,5 @@ pub mod Pushes
 pub mod Spliced
 pub mod Draws
 pub mod Frames
+pub mod FairLaws
+pub mod NewRun

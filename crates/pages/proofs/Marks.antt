@@ -1,4 +1,4 @@
--- Out bits of listed blocks set or cleared. Assumes nothing.
+-- Out bits of listed blocks set or cleared.
 --     length-marks, marks-append
 --     marks-changes, marks-kept    nothing else is changed
 --     marks-get, marks-at          what is read of a block's bit
@@ -11,12 +11,13 @@ use mathlib.Core.Path.{_≡_, refl, sym, ap, _∙_}
 use lib.Dec.{eqb, ltb, leb}
 use lib.ListN.{length}
 use borrow.Author.Tests.{lt-ltb, ltb-true, ne-eqb, eqb-true, eqb-false}
+use Rattle.facts.specs.Lists.{every, count}
+use Rattle.facts.proofs.Bools.{by-cases, and-left, and-right}
 use Rattle.classes.specs.declared.Shape.{Shape}
 use Rattle.fields.specs.Field.{Field, region, out, get, put, ok, words}
 use Rattle.fields.proofs.Laws.{get-put-same, get-put-other, length-put}
 use Rattle.fields.proofs.Changes.{Changes, changes-none, changes-put}
-use Rattle.model.specs.Lists.{every, count}
-use Rattle.model.proofs.Counts.{by-cases, and-l, and-r, every-count}
+use Rattle.model.proofs.Counts.{every-count}
 use Rattle.pages.specs.Stack.{marked, marks}
 use Rattle.pages.proofs.Downs.{small, every-below}
 
@@ -35,8 +36,8 @@ module _ (b : List ℕ) (q v : ℕ) where
   pub marks-changes : (t : Field → Bool) → ((i : ℕ) → t (out q i) ≡ true) → (is : List ℕ) → every small is ≡ true → Changes t b (marks b q v is)
   marks-changes t h [] s = changes-none t b
   marks-changes t h (i ∷ is) s =
-      changes-put t b (marks b q v is) (out q i) v (and-l (small i) (every small is) s) (h i)
-      (marks-changes t h is (and-r (small i) (every small is) s))
+      changes-put t b (marks b q v is) (out q i) v (and-left (small i) (every small is) s) (h i)
+      (marks-changes t h is (and-right (small i) (every small is) s))
 
   pub marks-kept : (is : List ℕ) → every small is ≡ true → (g : Field) → ok g ≡ true → isMark g ≡ false → get (marks b q v is) g ≡ get b g
   marks-kept is s g o d = marks-changes isMark (λ i. refl) is s .kept g o d
@@ -45,8 +46,8 @@ module _ (n : ℕ) (b : List ℕ) (hb : leb (words n) (length b) ≡ true) (q : 
   pub marks-get : (is : List ℕ) → every small is ≡ true → (j : ℕ) → ltb j 4096 ≡ true → get (marks b q v is) (out q j) ≡ cond (eqb (count j is) 0) (get b (out q j)) v
   marks-get [] s j l = refl
   marks-get (i ∷ is) s j l =
-      let si = and-l (small i) (every small is) s in
-      let sis = and-r (small i) (every small is) s in
+      let si = and-left (small i) (every small is) s in
+      let sis = and-right (small i) (every small is) s in
       let hb′ : leb (words n) (length (marks b q v is)) ≡ true = rw length-marks hb in
       by-cases (eqb j i)
       (λ e.

@@ -1,4 +1,4 @@
--- Blocks laid on a page's stack. Assumes nothing.
+-- Blocks laid on a page's stack.
 --     length-push, push-changes, push-kept
 --     push-under     entries below the old top are as they were
 --     tops-push      what was laid on is on top
@@ -10,11 +10,11 @@ use mathlib.Core.Path.{_≡_, refl, ap, _∙_}
 use lib.Dec.{eqb, ltb, leb}
 use lib.ListN.{length}
 use borrow.Author.Tests.{lt-ltb, ltb-true, ne-eqb}
+use Rattle.facts.specs.Lists.{every}
+use Rattle.facts.proofs.Bools.{and-left, and-right}
 use Rattle.fields.specs.Field.{Field, region, slot, get, put, ok, words}
 use Rattle.fields.proofs.Laws.{get-put-same, get-put-other, length-put}
 use Rattle.fields.proofs.Changes.{Changes, changes-none, changes-put}
-use Rattle.model.specs.Lists.{every}
-use Rattle.model.proofs.Counts.{and-l, and-r}
 use Rattle.pages.specs.Stack.{tops, push}
 use Rattle.pages.proofs.Downs.{small}
 use Rattle.pages.proofs.Tops.{tops-kept}
@@ -53,14 +53,14 @@ module _ (n : ℕ) (b : List ℕ) (hb : leb (words n) (length b) ≡ true) (q : 
       let top = t₀ + length is in
       let m = length is + t₀ in
       let ok′ : ltb top 4096 ≡ true = lt-ltb top 4096 (omega arith) in
-      let si = ltb-true i 4096 (and-l (small i) (every small is) s) in
+      let si = ltb-true i 4096 (and-left (small i) (every small is) s) in
       let hb′ : leb (words n) (length b′) ≡ true = rw length-push hb in
       let here : get (put b′ (slot q top) i) (slot q m) ≡ i = ap (λ z. get (put b′ (slot q top) i) (slot q z)) (omega arith) ∙ get-put-same n b′ (slot q top) i hb′ (rw ok′ hq) (lt-ltb i 65536 (omega arith)) in
       let rest : tops (put b′ (slot q top) i) q m m ≡ tops b′ q m m =
       tops-kept b′ (put b′ (slot q top) i) q m m (λ j h. get-put-other b′ (slot q top) (slot q j) i ok′ (lt-ltb j 4096 (omega arith)) (rw (ne-eqb top j (λ z. omega arith)))) in
       shifted m (suc (length is) + t₀) (omega arith)
       ∙ ap (λ x. x ∷ tops (put b′ (slot q top) i) q m m) here
-      ∙ ap (λ l. i ∷ l) (rest ∙ tops-push is (omega arith) (and-r (small i) (every small is) s))
+      ∙ ap (λ l. i ∷ l) (rest ∙ tops-push is (omega arith) (and-right (small i) (every small is) s))
     where
       shifted : (m x : ℕ) → suc m ≡ x → tops (push b q t₀ (i ∷ is)) q x x ≡ get (push b q t₀ (i ∷ is)) (slot q m) ∷ tops (push b q t₀ (i ∷ is)) q m m
       shifted m x e = rw (← e)

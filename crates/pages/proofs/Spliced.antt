@@ -1,4 +1,4 @@
--- Words laid over a list's own. Assumes nothing.
+-- Words laid over a list's own.
 --     length-spliced    the list keeps its length
 --     spliced-none      no words
 --     spliced-one       one word

@@ -1,4 +1,4 @@
--- The top entries of a page's stack. Assumes nothing.
+-- The top entries of a page's stack.
 --     length-tops    how many there are
 --     tops-cut       there are no more than the stack has
 --     popped-more    one more popped, in the order of a list that has the latest first
@@ -10,9 +10,9 @@ use mathlib.Core.Bool.{Bool, true}
 use mathlib.Core.List.{List, [], _∷_, _++_, reverse, reverse-append}
 use mathlib.Core.Path.{_≡_, refl, ap, _∙_}
 use lib.ListN.{length}
+use Rattle.facts.specs.Lists.{every}
+use Rattle.facts.proofs.Bools.{and-left, and-right}
 use Rattle.fields.specs.Field.{slot, get}
-use Rattle.model.specs.Lists.{every}
-use Rattle.model.proofs.Counts.{and-l, and-r}
 use Rattle.pages.specs.Stack.{tops}
 
 module _ (b : List ℕ) (q : ℕ) where
@@ -45,18 +45,18 @@ module _ (b : List ℕ) (q : ℕ) where
     pub every-tops : (n t j : ℕ) → every P (tops b q n t) ≡ true → j < n → j < t → P (get b (slot q (t - suc j))) ≡ true
     every-tops zero t j e h l = absurd (omega arith)
     every-tops (suc n) zero j e h l = absurd (omega arith)
-    every-tops (suc n) (suc t) zero e h l = ap P (at-top (suc t - 1) t (omega arith)) ∙ and-l (P (get b (slot q t))) (every P (tops b q n t)) e
+    every-tops (suc n) (suc t) zero e h l = ap P (at-top (suc t - 1) t (omega arith)) ∙ and-left (P (get b (slot q t))) (every P (tops b q n t)) e
     every-tops (suc n) (suc t) (suc j) e h l =
         ap P (at-top (suc t - suc (suc j)) (t - suc j) (omega arith))
-        ∙ every-tops n t j (and-r (P (get b (slot q t))) (every P (tops b q n t)) e) (omega arith) (omega arith)
+        ∙ every-tops n t j (and-right (P (get b (slot q t))) (every P (tops b q n t)) e) (omega arith) (omega arith)
 
     pub tops-fewer : (k n t : ℕ) → k ≤ n → every P (tops b q n t) ≡ true → every P (tops b q k t) ≡ true
     tops-fewer zero n t h e = refl
     tops-fewer (suc k) zero t h e = absurd (omega arith)
     tops-fewer (suc k) (suc n) zero h e = refl
     tops-fewer (suc k) (suc n) (suc t) h e =
-        rw (and-l (P (get b (slot q t))) (every P (tops b q n t)) e)
-        (tops-fewer k n t (omega arith) (and-r (P (get b (slot q t))) (every P (tops b q n t)) e))
+        rw (and-left (P (get b (slot q t))) (every P (tops b q n t)) e)
+        (tops-fewer k n t (omega arith) (and-right (P (get b (slot q t))) (every P (tops b q n t)) e))
 
 pub tops-kept : (b b′ : List ℕ) (q n t : ℕ) → ((i : ℕ) → i < t → get b′ (slot q i) ≡ get b (slot q i)) → tops b′ q n t ≡ tops b q n t
 tops-kept b b′ q zero t k = refl

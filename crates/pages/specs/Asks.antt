@@ -1,20 +1,20 @@
 -- What the functions ask of the words: those that they read and write are there, and no sum leaves 32 bits.
--- A page is there where the book has its words; a stored code is one of a page that is there, or 0. Assumes nothing.
+-- A page is there where the book has its words; a stored code is one of a page that is there, or 0.
 use Prim.Native.Nat.{ℕ, _+_, _^_, _<_, _≤_}
 use mathlib.Core.Bool.{true}
 use mathlib.Core.List.{List}
 use mathlib.Core.Path.{_≡_}
 use lib.Dec.{ltb}
 use lib.ListN.{length}
+use Rattle.facts.specs.Lists.{every}
 use Rattle.classes.specs.declared.Shape.{Shape}
 use Rattle.classes.specs.Sound.{Sound}
 use Rattle.fields.specs.Field as Field
 use Rattle.fields.specs.Field.{class, page, partial, next, prev, words, get}
 use Rattle.fields.specs.Ranges.{maxPages, maxParked}
-use Rattle.model.specs.Lists.{every}
 use Rattle.pages.specs.declared.Park.{Park}
-use Rattle.pages.specs.Links.{tally}
-use Rattle.pages.specs.Stack.{tops, latest}
+use Rattle.pages.specs.Links.{stored}
+use Rattle.pages.specs.Stack.{tops, latest, pageSlots}
 
 -- ---- the class's lists
 pub record RowAsks (b : List ℕ) (c : ℕ) : Type 0 where
@@ -44,19 +44,23 @@ pub record ParkAsks (b : List ℕ) (c : ℕ) (k : Park) (q : ℕ) : Type 0 where
   pub known : c < 76
   pub below : q < maxPages
   pub there : words (q + 1) ≤ length b
-  pub few : get b (class (tally k) c) ≤ maxParked
+  pub few : get b (class (stored k) c) ≤ maxParked
 
 pub record UnparkAsks (b : List ℕ) (c : ℕ) (k : Park) (q : ℕ) : Type 0 where
   pub known : c < 76
   pub there : words (q + 1) ≤ length b
-  pub some : 1 ≤ get b (class (tally k) c)
+  pub some : 1 ≤ get b (class (stored k) c)
 
 pub record WakeAsks (b : List ℕ) (c : ℕ) (k : Park) (q : ℕ) : Type 0 where
   pub known : c < 76
   pub below : q < maxPages
   pub there : words (q + 1) ≤ length b
   pub head : words (get b (class partial c)) ≤ length b
-  pub some : 1 ≤ get b (class (tally k) c)
+  pub some : 1 ≤ get b (class (stored k) c)
+
+-- ---- a page's header
+pub record PageAsks (b : List ℕ) (q : ℕ) : Type 0 where
+  pub there : words (q + 1) ≤ length b
 
 -- ---- runs
 -- the m pages from q on, which may be anything else
@@ -75,11 +79,11 @@ pub record RunAsks (b : List ℕ) (q m : ℕ) : Type 0 where
 
 -- ---- carving
 pub record StockAsks (b : List ℕ) (q k : ℕ) : Type 0 where
-  pub few : k ≤ 4096
+  pub few : k ≤ pageSlots
   pub there : words (q + 1) ≤ length b
 
 pub record CarveAsks (b : List ℕ) (sh : Shape) (q : ℕ) : Type 0 where
-  pub few : sh .capacity ≤ 4096
+  pub few : sh .capacity ≤ pageSlots
   pub there : words (q + 1) ≤ length b
 
 pub record ClearAsks (b : List ℕ) (q k : ℕ) : Type 0 where
@@ -115,7 +119,7 @@ pub record PopAsks (b : List ℕ) (sh : Shape) (q : ℕ) (l : List ℕ) (at t k 
   pub sound : Sound sh
   pub below : q + sh .pages ≤ maxPages
   pub there : words (q + 1) ≤ length b
-  pub slots : t ≤ 4096
+  pub slots : t ≤ pageSlots
   pub enough : k ≤ t
   pub entries : every (λ i. ltb i (sh .capacity)) (tops b q k t) ≡ true
   pub room : k ≤ at
@@ -140,14 +144,14 @@ pub record NameAsks (sh : Shape) (q : ℕ) (l : List ℕ) (at a k : ℕ) : Type 
 
 pub record MarkAsks (b : List ℕ) (q a k : ℕ) : Type 0 where
   pub there : words (q + 1) ≤ length b
-  pub blocks : a + k ≤ 4096
+  pub blocks : a + k ≤ pageSlots
 
 -- p blocks from the stack, then r new ones
 pub record BothAsks (b : List ℕ) (sh : Shape) (q : ℕ) (l : List ℕ) (at t p a r : ℕ) : Type 0 where
   pub sound : Sound sh
   pub below : q + sh .pages ≤ maxPages
   pub there : words (q + 1) ≤ length b
-  pub slots : t ≤ 4096
+  pub slots : t ≤ pageSlots
   pub enough : p ≤ t
   pub entries : every (λ i. ltb i (sh .capacity)) (tops b q p t) ≡ true
   pub blocks : a + r ≤ sh .capacity
@@ -168,11 +172,11 @@ pub record PushAsks (b : List ℕ) (sh : Shape) (q : ℕ) (ws : List ℕ) : Type
   pub sound : Sound sh
   pub below : q < maxPages
   pub there : words (q + 1) ≤ length b
-  pub slots : get b (page Field.free q) + length ws ≤ 4096
+  pub slots : get b (page Field.free q) + length ws ≤ pageSlots
 
 -- the words ws laid on a stack whose top stands below t
 pub record LayAsks (b : List ℕ) (sh : Shape) (q t : ℕ) (ws : List ℕ) : Type 0 where
   pub sound : Sound sh
   pub below : q < maxPages
   pub there : words (q + 1) ≤ length b
-  pub slots : t + length ws ≤ 4096
+  pub slots : t + length ws ≤ pageSlots

@@ -1,4 +1,4 @@
--- Carving a run, and a new run from the arena. Assumes nothing.
+-- Carving a run, and a new run from the arena.
 use Prim.Native.Nat.{ℕ, _+_, _*_, _/_}
 use mathlib.Core.Bool.{Bool, true, cond}
 use mathlib.Core.List.{List}
@@ -6,7 +6,8 @@ use Rattle.classes.specs.declared.Shape.{Shape}
 use Rattle.fields.specs.Field.{page, free, carved, listed, virgin, put}
 use Rattle.fields.specs.Clear.{clearOut}
 use Rattle.model.specs.Page.{isMedium}
-use Rattle.pages.specs.Runs.{flag, nameRun}
+use Rattle.words.specs.Host.{digit}
+use Rattle.pages.specs.Runs.{nameRun}
 use Rattle.pages.specs.Stack.{downs, push}
 
 -- how many blocks carving links at once: a span's all, a small page's none
@@ -15,12 +16,16 @@ stocked sh = cond (isMedium sh) (sh .capacity) 0
 
 unfoldable pub carveAnew : List ℕ → Shape → ℕ → Bool → List ℕ
 carveAnew b sh q v =
-    put (put (put (push b q 0 (downs 0 (stocked sh))) (page virgin q) (flag v)) (page carved q) (stocked sh)) (page free q) (stocked sh)
+    put (put (put (push b q 0 (downs 0 (stocked sh))) (page virgin q) (digit v)) (page carved q) (stocked sh)) (page free q) (stocked sh)
 
 -- the words of out bits that blocks below the capacity have
 abbrev pub outWords : Shape → ℕ
 outWords sh = (sh .capacity + 31) / 32
 
--- a run that the arena gave: it names its first page, no block is out, it is in no list, and it is carved
+-- a run that the arena gave: it names its first page, no block is out, and it is in no list
+unfoldable pub bareRun : List ℕ → Shape → ℕ → List ℕ
+bareRun b sh q = put (clearOut (nameRun b q q (sh .pages)) q 0 (32 * outWords sh)) (page listed q) 0
+
+-- and it is carved
 unfoldable pub newRun : List ℕ → Shape → ℕ → List ℕ
-newRun b sh q = carveAnew (put (clearOut (nameRun b q q (sh .pages)) q 0 (32 * outWords sh)) (page listed q) 0) sh q true
+newRun b sh q = carveAnew (bareRun b sh q) sh q true

@@ -1,4 +1,4 @@
--- A class's lists of pages. A page is stored as its code, page + 1, and 0 is none. Assumes nothing.
+-- A class's lists of pages. A page is stored as its code, page + 1, and 0 is none.
 --     link, unlink     into the partial list at its head, and out of it, wherever the page stands
 --     stow, unstow     onto the empty or the cold store, and the newest page off it
 use Prim.Native.Nat.{ℕ, zero, suc, _+_, _-_}
@@ -39,16 +39,16 @@ abbrev pub top : Park → ClassField
 top Empty = empty
 top Cold = cold
 
-abbrev pub tally : Park → ClassField
-tally Empty = emptyCount
-tally Cold = coldCount
+abbrev pub stored : Park → ClassField
+stored Empty = emptyCount
+stored Cold = coldCount
 
 unfoldable pub unstow : List ℕ → ℕ → Park → ℕ → List ℕ
-unstow b c k q = put (put b (class (top k) c) (get b (page next q))) (class (tally k) c) (get b (class (tally k) c) - 1)
+unstow b c k q = put (put b (class (top k) c) (get b (page next q))) (class (stored k) c) (get b (class (stored k) c) - 1)
 
 unfoldable pub stow : List ℕ → ℕ → Park → ℕ → List ℕ
 stow b c k q =
-    put (put (put b (page next q) (get b (class (top k) c))) (class (top k) c) (q + 1)) (class (tally k) c) (get b (class (tally k) c) + 1)
+    put (put (put b (page next q) (get b (class (top k) c))) (class (top k) c) (q + 1)) (class (stored k) c) (get b (class (stored k) c) + 1)
 
 -- a page of a store heads the partial list
 abbrev pub wake : List ℕ → ℕ → Park → ℕ → List ℕ

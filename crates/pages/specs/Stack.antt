@@ -1,4 +1,4 @@
--- The stack of a page's free blocks, its out bits, and what it gives and takes back. Blocks are indices here. Assumes nothing.
+-- The stack of a page's free blocks, its out bits, and what it gives and takes back. Blocks are indices here.
 --     marked    the out bit of block i, 0 at and above the capacity
 --     tops      the top n entries of a stack whose top stands below t, the topmost first
 --     marks     the out bits of the listed blocks set to v, the list's last first
@@ -7,18 +7,24 @@
 --     push      blocks laid on a stack whose top stands below t, the list's first on top
 --     pushed    the page with listed blocks back on its stack
 --     back      the page after the listed blocks came back
+--     pageAt    the page that has a word's granule
 --     indexOf   the block that a word names in the run at q; a word below the run's first block names block 0
+--     isBlock   the word is a block of the run at q
 --     spliced   a list with words over its own from place a on
 use Prim.Native.Nat.{ℕ, zero, suc, _+_, _-_, _*_, _/_, min}
-use mathlib.Core.Bool.{Bool, cond, not, _||_}
+use mathlib.Core.Bool.{Bool, cond, not, _&&_, _||_}
 use mathlib.Core.List.{List, [], _∷_, _++_, map, reverse}
 use mathlib.Core.Path.{_≡_}
-use lib.Dec.{eqb, ltb}
+use lib.Dec.{eqb, ltb, leb}
 use lib.ListN.{length, take, drop}
 use Rattle.words.specs.Word.{granuleOf}
 use Rattle.classes.specs.declared.Shape.{Shape}
 use Rattle.fields.specs.Field.{page, slot, out, free, carved, virgin, get, put}
 use Rattle.model.specs.Page.{pageGranules, wordOf}
+
+-- slots of a page's stack, and out bits: no shape has more blocks
+abbrev pub pageSlots : ℕ
+pageSlots = 4096
 
 unfoldable pub marked : List ℕ → Shape → ℕ → ℕ → ℕ
 marked b sh q i = cond (ltb i (sh .capacity)) (get b (out q i)) 0
@@ -60,15 +66,22 @@ unfoldable pub pushed : List ℕ → ℕ → List ℕ → List ℕ
 pushed b q is = put (put (push b q (get b (page free q)) is) (page virgin q) 0) (page free q) (get b (page free q) + length is)
 
 unfoldable pub back : List ℕ → ℕ → List ℕ → List ℕ
-back b q is =
-    put (put (push (marks b q 0 is) q (get b (page free q)) is) (page virgin q) 0) (page free q) (get b (page free q) + length is)
+back b q is = pushed (marks b q 0 is) q is
 
 -- ---- words of blocks
+abbrev pub pageAt : ℕ → ℕ
+pageAt w = granuleOf w / pageGranules
+
 abbrev pub blocksFrom : Shape → ℕ → ℕ
 blocksFrom sh q = q * pageGranules + sh .header
 
 unfoldable pub indexOf : Shape → ℕ → ℕ → ℕ
 indexOf sh q w = (granuleOf w - blocksFrom sh q) / sh .block
+
+unfoldable pub isBlock : Shape → ℕ → ℕ → Bool
+isBlock sh q w =
+    leb (blocksFrom sh q) (granuleOf w)
+    && (eqb (indexOf sh q w * sh .block) (granuleOf w - blocksFrom sh q) && ltb (indexOf sh q w) (sh .capacity))
 
 unfoldable pub spliced : List ℕ → ℕ → List ℕ → List ℕ
 spliced l a ws = take a l ++ (ws ++ drop (a + length ws) l)
@@ -80,5 +93,5 @@ pub record Gave (b : List ℕ) (sh : Shape) (q : ℕ) (l : List ℕ) (at : ℕ) 
 
 pub record Drawn (r : ℕ) (b′ l′ b : List ℕ) (sh : Shape) (q : ℕ) (l : List ℕ) (at m : ℕ) : Type 0 where
   pub count : r ≡ length (latest b sh q m)
-  pub meta : b′ ≡ draw b sh q m
+  pub book : b′ ≡ draw b sh q m
   pub list : l′ ≡ spliced l (at - length (latest b sh q m)) (map (wordOf sh q) (latest b sh q m))

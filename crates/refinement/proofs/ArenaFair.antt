@@ -2,7 +2,6 @@
 --     record-passes, memory-passes, holes-passes    the record, the memory of a length, the holes
 --     commit-passes                                 all that a commit tests
 --     give-passes                                   all that a give of held pages tests
--- Assumes nothing.
 use Prim.Native.Nat.{ℕ, zero, suc, _+_, _≤_, _<_}
 use native.Mathlib.Omega.{arith}
 use mathlib.Core.Bool.{true}
@@ -12,18 +11,18 @@ use mathlib.Core.Path.{_≡_, refl, sym, ap, _∙_}
 use lib.Dec.{leb}
 use lib.ListN.{length}
 use borrow.Author.Tests.{le-leb, leb-true}
-use Rattle.fields.specs.Field.{arena, memory, state, frontier, holes, holePages, commits, commitsHigh, reuses, reusesHigh, abandoned, abandonedHigh, held, get}
-use Rattle.model.specs.HoleStore.{holeSlots}
+use Rattle.facts.specs.Lists.{every, All, total}
+use Rattle.facts.proofs.Bools.{by-cases}
+use Rattle.fields.specs.Field.{arena, memory, state, frontier, holes, holePages, held, get}
+use Rattle.words.specs.Limits.{holeSlots, holePagesMax, rememberedMax}
 use Rattle.model.specs.declared.Hole.{Hole}
-use Rattle.model.specs.Lists.{All, every, total}
 use Rattle.model.specs.Arena.{Arena, Status, unasked, ready, disabled}
 use Rattle.model.specs.Heap.{Heap, heldPages}
-use Rattle.model.proofs.Counts.{by-cases}
 use Rattle.model.proofs.IdlePages.{HolesBelow}
-use Rattle.arena.specs.Load.{statusCode, indexOf, wide, recall, loadHoles, loadStore, loadArena}
+use Rattle.arena.specs.Load.{statusCode, indexOf, recall, loadHoles, loadStore, loadArena}
 use Rattle.arena.specs.Fair.{holeFair, recordFair, holesFair, memoryFair, commitFair, giveFair}
 use Rattle.arena.specs.Represents.{ArenaRep}
-use Rattle.arena.proofs.StoreLaws.{loaded-length}
+use Rattle.arena.proofs.Frames.{loaded-length}
 use Rattle.refinement.proofs.ArenaReached.{Reached, reached-holes, held-le}
 
 -- ---- what the words of an arena that is loaded are
@@ -39,18 +38,6 @@ module _ (b : List ℕ) (a : Arena) (loads : loadArena b ≡ a) where
   pub loads-holes : loadHoles b 0 (get b (arena holes)) ≡ a .store .holes
   unfolding loadArena loadStore
   loads-holes = ap (λ x. x .store .holes) loads
-
-  pub loads-commits : wide b commits commitsHigh ≡ a .commits
-  unfolding loadArena
-  loads-commits = ap (λ x. x .commits) loads
-
-  pub loads-reuses : wide b reuses reusesHigh ≡ a .reuses
-  unfolding loadArena
-  loads-reuses = ap (λ x. x .reuses) loads
-
-  pub loads-abandoned : wide b abandoned abandonedHigh ≡ a .abandoned
-  unfolding loadArena
-  loads-abandoned = ap (λ x. x .abandoned) loads
 
   pub loads-number : get b (arena holes) ≡ length (a .store .holes)
   loads-number = sym (loaded-length b 0 (get b (arena holes))) ∙ ap length loads-holes
@@ -90,16 +77,16 @@ module _ (n : ℕ) (b : List ℕ) (H : Heap) (rep : ArenaRep n b H) (r : Reached
         f,
         le-leb (a .frontier) n (r .bound),
         k,
-        le-leb (length (a .store .holes)) 4096 (r .tidy .slots),
+        le-leb (length (a .store .holes)) holeSlots (r .tidy .slots),
         t,
-        le-leb (a .store .total) 65536 (r .tidy .pages),
+        le-leb (a .store .total) holePagesMax (r .tidy .pages),
         rep .held,
         le-leb (heldPages n H) n (held-le n H r),
       )
 
   pub memory-passes : (m : ℕ) → memoryFair b m ≡ true
   memory-passes m =
-      by-cases (leb m 128)
+      by-cases (leb m rememberedMax)
       (λ e. rw e (code-range (get b (memory m)) (H .arena .store .memory m) (rw e at (loads-memory b (H .arena) (rep .loads) m)) (r .tidy .memory m (leb-true m 128 e) .slot)))
       (λ e. rw e)
 

@@ -3,7 +3,6 @@
 --     step-row, step-page  so a class's row and a page's other words are as they were
 --     names b d x y        page y says that it is of class d's run at x
 --     whole-same           a run is whole as before if below the old frontier its pages are named as before, and no page above it names it
--- Assumes nothing.
 use Prim.Native.Nat.{ℕ, zero, suc, _+_, _-_, _≤_, _<_}
 use native.Mathlib.Omega.{arith}
 use mathlib.Core.Bool.{Bool, true, false, _&&_, _||_, true≢false, false≢true}
@@ -12,21 +11,26 @@ use mathlib.Core.Option.{Option, none, some}
 use mathlib.Core.Path.{_≡_, refl, sym, ap, _∙_}
 use lib.Dec.{eqb, ltb, leb}
 use lib.ListN.{length}
-use borrow.Author.Tests.{lt-ltb, ltb-true, ltb-false, eqb-true, eqb-false, le-leb, leb-true, leb-false}
+use borrow.Author.Tests.{lt-ltb, ltb-true, ltb-false, le-leb, leb-true, leb-false}
+use Rattle.facts.specs.Lists.{every, below}
+use Rattle.facts.proofs.Bools.{by-cases, and-left, and-right, or-left, or-right}
+use Rattle.facts.proofs.Lists.{every-at, every-cong}
+use Rattle.model.specs.Cover.{inRun}
+use Rattle.model.specs.Heap.{direct}
+use Rattle.arena.specs.Owners.{ownerCode}
+use Rattle.words.specs.Limits.{holeSlots}
 use Rattle.classes.specs.declared.Shape.{Shape}
 use Rattle.fields.specs.Field.{Field, arena, memory, class, hole, page, out, slot, ClassField, PageField, owner, first, frontier, held, arenaOff, pageOff, get, put, words}
 use Rattle.fields.proofs.Laws.{get-put-same, length-put}
 use Rattle.fields.proofs.Changes.{Changes, changes-none, changes-put, changes-trans, changes-mono}
-use Rattle.model.specs.Lists.{every, below, inRun}
 use Rattle.model.specs.Arena.{Arena, Given, Grown}
 use Rattle.model.specs.Arena as Model
-use Rattle.model.proofs.Counts.{by-cases, and-l, and-r}
 use Rattle.pages.specs.Runs.{ofRun, whole}
 use Rattle.arena.specs.Load.{loadArena}
 use Rattle.arena.specs.Store.{storeArena}
 use Rattle.arena.specs.Owners.{own, ownRun, heldWith}
 use Rattle.arena.specs.Calls.{advance, committed, given, grownBy, grownBook}
-use Rattle.refinement.proofs.ArenaStore.{isStored, store-changes}
+use Rattle.arena.proofs.Frames.{isStored, arena-changes}
 
 -- ---- which words
 abbrev pub isOwner : (ℕ → Bool) → Field → Bool
@@ -95,7 +99,7 @@ owner-step t u h (out p i) e = e
 owner-step t u h (slot p i) e = e
 
 stored-step : (u : ℕ → Bool) (g : Field) → isStored g ≡ true → isStep u g ≡ true
-stored-step u (arena k) e = and-l (ltb 0 (arenaOff k)) (ltb (arenaOff k) 11) e
+stored-step u (arena k) e = and-left (ltb 0 (arenaOff k)) (ltb (arenaOff k) 11) e
 stored-step u (memory m) e = refl
 stored-step u (class k c) e = absurd (false≢true e)
 stored-step u (hole k i) e = refl
@@ -105,8 +109,8 @@ stored-step u (slot p i) e = absurd (false≢true e)
 
 in-rest : (m q x : ℕ) → inRun m (suc q) x ≡ true → inRun (suc m) q x ≡ true
 in-rest m q x e =
-    let l = leb-true (suc q) x (and-l (leb (suc q) x) (ltb x (suc q + m)) e) in
-    let u = ltb-true x (suc q + m) (and-r (leb (suc q) x) (ltb x (suc q + m)) e) in
+    let l = leb-true (suc q) x (and-left (leb (suc q) x) (ltb x (suc q + m)) e) in
+    let u = ltb-true x (suc q + m) (and-right (leb (suc q) x) (ltb x (suc q + m)) e) in
     rw (le-leb q x (omega arith), lt-ltb x (q + suc m) (omega arith))
 
 in-first : (m q : ℕ) → inRun (suc m) q q ≡ true
@@ -125,7 +129,7 @@ own-changes b q (suc m) w =
 pub own-in : (n : ℕ) (b : List ℕ) (q m w x : ℕ) → leb (words n) (length b) ≡ true → q + m ≤ n → inRun m q x ≡ true → get (own b q m w) (page owner x) ≡ w
 unfolding own
 own-in n b q zero w x hb l e =
-    absurd (let u = leb-true q x (and-l (leb q x) (ltb x (q + 0)) e) in let v = ltb-true x (q + 0) (and-r (leb q x) (ltb x (q + 0)) e) in omega arith)
+    absurd (let u = leb-true q x (and-left (leb q x) (ltb x (q + 0)) e) in let v = ltb-true x (q + 0) (and-right (leb q x) (ltb x (q + 0)) e) in omega arith)
 own-in n b q (suc m) w x hb l e =
     let c = put b (page owner q) w in
     let hc : leb (words n) (length c) ≡ true = rw length-put hb in
@@ -135,8 +139,8 @@ own-in n b q (suc m) w x hb l e =
   where
     only-first : (m q x : ℕ) → inRun (suc m) q x ≡ true → inRun m (suc q) x ≡ false → q ≡ x
     only-first m q x e d =
-        let l = leb-true q x (and-l (leb q x) (ltb x (q + suc m)) e) in
-        let u = ltb-true x (q + suc m) (and-r (leb q x) (ltb x (q + suc m)) e) in
+        let l = leb-true q x (and-left (leb q x) (ltb x (q + suc m)) e) in
+        let u = ltb-true x (q + suc m) (and-right (leb q x) (ltb x (q + suc m)) e) in
         by-cases (leb (suc q) x)
         (λ k. absurd (let v : ltb x (suc q + m) ≡ false = rw k at d in let y = ltb-false x (suc q + m) v in omega arith))
         (λ k. let v = leb-false (suc q) x k in omega arith)
@@ -150,30 +154,22 @@ run-changes b (some q) m w = own-changes b q m w
 abbrev pub either : (ℕ → Bool) → (ℕ → Bool) → ℕ → Bool
 either t u x = t x || u x
 
-or-left : (s t : Bool) → s ≡ true → (s || t) ≡ true
-or-left true t e = refl
-or-left false t e = absurd (false≢true e)
-
-or-right : (s t : Bool) → t ≡ true → (s || t) ≡ true
-or-right true t e = refl
-or-right false t e = e
-
 -- the pages that a frontier passed
 abbrev pub passed : List ℕ → Arena → ℕ → Bool
 passed b a = inRun (a .frontier - get b (arena frontier)) (get b (arena frontier))
 
-pub advance-changes : (b : List ℕ) (a : Arena) → length (a .store .holes) ≤ 4096 → Changes (isStep (passed b a)) b (advance b a)
+pub advance-changes : (b : List ℕ) (a : Arena) → length (a .store .holes) ≤ holeSlots → Changes (isStep (passed b a)) b (advance b a)
 unfolding advance
 advance-changes b a l =
     let t = passed b a in
     let f = get b (arena frontier) in
     let c = storeArena b a in
     changes-trans (isStep t) b c (own c f (a .frontier - f) 0)
-    (changes-mono isStored (isStep t) b c (stored-step t) (store-changes b a l))
+    (changes-mono isStored (isStep t) b c (stored-step t) (arena-changes b a l))
     (changes-mono (isOwner t) (isStep t) c (own c f (a .frontier - f) 0) (owner-step t t (λ x e. e)) (own-changes c f (a .frontier - f) 0))
 
 -- what a commit or a growth writes: the frontier passed pages, a run got an owner, HELD changed
-passed-changes : (b : List ℕ) (a : Arena) (o : Option ℕ) (m w k : ℕ) → length (a .store .holes) ≤ 4096
+passed-changes : (b : List ℕ) (a : Arena) (o : Option ℕ) (m w k : ℕ) → length (a .store .holes) ≤ holeSlots
     → Changes (isStep (either (passed b a) (inRunOf m o))) b (put (ownRun (advance b a) o m w) (arena held) k)
 passed-changes b a o m w k l =
     let t = passed b a in
@@ -194,50 +190,39 @@ passed-changes b a o m w k l =
     step-mono t u h (out p i) e = e
     step-mono t u h (slot p i) e = e
 
-pub committed-changes : (b : List ℕ) (g : Given) (m w : ℕ) → length (g .arena .store .holes) ≤ 4096
+pub committed-changes : (b : List ℕ) (g : Given) (m w : ℕ) → length (g .arena .store .holes) ≤ holeSlots
     → Changes (isStep (either (passed b (g .arena)) (inRunOf m (g .run)))) b (committed b g m w)
 unfolding committed
 committed-changes b g m w l = passed-changes b (g .arena) (g .run) m w (heldWith (get b (arena held)) (g .run) m) l
 
-pub grown-changes : (b : List ℕ) (g : Grown) (e m : ℕ) → length (g .arena .store .holes) ≤ 4096
+pub grown-changes : (b : List ℕ) (g : Grown) (e m : ℕ) → length (g .arena .store .holes) ≤ holeSlots
     → Changes (isStep (either (passed b (g .arena)) (inRunOf m (grownBy (g .grew) e)))) b (grownBook b g e m)
 unfolding grownBook
-grown-changes b g e m l = passed-changes b (g .arena) (grownBy (g .grew) e) m 77 (heldWith (get b (arena held)) (grownBy (g .grew) e) m) l
+grown-changes b g e m l = passed-changes b (g .arena) (grownBy (g .grew) e) m (ownerCode direct) (heldWith (get b (arena held)) (grownBy (g .grew) e) m) l
 
-pub given-changes : (b : List ℕ) (q m : ℕ) → length (Model.give m q (loadArena b) .store .holes) ≤ 4096 → Changes (isStep (inRun m q)) b (given b q m)
+pub given-changes : (b : List ℕ) (q m : ℕ) → length (Model.give m q (loadArena b) .store .holes) ≤ holeSlots → Changes (isStep (inRun m q)) b (given b q m)
 unfolding given
 given-changes b q m l =
     let t = inRun m q in
     let c = storeArena b (Model.give m q (loadArena b)) in
     changes-put (isStep t) b (own c q m 0) (arena held) (get b (arena held) - m) refl refl
     (changes-trans (isStep t) b c (own c q m 0)
-    (changes-mono isStored (isStep t) b c (stored-step t) (store-changes b (Model.give m q (loadArena b)) l))
+    (changes-mono isStored (isStep t) b c (stored-step t) (arena-changes b (Model.give m q (loadArena b)) l))
     (changes-mono (isOwner t) (isStep t) c (own c q m 0) (owner-step t t (λ x e. e)) (own-changes c q m 0)))
 
 -- ---- runs
 abbrev pub names : List ℕ → ℕ → ℕ → ℕ → Bool
 names b d x y = eqb (get b (page owner y)) (suc d) && eqb (get b (page first y)) x
 
-pub every-cong : (s t : ℕ → Bool) (m : ℕ) → ((k : ℕ) → k < m → s k ≡ t k) → every s (below m) ≡ every t (below m)
-every-cong s t zero h = refl
-every-cong s t (suc m) h = rw (h m (omega arith), every-cong s t m (λ k l. h k (omega arith)))
-
-pub every-at : (t : ℕ → Bool) (m k : ℕ) → every t (below m) ≡ true → k < m → t k ≡ true
-every-at t zero k e h = absurd (omega arith)
-every-at t (suc m) k e h =
-    by-cases (eqb k m)
-    (λ d. rw (eqb-true k m d) (and-l (t m) (every t (below m)) e))
-    (λ d. let z : k ≡ m → ⊥ = eqb-false k m d in every-at t m k (and-r (t m) (every t (below m)) e) (omega (arith, z)))
-
 -- every page of a run that is whole names it
 pub whole-names : (n : ℕ) (b : List ℕ) (sh : Shape) (d x y : ℕ) → whole n b sh d x ≡ true → inRun (sh .pages) x y ≡ true → names b d x y ≡ true
 unfolding whole
 whole-names n b sh d x y e r =
-    let l = leb-true x y (and-l (leb x y) (ltb y (x + sh .pages)) r) in
-    let u = ltb-true y (x + sh .pages) (and-r (leb x y) (ltb y (x + sh .pages)) r) in
+    let l = leb-true x y (and-left (leb x y) (ltb y (x + sh .pages)) r) in
+    let u = ltb-true y (x + sh .pages) (and-right (leb x y) (ltb y (x + sh .pages)) r) in
     let ends = leb (x + sh .pages) (get b (arena frontier)) in
     let pages = every (ofRun b d x) (below (sh .pages)) in
-    let all = and-r ends pages (and-r (leb (x + sh .pages) n) (ends && pages) e) in
+    let all = and-right ends pages (and-right (leb (x + sh .pages) n) (ends && pages) e) in
     let z : x + (y - x) ≡ y = omega arith in
     rw z at (every-at (ofRun b d x) (sh .pages) (y - x) all (omega arith))
 
@@ -257,7 +242,7 @@ whole-ends n b sh d x e =
     let inside = leb (x + sh .pages) n in
     let ends = leb (x + sh .pages) f in
     let pages = every (ofRun b d x) (below (sh .pages)) in
-    (leb-true (x + sh .pages) n (and-l inside (ends && pages) e), leb-true (x + sh .pages) f (and-l ends pages (and-r inside (ends && pages) e)))
+    (leb-true (x + sh .pages) n (and-left inside (ends && pages) e), leb-true (x + sh .pages) f (and-left ends pages (and-right inside (ends && pages) e)))
 
 module _ (n : ℕ) (b b′ : List ℕ) (sh : Shape) (d x : ℕ) (some-page : 1 ≤ sh .pages) (rises : get b (arena frontier) ≤ get b′ (arena frontier))
     (under : (y : ℕ) → y < get b (arena frontier) → names b′ d x y ≡ names b d x y)

@@ -1,22 +1,23 @@
--- After every history a page is held by nobody, by the direct calls, or by one of the 76 classes. Assumes nothing.
+-- After every history a page is held by nobody, by the direct calls, or by one of the 76 classes.
 use Prim.Native.Nat.{ℕ, _+_, _-_}
 use native.Mathlib.Omega.{arith}
 use mathlib.Core.Bool.{Bool, true, false, cond}
 use mathlib.Core.List.{List, [], _∷_}
-use mathlib.Core.Option.{Option, none, some, Option·none-ne-some}
+use mathlib.Core.Option.{some, Option·none-ne-some}
 use mathlib.Core.Path.{_≡_, refl, sym, ap}
 use lib.Dec.{eqb, ltb}
 use borrow.Author.Tests.{ltb-true, lt-ltb}
+use Rattle.facts.proofs.Bools.{by-cases}
+use Rattle.model.specs.Cover.{covers, coversAll, coversRun}
 use Rattle.classes.specs.Shape.{shapeOf}
-use Rattle.model.specs.Lists.{covers, coversAll, coversRun}
 use Rattle.model.specs.Calls as Calls
-use Rattle.model.specs.Calls.{Call, Request, Named, named, names, hostOf}
+use Rattle.model.specs.Calls.{Call, Request, Named, named, names, Way, hostOf}
 use Rattle.model.specs.Arena.{commit, grow}
 use Rattle.model.specs.Class.{serve}
 use Rattle.model.specs.Chunks.{answer}
 use Rattle.model.specs.Heap.{Heap, Holder, Outcome, nobody, direct, class, passTo, newHeap, offer, finish, interact, classCall, commitCall, growCall, releaseCall, unchanged, directCall, route, step}
 use Rattle.model.specs.History.{heapFrom, heapAfter}
-use Rattle.model.proofs.Counts.{by-cases}
+use Rattle.model.proofs.Ways.{Goes, is-turned, is-straight, is-class, goes}
 
 abbrev pub isKnown : Holder → Bool
 isKnown nobody = true
@@ -37,18 +38,18 @@ named-below true c r d h e = rw (sym (at c r d e)) (h refl)
     at c r d e = let z : record { class = c; request = r } ≡ d = cc in ap (λ x. x .class) z
 named-below false c r d h e = absurd (Option·none-ne-some d e)
 
-small : (c : ℕ) → ltb c 64 ≡ true → ltb c 76 ≡ true
-small c e = lt-ltb c 76 (let z = ltb-true c 64 e in omega arith)
+pub small-class : (c : ℕ) → ltb c 64 ≡ true → ltb c 76 ≡ true
+small-class c e = lt-ltb c 76 (let z = ltb-true c 64 e in omega arith)
 
-medium : (c : ℕ) → ltb c 12 ≡ true → ltb (64 + c) 76 ≡ true
-medium c e = lt-ltb (64 + c) 76 (let z = ltb-true c 12 e in omega arith)
+pub medium-class : (c : ℕ) → ltb c 12 ≡ true → ltb (64 + c) 76 ≡ true
+medium-class c e = lt-ltb (64 + c) 76 (let z = ltb-true c 12 e in omega arith)
 
 pub names-below : (x : Call) (d : Named) → names x ≡ some d → ltb (d .class) 76 ≡ true
-names-below (Calls.takeBlocks c h l) d e = named-below (ltb c 64) c _ d (small c) e
-names-below (Calls.mediumTakeBlocks c h l) d e = named-below (ltb c 12) (64 + c) _ d (medium c) e
-names-below (Calls.releaseBlocks c h ws) d e = named-below (ltb c 64) c _ d (small c) e
-names-below (Calls.mediumReleaseBlocks c h ws) d e = named-below (ltb c 12) (64 + c) _ d (medium c) e
-names-below (Calls.releaseBinChunks c h ws gs fs) d e = named-below (ltb c 64) c _ d (small c) e
+names-below (Calls.takeBlocks c h l) d e = named-below (ltb c 64) c _ d (small-class c) e
+names-below (Calls.mediumTakeBlocks c h l) d e = named-below (ltb c 12) (64 + c) _ d (medium-class c) e
+names-below (Calls.releaseBlocks c h ws) d e = named-below (ltb c 64) c _ d (small-class c) e
+names-below (Calls.mediumReleaseBlocks c h ws) d e = named-below (ltb c 12) (64 + c) _ d (medium-class c) e
+names-below (Calls.releaseBinChunks c h ws gs fs) d e = named-below (ltb c 64) c _ d (small-class c) e
 names-below (Calls.commit h m) d e = absurd (Option·none-ne-some d e)
 names-below (Calls.growFrontier h q old new) d e = absurd (Option·none-ne-some d e)
 names-below (Calls.release h q m) d e = absurd (Option·none-ne-some d e)
@@ -102,13 +103,14 @@ module _ (n : ℕ) (H : Heap) (k : Known (H .holder)) where
       let w = passTo (class c) (coversRun (sh .pages) (g .run)) (H .holder) in
       record { known = known-passed nobody (coversAll (sh .pages) (serve q (g .run) .gives)) w refl (known-passed (class c) (coversRun (sh .pages) (g .run)) (H .holder) e k) }
 
-  route-known : (x : Call) (d : Option Named) → names x ≡ d → KnownAfter (route n H x d)
-  route-known x none e = direct-known x
-  route-known x (some d) e = class-known (d .class) (d .request) (names-below x d e)
+  route-known : (x : Call) {w : Way} → Goes x w → KnownAfter (route n H x w)
+  route-known x (is-turned t) = same _
+  route-known x (is-straight t e) = direct-known x
+  route-known x (is-class d t e) = class-known (d .class) (d .request) (names-below x d e)
 
   pub known-step : (x : Call) → Known (step n H x .heap .holder)
   unfolding step
-  known-step x = route-known x (names x) refl .known
+  known-step x = route-known x (goes x) .known
 
 known-from : (n : ℕ) (H : Heap) (xs : List Call) → Known (H .holder) → Known (heapFrom n H xs .holder)
 known-from n H [] k = k

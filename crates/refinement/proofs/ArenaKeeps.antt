@@ -2,7 +2,6 @@
 --     step-keeps    a page of the class whose run is whole afterwards is as it was
 --     step-class    a class whose runs are whole as before is as it was
 --     class-left    a class whose run in no list was given: that page is gone, the rest is as it was; class-beside-left: another class
--- Assumes nothing.
 use Prim.Native.Nat.{ℕ, _+_, _≤_}
 use native.Mathlib.Omega.{arith}
 use native.Mathlib.Decide.{ℕ-discrete}
@@ -11,11 +10,11 @@ use mathlib.Core.List.{List, [], _∷_}
 use mathlib.Core.Path.{_≡_, refl, _∙_}
 use lib.Dec.{eqb, ltb}
 use borrow.Author.Tests.{eq-eqb, ne-eqb}
+use Rattle.model.specs.Cover.{inRun, covers}
 use Rattle.classes.specs.declared.Shape.{Shape}
 use Rattle.classes.specs.Sound.{Sound}
-use Rattle.fields.specs.Field.{page, next, prev, free, carved, listed, virgin}
+use Rattle.fields.specs.Field.{next, prev, free, carved, listed, virgin}
 use Rattle.fields.proofs.Changes.{Changes}
-use Rattle.model.specs.Lists.{inRun, covers}
 use Rattle.model.specs.Page.{Page}
 use Rattle.model.specs.Heap.{Heap, isHeld}
 use Rattle.pages.specs.Runs.{whole}
@@ -23,7 +22,7 @@ use Rattle.pages.specs.declared.Park.{Park}
 use Rattle.arena.specs.Calls.{given}
 use Rattle.arena.specs.Represents.{ArenaRep}
 use Rattle.refinement.specs.Represents.{heads, ClassRep}
-use Rattle.refinement.proofs.Basics.{flag-le}
+use Rattle.refinement.proofs.Basics.{digit-le}
 use Rattle.refinement.proofs.Kept.{Keeps, class-now, class-kept, listed-whole}
 use Rattle.refinement.proofs.ArenaReached.{Reached}
 use Rattle.refinement.proofs.ArenaFrames.{isStep, step-row, step-page, step-out, step-slot}
@@ -66,7 +65,7 @@ module _ (n : ℕ) (b : List ℕ) (H : Heap) (rep : ArenaRep n b H) (r : Reached
   once : heads (p .first) ps + heads (p .first) xs + heads (p .first) ys + heads (p .first) fs ≡ 0
   once =
       let at : _≡_ {A = ℕ} (cond (eqb (p .first) (p .first)) 1 0) 1 = rw (eq-eqb (p .first) (p .first) refl) in
-      omega (arith, cr .runs (p .first), flag-le (whole n b sh c (p .first)))
+      omega (arith, cr .runs (p .first), digit-le (whole n b sh c (p .first)))
 
   apart : (x : ℕ) → 1 ≤ heads x ps + heads x xs + heads x ys + heads x fs → x ≡ p .first → ⊥
   apart x l e = let z : 1 ≤ heads (p .first) ps + heads (p .first) xs + heads (p .first) ys + heads (p .first) fs = rw e at l in omega (arith, once)

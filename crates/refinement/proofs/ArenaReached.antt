@@ -2,7 +2,6 @@
 --     Reached          the hole store is tidy, the frontier is in the arena, no page is in two places, and holders are known
 --     reached-after    every heap after a history is reached
 --     reached-commit, reached-grow, reached-give    a step of the arena, with what it passes to a holder, keeps this
--- Assumes nothing.
 use Prim.Native.Nat.{ℕ, zero, suc, _+_, _≤_, _<_}
 use native.Mathlib.Omega.{arith}
 use mathlib.Core.Bool.{true, cond}
@@ -10,14 +9,14 @@ use mathlib.Core.List.{List, [], _∷_, _++_}
 use mathlib.Core.Path.{_≡_, refl}
 use lib.Dec.{eqb, ltb}
 use borrow.Author.Tests.{ltb-true, ltb-false, eqb-true, eqb-false}
-use Rattle.model.specs.Lists.{total, below, covers, coversRun}
+use Rattle.facts.specs.Lists.{total, below}
+use Rattle.facts.proofs.Bools.{by-cases}
+use Rattle.model.specs.Cover.{covers, coversRun}
 use Rattle.model.specs.Calls.{Call}
 use Rattle.model.specs.Arena.{Arena, commit, grow, give}
 use Rattle.model.specs.Class.{Class}
 use Rattle.model.specs.Heap.{Heap, Holder, nobody, direct, class, isHeld, passTo, heldPages, step}
 use Rattle.model.specs.History.{heapFrom, heapAfter}
-use Rattle.model.specs.Ledger.{above}
-use Rattle.model.proofs.Counts.{by-cases}
 use Rattle.model.proofs.Runs.{above-at}
 use Rattle.model.proofs.Remembers.{Tidy}
 use Rattle.model.proofs.ArenaTidy.{tidy-commit, tidy-grow, tidy-give}

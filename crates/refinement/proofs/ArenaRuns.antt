@@ -4,7 +4,6 @@
 --     commit-whole    a commit for another holder is such a step; grow-whole, give-whole
 --     claimed-whole, claimed-new    a commit for a class, once the run's pages name its first: the run is whole, the others as before
 --     left-whole, left-gone         a class's run is given: it is not whole any more, the others are as before
--- Assumes nothing.
 use Prim.Native.Nat.{ℕ, suc, _+_, _≤_, _<_}
 use native.Mathlib.Omega.{arith}
 use mathlib.Core.Bool.{Bool, true, false, cond, _&&_}
@@ -12,14 +11,14 @@ use mathlib.Core.List.{List}
 use mathlib.Core.Path.{_≡_, refl, sym, _∙_}
 use lib.Dec.{eqb, ltb, leb, eqb·zero-suc}
 use borrow.Author.Tests.{ltb-true, ltb-false, ne-eqb, eqb-true, eqb-false, eq-eqb, le-leb, lt-ltb}
+use Rattle.facts.proofs.Bools.{by-cases, and-left, and-right}
+use Rattle.model.specs.Cover.{inRun, covers, coversRun}
 use Rattle.classes.specs.declared.Shape.{Shape}
 use Rattle.fields.specs.Field.{arena, page, owner, first, frontier, get}
 use Rattle.fields.proofs.Changes.{Changes}
-use Rattle.model.specs.Lists.{below, inRun, covers, coversRun}
 use Rattle.model.specs.Arena.{Arena, commit, grow, give}
 use Rattle.model.specs.Class.{Class}
 use Rattle.model.specs.Heap.{Heap, Holder, nobody, direct, class, isHeld, passTo}
-use Rattle.model.proofs.Counts.{by-cases, and-l, and-r}
 use Rattle.model.proofs.ArenaTidy.{tidy-commit, tidy-grow, tidy-give}
 use Rattle.model.proofs.ArenaLaws.{idle, commit-law, grow-law, grow-rises, give-frontier}
 use Rattle.pages.specs.Runs.{whole}
@@ -37,7 +36,7 @@ abbrev pub isOf : ℕ → Holder → Bool
 isOf d w = eqb (ownerCode w) (suc d)
 
 pub direct-other : (d : ℕ) → ltb d 76 ≡ true → isOf d direct ≡ false
-direct-other d h = ne-eqb 77 (suc d) (λ e. let z = ltb-true d 76 h in omega arith)
+direct-other d h = ne-eqb (ownerCode direct) (suc d) (λ e. let z = ltb-true d 76 h in omega arith)
 
 pub nobody-other : (d : ℕ) → isOf d nobody ≡ false
 nobody-other d = eqb·zero-suc d
@@ -123,7 +122,7 @@ module _ (n : ℕ) (b b′ : List ℕ) (H : Heap) (r : Reached n H) (rep : Arena
     claimed-new c q wc sh ins fs l u =
         named-whole n b′ sh c q (omega arith) (rw (loads-frontier b′ a (rep′ .loads)) l)
         (λ y e. let k = ins y e in
-        let z : y < q + sh .pages = ltb-true y (q + sh .pages) (and-r (leb q y) (ltb y (q + sh .pages)) e) in
+        let z : y < q + sh .pages = ltb-true y (q + sh .pages) (and-right (leb q y) (ltb y (q + sh .pages)) e) in
         let o : get b′ (page owner y) ≡ suc c = rw (k, wc) at (rep′ .owners y (omega arith)) in
         rw (o, fs y k, eq-eqb (suc c) (suc c) refl, eq-eqb q q refl))
 
@@ -147,7 +146,7 @@ module _ (n : ℕ) (b : List ℕ) (H : Heap) (rep : ArenaRep n b H) (r : Reached
   pub give-whole : (sh : Shape) (d x : ℕ) → 1 ≤ sh .pages → ((y : ℕ) → inRun m q y ≡ true → isOf d (H .holder y) ≡ false) → whole n (given b q m) sh d x ≡ whole n b sh d x
   give-whole sh d x some-page k =
       given-pages sh d x some-page
-      (λ y e. let u = ltb-true y (q + m) (and-r (leb q y) (ltb y (q + m)) e) in
+      (λ y e. let u = ltb-true y (q + m) (and-right (leb q y) (ltb y (q + m)) e) in
       rw (rep .owners y (omega (arith, run-ends n b H rep r q m one holds)), k y e))
 
   -- from class c, whose run it was
@@ -157,8 +156,8 @@ module _ (n : ℕ) (b : List ℕ) (H : Heap) (rep : ArenaRep n b H) (r : Reached
       where
         other : (y : ℕ) → names b c q y ≡ true → names b d x y ≡ false
         other y t =
-            let o = eqb-true (get b (page owner y)) (suc c) (and-l (eqb (get b (page owner y)) (suc c)) (eqb (get b (page first y)) q) t) in
-            let s = eqb-true (get b (page first y)) q (and-r (eqb (get b (page owner y)) (suc c)) (eqb (get b (page first y)) q) t) in
+            let o = eqb-true (get b (page owner y)) (suc c) (and-left (eqb (get b (page owner y)) (suc c)) (eqb (get b (page first y)) q) t) in
+            let s = eqb-true (get b (page first y)) q (and-right (eqb (get b (page owner y)) (suc c)) (eqb (get b (page first y)) q) t) in
             rw (o, s)
             (by-cases (eqb c d)
             (λ e. let z = eqb-true c d e in and-false-r (eqb (suc c) (suc d)) (eqb q x) (ne-eqb q x (λ w. ne (sym z) (sym w))))
@@ -168,7 +167,7 @@ module _ (n : ℕ) (b : List ℕ) (H : Heap) (rep : ArenaRep n b H) (r : Reached
     left-gone =
         by-cases (whole n (given b q m) sh₀ c q)
         (λ e. absurd (let t = whole-names n (given b q m) sh₀ c q q e (rw (le-leb q q (omega arith), lt-ltb q (q + sh₀ .pages) (omega arith))) in
-        let o = eqb-true (get (given b q m) (page owner q)) (suc c) (and-l (eqb (get (given b q m) (page owner q)) (suc c)) (eqb (get (given b q m) (page first q)) q) t) in
+        let o = eqb-true (get (given b q m) (page owner q)) (suc c) (and-left (eqb (get (given b q m) (page owner q)) (suc c)) (eqb (get (given b q m) (page first q)) q) t) in
         let i : inRun m q q ≡ true = rw (le-leb q q (omega arith), lt-ltb q (q + m) (omega arith)) in
         let z : get (given b q m) (page owner q) ≡ 0 = rw i at (given-rep .owners q (omega (arith, give-frontier m q (H .arena), run-ends n b H rep r q m one holds))) in
         omega arith))

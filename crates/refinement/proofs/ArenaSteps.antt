@@ -1,7 +1,6 @@
 -- The arena's part of the representation along the writes of a step: storing an arena, giving pages an owner, counting them as held.
 --     rep-kept              a book with the same words of the arena and OWNERs stands for the same
 --     Stands n b a w f k    the words stand for the arena a and for the holders w of the pages below f, and HELD is k
--- Assumes nothing.
 use Prim.Native.Nat.{ℕ, _+_, _-_, _≤_, _<_}
 use native.Mathlib.Omega.{arith}
 use mathlib.Core.Bool.{Bool, true, false, not, false≢true}
@@ -10,20 +9,22 @@ use mathlib.Core.Path.{_≡_, refl, sym, ap, _∙_}
 use lib.Dec.{eqb, ltb, leb}
 use lib.ListN.{length}
 use borrow.Author.Tests.{ltb-true, ltb-false, le-leb, lt-ltb, lt-leb}
+use Rattle.facts.proofs.Bools.{by-cases}
+use Rattle.model.specs.Cover.{inRun, covers}
+use Rattle.words.specs.Limits.{holeSlots}
 use Rattle.fields.specs.Field.{Field, arena, memory, class, hole, page, out, slot, owner, size, state, held, holes, pageOff, get, put, ok, words}
 use Rattle.fields.proofs.Laws.{get-put-same, get-put-other, length-put}
 use Rattle.fields.proofs.Changes.{differ}
-use Rattle.model.specs.Lists.{inRun, covers}
 use Rattle.model.specs.Arena.{Arena}
 use Rattle.model.specs.Heap.{Heap, Holder, nobody, passTo, heldPages}
 use Rattle.model.specs.Class.{Class}
-use Rattle.model.proofs.Counts.{by-cases}
 use Rattle.model.proofs.Remembers.{Tidy}
 use Rattle.arena.specs.Load.{statusCode, loadArena}
 use Rattle.arena.specs.Store.{storeArena}
 use Rattle.arena.specs.Owners.{ownerCode, own}
 use Rattle.arena.specs.Represents.{ArenaRep}
-use Rattle.refinement.proofs.ArenaStore.{isStored, long-kept, load-kept, store-changes, store-written, load-store}
+use Rattle.arena.proofs.Frames.{isStored, arena-changes}
+use Rattle.refinement.proofs.ArenaStore.{long-kept, load-kept, store-written, load-store}
 use Rattle.refinement.proofs.ArenaFrames.{isOwner, own-changes, own-in}
 use Rattle.refinement.proofs.ArenaReached.{heapOf}
 use Rattle.refinement.proofs.ArenaFair.{loads-number}
@@ -66,7 +67,7 @@ stored-arenas (page k p) e = absurd (false≢true e)
 stored-arenas (out p i) e = e
 stored-arenas (slot p i) e = e
 
-pub rep-kept : (n : ℕ) (b b′ : List ℕ) (H : Heap) → length (H .arena .store .holes) ≤ 4096 → length b′ ≡ length b
+pub rep-kept : (n : ℕ) (b b′ : List ℕ) (H : Heap) → length (H .arena .store .holes) ≤ holeSlots → length b′ ≡ length b
     → ((g : Field) → ok g ≡ true → isArenas g ≡ true → get b′ g ≡ get b g)
     → ArenaRep n b H → ArenaRep n b′ H
 rep-kept n b b′ H few long k r = record {
@@ -91,7 +92,7 @@ module _ (n : ℕ) (b : List ℕ) (a : Arena) (w : ℕ → Holder) (f k : ℕ) (
   -- another arena is stored
   pub store-stands : (a′ : Arena) → Tidy (a′ .store) → Stands n (storeArena b a′) a′ w f k
   store-stands a′ t =
-      let h = store-changes b a′ (t .slots) in
+      let h = arena-changes b a′ (t .slots) in
       record {
         long = long-kept n b (storeArena b a′) (h .long) (s .long);
         length = h .kept (arena size) refl refl ∙ s .length;
@@ -101,7 +102,7 @@ module _ (n : ℕ) (b : List ℕ) (a : Arena) (w : ℕ → Holder) (f k : ℕ) (
         owners = λ x l. h .kept (page owner x) refl refl ∙ s .owners x l;
       }
 
-  module _ (few : length (a .store .holes) ≤ 4096) where
+  module _ (few : length (a .store .holes) ≤ holeSlots) where
     few-words : get b (arena holes) ≤ 4096
     few-words = rw (loads-number b a (s .loads)) few
 

@@ -1,38 +1,28 @@
--- The arena's words: what storing an arena changes, and that what was stored is loaded again.
---     isStored         the words of the record, the memory and the holes: neither LENGTH nor HELD
---     store-changes    storing an arena changes no other word
+-- The arena's words: what was stored is loaded again.
 --     load-kept        a book with the same such words holds the same arena
 --     load-store       an arena that was stored is loaded again
--- Assumes nothing.
 use Prim.Native.Nat.{ℕ, zero, suc, _+_, _≤_, _<_}
 use native.Mathlib.Omega.{arith}
-use mathlib.Core.Bool.{Bool, true, false, _&&_}
+use mathlib.Core.Bool.{true, false}
 use mathlib.Core.List.{List, [], _∷_}
 use mathlib.Core.Option.{Option, none, some}
 use mathlib.Core.Path.{_≡_, refl, sym, ap, _∙_, subst, fun-ext}
 use lib.Dec.{eqb, ltb, leb}
 use lib.ListN.{length}
 use borrow.Author.Tests.{lt-ltb, ltb-true, ne-eqb, eqb-true, eqb-false, leb-true, leb-false}
-use Rattle.fields.specs.Field.{Field, arena, memory, class, hole, page, out, slot, HoleField, start, pages, state, frontier, holes, holePages, commits, commitsHigh, reuses, reusesHigh, abandoned, abandonedHigh, arenaOff, holeOff, get, put, ok, words}
+use Rattle.facts.proofs.Bools.{by-cases, and-no}
+use Rattle.words.specs.Limits.{holeSlots}
+use Rattle.fields.specs.Field.{Field, arena, memory, hole, HoleField, start, pages, state, frontier, holes, holePages, commits, commitsHigh, reuses, reusesHigh, abandoned, abandonedHigh, holeOff, get, put, ok, words}
+use Rattle.fields.specs.Wide.{getWide}
 use Rattle.fields.proofs.Laws.{get-put-same, get-put-other, length-put}
-use Rattle.fields.proofs.Changes.{Changes, changes-none, changes-put, changes-trans}
+use Rattle.fields.proofs.Changes.{changes-none}
 use Rattle.model.specs.declared.Hole.{Hole}
-use Rattle.model.specs.HoleStore as Model
 use Rattle.model.specs.HoleStore.{HoleStore, Memory}
 use Rattle.model.specs.Arena.{Arena, Status, unasked, ready, disabled}
-use Rattle.model.proofs.Counts.{by-cases}
 use Rattle.model.proofs.Remembers.{Tidy}
-use Rattle.arena.specs.Load.{statusOf, statusCode, indexOf, indexCode, wide, loadHole, loadHoles, recall, loadStore, loadArena}
+use Rattle.arena.proofs.Frames.{isStored, holes-change, memory-changes, store-changes}
+use Rattle.arena.specs.Load.{statusOf, statusCode, indexOf, indexCode, loadHole, loadHoles, recall, loadStore, loadArena}
 use Rattle.arena.specs.Store.{storeHole, storeHoles, storeMemory, memoryWords, storeCounts, storeTop, storeStore, storeArena}
-
-abbrev pub isStored : Field → Bool
-isStored (arena k) = ltb 0 (arenaOff k) && ltb (arenaOff k) 11
-isStored (memory m) = true
-isStored (class k c) = false
-isStored (hole k i) = true
-isStored (page k p) = false
-isStored (out p i) = false
-isStored (slot p i) = false
 
 pub long-kept : (n : ℕ) (b b′ : List ℕ) → length b′ ≡ length b → leb (words n) (length b) ≡ true → leb (words n) (length b′) ≡ true
 long-kept n b b′ e h = rw e h
@@ -55,9 +45,9 @@ pub record Written (b : List ℕ) (a : Arena) : Type 0 where
   pub total : get b (arena holePages) ≡ a .store .total
   pub holes : loadHoles b 0 (length (a .store .holes)) ≡ a .store .holes
   pub memory : (m : ℕ) → ltb m 129 ≡ true → get b (memory m) ≡ indexCode (a .store .memory m)
-  pub commits : wide b commits commitsHigh ≡ a .commits
-  pub reuses : wide b reuses reusesHigh ≡ a .reuses
-  pub abandoned : wide b abandoned abandonedHigh ≡ a .abandoned
+  pub commits : getWide b commits commitsHigh ≡ a .commits
+  pub reuses : getWide b reuses reusesHigh ≡ a .reuses
+  pub abandoned : getWide b abandoned abandonedHigh ≡ a .abandoned
 
 below-129 : (m : ℕ) → leb m 128 ≡ true → ltb m 129 ≡ true
 below-129 m e = lt-ltb m 129 (let z = leb-true m 128 e in omega arith)
@@ -98,50 +88,6 @@ load-kept b b′ l h =
       h (arena abandonedHigh) refl refl,
     ) refl
 
--- ---- storing
-hole-changes : (b b′ : List ℕ) (i : ℕ) (h : Hole) → ltb i 4096 ≡ true → Changes isStored b b′ → Changes isStored b (storeHole b′ i h)
-hole-changes b b′ i h o k =
-    changes-put isStored b (put b′ (hole start i) (h .first)) (hole pages i) (h .pages) o refl (changes-put isStored b b′ (hole start i) (h .first) o refl k)
-
-holes-changes : (b : List ℕ) (i : ℕ) (hs : List Hole) → i + length hs ≤ 4096 → Changes isStored b (storeHoles b i hs)
-unfolding storeHoles
-holes-changes b i [] l = changes-none isStored b
-holes-changes b i (h ∷ hs) l = hole-changes b (storeHoles b (suc i) hs) i h (lt-ltb i 4096 (omega arith)) (holes-changes b (suc i) hs (omega arith))
-
-memory-changes : (b : List ℕ) (f : Memory) (m : ℕ) → m ≤ 129 → Changes isStored b (storeMemory b f m)
-unfolding storeMemory
-memory-changes b f zero l = changes-none isStored b
-memory-changes b f (suc m) l =
-    changes-put isStored b (storeMemory b f m) (memory m) (indexCode (f m)) (lt-ltb m 129 (omega arith)) refl (memory-changes b f m (omega arith))
-
-store-store-changes : (b : List ℕ) (s : HoleStore) → length (s .holes) ≤ 4096 → Changes isStored b (storeStore b s)
-unfolding storeStore memoryWords
-store-store-changes b s l =
-    let c = storeHoles b 0 (s .holes) in
-    changes-trans isStored b c (storeMemory c (s .memory) 129) (holes-changes b 0 (s .holes) (omega arith)) (memory-changes c (s .memory) 129 (omega arith))
-
-counts-changes : (b : List ℕ) (c r a : ℕ) → Changes isStored b (storeCounts b c r a)
-unfolding storeCounts
-counts-changes b c r a =
-    changes-put isStored b _ (arena abandonedHigh) _ refl refl (changes-put isStored b _ (arena abandoned) _ refl refl
-    (changes-put isStored b _ (arena reusesHigh) _ refl refl (changes-put isStored b _ (arena reuses) _ refl refl
-    (changes-put isStored b _ (arena commitsHigh) _ refl refl (changes-put isStored b _ (arena commits) _ refl refl (changes-none isStored b))))))
-
-top-changes : (b : List ℕ) (s f k t : ℕ) → Changes isStored b (storeTop b s f k t)
-unfolding storeTop
-top-changes b s f k t =
-    changes-put isStored b _ (arena holePages) _ refl refl (changes-put isStored b _ (arena holes) _ refl refl
-    (changes-put isStored b _ (arena frontier) _ refl refl (changes-put isStored b _ (arena state) _ refl refl (changes-none isStored b))))
-
-pub store-changes : (b : List ℕ) (a : Arena) → length (a .store .holes) ≤ 4096 → Changes isStored b (storeArena b a)
-unfolding storeArena
-store-changes b a l =
-    let c = storeStore b (a .store) in
-    let d = storeCounts c (a .commits) (a .reuses) (a .abandoned) in
-    changes-trans isStored b d _
-    (changes-trans isStored b c d (store-store-changes b (a .store) l) (counts-changes c (a .commits) (a .reuses) (a .abandoned)))
-    (top-changes d (statusCode (a .status)) (a .frontier) (length (a .store .holes)) (a .store .total))
-
 -- ---- what was stored
 module _ (n : ℕ) where
   hole-there : (b : List ℕ) (i : ℕ) (h : Hole) → leb (words n) (length b) ≡ true → ltb i 4096 ≡ true → loadHole (storeHole b i h) i ≡ h
@@ -151,10 +97,6 @@ module _ (n : ℕ) where
       = get-put-other (put b (hole start i) (h .first)) (hole pages i) (hole start i) (h .pages) o o refl ∙ get-put-same n b (hole start i) (h .first) hb o refl in
       let f : get (storeHole b i h) (hole pages i) ≡ h .pages = get-put-same n (put b (hole start i) (h .first)) (hole pages i) (h .pages) hb′ o refl in
       rw (e, f)
-
-  and-no : (t : Bool) → (t && false) ≡ false
-  and-no true = refl
-  and-no false = refl
 
   hole-other : (b : List ℕ) (i j : ℕ) (f : HoleField) (h : Hole) → ltb i 4096 ≡ true → ltb j 4096 ≡ true → eqb i j ≡ false
       → get (storeHole b i h) (hole f j) ≡ get b (hole f j)
@@ -168,7 +110,7 @@ module _ (n : ℕ) where
   holes-there b i (h ∷ hs) hb l =
       let c = storeHoles b (suc i) hs in
       let o : ltb i 4096 ≡ true = lt-ltb i 4096 (omega arith) in
-      let hc = long-kept n b c (holes-changes b (suc i) hs (omega arith) .long) hb in
+      let hc = long-kept n b c (holes-change b (suc i) hs (omega arith) .long) hb in
       rw (hole-there c i h hc o)
       (ap (λ l. h ∷ l) (holes-same c (storeHole c i h) (suc i) (length hs) (omega arith) (λ f j v u. hole-other c i j f h o v (ne-eqb i j (λ e. omega arith)))
       ∙ holes-there b (suc i) hs hb (omega arith)))
@@ -179,7 +121,7 @@ module _ (n : ℕ) where
   memory-there b f (suc m) hb l j h =
       let c = storeMemory b f m in
       let o : ltb m 129 ≡ true = lt-ltb m 129 (omega arith) in
-      let hc = long-kept n b c (memory-changes b f m (omega arith) .long) hb in
+      let hc = long-kept n b c (memory-changes b b f m (omega arith) (changes-none isStored b) .long) hb in
       by-cases (eqb m j)
       (λ e. let z = eqb-true m j e in
       subst (λ x. get (put c (memory m) (indexCode (f m))) (memory x) ≡ indexCode (f x)) z (get-put-same n c (memory m) (indexCode (f m)) hc o refl))
@@ -192,12 +134,12 @@ module _ (n : ℕ) where
   memory-holes b f (suc m) l k j o =
       get-put-other (storeMemory b f m) (memory m) (hole k j) (indexCode (f m)) (lt-ltb m 129 (omega arith)) o refl ∙ memory-holes b f m (omega arith) k j o
 
-  store-there : (b : List ℕ) (s : HoleStore) → leb (words n) (length b) ≡ true → length (s .holes) ≤ 4096
+  store-there : (b : List ℕ) (s : HoleStore) → leb (words n) (length b) ≡ true → length (s .holes) ≤ holeSlots
       → (loadHoles (storeStore b s) 0 (length (s .holes)) ≡ s .holes) × ((m : ℕ) → ltb m 129 ≡ true → get (storeStore b s) (memory m) ≡ indexCode (s .memory m))
   unfolding storeStore memoryWords
   store-there b s hb l =
       let c = storeHoles b 0 (s .holes) in
-      let hc = long-kept n b c (holes-changes b 0 (s .holes) (omega arith) .long) hb in (
+      let hc = long-kept n b c (holes-change b 0 (s .holes) (omega arith) .long) hb in (
         holes-same c (storeMemory c (s .memory) 129) 0 (length (s .holes)) (omega arith) (λ f j o u. memory-holes c (s .memory) 129 (omega arith) f j o)
             ∙ holes-there b 0 (s .holes) hb (omega arith),
         λ m o. memory-there c (s .memory) 129 hc (omega arith) m (ltb-true m 129 o),
@@ -211,9 +153,9 @@ module _ (n : ℕ) where
     total : get y (arena holePages) ≡ t
     holes : (f : HoleField) (j : ℕ) → ltb j 4096 ≡ true → get y (hole f j) ≡ get x (hole f j)
     memory : (m : ℕ) → ltb m 129 ≡ true → get y (memory m) ≡ get x (memory m)
-    commits : wide y commits commitsHigh ≡ c
-    reuses : wide y reuses reusesHigh ≡ r
-    abandoned : wide y abandoned abandonedHigh ≡ a
+    commits : getWide y commits commitsHigh ≡ c
+    reuses : getWide y reuses reusesHigh ≡ r
+    abandoned : getWide y abandoned abandonedHigh ≡ a
 
   top-there : (x : List ℕ) → leb (words n) (length x) ≡ true → (s f k t c r a : ℕ) → Top x (storeTop (storeCounts x c r a) s f k t) s f k t c r a
   unfolding storeTop storeCounts
@@ -229,12 +171,12 @@ module _ (n : ℕ) where
     abandoned = simp (get-put-other, get-put-same n, length-put, hx) (omega arith);
   }
 
-  pub store-written : (b : List ℕ) (a : Arena) → leb (words n) (length b) ≡ true → length (a .store .holes) ≤ 4096 → Written (storeArena b a) a
+  pub store-written : (b : List ℕ) (a : Arena) → leb (words n) (length b) ≡ true → length (a .store .holes) ≤ holeSlots → Written (storeArena b a) a
   unfolding storeArena
   store-written b a hb l =
       let x = storeStore b (a .store) in
       let s = store-there b (a .store) hb l in
-      let hx = long-kept n b x (store-store-changes b (a .store) l .long) hb in
+      let hx = long-kept n b x (store-changes b (a .store) l .long) hb in
       let t = top-there x hx (statusCode (a .status)) (a .frontier) (length (a .store .holes)) (a .store .total) (a .commits) (a .reuses) (a .abandoned) in
       record {
         status = t .state;

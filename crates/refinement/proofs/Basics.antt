@@ -1,18 +1,16 @@
--- The standing facts of a class's proofs, and tests as numbers. Assumes nothing.
+-- The standing facts of a class's proofs, and tests as numbers.
 --     Setting     the book is long enough, the class is one, its shape is sound
-use Prim.Native.Nat.{ℕ, zero, suc, _<_}
-use native.Mathlib.Omega.{arith}
-use mathlib.Core.Bool.{Bool, true, false, _||_, true≢false}
+use Prim.Native.Nat.{ℕ}
+use mathlib.Core.Bool.{Bool, true, false}
 use mathlib.Core.List.{List}
-use mathlib.Core.Path.{_≡_, refl, sym}
+use mathlib.Core.Path.{_≡_, refl}
 use lib.Dec.{eqb, ltb, leb}
 use lib.ListN.{length}
 use Rattle.classes.specs.declared.Shape.{Shape}
 use Rattle.classes.specs.Sound.{Sound}
 use Rattle.fields.specs.Field.{words}
-use Rattle.model.specs.Lists.{every, below}
-use Rattle.pages.specs.Runs.{flag}
-pub use Rattle.pages.proofs.Downs.{flag-true, flag-false, flag-le, flag-cases, eq-cases}
+use Rattle.words.specs.Host.{digit}
+pub use Rattle.pages.proofs.Downs.{digit-true, digit-false, digit-le, digit-cases, eq-cases}
 
 pub record Setting (n : ℕ) (b : List ℕ) (c : ℕ) (sh : Shape) : Type 0 where
   pub long : leb (words n) (length b) ≡ true
@@ -23,28 +21,13 @@ pub setting-kept : {n : ℕ} {b : List ℕ} {c : ℕ} {sh : Shape} (b′ : List 
 setting-kept b′ e s = record { long = rw e (s .long); row = s .row; shape = s .shape }
 
 -- ---- tests
-pub bool-eq : (s t : Bool) → (s ≡ true → t ≡ true) → (t ≡ true → s ≡ true) → s ≡ t
-bool-eq true t f g = sym (f refl)
-bool-eq false true f g = g refl
-bool-eq false false f g = refl
 
-pub or-right : (s t : Bool) → t ≡ true → (s || t) ≡ true
-or-right true t e = refl
-or-right false t e = e
+pub digit-eqb : (v : Bool) → eqb (digit v) 1 ≡ v
+digit-eqb true = refl
+digit-eqb false = refl
 
-pub or-left : (s t : Bool) → s ≡ true → (s || t) ≡ true
-or-left true t e = refl
-or-left false t e = absurd (true≢false (sym e))
-
-pub flag-eqb : (v : Bool) → eqb (flag v) 1 ≡ v
-flag-eqb true = refl
-flag-eqb false = refl
-
-pub flag-small : (t : Bool) → leb (flag t) 1 ≡ true
-flag-small true = refl
-flag-small false = refl
+pub digit-small : (t : Bool) → leb (digit t) 1 ≡ true
+digit-small true = refl
+digit-small false = refl
 
 -- ---- a test of every number below a bound (`every-at` says the converse)
-pub every-of : (t : ℕ → Bool) (m : ℕ) → ((k : ℕ) → k < m → t k ≡ true) → every t (below m) ≡ true
-every-of t zero h = refl
-every-of t (suc m) h = rw (h m (omega arith)) (every-of t m (λ k l. h k (omega arith)))

@@ -1,4 +1,4 @@
--- Lists of block indices, and the stack that holds them. Assumes nothing.
+-- Lists of block indices, and the stack that holds them.
 --     few-counts      a list that has each index below k at most once, and no other, is no longer than k
 --     tops-take       the top entries of a stack that is represented
 use Prim.Native.Nat.{ℕ, zero, suc, _+_, _≤_}
@@ -10,17 +10,18 @@ use mathlib.Core.Path.{_≡_, refl, sym, ap}
 use lib.Dec.{eqb, ltb}
 use lib.ListN.{length, take, drop}
 use borrow.Author.Tests.{lt-ltb, ltb-true, ltb-false}
+use Rattle.facts.specs.Lists.{every, total, count, below}
+use Rattle.facts.proofs.Bools.{by-cases}
 use Rattle.classes.specs.declared.Shape.{Shape}
-use Rattle.model.specs.Lists.{every, count, total, below}
 use Rattle.model.specs.Page.{wordOf, wordsFrom}
-use Rattle.model.proofs.Counts.{by-cases}
-use Rattle.pages.specs.Runs.{flag}
+use Rattle.words.specs.Host.{digit}
 use Rattle.pages.specs.Stack.{tops, downs}
-use Rattle.pages.proofs.Downs.{flag-true, flag-false, flag-cases, eq-cases}
+use Rattle.pages.proofs.Downs.{digit-true, digit-false, digit-cases, eq-cases}
 pub use Rattle.pages.proofs.Downs.{length-downs, count-downs}
+use Rattle.model.proofs.Used.{itself}
 use Rattle.refinement.specs.Represents.{Slots}
 use Rattle.refinement.proofs.Basics.{Setting}
-use Rattle.refinement.proofs.Lists.{itself}
+use Rattle.refinement.proofs.Lists.{}
 
 -- ---- a function along lists of numbers
 module _ (f : ℕ → ℕ) where
@@ -55,21 +56,21 @@ words-downs sh q a zero = refl
 words-downs sh q a (suc k) = ap (λ l. wordOf sh q (a + k) ∷ l) (words-downs sh q a k)
 
 -- from 0 on
-pub count-downs-zero : (j k : ℕ) → count j (downs 0 k) ≡ flag (ltb j k)
-count-downs-zero j k = omega (arith, count-downs j 0 k, flag-false j 0 (omega arith), ap (λ z. flag (ltb j z)) (zero-add k))
+pub count-downs-zero : (j k : ℕ) → count j (downs 0 k) ≡ digit (ltb j k)
+count-downs-zero j k = omega (arith, count-downs j 0 k, digit-false j 0 (omega arith), ap (λ z. digit (ltb j z)) (zero-add k))
 
 -- ---- how long a list is by its counts
 total-plus : (f g : ℕ → ℕ) (l : List ℕ) → total (λ x. f x + g x) l ≡ total f l + total g l
 total-plus f g [] = omega arith
 total-plus f g (x ∷ l) = let ih = total-plus f g l in omega arith
 
-total-one : (x m : ℕ) → total (λ i. cond (eqb i x) 1 0) (below m) ≡ flag (ltb x m)
-total-one x zero = sym (flag-false x 0 (omega arith))
+total-one : (x m : ℕ) → total (λ i. cond (eqb i x) 1 0) (below m) ≡ digit (ltb x m)
+total-one x zero = sym (digit-false x 0 (omega arith))
 total-one x (suc m) =
     let ih = total-one x m in
     eq-cases m x
-    (λ e e′. omega (arith, flag-false x m (omega arith), flag-true x (suc m) (omega arith)))
-    (λ e e′. flag-cases x m (λ f f′. omega (arith, flag-true x (suc m) (omega arith))) (λ f f′. omega (arith, flag-false x (suc m) (omega (arith, e)))))
+    (λ e e′. omega (arith, digit-false x m (omega arith), digit-true x (suc m) (omega arith)))
+    (λ e e′. digit-cases x m (λ f f′. omega (arith, digit-true x (suc m) (omega arith))) (λ f f′. omega (arith, digit-false x (suc m) (omega (arith, e)))))
 
 total-counts : (xs : List ℕ) (m : ℕ) → ((i : ℕ) → m ≤ i → count i xs ≡ 0) → total (λ i. count i xs) (below m) ≡ length xs
 total-counts [] m h = none (below m)
@@ -80,7 +81,7 @@ total-counts [] m h = none (below m)
 total-counts (x ∷ xs) m h =
     let ih = total-counts xs m (λ i l. let z = h i l in omega arith) in
     let z = itself x in
-    flag-cases x m
+    digit-cases x m
     (λ l f. omega (arith, total-plus (λ i. cond (eqb i x) 1 0) (λ i. count i xs) (below m), total-one x m))
     (λ l f. absurd (omega (arith, h x l)))
 
@@ -88,12 +89,12 @@ total-below : (f : ℕ → ℕ) (m : ℕ) → ((i : ℕ) → f i ≤ 1) → tota
 total-below f zero h = omega arith
 total-below f (suc m) h = omega (arith, h m, total-below f m h)
 
-pub few-counts : (xs : List ℕ) (k : ℕ) → ((i : ℕ) → count i xs ≤ flag (ltb i k)) → length xs ≤ k
+pub few-counts : (xs : List ℕ) (k : ℕ) → ((i : ℕ) → count i xs ≤ digit (ltb i k)) → length xs ≤ k
 few-counts xs k h =
     omega (
       arith,
-      total-counts xs k (λ i l. omega (arith, h i, flag-false i k l)),
-      total-below (λ i. count i xs) k (λ i. flag-cases i k (λ u e. omega (arith, h i)) (λ u e. omega (arith, h i))),
+      total-counts xs k (λ i l. omega (arith, h i, digit-false i k l)),
+      total-below (λ i. count i xs) k (λ i. digit-cases i k (λ u e. omega (arith, h i)) (λ u e. omega (arith, h i))),
     )
 
 -- a list without a number at or above m

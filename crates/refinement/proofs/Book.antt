@@ -1,4 +1,4 @@
--- The whole book after a call that changed words of one class only. Assumes nothing.
+-- The whole book after a call that changed words of one class only.
 --     setting-of           the standing facts, of a represented book
 --     represents-class     the book stands for the heap with that class's new state
 use Prim.Native.Nat.{ℕ}
@@ -9,10 +9,10 @@ use mathlib.Core.List.{List}
 use mathlib.Core.Path.{_≡_, sym, subst}
 use lib.Dec.{ltb}
 use borrow.Author.Tests.{eq-eqb, ne-eqb, le-ltb}
+use Rattle.facts.specs.Lists.{update}
 use Rattle.classes.specs.Shape.{shapeOf}
 use Rattle.classes.proofs.Shapes.{shape-sound}
-use Rattle.fields.specs.Field.{arena, class, frontier, get}
-use Rattle.model.specs.Lists.{update}
+use Rattle.fields.specs.Field.{arena, frontier, get}
 use Rattle.model.specs.Class.{Class}
 use Rattle.model.specs.Heap.{Heap}
 use Rattle.refinement.specs.Represents.{StateRep, Represents}

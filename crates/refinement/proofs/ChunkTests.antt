@@ -1,4 +1,4 @@
--- A group release's test of number 11 on the words is the model's. Assumes nothing.
+-- A group release's test of number 11 on the words is the model's.
 --     same-blocks      a chunk's blocks are the model's
 --     chunks-same      number 11
 use Prim.Native.Nat.{ℕ, _≤_}
@@ -8,16 +8,16 @@ use mathlib.Core.Option.{Option, none, some}
 use mathlib.Core.Path.{_≡_, refl, sym, ap, _∙_}
 use lib.Dec.{eqb}
 use borrow.Author.Tests.{eqb-true}
+use Rattle.facts.specs.Lists.{every, All, isSome, elem, distinct}
+use Rattle.facts.proofs.Bools.{by-cases, and-left, and-right}
 use Rattle.words.specs.Word.{countOf, pageOf}
 use Rattle.classes.specs.declared.Shape.{Shape}
 use Rattle.fields.specs.Ranges.{maxPages}
-use Rattle.model.specs.Lists.{All, every, elem, distinct, isSome}
 use Rattle.model.specs.Page.{Page, isOut}
 use Rattle.model.specs.Class.{Class}
 use Rattle.model.specs.Release.{Site, inPartial, inFull, locate, ofKind, outHere}
 use Rattle.model.specs.Chunks as Model
 use Rattle.model.specs.Chunks.{startsAt, fitsOn, chunkedOn, chunked}
-use Rattle.model.proofs.Counts.{by-cases, and-l, and-r}
 use Rattle.model.proofs.Find.{all-at}
 use Rattle.calls.specs.Release.{startOf, outAt}
 use Rattle.calls.specs.Chunks.{blocksOn, chunkFits, chunksMatch}
@@ -41,8 +41,8 @@ module _ {n : ℕ} {b : List ℕ} {c : ℕ} {sh : Shape} (s : Setting n b c sh) 
   unfolding Model.blocksOn blocksOn
   same-blocks r [] k o = refl
   same-blocks {p = p} r (w ∷ ws) k o =
-      let e = same-page s hn r w (and-l (ofKind (sh .kind) w) (every (ofKind (sh .kind)) ws) k) (and-l (outAt n b c sh w) (every (outAt n b c sh) ws) o) in
-      let ih = same-blocks r ws (and-r (ofKind (sh .kind) w) (every (ofKind (sh .kind)) ws) k) (and-r (outAt n b c sh w) (every (outAt n b c sh) ws) o) in
+      let e = same-page s hn r w (and-left (ofKind (sh .kind) w) (every (ofKind (sh .kind)) ws) k) (and-left (outAt n b c sh w) (every (outAt n b c sh) ws) o) in
+      let ih = same-blocks r ws (and-right (ofKind (sh .kind) w) (every (ofKind (sh .kind)) ws) k) (and-right (outAt n b c sh w) (every (outAt n b c sh) ws) o) in
       both (isOut sh w p) (eqb (startOf b w) (p .first)) w e ih
     where
       both : (t u : Bool) (w : ℕ) {xs ys : List ℕ} → t ≡ u → xs ≡ ys → cond t (w ∷ xs) xs ≡ cond u (w ∷ ys) ys
@@ -75,9 +75,9 @@ module _ {n : ℕ} {b : List ℕ} {c : ℕ} {sh : Shape} (s : Setting n b c sh) 
       unfolding chunked
       chunked-is [] k o = refl
       chunked-is (w ∷ ws) k o =
-          let x = site-of w (and-l (ofKind (sh .kind) w) (every (ofKind (sh .kind)) ws) k) (and-l (outAt n b c sh w) (every (outAt n b c sh) ws) o) in
+          let x = site-of w (and-left (ofKind (sh .kind) w) (every (ofKind (sh .kind)) ws) k) (and-left (outAt n b c sh w) (every (outAt n b c sh) ws) o) in
           let e : elem (startOf b w) (map pageOf gs) ≡ chunkedOn gs (locate (isOut sh w) t) = rw (x .is, x .start) in
-          rw (e, chunked-is ws (and-r (ofKind (sh .kind) w) (every (ofKind (sh .kind)) ws) k) (and-r (outAt n b c sh w) (every (outAt n b c sh) ws) o))
+          rw (e, chunked-is ws (and-right (ofKind (sh .kind) w) (every (ofKind (sh .kind)) ws) k) (and-right (outAt n b c sh w) (every (outAt n b c sh) ws) o))
 
     -- no block is out on a page that is nowhere
     nothing-on : (q : ℕ) → All (λ p. startsAt q p ≡ false) (t .partial) → All (λ p. startsAt q p ≡ false) (t .full)
@@ -85,9 +85,9 @@ module _ {n : ℕ} {b : List ℕ} {c : ℕ} {sh : Shape} (s : Setting n b c sh) 
     unfolding blocksOn
     nothing-on q u v [] k o = refl
     nothing-on q u v (w ∷ ws) k o =
-        let x = site-of w (and-l (ofKind (sh .kind) w) (every (ofKind (sh .kind)) ws) k) (and-l (outAt n b c sh w) (every (outAt n b c sh) ws) o) in
+        let x = site-of w (and-left (ofKind (sh .kind) w) (every (ofKind (sh .kind)) ws) k) (and-left (outAt n b c sh w) (every (outAt n b c sh) ws) o) in
         let e : eqb (startOf b w) q ≡ false = rw (x .start) (site-fails (startsAt q) (x .found) u v) in
-        rw e (nothing-on q u v ws (and-r (ofKind (sh .kind) w) (every (ofKind (sh .kind)) ws) k) (and-r (outAt n b c sh w) (every (outAt n b c sh) ws) o))
+        rw e (nothing-on q u v ws (and-right (ofKind (sh .kind) w) (every (ofKind (sh .kind)) ws) k) (and-right (outAt n b c sh w) (every (outAt n b c sh) ws) o))
 
     module _ (ws : List ℕ) (k : every (ofKind (sh .kind)) ws ≡ true) (o : every (outAt n b c sh) ws ≡ true) where
       fits-at : (g : ℕ) (x : Option Site) → Located (startsAt (pageOf g)) t x → chunkFits b ws g ≡ fitsOn sh ws g x

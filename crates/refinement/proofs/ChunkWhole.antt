@@ -1,5 +1,5 @@
 -- A group release, whole: on a book that stands for a reached heap it has the model's answer, is never refused by number 13, and
--- leaves a book that stands for the model's next heap. n is at most the longest arena, c a small class. Assumes nothing.
+-- leaves a book that stands for the model's next heap. n is at most the longest arena, c a small class.
 --     chunks-fair      number 13's tests pass
 --     chunks-whole     every group release, refused or not, of any fates, the gives included
 --     chunks-after     the same after any history
@@ -11,30 +11,30 @@ use mathlib.Core.Option.{Option, none, some}
 use mathlib.Core.Path.{_≡_, refl, sym, ap, _∙_, subst}
 use lib.Dec.{eqb, ltb}
 use lib.ListN.{length, drop, length-append}
-use borrow.Author.Tests.{eqb-true, eq-eqb, ltb-true, lt-ltb, not-false}
+use borrow.Author.Tests.{eqb-true, eq-eqb, not-false}
+use Rattle.facts.specs.Lists.{isNil, every, All, distinct}
+use Rattle.facts.proofs.Bools.{by-cases, bool-eq, and-left, and-right}
 use Rattle.words.specs.Word.{chunkKind, countOf, pageOf}
 use Rattle.classes.specs.Shape.{smallShape, shapeOf}
 use Rattle.fields.specs.Field.{arena, class, page, free, carved, get}
 use Rattle.fields.specs.Ranges.{maxPages}
 use Rattle.fields.proofs.Changes.{changes-none}
-use Rattle.model.specs.Lists.{All, every, distinct, isNil}
 use Rattle.model.specs.Calls as Calls
 use Rattle.model.specs.Calls.{Call, fates}
 use Rattle.model.specs.Page.{isMedium, noneOut, reused, returned}
 use Rattle.model.specs.Class.{Ask, done, refuse, thawed}
 use Rattle.model.specs.Release.{Site, locate, ofKind}
 use Rattle.model.specs.Chunks as Model
-use Rattle.model.specs.Chunks.{startsAt, fitsOn, chunked, chunksMax, answer, hostMax}
+use Rattle.model.specs.Chunks.{startsAt, fitsOn, chunked, chunksMax, answer}
 use Rattle.model.specs.Heap.{Heap, offer, finish, interact, classCall, heldPages}
 use Rattle.model.specs.History.{heapAfter}
-use Rattle.model.proofs.Counts.{by-cases, and-l, and-r}
 use Rattle.model.proofs.Find.{pageIn, located-first}
 use Rattle.calls.specs.Release.{outAt, pageFair}
-use Rattle.calls.specs.Chunks.{blocksOn, chunksMatch, returnsAll, runsGiven, pagesGiven, chunksFair, settleChunks, giveRuns, ChunksReleased, chunksNone, releaseChunks, chunksCall}
+use Rattle.calls.specs.Chunks.{blocksOn, chunksMatch, returnsAll, runsGiven, pagesGiven, chunksFair, settleChunks, giveRuns, ChunksReleased, chunksNone, releaseChunks}
 use Rattle.refinement.specs.Represents.{Represents}
 use Rattle.refinement.specs.Direct.{Agrees}
 use Rattle.refinement.specs.Releases.{chunksReply}
-use Rattle.refinement.proofs.Basics.{Setting, setting-kept, bool-eq}
+use Rattle.refinement.proofs.Basics.{Setting, setting-kept}
 use Rattle.refinement.proofs.Frames.{ofClass}
 use Rattle.refinement.proofs.ArenaReached.{Reached, reached-after}
 use Rattle.refinement.proofs.ArenaFair.{give-passes}
@@ -47,13 +47,11 @@ use Rattle.refinement.proofs.ReleaseFair.{row-fair, page-fair, frontier
 use Rattle.refinement.proofs.ReleaseGives.{all-held, all-given}
 use Rattle.refinement.proofs.ChunkTests.{same-blocks, chunks-same}
 use Rattle.refinement.proofs.Chunks.{every-blocks, once-blocks, Waits, ChunksRep, chunks-rep}
+use Rattle.refinement.proofs.ArenaHolders.{small-class}
 
 pub small-shape : (c : ℕ) → ltb c 64 ≡ true → isMedium (shapeOf c) ≡ false
 unfolding shapeOf smallShape
 small-shape c e = rw e
-
-pub small-class : (c : ℕ) → ltb c 64 ≡ true → ltb c 76 ≡ true
-small-class c e = lt-ltb c 76 (omega (arith, ltb-true c 64 e))
 
 module _ (n : ℕ) (hn : n ≤ maxPages) (b : List ℕ) (H : Heap) (R : Represents n b H) (ok : Reached n H) (c : ℕ) (hs : ltb c 64 ≡ true) where
   hc : ltb c 76 ≡ true
@@ -79,7 +77,7 @@ module _ (n : ℕ) (hn : n ≤ maxPages) (b : List ℕ) (H : Heap) (R : Represen
       found = ap pageIn i;
       at = found-at {zs = []} (R .classes c hc) y;
       here = eqb-true (x .page .first) (pageOf g) (located-passes y);
-      number = eqb-true (countOf g) (length (Model.blocksOn (shapeOf c) ws (x .page))) (and-r (not (eqb (countOf g) 0)) (eqb (countOf g) (length (Model.blocksOn (shapeOf c) ws (x .page)))) e);
+      number = eqb-true (countOf g) (length (Model.blocksOn (shapeOf c) ws (x .page))) (and-right (not (eqb (countOf g) 0)) (eqb (countOf g) (length (Model.blocksOn (shapeOf c) ws (x .page)))) e);
     }
 
     module _ (g : ℕ) (f : Fits g) where
@@ -125,13 +123,13 @@ module _ (n : ℕ) (hn : n ≤ maxPages) (b : List ℕ) (H : Heap) (R : Represen
     all-fair [] e = refl
     all-fair (g ∷ gs) e =
         let t = Model.chunkFits (shapeOf c) (H .classes c) ws in
-        rw (fair g (fitting g (and-l (t g) (every t gs) e)), all-fair gs (and-r (t g) (every t gs) e))
+        rw (fair g (fitting g (and-left (t g) (every t gs) e)), all-fair gs (and-right (t g) (every t gs) e))
 
     all-wait : (gs : List ℕ) → every (Model.chunkFits (shapeOf c) (H .classes c) ws) gs ≡ true → All (Waits (shapeOf c) ws b (H .classes c)) gs
     all-wait [] e = tt
     all-wait (g ∷ gs) e =
         let t = Model.chunkFits (shapeOf c) (H .classes c) ws in
-        (waits g (fitting g (and-l (t g) (every t gs) e)), all-wait gs (and-r (t g) (every t gs) e))
+        (waits g (fitting g (and-left (t g) (every t gs) e)), all-wait gs (and-right (t g) (every t gs) e))
 
     module _ (h : ℕ) (gs : List ℕ) (fits : every (Model.chunkFits (shapeOf c) (H .classes c) ws) gs ≡ true) (apart : distinct (map pageOf gs) ≡ true) where
       all-settled : ChunksRep n c (shapeOf c) b [] (settleChunks b c (shapeOf c) h ws gs) (Model.settleChunks (shapeOf c) h ws (H .classes c) gs)
@@ -205,8 +203,8 @@ module _ (n : ℕ) (hn : n ≤ maxPages) (b : List ℕ) (H : Heap) (R : Represen
         rw (chunks-same s hn (H .classes c) (R .classes c hc) ws k o gs)
         (agrees-cond (not (t₁ && (t₂ && t₃))) _ _ _ _ (λ e. denied 11 refl (λ z. omega arith))
         (λ e. let u = not-false (t₁ && (t₂ && t₃)) e in
-        let fits = and-l t₂ t₃ (and-r t₁ (t₂ && t₃) u) in
-        let apart = and-l t₁ (t₂ && t₃) u in
+        let fits = and-left t₂ t₃ (and-right t₁ (t₂ && t₃) u) in
+        let apart = and-left t₁ (t₂ && t₃) u in
         rw (chunks-fair ws k o once h gs fits apart) (settled-agrees ws k o once h gs fits apart fs)))
 
     chunks-agree : Agrees (Represents n) (chunksReply (releaseChunks n b c (shapeOf c) h ws gs fs)) (interact n H c h (Model.releaseChunks (shapeOf c) h (H .classes c) ws gs fs))
@@ -219,17 +217,17 @@ module _ (n : ℕ) (hn : n ≤ maxPages) (b : List ℕ) (H : Heap) (R : Represen
         agrees-cond (isNil ws || isNil gs) _ _ _ _ (λ e. denied 7 refl (λ z. omega arith))
         (λ e. agrees-cond (ltb chunksMax (length gs) || ltb (length fs) (length gs)) _ _ _ _ (λ e. denied 8 refl (λ z. omega arith))
         (λ e. agrees-cond (not (k₁ && k₂)) _ _ _ _ (λ e. denied 9 refl (λ z. omega arith))
-        (λ e. let k = and-l k₁ k₂ (not-false (k₁ && k₂) e) in
+        (λ e. let k = and-left k₁ k₂ (not-false (k₁ && k₂) e) in
         rw (← (outs-here s hn (H .classes c) (R .classes c hc) ws k))
         (agrees-cond (not (every (outAt n b c (shapeOf c)) ws && distinct ws)) _ _ _ _ (λ e. denied 10 refl (λ z. omega arith))
         (λ e. let u = not-false (every (outAt n b c sh) ws && distinct ws) e in
-        past-ten k (and-l (every (outAt n b c sh) ws) (distinct ws) u) (and-r (every (outAt n b c sh) ws) (distinct ws) u))))))
+        past-ten k (and-left (every (outAt n b c sh) ws) (distinct ws) u) (and-right (every (outAt n b c sh) ws) (distinct ws) u))))))
 
-    pub chunks-whole : Agrees (Represents n) (chunksReply (chunksCall n b c (shapeOf c) h ws gs fs)) (classCall n H c (Calls.giveChunks h ws gs fs))
-    unfolding chunksCall classCall answer
-    chunks-whole = agrees-cond (ltb hostMax h) _ _ _ _ (λ e. denied 3 refl (λ z. omega arith)) (λ e. chunks-agree)
+    pub chunks-whole : Agrees (Represents n) (chunksReply (releaseChunks n b c (shapeOf c) h ws gs fs)) (classCall n H c (Calls.giveChunks h ws gs fs))
+    unfolding classCall answer
+    chunks-whole = chunks-agree
 
 -- after every history on an arena of n pages
 pub chunks-after : (n : ℕ) → n ≤ maxPages → (xs : List Call) (b : List ℕ) → Represents n b (heapAfter n xs) → (c : ℕ) → ltb c 64 ≡ true → (h : ℕ) (ws gs fs : List ℕ)
-    → Agrees (Represents n) (chunksReply (chunksCall n b c (shapeOf c) h ws gs fs)) (classCall n (heapAfter n xs) c (Calls.giveChunks h ws gs fs))
+    → Agrees (Represents n) (chunksReply (releaseChunks n b c (shapeOf c) h ws gs fs)) (classCall n (heapAfter n xs) c (Calls.giveChunks h ws gs fs))
 chunks-after n hn xs b R c hs h ws gs fs = chunks-whole n hn b (heapAfter n xs) R (reached-after n xs) c hs h ws gs fs

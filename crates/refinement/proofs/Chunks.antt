@@ -1,4 +1,4 @@
--- The chunks of a group release, one after the other: fates, runs for the arena and book are the model's. Assumes nothing.
+-- The chunks of a group release, one after the other: fates, runs for the arena and book are the model's.
 --     settle-skips     settling one page leaves every other page where the model finds it
 --     settle-counts    what it adds to the stores and to the runs for the arena
 --     Waits            a chunk whose page has its blocks out, whatever the chunks before it did
@@ -9,24 +9,28 @@ use mathlib.Core.Bool.{Bool, true, false, cond, not, true≢false}
 use mathlib.Core.List.{List, [], _∷_, _++_, map, append-assoc, append-nil}
 use mathlib.Core.Option.{Option, none, some, Option·none-ne-some, Option·some-injective}
 use mathlib.Core.Path.{_≡_, refl, sym, ap, _∙_, subst}
-use lib.Dec.{eqb, ltb}
+use lib.Dec.{eqb}
 use lib.ListN.{length}
 use borrow.Author.Tests.{eqb-true, ne-eqb, not-true}
+use Rattle.facts.specs.Lists.{filter, every, All, elem, distinct, count}
+use Rattle.facts.proofs.Bools.{by-cases, and-left, and-right}
 use Rattle.words.specs.Word.{pageOf}
 use Rattle.classes.specs.declared.Shape.{Shape}
 use Rattle.fields.specs.Ranges.{maxPages}
-use Rattle.model.specs.Lists.{All, every, elem, filter, distinct, count}
 use Rattle.model.specs.Page.{Page, isMedium, isOut, noneOut, returned, retire}
 use Rattle.model.specs.Class.{Class}
 use Rattle.model.specs.Release as Release
-use Rattle.model.specs.Release.{Site, Settled, inPartial, inFull, locate, park, settle}
+use Rattle.model.specs.Release.{Site, Settled, inPartial, inFull, locate, spotIn, parkIn, park, settle}
 use Rattle.model.specs.Chunks as Model
 use Rattle.model.specs.Chunks.{startsAt, settleChunk, AllSettled}
-use Rattle.model.proofs.Counts.{by-cases, and-l, and-r, filter-le, distinct-count}
+use Rattle.model.proofs.Counts.{filter-le, distinct-count}
 use Rattle.model.proofs.Find.{firstOf, pageIn, located-first, Skips, partial-skips, full-skips}
-use Rattle.pages.specs.Runs.{flag}
+use Rattle.words.specs.Host.{digit}
 use Rattle.pages.specs.Stack.{indexOf}
-use Rattle.calls.specs.Release.{startOf, Released, keepsEmpty, spotOf}
+use Rattle.model.specs.declared.Spot.{Spot}
+use Rattle.model.specs.declared.Spot.the-variants.{ToEmpty, ToCold, ToArena}
+use Rattle.model.specs.Spot.{isEmpty, isCold, isArena}
+use Rattle.calls.specs.Release.{startOf, Released}
 use Rattle.calls.specs.Chunks as Words
 use Rattle.calls.specs.Chunks.{blocksOn, returnsAll, runsGiven, chunkBackAt, givesOf, settleChunks}
 use Rattle.refinement.specs.Represents.{firsts}
@@ -37,16 +41,21 @@ use Rattle.refinement.proofs.Found.{Located, inList, inNone, located, l
 use Rattle.refinement.proofs.Release.{Limits, SettledRep, stays, goes, settle-chunk}
 
 -- what settling a page adds, where e empty and k cold pages were: a page to the store that the spot names, or a run for the arena
-record Adds (e k spot : ℕ) (gone : Bool) (y : Settled) : Type 0 where
-  empty : length (y .class .empty) ≡ cond gone (e + flag (eqb spot 0)) e
-  cold : length (y .class .cold) ≡ cond gone (k + flag (eqb spot 1)) k
-  gives : length (y .gives) ≡ cond gone (flag (eqb spot 2)) 0
+record Adds (e k : ℕ) (spot : Spot) (gone : Bool) (y : Settled) : Type 0 where
+  empty : length (y .class .empty) ≡ cond gone (e + digit (isEmpty spot)) e
+  cold : length (y .class .cold) ≡ cond gone (k + digit (isCold spot)) k
+  gives : length (y .gives) ≡ cond gone (digit (isArena spot)) 0
 
 -- ---- the model's settling of one page
 module _ (sh : Shape) (h : ℕ) where
+  in-skips : (s : Class) (p : Page) (u : Page → Bool) (t : Spot) → firstOf u (parkIn sh h s p t .class) ≡ firstOf u s
+  in-skips s p u ToEmpty = refl
+  in-skips s p u ToCold = refl
+  in-skips s p u ToArena = refl
+
   park-skips : (s : Class) (p : Page) (u : Page → Bool) → firstOf u (park sh h s p .class) ≡ firstOf u s
   unfolding park
-  park-skips s p u = by-cases (Release.keepsEmpty sh s) (λ e. rw e) (λ e. by-cases (Release.keepsCold sh s) (λ d. rw (e, d)) (λ d. rw (e, d)))
+  park-skips s p u = in-skips s p u (spotIn sh s)
 
   skips : {t : Page → Bool} {s : Class} {x : Site} → Located t s (some x) → Skips s x
   skips {t} {s} (inList f k) = partial-skips t s f k
@@ -61,17 +70,17 @@ module _ (sh : Shape) (h : ℕ) where
       (λ e. rw e (park-skips (x .without) (retire (x .page)) (startsAt r) ∙ k .without (startsAt r) ne))
       (λ e. rw e (k .with (startsAt r) (returned ws (x .page)) ne ne))
 
-  park-adds : (s : Class) (p : Page) → Adds (length (s .empty)) (length (s .cold)) (spotOf sh (length (s .empty)) (length (s .cold))) true (Release.markRetired (park sh h s p))
-  unfolding park spotOf
-  park-adds s p =
-      by-cases (keepsEmpty sh (length (s .empty)))
-      (λ e. rw e (record { empty = omega arith; cold = omega arith; gives = refl }))
-      (λ e. by-cases (ltb (length (s .cold)) (sh .colds))
-      (λ d. rw (e, d) (record { empty = omega arith; cold = omega arith; gives = refl }))
-      (λ d. rw (e, d) (record { empty = omega arith; cold = omega arith; gives = refl })))
+  in-adds : (s : Class) (p : Page) (t : Spot) → Adds (length (s .empty)) (length (s .cold)) t true (Release.markRetired (parkIn sh h s p t))
+  in-adds s p ToEmpty = record { empty = omega arith; cold = omega arith; gives = refl }
+  in-adds s p ToCold = record { empty = omega arith; cold = omega arith; gives = refl }
+  in-adds s p ToArena = record { empty = omega arith; cold = omega arith; gives = refl }
+
+  park-adds : (s : Class) (p : Page) → Adds (length (s .empty)) (length (s .cold)) (spotIn sh s) true (Release.markRetired (park sh h s p))
+  unfolding park
+  park-adds s p = in-adds s p (spotIn sh s)
 
   settle-adds : {t : Page → Bool} {s : Class} {x : Site} → Located t s (some x) → (ws : List ℕ)
-      → Adds (length (s .empty)) (length (s .cold)) (spotOf sh (length (s .empty)) (length (s .cold))) (noneOut sh (returned ws (x .page))) (settle sh h true ws x)
+      → Adds (length (s .empty)) (length (s .cold)) (spotIn sh s) (noneOut sh (returned ws (x .page))) (settle sh h true ws x)
   unfolding settle inPartial inFull
   settle-adds {s = s} (inList f k) ws =
       by-cases (noneOut sh (returned ws (f .page))) (λ e. rw e (park-adds (inPartial s f .without) (retire (f .page))))
@@ -225,7 +234,7 @@ module _ {n c : ℕ} {sh : Shape} (hn : n ≤ maxPages) (lim : Limits sh) (small
   unfolding settleChunks Model.settleChunks runsGiven Rest outcome
   chunks-rep [] d b t zs o r a = record { pages = []; rep = rw (append-nil zs) r; only = o; fates = refl; gives = refl; named = refl; number = refl }
   chunks-rep (g ∷ gs) d b t zs o r a =
-      let new = not-true (elem (pageOf g) (map pageOf gs)) (and-l (not (elem (pageOf g) (map pageOf gs))) (distinct (map pageOf gs)) d) in
-      let others = and-r (not (elem (pageOf g) (map pageOf gs))) (distinct (map pageOf gs)) d in
+      let new = not-true (elem (pageOf g) (map pageOf gs)) (and-left (not (elem (pageOf g) (map pageOf gs))) (distinct (map pageOf gs)) d) in
+      let others = and-right (not (elem (pageOf g) (map pageOf gs))) (distinct (map pageOf gs)) d in
       step g gs (λ b t zs o r a. chunks-rep gs others b t zs o r a) new b t zs o r (a .0) (a .1) (locate (startsAt (pageOf g)) t) (located (startsAt (pageOf g)) t)
       (located-first (startsAt (pageOf g)) t ∙ a .0 .found)

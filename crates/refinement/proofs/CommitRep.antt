@@ -3,15 +3,14 @@
 --     commit-for     a commit on the words is never refused, and answers the model's run and whether it is fresh
 --     commit-rep     the book afterwards stands for the model's arena, and the run is the holder's
 --     grow-rep       the same for a growth
--- Assumes nothing.
 use Prim.Native.Nat.{ℕ, _+_, _≤_}
 use native.Mathlib.Omega.{arith}
 use mathlib.Core.Bool.{Bool, true, false, cond}
 use mathlib.Core.List.{List}
 use mathlib.Core.Option.{Option, none, some}
 use mathlib.Core.Path.{_≡_, refl, subst, fun-ext}
+use Rattle.model.specs.Cover.{covers, coversRun}
 use Rattle.fields.specs.Field.{arena, held, get, put}
-use Rattle.model.specs.Lists.{covers, coversRun}
 use Rattle.model.specs.Arena.{Arena, commit, grow}
 use Rattle.model.specs.Ledger.{above}
 use Rattle.model.specs.Class.{Class}

@@ -2,7 +2,7 @@
 --     claim-others       every other run, of this class or another, as before
 --     claim-new          the run itself is whole now
 --     claim-none         no class had a run there before
--- b is the book before the commit, b′ any book that stands for the model's arena and holders after it. Assumes nothing.
+-- b is the book before the commit, b′ any book that stands for the model's arena and holders after it.
 use Prim.Native.Nat.{ℕ, suc, _+_, _≤_, _<_}
 use native.Mathlib.Omega.{arith}
 use mathlib.Core.Bool.{true, false}
@@ -11,13 +11,13 @@ use mathlib.Core.Option.{some}
 use mathlib.Core.Path.{_≡_, refl, sym, ap, _∙_}
 use lib.Dec.{eqb}
 use borrow.Author.Tests.{eqb-true, eqb-false, le-leb, lt-ltb}
+use Rattle.facts.proofs.Bools.{by-cases, and-left}
+use Rattle.model.specs.Cover.{inRun, covers, coversRun}
 use Rattle.classes.specs.declared.Shape.{Shape}
 use Rattle.fields.specs.Field.{page, owner, first, get}
-use Rattle.model.specs.Lists.{inRun, covers, coversRun}
 use Rattle.model.specs.Arena.{commit}
 use Rattle.model.specs.Class.{Class}
 use Rattle.model.specs.Heap.{Heap, nobody, class, passTo}
-use Rattle.model.proofs.Counts.{by-cases, and-l}
 use Rattle.model.proofs.ArenaLaws.{idle, commit-law}
 use Rattle.model.proofs.IdlePages.{commit-below}
 use Rattle.pages.specs.Runs.{whole}
@@ -40,7 +40,7 @@ module _ (n : ℕ) (b : List ℕ) (H : Heap) (rep : ArenaRep n b H) (r : Reached
   claim-none sh d l =
       by-cases (whole n b sh d q)
       (λ e. absurd (let t = whole-names n b sh d q q e (rw (le-leb q q (omega arith), lt-ltb q (q + sh .pages) (omega arith))) in
-      let o = eqb-true (get b (page owner q)) (suc d) (and-l (eqb (get b (page owner q)) (suc d)) (eqb (get b (page first q)) q) t) in
+      let o = eqb-true (get b (page owner q)) (suc d) (and-left (eqb (get b (page owner q)) (suc d)) (eqb (get b (page first q)) q) t) in
       let u : q < H .arena .frontier = omega (arith, whole-ends n b sh d q e .1, loads-frontier b (H .arena) (rep .loads)) in
       let z : get b (page owner q) ≡ 0 = rw (run-nobody q (rw (le-leb q q (omega arith), lt-ltb q (q + m) (omega arith)))) at (rep .owners q u) in
       omega arith))

@@ -1,4 +1,4 @@
--- A word taken apart: where a block lies, and what the tests on the words say of it. Assumes nothing.
+-- A word taken apart: where a block lies, and what the tests on the words say of it.
 --     Sits               the word is a block of the run at q, and its out bit is set
 --     count-words        words of blocks stand as often as their indices
 --     out-sits, sits-out     the model's `isOut` says so of a represented page
@@ -13,21 +13,23 @@ use mathlib.Core.List.{List, [], _∷_, map}
 use mathlib.Core.Path.{_≡_, refl, sym, ap, _∙_}
 use lib.Dec.{eqb, ltb, leb}
 use borrow.Author.Tests.{eq-eqb, ne-eqb, eqb-true, eqb-false, ltb-true, leb-true, le-leb, lt-ltb, not-true}
+use Rattle.facts.specs.Lists.{elem, count}
+use Rattle.facts.proofs.Bools.{by-cases, and-left, and-right}
 use Rattle.words.specs.Word.{granuleOf}
 use Rattle.classes.specs.declared.Shape.{Shape}
 use Rattle.classes.specs.Sound.{Sound}
 use Rattle.fields.specs.Field.{arena, page, out, first, frontier, get}
 use Rattle.fields.specs.Ranges.{maxPages}
-use Rattle.model.specs.Lists.{count, elem}
 use Rattle.model.specs.Page.{Page, wordOf, wordsFrom, isOut, carvedWords}
 use Rattle.model.specs.Release.{ofKind}
-use Rattle.model.proofs.Counts.{by-cases, and-l, and-r, elem-count, count-elem}
+use Rattle.model.proofs.Counts.{elem-count, count-elem}
 use Rattle.model.proofs.Pages.{word-rises}
-use Rattle.pages.specs.Runs.{flag}
-use Rattle.pages.specs.Stack.{marked, blocksFrom, indexOf}
-use Rattle.calls.specs.Release.{pageAt, startOf, outIn, inRunOf, outAt}
+use Rattle.model.proofs.Apart.{which}
+use Rattle.words.specs.Host.{digit}
+use Rattle.pages.specs.Stack.{marked, blocksFrom, indexOf, pageAt, isBlock}
+use Rattle.calls.specs.Release.{startOf, outIn, inRunOf, outAt}
 use Rattle.refinement.specs.Represents.{PageRep}
-use Rattle.refinement.proofs.Basics.{Setting, flag-cases}
+use Rattle.refinement.proofs.Basics.{Setting, digit-cases}
 use Rattle.refinement.proofs.Frames.{whole-says}
 
 pub both : (s t : Bool) → s ≡ true → t ≡ true → (s && t) ≡ true
@@ -59,15 +61,6 @@ module _ {sh : Shape} (ok : Sound sh) where
       by-cases (eqb j x)
       (λ e. rw (e, eq-eqb (wordOf sh q j) (wordOf sh q x) (ap (wordOf sh q) (eqb-true j x e))) (omega arith))
       (λ e. rw (e, ne-eqb (wordOf sh q j) (wordOf sh q x) (λ z. eqb-false j x e (word-inj q j x z))) (omega arith))
-
-  -- a carved word is the word of a block below
-  which : (q k w : ℕ) → 1 ≤ count w (wordsFrom sh q 0 k) → (i : ℕ) × (i < k) × (w ≡ wordOf sh q i)
-  which q zero w h = absurd (omega arith)
-  which q (suc k) w h =
-      by-cases (eqb w (wordOf sh q (0 + k)))
-      (λ e. (k, omega arith, rw zero-add at (eqb-true w (wordOf sh q (0 + k)) e)))
-      (λ e. let z : 1 ≤ 0 + count w (wordsFrom sh q 0 k) = rw e at h in
-      let r = which q k w (omega arith) in (r .0, omega (arith, r .1), r .2))
 
   pub words-elem : (q k i : ℕ) → i < k → elem (wordOf sh q i) (wordsFrom sh q 0 k) ≡ true
   words-elem q zero i h = absurd (omega arith)
@@ -119,25 +112,25 @@ pub record Sits (b : List ℕ) (sh : Shape) (q w : ℕ) : Type 0 where
 -- what `outIn` says, whatever stands in the book
 module _ (b : List ℕ) {sh : Shape} (ok : Sound sh) (q w : ℕ) where
   pub in-sits : ofKind (sh .kind) w ≡ true → outIn b sh q w ≡ true → Sits b sh q w
-  unfolding outIn marked
+  unfolding outIn isBlock marked
   in-sits k e =
       let i = indexOf sh q w in
       let t₁ = leb (blocksFrom sh q) (granuleOf w) in
       let t₂ = eqb (indexOf sh q w * sh .block) (granuleOf w - blocksFrom sh q) in
       let t₃ = ltb (indexOf sh q w) (sh .capacity) in
       let t₄ = eqb (get b (out q (indexOf sh q w))) 1 in
-      let e₂ = and-r t₁ (t₂ && (t₃ && t₄)) e in
-      let e₃ = and-r t₂ (t₃ && t₄) e₂ in
-      let u = and-l t₃ t₄ e₃ in
+      let e₁ = and-left (t₁ && (t₂ && t₃)) t₄ e in
+      let e₂ = and-right t₁ (t₂ && t₃) e₁ in
+      let u = and-right t₂ t₃ e₂ in
       record {
         index = indexOf sh q w;
         inside = ltb-true (indexOf sh q w) (sh .capacity) u;
-        names = decoded ok q w k (and-l t₁ (t₂ && (t₃ && t₄)) e) (and-l t₂ (t₃ && t₄) e₂);
-        set = rw u (eqb-true (get b (out q (indexOf sh q w))) 1 (and-r t₃ t₄ e₃));
+        names = decoded ok q w k (and-left t₁ (t₂ && t₃) e₁) (and-left t₂ t₃ e₂);
+        set = rw u (eqb-true (get b (out q (indexOf sh q w))) 1 (and-right (t₁ && (t₂ && t₃)) t₄ e));
       }
 
   pub sits-in : q + sh .pages ≤ maxPages → Sits b sh q w → outIn b sh q w ≡ true
-  unfolding outIn marked
+  unfolding outIn isBlock marked
   sits-in low s =
       let i = s .index in
       let u = lt-ltb (s .index) (sh .capacity) (s .inside) in
@@ -163,10 +156,10 @@ module _ {n : ℕ} {b : List ℕ} {c : ℕ} {sh : Shape} (s : Setting n b c sh) 
     pub out-sits : isOut sh w p ≡ true → Sits b sh (p .first) w
     unfolding isOut carvedWords
     out-sits e =
-        let t = which (s .shape) (p .first) (p .carved) w (elem-count w (carvedWords sh p) (and-l (elem w (carvedWords sh p)) (not (elem w (p .free))) e)) in
-        let f = count-elem w (p .free) (not-true (elem w (p .free)) (and-r (elem w (carvedWords sh p)) (not (elem w (p .free))) e)) in
+        let t = which sh (p .first) (p .carved) w (elem-count w (carvedWords sh p) (and-left (elem w (carvedWords sh p)) (not (elem w (p .free))) e)) in
+        let f = count-elem w (p .free) (not-true (elem w (p .free)) (and-right (elem w (carvedWords sh p)) (not (elem w (p .free))) e)) in
         let z : count (t .0) (r .stack) ≡ 0 = sym (free-count (t .0)) ∙ ap (λ v. count v (p .free)) (sym (t .2)) ∙ f in
-        let y : flag (ltb (t .0) (p .carved)) ≡ 1 = ap flag (lt-ltb (t .0) (p .carved) (t .1)) in
+        let y : digit (ltb (t .0) (p .carved)) ≡ 1 = ap digit (lt-ltb (t .0) (p .carved) (t .1)) in
         record { index = t .0; inside = omega (arith, t .1, r .holds .within); names = t .2; set = omega (arith, r .holds .outs (t .0)) }
 
     module _ (t : Sits b sh (p .first) w) where
@@ -174,13 +167,13 @@ module _ {n : ℕ} {b : List ℕ} {c : ℕ} {sh : Shape} (s : Setting n b c sh) 
       unfolding isOut carvedWords
       sits-out =
           let i = t .index in
-          flag-cases (t .index) (p .carved)
+          digit-cases (t .index) (p .carved)
           (λ u e. both (elem w (carvedWords sh p)) (not (elem w (p .free)))
           (ap (λ z. elem z (carvedWords sh p)) (t .names) ∙ words-elem (s .shape) (p .first) (p .carved) i u)
           (ap not (count-not w (p .free) (ap (λ z. count z (p .free)) (t .names) ∙ free-count i ∙ none i u e (t .set)))))
           (λ u e. absurd (omega (arith, r .holds .outs (t .index), t .set)))
         where
-          none : (i : ℕ) → i < p .carved → flag (ltb i (p .carved)) ≡ 1 → marked b sh (p .first) i ≡ 1 → count i (r .stack) ≡ 0
+          none : (i : ℕ) → i < p .carved → digit (ltb i (p .carved)) ≡ 1 → marked b sh (p .first) i ≡ 1 → count i (r .stack) ≡ 0
           none i u e m = omega (arith, r .holds .outs i)
 
       pub sits-start : startOf b w ≡ p .first

@@ -3,38 +3,38 @@
 --     held-direct       number 12's test on the words is the model's
 --     direct-agrees     every call that names no class, in the arena's part
 --     direct-represents    the same for the whole book
--- Assumes nothing.
-use Prim.Native.Nat.{ℕ, zero, suc, _+_, _-_, _≤_, _<_}
+use Prim.Native.Nat.{ℕ, suc, _+_, _-_, _≤_, _<_}
 use native.Mathlib.Omega.{arith}
 use mathlib.Core.Bool.{Bool, true, false, cond, not, _&&_, _||_, true≢false, false≢true}
 use mathlib.Core.List.{List}
 use mathlib.Core.Path.{_≡_, refl, sym, ap}
 use lib.Dec.{eqb, ltb, leb}
 use borrow.Author.Tests.{leb-true, leb-false, ltb-true, eqb-false, ne-eqb, not-false}
+use Rattle.facts.specs.Lists.{every, below}
+use Rattle.facts.proofs.Bools.{by-cases, and-left, and-right, nor-left, nor-right}
+use Rattle.facts.proofs.Lists.{every-at, every-cong}
+use Rattle.model.specs.Cover.{inRun, covers}
 use Rattle.classes.specs.declared.Shape.{Shape}
 use Rattle.classes.specs.Shape.{shapeOf}
 use Rattle.classes.proofs.Shapes.{shape-sound}
 use Rattle.fields.specs.Field.{arena, page, owner, get}
 use Rattle.fields.proofs.Changes.{Changes, changes-none}
-use Rattle.model.specs.Lists.{every, below, covers, inRun}
 use Rattle.model.specs.Calls as Calls
-use Rattle.model.specs.Calls.{Call, Answer, refused, released}
-use Rattle.model.specs.Chunks.{hostMax}
+use Rattle.model.specs.Calls.{Call, Answer, refused}
 use Rattle.model.specs.Arena as Model
 use Rattle.model.specs.Heap as Heaps
-use Rattle.model.specs.Heap.{Heap, Holder, Outcome, nobody, direct, class, isDirect, isHeld, badRun, unchanged, directCall, reportOf}
-use Rattle.model.proofs.Counts.{by-cases, and-l, and-r}
+use Rattle.model.specs.Heap.{Heap, Holder, Outcome, nobody, direct, class, isDirect, isHeld, badRun, badGrowth, unchanged, directCall}
 use Rattle.model.proofs.ArenaTidy.{tidy-commit, tidy-grow}
 use Rattle.pages.specs.Runs.{whole}
 use Rattle.arena.specs.Owners.{ownerCode}
 use Rattle.arena.specs.Calls.{commitCall, everyDirect, heldDirect, growCall, grownBy, releaseCall, containsCall, figures, reportCode}
 use Rattle.arena.specs.Represents.{ArenaRep}
 use Rattle.refinement.specs.Represents.{Represents}
-use Rattle.refinement.specs.Direct.{Reply, reply, commitReply, growReply, releaseReply, reportedOf, directReply, Agrees}
+use Rattle.refinement.specs.Direct.{Reply, reply, commitReply, growReply, releaseReply, directReply, Agrees}
 use Rattle.refinement.proofs.ArenaHolders.{isKnown}
 use Rattle.refinement.proofs.ArenaReached.{Reached, held-below}
-use Rattle.refinement.proofs.ArenaFair.{loads-frontier, loads-total, loads-commits, loads-reuses, loads-abandoned, record-passes}
-use Rattle.refinement.proofs.ArenaFrames.{isStep, inRunOf, either, passed, committed-changes, grown-changes, every-cong, every-at}
+use Rattle.refinement.proofs.ArenaFair.{loads-frontier, record-passes}
+use Rattle.refinement.proofs.ArenaFrames.{isStep, inRunOf, either, passed, committed-changes, grown-changes}
 use Rattle.refinement.proofs.CommitRep.{commit-for, commit-rep, grow-rep}
 use Rattle.refinement.proofs.GiveRep.{give-fair, give-rep}
 use Rattle.refinement.proofs.ArenaRuns.{isOf, direct-other, commit-whole, grow-whole, given-step, give-whole}
@@ -51,21 +51,13 @@ pub good-run : (m : ℕ) → badRun m ≡ false → 1 ≤ m
 unfolding badRun
 good-run m e = by-cases (eqb m 0) (λ d. absurd (true≢false (rw d at e))) (λ d. omega (arith, eqb-false m 0 d))
 
-or-left : (s t : Bool) → (s || t) ≡ false → s ≡ false
-or-left true t e = e
-or-left false t e = refl
-
-or-right : (s t : Bool) → (s || t) ≡ false → t ≡ false
-or-right true t e = absurd (true≢false e)
-or-right false t e = e
-
 -- ---- number 12
-is-direct : (w : Holder) → isKnown w ≡ true → eqb (ownerCode w) 77 ≡ isDirect w
+is-direct : (w : Holder) → isKnown w ≡ true → eqb (ownerCode w) (ownerCode direct) ≡ isDirect w
 is-direct nobody e = refl
 is-direct direct e = refl
-is-direct (class c) e = ne-eqb (suc c) 77 (λ z. let l = ltb-true c 76 e in omega arith)
+is-direct (class c) e = ne-eqb (suc c) (ownerCode direct) (λ z. let l = ltb-true c 76 e in omega arith)
 
-direct-held : (w : Holder) → isDirect w ≡ true → 1 ≤ isHeld w
+pub direct-held : (w : Holder) → isDirect w ≡ true → 1 ≤ isHeld w
 direct-held nobody e = absurd (false≢true e)
 direct-held direct e = omega arith
 direct-held (class c) e = absurd (false≢true e)
@@ -75,12 +67,12 @@ module _ (n : ℕ) (b : List ℕ) (H : Heap) (rep : ArenaRep n b H) (r : Reached
   module _ (q m : ℕ) (one : 1 ≤ m) where
     all-direct : Heaps.heldDirect n H q m ≡ true → (k : ℕ) → k < m → isDirect (H .holder (q + k)) ≡ true
     unfolding Heaps.heldDirect
-    all-direct e k l = every-at (λ j. isDirect (H .holder (q + j))) m k (and-r (leb (q + m) n) (every (λ j. isDirect (H .holder (q + j))) (below m)) e) l
+    all-direct e k l = every-at (λ j. isDirect (H .holder (q + j))) m k (and-right (leb (q + m) n) (every (λ j. isDirect (H .holder (q + j))) (below m)) e) l
 
     pub run-direct : Heaps.heldDirect n H q m ≡ true → (x : ℕ) → inRun m q x ≡ true → isDirect (H .holder x) ≡ true
     run-direct e x t =
-        let l = leb-true q x (and-l (leb q x) (ltb x (q + m)) t) in
-        let u = ltb-true x (q + m) (and-r (leb q x) (ltb x (q + m)) t) in
+        let l = leb-true q x (and-left (leb q x) (ltb x (q + m)) t) in
+        let u = ltb-true x (q + m) (and-right (leb q x) (ltb x (q + m)) t) in
         let z : q + (x - q) ≡ x = omega arith in
         rw z at (all-direct e (x - q) (omega arith))
 
@@ -90,7 +82,7 @@ module _ (n : ℕ) (b : List ℕ) (H : Heap) (rep : ArenaRep n b H) (r : Reached
         (λ t. rw t (direct-held (H .holder x) (run-direct e x t)))
         (λ t. rw t (omega arith))
 
-    low : (k : ℕ) → k < m → q + m ≤ H .arena .frontier → eqb (get b (page owner (q + k))) 77 ≡ isDirect (H .holder (q + k))
+    low : (k : ℕ) → k < m → q + m ≤ H .arena .frontier → eqb (get b (page owner (q + k))) (ownerCode direct) ≡ isDirect (H .holder (q + k))
     low k l u = rw (rep .owners (q + k) (omega arith)) (is-direct (H .holder (q + k)) (r .known .at (q + k)))
 
     pub held-direct : heldDirect n b q m ≡ Heaps.heldDirect n H q m
@@ -99,7 +91,7 @@ module _ (n : ℕ) (b : List ℕ) (H : Heap) (rep : ArenaRep n b H) (r : Reached
         rw (loads-frontier b (H .arena) (rep .loads))
         (ap (λ t. leb (q + m) n && t)
         (by-cases (leb (q + m) (H .arena .frontier))
-        (λ e. rw e (every-cong (λ k. eqb (get b (page owner (q + k))) 77) (λ k. isDirect (H .holder (q + k))) m (λ k l. low k l (leb-true (q + m) (H .arena .frontier) e))))
+        (λ e. rw e (every-cong (λ k. eqb (get b (page owner (q + k))) (ownerCode direct)) (λ k. isDirect (H .holder (q + k))) m (λ k l. low k l (leb-true (q + m) (H .arena .frontier) e))))
         (λ e. rw e (sym (not-all (leb-false (q + m) (H .arena .frontier) e))))))
       where
         not-all : H .arena .frontier < q + m → every (λ k. isDirect (H .holder (q + k))) (below m) ≡ false
@@ -136,30 +128,28 @@ module _ (n : ℕ) (b : List ℕ) (H : Heap) (rep : ArenaRep n b H) (r : Reached
   settle-commit : (h m : ℕ) → Settled (commitReply (commitCall n b h m)) (directCall n H (Calls.commit h m))
   unfolding commitCall directCall Heaps.commitCall
   settle-commit h m =
-      settle-cond commitReply (ltb hostMax h) _ _ _ _ (λ e. settle-refused 3 (λ z. omega arith))
-      (λ e. settle-cond commitReply (badRun m) _ _ _ _ (λ d. settle-refused 6 (λ z. omega arith))
+      settle-cond commitReply (badRun m) _ _ _ _ (λ d. settle-refused 6 (λ z. omega arith))
       (λ d. let one = good-run m d in
       let g = Model.commit n h m (H .arena) in
-      rw (commit-for n b H rep r h m 77)
+      rw (commit-for n b H rep r h m (ownerCode direct))
       (record {
         agrees = record { answer = refl; fair = λ z. omega arith; heap = commit-rep n b H rep r h m one direct refl (H .classes) };
         beside = record {
           pages = either (passed b (g .arena)) (inRunOf m (g .run));
-          changes = committed-changes b g m 77 (tidy-commit n h m one (H .arena) (r .tidy) .slots);
+          changes = committed-changes b g m (ownerCode direct) (tidy-commit n h m one (H .arena) (r .tidy) .slots);
           runs = λ sh d x l hd. commit-whole n b H rep r h m one direct refl sh d x l (direct-other d hd);
         };
         classes = refl;
-      })))
+      }))
 
-  longer : (old new : ℕ) → (badRun old || (badRun new || leb new old)) ≡ false → 1 ≤ new - old
-  longer old new e = omega (arith, leb-false new old (or-right (badRun new) (leb new old) (or-right (badRun old) (badRun new || leb new old) e)))
+  longer : (old new : ℕ) → badGrowth old new ≡ false → 1 ≤ new - old
+  longer old new e = omega (arith, leb-false new old (nor-right (badRun new) (leb new old) (nor-right (badRun old) (badRun new || leb new old) e)))
 
   settle-grow : (h q old new : ℕ) → Settled (growReply (growCall n b h q old new)) (directCall n H (Calls.growFrontier h q old new))
   unfolding growCall directCall Heaps.growCall
   settle-grow h q old new =
-      settle-cond growReply (ltb hostMax h) _ _ _ _ (λ e. settle-refused 3 (λ z. omega arith))
-      (λ e. settle-cond growReply (badRun old || (badRun new || leb new old)) _ _ _ _ (λ d. settle-refused 6 (λ z. omega arith))
-      (λ d. rw (held-direct q old (good-run old (or-left (badRun old) (badRun new || leb new old) d)))
+      settle-cond growReply (badGrowth old new) _ _ _ _ (λ d. settle-refused 6 (λ z. omega arith))
+      (λ d. rw (held-direct q old (good-run old (nor-left (badRun old) (badRun new || leb new old) d)))
       (settle-cond growReply (not (Heaps.heldDirect n H q old)) _ _ _ _ (λ c. settle-refused 12 (λ z. omega arith))
       (λ c. let one = longer old new d in
       let g = Model.grow n h (q + old) (new - old) (H .arena) in
@@ -172,18 +162,17 @@ module _ (n : ℕ) (b : List ℕ) (H : Heap) (rep : ArenaRep n b H) (r : Reached
           runs = λ sh d x l hd. grow-whole n b H rep r h (new - old) one (q + old) sh d x l hd;
         };
         classes = refl;
-      })))))
+      }))))
 
   direct-not : (d : ℕ) (w : Holder) → ltb d 76 ≡ true → isDirect w ≡ true → isOf d w ≡ false
   direct-not d nobody hd e = absurd (false≢true e)
   direct-not d direct hd e = direct-other d hd
   direct-not d (class c) hd e = absurd (false≢true e)
 
-  settle-release : (h q m : ℕ) → Settled (releaseReply (releaseCall n b h q m)) (directCall n H (Calls.release h q m))
+  settle-release : (h q m : ℕ) → Settled (releaseReply (releaseCall n b q m)) (directCall n H (Calls.release h q m))
   unfolding releaseCall directCall Heaps.releaseCall
   settle-release h q m =
-      settle-cond releaseReply (ltb hostMax h) _ _ _ _ (λ e. settle-refused 3 (λ z. omega arith))
-      (λ e. settle-cond releaseReply (badRun m) _ _ _ _ (λ d. settle-refused 6 (λ z. omega arith))
+      settle-cond releaseReply (badRun m) _ _ _ _ (λ d. settle-refused 6 (λ z. omega arith))
       (λ d. let one = good-run m d in
       rw (held-direct q m one)
       (settle-cond releaseReply (not (Heaps.heldDirect n H q m)) _ _ _ _ (λ c. settle-refused 12 (λ z. omega arith))
@@ -198,40 +187,23 @@ module _ (n : ℕ) (b : List ℕ) (H : Heap) (rep : ArenaRep n b H) (r : Reached
           runs = λ sh d x l hd. give-whole n b H rep r q m one k sh d x l (λ y e. direct-not d (H .holder y) hd (run-direct q m one t y e));
         };
         classes = refl;
-      })))))
+      }))))
 
   settle-contains : (o k : ℕ) → Settled (reply 0 (Calls.contained (containsCall n b o k)) b) (directCall n H (Calls.contains o k))
   unfolding containsCall directCall
   settle-contains o k = rw (rep .loads) (settle-same 0 (λ z. omega arith) (Calls.contained (Model.contains n o k (H .arena))))
 
-  settle-report : Settled (reply (reportCode n b) (reportedOf (figures n b)) b) (directCall n H Calls.report)
-  unfolding reportCode directCall reportOf
-  settle-report =
-      let a = H .arena in
-      rw (
-        record-passes n b H rep r,
-        loads-commits b (H .arena) (rep .loads),
-        loads-reuses b (H .arena) (rep .loads),
-        loads-abandoned b (H .arena) (rep .loads),
-        rep .held,
-        loads-total b (H .arena) (rep .loads),
-        loads-frontier b (H .arena) (rep .loads),
-      )
-      (settle-same 0 (λ z. omega arith) (Calls.reported (a .commits) (a .reuses) (a .abandoned) (Heaps.heldPages n H) (Heaps.idlePages n a)))
-
-  settle-noclass : (h : ℕ) → Settled (reply (cond (ltb hostMax h) 3 4) released b) (Heaps.noClass H h)
-  settle-noclass h =
-      by-cases (ltb hostMax h)
-      (λ e. rw e (settle-refused 3 (λ z. omega arith)))
-      (λ e. rw e (settle-refused 4 (λ z. omega arith)))
+  settle-report : Settled (reply (reportCode n b) (Calls.reported (figures n b)) b) (directCall n H Calls.report)
+  unfolding reportCode directCall
+  settle-report = rw (record-passes n b H rep r, rep .loads, rep .held) (settle-same 0 (λ z. omega arith) (Calls.reported (Heaps.figures n H)))
 
   settle-direct : (x : Call) → Settled (directReply n b x) (directCall n H x)
   unfolding directReply directCall
-  settle-direct (Calls.takeBlocks c h l) = settle-noclass h
-  settle-direct (Calls.mediumTakeBlocks c h l) = settle-noclass h
-  settle-direct (Calls.releaseBlocks c h ws) = settle-noclass h
-  settle-direct (Calls.mediumReleaseBlocks c h ws) = settle-noclass h
-  settle-direct (Calls.releaseBinChunks c h ws gs fs) = settle-noclass h
+  settle-direct (Calls.takeBlocks c h l) = settle-refused 4 (λ z. omega arith)
+  settle-direct (Calls.mediumTakeBlocks c h l) = settle-refused 4 (λ z. omega arith)
+  settle-direct (Calls.releaseBlocks c h ws) = settle-refused 4 (λ z. omega arith)
+  settle-direct (Calls.mediumReleaseBlocks c h ws) = settle-refused 4 (λ z. omega arith)
+  settle-direct (Calls.releaseBinChunks c h ws gs fs) = settle-refused 4 (λ z. omega arith)
   settle-direct (Calls.commit h m) = settle-commit h m
   settle-direct (Calls.growFrontier h q old new) = settle-grow h q old new
   settle-direct (Calls.release h q m) = settle-release h q m

@@ -1,4 +1,4 @@
--- A page that gives blocks: the words do what the model's `pop` says. Assumes nothing.
+-- A page that gives blocks: the words do what the model's `pop` says.
 --     draw-holds     the words of the run afterwards
 --     pop-rep        the page afterwards is the model's
 --     pop-blocks     the blocks are the model's
@@ -10,17 +10,18 @@ use mathlib.Core.Path.{_≡_, refl, sym, ap, _∙_}
 use lib.Dec.{eqb, ltb}
 use lib.ListN.{length, take, drop, length-append, length-drop, length-take, length-reverse}
 use borrow.Author.Tests.{eq-eqb, ne-eqb, eqb-true, eqb-false}
+use Rattle.facts.specs.Lists.{isNil, every, count}
+use Rattle.facts.proofs.Bools.{by-cases}
 use Rattle.classes.specs.declared.Shape.{Shape}
-use Rattle.fields.specs.Field.{Field, page, slot, out, owner, free, carved, listed, virgin, region, get, words, off}
+use Rattle.fields.specs.Field.{Field, page, slot, out, owner, free, carved, listed, virgin, region, get, off}
 use Rattle.fields.proofs.Laws.{get-put-other}
 use Rattle.fields.proofs.Changes.{Changes}
-use Rattle.model.specs.Lists.{every, count, isNil}
 use Rattle.model.specs.Page as Model
 use Rattle.model.specs.Page.{Page, wordOf, pop}
-use Rattle.model.proofs.Counts.{by-cases, count-append, count-reverse, count-cut}
-use Rattle.pages.specs.Runs.{flag}
+use Rattle.model.proofs.Counts.{count-append, count-reverse, count-cut}
+use Rattle.words.specs.Host.{digit}
 use Rattle.pages.specs.Stack.{marked, downs, marks, carvedNow, latest, draw, hasMore}
-use Rattle.pages.proofs.Downs.{flag-le, flag-false, length-downs, count-downs, every-below}
+use Rattle.pages.proofs.Downs.{digit-le, digit-false, length-downs, count-downs, every-below}
 use Rattle.pages.proofs.Draws.{draw-changes, draw-free, draw-carved}
 use Rattle.pages.proofs.Marks.{marks-at}
 use Rattle.refinement.specs.Represents.{Holds, PageRep}
@@ -49,8 +50,8 @@ module _ {n : ℕ} {b : List ℕ} {c : ℕ} {sh : Shape} (s : Setting n b c sh) 
         count-cut j m xs,
         h .outs j,
         count-downs j k (min (m - length xs) (sh .capacity - k)),
-        flag-false j (k + min (m - length xs) (sh .capacity - k)) (omega (arith, h .within)),
-        flag-false j k (omega (arith, h .within)),
+        digit-false j (k + min (m - length xs) (sh .capacity - k)) (omega (arith, h .within)),
+        digit-false j k (omega (arith, h .within)),
       ))
 
   changes : (t : Field → Bool) → t (page free q) ≡ true → t (page carved q) ≡ true → ((i : ℕ) → t (out q i) ≡ true) → Changes t b (draw b sh q m)
@@ -73,13 +74,13 @@ module _ {n : ℕ} {b : List ℕ} {c : ℕ} {sh : Shape} (s : Setting n b c sh) 
       marked-kept (marks b q 1 (latest b sh q m)) _ sh q j (λ e. let o = in-row s j e in simp get-put-other)
       ∙ marks-at n b (s .long) q hq 1 refl sh (s .shape .few) (latest b sh q m) latest-fit j
 
-  draw-outs : (j : ℕ) → marked (draw b sh q m) sh q j + count j (drop m xs) ≡ flag (ltb j (k + min (m - length xs) (sh .capacity - k)))
+  draw-outs : (j : ℕ) → marked (draw b sh q m) sh q j + count j (drop m xs) ≡ digit (ltb j (k + min (m - length xs) (sh .capacity - k)))
   draw-outs j =
       let o = h .outs j in
       let d = count-downs j k (min (m - length xs) (sh .capacity - k)) in
       let u = count-cut j m xs in
       let w = latest-count j in
-      let f = flag-le (ltb j (k + min (m - length xs) (sh .capacity - k))) in
+      let f = digit-le (ltb j (k + min (m - length xs) (sh .capacity - k))) in
       by-cases (eqb (count j (latest b sh q m)) 0)
       (λ e. let z = eqb-true (count j (latest b sh q m)) 0 e in rw (draw-marked j, e) (omega arith))
       (λ e. let z = eqb-false (count j (latest b sh q m)) 0 e in rw (draw-marked j, e) (omega (arith, z)))

@@ -1,4 +1,4 @@
--- Filling from the partial list: the words do what the model's `fillFromList` says, and change only words of the class. Assumes nothing.
+-- Filling from the partial list: the words do what the model's `fillFromList` says, and change only words of the class.
 use Prim.Native.Nat.{ℕ, zero, suc, _+_, _-_, _≤_, _<_, min}
 use native.Mathlib.Omega.{arith}
 use mathlib.Core.Bool.{true, false, not, _||_}
@@ -8,21 +8,21 @@ use mathlib.Core.Path.{_≡_, refl, sym, ap, _∙_}
 use lib.Dec.{eqb, ltb, leb}
 use lib.ListN.{length, drop, length-drop}
 use borrow.Author.Tests.{eq-eqb, ne-eqb, eqb-true, eqb-false, ltb-true, leb-true, leb-false}
+use Rattle.facts.specs.Lists.{isNil, All}
+use Rattle.facts.proofs.Bools.{by-cases}
 use Rattle.classes.specs.declared.Shape.{Shape}
 use Rattle.fields.specs.Field.{class, page, partial, virgin, get}
 use Rattle.fields.proofs.Changes.{changes-none}
-use Rattle.model.specs.Lists.{All, isNil}
 use Rattle.model.specs.Page as Page
 use Rattle.model.specs.Page.{Page, pop}
 use Rattle.model.specs.Class as Model
 use Rattle.model.specs.Class.{after, fillFromList}
-use Rattle.model.proofs.Counts.{by-cases}
 use Rattle.pages.specs.Stack.{latest, draw, hasMore}
 use Rattle.pages.specs.Links.{unlink}
 use Rattle.pages.specs.declared.Park.{Park}
-use Rattle.calls.specs.Take.{Filled, filledNone, thenFilled, relist, fillFrom}
+use Rattle.calls.specs.Take.{Filled, filledNone, thenFilled, unlistSpent, fillFrom}
 use Rattle.refinement.specs.Represents.{PageRep, ClassRep}
-use Rattle.refinement.proofs.Basics.{Setting, setting-kept, flag-eqb}
+use Rattle.refinement.proofs.Basics.{Setting, setting-kept, digit-eqb}
 use Rattle.refinement.proofs.Frames.{ofClass, Only, only-trans}
 use Rattle.refinement.proofs.Moves.{at-partial, from-partial, full-out, unlink-only}
 use Rattle.refinement.proofs.Draw.{draw-data, draw-only, more-is, pop-rep, pop-blocks, pop-length, pop-size}
@@ -91,7 +91,7 @@ fill-empty b c sh (suc k) m e = by-cases (eqb m 0) (λ u. rw u) (λ u. rw (u, e)
 abbrev stepFilled : List ℕ → ℕ → Shape → ℕ → ℕ → ℕ → Filled
 stepFilled b c sh k m q =
     thenFilled (eqb (get b (page virgin q)) 1) (map (Page.wordOf sh q) (latest b sh q m))
-    (fillFrom (relist (draw b sh q m) c sh q) c sh k (m - length (latest b sh q m)))
+    (fillFrom (unlistSpent (draw b sh q m) c sh q) c sh k (m - length (latest b sh q m)))
 
 abbrev stepModel : Shape → ℕ → Page → List Page → Model.Filled
 stepModel sh m p ps = after sh (p .virgin) (pop sh m p) (fillFromList sh (m - length (pop sh m p .blocks)) ps)
@@ -147,14 +147,14 @@ module _ {n c : ℕ} {sh : Shape} {k : Park} {xs ys : List Page} where
     more₁ = more-is rep₁
 
     clean : eqb (get b (page virgin (p .first))) 1 ≡ p .virgin
-    clean = ap (λ x. eqb x 1) (r .partials .0 .holds .clean) ∙ flag-eqb (p .virgin)
+    clean = ap (λ x. eqb x 1) (r .partials .0 .holds .clean) ∙ digit-eqb (p .virgin)
 
     size : length (latest b sh (p .first) m) ≡ min (m - length (p .free)) (sh .capacity - p .carved) + min m (length (p .free))
     size = pop-size s (r .partials .0) m
 
     -- the page has more: then nothing more is wanted
     stays : (fuel : ℕ) → Page.hasMore sh (pop sh m p .page) ≡ true → FillRep n b c sh k xs ys fs (stepFilled b c sh fuel m (p .first)) (stepModel sh m p ps)
-    unfolding after relist b₁ p₁
+    unfolding after unlistSpent b₁ p₁
     stays fuel e =
         let z : m - length (latest b sh (p .first) m) ≡ 0 = ap (λ x. m - x) size ∙ gives-all sh p m e in
         let y : m - length (pop sh m p .blocks) ≡ 0 = ap (λ x. m - x) (sym (pop-length s (r .partials .0) m)) ∙ z in
@@ -166,7 +166,7 @@ module _ {n c : ℕ} {sh : Shape} {k : Park} {xs ys : List Page} where
         → ((b′ : List ℕ) (fs′ : List Page) (m′ : ℕ) → Setting n b′ c sh → m′ ≤ fuel → ClassRep n b′ c sh k ps xs ys fs′
         → FillRep n b′ c sh k xs ys fs′ (fillFrom b′ c sh fuel m′) (fillFromList sh m′ ps))
         → FillRep n b c sh k xs ys fs (stepFilled b c sh fuel m (p .first)) (stepModel sh m p ps)
-    unfolding after relist b₁ p₁ pop
+    unfolding after unlistSpent b₁ p₁ pop
     leaves fuel h u g e ih =
         let b₂ = unlink b₁ c (p .first) in
         let r₂ = from-partial s₁ [] p₁ ps r₁ in

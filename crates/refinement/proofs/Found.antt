@@ -1,4 +1,4 @@
--- The page that a word is on: what the model finds is what the words say. Assumes nothing.
+-- The page that a word is on: what the model finds is what the words say.
 --     Located         what `locate` finds, and where
 --     Away, Placed    a class with pages in no list that wait for the arena, and a page of it at its site
 --     same-page       on a page of the class a block is out exactly if the words name that page
@@ -11,21 +11,22 @@ use mathlib.Core.Option.{Option, none, some}
 use mathlib.Core.Path.{_≡_, refl, sym, ap, _∙_, subst}
 use lib.Dec.{eqb, leb}
 use borrow.Author.Tests.{eq-eqb, eqb-true, leb-true, leb-false}
+use Rattle.facts.specs.Lists.{every, All, isSome}
+use Rattle.facts.proofs.Bools.{by-cases, bool-eq, and-left, and-right}
 use Rattle.classes.specs.declared.Shape.{Shape}
 use Rattle.fields.specs.Ranges.{maxPages}
 use Rattle.fields.specs.Field.{page}
 use Rattle.fields.proofs.Changes.{Changes, changes-none}
-use Rattle.model.specs.Lists.{All, every, isSome}
 use Rattle.model.specs.Page.{Page, isOut, reused}
 use Rattle.model.specs.Class.{Class, thawed}
 use Rattle.model.specs.Release.{Found, Site, prepend, find, inPartial, inFull, orElse, mapFound, locate, ofKind, outHere}
-use Rattle.model.proofs.Counts.{by-cases, and-l, and-r}
 use Rattle.model.proofs.Find.{all-at, FoundLaw}
-use Rattle.pages.specs.Runs.{flag, whole}
+use Rattle.words.specs.Host.{digit}
+use Rattle.pages.specs.Runs.{whole}
 use Rattle.pages.specs.declared.Park.the-variants.{Empty}
 use Rattle.calls.specs.Release.{startOf, outIn, inRunOf, outAt, unlisted, relisted}
 use Rattle.refinement.specs.Represents.{PageRep, Parked, heads, ClassRep, StateRep}
-use Rattle.refinement.proofs.Basics.{Setting, bool-eq}
+use Rattle.refinement.proofs.Basics.{Setting}
 use Rattle.refinement.proofs.Frames.{isData, ofClass, Only}
 use Rattle.refinement.proofs.Moves.{full-out, at-partial, at-full, from-partial, to-partial, unlink-only, link-only}
 use Rattle.refinement.proofs.Decode.{out-sits, sits-out, in-sits, sits-start, sits-at}
@@ -165,7 +166,7 @@ module _ {n : ℕ} {b : List ℕ} {c : ℕ} {sh : Shape} (s : Setting n b c sh) 
       bool-eq (isOut sh w p) (eqb (startOf b w) (p .first))
       (λ e. eq-eqb (startOf b w) (p .first) (sits-start s hn r w (out-sits s hn r w e)))
       (λ e. sits-out s hn r w (in-sits b (s .shape) (p .first) w k
-      (ap (λ z. outIn b sh z w) (sym (eqb-true (startOf b w) (p .first) e)) ∙ and-r (inRunOf n b sh c w) (outIn b sh (startOf b w) w) o)))
+      (ap (λ z. outIn b sh z w) (sym (eqb-true (startOf b w) (p .first) e)) ∙ and-right (inRunOf n b sh c w) (outIn b sh (startOf b w) w) o)))
 
   -- number 11's test
   pub same-pages : {l : ℕ} {p : Page} → PageRep n sh b c l p → (ws : List ℕ) → every (ofKind (sh .kind)) ws ≡ true → every (outAt n b c sh) ws ≡ true
@@ -173,8 +174,8 @@ module _ {n : ℕ} {b : List ℕ} {c : ℕ} {sh : Shape} (s : Setting n b c sh) 
   same-pages r [] k o = refl
   same-pages r (w ∷ ws) k o =
       rw (
-        same-page r w (and-l (ofKind (sh .kind) w) (every (ofKind (sh .kind)) ws) k) (and-l (outAt n b c sh w) (every (outAt n b c sh) ws) o),
-        same-pages r ws (and-r (ofKind (sh .kind) w) (every (ofKind (sh .kind)) ws) k) (and-r (outAt n b c sh w) (every (outAt n b c sh) ws) o),
+        same-page r w (and-left (ofKind (sh .kind) w) (every (ofKind (sh .kind)) ws) k) (and-left (outAt n b c sh w) (every (outAt n b c sh) ws) o),
+        same-pages r ws (and-right (ofKind (sh .kind) w) (every (ofKind (sh .kind)) ws) k) (and-right (outAt n b c sh w) (every (outAt n b c sh) ws) o),
       )
 
   module _ (t : Class) (r : StateRep n b c sh t) (w : ℕ) where
@@ -203,7 +204,7 @@ module _ {n : ℕ} {b : List ℕ} {c : ℕ} {sh : Shape} (s : Setting n b c sh) 
       seen u none (nowhere h₁ h₂) =
           let q = startOf b w in
           let z = r .runs (startOf b w) in
-          let y : flag (whole n b sh c (startOf b w)) ≡ 1 = ap flag u in
+          let y : digit (whole n b sh c (startOf b w)) ≡ 1 = ap digit u in
           let xs = map (reused sh) (t .empty) in
           let ys = map (thawed sh) (t .cold) in
           absurd (none-of (heads q (t .partial)) (heads q xs) (heads q ys) (heads q (t .full)) (z ∙ y)
@@ -218,7 +219,7 @@ module _ {n : ℕ} {b : List ℕ} {c : ℕ} {sh : Shape} (s : Setting n b c sh) 
 
     run-of : outAt n b c sh w ≡ true → whole n b sh c (startOf b w) ≡ true
     unfolding outAt inRunOf
-    run-of o = search (and-l, and-r)
+    run-of o = search (and-left, and-right)
 
     -- number 10's test
     pub out-here : ofKind (sh .kind) w ≡ true → outAt n b c sh w ≡ outHere sh t w
@@ -231,4 +232,4 @@ module _ {n : ℕ} {b : List ℕ} {c : ℕ} {sh : Shape} (s : Setting n b c sh) 
   pub outs-here : (t : Class) → StateRep n b c sh t → (ws : List ℕ) → every (ofKind (sh .kind)) ws ≡ true → every (outAt n b c sh) ws ≡ every (outHere sh t) ws
   outs-here t r [] k = refl
   outs-here t r (w ∷ ws) k =
-      rw (out-here t r w (and-l (ofKind (sh .kind) w) (every (ofKind (sh .kind)) ws) k), outs-here t r ws (and-r (ofKind (sh .kind) w) (every (ofKind (sh .kind)) ws) k))
+      rw (out-here t r w (and-left (ofKind (sh .kind) w) (every (ofKind (sh .kind)) ws) k), outs-here t r ws (and-right (ofKind (sh .kind) w) (every (ofKind (sh .kind)) ws) k))

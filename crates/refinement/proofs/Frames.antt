@@ -1,4 +1,4 @@
--- Whose a run is, which fields are whose, and what depends on which. Assumes nothing.
+-- Whose a run is, which fields are whose, and what depends on which.
 --     Whole        what `whole` says, page by page
 --     home b f     the class, and one, to which a field belongs; 0 for the arena's. OWNER and FIRST are the arena's
 --     Only         a change of one class's fields only
@@ -12,17 +12,16 @@ use mathlib.Core.Path.{_≡_, refl, sym, _∙_}
 use lib.Dec.{eqb, ltb, leb, eqb·zero-suc}
 use lib.ListN.{length}
 use borrow.Author.Tests.{eq-eqb, eqb-true, leb-true, le-leb, lt-ltb}
+use Rattle.facts.specs.Lists.{every, below}
+use Rattle.facts.proofs.Bools.{by-cases, bool-eq, and-left, and-right}
+use Rattle.facts.proofs.Lists.{every-at, every-of}
 use Rattle.classes.specs.declared.Shape.{Shape}
 use Rattle.classes.specs.Sound.{Sound}
 use Rattle.fields.specs.Field.{Field, arena, memory, class, hole, page, slot, out, owner, first, frontier, pageOff, get, ok}
 use Rattle.fields.proofs.Changes.{Changes, changes-trans, changes-mono}
-use Rattle.model.specs.Lists.{every, below}
-use Rattle.model.proofs.Counts.{by-cases, and-l, and-r}
 use Rattle.pages.specs.Runs.{ofRun, whole}
 use Rattle.pages.specs.Stack.{marked}
 use Rattle.refinement.specs.Represents.{Slots}
-use Rattle.refinement.proofs.Basics.{bool-eq, every-of}
-use Rattle.refinement.proofs.ArenaFrames.{every-at}
 
 -- ---- runs
 pub record Whole (n : ℕ) (b : List ℕ) (sh : Shape) (c q : ℕ) : Type 0 where
@@ -38,13 +37,13 @@ module _ (n : ℕ) (b : List ℕ) (sh : Shape) (c q : ℕ) where
       let fits = leb (q + sh .pages) n in
       let under = leb (q + sh .pages) (get b (arena frontier)) in
       let pages = every (ofRun b c q) (below (sh .pages)) in
-      let rest = and-r fits (under && pages) e in
-      let each : (k : ℕ) → k < sh .pages → ofRun b c q k ≡ true = λ k. every-at (ofRun b c q) (sh .pages) k (and-r under pages rest) in
+      let rest = and-right fits (under && pages) e in
+      let each : (k : ℕ) → k < sh .pages → ofRun b c q k ≡ true = λ k. every-at (ofRun b c q) (sh .pages) k (and-right under pages rest) in
       record {
-        inside = leb-true (q + sh .pages) n (and-l fits (under && pages) e);
-        below = leb-true (q + sh .pages) (get b (arena frontier)) (and-l under pages rest);
-        owner = λ k l. eqb-true _ _ (and-l (eqb (get b (page owner (q + k))) (suc c)) (eqb (get b (page first (q + k))) q) (each k l));
-        first = λ k l. eqb-true _ _ (and-r (eqb (get b (page owner (q + k))) (suc c)) (eqb (get b (page first (q + k))) q) (each k l));
+        inside = leb-true (q + sh .pages) n (and-left fits (under && pages) e);
+        below = leb-true (q + sh .pages) (get b (arena frontier)) (and-left under pages rest);
+        owner = λ k l. eqb-true _ _ (and-left (eqb (get b (page owner (q + k))) (suc c)) (eqb (get b (page first (q + k))) q) (each k l));
+        first = λ k l. eqb-true _ _ (and-right (eqb (get b (page owner (q + k))) (suc c)) (eqb (get b (page first (q + k))) q) (each k l));
       }
 
   pub whole-of : Whole n b sh c q → whole n b sh c q ≡ true

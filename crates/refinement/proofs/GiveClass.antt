@@ -2,7 +2,6 @@
 --     arena-only         a change of one class's fields only keeps the arena's part
 --     run-held           the pages of a class's run are held
 --     give-represents    the page in no list is given
--- Assumes nothing.
 use Prim.Native.Nat.{ℕ, suc, _+_, _≤_, _<_}
 use native.Mathlib.Omega.{arith}
 use native.Mathlib.Decide.{ℕ-discrete}
@@ -11,17 +10,18 @@ use mathlib.Core.List.{List, _∷_, map}
 use mathlib.Core.Path.{_≡_, refl, sym, _∙_, subst}
 use lib.Dec.{eqb, ltb, leb, eqb·zero-suc}
 use borrow.Author.Tests.{eq-eqb, ne-eqb, eqb-true, ltb-true}
+use Rattle.facts.specs.Lists.{update}
+use Rattle.facts.proofs.Bools.{by-cases, and-left, and-right}
+use Rattle.model.specs.Cover.{inRun, covers}
 use Rattle.classes.specs.declared.Shape.{Shape}
 use Rattle.classes.specs.Shape.{shapeOf}
 use Rattle.classes.proofs.Shapes.{shape-sound}
 use Rattle.fields.specs.Field.{Field, PageField, arena, memory, class, hole, page, out, slot, owner, first, next, prev, free, carved, listed, virgin, tally, pageOff, get}
-use Rattle.model.specs.Lists.{inRun, covers, update}
 use Rattle.model.specs.Arena.{give}
 use Rattle.model.specs.Page.{Page, reused}
 use Rattle.model.specs.Class.{Class, thawed}
 use Rattle.model.specs.Heap as Heaps
 use Rattle.model.specs.Heap.{Heap, Holder, nobody, direct, isHeld, passTo}
-use Rattle.model.proofs.Counts.{by-cases, and-l, and-r}
 use Rattle.pages.specs.Runs.{whole}
 use Rattle.pages.specs.declared.Park.the-variants.{Empty}
 use Rattle.arena.specs.Owners.{ownerCode}
@@ -70,10 +70,10 @@ held-by (Heaps.class d) c e = omega arith
 pub run-held : (n : ℕ) (b : List ℕ) (H : Heap) → ArenaRep n b H → (sh : Shape) (c q : ℕ) → whole n b sh c q ≡ true → (x : ℕ) → covers (sh .pages) q x ≤ isHeld (H .holder x)
 run-held n b H rep sh c q e x =
     by-cases (inRun (sh .pages) q x)
-    (λ t. let u = ltb-true x (q + sh .pages) (and-r (leb q x) (ltb x (q + sh .pages)) t) in
+    (λ t. let u = ltb-true x (q + sh .pages) (and-right (leb q x) (ltb x (q + sh .pages)) t) in
     let l : x < H .arena .frontier = omega (arith, whole-ends n b sh c q e .1, loads-frontier b (H .arena) (rep .loads)) in
     let s = whole-names n b sh c q x e t in
-    let o = eqb-true (get b (page owner x)) (suc c) (and-l (eqb (get b (page owner x)) (suc c)) (eqb (get b (page first x)) q) s) in
+    let o = eqb-true (get b (page owner x)) (suc c) (and-left (eqb (get b (page owner x)) (suc c)) (eqb (get b (page first x)) q) s) in
     rw t (held-by (H .holder x) c (sym (rep .owners x l) ∙ o)))
     (λ t. rw t (omega arith))
 

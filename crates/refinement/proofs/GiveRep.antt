@@ -1,14 +1,13 @@
 -- A run that is held goes to the arena, on the words as in the model: from a class or from the direct calls.
 --     give-rep     the book afterwards stands for the model's arena, and the run is nobody's
 --     give-fair    number 13's test for it passes
--- Assumes nothing.
 use Prim.Native.Nat.{ℕ, _+_, _-_, _≤_}
 use native.Mathlib.Omega.{arith}
 use mathlib.Core.Bool.{true}
 use mathlib.Core.List.{List}
 use mathlib.Core.Path.{_≡_, sym, subst}
+use Rattle.model.specs.Cover.{covers}
 use Rattle.fields.specs.Field.{arena, held, get, put}
-use Rattle.model.specs.Lists.{covers}
 use Rattle.model.specs.Arena.{give}
 use Rattle.model.specs.Class.{Class}
 use Rattle.model.specs.Heap.{Heap, nobody, isHeld, passTo, heldPages}

@@ -1,5 +1,5 @@
 -- The classes after a commit for a class: with no run every class is as before; with one, the class has a page more, in no list, and
--- the others are as before. Assumes nothing.
+-- the others are as before.
 use Prim.Native.Nat.{ℕ, suc, _+_, _≤_}
 use native.Mathlib.Omega.{arith}
 use native.Mathlib.Decide.{ℕ-discrete}
@@ -10,22 +10,24 @@ use mathlib.Core.Path.{_≡_, refl, sym, ap, _∙_, subst}
 use lib.Dec.{eqb, ltb, leb}
 use lib.ListN.{length}
 use borrow.Author.Tests.{eq-eqb, ne-eqb, le-leb, leb-true, ltb-true, lt-ltb}
+use Rattle.facts.proofs.Bools.{and-left, and-right}
+use Rattle.model.specs.Cover.{inRun, covers, coversRun}
+use Rattle.words.specs.Limits.{holeSlots}
 use Rattle.classes.specs.declared.Shape.{Shape}
 use Rattle.classes.specs.Shape.{shapeOf}
 use Rattle.classes.proofs.Shapes.{shape-sound}
 use Rattle.fields.specs.Field as Field
 use Rattle.fields.specs.Field.{Field, arena, memory, hole, page, slot, out, first, next, prev, free, carved, listed, virgin, pageOff, get}
 use Rattle.fields.proofs.Changes.{Changes}
-use Rattle.model.specs.Lists.{inRun, covers, coversRun}
 use Rattle.model.specs.Page.{Page, carve}
 use Rattle.model.specs.Arena.{commit, Given}
 use Rattle.model.specs.Class.{Class}
 use Rattle.model.specs.Heap.{Heap, nobody, class, passTo}
-use Rattle.model.proofs.Counts.{and-l, and-r}
 use Rattle.model.proofs.ArenaTidy.{tidy-commit}
 use Rattle.model.proofs.ArenaLaws.{commit-law}
 use Rattle.model.proofs.IdlePages.{commit-below}
-use Rattle.pages.specs.Runs.{flag, whole}
+use Rattle.words.specs.Host.{digit}
+use Rattle.pages.specs.Runs.{whole}
 use Rattle.pages.specs.declared.Park.{Park}
 use Rattle.pages.specs.Carve.{newRun}
 use Rattle.arena.specs.Calls.{committed}
@@ -91,7 +93,7 @@ module _ (n : ℕ) (b : List ℕ) (H : Heap) (R : Represents n b H) (ok : Reache
   one : 1 ≤ shapeOf c .pages
   one = shape-sound c .paged
 
-  few : length (commit n h (shapeOf c .pages) (H .arena) .arena .store .holes) ≤ 4096
+  few : length (commit n h (shapeOf c .pages) (H .arena) .arena .store .holes) ≤ holeSlots
   few = tidy-commit n h pages one (H .arena) (ok .tidy) .slots
 
   changes : Changes (isStep owned) b after
@@ -142,7 +144,7 @@ module _ (n : ℕ) (b : List ℕ) (H : Heap) (R : Represents n b H) (ok : Reache
 
     inside : (y : ℕ) → inRun (shapeOf c .pages) q y ≡ true → get new (page first y) ≡ q
     inside y i =
-        new-names s₁ q within y (leb-true q y (and-l (leb q y) (ltb y (q + pages)) i)) (ltb-true y (q + pages) (and-r (leb q y) (ltb y (q + pages)) i))
+        new-names s₁ q within y (leb-true q y (and-left (leb q y) (ltb y (q + pages)) i)) (ltb-true y (q + pages) (and-right (leb q y) (ltb y (q + pages)) i))
 
     outside : (y : ℕ) → inRun (shapeOf c .pages) q y ≡ false → get new (page first y) ≡ get b (page first y)
     outside y i = written .kept (page first y) refl (or-none (inRun pages q y) ∙ i) ∙ step-first owned b after changes y
@@ -194,8 +196,8 @@ module _ (n : ℕ) (b : List ℕ) (H : Heap) (R : Represents n b H) (ok : Reache
         (λ x l. let w = listed-whole (shape-sound c) r x l in new-keeps x (apart c x w) (same c x (λ z. apart c x w) ∙ w))
         (r .fulls) (new-rep s₁ q (lt-ltb q n (omega (arith, within, one))) whole-now, tt)
         (λ x. elim (ℕ-discrete x q) [
-          | yes z ↦ (let now : flag (whole n new (shapeOf c) c x) ≡ 1 = ap flag (ap (whole n new (shapeOf c) c) z ∙ whole-now) in
-              let old : flag (whole n b (shapeOf c) c x) ≡ 0 = ap flag (ap (whole n b (shapeOf c) c) z ∙ not-before c) in
+          | yes z ↦ (let now : digit (whole n new (shapeOf c) c x) ≡ 1 = ap digit (ap (whole n new (shapeOf c) c) z ∙ whole-now) in
+              let old : digit (whole n b (shapeOf c) c x) ≡ 0 = ap digit (ap (whole n b (shapeOf c) c) z ∙ not-before c) in
               let here : _≡_ {A = ℕ} (cond (eqb x (carve (shapeOf c) q true .first)) 1 0) 1 = rw (eq-eqb x (carve (shapeOf c) q true .first) (z ∙ sym start)) in
               omega (arith, r .runs x))
           | no z ↦ (let there : _≡_ {A = ℕ} (cond (eqb x (carve (shapeOf c) q true .first)) 1 0) 0 = rw (ne-eqb x (carve (shapeOf c) q true .first) (λ t. z (t ∙ start))) in

@@ -1,4 +1,4 @@
--- What of the representation a change leaves alone. Assumes nothing.
+-- What of the representation a change leaves alone.
 --     Body, Ties      the words of a page's blocks are as they were; so are its links
 --     Keeps           a page of a class is as it was, and the class's
 --     class-now       a class whose row and listed pages are as they were, with other pages in no list
@@ -12,16 +12,17 @@ use mathlib.Core.Logic.{inl, inr}
 use mathlib.Core.Path.{_≡_, refl, ap, _∙_}
 use lib.Dec.{eqb, ltb}
 use borrow.Author.Tests.{ne-eqb, lt-ltb, ltb-true}
+use Rattle.facts.specs.Lists.{All, count}
 use Rattle.classes.specs.declared.Shape.{Shape}
 use Rattle.classes.specs.Sound.{Sound}
 use Rattle.fields.specs.Field.{ClassField, class, page, slot, out, partial, owner, next, prev, free, carved, listed, virgin, get}
-use Rattle.model.specs.Lists.{All, count}
 use Rattle.model.specs.Page.{Page}
 use Rattle.model.proofs.Pages.{all-append}
-use Rattle.pages.specs.Runs.{flag, whole}
+use Rattle.words.specs.Host.{digit}
+use Rattle.pages.specs.Runs.{whole}
 use Rattle.pages.specs.Stack.{marked}
 use Rattle.pages.specs.declared.Park.{Park}
-use Rattle.pages.specs.Links.{other, top, tally}
+use Rattle.pages.specs.Links.{other, top, stored}
 use Rattle.refinement.specs.Chain.{In, Chain, Line, Stack}
 use Rattle.refinement.specs.Represents.{Holds, PageRep, Parked, firsts, heads, ClassRep}
 use Rattle.refinement.proofs.Lists.{segment-kept, in-count, all-along}
@@ -81,7 +82,7 @@ line-kept b b′ h [] k s = s
 line-kept b b′ h (x ∷ xs) k s = (s .0, rw (k x (inl refl)) (line-kept b b′ (get b (page next x)) xs (λ z i. k z (inr i)) (s .1)))
 
 module _ {b b′ : List ℕ} {c : ℕ} {xs : List ℕ} where
-  pub stack-kept : {k : Park} → get b′ (class (top k) c) ≡ get b (class (top k) c) → get b′ (class (tally k) c) ≡ get b (class (tally k) c)
+  pub stack-kept : {k : Park} → get b′ (class (top k) c) ≡ get b (class (top k) c) → get b′ (class (stored k) c) ≡ get b (class (stored k) c)
       → ((x : ℕ) → In x xs → get b′ (page next x) ≡ get b (page next x)) → Stack b c k xs → Stack b′ c k xs
   stack-kept {k = k} e f g s = record { line = rw e (line-kept b b′ (get b (class (top k) c)) xs g (s .line)); number = f ∙ s .number; few = s .few }
 
@@ -98,7 +99,7 @@ module _ {n : ℕ} {b : List ℕ} {c : ℕ} {sh : Shape} (sound : Sound sh) {k :
   pub class-now : {b′ : List ℕ} (fs new : List Page) → ((f : ClassField) → get b′ (class f c) ≡ get b (class f c))
       → ((x : ℕ) → 1 ≤ heads x ps + heads x xs + heads x ys + heads x fs → Keeps n sh c b b′ x)
       → All (PageRep n sh b c 0) fs → All (PageRep n sh b′ c 0) new
-      → ((x : ℕ) → heads x ps + heads x xs + heads x ys + heads x (new ++ fs) ≡ flag (whole n b′ sh c x)) → ClassRep n b′ c sh k ps xs ys (new ++ fs)
+      → ((x : ℕ) → heads x ps + heads x xs + heads x ys + heads x (new ++ fs) ≡ digit (whole n b′ sh c x)) → ClassRep n b′ c sh k ps xs ys (new ++ fs)
   class-now {b′} fs new row keep old come runs =
       let kp : (x : ℕ) → In x (firsts ps) → Keeps n sh c b b′ x = λ x i. keep x (omega (arith, in-count x (firsts ps) i)) in
       let kx : (x : ℕ) → In x (firsts xs) → Keeps n sh c b b′ x = λ x i. keep x (omega (arith, in-count x (firsts xs) i)) in
@@ -106,8 +107,8 @@ module _ {n : ℕ} {b : List ℕ} {c : ℕ} {sh : Shape} (sound : Sound sh) {k :
       let kf : (x : ℕ) → In x (firsts fs) → Keeps n sh c b b′ x = λ x i. keep x (omega (arith, in-count x (firsts fs) i)) in
       record {
         chain = chain-kept (row partial) (λ x i. kp x i .ties) (r .chain);
-        store = stack-kept (row (top k)) (row (tally k)) (λ x i. kx x i .ties .fore) (r .store);
-        beside = stack-kept (row (top (other k))) (row (tally (other k))) (λ x i. ky x i .ties .fore) (r .beside);
+        store = stack-kept (row (top k)) (row (stored k)) (λ x i. kx x i .ties .fore) (r .store);
+        beside = stack-kept (row (top (other k))) (row (stored (other k))) (λ x i. ky x i .ties .fore) (r .beside);
         partials = all-along _ _ ps (λ p i. let z = kp (p .first) i in rep-kept sound (z .body) (z .listing) (z .run)) (r .partials);
         parked = all-along _ _ xs (λ p i. let z = kx (p .first) i in parked-kept sound (z .body) (z .listing) (z .run)) (r .parked);
         parkeds = all-along _ _ ys (λ p i. let z = ky (p .first) i in parked-kept sound (z .body) (z .listing) (z .run)) (r .parkeds);
@@ -120,7 +121,7 @@ module _ {n : ℕ} {b : List ℕ} {c : ℕ} {sh : Shape} (sound : Sound sh) {k :
   pub listed-whole : (x : ℕ) → 1 ≤ heads x ps + heads x xs + heads x ys + heads x gs → whole n b sh c x ≡ true
   listed-whole x h = go (whole n b sh c x) (omega (arith, r .runs x))
     where
-      go : (t : Bool) → 1 ≤ flag t → t ≡ true
+      go : (t : Bool) → 1 ≤ digit t → t ≡ true
       go true l = refl
       go false l = absurd (omega arith)
 

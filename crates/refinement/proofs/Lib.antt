@@ -41,4 +41,3 @@ pub mod ChunkTests
 pub mod Chunks
 pub mod ChunkWhole
 pub mod Whole
-pub mod Ranges

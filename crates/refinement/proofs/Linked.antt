@@ -1,4 +1,4 @@
--- The linked lists after a page came in or went out. Assumes nothing.
+-- The linked lists after a page came in or went out.
 --     chain-linked, chain-unlinked     the partial list, with a page at its head, and without one of its pages
 --     stack-stowed, stack-unstowed     a store, with a page on top, and without its newest
 use Prim.Native.Nat.{ℕ, zero, suc, _+_, _-_, _<_}
@@ -17,7 +17,7 @@ use Rattle.fields.proofs.Changes.{Changes}
 use Rattle.fields.proofs.Outcome.{length-putAt, get-putAt-same, get-putAt-other}
 use Rattle.pages.specs.declared.Park.{Park}
 use Rattle.pages.specs.declared.Park.the-variants.{Empty, Cold}
-use Rattle.pages.specs.Links.{pointNext, linked, cutOut, link, unlink, top, tally, stow, unstow}
+use Rattle.pages.specs.Links.{pointNext, linked, cutOut, link, unlink, top, stored, stow, unstow}
 use Rattle.refinement.specs.Chain.{In, Distinct, Segment, Chain, Stack}
 use Rattle.refinement.proofs.Lists.{in-left, in-right, in-without, Middle, middle, lastCode, last-in, last-suc, first-page, last-page, segment-kept, segment-redirect, Parted, part, join}
 use Rattle.refinement.proofs.Kept.{line-kept}
@@ -164,10 +164,10 @@ module _ (n : ℕ) (b : List ℕ) (hb : leb (words n) (length b) ≡ true) (c q 
   top-unstowed Empty = simp (get-put-same n, get-put-other)
   top-unstowed Cold = simp (get-put-same n, get-put-other)
 
-  tally-unstowed : (k : Park) → get (unstow b c k q) (class (tally k) c) ≡ get b (class (tally k) c) - 1
+  stored-unstowed : (k : Park) → get (unstow b c k q) (class (stored k) c) ≡ get b (class (stored k) c) - 1
   unfolding unstow
-  tally-unstowed Empty = simp (get-put-same n, length-put, hb)
-  tally-unstowed Cold = simp (get-put-same n, length-put, hb)
+  stored-unstowed Empty = simp (get-put-same n, length-put, hb)
+  stored-unstowed Cold = simp (get-put-same n, length-put, hb)
 
   next-unstowed : (k : Park) (x : ℕ) → get (unstow b c k q) (page next x) ≡ get b (page next x)
   unfolding unstow
@@ -176,7 +176,7 @@ module _ (n : ℕ) (b : List ℕ) (hb : leb (words n) (length b) ≡ true) (c q 
   pub stack-unstowed : (k : Park) (us : List ℕ) → Stack b c k (q ∷ us) → Stack (unstow b c k q) c k us
   stack-unstowed k us s = record {
     line = rw (top-unstowed k) (line-kept b (unstow b c k q) (get b (page next q)) us (λ x i. next-unstowed k x) (s .line .1));
-    number = tally-unstowed k ∙ rw (s .number) (omega arith);
+    number = stored-unstowed k ∙ rw (s .number) (omega arith);
     few = omega (arith, s .few);
   }
 
@@ -185,10 +185,10 @@ module _ (n : ℕ) (b : List ℕ) (hb : leb (words n) (length b) ≡ true) (c q 
   top-stowed Empty = simp (get-put-same n, get-put-other, length-put, hb, add-one)
   top-stowed Cold = simp (get-put-same n, get-put-other, length-put, hb, add-one)
 
-  tally-stowed : (k : Park) → get (stow b c k q) (class (tally k) c) ≡ suc (get b (class (tally k) c))
+  stored-stowed : (k : Park) → get (stow b c k q) (class (stored k) c) ≡ suc (get b (class (stored k) c))
   unfolding stow
-  tally-stowed Empty = simp (get-put-same n, length-put, hb, add-one)
-  tally-stowed Cold = simp (get-put-same n, length-put, hb, add-one)
+  stored-stowed Empty = simp (get-put-same n, length-put, hb, add-one)
+  stored-stowed Cold = simp (get-put-same n, length-put, hb, add-one)
 
   next-stowed : (k : Park) → get (stow b c k q) (page next q) ≡ get b (class (top k) c)
   unfolding stow
@@ -206,6 +206,6 @@ module _ (n : ℕ) (b : List ℕ) (hb : leb (words n) (length b) ≡ true) (c q 
       rw (next-stowed k) (line-kept b (stow b c k q) (get b (class (top k) c)) us
           (λ x i. others-stowed k x (ne-eqb q x (λ e. f (subst (λ (w : ℕ). In w us) (sym e) i)))) (s .line)),
     );
-    number = tally-stowed k ∙ ap suc (s .number);
+    number = stored-stowed k ∙ ap suc (s .number);
     few = omega arith;
   }

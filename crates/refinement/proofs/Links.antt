@@ -1,4 +1,4 @@
--- Which fields a page's move into a list and out of it writes. Assumes nothing.
+-- Which fields a page's move into a list and out of it writes.
 --     isLink        linking q and unlinking it between pages of the codes x behind it and y before it: their links, its own, the
 --                   head of the list, and whether q is listed
 --     isStow        a store's row, and NEXT of q
@@ -9,13 +9,13 @@ use mathlib.Core.List.{List}
 use mathlib.Core.Path.{_≡_, refl}
 use lib.Dec.{eqb, ltb}
 use borrow.Author.Tests.{eq-eqb, ne-eqb}
+use Rattle.facts.proofs.Bools.{or-right}
 use Rattle.fields.specs.Field.{Field, arena, memory, class, hole, page, slot, out, partial, owner, first, next, prev, free, carved, listed, virgin, frontier, classOff, pageOff, get}
 use Rattle.fields.proofs.Changes.{Changes}
 use Rattle.pages.specs.declared.Park.{Park}
 use Rattle.pages.specs.declared.Park.the-variants.{Empty, Cold}
-use Rattle.pages.specs.Links.{link, unlink, top, tally, other, stow, unstow}
+use Rattle.pages.specs.Links.{link, unlink, top, stored, other, stow, unstow}
 use Rattle.pages.proofs.Frames.{changes-link, changes-unlink, changes-stow, changes-unstow}
-use Rattle.refinement.proofs.Basics.{or-right}
 use Rattle.refinement.proofs.Frames.{ofClass, Owns}
 use Rattle.refinement.proofs.Kept.{Body, Ties}
 
@@ -96,15 +96,15 @@ module _ {b b′ : List ℕ} (c q x y : ℕ) (h : Changes (isLink c q x y) b b�
   link-top row Empty = h .kept (class (top Empty) c) row refl
   link-top row Cold = h .kept (class (top Cold) c) row refl
 
-  pub link-tally : ltb c 76 ≡ true → (k : Park) → get b′ (class (tally k) c) ≡ get b (class (tally k) c)
-  link-tally row Empty = h .kept (class (tally Empty) c) row refl
-  link-tally row Cold = h .kept (class (tally Cold) c) row refl
+  pub link-stored : ltb c 76 ≡ true → (k : Park) → get b′ (class (stored k) c) ≡ get b (class (stored k) c)
+  link-stored row Empty = h .kept (class (stored Empty) c) row refl
+  link-stored row Cold = h .kept (class (stored Cold) c) row refl
 
 -- ---- the stores
 abbrev pub isStow : Park → ℕ → ℕ → Field → Bool
 isStow k c q (arena l) = false
 isStow k c q (memory m) = false
-isStow k c q (class l d) = (eqb (classOff l) (classOff (top k)) || eqb (classOff l) (classOff (tally k))) && eqb d c
+isStow k c q (class l d) = (eqb (classOff l) (classOff (top k)) || eqb (classOff l) (classOff (stored k))) && eqb d c
 isStow k c q (hole l i) = false
 isStow k c q (page l p) = eqb (pageOff l) 2 && eqb p q
 isStow k c q (slot p i) = false
@@ -112,7 +112,7 @@ isStow k c q (out p i) = false
 
 pub record LetsStow (t : Field → Bool) (k : Park) (c q : ℕ) : Type 0 where
   pub newest : t (class (top k) c) ≡ true
-  pub number : t (class (tally k) c) ≡ true
+  pub number : t (class (stored k) c) ≡ true
   pub fore : t (page next q) ≡ true
 
 pub stow-lets : (k : Park) (c q : ℕ) → LetsStow (isStow k c q) k c q
@@ -156,9 +156,9 @@ module _ {b b′ : List ℕ} (k : Park) (c q : ℕ) (h : Changes (isStow k c q) 
   top-row Empty = refl
   top-row Cold = refl
 
-  tally-row : (k : Park) → isStow k c q (class (tally (other k)) c) ≡ false
-  tally-row Empty = refl
-  tally-row Cold = refl
+  stored-row : (k : Park) → isStow k c q (class (stored (other k)) c) ≡ false
+  stored-row Empty = refl
+  stored-row Cold = refl
 
   module _ (row : ltb c 76 ≡ true) where
     pub stow-partial : get b′ (class partial c) ≡ get b (class partial c)
@@ -167,5 +167,5 @@ module _ {b b′ : List ℕ} (k : Park) (c q : ℕ) (h : Changes (isStow k c q) 
     pub stow-top : get b′ (class (top (other k)) c) ≡ get b (class (top (other k)) c)
     stow-top = h .kept (class (top (other k)) c) row (top-row k)
 
-    pub stow-tally : get b′ (class (tally (other k)) c) ≡ get b (class (tally (other k)) c)
-    stow-tally = h .kept (class (tally (other k)) c) row (tally-row k)
+    pub stow-stored : get b′ (class (stored (other k)) c) ≡ get b (class (stored (other k)) c)
+    stow-stored = h .kept (class (stored (other k)) c) row (stored-row k)

@@ -1,4 +1,4 @@
--- Lists of pages: distinct ones, linked ones, and how often a page stands in one. Assumes nothing.
+-- Lists of pages: distinct ones, linked ones, and how often a page stands in one.
 --     Middle           what a list of distinct pages with p inside tells
 --     segment-kept     a segment whose links are as they were
 --     part, join       a segment parted at a page, and two segments joined
@@ -11,8 +11,8 @@ use mathlib.Core.Logic.{inl, inr}
 use mathlib.Core.Path.{_≡_, refl, sym, ap, subst, _∙_}
 use lib.Dec.{eqb}
 use borrow.Author.Tests.{eq-eqb}
+use Rattle.facts.specs.Lists.{All, count}
 use Rattle.fields.specs.Field.{page, next, prev, get}
-use Rattle.model.specs.Lists.{All, count}
 use Rattle.model.specs.Page.{Page}
 use Rattle.refinement.specs.Chain.{In, Distinct, Segment}
 use Rattle.refinement.specs.Represents.{firsts, heads}
@@ -130,9 +130,6 @@ module _ (b : List ℕ) where
 pub in-count : (x : ℕ) (xs : List ℕ) → In x xs → 1 ≤ count x xs
 in-count x (y ∷ ys) (inl e) = rw (eq-eqb x y e) (omega arith)
 in-count x (y ∷ ys) (inr i) = let ih = in-count x ys i in omega arith
-
-pub itself : (x : ℕ) → _≡_ {A = ℕ} (cond (eqb x x) 1 0) 1
-itself x = rw (eq-eqb x x refl)
 
 -- a page of a list in which q does not stand is not q
 pub off : (q : ℕ) (xs : List ℕ) → count q xs ≡ 0 → (x : ℕ) → In x xs → x ≡ q → ⊥

@@ -1,5 +1,4 @@
 -- A class's page gets other blocks, and moves between a list and none. The pages in no list are the place between any two moves.
--- Assumes nothing.
 --     at-partial, at-full              a page with other blocks, in the partial list and in no list
 --     from-partial, to-partial         out of the partial list, from any place, and to its head
 --     from-store, to-store             off a store's top, and onto it
@@ -13,27 +12,28 @@ use mathlib.Core.Path.{_≡_, refl, sym, ap, _∙_, subst}
 use lib.Dec.{eqb, ltb, leb}
 use lib.ListN.{length}
 use borrow.Author.Tests.{ne-eqb, eq-eqb}
+use Rattle.facts.specs.Lists.{All, count}
 use Rattle.classes.specs.declared.Shape.{Shape}
 use Rattle.classes.specs.Sound.{Sound}
 use Rattle.fields.specs.Field.{class, page, slot, out, partial, owner, next, prev, free, carved, listed, virgin, get, put, words}
 use Rattle.fields.proofs.Laws.{get-put-same, length-put}
 use Rattle.fields.proofs.Changes.{Changes}
-use Rattle.model.specs.Lists.{All, count}
 use Rattle.model.specs.Page.{Page}
 use Rattle.model.proofs.Find.{all-at}
 use Rattle.pages.specs.Runs.{whole}
 use Rattle.pages.specs.declared.Park.{Park}
 use Rattle.pages.specs.declared.Park.the-variants.{Empty, Cold}
-use Rattle.pages.specs.Links.{linked, unlinked, link, unlink, other, top, tally, stow, unstow}
-use Rattle.pages.proofs.Downs.{flag-le}
+use Rattle.pages.specs.Links.{linked, unlinked, link, unlink, other, top, stored, stow, unstow}
+use Rattle.pages.proofs.Downs.{digit-le}
+use Rattle.model.proofs.Used.{itself}
 use Rattle.refinement.specs.Chain.{In, Chain}
 use Rattle.refinement.specs.Represents.{PageRep, Parked, firsts, heads, ClassRep}
 use Rattle.refinement.proofs.ArenaStore.{long-kept}
 use Rattle.refinement.proofs.Basics.{Setting}
-use Rattle.refinement.proofs.Lists.{in-left, in-count, itself, off, not-in, firsts-append, firsts-at, heads-at, all-along, first-page, last-page, part}
+use Rattle.refinement.proofs.Lists.{in-left, in-count, off, not-in, firsts-append, firsts-at, heads-at, all-along, first-page, last-page, part}
 use Rattle.refinement.proofs.Frames.{isData, ofClass, Only, data-owns, whole-kept, whole-owner, whole-in}
 use Rattle.refinement.proofs.Kept.{Body, Ties, rep-kept, rep-moved, parked-kept, stack-kept, chain-kept, class-now, listed-whole}
-use Rattle.refinement.proofs.Links.{isLink, isStow, link-lets, class-lets, link-changes, unlink-changes, link-owns, link-body, link-listing, link-next, link-top, link-tally, stow-lets, class-lets-stow, stow-changes, unstow-changes, stow-owns, stow-body, stow-listing, stow-ties, stow-partial, stow-top, stow-tally}
+use Rattle.refinement.proofs.Links.{isLink, isStow, link-lets, class-lets, link-changes, unlink-changes, link-owns, link-body, link-listing, link-next, link-top, link-stored, stow-lets, class-lets-stow, stow-changes, unstow-changes, stow-owns, stow-body, stow-listing, stow-ties, stow-partial, stow-top, stow-stored}
 use Rattle.refinement.proofs.Linked.{chain-linked, chain-unlinked, stack-stowed, stack-unstowed}
 
 -- ---- the four lists put in another order
@@ -130,14 +130,14 @@ module _ {n : ℕ} {b : List ℕ} {c : ℕ} {sh : Shape} (s : Setting n b c sh) 
       let o = data-off in
       let ties = data-ties q h in
       let u = r .runs q in
-      let z = flag-le (whole n b sh c q) in
+      let z = digit-le (whole n b sh c q) in
       let y = heads-at q ss p ts in
       let i = itself q in
       let split = all-at (PageRep n sh b c 1) ss p ts .0 (r .partials) in
       record {
         chain = rw (firsts-at ss p p′ ts same) (chain-kept (h .kept (class partial c) hc refl) (λ x j. ties x) (r .chain));
-        store = stack-kept (h .kept (class (top k) c) hc refl) (h .kept (class (tally k) c) hc refl) (λ x j. ties x .fore) (r .store);
-        beside = stack-kept (h .kept (class (top (other k)) c) hc refl) (h .kept (class (tally (other k)) c) hc refl) (λ x j. ties x .fore) (r .beside);
+        store = stack-kept (h .kept (class (top k) c) hc refl) (h .kept (class (stored k) c) hc refl) (λ x j. ties x .fore) (r .store);
+        beside = stack-kept (h .kept (class (top (other k)) c) hc refl) (h .kept (class (stored (other k)) c) hc refl) (λ x j. ties x .fore) (r .beside);
         partials = all-at (PageRep n sh b′ c 1) ss p′ ts .1 (new, reps-off (s .shape) o 1 (ss ++ ts) (omega arith) (split .1));
         parked = parked-off (s .shape) o xs (omega arith) (r .parked);
         parkeds = parked-off (s .shape) o ys (omega arith) (r .parkeds);
@@ -162,7 +162,7 @@ module _ {n : ℕ} {b : List ℕ} {c : ℕ} {sh : Shape} (s : Setting n b c sh) 
       twice : ClassRep n b c sh k ps xs ys (p ∷ fs) → (x : ℕ) → x ≡ p .first → 1 ≤ heads x ps + heads x xs + heads x ys + heads x fs → ⊥
       twice r x e m =
           let i : _≡_ {A = ℕ} (cond (eqb x (p .first)) 1 0) 1 = rw (eq-eqb x (p .first) e) in
-          omega (arith, r .runs x, flag-le (whole n b sh c x))
+          omega (arith, r .runs x, digit-le (whole n b sh c x))
 
 -- ---- a page moves between the partial list, or a store, and none
 listing-set : (n : ℕ) (b b₀ : List ℕ) (q v : ℕ) → leb (words n) (length b₀) ≡ true → ltb q n ≡ true → length (put b (page listed q) v) ≡ length b₀
@@ -187,7 +187,7 @@ module _ {n : ℕ} {b : List ℕ} {c : ℕ} {sh : Shape} (s : Setting n b c sh) 
         listing = link-listing c q x y h;
       } in
       let u = r .runs q in
-      let f = flag-le (whole n b sh c q) in
+      let f = digit-le (whole n b sh c q) in
       let j = heads-at q ss p ts in
       let i = itself q in
       let split = all-at (PageRep n sh b c 1) ss p ts .0 (r .partials) in
@@ -198,10 +198,10 @@ module _ {n : ℕ} {b : List ℕ} {c : ℕ} {sh : Shape} (s : Setting n b c sh) 
       (λ d. away (in-left z (firsts ss) (p .first ∷ firsts ts) (last-page (firsts ss) z (sym (pa .before) ∙ d)))) in
       record {
         chain = rw (firsts-append ss ts) (chain-unlinked n b (s .long) c q (s .row) (firsts ss) (firsts ts) ch);
-        store = stack-kept (link-top c q x y h (s .row) k) (link-tally c q x y h (s .row) k)
-            (λ z m. beyond z (omega (arith, r .runs z, flag-le (whole n b sh c z), in-count z (firsts xs) m))) (r .store);
-        beside = stack-kept (link-top c q x y h (s .row) (other k)) (link-tally c q x y h (s .row) (other k))
-            (λ z m. beyond z (omega (arith, r .runs z, flag-le (whole n b sh c z), in-count z (firsts ys) m))) (r .beside);
+        store = stack-kept (link-top c q x y h (s .row) k) (link-stored c q x y h (s .row) k)
+            (λ z m. beyond z (omega (arith, r .runs z, digit-le (whole n b sh c z), in-count z (firsts xs) m))) (r .store);
+        beside = stack-kept (link-top c q x y h (s .row) (other k)) (link-stored c q x y h (s .row) (other k))
+            (λ z m. beyond z (omega (arith, r .runs z, digit-le (whole n b sh c z), in-count z (firsts ys) m))) (r .beside);
         partials = reps-off (s .shape) o 1 (ss ++ ts) (omega arith) (split .1);
         parked = parked-off (s .shape) o xs (omega arith) (r .parked);
         parkeds = parked-off (s .shape) o ys (omega arith) (r .parkeds);
@@ -229,7 +229,7 @@ module _ {n : ℕ} {b : List ℕ} {c : ℕ} {sh : Shape} (s : Setting n b c sh) 
         listing = link-listing c q x 0 h;
       } in
       let u = r .runs q in
-      let f = flag-le (whole n b sh c q) in
+      let f = digit-le (whole n b sh c q) in
       let i = itself q in
       let hq = whole-in n b (s .shape) c q (r .fulls .0 .holds .run) in
       let none : heads (p .first) ps ≡ 0 = omega arith in
@@ -237,8 +237,8 @@ module _ {n : ℕ} {b : List ℕ} {c : ℕ} {sh : Shape} (s : Setting n b c sh) 
       = λ z zs e m. link-next c q x 0 h z (off q (firsts zs) e z m) (λ d. omega arith) in
       record {
         chain = chain-linked n b (s .long) c q (s .row) hq (firsts ps) (not-in q (firsts ps) none) (r .chain);
-        store = stack-kept (link-top c q x 0 h (s .row) k) (link-tally c q x 0 h (s .row) k) (λ z m. beyond z xs (omega arith) m) (r .store);
-        beside = stack-kept (link-top c q x 0 h (s .row) (other k)) (link-tally c q x 0 h (s .row) (other k)) (λ z m. beyond z ys (omega arith) m) (r .beside);
+        store = stack-kept (link-top c q x 0 h (s .row) k) (link-stored c q x 0 h (s .row) k) (λ z m. beyond z xs (omega arith) m) (r .store);
+        beside = stack-kept (link-top c q x 0 h (s .row) (other k)) (link-stored c q x 0 h (s .row) (other k)) (λ z m. beyond z ys (omega arith) m) (r .beside);
         partials = (
           rep-moved (s .shape) (link-body c q x 0 h q) (listing-set n (linked b c q) b q 1 (s .long) hq (h .long)) (o .same q ∙ r .fulls .0 .holds .run) (r .fulls .0),
           reps-off (s .shape) o 1 ps none (r .partials),
@@ -263,13 +263,13 @@ module _ {n : ℕ} {b : List ℕ} {c : ℕ} {sh : Shape} (s : Setting n b c sh) 
       let h = unstow-changes (isStow k c q) b c q (s .row) k (stow-lets k c q) in
       let o = stow-off q h in
       let u = r .runs q in
-      let f = flag-le (whole n b sh c q) in
+      let f = digit-le (whole n b sh c q) in
       let i = itself q in
       let run = r .parked .0 .rep .holds .run in
       record {
         chain = chain-kept (stow-partial k c q h (s .row)) (λ z m. stow-ties k c q h z (off q (firsts ps) (omega arith) z m)) (r .chain);
         store = stack-unstowed n b (s .long) c q (s .row) (whole-in n b (s .shape) c q run) k (firsts xs) (r .store);
-        beside = stack-kept (stow-top k c q h (s .row)) (stow-tally k c q h (s .row)) (λ z m. stow-ties k c q h z (off q (firsts ys) (omega arith) z m) .fore) (r .beside);
+        beside = stack-kept (stow-top k c q h (s .row)) (stow-stored k c q h (s .row)) (λ z m. stow-ties k c q h z (off q (firsts ys) (omega arith) z m) .fore) (r .beside);
         partials = reps-off (s .shape) o 1 ps (omega arith) (r .partials);
         parked = parked-off (s .shape) o xs (omega arith) (r .parked .1);
         parkeds = parked-off (s .shape) o ys (omega arith) (r .parkeds);
@@ -287,13 +287,13 @@ module _ {n : ℕ} {b : List ℕ} {c : ℕ} {sh : Shape} (s : Setting n b c sh) 
       let h = stow-changes (isStow k c q) b c q (s .row) k (stow-lets k c q) in
       let o = stow-off q h in
       let u = r .runs q in
-      let f = flag-le (whole n b sh c q) in
+      let f = digit-le (whole n b sh c q) in
       let i = itself q in
       let run = idle .rep .holds .run in
       record {
         chain = chain-kept (stow-partial k c q h (s .row)) (λ z m. stow-ties k c q h z (off q (firsts ps) (omega arith) z m)) (r .chain);
         store = stack-stowed n b (s .long) c q (s .row) (whole-in n b (s .shape) c q run) k (firsts xs) (not-in q (firsts xs) (omega arith)) few (r .store);
-        beside = stack-kept (stow-top k c q h (s .row)) (stow-tally k c q h (s .row)) (λ z m. stow-ties k c q h z (off q (firsts ys) (omega arith) z m) .fore) (r .beside);
+        beside = stack-kept (stow-top k c q h (s .row)) (stow-stored k c q h (s .row)) (λ z m. stow-ties k c q h z (off q (firsts ys) (omega arith) z m) .fore) (r .beside);
         partials = reps-off (s .shape) o 1 ps (omega arith) (r .partials);
         parked = (parked-kept (s .shape) (stow-body k c q h q) (stow-listing k c q h q) (o .same q ∙ run) idle, parked-off (s .shape) o xs (omega arith) (r .parked));
         parkeds = parked-off (s .shape) o ys (omega arith) (r .parkeds);

@@ -2,25 +2,24 @@
 --     opened-rep           the arena's part
 --     opened-class         the part of every class
 --     opened-represents    the whole
--- Assumes nothing.
 use Prim.Native.Nat.{ℕ, zero, suc, _+_, _≤_, _<_}
 use native.Mathlib.Omega.{arith}
-use mathlib.Core.Bool.{Bool, true, false, _&&_}
+use mathlib.Core.Bool.{true, false}
 use mathlib.Core.List.{List}
 use mathlib.Core.Path.{_≡_, refl, sym, ap, _∙_}
 use lib.Dec.{eqb, ltb, leb}
 use lib.ListN.{length, getD, length-set}
 use lib.Seq.{getD-set-same, getD-set-other}
 use borrow.Author.Tests.{eqb-true, eqb-false, leb-true, lt-leb, ltb-true}
+use Rattle.facts.specs.Lists.{total, below}
+use Rattle.facts.proofs.Bools.{by-cases, and-no}
 use Rattle.classes.specs.Shape.{shapeOf}
 use Rattle.classes.proofs.Shapes.{shape-sound}
 use Rattle.fields.specs.Field.{Field, arena, memory, class, ClassField, partial, empty, emptyCount, cold, coldCount, size, state, frontier, holes, holePages, commits, commitsHigh, reuses, reusesHigh, abandoned, abandonedHigh, held, classOff, word, part, read, get, same, ok, words}
 use Rattle.fields.proofs.Laws.{get-put-same, get-put-other, length-put}
-use Rattle.model.specs.Lists.{total, below}
 use Rattle.model.specs.Arena.{newArena}
 use Rattle.model.specs.Class.{newClass}
 use Rattle.model.specs.Heap.{newHeap}
-use Rattle.model.proofs.Counts.{by-cases}
 use Rattle.model.proofs.ArenaTidy.{tidy-new}
 use Rattle.pages.specs.Runs as Runs
 use Rattle.arena.specs.Load.{loadHoles}
@@ -94,10 +93,6 @@ module _ (n : ℕ) (b : List ℕ) (long : leb (words n) (length b) ≡ true) whe
   unfolding Runs.whole
   none-whole c q =
       rw (opened-zero (arena frontier) refl refl (omega arith), lt-leb (q + shapeOf c .pages) 0 (omega (arith, shape-sound c .paged))) (and-no (leb (q + shapeOf c .pages) n))
-    where
-      and-no : (t : Bool) → (t && false) ≡ false
-      and-no true = refl
-      and-no false = refl
 
   pub opened-class : (c : ℕ) → ltb c 76 ≡ true → StateRep n (opened n b) c (shapeOf c) newClass
   opened-class c hc = record {

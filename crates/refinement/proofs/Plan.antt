@@ -1,8 +1,8 @@
--- On a represented book every test of a take's plan passes. Assumes nothing.
+-- On a represented book every test of a take's plan passes.
 --     page-sound      a page of the class that has a block is in its ranges
 --     walk-passes     the walk over the partial list
 --     park-passes     the newest page of a store
-use Prim.Native.Nat.{ℕ, zero, suc, _-_, _≤_}
+use Prim.Native.Nat.{ℕ, zero, suc, _+_, _-_, _≤_}
 use native.Mathlib.Omega.{arith}
 use mathlib.Core.Bool.{Bool, true, not}
 use mathlib.Core.List.{List, [], _∷_, map}
@@ -10,22 +10,24 @@ use mathlib.Core.Path.{_≡_, refl, ap, _∙_}
 use lib.Dec.{eqb, ltb, leb}
 use lib.ListN.{length, take}
 use borrow.Author.Tests.{eq-eqb, ne-eqb, ltb-false, le-leb, lt-ltb}
+use Rattle.facts.specs.Lists.{isNil, All, count}
+use Rattle.facts.proofs.Bools.{by-cases, or-left, or-right}
 use Rattle.classes.specs.declared.Shape.{Shape}
 use Rattle.classes.specs.Sound.{Sound}
 use Rattle.fields.specs.Field.{arena, class, page, free, carved, next, frontier, get}
-use Rattle.model.specs.Lists.{All, count, every, isNil}
 use Rattle.model.specs.Page as Page
 use Rattle.model.specs.Page.{Page, wordOf}
-use Rattle.model.proofs.Counts.{by-cases, count-cut}
-use Rattle.pages.specs.Runs.{flag}
+use Rattle.model.proofs.Counts.{count-cut}
+use Rattle.words.specs.Host.{digit}
 use Rattle.pages.specs.Stack.{latest, hasMore}
 use Rattle.pages.specs.declared.Park.{Park}
 use Rattle.pages.specs.Links.{top}
-use Rattle.calls.specs.Take.{sound, walk, parkFair}
-use Rattle.pages.proofs.Downs.{flag-cases}
+use Rattle.pages.specs.Fair.{headerFair}
+use Rattle.calls.specs.Take.{pageReady, sound, walk, parkFair}
+use Rattle.pages.proofs.Downs.{digit-cases}
 use Rattle.refinement.specs.Chain.{Segment, Line, Stack}
 use Rattle.refinement.specs.Represents.{Holds, PageRep, Parked, firsts}
-use Rattle.refinement.proofs.Basics.{or-left, or-right, flag-small}
+use Rattle.refinement.proofs.Basics.{digit-small}
 use Rattle.refinement.proofs.Frames.{whole-below}
 use Rattle.refinement.proofs.Blocks.{few-counts, every-counts, tops-take}
 use Rattle.refinement.proofs.Draw.{more-is}
@@ -33,14 +35,14 @@ use Rattle.refinement.proofs.Fill.{AllMore, pred}
 
 module _ {n : ℕ} {sh : Shape} {b : List ℕ} {c l q : ℕ} {xs : List ℕ} {k : ℕ} {v : Bool} (h : Holds n sh b c l q xs k v) where
   pub stack-below : (i : ℕ) → k ≤ i → count i xs ≡ 0
-  stack-below i u = flag-cases i k (λ w e. absurd (omega arith)) (λ w e. omega (arith, h .outs i))
+  stack-below i u = digit-cases i k (λ w e. absurd (omega arith)) (λ w e. omega (arith, h .outs i))
 
   -- FREE is at most CARVED
   pub stack-fits : length xs ≤ k
   stack-fits = few-counts xs k (λ i. omega (arith, h .outs i))
 
   pub page-sound : (m : ℕ) → hasMore b sh q ≡ true → sound n b c sh l m q ≡ true
-  unfolding sound
+  unfolding sound pageReady headerFair
   page-sound m g =
       rw (
         h .run,
@@ -51,9 +53,9 @@ module _ {n : ℕ} {sh : Shape} {b : List ℕ} {c l q : ℕ} {xs : List ℕ} {k 
         g,
         tops-take b q m xs (h .slots),
         eq-eqb l l refl,
-        le-leb (length xs) k stack-fits,
+        le-leb (length xs + 0) k (omega (arith, stack-fits)),
         le-leb k (sh .capacity) (h .within),
-        flag-small v,
+        digit-small v,
       )
       (every-counts k (take m xs) (λ i u. omega (arith, count-cut i m xs, stack-below i u)))
 
@@ -83,7 +85,7 @@ module _ (n : ℕ) (b : List ℕ) {sh : Shape} (ok : Sound sh) (c : ℕ) where
       by-cases (ltb (p .carved) (sh .capacity))
       (λ e. or-right (not (isNil (p .free))) (ltb (p .carved) (sh .capacity)) e)
       (λ e. let z = ltb-false (p .carved) (sh .capacity) e in
-      let f : flag (ltb 0 (p .carved)) ≡ 1 = ap flag (lt-ltb 0 (p .carved) (omega (arith, ok .blocks))) in
+      let f : digit (ltb 0 (p .carved)) ≡ 1 = ap digit (lt-ltb 0 (p .carved) (omega (arith, ok .blocks))) in
       or-left (not (isNil (p .free))) (ltb (p .carved) (sh .capacity))
       (named (p .first) (p .free) (r .rep .stack) (r .rep .names) (omega (arith, r .rep .holds .outs 0, r .idle 0))))
     where

@@ -1,4 +1,4 @@
--- Blocks laid on a page's stack, and a run carved anew. Assumes nothing.
+-- Blocks laid on a page's stack, and a run carved anew.
 --     push-slots     the stack with a list laid on it
 --     anew-holds     a run that has no block out, carved anew
 --     carve-rep      it is the model's carved page
@@ -10,17 +10,17 @@ use mathlib.Core.Path.{_≡_, refl, sym, ap, _∙_, subst}
 use lib.Dec.{eqb, ltb}
 use lib.ListN.{length, length-append}
 use borrow.Author.Tests.{lt-ltb, ltb-true, eq-eqb, ne-eqb}
+use Rattle.facts.specs.Lists.{every}
+use Rattle.facts.proofs.Bools.{and-left, and-right}
 use Rattle.classes.specs.declared.Shape.{Shape}
-use Rattle.fields.specs.Field.{Field, page, slot, out, owner, free, carved, listed, virgin, get, words}
+use Rattle.fields.specs.Field.{Field, page, slot, out, owner, free, carved, listed, virgin, get}
 use Rattle.fields.proofs.Laws.{get-put-same, get-put-other, length-put}
 use Rattle.fields.proofs.Changes.{Changes}
-use Rattle.model.specs.Lists.{every}
 use Rattle.model.specs.Page.{isMedium, carveAs, carve}
-use Rattle.model.proofs.Counts.{and-l, and-r}
 use Rattle.pages.specs.Runs.{whole}
 use Rattle.pages.specs.Stack.{marked, downs, push}
 use Rattle.pages.specs.Carve.{stocked, carveAnew}
-use Rattle.pages.proofs.Downs.{flag-false, length-downs, small}
+use Rattle.pages.proofs.Downs.{digit-false, length-downs, small}
 use Rattle.pages.proofs.Pushes.{length-push, push-kept}
 use Rattle.pages.proofs.Frames.{changes-carve}
 use Rattle.refinement.specs.Represents.{Slots, Holds, PageRep}
@@ -41,14 +41,14 @@ module _ {n : ℕ} {b : List ℕ} {c : ℕ} {sh : Shape} (s : Setting n b c sh) 
       let b₁ = push b q t₀ is in
       let top : length (is ++ xs) ≡ t₀ + length is = length-append is xs ∙ sums (length is) (length xs) t₀ e in
       let room : ltb (t₀ + length is) 4096 ≡ true = lt-ltb (t₀ + length is) 4096 (omega arith) in
-      let small = ltb-true i (sh .capacity) (and-l (fits sh i) (every (fits sh) is) f) in
+      let small = ltb-true i (sh .capacity) (and-left (fits sh i) (every (fits sh) is) f) in
       let long = long-kept n b b₁ (length-push b q t₀ is) (s .long) in (
         ap (λ z. get (push b q t₀ (i ∷ is)) (slot q z)) top
             ∙ get-put-same n b₁ (slot q (t₀ + length is)) i long (rw (room, hq)) (lt-ltb i 65536 (omega (arith, s .shape .few))),
         omega arith,
         slots-under b₁ (push b q t₀ (i ∷ is)) q (is ++ xs)
             (λ j u o. get-put-other b₁ (slot q (t₀ + length is)) (slot q j) i room o (rw (ne-eqb (t₀ + length is) j (λ z. omega arith))))
-            (push-slots xs is t₀ e (omega arith) (and-r (fits sh i) (every (fits sh) is) f) sl),
+            (push-slots xs is t₀ e (omega arith) (and-right (fits sh i) (every (fits sh) is) f) sl),
       )
     where
       sums : (a x t : ℕ) → x ≡ t → a + x ≡ t + a
@@ -92,7 +92,7 @@ module _ {n : ℕ} {b : List ℕ} {c : ℕ} {sh : Shape} (s : Setting n b c sh) 
       let b₁ = push b q 0 (downs 0 (stocked sh)) in
       let hb₁ = long-kept n b (push b q 0 (downs 0 (stocked sh))) (length-push b q 0 (downs 0 (stocked sh))) (s .long) in
       let low : every (fits sh) (downs 0 (stocked sh)) ≡ true
-      = every-counts (sh .capacity) (downs 0 (stocked sh)) (λ j z. omega (arith, count-downs-zero j (stocked sh), flag-false j (stocked sh) (omega (arith, stocked-in sh)))) in
+      = every-counts (sh .capacity) (downs 0 (stocked sh)) (λ j z. omega (arith, count-downs-zero j (stocked sh), digit-false j (stocked sh) (omega (arith, stocked-in sh)))) in
       record {
         run = run;
         listing = simp get-put-other (push-kept b q 0 (downs 0 (stocked sh)) room (page listed q) refl refl ∙ listing);

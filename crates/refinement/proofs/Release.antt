@@ -1,4 +1,4 @@
--- What becomes of a page whose blocks are back: the book and the fate are the model's. Assumes nothing.
+-- What becomes of a page whose blocks are back: the book and the fate are the model's.
 --     SettledRep        the page stays with the class, or is in no list and goes to the arena next
 --     park-rep          a page with none out goes to the empty store, the cold one, or the arena
 --     settle-list       blocks come back by list
@@ -11,24 +11,26 @@ use mathlib.Core.Path.{_≡_, refl, sym, ap, _∙_, subst}
 use lib.Dec.{eqb, ltb, leb}
 use lib.ListN.{length}
 use borrow.Author.Tests.{ltb-true}
+use Rattle.facts.specs.Lists.{every, count}
+use Rattle.facts.proofs.Bools.{by-cases, and-left}
 use Rattle.words.specs.Host.{discardZeroed}
 use Rattle.classes.specs.declared.Shape.{Shape}
 use Rattle.classes.specs.Shape.{smallShape, mediumShape, shapeOf}
 use Rattle.fields.specs.Field.{class, page, emptyCount, coldCount, free, carved, get}
 use Rattle.fields.specs.Ranges.{maxPages}
 use Rattle.fields.proofs.Changes.{changes-none}
-use Rattle.model.specs.Lists.{every, count}
 use Rattle.model.specs.Page.{Page, isMedium, carveAs, carve, carvedWords, isOut, noneOut, reused, returned, retire}
 use Rattle.model.specs.Class.{Class, thawed}
 use Rattle.model.specs.Release as Model
-use Rattle.model.specs.Release.{Site, Settled, inPartial, inFull, coldFate, park, parkEmpty, letGo, settle}
-use Rattle.model.proofs.Counts.{by-cases, and-l}
+use Rattle.model.specs.Release.{Site, Settled, inPartial, inFull, spotIn, park, parkEmpty, letGo, settle}
 use Rattle.pages.specs.Stack.{marked, back, indexOf}
 use Rattle.pages.specs.declared.Park.the-variants.{Empty, Cold}
 use Rattle.pages.specs.Links.{stow}
 use Rattle.pages.specs.Carve.{carveAnew}
-use Rattle.calls.specs.Release.{Released, released, unlisted, relisted, keepsEmpty, spotOf, parkCold, parkAs, parkAt, giveBackAt}
-use Rattle.calls.specs.Chunks.{emptied, markRetired, chunkBackAt}
+use Rattle.model.specs.declared.Spot.the-variants.{ToCold}
+use Rattle.model.specs.Spot.{keepsEmpty, spotOf, arenaFate, fateOf}
+use Rattle.calls.specs.Release.{Released, released, unlisted, relisted, parkCold, parkAs, parkAt, giveBackAt, emptied, markRetired}
+use Rattle.calls.specs.Chunks.{chunkBackAt}
 use Rattle.refinement.specs.Represents.{PageRep, firsts, ClassRep}
 use Rattle.refinement.proofs.Basics.{Setting, setting-kept}
 use Rattle.refinement.proofs.Frames.{ofClass, Only, only-trans, data-owns, whole-kept, whole-in, whole-owner}
@@ -75,7 +77,7 @@ pub length-firsts : {A : Type 0} (f : A → Page) (l : List A) → length (first
 length-firsts f [] = refl
 length-firsts f (x ∷ l) = ap suc (length-firsts f l)
 
-cold-stays : (sh : Shape) → coldFate sh ≡ 2 → ⊥
+cold-stays : (sh : Shape) → fateOf sh ToCold ≡ arenaFate → ⊥
 cold-stays sh = go (isMedium sh)
   where
     go : (t : Bool) → _≡_ {A = ℕ} (cond t 0 1) 2 → ⊥
@@ -85,14 +87,14 @@ cold-stays sh = go (isMedium sh)
 -- ---- a page in no list that has no block out; m is the model's, which comes back as p
 module _ {n : ℕ} {b : List ℕ} {c : ℕ} {sh : Shape} (s : Setting n b c sh) (lim : Limits sh) (h : ℕ) (t : Class) (zs : List Page) (m p : Page)
     (same : reused sh m ≡ p) (mf : m .first ≡ p .first) (idle : (i : ℕ) → marked b sh (p .first) i ≡ 0) (r : Away n b c sh t (p ∷ zs)) where
-  in-empty : length (t .empty) < 256 → SettledRep n b c sh zs 2 (p .first) (released (stow b c Empty (p .first)) 0) (parkEmpty t m)
+  in-empty : length (t .empty) < 256 → SettledRep n b c sh zs 2 (p .first) (released (stow b c Empty (p .first)) 0) (parkEmpty sh t m)
   in-empty few =
       stays not-given
       (subst (λ z. ClassRep n (stow b c Empty (p .first)) c sh Empty (t .partial) (z ∷ map (reused sh) (t .empty)) (map (thawed sh) (t .cold)) (zs ++ t .full)) (sym same)
       (to-store s (record { rep = r .fulls .0; idle = idle }) (omega (arith, length-firsts (reused sh) (t .empty))) r))
       (stow-only s r)
 
-  in-cold : length (t .cold) < 256 → SettledRep n b c sh zs 2 (p .first) (released (parkCold b c sh h (p .first)) (coldFate sh)) (Model.parkCold sh h t m)
+  in-cold : length (t .cold) < 256 → SettledRep n b c sh zs 2 (p .first) (released (parkCold b c sh h (p .first)) (fateOf sh ToCold)) (Model.parkCold sh h t m)
   unfolding thawed
   in-cold few =
       let q = p .first in
@@ -114,10 +116,10 @@ module _ {n : ℕ} {b : List ℕ} {c : ℕ} {sh : Shape} (s : Setting n b c sh) 
       (subst (λ z. ClassRep n (stow b₁ c Cold q) c sh Empty (t .partial) (map (reused sh) (t .empty)) (carve sh z u ∷ map (thawed sh) (t .cold)) (zs ++ t .full)) (sym mf) r₃)
       (only-trans c o₁ (subst (λ z. Only c b₁ (stow b₁ c Cold z)) first (stow-only s₁ (swap r₁))))
 
-  away : SettledRep n b c sh zs 2 (p .first) (released b 2) (letGo t m)
+  away : SettledRep n b c sh zs 2 (p .first) (released b 2) (letGo sh t m)
   away = subst (λ z. SettledRep n b c sh zs 2 (p .first) (released b 2) (record { class = t; fate = 2; gives = z ∷ [] })) (sym mf) (goes p refl r (changes-none (ofClass b c) b))
 
-  park-rep : SettledRep n b c sh zs 2 (p .first) (parkAs b c sh h (p .first) (spotOf sh (length (t .empty)) (length (t .cold)))) (park sh h t m)
+  park-rep : SettledRep n b c sh zs 2 (p .first) (parkAs b c sh h (p .first) (spotIn sh t)) (park sh h t m)
   unfolding spotOf park
   park-rep =
       by-cases (keepsEmpty sh (length (t .empty)))
@@ -125,7 +127,7 @@ module _ {n : ℕ} {b : List ℕ} {c : ℕ} {sh : Shape} (s : Setting n b c sh) 
         arith,
         lim .empty,
         ltb-true (length (t .empty)) (sh .empties)
-            (and-l (ltb (length (t .empty)) (sh .empties)) (leb (suc (length (t .empty)) * sh .pages) (sh .emptypages)) e),
+            (and-left (ltb (length (t .empty)) (sh .empties)) (leb (suc (length (t .empty)) * sh .pages) (sh .emptypages)) e),
       ))))
       (λ e. by-cases (ltb (length (t .cold)) (sh .colds))
       (λ u. rw (e, u) (in-cold (omega (arith, lim .cold, ltb-true (length (t .cold)) (sh .colds) u))))

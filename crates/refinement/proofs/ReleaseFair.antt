@@ -1,4 +1,4 @@
--- Number 13's tests of a release pass on a represented book. Assumes nothing.
+-- Number 13's tests of a release pass on a represented book.
 --     row-fair         the class's row
 --     page-fair        a page with blocks out, of which some come back
 --     release-fair     all that a release by list tests
@@ -21,10 +21,12 @@ use Rattle.model.specs.Release.{Site}
 use Rattle.pages.specs.Runs.{whole}
 use Rattle.pages.specs.declared.Park.the-variants.{Empty}
 use Rattle.arena.specs.Fair.{giveFair}
+use Rattle.model.specs.Spot.{isArena}
+use Rattle.pages.specs.Fair.{headerFair}
 use Rattle.calls.specs.Release.{pageFair, rowFair, spotAt, spotFair, releaseFair}
 use Rattle.refinement.specs.Chain.{In, Chain, Line}
 use Rattle.refinement.specs.Represents.{firsts, heads, ClassRep, Represents}
-use Rattle.refinement.proofs.Basics.{Setting, flag-small}
+use Rattle.refinement.proofs.Basics.{Setting, digit-small}
 use Rattle.refinement.proofs.Lists.{in-left, in-right, first-page, last-page, firsts-append, part, in-count}
 use Rattle.refinement.proofs.Frames.{whole-below}
 use Rattle.refinement.proofs.Kept.{listed-whole}
@@ -80,7 +82,7 @@ module _ {n : ℕ} {b : List ℕ} {c : ℕ} {sh : Shape} (s : Setting n b c sh) 
 
 module _ {n : ℕ} {b : List ℕ} {c : ℕ} {sh : Shape} (s : Setting n b c sh) {zs : List Page} where
   pub page-fair : {l : ℕ} {p : Page} {x : Site} (m : ℕ) → length (p .free) + m ≤ p .carved → Placed n b c sh zs l p x → pageFair b sh m (p .first) ≡ true
-  unfolding pageFair
+  unfolding pageFair headerFair
   page-fair m room (among {p} t f r) =
       let rp = placed-rep {zs = zs} (among t f r) in
       let h = rp .holds in
@@ -91,7 +93,7 @@ module _ {n : ℕ} {b : List ℕ} {c : ℕ} {sh : Shape} (s : Setting n b c sh) 
         h .clean,
         le-leb (p .carved) (sh .capacity) (h .within),
         le-leb (length (rp .stack) + m) (p .carved) (omega (arith, free-length rp)),
-        flag-small (p .virgin),
+        digit-small (p .virgin),
         links-fair s (f .before) p (f .behind) r,
       )
   page-fair m room (aside {p} t f r) =
@@ -104,7 +106,7 @@ module _ {n : ℕ} {b : List ℕ} {c : ℕ} {sh : Shape} (s : Setting n b c sh) 
         h .clean,
         le-leb (p .carved) (sh .capacity) (h .within),
         le-leb (length (rp .stack) + m) (p .carved) (omega (arith, free-length rp)),
-        flag-small (p .virgin),
+        digit-small (p .virgin),
       )
 
   pub placed-row : {l : ℕ} {p : Page} {x : Site} → Placed n b c sh zs l p x → rowFair b c ≡ true
@@ -132,6 +134,6 @@ module _ (n : ℕ) (b : List ℕ) (H : Heap) (R : Represents n b H) (ok : Reache
         frontier-fair,
         page-fair s m room pl,
         placed-row s pl,
-        if-true (eqb (get b (page free (p .first)) + m) (get b (page carved (p .first))) && eqb (spotAt b c sh) 2) (giveFair n b (sh .pages))
+        if-true (eqb (get b (page free (p .first)) + m) (get b (page carved (p .first))) && isArena (spotAt b c sh)) (giveFair n b (sh .pages))
             (run-fair (p .first) (placed-rep pl .holds .run)),
       )

@@ -1,4 +1,4 @@
--- Runs that wait in no list go to the arena one after the other: the whole book stands for the model's heap. Assumes nothing.
+-- Runs that wait in no list go to the arena one after the other: the whole book stands for the model's heap.
 --     all-given     the book after the gives
 --     all-held      so many pages are held before them
 use Prim.Native.Nat.{ℕ, _+_, _*_, _≤_}
@@ -9,15 +9,16 @@ use mathlib.Core.Path.{_≡_, refl, subst, fun-ext}
 use lib.Dec.{eqb, ltb}
 use lib.ListN.{length}
 use borrow.Author.Tests.{eq-eqb, eqb-true, eqb-false, ne-eqb}
+use Rattle.facts.specs.Lists.{update}
+use Rattle.facts.proofs.Bools.{by-cases}
+use Rattle.model.specs.Cover.{covers, coversAll}
 use Rattle.classes.specs.Shape.{shapeOf}
 use Rattle.classes.proofs.Shapes.{shape-sound}
 use Rattle.fields.proofs.Changes.{changes-none}
-use Rattle.model.specs.Lists.{covers, coversAll, update}
 use Rattle.model.specs.Page.{Page}
 use Rattle.model.specs.Class.{Class, lists}
 use Rattle.model.specs.Arena.{give, giveAll}
 use Rattle.model.specs.Heap.{Heap, Holder, nobody, isHeld, passTo, heldPages}
-use Rattle.model.proofs.Counts.{by-cases}
 use Rattle.arena.specs.Calls.{given}
 use Rattle.calls.specs.Chunks.{giveRuns}
 use Rattle.refinement.specs.Represents.{firsts, StateRep, Represents}

@@ -1,5 +1,5 @@
 -- A release by list, whole: on a book that stands for a reached heap it has the model's answer, is never refused by number 13, and
--- leaves a book that stands for the model's next heap. n is at most the longest arena. Assumes nothing.
+-- leaves a book that stands for the model's next heap. n is at most the longest arena.
 --     release-rep       refused by both with one number, or settled alike
 --     release-whole     every release by list, refused or not, of any fate, the give included
 --     release-after     the same after any history
@@ -12,21 +12,22 @@ use mathlib.Core.Path.{_≡_, refl, sym, ap, _∙_}
 use lib.Dec.{eqb, ltb}
 use lib.ListN.{length}
 use borrow.Author.Tests.{eqb-true, ne-eqb}
+use Rattle.facts.specs.Lists.{every, isSome, distinct, count}
+use Rattle.facts.proofs.Bools.{by-cases, and-left, and-right}
 use Rattle.classes.specs.Shape.{shapeOf}
 use Rattle.fields.specs.Ranges.{maxPages}
 use Rattle.fields.proofs.Changes.{changes-none}
-use Rattle.model.specs.Lists.{every, distinct, count, isSome}
 use Rattle.model.specs.Calls as Calls
 use Rattle.model.specs.Calls.{Call, fate}
 use Rattle.model.specs.Page.{isOut}
 use Rattle.model.specs.Class.{Ask, done, refuse}
 use Rattle.model.specs.Release.{Site, Settled, locate, ofKind, outHere, onPage, releaseList}
-use Rattle.model.specs.Chunks.{answer, hostMax}
+use Rattle.model.specs.Chunks.{answer}
 use Rattle.model.specs.Heap.{Heap, offer, finish, interact, classCall}
 use Rattle.model.specs.History.{heapAfter}
-use Rattle.model.proofs.Counts.{by-cases, and-l, and-r, distinct-count}
+use Rattle.model.proofs.Counts.{distinct-count}
 use Rattle.pages.specs.Stack.{indexOf}
-use Rattle.calls.specs.Release.{startOf, outAt, Released, releasedNone, lastStep, giveBackAt, releaseFair, releaseBlocks, releaseCall}
+use Rattle.calls.specs.Release.{startOf, outAt, Released, releasedNone, lastStep, giveBackAt, releaseFair, releaseBlocks}
 use Rattle.refinement.specs.Represents.{Represents}
 use Rattle.refinement.specs.Direct.{Agrees}
 use Rattle.refinement.specs.Releases.{listReply}
@@ -79,7 +80,7 @@ module _ (n : ℕ) (hn : n ≤ maxPages) (b : List ℕ) (H : Heap) (R : Represen
         let rp = placed-rep (a .placed) in
         at-page x a (startOf b w)
         (eqb-true (startOf b w) (x .page .first)
-        (sym (same-page s hn rp w (and-l (ofKind (sh .kind) w) (every (ofKind (sh .kind)) ws) k) (and-l (outAt n b c sh w) (every (outAt n b c sh) ws) o)) ∙ located-passes y))
+        (sym (same-page s hn rp w (and-left (ofKind (sh .kind) w) (every (ofKind (sh .kind)) ws) k) (and-left (outAt n b c sh w) (every (outAt n b c sh) ws) o)) ∙ located-passes y))
         (w ∷ ws) once (same-pages s hn rp (w ∷ ws) k o)
 
   -- number 10's test passed by both, or failed by both
@@ -94,9 +95,9 @@ module _ (n : ℕ) (hn : n ≤ maxPages) (b : List ℕ) (H : Heap) (R : Represen
       let t = H .classes c in
       let d = distinct (w ∷ ws) in
       by-cases (every (outAt n b c (shapeOf c)) (w ∷ ws) && distinct (w ∷ ws))
-      (λ u. let o = and-l (every (outAt n b c sh) (w ∷ ws)) d u in
-      rw (← same, u) (on-page w ws k o (and-r (every (outAt n b c sh) (w ∷ ws)) d u) (locate (isOut sh w) t) (located (isOut sh w) t)
-      (and-l (outHere sh t w) (every (outHere sh t) ws) (sym same ∙ o))))
+      (λ u. let o = and-left (every (outAt n b c sh) (w ∷ ws)) d u in
+      rw (← same, u) (on-page w ws k o (and-right (every (outAt n b c sh) (w ∷ ws)) d u) (locate (isOut sh w) t) (located (isOut sh w) t)
+      (and-left (outHere sh t w) (every (outHere sh t) ws) (sym same ∙ o))))
       (λ u. rw (← same, u) (denied 10 refl (λ z. omega arith)))
 
   release-rep : (ws : List ℕ) → ReleaseRep (releaseBlocks n b c (shapeOf c) h ws) (releaseList (shapeOf c) h (H .classes c) ws)
@@ -120,14 +121,11 @@ module _ (n : ℕ) (hn : n ≤ maxPages) (b : List ℕ) (H : Heap) (R : Represen
   list-agrees w x (did q (goes {b′ = b′} {s = t} p e r o)) =
       record { answer = refl; fair = λ z. omega arith; heap = all-given n b H R ok c hc b′ o t (p ∷ []) r (q ∷ []) (ap (λ x. x ∷ []) e) }
 
-  pub release-whole : (ws : List ℕ) → Agrees (Represents n) (listReply (releaseCall n b c (shapeOf c) h ws)) (classCall n H c (Calls.giveBack h ws))
-  unfolding releaseCall classCall answer
-  release-whole ws =
-      by-cases (ltb hostMax h)
-      (λ e. rw e (list-agrees (releasedNone b 3) (refuse (H .classes c) 3) (denied 3 refl (λ z. omega arith))))
-      (λ e. rw e (list-agrees _ _ (release-rep ws)))
+  pub release-whole : (ws : List ℕ) → Agrees (Represents n) (listReply (releaseBlocks n b c (shapeOf c) h ws)) (classCall n H c (Calls.giveBack h ws))
+  unfolding classCall answer
+  release-whole ws = list-agrees _ _ (release-rep ws)
 
 -- after every history on an arena of n pages
 pub release-after : (n : ℕ) → n ≤ maxPages → (xs : List Call) (b : List ℕ) → Represents n b (heapAfter n xs) → (c : ℕ) → ltb c 76 ≡ true → (h : ℕ) (ws : List ℕ)
-    → Agrees (Represents n) (listReply (releaseCall n b c (shapeOf c) h ws)) (classCall n (heapAfter n xs) c (Calls.giveBack h ws))
+    → Agrees (Represents n) (listReply (releaseBlocks n b c (shapeOf c) h ws)) (classCall n (heapAfter n xs) c (Calls.giveBack h ws))
 release-after n hn xs b R c hc h ws = release-whole n hn b (heapAfter n xs) R (reached-after n xs) c hc h ws

@@ -1,4 +1,4 @@
--- A page whose blocks come back: the words do what the model's `returned` says, and "none is out" compares two counts. Assumes nothing.
+-- A page whose blocks come back: the words do what the model's `returned` says, and "none is out" compares two counts.
 --     back-holds       the words of the run afterwards
 --     none-is          no block is out exactly if FREE is CARVED; none-idle: then no out bit is set
 --     return-rep       the page afterwards is the model's
@@ -11,25 +11,27 @@ use mathlib.Core.Path.{_≡_, refl, sym, ap, _∙_}
 use lib.Dec.{eqb, ltb, leb}
 use lib.ListN.{length, length-append}
 use borrow.Author.Tests.{eq-eqb, eqb-true, eqb-false, leb-true, leb-false, not-true}
+use Rattle.facts.specs.Lists.{every, elem, count}
+use Rattle.facts.proofs.Bools.{by-cases, and-left, and-right}
 use Rattle.classes.specs.declared.Shape.{Shape}
-use Rattle.fields.specs.Field.{Field, page, slot, out, owner, free, carved, listed, virgin, region, get}
+use Rattle.fields.specs.Field.{Field, page, slot, out, owner, free, carved, listed, virgin, region, get, put}
 use Rattle.fields.specs.Ranges.{maxPages}
 use Rattle.fields.proofs.Laws.{get-put-same, get-put-other, length-put}
 use Rattle.fields.proofs.Changes.{Changes, changes-none, changes-put, changes-trans}
-use Rattle.model.specs.Lists.{count, elem, every}
 use Rattle.model.specs.Page.{Page, wordOf, wordsFrom, isOut, carvedWords, noneOut, returned}
-use Rattle.model.proofs.Counts.{by-cases, and-l, and-r, count-append, elem-count, every-count}
+use Rattle.model.proofs.Counts.{count-append, elem-count, every-count}
 use Rattle.model.proofs.Pages.{GoodPage}
 use Rattle.model.proofs.Used.{none-out-count}
-use Rattle.pages.specs.Runs.{flag}
-use Rattle.pages.specs.Stack.{marked, marks, push, back, indexOf}
+use Rattle.words.specs.Host.{digit}
+use Rattle.pages.specs.Stack.{marked, marks, push, pushed, back, indexOf}
 use Rattle.pages.proofs.Downs.{every-below}
 use Rattle.pages.proofs.Marks.{marks-changes, marks-at}
+use Rattle.pages.proofs.Frames.{back-free}
 use Rattle.pages.proofs.Pushes.{length-push, push-changes, push-kept}
-use Rattle.calls.specs.Chunks.{emptied}
+use Rattle.calls.specs.Release.{emptied}
 use Rattle.refinement.specs.Represents.{Holds, PageRep}
 use Rattle.refinement.proofs.ArenaStore.{long-kept}
-use Rattle.refinement.proofs.Basics.{Setting, setting-kept, flag-le, flag-false, flag-cases}
+use Rattle.refinement.proofs.Basics.{Setting, setting-kept, digit-le, digit-false, digit-cases}
 use Rattle.refinement.proofs.Frames.{isData, ofClass, Only, data-owns, whole-kept, whole-in, whole-owner, marked-kept, slots-kept}
 use Rattle.refinement.proofs.Blocks.{map-append, length-map, fits, in-row, few-counts, every-counts}
 use Rattle.refinement.proofs.Pushes.{push-slots, slots-under}
@@ -40,7 +42,7 @@ use Rattle.refinement.proofs.Decode.{word-inj, count-words, words-elem,
 module _ {n : ℕ} {b : List ℕ} {c : ℕ} {sh : Shape} (s : Setting n b c sh) {l q : ℕ} {xs : List ℕ} {k : ℕ} {v : Bool} (h : Holds n sh b c l q xs k v)
     (is : List ℕ) (outs : (j : ℕ) → count j is ≤ marked b sh q j) where
   back-fit : every (fits sh) is ≡ true
-  back-fit = every-counts (sh .capacity) is (λ j z. omega (arith, outs j, h .outs j, flag-false j k (omega (arith, h .within))))
+  back-fit = every-counts (sh .capacity) is (λ j z. omega (arith, outs j, h .outs j, digit-false j k (omega (arith, h .within))))
 
   -- FREE and the blocks that come back are at most CARVED
   pub back-length : length (is ++ xs) ≤ k
@@ -59,13 +61,16 @@ module _ {n : ℕ} {b : List ℕ} {c : ℕ} {sh : Shape} (s : Setting n b c sh) 
   s₁ : Setting n cleared c sh
   s₁ = setting-kept cleared (cleared-changes (λ g. true) (λ i. refl) .long) s
 
+  back-is : back b q is ≡ put (put (push cleared q (get b (page free q)) is) (page virgin q) 0) (page free q) (get b (page free q) + length is)
+  unfolding back pushed cleared
+  back-is = rw (back-free b q is (every-below (sh .capacity) 4096 (s .shape .few) is back-fit))
+
   back-changes : (t : Field → Bool) → t (page free q) ≡ true → t (page virgin q) ≡ true → ((i : ℕ) → t (slot q i) ≡ true) → ((i : ℕ) → t (out q i) ≡ true)
       → Changes t b (back b q is)
-  unfolding back cleared
   back-changes t f v e o =
-      changes-put t b _ (page free q) _ refl f
+      rw back-is (changes-put t b _ (page free q) _ refl f
       (changes-put t b _ (page virgin q) _ refl v
-      (changes-trans t b cleared _ (cleared-changes t o) (push-changes cleared q (get b (page free q)) t e is room)))
+      (changes-trans t b cleared _ (cleared-changes t o) (push-changes cleared q (get b (page free q)) t e is room))))
 
   pub back-data : Changes (isData q) b (back b q is)
   back-data = let e = eq-eqb q q refl in back-changes (isData q) e e (λ i. e) (λ i. e)
@@ -79,22 +84,21 @@ module _ {n : ℕ} {b : List ℕ} {c : ℕ} {sh : Shape} (s : Setting n b c sh) 
   hq = whole-in n b (s .shape) c q (h .run)
 
   back-marked : (j : ℕ) → _≡_ {A = ℕ} (marked (back b q is) sh q j) (cond (eqb (count j is) 0) (marked b sh q j) 0)
-  unfolding back cleared
+  unfolding cleared
   back-marked j =
-      marked-kept cleared (back b q is) sh q j (λ e. let o = in-row s j e in simp get-put-other (push-kept cleared q (get b (page free q)) is room (out q j) o refl))
+      marked-kept cleared (back b q is) sh q j (λ e. let o = in-row s j e in rw back-is (simp get-put-other (push-kept cleared q (get b (page free q)) is room (out q j) o refl)))
       ∙ marks-at n b (s .long) q hq 0 refl sh (s .shape .few) is back-fit j
 
-  back-outs : (j : ℕ) → marked (back b q is) sh q j + count j (is ++ xs) ≡ flag (ltb j k)
+  back-outs : (j : ℕ) → marked (back b q is) sh q j + count j (is ++ xs) ≡ digit (ltb j k)
   back-outs j =
       let o = h .outs j in
       let u = outs j in
-      let f = flag-le (ltb j k) in
+      let f = digit-le (ltb j k) in
       by-cases (eqb (count j is) 0)
       (λ e. let z = eqb-true (count j is) 0 e in rw (back-marked j, e, count-append) (omega arith))
       (λ e. let z = eqb-false (count j is) 0 e in rw (back-marked j, e, count-append) (omega (arith, z)))
 
   pub back-holds : Holds n sh (back b q is) c l q (is ++ xs) k false
-  unfolding back cleared
   back-holds =
       let ch = back-data in
       let here = hq in
@@ -105,11 +109,11 @@ module _ {n : ℕ} {b : List ℕ} {c : ℕ} {sh : Shape} (s : Setting n b c sh) 
       record {
         run = whole-kept (data-owns q ch) n sh c q ∙ h .run;
         listing = ch .kept (page listed q) refl refl ∙ h .listing;
-        height = simp (get-put-same n, length-put, hb₂) (rw (h .height, length-append) (omega arith));
-        slots = slots-under b₂ _ q (is ++ xs) (λ j w o. simp get-put-other) (push-slots s₁ q hq xs is t₀ (sym (h .height)) room back-fit low);
-        ready = simp get-put-other (push-kept cleared q t₀ is room (page carved q) refl refl
-            ∙ cleared-changes (λ g. eqb (region g) 5) (λ i. refl) .kept (page carved q) refl refl ∙ h .ready);
-        clean = simp (get-put-other, get-put-same n, hb₂);
+        height = rw back-is (simp (get-put-same n, length-put, hb₂) (rw (h .height, length-append) (omega arith)));
+        slots = slots-under b₂ _ q (is ++ xs) (λ j w o. rw back-is (simp get-put-other)) (push-slots s₁ q hq xs is t₀ (sym (h .height)) room back-fit low);
+        ready = rw back-is (simp get-put-other (push-kept cleared q t₀ is room (page carved q) refl refl
+            ∙ cleared-changes (λ g. eqb (region g) 5) (λ i. refl) .kept (page carved q) refl refl ∙ h .ready));
+        clean = rw back-is (simp (get-put-other, get-put-same n, hb₂));
         within = h .within;
         outs = back-outs;
       }
@@ -135,7 +139,7 @@ module _ {n : ℕ} {b : List ℕ} {c : ℕ} {sh : Shape} (s : Setting n b c sh) 
           let i = t .0 in
           let e₁ : count w (map (wordOf sh (p .first)) (r .stack)) ≡ count (t .0) (r .stack)
           = ap (λ z. count z (map (wordOf sh (p .first)) (r .stack))) (t .1) ∙ count-words (s .shape) (p .first) (t .0) (r .stack) in
-          flag-cases (t .0) (p .carved)
+          digit-cases (t .0) (p .carved)
           (λ v f. let y = elem-count w (wordsFrom sh (p .first) 0 (p .carved))
           (ap (λ z. elem z (wordsFrom sh (p .first) 0 (p .carved))) (t .1) ∙ words-elem (s .shape) (p .first) (p .carved) (t .0) v) in omega (arith, r .holds .outs (t .0)))
           (λ v f. absurd (omega (arith, r .holds .outs (t .0)))))
@@ -151,7 +155,7 @@ module _ {n : ℕ} {b : List ℕ} {c : ℕ} {sh : Shape} (s : Setting n b c sh) 
   unfolding noneOut isOut
   none-idle e i =
       by-cases (leb 1 (marked b sh (p .first) i))
-      (λ u. flag-cases i (p .carved)
+      (λ u. digit-cases i (p .carved)
       (λ v f. let t : Sits b sh (p .first) (wordOf sh (p .first) i) = record {
         index = i;
         inside = omega (arith, r .holds .within);
@@ -160,9 +164,9 @@ module _ {n : ℕ} {b : List ℕ} {c : ℕ} {sh : Shape} (s : Setting n b c sh) 
       } in
       let w = wordOf sh (p .first) i in
       let o = sits-out s hn r w t in
-      let x = elem-count w (carvedWords sh p) (and-l (elem w (carvedWords sh p)) (not (elem w (p .free))) o) in
+      let x = elem-count w (carvedWords sh p) (and-left (elem w (carvedWords sh p)) (not (elem w (p .free))) o) in
       absurd (true≢false (sym (every-count (λ z. elem z (p .free)) w (carvedWords sh p) e x)
-      ∙ not-true (elem w (p .free)) (and-r (elem w (carvedWords sh p)) (not (elem w (p .free))) o))))
+      ∙ not-true (elem w (p .free)) (and-right (elem w (carvedWords sh p)) (not (elem w (p .free))) o))))
       (λ v f. absurd (omega (arith, r .holds .outs i, leb-true 1 (marked b sh (p .first) i) u))))
       (λ u. omega (arith, leb-false 1 (marked b sh (p .first) i) u))
 
@@ -171,10 +175,10 @@ module _ {n : ℕ} {b : List ℕ} {c : ℕ} {sh : Shape} (s : Setting n b c sh) 
     spelled : (ws : List ℕ) → every (λ w. isOut sh w p) ws ≡ true → ws ≡ map (wordOf sh (p .first)) (map (indexOf sh (p .first)) ws)
     spelled [] e = refl
     spelled (w ∷ ws) e =
-        let t = out-sits s hn r w (and-l (isOut sh w p) (every (λ w. isOut sh w p) ws) e) in
+        let t = out-sits s hn r w (and-left (isOut sh w p) (every (λ w. isOut sh w p) ws) e) in
         let i : indexOf sh (p .first) w ≡ t .index = ap (indexOf sh (p .first)) (t .names) ∙ index-is (s .shape) (p .first) (t .index) (t .inside) (page-low s hn r) in
         let h : w ≡ wordOf sh (p .first) (indexOf sh (p .first) w) = t .names ∙ ap (wordOf sh (p .first)) (sym i) in
-        cons h (spelled ws (and-r (isOut sh w p) (every (λ w. isOut sh w p) ws) e))
+        cons h (spelled ws (and-right (isOut sh w p) (every (λ w. isOut sh w p) ws) e))
       where
         cons : {x y : ℕ} {xs ys : List ℕ} → x ≡ y → xs ≡ ys → x ∷ xs ≡ y ∷ ys
         cons e f = cc
@@ -251,6 +255,6 @@ module _ {n : ℕ} {b : List ℕ} {c : ℕ} {sh : Shape} (s : Setting n b c sh) 
             ready = simp (get-put-other, get-put-same n);
             clean = simp get-put-other (h .clean);
             within = omega arith;
-            outs = λ i. omega (arith, emptied-idle i, flag-false i 0 (omega arith));
+            outs = λ i. omega (arith, emptied-idle i, digit-false i 0 (omega arith));
           };
         }

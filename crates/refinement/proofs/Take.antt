@@ -1,4 +1,4 @@
--- A take from the class's own pages: on a represented book 13 never answers, and answer and book are the model's. Assumes nothing.
+-- A take from the class's own pages: on a represented book 13 never answers, and answer and book are the model's.
 use Prim.Native.Nat.{ℕ, suc}
 use native.Mathlib.Omega.{arith}
 use mathlib.Core.Bool.{false}

@@ -1,5 +1,5 @@
 -- A take, whole: on a book that stands for a reached heap it has the model's answer, is never refused by number 13, and leaves a book
--- that stands for the model's next heap. Assumes nothing.
+-- that stands for the model's next heap.
 --     take-new       a take that asks the arena, with a run or none
 --     take-whole     every take, refused or not, from any source
 --     take-after     the same after any history
@@ -12,22 +12,23 @@ use mathlib.Core.Path.{_≡_, refl, sym, subst}
 use lib.Dec.{eqb, ltb}
 use lib.ListN.{length}
 use borrow.Author.Tests.{lt-ltb}
+use Rattle.facts.specs.Lists.{isNil, update}
+use Rattle.facts.proofs.Bools.{by-cases}
+use Rattle.model.specs.Cover.{covers}
 use Rattle.classes.specs.declared.Shape.{Shape}
 use Rattle.classes.specs.Shape.{shapeOf}
 use Rattle.classes.proofs.Shapes.{shape-sound}
-use Rattle.model.specs.Lists.{isNil, covers, update}
 use Rattle.model.specs.Calls as Calls
-use Rattle.model.specs.Calls.{Call, refused}
+use Rattle.model.specs.Calls.{Call}
 use Rattle.model.specs.Page as Page
 use Rattle.model.specs.Page.{Page, isMedium, wordsFrom, carve, carveAs}
 use Rattle.model.specs.Arena.{commit, Given}
 use Rattle.model.specs.Class as Model
 use Rattle.model.specs.Class.{lists, Result, Ask, done, asks, refuse, fillFromList, served}
-use Rattle.model.specs.Chunks.{answer, hostMax}
+use Rattle.model.specs.Chunks.{answer}
 use Rattle.model.specs.Heap.{Heap, class, passTo, offer, finish, interact, classCall, Outcome}
 use Rattle.model.specs.History.{heapAfter}
 use Rattle.model.specs.Yields.{Listed}
-use Rattle.model.proofs.Counts.{by-cases}
 use Rattle.model.proofs.Yields.{yielding}
 use Rattle.fields.proofs.Changes.{changes-none}
 use Rattle.pages.specs.declared.Park.the-variants.{Empty}
@@ -149,13 +150,11 @@ module _ (n : ℕ) (b : List ℕ) (H : Heap) (R : Represents n b H) (ok : Reache
       → Agrees (Represents n) (takeReply (takeCall n b c (shapeOf c) h l)) (classCall n H c (Calls.take h l))
   unfolding takeCall classCall answer
   take-whole y h l =
-      by-cases (ltb hostMax h)
-      (λ e. rw e (turned h l 3 refl (λ z. omega arith)))
-      (λ e. by-cases (ltb (length l) (shapeOf c .batch))
-      (λ u. rw (e, u) (turned h l 5 refl (λ z. omega arith)))
-      (λ u. rw (e, u) (own-agrees h l _ _
+      by-cases (ltb (length l) (shapeOf c .batch))
+      (λ u. rw u (turned h l 5 refl (λ z. omega arith)))
+      (λ u. rw u (own-agrees h l _ _
       (take-own (setting-of n b H R c hc) l h (H .classes c .partial) (H .classes c .empty) (H .classes c .cold) (H .classes c .full)
-      (frontier-in n b H R ok) (y .partial) (R .classes c hc)))))
+      (frontier-in n b H R ok) (y .partial) (R .classes c hc))))
 
 -- after every history on an arena of n pages
 pub take-after : (n : ℕ) (xs : List Call) (b : List ℕ) → Represents n b (heapAfter n xs) → (c : ℕ) → ltb c 76 ≡ true → (h : ℕ) (l : List ℕ)

@@ -1,4 +1,4 @@
--- Every call and every history on the words is the model's. n is at most the longest arena. Assumes nothing.
+-- Every call and every history on the words is the model's. n is at most the longest arena.
 --     call-whole         any call on a book that stands for a heap after a history
 --     run-answers        a history's answers are the model's, from an opening on any book that is long enough
 --     run-represents     the book after it stands for the model's heap
@@ -10,34 +10,32 @@ use mathlib.Core.List.{List, [], _∷_, _++_, map}
 use mathlib.Core.Path.{_≡_, refl, sym, subst}
 use lib.Dec.{ltb, leb}
 use lib.ListN.{length}
-use borrow.Author.Tests.{ltb-true, lt-ltb}
+use Rattle.facts.specs.Lists.{All}
+use Rattle.facts.proofs.Bools.{by-cases}
+use Rattle.words.specs.Host.{badHost}
 use Rattle.fields.specs.Field.{words}
 use Rattle.fields.specs.Ranges.{maxPages}
-use Rattle.model.specs.Lists.{All}
 use Rattle.model.specs.Calls as Calls
-use Rattle.model.specs.Calls.{Call}
-use Rattle.model.specs.Heap.{Heap, directCall, step, newHeap}
+use Rattle.model.specs.Calls.{Call, names, hostIn, wayTo, wayOf}
+use Rattle.model.specs.Heap.{Heap, directCall, route, step, newHeap}
 use Rattle.model.specs.History.{Event, eventsFrom, heapFrom, heapAfter, answers}
 use Rattle.arena.specs.Open.{opened}
 use Rattle.refinement.specs.Represents.{Represents}
 use Rattle.refinement.specs.Direct.{Reply, Agrees, directReply}
-use Rattle.refinement.specs.Run.{callReply, repliesFrom, bookFrom, answersIn, run, bookAfter}
-use Rattle.model.proofs.Counts.{by-cases}
+use Rattle.refinement.specs.Run.{replyAs, callReply, repliesFrom, bookFrom, answersIn}
 use Rattle.refinement.proofs.ArenaReached.{reached-after, heap-next}
 use Rattle.refinement.proofs.DirectCalls.{direct-represents}
 use Rattle.refinement.proofs.OpenRep.{opened-represents}
 use Rattle.refinement.proofs.TakeWhole.{take-after}
 use Rattle.refinement.proofs.ReleaseWhole.{release-after}
-use Rattle.refinement.proofs.ChunkWhole.{small-class, chunks-after}
-
-medium-class : (c : ℕ) → ltb c 12 ≡ true → ltb (64 + c) 76 ≡ true
-medium-class c e = lt-ltb (64 + c) 76 (omega (arith, ltb-true c 12 e))
+use Rattle.refinement.proofs.ChunkWhole.{chunks-after}
+use Rattle.refinement.proofs.ArenaHolders.{small-class, medium-class}
 
 -- the calls ys on a book that stands for the heap H
 record RunRep (n : ℕ) (H : Heap) (b : List ℕ) (ys : List Call) : Type 0 where
-  answers : answersIn (repliesFrom n b ys) ≡ map (λ (e : Event). e .answer) (eventsFrom n H ys)
-  fair : All (λ (r : Reply). r .code ≡ 13 → ⊥) (repliesFrom n b ys)
-  heap : Represents n (bookFrom n b ys) (heapFrom n H ys)
+  answers : answersIn (repliesFrom (callReply n) b ys) ≡ map (λ (e : Event). e .answer) (eventsFrom n H ys)
+  fair : All (λ (r : Reply). r .code ≡ 13 → ⊥) (repliesFrom (callReply n) b ys)
+  heap : Represents n (bookFrom (callReply n) b ys) (heapFrom n H ys)
 
 module _ (n : ℕ) (hn : n ≤ maxPages) where
   -- ---- one call, after the history xs
@@ -45,23 +43,26 @@ module _ (n : ℕ) (hn : n ≤ maxPages) where
     directly : (x : Call) → Agrees (Represents n) (directReply n b x) (directCall n (heapAfter n xs) x)
     directly x = direct-represents n b (heapAfter n xs) R (reached-after n xs) x
 
-    pub call-whole : (x : Call) → Agrees (Represents n) (callReply n b x) (step n (heapAfter n xs) x)
-    unfolding callReply step
-    call-whole (Calls.takeBlocks c h l) =
+    past-three : (x : Call) → Agrees (Represents n) (replyAs n b x (wayTo (names x))) (route n (heapAfter n xs) x (wayTo (names x)))
+    past-three (Calls.takeBlocks c h l) =
         by-cases (ltb c 64) (λ e. rw e (take-after n xs b R c (small-class c e) h l)) (λ e. rw e (directly (Calls.takeBlocks c h l)))
-    call-whole (Calls.mediumTakeBlocks c h l) =
+    past-three (Calls.mediumTakeBlocks c h l) =
         by-cases (ltb c 12) (λ e. rw e (take-after n xs b R (64 + c) (medium-class c e) h l)) (λ e. rw e (directly (Calls.mediumTakeBlocks c h l)))
-    call-whole (Calls.releaseBlocks c h ws) =
+    past-three (Calls.releaseBlocks c h ws) =
         by-cases (ltb c 64) (λ e. rw e (release-after n hn xs b R c (small-class c e) h ws)) (λ e. rw e (directly (Calls.releaseBlocks c h ws)))
-    call-whole (Calls.mediumReleaseBlocks c h ws) =
+    past-three (Calls.mediumReleaseBlocks c h ws) =
         by-cases (ltb c 12) (λ e. rw e (release-after n hn xs b R (64 + c) (medium-class c e) h ws)) (λ e. rw e (directly (Calls.mediumReleaseBlocks c h ws)))
-    call-whole (Calls.releaseBinChunks c h ws gs fs) =
+    past-three (Calls.releaseBinChunks c h ws gs fs) =
         by-cases (ltb c 64) (λ e. rw e (chunks-after n hn xs b R c e h ws gs fs)) (λ e. rw e (directly (Calls.releaseBinChunks c h ws gs fs)))
-    call-whole (Calls.commit h m) = directly (Calls.commit h m)
-    call-whole (Calls.growFrontier h q old new) = directly (Calls.growFrontier h q old new)
-    call-whole (Calls.release h q m) = directly (Calls.release h q m)
-    call-whole (Calls.contains o k) = directly (Calls.contains o k)
-    call-whole Calls.report = directly Calls.report
+    past-three (Calls.commit h m) = directly (Calls.commit h m)
+    past-three (Calls.growFrontier h q old new) = directly (Calls.growFrontier h q old new)
+    past-three (Calls.release h q m) = directly (Calls.release h q m)
+    past-three (Calls.contains o k) = directly (Calls.contains o k)
+    past-three Calls.report = directly Calls.report
+
+    pub call-whole : (x : Call) → Agrees (Represents n) (callReply n b x) (step n (heapAfter n xs) x)
+    unfolding callReply step wayOf
+    call-whole x = by-cases (badHost (hostIn x)) (λ e. rw e (record { answer = refl; fair = λ z. omega arith; heap = R })) (λ e. rw e (past-three x))
 
   -- ---- the calls ys after the history xs
   runs : (ys xs : List Call) (b : List ℕ) → Represents n b (heapAfter n xs) → RunRep n (heapAfter n xs) b ys
@@ -81,11 +82,11 @@ module _ (n : ℕ) (hn : n ≤ maxPages) where
     whole : RunRep n newHeap (opened n b) xs
     whole = runs xs [] (opened n b) (opened-represents n b long)
 
-    pub run-answers : run n b xs ≡ answers n xs
+    pub run-answers : answersIn (repliesFrom (callReply n) (opened n b) xs) ≡ answers n xs
     run-answers = whole .answers
 
-    pub run-represents : Represents n (bookAfter n b xs) (heapAfter n xs)
+    pub run-represents : Represents n (bookFrom (callReply n) (opened n b) xs) (heapAfter n xs)
     run-represents = whole .heap
 
-    pub run-fair : All (λ (r : Reply). r .code ≡ 13 → ⊥) (repliesFrom n (opened n b) xs)
+    pub run-fair : All (λ (r : Reply). r .code ≡ 13 → ⊥) (repliesFrom (callReply n) (opened n b) xs)
     run-fair = whole .fair

@@ -1,4 +1,4 @@
--- A class's lists of pages, linked through the words. A page is stored as its code, page + 1, and 0 is none. Assumes nothing.
+-- A class's lists of pages, linked through the words. A page is stored as its code, page + 1, and 0 is none.
 --     Segment b y h xs e   the pages xs are linked from a place whose first page has code h and whose page before has code y, and the
 --                          last is followed by code e
 --     Chain                the partial list, doubly linked
@@ -10,7 +10,7 @@ use mathlib.Core.Path.{_≡_}
 use lib.ListN.{length}
 use Rattle.fields.specs.Field.{class, page, partial, next, prev, get}
 use Rattle.pages.specs.declared.Park.{Park}
-use Rattle.pages.specs.Links.{top, tally}
+use Rattle.pages.specs.Links.{top, stored}
 
 abbrev pub In : ℕ → List ℕ → Type 0
 In x [] = ⊥
@@ -35,5 +35,5 @@ Line b h (x ∷ xs) = (h ≡ suc x) × Line b (get b (page next x)) xs
 
 pub record Stack (b : List ℕ) (c : ℕ) (k : Park) (xs : List ℕ) : Type 0 where
   pub line : Line b (get b (class (top k) c)) xs
-  pub number : get b (class (tally k) c) ≡ length xs
+  pub number : get b (class (stored k) c) ≡ length xs
   pub few : length xs ≤ 256

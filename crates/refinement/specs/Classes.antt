@@ -1,4 +1,4 @@
--- A class's take on the words as a call of the model. Assumes nothing.
+-- A class's take on the words as a call of the model.
 use Rattle.model.specs.Calls.{taken}
 use Rattle.calls.specs.Take.{Took}
 use Rattle.refinement.specs.Direct.{Reply, reply}

@@ -1,16 +1,14 @@
 -- The calls that reach no class, on the words as calls of the model: what is answered, and the book that is left. n is the arena's
--- length. Assumes nothing.
---     directReply    the reply to a call that names no class; where it names one that is not ours it is number 3 or 4
+-- length.
+--     directReply    the reply to a call that names no class; where it names one that is not ours it is number 4
 --     Agrees         a reply is the model's: the same answer, never number 13, and a book that stands for the model's heap
 use Prim.Native.Nat.{ℕ}
 use mathlib.Core.Bool.{cond}
 use mathlib.Core.List.{List}
 use mathlib.Core.Path.{_≡_}
-use lib.Dec.{eqb, ltb}
-use lib.ListN.{getD}
+use lib.Dec.{eqb}
 use Rattle.model.specs.Calls as Calls
 use Rattle.model.specs.Calls.{Call, Answer, refused, released, contained, reported}
-use Rattle.model.specs.Chunks.{hostMax}
 use Rattle.model.specs.Heap.{Heap, Outcome, answerRun}
 use Rattle.arena.specs.Calls.{Committed, commitCall, Done, growCall, releaseCall, containsCall, figures, reportCode}
 
@@ -32,23 +30,21 @@ growReply w = reply (w .code) (Calls.grown (w .yes)) (w .book)
 abbrev pub releaseReply : Done → Reply
 releaseReply w = reply (w .code) released (w .book)
 
-abbrev pub reportedOf : List ℕ → Answer
-reportedOf fs = reported (getD fs 0 0) (getD fs 1 0) (getD fs 2 0) (getD fs 3 0) (getD fs 4 0)
-
-abbrev pub noClassReply : List ℕ → ℕ → Reply
-noClassReply b h = reply (cond (ltb hostMax h) 3 4) released b
+-- a number that refuses a call before it is looked at
+abbrev pub turnedReply : List ℕ → ℕ → Reply
+turnedReply b k = record { code = k; answer = refused k; book = b }
 
 unfoldable pub directReply : ℕ → List ℕ → Call → Reply
-directReply n b (Calls.takeBlocks c h l) = noClassReply b h
-directReply n b (Calls.mediumTakeBlocks c h l) = noClassReply b h
-directReply n b (Calls.releaseBlocks c h ws) = noClassReply b h
-directReply n b (Calls.mediumReleaseBlocks c h ws) = noClassReply b h
-directReply n b (Calls.releaseBinChunks c h ws gs fs) = noClassReply b h
+directReply n b (Calls.takeBlocks c h l) = turnedReply b 4
+directReply n b (Calls.mediumTakeBlocks c h l) = turnedReply b 4
+directReply n b (Calls.releaseBlocks c h ws) = turnedReply b 4
+directReply n b (Calls.mediumReleaseBlocks c h ws) = turnedReply b 4
+directReply n b (Calls.releaseBinChunks c h ws gs fs) = turnedReply b 4
 directReply n b (Calls.commit h m) = commitReply (commitCall n b h m)
 directReply n b (Calls.growFrontier h q old new) = growReply (growCall n b h q old new)
-directReply n b (Calls.release h q m) = releaseReply (releaseCall n b h q m)
+directReply n b (Calls.release h q m) = releaseReply (releaseCall n b q m)
 directReply n b (Calls.contains o k) = reply 0 (contained (containsCall n b o k)) b
-directReply n b Calls.report = reply (reportCode n b) (reportedOf (figures n b)) b
+directReply n b Calls.report = reply (reportCode n b) (reported (figures n b)) b
 
 -- Stands b H: the book b stands for the heap H, wholly (Represents n) or in the arena's part (ArenaRep n)
 pub record Agrees (Stands : List ℕ → Heap → Type 0) (w : Reply) (o : Outcome) : Type 0 where

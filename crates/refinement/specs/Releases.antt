@@ -1,4 +1,4 @@
--- A class's releases on the words as calls of the model. Assumes nothing.
+-- A class's releases on the words as calls of the model.
 use Rattle.model.specs.Calls.{fate, fates}
 use Rattle.calls.specs.Release.{Released}
 use Rattle.calls.specs.Chunks.{ChunksReleased}

@@ -1,23 +1,24 @@
--- The words stand for the model's heap. Assumes nothing.
+-- The words stand for the model's heap.
 --     Holds        the words of one run
 --     PageRep      they stand for a page of the model
 --     ClassRep     the words of one class
 --     Represents   the whole book
 use Prim.Native.Nat.{ℕ, _+_, _≤_, _<_}
-use mathlib.Core.Bool.{Bool, true, false}
+use mathlib.Core.Bool.{Bool, true}
 use mathlib.Core.List.{List, [], _∷_, map}
 use mathlib.Core.Path.{_≡_}
 use lib.Dec.{ltb}
 use lib.ListN.{length}
+use Rattle.facts.specs.Lists.{All, count}
 use Rattle.classes.specs.declared.Shape.{Shape}
 use Rattle.classes.specs.Shape.{shapeOf}
 use Rattle.fields.specs.Field.{page, slot, free, carved, listed, virgin, get}
-use Rattle.model.specs.Lists.{All, count}
 use Rattle.model.specs.Page.{Page, wordOf, reused}
 use Rattle.model.specs.Class.{Class, thawed}
 use Rattle.model.specs.Heap.{Heap}
 use Rattle.arena.specs.Represents.{ArenaRep}
-use Rattle.pages.specs.Runs.{flag, whole}
+use Rattle.words.specs.Host.{digit}
+use Rattle.pages.specs.Runs.{whole}
 use Rattle.pages.specs.Stack.{marked}
 use Rattle.pages.specs.declared.Park.{Park}
 use Rattle.pages.specs.declared.Park.the-variants.{Empty}
@@ -37,9 +38,9 @@ pub record Holds (n : ℕ) (sh : Shape) (b : List ℕ) (c l q : ℕ) (xs : List 
   pub height : get b (page free q) ≡ length xs
   pub slots : Slots b q xs
   pub ready : get b (page carved q) ≡ k
-  pub clean : get b (page virgin q) ≡ flag v
+  pub clean : get b (page virgin q) ≡ digit v
   pub within : k ≤ sh .capacity
-  pub outs : (i : ℕ) → marked b sh q i + count i xs ≡ flag (ltb i k)
+  pub outs : (i : ℕ) → marked b sh q i + count i xs ≡ digit (ltb i k)
 
 pub record PageRep (n : ℕ) (sh : Shape) (b : List ℕ) (c l : ℕ) (p : Page) : Type 0 where
   pub stack : List ℕ
@@ -68,7 +69,7 @@ pub record ClassRep (n : ℕ) (b : List ℕ) (c : ℕ) (sh : Shape) (k : Park) (
   pub parked : All (Parked n sh b c) xs
   pub parkeds : All (Parked n sh b c) ys
   pub fulls : All (PageRep n sh b c 0) fs
-  pub runs : (q : ℕ) → heads q ps + heads q xs + heads q ys + heads q fs ≡ flag (whole n b sh c q)
+  pub runs : (q : ℕ) → heads q ps + heads q xs + heads q ys + heads q fs ≡ digit (whole n b sh c q)
 
 -- the words keep a retired page and a cold one as they come back
 abbrev pub StateRep : ℕ → List ℕ → ℕ → Shape → Class → Type 0

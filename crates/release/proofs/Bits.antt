@@ -1,36 +1,31 @@
--- What a change of out bits alone keeps, and what a struck block's bit tells of another word. Assumes nothing.
+-- What a change of out bits alone keeps, and what a struck block's bit tells of another word.
 --     start-kept, in-run-kept, out-in-kept, out-at-kept    the tests of number 10, on a book whose out bits may differ
 use Prim.Native.Nat.{ℕ, _+_, _-_, _*_, _≤_, _<_}
 use native.Mathlib.Omega.{arith}
-use mathlib.Core.Bool.{Bool, true, _&&_, and-assoc}
-use mathlib.Core.List.{List, [], _∷_}
-use mathlib.Core.Path.{_≡_, refl, sym, ap, _∙_}
+use mathlib.Core.Bool.{true, _&&_}
+use mathlib.Core.List.{List}
+use mathlib.Core.Path.{_≡_, refl, ap}
 use lib.Dec.{eqb, leb}
 use borrow.Author.Tests.{leb-true, ltb-true, eqb-true, lt-ltb}
+use Rattle.facts.specs.Lists.{below}
+use Rattle.facts.proofs.Bools.{and-left, and-right}
+use Rattle.facts.proofs.Lists.{every-same}
 use Rattle.words.specs.Word.{kindOf, granuleOf}
 use Rattle.classes.specs.declared.Shape.{Shape}
-use Rattle.fields.specs.Field.{Field, arena, page, out, frontier, owner, first, region, get, put}
-use Rattle.fields.proofs.Laws.{and-left, and-right}
+use Rattle.fields.specs.Field.{arena, page, out, frontier, owner, first, get, put}
 use Rattle.fields.proofs.Changes.{Changes, changes-none, changes-put}
-use Rattle.model.specs.Lists.{every, below}
 use Rattle.pages.specs.Runs.{ofRun, whole}
-use Rattle.pages.specs.Stack.{blocksFrom, indexOf}
-use Rattle.calls.specs.Release.{pageAt, startOf, outIn, inRunOf}
-use Rattle.release.specs.Strike.{isBlock, bitIn}
+use Rattle.pages.specs.Stack.{blocksFrom, indexOf, pageAt, isBlock}
+use Rattle.pages.proofs.Marks.{isMark}
+use Rattle.calls.specs.Release.{startOf, outIn, inRunOf}
+use Rattle.release.specs.Strike.{bitIn}
 use Rattle.release.specs.Asks.{hasBit}
 
 -- ---- a change of out bits
-abbrev pub isBit : Field → Bool
-isBit f = eqb (region f) 5
+pub put-bit : (b : List ℕ) (q i v : ℕ) → i < 4096 → Changes isMark b (put b (out q i) v)
+put-bit b q i v h = changes-put isMark b b (out q i) v (lt-ltb i 4096 h) refl (changes-none isMark b)
 
-pub put-bit : (b : List ℕ) (q i v : ℕ) → i < 4096 → Changes isBit b (put b (out q i) v)
-put-bit b q i v h = changes-put isBit b b (out q i) v (lt-ltb i 4096 h) refl (changes-none isBit b)
-
-pub every-same : {A : Type 0} (t u : A → Bool) (xs : List A) → ((x : A) → t x ≡ u x) → every t xs ≡ every u xs
-every-same t u [] e = refl
-every-same t u (x ∷ xs) e = rw (e x, every-same t u xs e)
-
-module _ (b b′ : List ℕ) (h : Changes isBit b b′) where
+module _ (b b′ : List ℕ) (h : Changes isMark b b′) where
   pub start-kept : (w : ℕ) → startOf b′ w ≡ startOf b w
   unfolding startOf
   start-kept w = h .kept (page first (pageAt w)) refl refl
@@ -52,8 +47,8 @@ module _ (b b′ : List ℕ) (h : Changes isBit b b′) where
 
 -- ---- a word's block, and its bit
 pub out-in : (b : List ℕ) (sh : Shape) (q w : ℕ) → outIn b sh q w ≡ (isBlock sh q w && eqb (get b (bitIn sh q w)) 1)
-unfolding outIn isBlock
-out-in b sh q w = sym (and-assoc (leb (blocksFrom sh q) (granuleOf w)) _ _ ∙ ap (λ t. leb (blocksFrom sh q) (granuleOf w) && t) (and-assoc (eqb (indexOf sh q w * sh .block) (granuleOf w - blocksFrom sh q)) _ _))
+unfolding outIn
+out-in b sh q w = refl
 
 module _ (sh : Shape) (q w : ℕ) (e : isBlock sh q w ≡ true) where
   pub from-block : blocksFrom sh q ≤ granuleOf w

@@ -3,10 +3,8 @@
 --     run-count, run-struck    striking goes on behind the words that the run has
 --     one-run, all-in-run      number 11: all words are in the run exactly if striking in it strikes all
 --     run-marks       all struck: the out bits of the listed blocks are 0
--- Assumes nothing.
-use Prim.Native.Nat.{ℕ, zero, suc, _+_, _-_, _*_, _≤_, _<_}
+use Prim.Native.Nat.{ℕ, suc, _+_, _-_, _*_, _≤_, _<_}
 use native.Mathlib.Omega.{arith}
-use native.Mathlib.Decide.{ℕ-discrete}
 use native.Mathlib.Nat.{mul-le-mul-right, suc-mul}
 use mathlib.Core.Bool.{Bool, true, false, and-false}
 use mathlib.Core.List.{List, [], _∷_, map}
@@ -14,25 +12,20 @@ use mathlib.Core.Path.{_≡_, refl, sym, ap, _∙_}
 use lib.Dec.{eqb, ltb, leb}
 use lib.ListN.{length, drop}
 use borrow.Author.Tests.{leb-true, ltb-true, eqb-true, lt-ltb, eq-eqb, le-leb}
+use Rattle.facts.specs.Lists.{every}
+use Rattle.facts.proofs.Bools.{and-left, and-right}
+use Rattle.facts.proofs.Lists.{every-same, every-at}
 use Rattle.classes.specs.declared.Shape.{Shape}
 use Rattle.classes.specs.Sound.{Sound}
 use Rattle.fields.specs.Field.{arena, page, out, frontier, owner, first, get, put, same}
-use Rattle.fields.proofs.Laws.{and-left, and-right, put-comm}
+use Rattle.fields.proofs.Laws.{put-comm}
 use Rattle.fields.proofs.Changes.{Changes, same-eq}
-use Rattle.model.specs.Lists.{every, below}
 use Rattle.pages.specs.Runs.{ofRun, whole}
-use Rattle.pages.specs.Stack.{marks, indexOf}
-use Rattle.calls.specs.Release.{pageAt, startOf, outIn, inRunOf, outAt}
-use Rattle.release.specs.Strike.{isBlock, bitIn, countIn, struckIn, struckCount, struck}
-use Rattle.release.proofs.Bits.{isBit, put-bit, every-same, start-kept, whole-kept, out-in, from-block, at-block, below-capacity}
-
-every-below : (t : ℕ → Bool) (m k : ℕ) → every t (below m) ≡ true → k < m → t k ≡ true
-every-below t zero k e h = absurd (omega arith)
-every-below t (suc m) k e h =
-    elim (ℕ-discrete k m) [
-      | yes z ↦ rw z (and-left (t m) _ e)
-      | no z ↦ every-below t m k (and-right (t m) _ e) (omega arith)
-    ]
+use Rattle.pages.specs.Stack.{marks, indexOf, pageAt, isBlock}
+use Rattle.calls.specs.Release.{startOf, outIn, inRunOf, outAt}
+use Rattle.release.specs.Strike.{bitIn, countIn, struckIn, struckCount, struck}
+use Rattle.pages.proofs.Marks.{isMark}
+use Rattle.release.proofs.Bits.{put-bit, start-kept, whole-kept, out-in, from-block, at-block, below-capacity}
 
 -- two bits of one run set to one value, in either order
 bits-comm : (b : List ℕ) (q i j v : ℕ) → i < 4096 → j < 4096 → put (put b (out q i) v) (out q j) v ≡ put (put b (out q j) v) (out q i) v
@@ -65,7 +58,7 @@ module _ (n c : ℕ) (sh : Shape) (s : Sound sh) (q : ℕ) where
     names-first : (k : ℕ) → k < sh .pages → get b (page first (q + k)) ≡ q
     unfolding whole
     names-first k l =
-        let z = every-below (ofRun b c q) (sh .pages) k (and-right (leb (q + sh .pages) (get b (arena frontier))) _ (and-right (leb (q + sh .pages) n) _ h)) l in
+        let z = every-at (ofRun b c q) (sh .pages) k (and-right (leb (q + sh .pages) (get b (arena frontier))) _ (and-right (leb (q + sh .pages) n) _ h)) l in
         eqb-true (get b (page first (q + k))) q (and-right (eqb (get b (page owner (q + k))) (suc c)) _ z)
 
     block-start : (w : ℕ) → isBlock sh q w ≡ true → startOf b w ≡ q
@@ -97,7 +90,7 @@ module _ (n c : ℕ) (sh : Shape) (s : Sound sh) (q : ℕ) where
     unfolding outAt
     run-out w o = rw (run-start w o, block-in-run w (is-block w o), o)
 
-    pub run-changes : (w : ℕ) → outIn b sh q w ≡ true → Changes isBit b (put b (bitIn sh q w) 0)
+    pub run-changes : (w : ℕ) → outIn b sh q w ≡ true → Changes isMark b (put b (bitIn sh q w) 0)
     run-changes w o = put-bit b q (indexOf sh q w) 0 (omega (arith, below-capacity sh q w (is-block w o), s .few))
 
     whole-after : (w : ℕ) → outIn b sh q w ≡ true → whole n (put b (bitIn sh q w) 0) sh c q ≡ true
@@ -134,7 +127,7 @@ module _ (n c : ℕ) (sh : Shape) (s : Sound sh) (q : ℕ) where
   unfolding outAt
   out-elsewhere b w e o = rw (e, o) (and-false (inRunOf n b sh c w))
 
-  starts-after : (b b′ : List ℕ) (ws : List ℕ) → Changes isBit b b′ → starts b′ ws ≡ starts b ws
+  starts-after : (b b′ : List ℕ) (ws : List ℕ) → Changes isMark b b′ → starts b′ ws ≡ starts b ws
   starts-after b b′ ws k = every-same _ _ ws (λ v. rw (start-kept b b′ k v))
 
   pub one-run : (b : List ℕ) (ws : List ℕ) → whole n b sh c q ≡ true → starts b ws ≡ true → struckCount n b c sh ws ≡ countIn b sh q ws

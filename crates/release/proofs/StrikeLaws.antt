@@ -2,7 +2,6 @@
 --     strikes-all     all are struck: every word is out at entry, and the words are distinct (number 10)
 --     restores        the struck words set again: the book at entry
 --     restorable      their bits are there
--- Assumes nothing.
 use Prim.Native.Nat.{ℕ, suc, _+_, _≤_, _<_}
 use native.Mathlib.Omega.{arith}
 use mathlib.Core.Bool.{Bool, true, false, not, _&&_, _||_, and-false, true≢false}
@@ -11,26 +10,26 @@ use mathlib.Core.Path.{_≡_, refl, sym, ap, _∙_}
 use lib.Dec.{eqb, ltb, leb, eqb·zero-suc, eqb·suc-suc}
 use lib.ListN.{length, take}
 use borrow.Author.Tests.{leb-true, ltb-true, eqb-true, lt-ltb, eq-eqb, ne-eqb, le-leb}
+use Rattle.facts.specs.Lists.{every, elem, distinct}
+use Rattle.facts.proofs.Bools.{and-left, and-right, and-swap}
+use Rattle.facts.proofs.Lists.{every-same}
 use Rattle.words.specs.Word.{kindOf}
 use Rattle.classes.specs.declared.Shape.{Shape}
 use Rattle.classes.specs.Sound.{Sound}
 use Rattle.fields.specs.Field.{arena, out, frontier, get, put, same, words}
 use Rattle.fields.specs.Ranges.{maxPages}
-use Rattle.fields.proofs.Laws.{and-left, and-right, get-put-same, get-put-other, put-put-same, put-get, length-put}
+use Rattle.fields.proofs.Laws.{get-put-same, get-put-other, put-put-same, put-get, length-put}
 use Rattle.fields.proofs.Changes.{Changes, changes-none, changes-trans, same-eq}
-use Rattle.model.specs.Lists.{every, elem, distinct}
 use Rattle.model.specs.Release.{ofKind}
 use Rattle.pages.specs.Runs.{whole}
-use Rattle.pages.specs.Stack.{indexOf}
-use Rattle.calls.specs.Release.{pageAt, startOf, inRunOf, outAt}
-use Rattle.release.specs.Strike.{isBlock, bitOf, struckCount, struck, restored, unstruck}
+use Rattle.pages.specs.Stack.{indexOf, pageAt, isBlock}
+use Rattle.calls.specs.Release.{startOf, inRunOf, outAt}
+use Rattle.release.specs.Strike.{bitOf, struckCount, struck, restored, unstruck}
 use Rattle.release.specs.Asks.{hasBit}
-use Rattle.release.proofs.Bits.{isBit, put-bit, every-same, start-kept, in-run-kept, out-in, below-capacity, one-word, bit-kept}
+use Rattle.pages.proofs.Marks.{isMark}
+use Rattle.release.proofs.Bits.{put-bit, start-kept, in-run-kept, out-in, below-capacity, one-word, bit-kept}
 
 -- ---- tautologies
-and-swap : (a x y : Bool) → (a && (x && y)) ≡ (x && (a && y))
-and-swap true x y = refl
-and-swap false x y = sym (and-false x)
 
 past-each : (a e x y : Bool) → ((not a && x) && (not e && y)) ≡ (not (a || e) && (x && y))
 past-each true e x y = refl
@@ -80,7 +79,7 @@ module _ (n c : ℕ) (sh : Shape) (s : Sound sh) where
     unfolding whole
     start-of-out = omega (arith, s .paged, leb-true (startOf b w + sh .pages) n (and-left _ _ whole-of-out))
 
-    pub strike-changes : Changes isBit b (put b (bitOf b sh w) 0)
+    pub strike-changes : Changes isMark b (put b (bitOf b sh w) 0)
     strike-changes = put-bit b (startOf b w) (indexOf sh (startOf b w) w) 0 index-of-out
 
   -- ---- another word, once that one is struck
@@ -157,15 +156,15 @@ module _ (n c : ℕ) (sh : Shape) (s : Sound sh) where
   restores b [] hb = refl
   restores b (w ∷ ws) hb = restores-from b w ws hb (restores (put b (bitOf b sh w) 0) ws (rw length-put hb)) (outAt n b c sh w) refl
 
-  changes-from : (b : List ℕ) (w : ℕ) (ws : List ℕ) → Changes isBit (put b (bitOf b sh w) 0) (struck n (put b (bitOf b sh w) 0) c sh ws)
-      → (t : Bool) → outAt n b c sh w ≡ t → Changes isBit b (struck n b c sh (w ∷ ws))
+  changes-from : (b : List ℕ) (w : ℕ) (ws : List ℕ) → Changes isMark (put b (bitOf b sh w) 0) (struck n (put b (bitOf b sh w) 0) c sh ws)
+      → (t : Bool) → outAt n b c sh w ≡ t → Changes isMark b (struck n b c sh (w ∷ ws))
   unfolding struck
-  changes-from b w ws z false o = rw o (changes-none isBit b)
-  changes-from b w ws z true o = rw o (changes-trans isBit b (put b (bitOf b sh w) 0) _ (strike-changes b w o) z)
+  changes-from b w ws z false o = rw o (changes-none isMark b)
+  changes-from b w ws z true o = rw o (changes-trans isMark b (put b (bitOf b sh w) 0) _ (strike-changes b w o) z)
 
-  pub struck-changes : (b : List ℕ) (ws : List ℕ) → Changes isBit b (struck n b c sh ws)
+  pub struck-changes : (b : List ℕ) (ws : List ℕ) → Changes isMark b (struck n b c sh ws)
   unfolding struck
-  struck-changes b [] = changes-none isBit b
+  struck-changes b [] = changes-none isMark b
   struck-changes b (w ∷ ws) = changes-from b w ws (struck-changes (put b (bitOf b sh w) 0) ws) (outAt n b c sh w) refl
 
   has-of-out : (b : List ℕ) (w : ℕ) → n ≤ maxPages → leb (words n) (length b) ≡ true → outAt n b c sh w ≡ true → hasBit b sh w ≡ true

@@ -1,34 +1,33 @@
--- The act of a release on a book whose listed blocks are struck, and what a release answers. Assumes nothing.
+-- The act of a release on a book whose listed blocks are struck, and what a release answers.
 --     settleAt     the listed blocks come back to the page: `giveBackAt` once their out bits are 0
 --     Parked       a function answered a fate and left the book, as the outcome says
 --     Answered     a call answered a fate or a refusal's number, and left the book
 use Prim.Native.Nat.{ℕ, zero, suc, _+_, _<_, _≤_}
-use mathlib.Core.Bool.{Bool, true, false, cond, not, _&&_}
+use mathlib.Core.Bool.{Bool, true, false, not, _&&_}
 use mathlib.Core.List.{List}
 use mathlib.Core.Path.{_≡_}
-use lib.Dec.{eqb}
 use lib.ListN.{length}
+use Rattle.facts.specs.Lists.{isNil, every}
 use Rattle.words.specs.Host.{discardZeroed}
 use Rattle.classes.specs.declared.Shape.{Shape}
 use Rattle.classes.specs.Sound.{Sound}
-use Rattle.fields.specs.Field.{arena, class, page, frontier, coldCount, free, carved, words, get}
+use Rattle.fields.specs.Field.{arena, class, page, frontier, coldCount, words, get}
 use Rattle.fields.specs.Ranges.{maxPages, maxParked}
-use Rattle.model.specs.Lists.{every, isNil}
 use Rattle.model.specs.Page.{isMedium}
 use Rattle.model.specs.Release.{ofKind}
+use Rattle.pages.specs.declared.Park.{Park}
+use Rattle.pages.specs.Links.{stored}
 use Rattle.pages.specs.Runs.{whole}
 use Rattle.pages.specs.Stack.{pushed}
 use Rattle.calls.specs.Release as Heap
-use Rattle.calls.specs.Release.{startOf, firstOf, pageFair, rowFair, releaseFair, released, relisted, parkAt}
+use Rattle.calls.specs.Release.{startOf, firstOf, pageFair, rowFair, releaseFair, placed}
 use Rattle.release.specs.declared.Released.{Released}
 use Rattle.release.specs.declared.Released.the-variants.{Refused, Fate}
 use Rattle.release.specs.Asks.{ClassAsks}
-use Rattle.release.specs.Fair.{linksFair}
+use Rattle.pages.specs.Fair.{linksFair}
 
 unfoldable pub settleAt : List ℕ → ℕ → Shape → ℕ → ℕ → List ℕ → Heap.Released
-settleAt b c sh h q is =
-    let d = pushed b q is in
-    cond (eqb (get d (page carved q)) (get d (page free q))) (parkAt d c sh h q) (released (relisted d c q) 0)
+settleAt b c sh h q is = placed false (pushed b q is) c sh h q
 
 abbrev pub coldVirgin : Shape → ℕ → Bool
 coldVirgin sh h = discardZeroed h && not (isMedium sh)
@@ -50,6 +49,14 @@ pub record ColdAsks (b : List ℕ) (c : ℕ) (sh : Shape) (q : ℕ) : Type 0 whe
   pub below : q < maxPages
   pub there : words (q + 1) ≤ length b
   pub few : get b (class coldCount c) ≤ maxParked
+
+-- for either store
+pub record StoreAsks (b : List ℕ) (c : ℕ) (sh : Shape) (q : ℕ) : Type 0 where
+  pub known : c < 76
+  pub sound : Sound sh
+  pub below : q < maxPages
+  pub there : words (q + 1) ≤ length b
+  pub few : (k : Park) → get b (class (stored k) c) ≤ maxParked
 
 pub record BackAsks (b : List ℕ) (c : ℕ) (sh : Shape) (q : ℕ) (ws : List ℕ) : Type 0 where
   pub known : c < 76

@@ -1,17 +1,17 @@
--- What the functions ask of the words, and what those that answer and write ensure. Assumes nothing.
+-- What the functions ask of the words, and what those that answer and write ensure.
 use Prim.Native.Nat.{ℕ, _+_, _<_, _≤_}
 use mathlib.Core.Bool.{Bool, true, cond, _&&_}
 use mathlib.Core.List.{List}
 use mathlib.Core.Path.{_≡_}
 use lib.Dec.{eqb, ltb, leb}
 use lib.ListN.{length, take, drop}
+use Rattle.facts.specs.Lists.{every}
 use Rattle.classes.specs.declared.Shape.{Shape}
 use Rattle.classes.specs.Sound.{Sound}
 use Rattle.fields.specs.Field.{words, put}
 use Rattle.fields.specs.Ranges.{maxPages}
-use Rattle.model.specs.Lists.{every}
-use Rattle.pages.specs.Stack.{indexOf}
-use Rattle.calls.specs.Release.{pageAt, startOf, outIn}
+use Rattle.pages.specs.Stack.{indexOf, pageAt, pageSlots}
+use Rattle.calls.specs.Release.{startOf, outIn}
 use Rattle.release.specs.Strike.{bitIn, countIn, struckIn, struckCount, struck, unstruck}
 
 -- the run at q
@@ -31,7 +31,7 @@ pub record ClassAsks (n : ℕ) (b : List ℕ) (c : ℕ) (sh : Shape) : Type 0 wh
 unfoldable pub hasBit : List ℕ → Shape → ℕ → Bool
 hasBit b sh w =
     leb (words (pageAt w + 1)) (length b)
-    && (ltb (startOf b w) maxPages && (leb (words (startOf b w + 1)) (length b) && ltb (indexOf sh (startOf b w) w) 4096))
+    && (ltb (startOf b w) maxPages && (leb (words (startOf b w + 1)) (length b) && ltb (indexOf sh (startOf b w) w) pageSlots))
 
 pub record RestoreAsks (b : List ℕ) (sh : Shape) (ws : List ℕ) : Type 0 where
   pub sound : Sound sh

@@ -4,25 +4,17 @@
 --     struckIn      striking blocks of the run at q, with `countIn`, how many
 --     struck        striking blocks of any run of the class, with `struckCount`, how many
 --     unstruck      the bits of the listed blocks set again
--- Assumes nothing.
-use Prim.Native.Nat.{ℕ, suc, _-_, _*_}
-use mathlib.Core.Bool.{Bool, true, false, cond, _&&_}
+use Prim.Native.Nat.{ℕ, suc}
+use mathlib.Core.Bool.{Bool, true, false, cond}
 use mathlib.Core.List.{List, [], _∷_}
-use lib.Dec.{eqb, ltb, leb}
-use Rattle.words.specs.Word.{granuleOf}
 use Rattle.classes.specs.declared.Shape.{Shape}
 use Rattle.fields.specs.Field.{Field, out, put}
-use Rattle.pages.specs.Stack.{blocksFrom, indexOf}
+use Rattle.pages.specs.Stack.{indexOf, isBlock}
 use Rattle.calls.specs.Release.{startOf, outIn, inRunOf, outAt}
 use Rattle.release.specs.declared.Found.{Found}
 use Rattle.release.specs.declared.Found.the-variants.{At, Nothing}
 
 -- ---- one word
-unfoldable pub isBlock : Shape → ℕ → ℕ → Bool
-isBlock sh q w =
-    leb (blocksFrom sh q) (granuleOf w)
-    && (eqb (indexOf sh q w * sh .block) (granuleOf w - blocksFrom sh q) && ltb (indexOf sh q w) (sh .capacity))
-
 abbrev pub found : Bool → ℕ → Found
 found true i = At i
 found false i = Nothing

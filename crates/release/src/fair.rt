@@ -4,73 +4,25 @@ ghost use mathlib.Core.Bool.{true};
 ghost use Prim.Native.Nat.{_≤_, _<_};
 ghost use Rattle.classes.specs.Sound.{Sound};
 ghost use Rattle.fields.specs.Ranges.{maxParked};
-ghost use Rattle.pages.specs.Asks.{RowAsks};
-ghost use Rattle.calls.specs.Release.{pageFair, rowFair, keepsEmpty, spotOf, spotAt, spotFair, releaseFair};
-ghost use Rattle.release.specs.Fair.{blocksFair, flagsFair, linksFair, storeFair, PageAsks, SpotAsks, FairAsks, SpotFairAsks};
+ghost use Rattle.pages.specs.Asks.{PageAsks, RowAsks};
+ghost use Rattle.model.specs.Spot.{keepsEmpty, spotOf};
+ghost use Rattle.calls.specs.Release.{pageFair, rowFair, spotAt, spotFair, releaseFair};
+ghost use Rattle.release.specs.Fair.{SpotAsks, FairAsks, SpotFairAsks};
 use classes::Shape;
+use model::Spot;
 use pages::Park;
 
-// So many blocks of the page were out.
-fn blocks_fair(meta: &[u32], shape: Shape, m: usize, q: u32) -> bool
-    requires { ⌜ PageAsks (now meta) q ⌝ }
-    ensures { λ r. ⌜ r ≡ blocksFair (now (meta .entry)) shape m q ⌝ }
-{
-    let carved = fields::page::carved(meta, q);
-    if carved > shape.capacity {
-        return false;
-    }
-    let free = fields::page::free(meta, q);
-    if free > carved {
-        return false;
-    }
-    m <= (carved - free) as usize
-}
-
-fn flags_fair(meta: &[u32], q: u32) -> bool
-    requires { ⌜ PageAsks (now meta) q ⌝ }
-    ensures { λ r. ⌜ r ≡ flagsFair (now (meta .entry)) q ⌝ }
-{
-    if fields::page::listed(meta, q) > 1 {
-        return false;
-    }
-    fields::page::virgin(meta, q) <= 1
-}
-
-// A page's links are read only where it is listed.
-fn links_fair(meta: &[u32], q: u32) -> bool
-    requires { ⌜ PageAsks (now meta) q ⌝ }
-    ensures { λ r. ⌜ r ≡ linksFair (now (meta .entry)) q ⌝ }
-{
-    if fields::page::listed(meta, q) != 1 {
-        return true;
-    }
-    let frontier = fields::arena::frontier(meta);
-    if fields::page::next(meta, q) > frontier {
-        return false;
-    }
-    fields::page::prev(meta, q) <= frontier
-}
-
+// The page to which m blocks come back.
 pub fn page_fair(meta: &[u32], shape: Shape, m: usize, q: u32) -> bool
     requires { ⌜ PageAsks (now meta) q ⌝ }
     ensures { λ r. ⌜ r ≡ pageFair (now (meta .entry)) shape m q ⌝ }
 {
-    if blocks_fair(meta, shape, m, q) {
-        if flags_fair(meta, q) {
-            return links_fair(meta, q);
+    if lists::header_fair(meta, shape, m, q) {
+        if fields::page::listed(meta, q) <= 1 {
+            return lists::links_fair(meta, q);
         }
     }
     false
-}
-
-fn store_fair(meta: &[u32], c: u32, park: Park) -> bool
-    requires { ⌜ RowAsks (now meta) c ⌝ }
-    ensures { λ r. ⌜ r ≡ storeFair (now (meta .entry)) c park ⌝ }
-{
-    if lists::store_top(meta, c, park) > fields::arena::frontier(meta) {
-        return false;
-    }
-    lists::store_count(meta, c, park) <= 256
 }
 
 pub fn row_fair(meta: &[u32], c: u32) -> bool
@@ -80,8 +32,8 @@ pub fn row_fair(meta: &[u32], c: u32) -> bool
     if fields::class::partial(meta, c) > fields::arena::frontier(meta) {
         return false;
     }
-    if store_fair(meta, c, Park::Empty) {
-        return store_fair(meta, c, Park::Cold);
+    if lists::store_fair(meta, c, Park::Empty) {
+        return lists::store_fair(meta, c, Park::Cold);
     }
     false
 }
@@ -98,19 +50,23 @@ fn keeps_empty(shape: Shape, empties: u32) -> bool
     (empties + 1) * shape.pages <= shape.emptypages
 }
 
-// Where a page with none out goes, by the counts of the two stores: 0 empty, 1 cold, 2 to the arena.
-pub fn spot_of(shape: Shape, empties: u32, colds: u32) -> u32
+// Where a page with none out goes, by the counts of the two stores.
+pub fn spot_of(shape: Shape, empties: u32, colds: u32) -> Spot
     requires { ⌜ Sound shape ⌝ }
     requires { ⌜ empties ≤ maxParked ⌝ }
     ensures { λ r. ⌜ r ≡ spotOf shape empties colds ⌝ }
 {
     if keeps_empty(shape, empties) {
-        return 0;
+        return Spot::ToEmpty;
     }
-    if colds < shape.colds { 1 } else { 2 }
+    if colds < shape.colds {
+        Spot::ToCold
+    } else {
+        Spot::ToArena
+    }
 }
 
-pub fn spot_at(meta: &[u32], c: u32, shape: Shape) -> u32
+pub fn spot_at(meta: &[u32], c: u32, shape: Shape) -> Spot
     requires { ⌜ SpotAsks (now meta) c shape ⌝ }
     ensures { λ r. ⌜ r ≡ spotAt (now (meta .entry)) c shape ⌝ }
 {
@@ -130,10 +86,11 @@ fn spot_fair(meta: &[u32], n: u32, c: u32, shape: Shape, m: usize, q: u32) -> bo
     if out as usize != m {
         return true;
     }
-    if spot_at(meta, c, shape) != 2 {
-        return true;
+    match spot_at(meta, c, shape) {
+        Spot::ToEmpty => true,
+        Spot::ToCold => true,
+        Spot::ToArena => runs::give::give_fair(meta, n, shape.pages),
     }
-    runs::give::give_fair(meta, n, shape.pages)
 }
 
 pub fn release_fair(meta: &[u32], n: u32, c: u32, shape: Shape, m: usize, q: u32) -> bool

@@ -1,7 +1,7 @@
 // Number 9: the kind of every listed word.
 ghost use mathlib.Core.Path.{_≡_};
 ghost use lib.Dec.{eqb};
-ghost use Rattle.model.specs.Lists.{every};
+ghost use Rattle.facts.specs.Lists.{every};
 ghost use Rattle.model.specs.Release.{ofKind};
 use words::Word;
 

@@ -12,16 +12,24 @@ pub use kinds::all_of_kind;
 pub use park::park_empty_page;
 pub use park::relist;
 pub use release::release_blocks;
-pub use release::release_call;
-
-// A page or a block, or none.
-pub enum Found {
-    At(u32),
-    Nothing,
-}
 
 // What a release answers: a refusal's number, or the page's fate.
 pub enum Released {
     Refused(u32),
     Fate(u32),
+}
+
+// A page's fate; RETIRED is added to it where the page was retired.
+pub const KEPT_FATE: u32 = 0;
+
+pub const COLD_FATE: u32 = 1;
+
+pub const ARENA_FATE: u32 = 2;
+
+pub const RETIRED: u32 = 4;
+
+// A page or a block, or none.
+pub enum Found {
+    At(u32),
+    Nothing,
 }

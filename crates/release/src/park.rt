@@ -1,13 +1,18 @@
 // What becomes of a page whose blocks came back. Every word that is read here has passed its test.
 ghost use mathlib.Core.Path.{_≡_};
 ghost use mathlib.Core.List.{map};
-ghost use Rattle.model.specs.Release.{coldFate};
+ghost use Rattle.model.specs.declared.Spot.the-variants.{ToCold};
+ghost use Rattle.model.specs.Spot.{fateOf};
 ghost use Rattle.pages.specs.Asks.{LinkAsks};
 ghost use Rattle.pages.specs.Stack.{indexOf};
-ghost use Rattle.calls.specs.Release.{unlisted, relisted, parkCold, parkAt, lastStep};
-ghost use Rattle.release.specs.Act.{coldVirgin, settleAt, ParkingAsks, ColdAsks, BackAsks, SettleAsks, Parked};
+ghost use Rattle.calls.specs.Release.{unlisted, relisted, parkCold, parkedIn, parkAt, lastStep};
+ghost use Rattle.release.specs.Act.{coldVirgin, settleAt, ParkingAsks, ColdAsks, StoreAsks, BackAsks, SettleAsks, Parked};
+use super::ARENA_FATE;
+use super::COLD_FATE;
+use super::KEPT_FATE;
 use super::fair::spot_at;
 use classes::Shape;
+use model::Spot;
 use pages::Park;
 use words::Host;
 use words::Word;
@@ -42,10 +47,25 @@ fn cold_virgin(shape: Shape, host: u32) -> bool
     Host::of(host).discard_zeroed()
 }
 
+// A cold span counts as kept.
 fn cold_fate(shape: Shape) -> u32
-    ensures { λ r. ⌜ r ≡ coldFate shape ⌝ }
+    ensures { λ r. ⌜ r ≡ fateOf shape ToCold ⌝ }
 {
-    if shape.kind == Word::MEDIUM { 0 } else { 1 }
+    if shape.kind == Word::MEDIUM {
+        KEPT_FATE
+    } else {
+        COLD_FATE
+    }
+}
+
+fn fate_of(shape: Shape, spot: Spot) -> u32
+    ensures { λ r. ⌜ r ≡ fateOf shape spot ⌝ }
+{
+    match spot {
+        Spot::ToEmpty => KEPT_FATE,
+        Spot::ToCold => cold_fate(shape),
+        Spot::ToArena => ARENA_FATE,
+    }
 }
 
 // A parked cold page is kept as it will come back: carved anew.
@@ -57,22 +77,27 @@ fn park_cold(meta: &mut [u32], c: u32, shape: Shape, host: u32, q: u32)
     lists::park_in(meta, c, Park::Cold, q);
 }
 
-// Parks a page with none out; its fate. One for the arena stays in no list.
+// By the spot; a page for the arena stays in no list.
+fn park_at_spot(meta: &mut [u32], c: u32, shape: Shape, host: u32, q: u32, spot: Spot)
+    requires { ⌜ StoreAsks (now meta) c shape q ⌝ }
+    ensures { λ _. ⌜ now (meta .exit) ≡ parkedIn (now (meta .entry)) c shape host q spot ⌝ }
+{
+    match spot {
+        Spot::ToEmpty => lists::park_in(meta, c, Park::Empty, q),
+        Spot::ToCold => park_cold(meta, c, shape, host, q),
+        Spot::ToArena => {}
+    }
+}
+
+// Parks a page with none out; its fate.
 pub fn park_empty_page(meta: &mut [u32], c: u32, shape: Shape, host: u32, q: u32) -> u32
     requires { ⌜ ParkingAsks (now meta) c shape q ⌝ }
     ensures { λ r. ⌜ Parked r (now (meta .exit)) (parkAt (now (meta .entry)) c shape host q) ⌝ }
 {
     let spot = spot_at(meta, c, shape);
     unlist(meta, c, shape, q);
-    if spot == 0 {
-        lists::park_in(meta, c, Park::Empty, q);
-        return 0;
-    }
-    if spot == 1 {
-        park_cold(meta, c, shape, host, q);
-        return cold_fate(shape);
-    }
-    2
+    park_at_spot(meta, c, shape, host, q, spot);
+    fate_of(shape, spot)
 }
 
 // The listed blocks, which are struck, come back to their page.
@@ -85,7 +110,7 @@ fn give_back(meta: &mut [u32], c: u32, shape: Shape, host: u32, q: u32, list: &[
         return park_empty_page(meta, c, shape, host, q);
     }
     relist(meta, c, q);
-    0
+    KEPT_FATE
 }
 
 // The arena is the last step.
@@ -102,7 +127,7 @@ pub fn settle(
     ensures { λ r. ⌜ Parked r (now (meta .exit)) (lastStep shape q (settleAt (now (meta .entry)) c shape host q (map (indexOf shape q) (now (list .entry))))) ⌝ }
 {
     let fate = give_back(meta, c, shape, host, q, list);
-    if fate == 2 {
+    if fate == ARENA_FATE {
         runs::give::give(meta, n, q, shape.pages);
     }
     fate

@@ -1,5 +1,5 @@
 // A release by list: the numbers in their order, and then the act. A refusal leaves every word as it was.
-ghost use Rattle.calls.specs.Release.{releaseBlocks, releaseCall};
+ghost use Rattle.calls.specs.Release.{releaseBlocks};
 ghost use Rattle.release.specs.Asks.{ClassAsks};
 ghost use Rattle.release.specs.Act.{RunAsks, Answered};
 use super::Found;
@@ -60,22 +60,4 @@ pub fn release_blocks(
         return release_run(meta, n, c, shape, host, q, list);
     }
     Released::Refused(9)
-}
-
-// From number 3 on.
-pub fn release_call(
-    meta: &mut [u32],
-    n: u32,
-    c: u32,
-    shape: Shape,
-    host: u32,
-    list: &[u32],
-) -> Released
-    requires { ⌜ ClassAsks n (now meta) c shape ⌝ }
-    ensures { λ r. ⌜ Answered r (now (meta .exit)) (releaseCall n (now (meta .entry)) c shape host (now (list .entry))) ⌝ }
-{
-    if host > 15 {
-        return Released::Refused(3);
-    }
-    release_blocks(meta, n, c, shape, host, list)
 }

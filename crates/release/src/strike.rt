@@ -7,27 +7,21 @@ ghost use Rattle.classes.specs.Sound.{Sound};
 ghost use Rattle.fields.specs.Ranges.{maxPages};
 ghost use Rattle.words.specs.Word.{granuleOf};
 ghost use Rattle.stack.specs.Inverse.{inverse};
-ghost use Rattle.calls.specs.Release.{pageAt};
 ghost use Rattle.release.specs.Strike.{blockAt, runAt, restored, unstruck};
 ghost use Rattle.release.specs.Asks.{InAsks, ClassAsks, StruckOne, StruckIn, Struck, hasBit, RestoreAsks, RestAsks, Rest};
 use super::Found;
 use classes::Shape;
 use lists::whole;
+use pages::page_at;
 use stack::index_of;
 use stack::inverse_of;
 use words::Word;
 
-// A word's granule, and the page that has it.
+// A word's granule.
 fn granule_of(w: u32) -> u32
     ensures { λ r. ⌜ r ≡ granuleOf w ⌝ }
 {
     Word::of(w).granule()
-}
-
-fn page_at(w: u32) -> u32
-    ensures { λ r. ⌜ r ≡ pageAt w ⌝ }
-{
-    granule_of(w) / 4096
 }
 
 // The index of the block of the run at q that the word is; inv is the inverse of the block's granules.

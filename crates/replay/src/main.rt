@@ -2,112 +2,98 @@
 // a call a line, as compare/src/history.rs writes them: a name, the arguments, and after `=` what the call returned and wrote.
 mod arena_calls;
 mod block_calls;
-mod chunk_calls;
-mod lists;
-mod text;
+mod line;
 
 use libc::STDIN_FILENO;
 use libc::STDOUT_FILENO;
-use text::Step;
-ghost use Prim.Native.Nat.{_<_};
+use line::Numbers;
+use line::Words;
 ghost use mathlib.Core.Path.{_≡_};
 ghost use lib.ListN.{length};
-ghost use Rattle.replay.specs.Text.{Onward, Reached};
 
-// How many calls were replayed, and how many answered something else.
-struct Tally {
-    calls: u64,
+// Makes the call of a line: a name's number is its first letter's byte, then in two digits how many letters follow. A comment and an
+// empty line make none, and a name that is not known answers what no line tells.
+fn call(meta: &mut [u32], line: &Numbers, words: &Words, answers: Words) -> Words {
+    match line[0] {
+        11_103 => arena_calls::open(meta, line, answers),
+        9_905 => arena_calls::commit(meta, line, words, answers),
+        10_312 => arena_calls::grow(meta, line, words, answers),
+        11_406 => arena_calls::release(meta, line, words, answers),
+        9_907 => arena_calls::contains(meta, line, answers),
+        11_405 => arena_calls::report(meta, answers),
+        11_610 => block_calls::take(meta, words, answers),
+        10_917 => block_calls::medium_take(meta, words, answers),
+        11_413 => block_calls::release(meta, words, answers),
+        10_920 => block_calls::medium_release(meta, words, answers),
+        11_417 => block_calls::release_chunks(meta, words, answers),
+        0 | 3_500 => answers,
+        _ => [std::num::wrapping_add_u32(answers[0], 1); 4096],
+    }
+}
+
+// Whether the call of a line answers what the line tells, and leaves the other places for answers, which hold the last argument before
+// it. A line with no `=` tells nothing: all places keep a 0, an opening's return value too.
+fn replayed(meta: &mut [u32], line: &Numbers, words: &Words, equals: usize, count: usize) -> bool {
+    let fill = words[std::num::wrapping_sub_usize(equals, 1) % 4096];
+    let answers = call(meta, line, words, [fill; 4096]);
+    let told = if equals == 0 { 0 } else { count };
+    line::same(words, equals, told, &answers, fill)
+}
+
+// Where the reading is in its line: the place of the number that is read, and that of the `=`. Then how many lines were replayed, and
+// how many answered something else.
+struct Cursor {
+    count: usize,
+    equals: usize,
+    lines: u64,
     differ: u64,
 }
 
-// The line whose name starts at `at`. A name is known by its first letter and its length.
-fn replay_line(text: &[u8], at: usize, meta: &mut [u32]) -> Step
-    requires { ⌜ at < length (now text) ⌝ }
-    ensures { λ r. ⌜ Onward (length (now (text .entry))) at (r .next) ⌝ }
-{
-    let letter = text[at];
-    let end = text::name_end(text, at);
-    let long = end - at;
-    if letter == b'o' && long == 4 {
-        return arena_calls::open(text, end, meta);
-    }
-    if letter == b'c' && long == 6 {
-        return arena_calls::commit(text, end, meta);
-    }
-    if letter == b'c' && long == 8 {
-        return arena_calls::contains(text, end, meta);
-    }
-    if letter == b'g' && long == 13 {
-        return arena_calls::grow(text, end, meta);
-    }
-    if letter == b'r' && long == 7 {
-        return arena_calls::release(text, end, meta);
-    }
-    if letter == b'r' && long == 6 {
-        return arena_calls::report(text, end, meta);
-    }
-    replay_blocks(text, at, end, meta)
-}
-
-// The takes and releases.
-fn replay_blocks(text: &[u8], at: usize, end: usize, meta: &mut [u32]) -> Step
-    requires { ⌜ at < length (now text) ⌝ }
-    requires { ⌜ Reached (length (now text)) at end ⌝ }
-    ensures { λ r. ⌜ Onward (length (now (text .entry))) at (r .next) ⌝ }
-{
-    let letter = text[at];
-    let long = end - at;
-    if letter == b't' && long == 11 {
-        return block_calls::take(text, end, meta, false);
-    }
-    if letter == b'm' && long == 18 {
-        return block_calls::take(text, end, meta, true);
-    }
-    if letter == b'r' && long == 14 {
-        return block_calls::release(text, end, meta, false);
-    }
-    if letter == b'm' && long == 21 {
-        return block_calls::release(text, end, meta, true);
-    }
-    if letter == b'r' && long == 18 {
-        return chunk_calls::release_chunks(text, end, meta);
-    }
-    text::answered(text, end, letter == b'#' || letter == b'\n')
-}
-
-fn counted(t: Tally, s: Step) -> Tally {
-    let calls = std::num::wrapping_add_u64(t.calls, 1);
-    if s.same {
-        return Tally {
-            calls,
-            differ: t.differ,
+// A byte more; at a line's end its call is made.
+fn step(meta: &mut [u32], line: &mut Numbers, words: &mut Words, c: Cursor, b: u8) -> Cursor {
+    if b == b'\n' {
+        let same = replayed(meta, line, words, c.equals, c.count);
+        line::put(line, words, 0, b);
+        return Cursor {
+            count: 0,
+            equals: 0,
+            lines: std::num::wrapping_add_u64(c.lines, 1),
+            differ: std::num::wrapping_add_u64(c.differ, !same as u64),
         };
     }
-    Tally {
-        calls,
-        differ: std::num::wrapping_add_u64(t.differ, 1),
+    let count = std::num::wrapping_add_usize(c.count, (b == b' ') as usize);
+    line::put(line, words, count, b);
+    let equals = if b == b'=' { count } else { c.equals };
+    Cursor {
+        count,
+        equals,
+        lines: c.lines,
+        differ: c.differ,
     }
 }
 
-fn replay(text: &[u8], meta: &mut [u32]) -> Tally {
-    let mut tally = Tally {
-        calls: 0,
+fn replay(text: &[u8], meta: &mut [u32]) -> Cursor {
+    let mut line: [u64; 4096] = [0; 4096];
+    let mut words: [u32; 4096] = [0; 4096];
+    let mut cursor = Cursor {
+        count: 0,
+        equals: 0,
+        lines: 0,
         differ: 0,
     };
-    let mut at: usize = 0;
-    while at < text.len() {
-        let step = replay_line(text, at, meta);
-        at = step.next;
-        tally = counted(tally, step);
+    let mut i: usize = 0;
+    while i < text.len() {
+        cursor = step(meta, &mut line, &mut words, cursor, text[i]);
+        i += 1;
     }
-    tally
+    cursor
 }
 
 // Room for the stored calls. That its length is said lets it be lent as a slice.
-fn room() -> [u8; 393216]
-    ensures { λ r. ⌜ 393216 ≡ length r ⌝ }
+fn room() -> [u8; 524288]
+    ensures { λ r. ⌜ 524288 ≡ length r ⌝ }
 {
-    [0; 393216]
+    [0; 524288]
 }
 
 // A book for 272 pages, which the history with the fates 2 and 6 opens.
@@ -121,9 +107,9 @@ fn main() {
     let mut text = room();
     let mut meta = book();
     let n = io::read_full(STDIN_FILENO, &mut text);
-    let tally = replay(&text[..n], &mut meta);
-    io::print_decimal(STDOUT_FILENO, tally.calls);
+    let end = replay(&text[..n], &mut meta);
+    io::print_decimal(STDOUT_FILENO, end.lines);
     io::write_all(STDOUT_FILENO, b" lines replayed, ");
-    io::print_decimal(STDOUT_FILENO, tally.differ);
+    io::print_decimal(STDOUT_FILENO, end.differ);
     io::write_all(STDOUT_FILENO, b" differ\n");
 }

@@ -1,4 +1,4 @@
-mod Ways
-mod ActWays
-mod GiveWays
-pub mod CommitWays
+mod RecordSteps
+mod ActSteps
+mod GiveSteps
+pub mod CommitSteps

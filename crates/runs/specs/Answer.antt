@@ -1,6 +1,5 @@
 -- What a commit answers, as document 01's numbers and values.
 --     Answers    a commit answered r and left the book b, as the definition says
--- Assumes nothing.
 use Prim.Native.Nat.{ℕ, zero, suc}
 use mathlib.Core.List.{List}
 use mathlib.Core.Option.{Option, none, some}

@@ -1,20 +1,21 @@
--- What the steps of a commit ask of the book, the record and the plan. Assumes nothing.
+-- What the steps of a commit ask of the book, the record and the plan.
 use Prim.Native.Nat.{ℕ, _+_, _≤_}
 use mathlib.Core.List.{List}
 use mathlib.Core.Bool.{true}
 use mathlib.Core.Path.{_≡_}
 use lib.ListN.{length}
+use Rattle.words.specs.Limits.{maxPages, holeSlots, holePagesMax}
 use Rattle.fields.specs.Field.{words}
-use Rattle.arena.specs.declared.Arena.{Arena}
-use Rattle.arena.specs.declared.Plan.{Plan}
+use Rattle.holes.specs.declared.Arena.{Arena}
+use Rattle.holes.specs.declared.Plan.{Plan}
 use Rattle.runs.specs.declared.Request.{Request}
 use Rattle.arena.specs.Fair.{giveFair}
 
 -- a record in its ranges, in an arena of n pages
 pub record RecordIn (n : ℕ) (a : Arena) : Type 0 where
   pub moved : a .frontier ≤ n
-  pub few : a .count ≤ 4096
-  pub short : a .total ≤ 65536
+  pub few : a .count ≤ holeSlots
+  pub short : a .total ≤ holePagesMax
 
 -- a hole was chosen: it is stored, long enough, and within the hole pages; its end is a number of 32 bits
 pub record HoleIn (a : Arena) (p : Plan) (m : ℕ) : Type 0 where
@@ -31,32 +32,32 @@ PlanIn a p m = (p .code ≡ 0 → ⊥) → HoleIn a p m
 -- a request on a book that is long enough
 pub record RequestIn (b : List ℕ) (q : Request) : Type 0 where
   pub long : words (q .size) ≤ length b
-  pub small : q .size ≤ 262144
-  pub fits : q .pages ≤ 262145
-  pub owned : q .held ≤ 262144
+  pub small : q .size ≤ maxPages
+  pub fits : q .pages ≤ maxPages + 1
+  pub owned : q .held ≤ maxPages
 
 -- a run of a request's pages, drawn from the arena that a is the record of
 pub record RunIn (b : List ℕ) (a : Arena) (first : ℕ) (q : Request) : Type 0 where
   pub long : words (first + q .pages) ≤ length b
-  pub near : first + q .pages ≤ 262144
-  pub short : a .total ≤ 65536
-  pub owned : q .held ≤ 262144
+  pub near : first + q .pages ≤ maxPages
+  pub short : a .total ≤ holePagesMax
+  pub owned : q .held ≤ maxPages
 
 -- a run that may be given, in an arena of n pages
 pub record GiveIn (b : List ℕ) (n first m : ℕ) : Type 0 where
   pub long : words n ≤ length b
-  pub small : n ≤ 262144
+  pub small : n ≤ maxPages
   pub inside : first + m ≤ n
   pub fair : giveFair n b m ≡ true
 
 -- the same with the record and HELD at hand
 pub record LoadedIn (b : List ℕ) (a : Arena) (d first m : ℕ) : Type 0 where
   pub long : words (first + m) ≤ length b
-  pub near : first + m ≤ 262144
-  pub short : a .total ≤ 65536
+  pub near : first + m ≤ maxPages
+  pub short : a .total ≤ holePagesMax
   pub owned : m ≤ d
 
 -- the book of an arena of n pages
 pub record BookIn (b : List ℕ) (n : ℕ) : Type 0 where
   pub long : words n ≤ length b
-  pub small : n ≤ 262144
+  pub small : n ≤ maxPages

@@ -4,21 +4,22 @@ use super::Request;
 use super::give;
 use super::owners;
 use super::store;
-use arena::Arena;
-use arena::Plan;
+use holes::Arena;
+use holes::Plan;
 use holes::record;
 use words::Host;
 ghost use mathlib.Core.Bool.{false};
 ghost use mathlib.Core.Path.{_≡_};
-ghost use Prim.Native.Nat.{_+_, _≤_, _<_, _^_};
+ghost use Prim.Native.Nat.{_+_, _≤_, _<_};
 ghost use lib.ListN.{length};
-ghost use Rattle.arena.specs.Act.{cutWords, usedWords, drawWords, drawRecord, Draws, forgetWord, endRun, endGiven, settle, fromFrontier, commitDrawn, nextState, commitPlanned};
+ghost use Rattle.words.specs.Limits.{maxPages, holeSlots};
+ghost use Rattle.holes.specs.Act.{cutWords, usedWords, drawWords, drawRecord, Draws, forgetWord, endRun, endGiven, settle, fromFrontier, commitDrawn, nextState, commitPlanned};
 ghost use Rattle.runs.specs.Asks.{RecordIn, HoleIn, PlanIn, RequestIn, RunIn};
 ghost use Rattle.runs.specs.Answer.{Answers};
 
 // The front of the chosen hole is cut off.
 fn cut(meta: &mut [u32], a: Arena, p: Plan, pages: u32)
-    requires { ⌜ (40000 ≤ length (now meta)) × (a .count ≤ 4096) × (a .frontier ≤ 262144) × HoleIn a p pages ⌝ }
+    requires { ⌜ (40000 ≤ length (now meta)) × (a .count ≤ holeSlots) × (a .frontier ≤ maxPages) × HoleIn a p pages ⌝ }
     ensures { λ _. ⌜ now (meta .exit) ≡ cutWords (now (meta .entry)) pages p ⌝ }
 {
     store::store_hole(meta, p.code - 1, p.first + pages, p.pages - pages);
@@ -29,7 +30,7 @@ fn cut(meta: &mut [u32], a: Arena, p: Plan, pages: u32)
 
 // The last hole comes into the place of a used-up one.
 fn used(meta: &mut [u32], a: Arena, p: Plan, pages: u32)
-    requires { ⌜ (40000 ≤ length (now meta)) × (a .count ≤ 4096) × HoleIn a p pages ⌝ }
+    requires { ⌜ (40000 ≤ length (now meta)) × (a .count ≤ holeSlots) × HoleIn a p pages ⌝ }
     ensures { λ _. ⌜ now (meta .exit) ≡ usedWords (now (meta .entry)) pages p ⌝ }
 {
     store::store_hole(meta, p.code - 1, p.lastfirst, p.lastpages);
@@ -38,7 +39,7 @@ fn used(meta: &mut [u32], a: Arena, p: Plan, pages: u32)
 
 // The chosen hole gives the pages; the record afterwards is answered.
 fn draw(meta: &mut [u32], a: Arena, p: Plan, pages: u32) -> Arena
-    requires { ⌜ (40000 ≤ length (now meta)) × RecordIn 262144 a × HoleIn a p pages ⌝ }
+    requires { ⌜ (40000 ≤ length (now meta)) × RecordIn maxPages a × HoleIn a p pages ⌝ }
     ensures { λ r. ⌜ Draws (now (meta .entry)) a pages p (now (meta .exit)) r ⌝ }
 {
     if pages < p.pages {

@@ -2,14 +2,17 @@
 use super::load;
 use super::owners;
 use super::store;
-use arena::Arena;
+use holes::Arena;
 use holes::record;
+use words::limits::HOLE_PAGES_MAX;
+use words::limits::HOLE_SLOTS;
 ghost use mathlib.Core.Path.{_≡_};
 ghost use Prim.Native.Nat.{_+_, _≤_, _<_, _^_};
 ghost use lib.ListN.{length};
+ghost use Rattle.words.specs.Limits.{holeSlots};
 ghost use Rattle.arena.specs.Fair.{giveFair};
 ghost use Rattle.arena.specs.Calls.{given};
-ghost use Rattle.arena.specs.Act.{withHoles, withState, appendWords, Gives, givenWith};
+ghost use Rattle.holes.specs.Act.{withHoles, withState, appendWords, Gives, givenWith};
 ghost use Rattle.runs.specs.Asks.{GiveIn, LoadedIn};
 
 pub fn with_holes(a: Arena, count: u32, total: u32) -> Arena
@@ -41,7 +44,7 @@ pub fn with_state(a: Arena, state: u32) -> Arena
 }
 
 fn append(meta: &mut [u32], i: u32, first: u32, pages: u32)
-    requires { ⌜ (40000 ≤ length (now meta)) × (i < 4096) ⌝ }
+    requires { ⌜ (40000 ≤ length (now meta)) × (i < holeSlots) ⌝ }
     ensures { λ _. ⌜ now (meta .exit) ≡ appendWords (now (meta .entry)) i pages first ⌝ }
 {
     store::store_hole(meta, i, first, pages);
@@ -53,10 +56,10 @@ pub fn give_run(meta: &mut [u32], a: Arena, first: u32, pages: u32) -> Arena
     requires { ⌜ (40000 ≤ length (now meta)) × (a .total + pages < 2 ^ 32) ⌝ }
     ensures { λ r. ⌜ Gives (now (meta .entry)) a pages first (now (meta .exit)) r ⌝ }
 {
-    if 4_096 <= a.count {
+    if HOLE_SLOTS <= a.count {
         return record::abandoning(a);
     }
-    if 65_536 < a.total + pages {
+    if HOLE_PAGES_MAX < a.total + pages {
         return record::abandoning(a);
     }
     append(meta, a.count, first, pages);

@@ -3,8 +3,8 @@ use super::Commit;
 use super::Request;
 use super::act;
 use super::store;
-use arena::Arena;
-ghost use Rattle.arena.specs.Act.{growWith};
+use holes::Arena;
+ghost use Rattle.holes.specs.Act.{growWith};
 ghost use Rattle.runs.specs.Asks.{RecordIn, RequestIn};
 ghost use Rattle.runs.specs.Answer.{Answers};
 

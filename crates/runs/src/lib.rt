@@ -7,12 +7,14 @@ pub mod owners;
 mod store;
 
 use holes::plans;
+use words::limits::HOLE_SLOTS;
 ghost use mathlib.Core.Path.{_≡_};
 ghost use mathlib.Core.Bool.{true};
-ghost use Prim.Native.Nat.{_≤_};
+ghost use Prim.Native.Nat.{_+_, _≤_};
+ghost use Rattle.words.specs.Limits.{maxPages};
 ghost use Rattle.arena.specs.Fair.{recordFair};
 ghost use Rattle.arena.specs.Calls.{commitFor};
-ghost use Rattle.arena.specs.Act.{recallWord, commitRead, commitRecalled};
+ghost use Rattle.holes.specs.Act.{recallWord, commitRead, commitRecalled};
 ghost use Rattle.runs.specs.Asks.{BookIn, RequestIn};
 ghost use Rattle.runs.specs.Answer.{Answers};
 
@@ -49,7 +51,7 @@ fn commit_recalled(meta: &mut [u32], q: Request) -> Commit
     ensures { λ r. ⌜ Answers r (now (meta .exit)) (commitRecalled (q .size) (now (meta .entry)) (q .host) (q .pages) (q .owner) (q .held)) ⌝ }
 {
     let code = load::recall(meta, q.pages);
-    if 4_096 < code {
+    if HOLE_SLOTS < code {
         return Commit::Refused(13);
     }
     commit_read(meta, code, q)
@@ -57,7 +59,7 @@ fn commit_recalled(meta: &mut [u32], q: Request) -> Commit
 
 // A run of more pages than any arena has is asked for by one page more than that.
 pub fn commit_for(meta: &mut [u32], size: u32, host: u32, pages: u32, owner: u32) -> Commit
-    requires { ⌜ BookIn (now meta) size × (pages ≤ 262145) ⌝ }
+    requires { ⌜ BookIn (now meta) size × (pages ≤ maxPages + 1) ⌝ }
     ensures { λ r. ⌜ Answers r (now (meta .exit)) (commitFor size (now (meta .entry)) host pages owner) ⌝ }
 {
     if load::record_fair(meta, size) {

@@ -1,11 +1,14 @@
 // The arena's record as the words hold it, and number 13's tests of it.
-use arena::Arena;
+use holes::Arena;
+use words::limits::HOLE_PAGES_MAX;
+use words::limits::HOLE_SLOTS;
+use words::limits::REMEMBERED_MAX;
 ghost use mathlib.Core.Path.{_≡_};
 ghost use Prim.Native.Nat.{_≤_};
 ghost use lib.ListN.{length};
-ghost use Rattle.arena.specs.Record.{recordOf};
+ghost use Rattle.holes.specs.Record.{recordOf};
 ghost use Rattle.arena.specs.Fair.{recordFair};
-ghost use Rattle.arena.specs.Act.{recallWord};
+ghost use Rattle.holes.specs.Act.{recallWord};
 
 pub fn load_record(meta: &[u32]) -> Arena
     requires { ⌜ 40000 ≤ length (now meta) ⌝ }
@@ -33,10 +36,10 @@ pub fn record_fair(meta: &[u32], size: u32) -> bool
     if size < fields::arena::frontier(meta) {
         return false;
     }
-    if 4_096 < fields::arena::holes(meta) {
+    if HOLE_SLOTS < fields::arena::holes(meta) {
         return false;
     }
-    if 65_536 < fields::arena::hole_pages(meta) {
+    if HOLE_PAGES_MAX < fields::arena::hole_pages(meta) {
         return false;
     }
     fields::arena::held(meta) <= size
@@ -47,7 +50,7 @@ pub fn recall(meta: &[u32], pages: u32) -> u32
     requires { ⌜ 40000 ≤ length (now meta) ⌝ }
     ensures { λ r. ⌜ r ≡ recallWord (now (meta .entry)) pages ⌝ }
 {
-    if 128 < pages {
+    if REMEMBERED_MAX < pages {
         return 0;
     }
     fields::hole::memory(meta, pages)

@@ -1,4 +1,5 @@
 // Who holds each page.
+use arena::DIRECT;
 ghost use mathlib.Core.Path.{_≡_};
 ghost use Prim.Native.Nat.{_+_, _≤_, _<_, _^_};
 ghost use lib.ListN.{length};
@@ -29,7 +30,7 @@ fn all_direct(meta: &[u32], first: u32, pages: u32) -> bool
     let mut left = pages;
     while 0 < left {
         left -= 1;
-        if fields::page::owner(meta, first + left) != 77 {
+        if fields::page::owner(meta, first + left) != DIRECT {
             return false;
         }
     }

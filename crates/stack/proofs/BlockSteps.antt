@@ -1,4 +1,4 @@
--- A block's word and index: sums that stay within 32 bits, and the ways out. Assumes nothing.
+-- A block's word and index: sums that stay within 32 bits, and the ways out.
 use Prim.Native.Nat.{ℕ, _+_, _-_, _*_, _/_, _%_, _^_, _≤_, _<_}
 use native.Mathlib.Omega.{arith}
 use native.Mathlib.Nat.{mul-le-mul-right, mod-eq-of-lt, zero-div}

@@ -1,4 +1,4 @@
--- New blocks given: their words, and their out bits word by word. Assumes nothing.
+-- New blocks given: their words, and their out bits word by word.
 use Prim.Native.Nat.{ℕ, zero, suc, _+_, _-_, _*_, _/_, _%_, _≤_, _<_, min}
 use native.Mathlib.Omega.{arith}
 use native.Mathlib.Nat.{add-zero}
@@ -12,7 +12,7 @@ use Rattle.fields.specs.Mark.{markOut}
 use Rattle.fields.proofs.Laws.{length-put}
 use Rattle.model.specs.Page.{wordOf}
 use Rattle.pages.specs.Stack.{downs, marks, spliced, Gave}
-use Rattle.pages.specs.Asks.{NameAsks, MarkAsks}
+use Rattle.pages.specs.Asks.{NameAsks}
 use Rattle.pages.proofs.Downs.{length-downs}
 use Rattle.pages.proofs.Spliced.{spliced-none, spliced-one, spliced-twice}
 

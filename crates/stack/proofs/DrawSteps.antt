@@ -1,22 +1,18 @@
--- Blocks given, and more; free ones and new ones together. Assumes nothing.
-use Prim.Native.Nat.{ℕ, suc, _+_, _-_, _≤_, _<_, min}
+-- Blocks given, and more; free ones and new ones together.
+use Prim.Native.Nat.{ℕ, _+_, _-_, _≤_, min}
 use native.Mathlib.Omega.{arith}
-use native.Mathlib.Numerals.{add-one}
-use mathlib.Core.Bool.{true}
 use mathlib.Core.List.{List, [], _∷_, _++_, map, map-append, reverse}
 use mathlib.Core.Path.{_≡_, refl, sym, ap, _∙_}
 use lib.Dec.{ltb}
 use lib.ListN.{length, set, length-map, length-append, length-reverse}
-use borrow.Author.Tests.{lt-ltb, ltb-true}
 use Rattle.classes.specs.declared.Shape.{Shape}
-use Rattle.fields.specs.Field.{page, slot, out, free, carved, get, put}
-use Rattle.model.specs.Lists.{every}
+use Rattle.fields.specs.Field.{page, out, free, carved, get, put}
 use Rattle.model.specs.Page.{wordOf}
 use Rattle.pages.specs.Stack.{tops, downs, marks, carvedNow, latest, draw, spliced, Gave, Drawn}
-use Rattle.pages.specs.Asks.{GiveAsks, PopAsks, FreshAsks, BothAsks, DrawAsks}
-use Rattle.pages.proofs.Downs.{small, length-downs, every-reverse, every-below}
-use Rattle.pages.proofs.Tops.{length-tops, tops-cut, tops-fewer, popped-more, every-tops}
-use Rattle.pages.proofs.Marks.{length-marks, marks-append, marks-kept}
+use Rattle.pages.specs.Asks.{GiveAsks, BothAsks, DrawAsks}
+use Rattle.pages.proofs.Downs.{length-downs, every-below}
+use Rattle.pages.proofs.Tops.{length-tops, tops-cut, tops-fewer}
+use Rattle.pages.proofs.Marks.{length-marks, marks-append}
 use Rattle.pages.proofs.Spliced.{length-spliced, spliced-none, spliced-one, spliced-twice}
 
 -- ---- what was given, and more
@@ -104,6 +100,6 @@ module _ (b : List ℕ) (sh : Shape) (q : ℕ) (l : List ℕ) (at m f k p r : �
       let more : k + r ≡ get b (page carved q) + carvedNow b sh q m = rw (← ef, ← ek) (ap (λ z. k + z) now-is) in
       record {
         count = sym latest-length;
-        meta = e₃ ∙ ap (λ z. put z (page carved q) (k + r)) (e₂ ∙ ap (λ z. put z (page free q) (f - p)) outs ∙ ap (put (marks b q 1 xs) (page free q)) left) ∙ ap (put (put (marks b q 1 xs) (page free q) (get b (page free q) - m)) (page carved q)) more;
+        book = e₃ ∙ ap (λ z. put z (page carved q) (k + r)) (e₂ ∙ ap (λ z. put z (page free q) (f - p)) outs ∙ ap (put (marks b q 1 xs) (page free q)) left) ∙ ap (put (put (marks b q 1 xs) (page free q) (get b (page free q) - m)) (page carved q)) more;
         list = g .list ∙ ap (λ z. spliced l (at - length z) (map (wordOf sh q) z)) (sym latest-is);
       }

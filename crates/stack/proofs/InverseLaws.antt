@@ -1,4 +1,4 @@
--- A product with the inverse divides: x is below 2 ^ 16, and d at most 2 ^ 15. Assumes nothing.
+-- A product with the inverse divides: x is below 2 ^ 16, and d at most 2 ^ 15.
 --     by-inverse      the quotient stands above the point
 --     behind-point, behind-point-not    what stands behind it is below the inverse exactly if there is no remainder
 use Prim.Native.Nat.{ℕ, suc, _+_, _-_, _*_, _/_, _%_, _^_, _≤_, _<_}

@@ -1,4 +1,4 @@
--- Blocks given from the stack: some of them and then others, two a turn. Assumes nothing.
+-- Blocks given from the stack: some of them and then others, two a turn.
 use Prim.Native.Nat.{ℕ, zero, suc, _+_, _-_, _*_, _/_, _%_, _≤_, _<_}
 use native.Mathlib.Omega.{arith}
 use native.Mathlib.Nat.{zero-add, suc-add}
@@ -8,10 +8,10 @@ use mathlib.Core.Path.{_≡_, refl, sym, ap, _∙_}
 use lib.Dec.{ltb}
 use lib.ListN.{length, length-reverse}
 use borrow.Author.Tests.{lt-ltb, ltb-true}
+use Rattle.facts.specs.Lists.{every}
+use Rattle.facts.proofs.Bools.{and-right}
 use Rattle.classes.specs.declared.Shape.{Shape}
 use Rattle.fields.specs.Field.{slot, get}
-use Rattle.model.specs.Lists.{every}
-use Rattle.model.proofs.Counts.{and-r}
 use Rattle.pages.specs.Stack.{tops, Gave}
 use Rattle.pages.specs.Asks.{GiveAsks, PopAsks}
 use Rattle.pages.proofs.Downs.{small, every-reverse, every-below}
@@ -28,7 +28,7 @@ tops-join b q (suc h) n (suc t) l =
 
 every-right : (P : ℕ → Bool) (s t : List ℕ) → every P (s ++ t) ≡ true → every P t ≡ true
 every-right P [] t e = e
-every-right P (x ∷ s) t e = every-right P s t (and-r (P x) (every P (s ++ t)) e)
+every-right P (x ∷ s) t e = every-right P s t (and-right (P x) (every P (s ++ t)) e)
 
 module _ (b : List ℕ) (sh : Shape) (q : ℕ) (l : List ℕ) (at t k : ℕ) (a : PopAsks b sh q l at t k) where
   abbrev within : ℕ → Bool

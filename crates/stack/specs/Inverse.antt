@@ -1,4 +1,4 @@
--- Division by a block's granules, as a product. Assumes nothing.
+-- Division by a block's granules, as a product.
 use Prim.Native.Nat.{ℕ, _+_, _-_, _/_, _^_}
 
 -- 1 / d with 32 bits behind the point, rounded up

@@ -1,4 +1,4 @@
--- What laying blocks two at a time asks. Assumes nothing.
+-- What laying blocks two at a time asks.
 use Prim.Native.Nat.{ℕ, _+_, _*_, _<_, _≤_}
 use mathlib.Core.List.{List}
 use mathlib.Core.Path.{_≡_}
@@ -7,6 +7,7 @@ use Rattle.classes.specs.declared.Shape.{Shape}
 use Rattle.classes.specs.Sound.{Sound}
 use Rattle.fields.specs.Field.{words}
 use Rattle.fields.specs.Ranges.{maxPages}
+use Rattle.pages.specs.Stack.{pageSlots}
 use Rattle.stack.specs.Inverse.{inverse}
 
 -- the first n of the words ws laid on a stack of 2 x entries; m is the inverse of the block's granules
@@ -16,4 +17,4 @@ pub record PairsAsks (b : List ℕ) (sh : Shape) (m q x : ℕ) (ws : List ℕ) (
   pub there : words (q + 1) ≤ length b
   pub by : m ≡ inverse (sh .block)
   pub within : n ≤ length ws
-  pub slots : 2 * x + n ≤ 4096
+  pub slots : 2 * x + n ≤ pageSlots

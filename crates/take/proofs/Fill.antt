@@ -2,7 +2,6 @@
 --     Turned        a turn of the fill leaves a book whose walk passes, with what the walk had found beyond the first page
 --     turned        every turn does
 --     fill-planned  so the fill yields what was planned
--- Assumes nothing.
 use Prim.Native.Nat.{ℕ, zero, suc, _-_, _≤_}
 use native.Mathlib.Omega.{arith}
 use mathlib.Core.Bool.{Bool, true, false, _&&_, _||_}
@@ -11,28 +10,24 @@ use mathlib.Core.Path.{_≡_, refl, sym, ap, _∙_}
 use lib.Dec.{eqb, ltb, leb}
 use lib.ListN.{length, length-append}
 use borrow.Author.Tests.{lt-ltb, leb-true, eq-eqb, ne-eqb}
+use Rattle.facts.proofs.Bools.{by-cases, or-right}
 use Rattle.classes.specs.declared.Shape.{Shape}
 use Rattle.classes.specs.Sound.{Sound}
 use Rattle.fields.specs.Field.{Field, arena, class, page, out, frontier, partial, next, prev, free, carved, virgin, region, off, get, ok, words}
 use Rattle.fields.proofs.Laws.{get-put-same, get-put-other, length-put}
 use Rattle.fields.proofs.Outcome.{get-putAt-other}
 use Rattle.fields.proofs.Changes.{Changes, changes-trans}
-use Rattle.model.proofs.Counts.{by-cases}
 use Rattle.pages.specs.Stack.{latest, draw, hasMore}
 use Rattle.pages.specs.Links.{cutOut, unlink}
 use Rattle.pages.proofs.Draws.{draw-changes}
 use Rattle.pages.proofs.Frames.{changes-unlink}
-use Rattle.calls.specs.Take.{walk, Filled, filledNone, relist, fillFrom}
+use Rattle.calls.specs.Take.{walk, Filled, filledNone, unlistSpent, fillFrom}
 use Rattle.take.proofs.TakePages.{Fair, whole-below, latest-most}
 use Rattle.take.proofs.TakeDraws.{latest-small, draw-full}
 use Rattle.take.proofs.Walk.{Planned, planned, planned-stops, stops, stops-full, some-page, Step, walk-below, walk-stops, walk-step, isTurned, head-kept}
 
 -- ---- the head of the list is cut out
 module _ (n : ℕ) (b : List ℕ) (hb : leb (words n) (length b) ≡ true) (c : ℕ) (hc : ltb c 76 ≡ true) (q x : ℕ) (hq : ltb q n ≡ true) (first : get b (page prev q) ≡ 0) (after : get b (page next q) ≡ x) where
-  or-right : (s t : Bool) → t ≡ true → (s || t) ≡ true
-  or-right true t e = refl
-  or-right false t e = e
-
   pub unlink-changes : Changes (isTurned c q x) b (unlink b c q)
   unlink-changes =
       let qq = eq-eqb q q refl in
@@ -132,8 +127,8 @@ module _ (n : ℕ) (b : List ℕ) (hb : leb (words n) (length b) ≡ true) (c : 
           finds = rw top (kp .1);
         }
 
-    pub turned : Turned n b (relist (draw b sh page₁ m) c sh page₁) c sh k left after
-    unfolding relist
+    pub turned : Turned n b (unlistSpent (draw b sh page₁ m) c sh page₁) c sh k left after
+    unfolding unlistSpent
     turned = by-cases (hasMore (draw b sh page₁ m) sh page₁) (λ g. rw g (turned-full g)) (λ g. rw g turned-spent)
 
 -- ---- the whole fill
@@ -161,7 +156,7 @@ module _ (n c : ℕ) (hc : ltb c 76 ≡ true) (sh : Shape) (sd : Sound sh) where
       let q = get b (class partial c) - 1 in
       let ws = latest b sh (get b (class partial c) - 1) m in
       let t = turned n b hb c hc sh sd bound k m e w in
-      let b₁ = relist (draw b sh q m) c sh q in
+      let b₁ = unlistSpent (draw b sh q m) c sh q in
       let ih = fill-planned k (m - length ws) b₁ (rw (t .long) hb) (rw (t .frontier) bound) (t .walks) ∙ t .finds in
       rw (e, ← ih, length-append, length-map))
 
@@ -171,5 +166,5 @@ unfolding fillFrom
 fill-most c sh zero m b = omega arith
 fill-most c sh (suc k) m b =
     let q = get b (class partial c) - 1 in
-    let ih = fill-most c sh k (m - length (latest b sh q m)) (relist (draw b sh q m) c sh q) in
+    let ih = fill-most c sh k (m - length (latest b sh q m)) (unlistSpent (draw b sh q m) c sh q) in
     by-cases (stops m (get b (class partial c))) (λ e. rw e (omega arith)) (λ e. rw (e, length-append, length-map) (omega (arith, ih, latest-most b sh q m)))

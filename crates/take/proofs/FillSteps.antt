@@ -1,4 +1,4 @@
--- The ways out of the functions that fill a take's list, and what the loop keeps. Assumes nothing.
+-- The ways out of the functions that fill a take's list, and what the loop keeps.
 use Prim.Native.Nat.{ℕ, zero, suc, _+_, _-_, _≤_, _<_}
 use native.Mathlib.Omega.{arith}
 use mathlib.Core.Bool.{Bool, true, false, not}
@@ -8,16 +8,16 @@ use lib.Dec.{eqb}
 use lib.ListN.{length, take, drop, length-append}
 use lib.Seq.{length-take-le, drop-at}
 use borrow.Author.Tests.{lt-ltb, le-leb, leb-true, not-true, not-false}
+use Rattle.facts.proofs.Bools.{by-cases}
 use Rattle.classes.specs.declared.Shape.{Shape}
 use Rattle.fields.specs.Field.{arena, class, page, frontier, partial, next, prev, free, carved, virgin, words, get}
 use Rattle.model.specs.Page.{wordOf}
-use Rattle.model.proofs.Counts.{by-cases}
 use Rattle.pages.specs.Stack.{latest, draw, hasMore, spliced, Drawn}
 use Rattle.pages.specs.Links.{unlink}
 use Rattle.pages.specs.Asks.{DrawAsks, UnlinkAsks}
 use Rattle.pages.proofs.Draws.{draw-changes}
 use Rattle.pages.proofs.Spliced.{length-spliced}
-use Rattle.calls.specs.Take.{walk, filledNone, thenFilled, relist, fillFrom}
+use Rattle.calls.specs.Take.{walk, filledNone, thenFilled, unlistSpent, fillFrom}
 use Rattle.take.specs.TakePlan.{TakeAsks, fills, TurnAsks, GaveTurn, FillAsks, Filling}
 use Rattle.take.proofs.TakePages.{whole-below, latest-some, latest-most, positive}
 use Rattle.take.proofs.TakeDraws.{latest-small}
@@ -26,13 +26,13 @@ use Rattle.take.proofs.Fill.{isCount, Turned, turned, fill-stops, lengt
 
 -- ---- a page that gave its last block
 module _ (b : List ℕ) (c : ℕ) (sh : Shape) (q : ℕ) where
-  pub relist-stays : (r : Bool) → r ≡ hasMore b sh q → not r ≡ false → b ≡ relist b c sh q
-  unfolding relist
-  relist-stays r e h = rw (← e, not-false r h)
+  pub spent-stays : (r : Bool) → r ≡ hasMore b sh q → not r ≡ false → b ≡ unlistSpent b c sh q
+  unfolding unlistSpent
+  spent-stays r e h = rw (← e, not-false r h)
 
-  pub relist-leaves : (r : Bool) (b′ : List ℕ) → r ≡ hasMore b sh q → not r ≡ true → b′ ≡ unlink b c q → b′ ≡ relist b c sh q
-  unfolding relist
-  relist-leaves r b′ e h e′ = rw (← e, not-true r h) e′
+  pub spent-leaves : (r : Bool) (b′ : List ℕ) → r ≡ hasMore b sh q → not r ≡ true → b′ ≡ unlink b c q → b′ ≡ unlistSpent b c sh q
+  unfolding unlistSpent
+  spent-leaves r b′ e h e′ = rw (← e, not-true r h) e′
 
 -- ---- one turn
 module _ (b : List ℕ) (c : ℕ) (sh : Shape) (l : List ℕ) (at m : ℕ) where
@@ -41,7 +41,7 @@ module _ (b : List ℕ) (c : ℕ) (sh : Shape) (l : List ℕ) (at m : ℕ) where
       let f = a .draws in
       let q = get b (class partial c) - 1 in
       let ch = draw-changes b sh q m (latest-small b sh m q (f .sound .few) (f .carved) (f .entries)) isCount refl refl (λ i. refl) in
-      rw (e, d .meta, e) (record {
+      rw (e, d .book, e) (record {
         known = a .known;
         there = rw (ch .long) (f .there);
         behind = rw (ch .long, ch .kept (page next q) refl refl) (a .behind);
@@ -51,10 +51,10 @@ module _ (b : List ℕ) (c : ℕ) (sh : Shape) (l : List ℕ) (at m : ℕ) where
   pub turn-draws : (h : ℕ) → TurnAsks b c sh l at m → h ≡ get b (class partial c) → DrawAsks b sh (h - 1) l at m
   turn-draws h a e = rw e (a .draws)
 
-  pub turn-done : (h r : ℕ) (b₁ b₂ l₁ : List ℕ) → h ≡ get b (class partial c) → Drawn r b₁ l₁ b sh (h - 1) l at m → b₂ ≡ relist b₁ c sh (h - 1) → GaveTurn r b₂ l₁ b c sh l at m
+  pub turn-done : (h r : ℕ) (b₁ b₂ l₁ : List ℕ) → h ≡ get b (class partial c) → Drawn r b₁ l₁ b sh (h - 1) l at m → b₂ ≡ unlistSpent b₁ c sh (h - 1) → GaveTurn r b₂ l₁ b c sh l at m
   turn-done h r b₁ b₂ l₁ e d e₂ =
       let d′ : Drawn r b₁ l₁ b sh (get b (class partial c) - 1) l at m = rw e at d in
-      record { count = d′ .count; meta = e₂ ∙ rw (e, d′ .meta); list = d′ .list }
+      record { count = d′ .count; book = e₂ ∙ rw (e, d′ .book); list = d′ .list }
 
 -- ---- the loop
 module _ (b₀ : List ℕ) (c : ℕ) (sh : Shape) (l₀ : List ℕ) where
@@ -96,7 +96,7 @@ module _ (b : List ℕ) (c : ℕ) (sh : Shape) (l : List ℕ) (at m : ℕ) where
   blocks₁ = latest b sh (code - 1) m
 
   abbrev book₁ : List ℕ
-  book₁ = relist (draw b sh (code - 1) m) c sh (code - 1)
+  book₁ = unlistSpent (draw b sh (code - 1) m) c sh (code - 1)
 
   fill-goes : (k : ℕ) → stops m code ≡ false
       → fillFrom b c sh (suc k) m ≡ thenFilled (eqb (get b (page virgin (code - 1))) 1) (map (wordOf sh (code - 1)) blocks₁) (fillFrom book₁ c sh k (m - length blocks₁))
@@ -187,7 +187,7 @@ module _ (b₀ : List ℕ) (c : ℕ) (sh : Shape) (l₀ : List ℕ) (b b′ l l�
       let l₁ : l′ ≡ spliced l (at - length ws) ws = g .list ∙ rw lw in
       let keeps : length (spliced l (at - length ws) ws) ≡ length l = length-spliced l (at - length ws) ws (omega (arith, i .places)) in
       let drops : drop (at - length d) l′ ≡ ws ++ drop at l = ap (λ z. drop (at - length d) z) l₁ ∙ ap (λ z. drop (at - z) (spliced l (at - length ws) ws)) (sym lw) ∙ drop-spliced l ws at most (i .places) in
-      rw (g .meta, g .count) (record {
+      rw (g .book, g .count) (record {
         pages = i .pages;
         fuel = k;
         asks = asks-after (i .pages) k (i .asks) t;
@@ -224,7 +224,7 @@ module _ (b₀ : List ℕ) (c : ℕ) (sh : Shape) (l₀ : List ℕ) (b l : List 
   fill-done z i =
       let f = ended (i .pages) (i .fuel) (i .enough) (i .walks) (sym z ∙ i .count) in
       let ls : fillFrom b c sh (i .fuel) m .blocks ++ drop 0 l ≡ fills b₀ c sh .blocks ++ drop (length (fills b₀ c sh .blocks)) l₀ = rw z at (i .list) in
-      record { meta = sym (ap (λ t. t .book) f) ∙ i .book; list = sym (ap (λ t. t .blocks ++ drop 0 l) f) ∙ ls }
+      record { book = sym (ap (λ t. t .book) f) ∙ i .book; list = sym (ap (λ t. t .blocks ++ drop 0 l) f) ∙ ls }
 
   pub turn-written : (r : ℕ) (b′ l′ : List ℕ) → (at ≡ 0 → ⊥) → FillInv b₀ c sh l₀ b l at m → GaveTurn r b′ l′ b c sh l at m → r ≤ at
   turn-written r b′ l′ z i g = omega (arith, g .count, turn-asks b c sh l at m b₀ l₀ z i .draws .room)

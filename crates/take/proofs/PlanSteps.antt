@@ -1,4 +1,4 @@
--- The ways out of the functions that plan a take, and what their loops keep. Assumes nothing.
+-- The ways out of the functions that plan a take, and what their loops keep.
 use Prim.Native.Nat.{ℕ, zero, suc, _+_, _-_, _≤_, _<_, min}
 use native.Mathlib.Omega.{arith}
 use mathlib.Core.Bool.{Bool, true, false, not, _&&_, and-false}
@@ -7,16 +7,18 @@ use mathlib.Core.Path.{_≡_, refl, sym, ap, _∙_}
 use lib.Dec.{eqb, ltb, leb}
 use lib.ListN.{length}
 use borrow.Author.Tests.{lt-ltb, le-leb, lt-leb, leb-true, eq-eqb, ne-eqb, not-true, not-false}
+use Rattle.facts.specs.Lists.{every}
+use Rattle.facts.proofs.Bools.{by-cases, and-left, and-right}
 use Rattle.classes.specs.declared.Shape.{Shape}
 use Rattle.fields.specs.Field.{arena, class, page, frontier, partial, next, prev, free, carved, listed, virgin, words, Has, get}
-use Rattle.model.specs.Lists.{every}
-use Rattle.model.proofs.Counts.{by-cases, and-l, and-r}
 use Rattle.pages.specs.Runs.{whole}
 use Rattle.pages.specs.Stack.{tops, latest, hasMore}
 use Rattle.pages.proofs.Draws.{latest-length}
-use Rattle.calls.specs.Take.{sound, walk}
+use Rattle.pages.specs.Fair.{headerFair}
+use Rattle.pages.proofs.FairLaws.{carved-low, room-left}
+use Rattle.calls.specs.Take.{pageReady, sound, walk}
 use Rattle.take.specs.declared.take_plan.Plan.{Plan}
-use Rattle.take.specs.TakePlan.{TakeAsks, TopsAsks, SupplyAsks, headerFair, share, walksFrom, fills, Foretold}
+use Rattle.take.specs.TakePlan.{TakeAsks, TopsAsks, SupplyAsks, share, walksFrom, fills, Foretold}
 use Rattle.take.proofs.TakePages.{sound-fair, fair-sound, whole-below, latest-some, latest-most, positive}
 use Rattle.take.proofs.Walk.{planned, planned-stops, planned-goes, stops, stops-full, stops-none, walk-stops, walk-step}
 use Rattle.take.proofs.Fill.{foreseen, fill-planned}
@@ -42,54 +44,33 @@ module _ (b : List ℕ) (sh : Shape) (q : ℕ) where
   pub virgin-yes : (v : Bool) (x : ℕ) → v ≡ true → x ≡ get b (page virgin q) → eqb x 1 ≡ (v && eqb (get b (page virgin q)) 1)
   virgin-yes v x e h = rw (e, h)
 
-module _ (b : List ℕ) (sh : Shape) (l q : ℕ) where
-  pub header-unlisted : (x : ℕ) → x ≡ get b (page listed q) → (x ≡ l → ⊥) → false ≡ headerFair b sh l q
-  unfolding headerFair
-  header-unlisted x e h = rw (← e, ne-eqb x l h)
+module _ (b : List ℕ) (sh : Shape) (l q : ℕ) (h : Bool) (i : h ≡ headerFair b sh 0 q) where
+  pub ready-unfair : not h ≡ true → false ≡ pageReady b sh l q
+  unfolding pageReady
+  ready-unfair t = rw (← i, not-true h t)
 
-  pub header-free : (k f : ℕ) → k ≡ get b (page carved q) → f ≡ get b (page free q) → k < f → false ≡ headerFair b sh l q
-  unfolding headerFair
-  header-free k f e e′ h = simp (← e, ← e′, lt-leb f k h, and-false)
+  pub ready-unlisted : (x : ℕ) → x ≡ get b (page listed q) → (x ≡ l → ⊥) → false ≡ pageReady b sh l q
+  unfolding pageReady
+  ready-unlisted x e d = simp (← e, ne-eqb x l d, and-false)
 
-  pub header-carved : (k : ℕ) → k ≡ get b (page carved q) → sh .capacity < k → false ≡ headerFair b sh l q
-  unfolding headerFair
-  header-carved k e h = simp (← e, lt-leb k (sh .capacity) h, and-false)
-
-  pub header-virgin : (v : ℕ) → v ≡ get b (page virgin q) → 1 < v → false ≡ headerFair b sh l q
-  unfolding headerFair
-  header-virgin v e h = simp (← e, lt-leb v 1 h, and-false)
-
-  pub header-more : (k x f v : ℕ) (r : Bool) → k ≡ get b (page carved q) → x ≡ get b (page listed q) → x ≡ l → f ≡ get b (page free q) → f ≤ k → k ≤ sh .capacity
-      → v ≡ get b (page virgin q) → v ≤ 1 → r ≡ hasMore b sh q → r ≡ headerFair b sh l q
-  unfolding headerFair
-  header-more k x f v r e₁ e₂ h₁ e₃ h₂ h₃ e₄ h₄ e₅ =
-      rw (← e₁, ← e₂, ← e₃, ← e₄, eq-eqb x l h₁, le-leb f k h₂, le-leb k (sh .capacity) h₃, le-leb v 1 h₄) e₅
+  pub ready-more : (x : ℕ) (r : Bool) → not h ≡ false → x ≡ get b (page listed q) → x ≡ l → r ≡ hasMore b sh q → r ≡ pageReady b sh l q
+  unfolding pageReady
+  ready-more x r t e d k = rw (← i, not-false h t, ← e, eq-eqb x l d) k
 
 -- ---- a page
 module _ (n : ℕ) (b : List ℕ) (c : ℕ) (sh : Shape) (l m q : ℕ) where
-  joined : (w a d e f g t : Bool) → (w && (a && (d && (e && (f && (g && t)))))) ≡ (w && ((a && (d && (e && (f && g)))) && t))
-  joined true true true true true g t = refl
-  joined true true true true false g t = refl
-  joined true true true false f g t = refl
-  joined true true false e f g t = refl
-  joined true false d e f g t = refl
-  joined false a d e f g t = refl
-
-  sound-split : sound n b c sh l m q ≡ (whole n b sh c q && (headerFair b sh l q && every (λ i. ltb i (get b (page carved q))) (tops b q m (get b (page free q)))))
-  unfolding sound headerFair
-  sound-split =
-      joined (whole n b sh c q) (eqb (get b (page listed q)) l) (leb (get b (page free q)) (get b (page carved q))) (leb (get b (page carved q)) (sh .capacity)) (leb (get b (page virgin q)) 1) (hasMore b sh q)
-      (every (λ i. ltb i (get b (page carved q))) (tops b q m (get b (page free q))))
-
   pub sound-broken : (w : Bool) → w ≡ whole n b sh c q → not w ≡ true → false ≡ sound n b c sh l m q
-  sound-broken w e h = rw (sound-split, ← e, not-true w h)
+  unfolding sound
+  sound-broken w e h = rw (← e, not-true w h)
 
-  pub sound-header : (w h : Bool) → w ≡ whole n b sh c q → h ≡ headerFair b sh l q → not h ≡ true → false ≡ sound n b c sh l m q
-  sound-header w h e e′ f = simp (sound-split, ← e′, not-true h f, and-false)
+  pub sound-header : (w h : Bool) → w ≡ whole n b sh c q → h ≡ pageReady b sh l q → not h ≡ true → false ≡ sound n b c sh l m q
+  unfolding sound
+  sound-header w h e e′ f = simp (← e′, not-true h f, and-false)
 
-  pub sound-tops : (w h : Bool) (f k : ℕ) (r : Bool) → w ≡ whole n b sh c q → not w ≡ false → h ≡ headerFair b sh l q → not h ≡ false → f ≡ get b (page free q) → k ≡ get b (page carved q)
+  pub sound-tops : (w h : Bool) (f k : ℕ) (r : Bool) → w ≡ whole n b sh c q → not w ≡ false → h ≡ pageReady b sh l q → not h ≡ false → f ≡ get b (page free q) → k ≡ get b (page carved q)
       → r ≡ every (λ i. ltb i k) (tops b q m f) → r ≡ sound n b c sh l m q
-  sound-tops w h f k r e₁ t₁ e₂ t₂ e₃ e₄ e₅ = rw (sound-split, ← e₁, not-false w t₁, ← e₂, not-false h t₂, ← e₃, ← e₄) e₅
+  unfolding sound
+  sound-tops w h f k r e₁ t₁ e₂ t₂ e₃ e₄ e₅ = rw (← e₁, not-false w t₁, ← e₂, not-false h t₂, ← e₃, ← e₄) e₅
 
   pub run-there : (w : Bool) → TakeAsks n b c sh → w ≡ whole n b sh c q → not w ≡ false → words (q + 1) ≤ length b
   run-there w a e t = omega (arith, whole-below n b c sh q (sym e ∙ not-false w t), a .long, a .shape .paged)
@@ -100,14 +81,11 @@ module _ (n : ℕ) (b : List ℕ) (c : ℕ) (sh : Shape) (l m q : ℕ) where
   pub run-carved : (w : Bool) → TakeAsks n b c sh → w ≡ whole n b sh c q → not w ≡ false → Has b (page carved q)
   run-carved w a e t = omega (arith, run-there w a e t)
 
-  pub header-tops : (w h : Bool) (f : ℕ) → TakeAsks n b c sh → w ≡ whole n b sh c q → not w ≡ false → h ≡ headerFair b sh l q → not h ≡ false → f ≡ get b (page free q) → TopsAsks b q f
-  unfolding headerFair
+  pub header-tops : (w h : Bool) (f : ℕ) → TakeAsks n b c sh → w ≡ whole n b sh c q → not w ≡ false → h ≡ pageReady b sh l q → not h ≡ false → f ≡ get b (page free q) → TopsAsks b q f
+  unfolding pageReady
   header-tops w h f a e t e′ t′ e″ =
-      let u = and-r (eqb (get b (page listed q)) l) _ (sym e′ ∙ not-false h t′) in
-      let v = and-r (leb (get b (page free q)) (get b (page carved q))) _ u in
-      let x = leb-true (get b (page free q)) (get b (page carved q)) (and-l _ _ u) in
-      let y = leb-true (get b (page carved q)) (sh .capacity) (and-l _ _ v) in
-      record { there = run-there w a e t; slots = omega (arith, a .shape .few) }
+      let u = and-left (headerFair b sh 0 q) _ (sym e′ ∙ not-false h t′) in
+      record { there = run-there w a e t; slots = omega (arith, room-left b sh 0 q u, carved-low b sh 0 q u, a .shape .few) }
 
   pub sound-supply : (s : Bool) → TakeAsks n b c sh → s ≡ sound n b c sh l m q → not s ≡ false → SupplyAsks b sh q
   sound-supply s a e t =
@@ -163,9 +141,9 @@ module _ (n : ℕ) (b : List ℕ) (c : ℕ) (sh : Shape) where
   found j m code y e h =
       by-cases (leb code (get b (arena frontier)) && (eqb (get b (page prev (code - 1))) y && sound n b c sh 1 m (code - 1)))
       (λ t. record {
-        below = and-l _ _ t;
-        before = and-l _ _ (and-r (leb code (get b (arena frontier))) _ t);
-        sound = and-r (eqb (get b (page prev (code - 1))) y) _ (and-r (leb code (get b (arena frontier))) _ t);
+        below = and-left _ _ t;
+        before = and-left _ _ (and-right (leb code (get b (arena frontier))) _ t);
+        sound = and-right (eqb (get b (page prev (code - 1))) y) _ (and-right (leb code (get b (arena frontier))) _ t);
         blocks = rw t at e;
       })
       (λ t. absurd (h (rw t at e)))

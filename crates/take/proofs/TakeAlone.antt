@@ -2,7 +2,6 @@
 --     link-changes, link-head, link-prev, link-next, link-listed    the words after
 --     alone-walks      every test passes
 --     alone-planned    what the take gives
--- Assumes nothing.
 use Prim.Native.Nat.{ℕ, zero, suc, _+_, _-_, _≤_}
 use native.Mathlib.Omega.{arith}
 use native.Mathlib.Numerals.{add-one}

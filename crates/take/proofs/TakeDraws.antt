@@ -1,7 +1,6 @@
 -- A page that gives blocks, on any words that passed the plan's tests.
 --     latest-small   the blocks that it gives have out bits
 --     draw-full      a page that still gives blocks gave all that were wanted
--- Assumes nothing.
 use Prim.Native.Nat.{ℕ, _+_, _-_, _≤_, _<_, min}
 use native.Mathlib.Omega.{arith}
 use mathlib.Core.Bool.{true, not, _||_}
@@ -10,10 +9,10 @@ use mathlib.Core.Path.{_≡_, _∙_}
 use lib.Dec.{eqb, ltb, leb}
 use lib.ListN.{length}
 use borrow.Author.Tests.{ltb-true, leb-true, eqb-true, eqb-false}
+use Rattle.facts.specs.Lists.{every}
+use Rattle.facts.proofs.Bools.{by-cases}
 use Rattle.classes.specs.declared.Shape.{Shape}
 use Rattle.fields.specs.Field.{page, free, carved, get, words}
-use Rattle.model.specs.Lists.{every}
-use Rattle.model.proofs.Counts.{by-cases}
 use Rattle.pages.specs.Stack.{tops, latest, draw, hasMore}
 use Rattle.pages.proofs.Downs.{small, every-below}
 use Rattle.pages.proofs.Draws.{latest-length, latest-below, draw-free, draw-carved}

@@ -2,7 +2,6 @@
 -- owner's, and no class's row is changed.
 --     Granted           that
 --     commit-granted    a commit's
--- Assumes nothing.
 use Prim.Native.Nat.{ℕ, zero, suc, _+_, _-_, _≤_, _<_}
 use native.Mathlib.Omega.{arith}
 use native.Mathlib.Nat.{add-zero}
@@ -13,24 +12,24 @@ use mathlib.Core.Path.{_≡_, refl, ap, _∙_, subst}
 use lib.Dec.{eqb, ltb, leb}
 use lib.ListN.{length}
 use borrow.Author.Tests.{lt-ltb, leb-true, eqb-false, ne-eqb}
+use Rattle.facts.proofs.Bools.{by-cases}
 use Rattle.words.specs.Host.{commitGranted}
 use Rattle.fields.specs.Field.{arena, memory, class, hole, page, frontier, held, partial, owner, start, pages, get, put, words}
 use Rattle.fields.proofs.Laws.{get-put-same, get-put-other, length-put}
 use Rattle.fields.proofs.Changes.{Changes, changes-none, changes-put}
 use Rattle.model.specs.HoleStore as Model
 use Rattle.model.specs.declared.Hole.{Hole}
-use Rattle.model.proofs.Counts.{by-cases}
-use Rattle.arena.specs.declared.Arena.{Arena}
-use Rattle.arena.specs.declared.Plan.{Plan}
+use Rattle.holes.specs.declared.Arena.{Arena}
+use Rattle.holes.specs.declared.Plan.{Plan}
 use Rattle.arena.specs.Store.{storeHole, storeCounts, storeTop}
-use Rattle.arena.specs.Record.{recordOf, storeRecord, advanced, counted}
+use Rattle.holes.specs.Record.{recordOf, storeRecord, advanced, counted}
 use Rattle.arena.specs.Fair.{recordFair, memoryFair}
 use Rattle.arena.specs.Owners.{own}
 use Rattle.arena.specs.Calls.{Committed, commitRefused, commitFor}
-use Rattle.arena.specs.Act.{rememberWord, withState, cutWords, usedWords, drawWords, drawRecord, forgetWord, endNone, endRun, endGiven, settle, fromFrontier, commitDrawn, nextState, commitPlanned, planned, commitRead, commitRecalled, commitActs}
+use Rattle.holes.specs.Act.{rememberWord, withState, cutWords, usedWords, drawWords, drawRecord, forgetWord, endNone, endRun, endGiven, settle, fromFrontier, commitDrawn, nextState, commitPlanned, planned, commitRead, commitRecalled, commitActs}
 use Rattle.arena.proofs.Frames.{isStored, isOwner, record-changes, own-changes}
-use Rattle.arena.proofs.Acts.{FairRecord, fair-record, commit-acts}
-use Rattle.arena.proofs.PlanLaws.{plan-fits}
+use Rattle.holes.proofs.Acts.{FairRecord, fair-record, commit-acts}
+use Rattle.holes.proofs.PlanLaws.{plan-fits}
 
 pub record Granted (n : ℕ) (b b′ : List ℕ) (m q w : ℕ) : Type 0 where
   pub ends : q + m ≤ n

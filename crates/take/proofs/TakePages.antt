@@ -2,7 +2,6 @@
 --     Fair          what `sound` tests, by name
 --     Alike         two books agree on the owners and first pages, the frontier, and a page's counts, flag and stack
 --     sound-alike   the test passes on both, or on neither
--- Assumes nothing.
 use Prim.Native.Nat.{ℕ, zero, suc, _+_, _-_, _≤_, _<_, min}
 use native.Mathlib.Omega.{arith}
 use mathlib.Core.Bool.{true, not, _||_}
@@ -10,16 +9,18 @@ use mathlib.Core.List.{List}
 use mathlib.Core.Path.{_≡_, refl, _∙_}
 use lib.Dec.{eqb, ltb, leb}
 use lib.ListN.{length}
-use borrow.Author.Tests.{lt-ltb, ltb-true, leb-true, eq-eqb, eqb-true, eqb-false}
+use borrow.Author.Tests.{lt-ltb, ltb-true, le-leb, leb-true, eq-eqb, eqb-true, eqb-false}
+use Rattle.facts.specs.Lists.{every, below}
+use Rattle.facts.proofs.Bools.{by-cases, and-left, and-right}
 use Rattle.classes.specs.declared.Shape.{Shape}
 use Rattle.fields.specs.Field.{arena, page, slot, frontier, owner, first, free, carved, listed, virgin, get}
-use Rattle.model.specs.Lists.{every, below}
-use Rattle.model.proofs.Counts.{by-cases, and-l, and-r}
 use Rattle.pages.specs.Runs.{ofRun, whole}
 use Rattle.pages.specs.Stack.{tops, latest, hasMore}
 use Rattle.pages.proofs.Tops.{tops-kept}
 use Rattle.pages.proofs.Draws.{latest-length}
-use Rattle.calls.specs.Take.{sound}
+use Rattle.pages.specs.Fair.{headerFair}
+use Rattle.pages.proofs.FairLaws.{carved-low, room-left, virgin-low, header-passes}
+use Rattle.calls.specs.Take.{pageReady, sound}
 
 pub record Fair (n : ℕ) (b : List ℕ) (c : ℕ) (sh : Shape) (l m q : ℕ) : Type 0 where
   pub run : whole n b sh c q ≡ true
@@ -31,31 +32,33 @@ pub record Fair (n : ℕ) (b : List ℕ) (c : ℕ) (sh : Shape) (l m q : ℕ) : 
   pub entries : every (λ i. ltb i (get b (page carved q))) (tops b q m (get b (page free q))) ≡ true
 
 pub sound-fair : (n : ℕ) (b : List ℕ) (c : ℕ) (sh : Shape) (l m q : ℕ) → sound n b c sh l m q ≡ true → Fair n b c sh l m q
-unfolding sound
+unfolding sound pageReady
 sound-fair n b c sh l m q e =
-    let e₁ = and-r (whole n b sh c q) _ e in
-    let e₂ = and-r (eqb (get b (page listed q)) l) _ e₁ in
-    let e₃ = and-r (leb (get b (page free q)) (get b (page carved q))) _ e₂ in
-    let e₄ = and-r (leb (get b (page carved q)) (sh .capacity)) _ e₃ in
-    let e₅ = and-r (leb (get b (page virgin q)) 1) _ e₄ in
+    let e₁ = and-right (whole n b sh c q) _ e in
+    let e₂ = and-left (pageReady b sh l q) _ e₁ in
+    let h = and-left (headerFair b sh 0 q) _ e₂ in
+    let e₃ = and-right (headerFair b sh 0 q) _ e₂ in
     record {
-      run = and-l _ _ e;
-      listing = and-l _ _ e₁;
-      stack = and-l _ _ e₂;
-      within = and-l _ _ e₃;
-      clean = and-l _ _ e₄;
-      more = and-l _ _ e₅;
-      entries = and-r (hasMore b sh q) _ e₅;
+      run = and-left _ _ e;
+      listing = and-left _ _ e₃;
+      stack = le-leb (get b (page free q)) (get b (page carved q)) (omega (arith, room-left b sh 0 q h));
+      within = le-leb (get b (page carved q)) (sh .capacity) (carved-low b sh 0 q h);
+      clean = le-leb (get b (page virgin q)) 1 (virgin-low b sh 0 q h);
+      more = and-right (eqb (get b (page listed q)) l) _ e₃;
+      entries = and-right (pageReady b sh l q) _ e₁;
     }
 
 pub fair-sound : (n : ℕ) (b : List ℕ) (c : ℕ) (sh : Shape) (l m q : ℕ) → Fair n b c sh l m q → sound n b c sh l m q ≡ true
-unfolding sound
-fair-sound n b c sh l m q f = rw (f .run, f .listing, f .stack, f .within, f .clean, f .more) (f .entries)
+unfolding sound pageReady
+fair-sound n b c sh l m q f =
+    let x = leb-true (get b (page free q)) (get b (page carved q)) (f .stack) in
+    let h = header-passes b sh 0 q (leb-true (get b (page carved q)) (sh .capacity) (f .within)) (omega arith) (leb-true (get b (page virgin q)) 1 (f .clean)) in
+    rw (f .run, h, f .listing, f .more) (f .entries)
 
 -- ---- a run
 pub whole-below : (n : ℕ) (b : List ℕ) (c : ℕ) (sh : Shape) (q : ℕ) → whole n b sh c q ≡ true → q + sh .pages ≤ n
 unfolding whole
-whole-below n b c sh q e = leb-true (q + sh .pages) n (and-l _ _ e)
+whole-below n b c sh q e = leb-true (q + sh .pages) n (and-left _ _ e)
 
 -- ---- two books
 pub record Alike (b b′ : List ℕ) (q : ℕ) : Type 0 where

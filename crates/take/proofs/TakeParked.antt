@@ -1,4 +1,4 @@
--- A take from a store: its newest page becomes the partial list. Assumes nothing.
+-- A take from a store: its newest page becomes the partial list.
 use Prim.Native.Nat.{ℕ, suc, _+_, _-_, _≤_, _<_}
 use native.Mathlib.Omega.{arith}
 use mathlib.Core.Bool.{Bool, true, false, not, and-false, true≢false}
@@ -6,18 +6,19 @@ use mathlib.Core.List.{List}
 use mathlib.Core.Path.{_≡_, refl, sym, ap, _∙_}
 use lib.Dec.{eqb, ltb, leb}
 use lib.ListN.{length}
-use borrow.Author.Tests.{lt-ltb, le-leb, lt-leb, leb-true, ne-eqb, eqb-true, eqb-false, not-true, not-false}
+use borrow.Author.Tests.{lt-ltb, le-leb, leb-true, ne-eqb, eqb-true, eqb-false, not-true, not-false}
+use Rattle.facts.proofs.Bools.{and-left, and-right}
 use Rattle.classes.specs.declared.Shape.{Shape}
 use Rattle.fields.specs.Field.{Field, arena, class, page, slot, frontier, partial, owner, first, next, free, carved, listed, virgin, region, get, words, Has}
 use Rattle.fields.proofs.Laws.{get-put-other}
 use Rattle.fields.proofs.Changes.{Changes}
-use Rattle.model.proofs.Counts.{and-l, and-r}
 use Rattle.pages.specs.Stack.{latest}
-use Rattle.pages.specs.Links.{top, tally, unstow}
+use Rattle.pages.specs.Links.{top, stored, unstow}
 use Rattle.pages.specs.declared.Park.{Park}
 use Rattle.pages.specs.declared.Park.the-variants.{Empty, Cold}
 use Rattle.pages.specs.Asks.{WakeAsks}
 use Rattle.pages.proofs.Frames.{changes-unstow}
+use Rattle.pages.specs.Fair.{storeFair}
 use Rattle.calls.specs.Take.{sound, parkFair}
 use Rattle.take.specs.TakePlan.{TakeAsks, SupplyAsks, walksFrom, fills, Foretold, ParkedAsks, woken}
 use Rattle.take.proofs.TakePages.{Fair, sound-fair, whole-below, Alike, fair-alike, latest-alike}
@@ -26,27 +27,28 @@ use Rattle.take.proofs.Fill.{foreseen, fill-planned}
 
 -- ---- the test
 module _ (n : ℕ) (b : List ℕ) (c : ℕ) (sh : Shape) (k : Park) where
-  pub fair-above : (x f : ℕ) → x ≡ get b (class (top k) c) → f ≡ get b (arena frontier) → f < x → false ≡ parkFair n b c sh k
+  pub fair-store : (s : Bool) → s ≡ storeFair b c k → not s ≡ true → false ≡ parkFair n b c sh k
   unfolding parkFair
-  fair-above x f e e′ h = rw (← e, ← e′, lt-leb x f h)
+  fair-store s e h = rw (← e, not-true s h)
 
-  pub fair-none : (m : ℕ) → m ≡ get b (class (tally k) c) → m ≡ 0 → false ≡ parkFair n b c sh k
+  pub fair-none : (m : ℕ) → m ≡ get b (class (stored k) c) → m ≡ 0 → false ≡ parkFair n b c sh k
   unfolding parkFair
   fair-none m e h = simp (← e, h, and-false)
-
-  pub fair-many : (m : ℕ) → m ≡ get b (class (tally k) c) → 256 < m → false ≡ parkFair n b c sh k
-  unfolding parkFair
-  fair-many m e h = simp (← e, lt-leb m 256 h, and-false)
 
   pub fair-unsound : (x : ℕ) (s : Bool) → x ≡ get b (class (top k) c) → s ≡ sound n b c sh 0 (sh .batch) (x - 1) → not s ≡ true → false ≡ parkFair n b c sh k
   unfolding parkFair
   fair-unsound x s e e′ h = simp (← e, ← e′, not-true s h, and-false)
 
-  pub fair-next : (x f m : ℕ) (s : Bool) (y : ℕ) → x ≡ get b (class (top k) c) → f ≡ get b (arena frontier) → x ≤ f → m ≡ get b (class (tally k) c) → (m ≡ 0 → ⊥) → m ≤ 256
-      → s ≡ sound n b c sh 0 (sh .batch) (x - 1) → not s ≡ false → y ≡ get b (page next (x - 1)) → leb y f ≡ parkFair n b c sh k
+  pub next-there : (t : Bool) (x : ℕ) → ParkedAsks n b c sh k → t ≡ storeFair b c k → not t ≡ false → x ≡ get b (class (top k) c) → Has b (page next (x - 1))
+  next-there t x a e h j =
+      let z = leb-true (get b (class (top k) c)) (get b (arena frontier)) (and-left _ _ (sym e ∙ not-false t h)) in
+      omega (arith, a .some, a .asks .bound, a .asks .long)
+
+  pub fair-next : (t : Bool) (m x : ℕ) (s : Bool) (y f : ℕ) → t ≡ storeFair b c k → not t ≡ false → m ≡ get b (class (stored k) c) → (m ≡ 0 → ⊥) → x ≡ get b (class (top k) c)
+      → s ≡ sound n b c sh 0 (sh .batch) (x - 1) → not s ≡ false → y ≡ get b (page next (x - 1)) → f ≡ get b (arena frontier) → leb y f ≡ parkFair n b c sh k
   unfolding parkFair
-  fair-next x f m s y e₁ e₂ h₁ e₃ h₂ h₃ e₄ h₄ e₅ =
-      rw (← e₁, ← e₂, le-leb x f h₁, ← e₃, ne-eqb m 0 h₂, le-leb m 256 h₃, ← e₄, not-false s h₄, ← e₅)
+  fair-next t m x s y f e₁ h₁ e₂ h₂ e₃ e₄ h₃ e₅ e₆ =
+      rw (← e₁, not-false t h₁, ← e₂, ne-eqb m 0 h₂, ← e₃, ← e₄, not-false s h₃, ← e₅, ← e₆)
 
 -- ---- the page
 -- a page that leaves its store: only the class's row changes
@@ -85,22 +87,21 @@ module _ (n : ℕ) (b : List ℕ) (c : ℕ) (sh : Shape) (k : Park) (a : ParkedA
   hc : ltb c 76 ≡ true
   hc = lt-ltb c 76 (a .asks .known)
 
-  some-pages : get b (class (tally k) c) ≡ 0 → ⊥
+  some-pages : get b (class (stored k) c) ≡ 0 → ⊥
   unfolding parkFair
-  some-pages z = let t = and-l _ _ (and-r (leb (get b (class (top k) c)) (get b (arena frontier))) _ p) in eqb-false _ _ (not-true _ t) z
+  some-pages z = let t = and-left _ _ (and-right (storeFair b c k) _ p) in eqb-false _ _ (not-true _ t) z
 
   parked-fair : Fair n b c sh 0 (sh .batch) newest
   unfolding parkFair
   parked-fair =
       sound-fair n b c sh 0 (sh .batch) newest
-      (and-l _ _
-      (and-r (leb (get b (class (tally k) c)) 256) _
-      (and-r (not (eqb (get b (class (tally k) c)) 0)) _
-      (and-r (leb (get b (class (top k) c)) (get b (arena frontier))) _ p))))
+      (and-left _ _
+      (and-right (not (eqb (get b (class (stored k) c)) 0)) _
+      (and-right (storeFair b c k) _ p)))
 
   below-top : get b (class (top k) c) ≤ get b (arena frontier)
   unfolding parkFair
-  below-top = leb-true (get b (class (top k) c)) (get b (arena frontier)) (and-l _ _ p)
+  below-top = leb-true (get b (class (top k) c)) (get b (arena frontier)) (and-left _ _ (and-left (storeFair b c k) _ p))
 
   there : newest < n
   there = omega (arith, whole-below n b c sh newest (parked-fair .run), a .asks .shape .paged)

@@ -1,4 +1,4 @@
--- The ways out of the takes. Assumes nothing.
+-- The ways out of the takes.
 use Prim.Native.Nat.{ℕ, zero, suc, _+_, _-_, _≤_, _<_}
 use native.Mathlib.Omega.{arith}
 use native.Mathlib.Numerals.{add-one}
@@ -47,13 +47,13 @@ module _ (b : List ℕ) (c : ℕ) (sh : Shape) (l : List ℕ) where
   fits n k a w e h = record { pages = n; asks = a; walks = w; count = e; places = omega (arith, fill-most c sh (sh .batch) (sh .batch) b) }
 
   took-all : (k : ℕ) (v : Bool) (b′ l′ : List ℕ) → k ≡ length (fills b c sh .blocks) → v ≡ fills b c sh .virgin → Filling b′ l′ (fills b c sh) l → Takes (Answer.Took k v) b′ l′ (filled b c sh l)
-  took-all k v b′ l′ e e′ f = record { answer = rw (e, e′); meta = f .meta; list = f .list }
+  took-all k v b′ l′ e e′ f = record { answer = rw (e, e′); book = f .book; list = f .list }
 
 -- ---- the partial list
 module _ (n : ℕ) (b : List ℕ) (c : ℕ) (sh : Shape) (l : List ℕ) (p : Plan) where
   pub partial-refused : Foretold p (walksFrom n b c sh) (fills b c sh) → not (p .fair) ≡ true → Takes (Answer.Refused 13) b l (fromPartial n b c sh l)
   unfolding fromPartial
-  partial-refused f h = rw (sym (f .fair) ∙ not-true (p .fair) h) (record { answer = refl; meta = refl; list = refl })
+  partial-refused f h = rw (sym (f .fair) ∙ not-true (p .fair) h) (record { answer = refl; book = refl; list = refl })
 
   pub partial-fills : TakeAsks n b c sh → sh .batch ≤ length l → Foretold p (walksFrom n b c sh) (fills b c sh) → not (p .fair) ≡ false → FillAsks b c sh l (p .count)
   partial-fills a r f h = let w = sym (f .fair) ∙ not-false (p .fair) h in fits b c sh l n (p .count) a w (f .count w) r
@@ -68,7 +68,7 @@ module _ (n : ℕ) (b : List ℕ) (c : ℕ) (sh : Shape) (l : List ℕ) (p : Pla
 module _ (n : ℕ) (b : List ℕ) (c : ℕ) (sh : Shape) (k : Park) (l : List ℕ) (p : Plan) where
   pub parked-refused : Foretold p (parkFair n b c sh k) (fills (woken b c k) c sh) → not (p .fair) ≡ true → Takes (Answer.Refused 13) b l (fromPark n b c sh k l)
   unfolding fromPark
-  parked-refused f h = rw (sym (f .fair) ∙ not-true (p .fair) h) (record { answer = refl; meta = refl; list = refl })
+  parked-refused f h = rw (sym (f .fair) ∙ not-true (p .fair) h) (record { answer = refl; book = refl; list = refl })
 
   pub parked-wake : (x : ℕ) → ParkedAsks n b c sh k → Foretold p (parkFair n b c sh k) (fills (woken b c k) c sh) → not (p .fair) ≡ false → x ≡ get b (class (top k) c) → WakeAsks b c k (x - 1)
   parked-wake x a f h e = rw e (parked-wakes n b c sh k a (sym (f .fair) ∙ not-false (p .fair) h))
@@ -207,7 +207,7 @@ module _ (n : ℕ) (b : List ℕ) (c : ℕ) (sh : Shape) (h : ℕ) (l : List ℕ
       let a′ : Answers r b′ commits = rw add-one at a in
       let u = answer-refused (commits .code) (commits .run) (commits .fresh) k (sym (a′ .answer) ∙ e) in
       let d : commits .code ≡ 0 → ⊥ = λ z. u .1 (sym (u .0) ∙ z) in
-      rw (ne-eqb (commits .code) 0 d, u .0) (record { answer = numbered k (u .1); meta = a′ .book ∙ refused-keeps d; list = refl })
+      rw (ne-eqb (commits .code) 0 d, u .0) (record { answer = numbered k (u .1); book = a′ .book ∙ refused-keeps d; list = refl })
     where
       numbered : (k : ℕ) → (k ≡ 0 → ⊥) → Answer.Refused k ≡ answerOf k 0 false
       numbered zero d = absurd (d refl)
@@ -218,7 +218,7 @@ module _ (n : ℕ) (b : List ℕ) (c : ℕ) (sh : Shape) (h : ℕ) (l : List ℕ
   new-none r b′ a e =
       let a′ : Answers r b′ commits = rw add-one at a in
       let u = answer-none (commits .code) (commits .run) (commits .fresh) (sym (a′ .answer) ∙ e) in
-      rw (u .0, u .1) (record { answer = refl; meta = a′ .book; list = refl })
+      rw (u .0, u .1) (record { answer = refl; book = a′ .book; list = refl })
 
   pub new-runs : (r : Commit.Commit) (q : ℕ) (f : Bool) (b′ : List ℕ) → TakeNewAsks n b c sh l → Answers r b′ (commitFor n b h (sh .pages) (c + 1)) → r ≡ Made.Run q f → TakeRunAsks b′ c sh l q
   new-runs r q f b′ t a e =
@@ -247,7 +247,7 @@ module _ (n : ℕ) (b : List ℕ) (c : ℕ) (sh : Shape) (h : ℕ) (l : List ℕ
 module _ (n : ℕ) (b : List ℕ) (c : ℕ) (sh : Shape) (h : ℕ) (l : List ℕ) where
   pub blocks-unfair : (f : ℕ) → f ≡ get b (arena frontier) → n < f → Takes (Answer.Refused 13) b l (takeBlocks n b c sh h l)
   unfolding takeBlocks
-  blocks-unfair f e u = rw (← e, lt-ltb n f u) (record { answer = refl; meta = refl; list = refl })
+  blocks-unfair f e u = rw (← e, lt-ltb n f u) (record { answer = refl; book = refl; list = refl })
 
   pub blocks-partial : (f x : ℕ) (s : Taken.Take) (b′ l′ : List ℕ) → f ≡ get b (arena frontier) → f ≤ n → x ≡ get b (class partial c) → (x ≡ 0 → ⊥)
       → Takes s b′ l′ (fromPartial n b c sh l) → Takes s b′ l′ (takeBlocks n b c sh h l)
@@ -271,17 +271,13 @@ module _ (n : ℕ) (b : List ℕ) (c : ℕ) (sh : Shape) (h : ℕ) (l : List ℕ
 
 -- ---- the call
 module _ (n : ℕ) (b : List ℕ) (c h : ℕ) (l : List ℕ) where
-  pub call-host : 15 < h → Takes (Answer.Refused 3) b l (takeCall n b c (shapeOf c) h l)
+  pub call-short : (sh : Shape) → sh ≡ shapeOf c → length l < sh .batch → Takes (Answer.Refused 5) b l (takeCall n b c (shapeOf c) h l)
   unfolding takeCall
-  call-host u = rw (lt-ltb 15 h u) (record { answer = refl; meta = refl; list = refl })
-
-  pub call-short : (sh : Shape) → h ≤ 15 → sh ≡ shapeOf c → length l < sh .batch → Takes (Answer.Refused 5) b l (takeCall n b c (shapeOf c) h l)
-  unfolding takeCall
-  call-short sh u e s = rw (le-ltb 15 h u, ← e, lt-ltb (length l) (sh .batch) s) (record { answer = refl; meta = refl; list = refl })
+  call-short sh e s = rw (← e, lt-ltb (length l) (sh .batch) s) (record { answer = refl; book = refl; list = refl })
 
   pub call-asks : (sh : Shape) → CallAsks n b c → sh ≡ shapeOf c → sh .batch ≤ length l → BlocksAsks n b c sh l
   call-asks sh a e s = record { known = a .known; shape = rw e (shape-sound c); few = a .few; long = a .long; places = s }
 
-  pub call-done : (sh : Shape) (r : Taken.Take) (b′ l′ : List ℕ) → h ≤ 15 → sh ≡ shapeOf c → sh .batch ≤ length l → Takes r b′ l′ (takeBlocks n b c sh h l) → Takes r b′ l′ (takeCall n b c (shapeOf c) h l)
+  pub call-done : (sh : Shape) (r : Taken.Take) (b′ l′ : List ℕ) → sh ≡ shapeOf c → sh .batch ≤ length l → Takes r b′ l′ (takeBlocks n b c sh h l) → Takes r b′ l′ (takeCall n b c (shapeOf c) h l)
   unfolding takeCall
-  call-done sh r b′ l′ u e s t = rw (le-ltb 15 h u, ← e, le-ltb (length l) (sh .batch) s) t
+  call-done sh r b′ l′ e s t = rw (← e, le-ltb (length l) (sh .batch) s) t

@@ -1,4 +1,4 @@
--- The entries of a page's stack from one place on below another, and the ways out of the functions that test them. Assumes nothing.
+-- The entries of a page's stack from one place on below another, and the ways out of the functions that test them.
 --     fit         each of the topmost n of a stack of t is below k
 --     fit-split   those above a place, and those below it
 use Prim.Native.Nat.{ℕ, zero, suc, _+_, _-_, _*_, _/_, _≤_, _<_}
@@ -10,8 +10,8 @@ use mathlib.Core.List.{List}
 use mathlib.Core.Path.{_≡_, refl, sym, ap, ap₂, _∙_}
 use lib.Dec.{ltb}
 use borrow.Author.Tests.{not-true, not-false}
+use Rattle.facts.specs.Lists.{every}
 use Rattle.fields.specs.Field.{slot, get}
-use Rattle.model.specs.Lists.{every}
 use Rattle.pages.specs.Stack.{tops}
 use Rattle.pages.proofs.Tops.{tops-cut}
 

@@ -5,7 +5,6 @@
 --     Step          what one turn of a passing walk tests
 --     tail-kept     a walk past the second page does not see that the first one is cut out
 --     head-kept     the second page, once it heads the list
--- Assumes nothing.
 use Prim.Native.Nat.{ℕ, zero, suc, _+_, _-_, _≤_}
 use native.Mathlib.Omega.{arith}
 use mathlib.Core.Bool.{Bool, true, false, cond, _&&_, _||_, true≢false}
@@ -14,10 +13,10 @@ use mathlib.Core.Path.{_≡_, refl, sym, ap, _∙_}
 use lib.Dec.{eqb, ltb, leb}
 use lib.ListN.{length}
 use borrow.Author.Tests.{leb-true, eq-eqb, ne-eqb, eqb-true}
+use Rattle.facts.proofs.Bools.{by-cases, and-left, and-right}
 use Rattle.classes.specs.declared.Shape.{Shape}
 use Rattle.fields.specs.Field.{Field, arena, memory, class, hole, page, out, slot, frontier, owner, first, next, prev, free, carved, listed, virgin, classOff, pageOff, get}
 use Rattle.fields.proofs.Changes.{Changes}
-use Rattle.model.proofs.Counts.{by-cases, and-l, and-r}
 use Rattle.pages.specs.Stack.{latest}
 use Rattle.calls.specs.Take.{sound, walk}
 use Rattle.take.proofs.TakePages.{Fair, sound-fair, fair-sound, Alike, fair-alike, latest-alike}
@@ -78,7 +77,7 @@ module _ (n : ℕ) (b : List ℕ) (c : ℕ) (sh : Shape) where
   pub walk-below : (k m code y : ℕ) → walk n b c sh k m code y ≡ true → leb code (get b (arena frontier)) ≡ true
   unfolding walk
   walk-below zero m code y e = e
-  walk-below (suc k) m code y e = and-l _ _ e
+  walk-below (suc k) m code y e = and-left _ _ e
 
   pub walk-stops : (k m code y : ℕ) → stops m code ≡ true → walk n b c sh k m code y ≡ leb code (get b (arena frontier))
   unfolding walk
@@ -88,13 +87,13 @@ module _ (n : ℕ) (b : List ℕ) (c : ℕ) (sh : Shape) where
   pub walk-step : (k m code y : ℕ) → stops m code ≡ false → walk n b c sh (suc k) m code y ≡ true → Step k m code y
   unfolding walk
   walk-step k m code y e w =
-      let w₁ = and-r (leb code (get b (arena frontier))) _ (rw e at w) in
-      let w₂ = and-r (eqb (get b (page prev (code - 1))) y) _ w₁ in
+      let w₁ = and-right (leb code (get b (arena frontier))) _ (rw e at w) in
+      let w₂ = and-right (eqb (get b (page prev (code - 1))) y) _ w₁ in
       record {
-        below = and-l _ _ w;
-        before = eqb-true _ _ (and-l (eqb (get b (page prev (code - 1))) y) _ w₁);
-        fair = sound-fair n b c sh 1 m (code - 1) (and-l _ _ w₂);
-        rest = and-r (sound n b c sh 1 m (code - 1)) _ w₂;
+        below = and-left _ _ w;
+        before = eqb-true _ _ (and-left (eqb (get b (page prev (code - 1))) y) _ w₁);
+        fair = sound-fair n b c sh 1 m (code - 1) (and-left _ _ w₂);
+        rest = and-right (sound n b c sh 1 m (code - 1)) _ w₂;
       }
 
   pub step-walk : (k m code y : ℕ) → stops m code ≡ false → Step k m code y → walk n b c sh (suc k) m code y ≡ true

@@ -1,4 +1,4 @@
--- What a take answers, and that the code answered so. Assumes nothing.
+-- What a take answers, and that the code answered so.
 use Prim.Native.Nat.{ℕ, zero, suc}
 use mathlib.Core.Bool.{Bool}
 use mathlib.Core.List.{List}
@@ -15,5 +15,5 @@ answerOf (suc k) m v = Answer.Refused (suc k)
 -- it answered r, and left the book b and the list l
 pub record Takes (r : Take) (b l : List ℕ) (t : Took) : Type 0 where
   pub answer : r ≡ answerOf (t .code) (t .count) (t .virgin)
-  pub meta : b ≡ t .book
+  pub book : b ≡ t .book
   pub list : l ≡ t .list

@@ -1,4 +1,4 @@
--- What a take's plan and its fill ask of the words, and what a plan answers. Assumes nothing.
+-- What a take's plan and its fill ask of the words, and what a plan answers.
 --     TakeAsks     a book of n pages, its frontier in range, and a class with its shape
 --     share        the blocks that the walk finds on the page with a code, 0 where a test fails
 --     Foretold     a plan: whether every test passes, and then what the fill will yield
@@ -10,15 +10,15 @@ use lib.Dec.{eqb, leb}
 use lib.ListN.{length, drop}
 use Rattle.classes.specs.declared.Shape.{Shape}
 use Rattle.classes.specs.Sound.{Sound}
-use Rattle.fields.specs.Field.{arena, class, page, frontier, partial, owner, free, carved, next, prev, listed, virgin, words, get}
+use Rattle.fields.specs.Field.{arena, class, page, frontier, partial, owner, free, carved, next, prev, words, get}
 use Rattle.fields.specs.Ranges.{maxPages}
 use Rattle.model.specs.Page.{wordOf}
-use Rattle.pages.specs.Stack.{latest, draw, hasMore, spliced}
+use Rattle.pages.specs.Stack.{latest, draw, spliced, pageSlots}
 use Rattle.pages.specs.Links.{top, wake}
 use Rattle.pages.specs.declared.Park.{Park}
 use Rattle.pages.specs.Asks.{DrawAsks}
 use Rattle.take.specs.declared.take_plan.Plan.{Plan}
-use Rattle.calls.specs.Take.{sound, walk, Filled, relist, fillFrom}
+use Rattle.calls.specs.Take.{sound, walk, Filled, unlistSpent, fillFrom}
 
 pub record TakeAsks (n : ℕ) (b : List ℕ) (c : ℕ) (sh : Shape) : Type 0 where
   pub known : c < 76
@@ -29,22 +29,13 @@ pub record TakeAsks (n : ℕ) (b : List ℕ) (c : ℕ) (sh : Shape) : Type 0 whe
 
 pub record TopsAsks (b : List ℕ) (q t : ℕ) : Type 0 where
   pub there : words (q + 1) ≤ length b
-  pub slots : t ≤ 4096
+  pub slots : t ≤ pageSlots
 
 pub record SupplyAsks (b : List ℕ) (sh : Shape) (q : ℕ) : Type 0 where
   pub there : words (q + 1) ≤ length b
-  pub some : get b (page free q) ≤ 4096
+  pub some : get b (page free q) ≤ pageSlots
   pub carved : get b (page carved q) ≤ sh .capacity
-  pub few : sh .capacity ≤ 4096
-
--- the part of `sound` that reads the page's own words
-unfoldable pub headerFair : List ℕ → Shape → ℕ → ℕ → Bool
-headerFair b sh l q =
-    eqb (get b (page listed q)) l
-    && (leb (get b (page free q)) (get b (page carved q))
-    && (leb (get b (page carved q)) (sh .capacity)
-    && (leb (get b (page virgin q)) 1
-    && hasMore b sh q)))
+  pub few : sh .capacity ≤ pageSlots
 
 unfoldable pub share : ℕ → List ℕ → ℕ → Shape → ℕ → ℕ → ℕ → ℕ
 share n b c sh m code y =
@@ -112,7 +103,7 @@ pub record TurnAsks (b : List ℕ) (c : ℕ) (sh : Shape) (l : List ℕ) (at m :
 -- it answered r, and left the book b′ and the list l′
 pub record GaveTurn (r : ℕ) (b′ l′ b : List ℕ) (c : ℕ) (sh : Shape) (l : List ℕ) (at m : ℕ) : Type 0 where
   pub count : r ≡ length (latest b sh (get b (class partial c) - 1) m)
-  pub meta : b′ ≡ relist (draw b sh (get b (class partial c) - 1) m) c sh (get b (class partial c) - 1)
+  pub book : b′ ≡ unlistSpent (draw b sh (get b (class partial c) - 1) m) c sh (get b (class partial c) - 1)
   pub list : l′ ≡ spliced l (at - length (latest b sh (get b (class partial c) - 1) m)) (map (wordOf sh (get b (class partial c) - 1)) (latest b sh (get b (class partial c) - 1) m))
 
 -- the walk passes, whatever the arena's length, and `at` is what the fill yields
@@ -124,5 +115,5 @@ pub record FillAsks (b : List ℕ) (c : ℕ) (sh : Shape) (l : List ℕ) (at : �
   pub places : at ≤ length l
 
 pub record Filling (b′ l′ : List ℕ) (f : Filled) (l : List ℕ) : Type 0 where
-  pub meta : b′ ≡ f .book
+  pub book : b′ ≡ f .book
   pub list : l′ ≡ f .blocks ++ drop (length (f .blocks)) l

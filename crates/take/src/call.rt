@@ -14,9 +14,6 @@ use classes::Shape;
 use pages::Park;
 use runs::Commit;
 
-// The largest host word.
-const MAX_HOST: u32 = 15;
-
 // A refusal's number, or how many blocks stand in the list, and whether all are virgin.
 pub enum Take {
     Refused(u32),
@@ -98,14 +95,11 @@ fn take_blocks(meta: &mut [u32], n: u32, c: u32, shape: Shape, host: u32, list: 
     take_new(meta, n, c, shape, host, list)
 }
 
-// A class's take from number 3 on, on the book of an arena of n pages.
+// A class's take from number 5 on, on the book of an arena of n pages.
 pub fn take_call(meta: &mut [u32], n: u32, c: u32, host: u32, list: &mut [u32]) -> Take
     requires { ⌜ CallAsks n (now meta) c ⌝ }
     ensures { λ r. ⌜ Takes r (now (meta .exit)) (now (list .exit)) (takeCall n (now (meta .entry)) c (shapeOf c) host (now (list .entry))) ⌝ }
 {
-    if MAX_HOST < host {
-        return Take::Refused(3);
-    }
     let shape = classes::shape_of(c);
     if list.len() < shape.batch as usize {
         return Take::Refused(5);

@@ -1,14 +1,14 @@
 // The fill of a take: blocks from the partial list's head on, written from the last place down, so that the latest stands first.
 ghost use mathlib.Core.Path.{_≡_};
 ghost use Rattle.pages.specs.Asks.{UnlinkAsks};
-ghost use Rattle.calls.specs.Take.{relist};
+ghost use Rattle.calls.specs.Take.{unlistSpent};
 ghost use Rattle.take.specs.TakePlan.{fills, TurnAsks, GaveTurn, FillAsks, Filling};
 use classes::Shape;
 
 // A page that gave its last block leaves the list.
-fn relist(meta: &mut [u32], c: u32, shape: Shape, q: u32)
+fn unlist_spent(meta: &mut [u32], c: u32, shape: Shape, q: u32)
     requires { ⌜ UnlinkAsks (now meta) c q ⌝ }
-    ensures { λ _. ⌜ now (meta .exit) ≡ relist (now (meta .entry)) c shape q ⌝ }
+    ensures { λ _. ⌜ now (meta .exit) ≡ unlistSpent (now (meta .entry)) c shape q ⌝ }
 {
     if !stack::has_more(meta, shape, q) {
         lists::unlink_partial(meta, c, q);
@@ -22,7 +22,7 @@ fn fill_page(meta: &mut [u32], c: u32, shape: Shape, list: &mut [u32], at: u32, 
 {
     let q = fields::class::partial(meta, c) - 1;
     let j = stack::draw_blocks(meta, shape, q, list, at, m);
-    relist(meta, c, shape, q);
+    unlist_spent(meta, c, shape, q);
     j
 }
 

@@ -6,14 +6,12 @@ ghost use lib.Dec.{eqb};
 ghost use lib.ListN.{length};
 ghost use Rattle.fields.specs.Field.{page, virgin, words, get};
 ghost use Rattle.pages.specs.Stack.{latest};
-ghost use Rattle.calls.specs.Take.{sound, parkFair};
-ghost use Rattle.take.specs.TakePlan.{TakeAsks, SupplyAsks, headerFair, share, walksFrom, fills, Foretold, ParkedAsks, woken};
+ghost use Rattle.pages.specs.Asks.{PageAsks};
+ghost use Rattle.calls.specs.Take.{pageReady, sound, parkFair};
+ghost use Rattle.take.specs.TakePlan.{TakeAsks, SupplyAsks, share, walksFrom, fills, Foretold, ParkedAsks, woken};
 use crate::tops::tops_below;
 use classes::Shape;
 use pages::Park;
-
-// No store has more pages.
-const MAX_PARKED: u32 = 256;
 
 // Whether every test passed; then how many blocks the fill will give, and whether all are virgin.
 pub struct Plan {
@@ -32,21 +30,14 @@ pub fn supply(meta: &[u32], shape: Shape, q: u32, m: u32) -> u32
 }
 
 // A page's own words are in their ranges, LISTED is l, and the page gives a block.
-fn header_fair(meta: &[u32], shape: Shape, l: u32, q: u32) -> bool
-    requires { ⌜ words (q + 1) ≤ length (now meta) ⌝ }
-    ensures { λ r. ⌜ r ≡ headerFair (now (meta .entry)) shape l q ⌝ }
+fn page_ready(meta: &[u32], shape: Shape, l: u32, q: u32) -> bool
+    requires { ⌜ PageAsks (now meta) q ⌝ }
+    ensures { λ r. ⌜ r ≡ pageReady (now (meta .entry)) shape l q ⌝ }
 {
-    let carved = fields::page::carved(meta, q);
+    if !lists::header_fair(meta, shape, 0, q) {
+        return false;
+    }
     if fields::page::listed(meta, q) != l {
-        return false;
-    }
-    if fields::page::free(meta, q) > carved {
-        return false;
-    }
-    if carved > shape.capacity {
-        return false;
-    }
-    if fields::page::virgin(meta, q) > 1 {
         return false;
     }
     stack::has_more(meta, shape, q)
@@ -60,7 +51,7 @@ fn page_sound(meta: &[u32], n: u32, c: u32, shape: Shape, l: u32, m: u32, q: u32
     if !lists::whole(meta, n, c, shape, q) {
         return false;
     }
-    if !header_fair(meta, shape, l, q) {
+    if !page_ready(meta, shape, l, q) {
         return false;
     }
     let free = fields::page::free(meta, q);
@@ -134,22 +125,17 @@ fn park_fair(meta: &[u32], n: u32, c: u32, shape: Shape, park: Park) -> bool
     requires { ⌜ ParkedAsks n (now meta) c shape park ⌝ }
     ensures { λ r. ⌜ r ≡ parkFair n (now (meta .entry)) c shape park ⌝ }
 {
+    if !lists::store_fair(meta, c, park) {
+        return false;
+    }
+    if lists::store_count(meta, c, park) == 0 {
+        return false;
+    }
     let code = lists::store_top(meta, c, park);
-    let frontier = fields::arena::frontier(meta);
-    if code > frontier {
-        return false;
-    }
-    let count = lists::store_count(meta, c, park);
-    if count == 0 {
-        return false;
-    }
-    if count > MAX_PARKED {
-        return false;
-    }
     if !page_sound(meta, n, c, shape, 0, shape.batch, code - 1) {
         return false;
     }
-    fields::page::next(meta, code - 1) <= frontier
+    fields::page::next(meta, code - 1) <= fields::arena::frontier(meta)
 }
 
 // The newest page of a store, as the partial list's only one.

@@ -3,8 +3,8 @@ ghost use mathlib.Core.Bool.{_&&_};
 ghost use mathlib.Core.Path.{_≡_};
 ghost use Prim.Native.Nat.{_+_, _-_, _*_, _≤_};
 ghost use lib.Dec.{ltb};
+ghost use Rattle.facts.specs.Lists.{every};
 ghost use Rattle.fields.specs.Field.{slot, get};
-ghost use Rattle.model.specs.Lists.{every};
 ghost use Rattle.pages.specs.Stack.{tops};
 ghost use Rattle.take.specs.TakePlan.{TopsAsks};
 

@@ -1,4 +1,4 @@
--- The loops and ways out of run_end, count_blocks, counts_fit and what they call. Assumes nothing.
+-- The loops and ways out of run_end, count_blocks, counts_fit and what they call.
 use Prim.Native.Nat.{ℕ, suc, _+_, _-_, _≤_, _<_}
 use native.Mathlib.Omega.{arith}
 use native.Mathlib.Numerals.{add-one}
@@ -9,15 +9,14 @@ use lib.Dec.{eqb}
 use lib.ListN.{length, getD, set, drop, length-set, length-drop}
 use lib.Seq.{drop-cons, drop-drop, getD-set-same, getD-set-other}
 use borrow.Author.Tests.{ltb-true, eqb-false, eqb-true, lt-ltb, le-ltb, eq-eqb, ne-eqb}
+use Rattle.facts.specs.Lists.{every, count, below}
+use Rattle.facts.proofs.Bools.{by-cases, and-left}
+use Rattle.facts.proofs.Lists.{drop-past, every-same, every-get, below-last}
 use Rattle.words.specs.Word.{countOf, pageOf}
 use Rattle.fields.specs.Field.{page, tally, word, get, Has}
-use Rattle.fields.proofs.Laws.{and-left}
-use Rattle.model.specs.Lists.{every, count, below}
-use Rattle.model.proofs.Counts.{by-cases}
-use Rattle.calls.specs.Release.{pageAt}
+use Rattle.pages.specs.Stack.{pageAt}
 use Rattle.tally.specs.Tally.{pageIn, tallyIn, ofChunk, chunkAt, hasChunk, runOn, agrees, fits, tallied}
 use Rattle.tally.specs.Asks.{wordThere, Counted, OneAsks, FitAsks}
-use Rattle.tally.proofs.Indices.{drop-past, every-same, every-get, below-last}
 use Rattle.tally.proofs.NameSteps.{tally-there}
 
 -- ---- of_chunk

@@ -1,4 +1,4 @@
--- The test on the named book is `chunksMatch` on the book at entry. Assumes nothing.
+-- The test on the named book is `chunksMatch` on the book at entry.
 use Prim.Native.Nat.{ℕ, _+_, _≤_, _<_}
 use native.Mathlib.Omega.{arith}
 use mathlib.Core.Bool.{Bool, true, false, cond, not, _&&_, and-false, and-true, true≢false}
@@ -7,15 +7,17 @@ use mathlib.Core.Path.{_≡_, refl, sym, ap, _∙_}
 use lib.Dec.{eqb, ltb, leb}
 use lib.ListN.{length, getD}
 use borrow.Author.Tests.{ltb-true, ltb-false, eqb-true, eqb-false, lt-ltb, eq-eqb, ne-eqb, not-true}
+use Rattle.facts.specs.Lists.{every, elem, distinct, count, below}
+use Rattle.facts.proofs.Bools.{bool-eq, and-left, and-right}
+use Rattle.facts.proofs.Lists.{every-get, every-made, every-at, every-of}
 use Rattle.words.specs.Word.{countOf, pageOf}
 use Rattle.fields.specs.Field.{page, tally, words, get}
-use Rattle.fields.proofs.Laws.{and-left, and-right}
-use Rattle.model.specs.Lists.{every, elem, distinct, count, below}
-use Rattle.calls.specs.Release.{pageAt, startOf}
+use Rattle.pages.specs.Stack.{pageAt}
+use Rattle.calls.specs.Release.{startOf}
 use Rattle.calls.specs.Chunks.{blocksOn, chunkFits, chunksMatch}
 use Rattle.tally.specs.Match.{onPage}
 use Rattle.tally.specs.Tally.{isPage, pageIn, tallyIn, named, ofChunk, chunkAt, hasChunk, agrees, tallied}
-use Rattle.tally.proofs.Indices.{bool-eq, every-get, every-made, every-at, every-of, elem-at, elem-found, distinct-at, distinct-of}
+use Rattle.tally.proofs.Indices.{elem-at, elem-found, distinct-at, distinct-of}
 use Rattle.tally.proofs.NameLaws.{page-in, finds}
 
 -- ---- a listed word's page

@@ -1,4 +1,4 @@
--- match_with: what its calls ask, and its ways out. Assumes nothing.
+-- match_with: what its calls ask, and its ways out.
 use Prim.Native.Nat.{ℕ, zero, suc, _≤_}
 use native.Mathlib.Omega.{arith}
 use mathlib.Core.Bool.{Bool, true, false}
@@ -7,12 +7,12 @@ use mathlib.Core.Path.{_≡_, refl, sym, ap, _∙_}
 use lib.Dec.{eqb, ltb}
 use lib.ListN.{length, getD}
 use borrow.Author.Tests.{ltb-true, eqb-true, lt-ltb, le-leb}
+use Rattle.facts.specs.Lists.{every}
+use Rattle.facts.proofs.Bools.{and-left, and-right}
 use Rattle.words.specs.Word.{pageOf}
 use Rattle.fields.specs.Field.{page, tally, word, words}
-use Rattle.fields.proofs.Laws.{and-left, and-right}
-use Rattle.model.specs.Lists.{every}
 use Rattle.pages.proofs.Downs.{every-mono}
-use Rattle.calls.specs.Release.{pageAt}
+use Rattle.pages.specs.Stack.{pageAt}
 use Rattle.tally.specs.Match.{onPage, MatchAsks, Matched}
 use Rattle.tally.specs.Tally.{isPage, unnamed, tallied}
 use Rattle.tally.specs.Asks.{chunkThere, wordThere, NameAsks, Named, CountAsks, FitAsks, RoomAsks}

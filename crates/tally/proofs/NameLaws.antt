@@ -1,5 +1,4 @@
 -- Naming and back: TALLY of a chunk's page finds a chunk with that page, and what stood there written back is the book at entry.
--- Assumes nothing.
 use Prim.Native.Nat.{ℕ, zero, suc, _≤_, _<_}
 use native.Mathlib.Omega.{arith}
 use mathlib.Core.Bool.{Bool, true, false}
@@ -8,11 +7,11 @@ use mathlib.Core.Path.{_≡_, refl, _∙_}
 use lib.Dec.{eqb, ltb, leb}
 use lib.ListN.{length}
 use borrow.Author.Tests.{eqb-true, eqb-false}
+use Rattle.facts.specs.Lists.{every}
+use Rattle.facts.proofs.Lists.{every-get}
 use Rattle.fields.specs.Field.{page, tally, words, get, put}
 use Rattle.fields.proofs.Laws.{get-put-same, get-put-other, put-put-same, put-get, length-put}
-use Rattle.model.specs.Lists.{every}
 use Rattle.tally.specs.Tally.{isPage, pageIn, tallyIn, named, Saved, unnamed}
-use Rattle.tally.proofs.Indices.{every-get}
 
 module _ (n : ℕ) (b gs : List ℕ) (hb : leb (words n) (length b) ≡ true) (pages : every (isPage n) gs ≡ true) where
   pub length-named : (m : ℕ) → length (named b gs m) ≡ length b

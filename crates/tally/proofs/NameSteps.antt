@@ -1,4 +1,4 @@
--- The loops and ways out of all_pages, name_chunks and unname_chunks. Assumes nothing.
+-- The loops and ways out of all_pages, name_chunks and unname_chunks.
 use Prim.Native.Nat.{ℕ, zero, suc, _+_, _-_, _≤_, _<_}
 use native.Mathlib.Omega.{arith}
 use native.Mathlib.Numerals.{add-one, sub-one}
@@ -9,14 +9,14 @@ use lib.Dec.{eqb, ltb}
 use lib.ListN.{length, getD, set, drop, length-set}
 use lib.Seq.{drop-cons, getD-set-same, getD-set-other}
 use borrow.Author.Tests.{ltb-true, eqb-false, eqb-true}
+use Rattle.facts.specs.Lists.{every}
+use Rattle.facts.proofs.Bools.{by-cases}
+use Rattle.facts.proofs.Lists.{drop-past, every-get}
 use Rattle.words.specs.Word.{pageOf}
 use Rattle.fields.specs.Field.{page, tally, word, get, put, Has}
 use Rattle.fields.proofs.Laws.{length-put}
-use Rattle.model.specs.Lists.{every}
-use Rattle.model.proofs.Counts.{by-cases}
 use Rattle.tally.specs.Tally.{isPage, pageIn, tallyIn, named, Saved, unnamed}
 use Rattle.tally.specs.Asks.{chunkThere, NameAsks, Named}
-use Rattle.tally.proofs.Indices.{drop-past, every-get}
 
 -- ---- all_pages
 pub page-test : (v p g n : ℕ) → v ≡ g → p ≡ pageOf v → ltb p n ≡ isPage n g

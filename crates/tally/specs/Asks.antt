@@ -1,16 +1,16 @@
 -- What the functions ask, and what those that write ensure. b is the book, ws the list, gs the chunks, ss what stood in TALLY, cs the
--- counts. Assumes nothing.
+-- counts.
 use Prim.Native.Nat.{ℕ, _<_, _≤_}
 use mathlib.Core.Bool.{Bool, true}
 use mathlib.Core.List.{List, map}
 use mathlib.Core.Path.{_≡_}
 use lib.Dec.{eqb, ltb}
 use lib.ListN.{length, getD}
+use Rattle.facts.specs.Lists.{every, count}
 use Rattle.words.specs.Word.{pageOf}
 use Rattle.fields.specs.Field.{page, tally, word, Has}
-use Rattle.model.specs.Lists.{every, count}
 use Rattle.model.specs.Chunks.{chunksMax}
-use Rattle.calls.specs.Release.{pageAt}
+use Rattle.pages.specs.Stack.{pageAt}
 use Rattle.tally.specs.Tally.{tallyIn, named, Saved, chunkAt, hasChunk}
 
 -- TALLY of a chunk's page is in the book, and of a listed word's

@@ -1,16 +1,17 @@
 -- Number 11 of a group release: what the test asks, and what it answers. The test itself is `chunksMatch` (calls, specs/Chunks).
--- n is the arena's length, ws the list, gs the chunks. Assumes nothing.
+-- n is the arena's length, ws the list, gs the chunks.
 use Prim.Native.Nat.{ℕ, _≤_}
 use mathlib.Core.Bool.{Bool, true, _&&_}
 use mathlib.Core.List.{List}
 use mathlib.Core.Path.{_≡_}
 use lib.Dec.{eqb, ltb}
 use lib.ListN.{length}
+use Rattle.facts.specs.Lists.{every}
 use Rattle.fields.specs.Field.{words}
 use Rattle.fields.specs.Ranges.{maxPages}
-use Rattle.model.specs.Lists.{every}
 use Rattle.model.specs.Chunks.{chunksMax}
-use Rattle.calls.specs.Release.{pageAt, startOf}
+use Rattle.pages.specs.Stack.{pageAt}
+use Rattle.calls.specs.Release.{startOf}
 use Rattle.calls.specs.Chunks.{chunksMatch}
 
 -- the word's page is in the arena, and is a run by itself

@@ -5,17 +5,16 @@
 --     runOn      how many words at the list's head lie on a page
 --     agrees     a chunk's count is not 0 and is the one given, and its page names it
 --     tallied    the test on a book whose chunks are named
--- Assumes nothing.
 use Prim.Native.Nat.{ℕ, zero, suc, _<_}
 use mathlib.Core.Bool.{Bool, cond, not, _&&_}
 use mathlib.Core.List.{List, [], _∷_, map}
 use mathlib.Core.Path.{_≡_}
 use lib.Dec.{eqb, ltb}
 use lib.ListN.{length, getD}
+use Rattle.facts.specs.Lists.{every, count, below}
 use Rattle.words.specs.Word.{countOf, pageOf}
 use Rattle.fields.specs.Field.{Field, page, tally, get, put}
-use Rattle.model.specs.Lists.{every, count, below}
-use Rattle.calls.specs.Release.{pageAt}
+use Rattle.pages.specs.Stack.{pageAt}
 
 -- ---- naming
 unfoldable pub isPage : ℕ → ℕ → Bool

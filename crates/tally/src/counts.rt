@@ -2,18 +2,11 @@
 ghost use mathlib.Core.Path.{_≡_};
 ghost use Prim.Native.Nat.{_+_, _≤_};
 ghost use lib.ListN.{length, drop};
-ghost use Rattle.model.specs.Lists.{every, below};
-ghost use Rattle.calls.specs.Release.{pageAt};
+ghost use Rattle.facts.specs.Lists.{every, below};
 ghost use Rattle.tally.specs.Tally.{ofChunk, runOn, fits, tallied};
 ghost use Rattle.tally.specs.Asks.{CountAsks, Counted, OneAsks, FitAsks};
+use pages::page_at;
 use words::Word;
-
-// The page that has a word's granule.
-fn page_at(w: u32) -> u32
-    ensures { λ r. ⌜ r ≡ pageAt w ⌝ }
-{
-    Word::of(w).granule() / 4096
-}
 
 // Whether chunk i is there, and has page p.
 fn of_chunk(chunks: &[u32], i: u32, p: u32) -> bool

@@ -4,4 +4,5 @@ mod counts;
 mod matching;
 mod naming;
 
+pub use matching::MAX_CHUNKS;
 pub use matching::chunks_match;

@@ -8,6 +8,11 @@ use super::naming::all_pages;
 use super::naming::name_chunks;
 use super::naming::unname_chunks;
 
+// Room for so many chunks is there (document 01's limit), or for a few.
+pub const MAX_CHUNKS: usize = 2056;
+
+const FEW_CHUNKS: usize = 32;
+
 // A page past the arena has no listed block, and a count of 0 is a mismatch.
 fn match_with(
     meta: &mut [u32],
@@ -36,8 +41,8 @@ fn match_few(meta: &mut [u32], n: u32, list: &[u32], chunks: &[u32]) -> bool
     requires { ⌜ length (now chunks) ≤ 32 ⌝ }
     ensures { λ r. ⌜ Matched r (now (meta .exit)) (now (meta .entry)) (now (list .entry)) (now (chunks .entry)) ⌝ }
 {
-    let mut saved: [u32; 32] = [0; 32];
-    let mut counts: [usize; 32] = [0; 32];
+    let mut saved: [u32; FEW_CHUNKS] = [0; FEW_CHUNKS];
+    let mut counts: [usize; FEW_CHUNKS] = [0; FEW_CHUNKS];
     match_with(meta, n, list, chunks, &mut saved, &mut counts)
 }
 
@@ -45,8 +50,8 @@ fn match_many(meta: &mut [u32], n: u32, list: &[u32], chunks: &[u32]) -> bool
     requires { ⌜ MatchAsks n (now meta) (now list) (now chunks) ⌝ }
     ensures { λ r. ⌜ Matched r (now (meta .exit)) (now (meta .entry)) (now (list .entry)) (now (chunks .entry)) ⌝ }
 {
-    let mut saved: [u32; 2056] = [0; 2056];
-    let mut counts: [usize; 2056] = [0; 2056];
+    let mut saved: [u32; MAX_CHUNKS] = [0; MAX_CHUNKS];
+    let mut counts: [usize; MAX_CHUNKS] = [0; MAX_CHUNKS];
     match_with(meta, n, list, chunks, &mut saved, &mut counts)
 }
 
@@ -54,7 +59,7 @@ pub fn chunks_match(meta: &mut [u32], n: u32, list: &[u32], chunks: &[u32]) -> b
     requires { ⌜ MatchAsks n (now meta) (now list) (now chunks) ⌝ }
     ensures { λ r. ⌜ Matched r (now (meta .exit)) (now (meta .entry)) (now (list .entry)) (now (chunks .entry)) ⌝ }
 {
-    if chunks.len() <= 32 {
+    if chunks.len() <= FEW_CHUNKS {
         match_few(meta, n, list, chunks)
     } else {
         match_many(meta, n, list, chunks)

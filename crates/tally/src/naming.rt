@@ -1,7 +1,7 @@
 // TALLY of each chunk's page names the chunk by its index; what stood there is kept, and written back.
 ghost use mathlib.Core.Path.{_≡_};
 ghost use lib.ListN.{length};
-ghost use Rattle.model.specs.Lists.{every};
+ghost use Rattle.facts.specs.Lists.{every};
 ghost use Rattle.tally.specs.Tally.{isPage, unnamed};
 ghost use Rattle.tally.specs.Asks.{NameAsks, Named};
 use words::Word;

@@ -1,4 +1,5 @@
-mod DirectWays
-mod TakeWays
-mod ReleaseWays
-mod ChunkWays
+mod FaultSteps
+mod DirectSteps
+mod TakeSteps
+mod ReleaseSteps
+mod ChunkSteps

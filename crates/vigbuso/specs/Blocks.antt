@@ -1,36 +1,32 @@
 -- The exported takes and releases, by list and by groups, on any book, any numbers and any list: the answer, the book, the list and the
 -- out-parameters afterwards, refusals included. Numbers 1 to 4 come first; then it is a call of the class, on an arena of the length
 -- that the book holds.
--- Assumes nothing.
 use Prim.Native.Nat.{ℕ, _+_}
 use mathlib.Core.List.{List}
-use mathlib.Core.Bool.{Bool, true, false, cond}
+use mathlib.Core.Bool.{cond}
 use mathlib.Core.Path.{_≡_}
-use lib.Dec.{eqb, ltb}
+use lib.Dec.{eqb}
 use Rattle.words.specs.Host.{digit}
 use Rattle.classes.specs.Shape.{shapeOf}
 use Rattle.fields.specs.Field.{arena, size, get}
-use Rattle.fields.specs.Ranges.{metaFault}
-use Rattle.model.specs.Chunks.{hostMax}
 use Rattle.take.specs.declared.call.Take.{Take}
 use Rattle.take.specs.declared.call.Take.the-variants.{Refused, Took}
 use Rattle.calls.specs.Take as Heap
 use Rattle.calls.specs.Take.{tookNone, takeCall}
 use Rattle.take.specs.TakeAnswer.{answerOf}
 use Rattle.calls.specs.Release as Back
-use Rattle.calls.specs.Release.{releasedNone, releaseCall}
-use Rattle.calls.specs.Chunks.{ChunksReleased, chunksNone, chunksCall}
+use Rattle.calls.specs.Release.{releasedNone, releaseBlocks}
+use Rattle.calls.specs.Chunks.{ChunksReleased, chunksNone, releaseChunks}
 use Rattle.release.specs.declared.Released.{Released}
 use Rattle.release.specs.declared.Released.the-variants.{Fate}
 use Rattle.release.specs.Act.{answerAs}
+use Rattle.vigbuso.specs.Faults.{classFault}
 
 -- a take of class c among those of ids low to low + many - 1: 0 and 64 for the small ones, 64 and 12 for the medium ones
 unfoldable pub takeOn : ℕ → ℕ → List ℕ → ℕ → ℕ → List ℕ → Heap.Took
 takeOn low many b c h l =
-    cond (eqb (metaFault b) 0)
-    (cond (ltb hostMax h) (tookNone b l 3)
-    (cond (ltb c many) (takeCall (get b (arena size)) b (low + c) (shapeOf (low + c)) h l) (tookNone b l 4)))
-    (tookNone b l (metaFault b))
+    cond (eqb (classFault b h many c) 0)
+    (takeCall (get b (arena size)) b (low + c) (shapeOf (low + c)) h l) (tookNone b l (classFault b h many c))
 
 abbrev pub codeOut : Take → ℕ
 codeOut (Refused k) = k
@@ -57,10 +53,8 @@ pub record TakeEnds (t : Heap.Took) (r : ℕ) (b l : List ℕ) (count₀ count�
 -- ---- releases by list
 unfoldable pub releaseOn : ℕ → ℕ → List ℕ → ℕ → ℕ → List ℕ → Back.Released
 releaseOn low many b c h ws =
-    cond (eqb (metaFault b) 0)
-    (cond (ltb hostMax h) (releasedNone b 3)
-    (cond (ltb c many) (releaseCall (get b (arena size)) b (low + c) (shapeOf (low + c)) h ws) (releasedNone b 4)))
-    (releasedNone b (metaFault b))
+    cond (eqb (classFault b h many c) 0)
+    (releaseBlocks (get b (arena size)) b (low + c) (shapeOf (low + c)) h ws) (releasedNone b (classFault b h many c))
 
 abbrev pub releaseCode : Released → ℕ
 releaseCode (Released.Refused k) = k
@@ -78,10 +72,8 @@ pub record ReleaseEnds (o : Back.Released) (r : ℕ) (b : List ℕ) (fate₀ fat
 -- ---- group releases, of small classes alone: gs are the groups, fs the lent fates
 unfoldable pub chunksOn : List ℕ → ℕ → ℕ → List ℕ → List ℕ → List ℕ → ChunksReleased
 chunksOn b c h ws gs fs =
-    cond (eqb (metaFault b) 0)
-    (cond (ltb hostMax h) (chunksNone b fs 3)
-    (cond (ltb c 64) (chunksCall (get b (arena size)) b c (shapeOf c) h ws gs fs) (chunksNone b fs 4)))
-    (chunksNone b fs (metaFault b))
+    cond (eqb (classFault b h 64 c) 0)
+    (releaseChunks (get b (arena size)) b c (shapeOf c) h ws gs fs) (chunksNone b fs (classFault b h 64 c))
 
 pub record ChunksEnds (o : ChunksReleased) (r : ℕ) (b fs : List ℕ) : Type 0 where
   pub code : r ≡ o .code

@@ -1,16 +1,16 @@
 -- The exported calls that go straight to the arena, on any book and any numbers: the answer, the book and the out-parameters
--- afterwards, refusals included. Numbers 1 and 2 come first; then the call is one on an arena of the length that the book holds.
--- Assumes nothing.
+-- afterwards, refusals included. Numbers 1 to 3 come first; then the call is one on an arena of the length that the book holds.
 use Prim.Native.Nat.{ℕ}
 use mathlib.Core.List.{List, [], _∷_}
 use mathlib.Core.Bool.{Bool, false, cond}
 use mathlib.Core.Path.{_≡_}
 use lib.Dec.{eqb}
-use lib.ListN.{length}
+use lib.ListN.{length, getD}
 use Rattle.words.specs.Host.{digit}
 use Rattle.fields.specs.Field.{arena, size, get}
 use Rattle.fields.specs.Outcome.{Outcome, ends}
 use Rattle.fields.specs.Ranges.{lengthFault, metaFault}
+use Rattle.model.specs.declared.Figures.{Figures}
 use Rattle.runs.specs.declared.Commit.{Commit}
 use Rattle.runs.specs.declared.Commit.the-variants.{Refused, Run, Nothing}
 use Rattle.direct.specs.declared.Grow.{Grow}
@@ -21,6 +21,7 @@ use Rattle.arena.specs.Calls.{Committed, commitRefused, commitCall, Done, doneR
 use Rattle.arena.specs.Open.{opened}
 use Rattle.runs.specs.Answer.{commitAnswer, commitCode}
 use Rattle.direct.specs.Answer.{grownAs, growCode, reportOf}
+use Rattle.vigbuso.specs.Faults.{callFault}
 
 -- ---- opening
 unfoldable pub openOn : List ℕ → ℕ → Outcome
@@ -28,12 +29,15 @@ openOn b n = cond (eqb (lengthFault n (length b)) 0) (ends 0 (opened n b)) (ends
 
 -- ---- commit: for none, the first page is the greatest number
 unfoldable pub commitOn : List ℕ → ℕ → ℕ → Committed
-commitOn b h m = cond (eqb (metaFault b) 0) (commitCall (get b (arena size)) b h m) (commitRefused b (metaFault b))
+commitOn b h m = cond (eqb (callFault b h) 0) (commitCall (get b (arena size)) b h m) (commitRefused b (callFault b h))
+
+abbrev pub noPage : ℕ
+noPage = 4294967295
 
 abbrev pub firstOut : Commit → ℕ → ℕ
 firstOut (Refused k) old = old
 firstOut (Run q f) old = q
-firstOut Nothing old = 4294967295
+firstOut Nothing old = noPage
 
 abbrev pub freshOut : Commit → ℕ → ℕ
 freshOut (Refused k) old = old
@@ -49,7 +53,7 @@ pub record CommitEnds (o : Committed) (r : ℕ) (b : List ℕ) (q q′ f f′ : 
 
 -- ---- growth
 unfoldable pub growOn : List ℕ → ℕ → ℕ → ℕ → ℕ → Done
-growOn b h q old new = cond (eqb (metaFault b) 0) (growCall (get b (arena size)) b h q old new) (doneRefused b (metaFault b))
+growOn b h q old new = cond (eqb (callFault b h) 0) (growCall (get b (arena size)) b h q old new) (doneRefused b (callFault b h))
 
 abbrev pub grownOut : Grow → ℕ → ℕ
 grownOut (Grow.Refused k) old = old
@@ -63,7 +67,7 @@ pub record GrowEnds (o : Done) (r : ℕ) (b : List ℕ) (g g′ : ℕ) : Type 0 
 
 -- ---- release
 unfoldable pub releaseOn : List ℕ → ℕ → ℕ → ℕ → Done
-releaseOn b h q m = cond (eqb (metaFault b) 0) (releaseCall (get b (arena size)) b h q m) (doneRefused b (metaFault b))
+releaseOn b h q m = cond (eqb (callFault b h) 0) (releaseCall (get b (arena size)) b q m) (doneRefused b (callFault b h))
 
 -- ---- contains, as a number: no on a book that 1 or 2 would refuse
 unfoldable pub containsOn : List ℕ → ℕ → ℕ → Bool
@@ -77,10 +81,13 @@ abbrev pub reportCode : Report → ℕ
 reportCode (Report.Refused k) = k
 reportCode (Told f) = 0
 
--- commits, reuses, abandoned, pages held, idle pages
+-- the figures as a list, and read from it
 abbrev pub figuresOut : Report → List ℕ → List ℕ
 figuresOut (Report.Refused k) old = old
 figuresOut (Told f) old = f .commits ∷ f .reuses ∷ f .abandoned ∷ f .held ∷ f .idle ∷ []
+
+abbrev pub figuresIn : List ℕ → Figures
+figuresIn fs = record { commits = getD fs 0 0; reuses = getD fs 1 0; abandoned = getD fs 2 0; held = getD fs 3 0; idle = getD fs 4 0 }
 
 pub record ReportEnds (o : Report) (r : ℕ) (fs fs′ : List ℕ) : Type 0 where
   pub code : r ≡ reportCode o

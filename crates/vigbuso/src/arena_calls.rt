@@ -1,4 +1,5 @@
-// The calls that go straight to the arena. Any number and any book is taken: numbers 1 and 2 stand before each call.
+// The calls that go straight to the arena. Any number and any book is taken: numbers 1 to 3 stand before each call.
+use crate::faults::call_fault;
 use direct::Grow;
 use direct::Report;
 use runs::Commit;
@@ -8,6 +9,12 @@ ghost use Rattle.fields.specs.Outcome.{Did};
 ghost use Rattle.runs.specs.Answer.{Answers};
 ghost use Rattle.direct.specs.Answer.{Grew, Releases};
 ghost use Rattle.vigbuso.specs.Direct.{openOn, commitOn, CommitEnds, growOn, GrowEnds, releaseOn, containsOn, reportOn, ReportEnds};
+
+// The first page of no run.
+const NO_PAGE: u32 = 4_294_967_295;
+
+// How many figures a report has.
+pub const FIGURES: usize = 5;
 
 #[no_mangle]
 pub extern "C" fn vigbuso_open(meta: &mut [u32], pages: u64) -> u32
@@ -24,7 +31,7 @@ pub extern "C" fn vigbuso_open(meta: &mut [u32], pages: u64) -> u32
 fn commit_on(meta: &mut [u32], host: u32, pages: u64) -> Commit
     ensures { λ r. ⌜ Answers r (now (meta .exit)) (commitOn (now (meta .entry)) host pages) ⌝ }
 {
-    let fault = fields::fault::meta_fault(meta);
+    let fault = call_fault(meta, host);
     if fault != 0 {
         return Commit::Refused(fault);
     }
@@ -50,7 +57,7 @@ pub extern "C" fn vigbuso_commit(
             0
         }
         Commit::Nothing => {
-            *first = 4_294_967_295;
+            *first = NO_PAGE;
             *fresh = 0;
             0
         }
@@ -60,7 +67,7 @@ pub extern "C" fn vigbuso_commit(
 fn grow_on(meta: &mut [u32], host: u32, first: u64, old: u64, new: u64) -> Grow
     ensures { λ r. ⌜ Grew r (now (meta .exit)) (growOn (now (meta .entry)) host first old new) ⌝ }
 {
-    let fault = fields::fault::meta_fault(meta);
+    let fault = call_fault(meta, host);
     if fault != 0 {
         return Grow::Refused(fault);
     }
@@ -96,12 +103,12 @@ pub extern "C" fn vigbuso_grow_frontier(
 pub extern "C" fn vigbuso_release(meta: &mut [u32], host: u32, first: u64, pages: u64) -> u32
     ensures { λ r. ⌜ Releases r (now (meta .exit)) (releaseOn (now (meta .entry)) host first pages) ⌝ }
 {
-    let fault = fields::fault::meta_fault(meta);
+    let fault = call_fault(meta, host);
     if fault != 0 {
         return fault;
     }
     let size = fields::arena::size(meta);
-    direct::calls::release(meta, size, host, first, pages)
+    direct::calls::release(meta, size, first, pages)
 }
 
 fn contains_on(meta: &[u32], offset: u64, length: u64) -> bool
@@ -133,7 +140,7 @@ fn report_on(meta: &[u32]) -> Report
 }
 
 #[no_mangle]
-pub extern "C" fn vigbuso_report(meta: &[u32], figures: &mut [u64; 5]) -> u32
+pub extern "C" fn vigbuso_report(meta: &[u32], figures: &mut [u64; FIGURES]) -> u32
     ensures { λ r. ⌜ ReportEnds (reportOn (now (meta .entry))) r (now (figures .entry)) (now (figures .exit)) ⌝ }
 {
     match report_on(meta) {

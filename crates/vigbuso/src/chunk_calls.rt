@@ -1,9 +1,7 @@
 // The group release. Any number, any lists and any book is taken: numbers 1 to 4 stand before the call.
+use crate::faults::class_fault;
+use classes::NUM_CLASSES;
 ghost use Rattle.vigbuso.specs.Blocks.{chunksOn, ChunksEnds};
-
-const MAX_HOST: u32 = 15;
-
-const SMALL_CLASSES: u32 = 64;
 
 #[no_mangle]
 pub extern "C" fn vigbuso_release_bin_chunks(
@@ -16,17 +14,11 @@ pub extern "C" fn vigbuso_release_bin_chunks(
 ) -> u32
     ensures { λ r. ⌜ ChunksEnds (chunksOn (now (meta .entry)) class host (now (list .entry)) (now (chunks .entry)) (now (fates .entry))) r (now (meta .exit)) (now (fates .exit)) ⌝ }
 {
-    let fault = fields::fault::meta_fault(meta);
+    let fault = class_fault(meta, host, NUM_CLASSES, class);
     if fault != 0 {
         return fault;
     }
-    if MAX_HOST < host {
-        return 3;
-    }
-    if SMALL_CLASSES <= class {
-        return 4;
-    }
     let size = fields::arena::size(meta);
     let shape = classes::shape_of(class);
-    chunks::chunks_call(meta, size, class, shape, host, list, chunks, fates)
+    chunks::release_chunks(meta, size, class, shape, host, list, chunks, fates)
 }

@@ -1,11 +1,9 @@
 // The releases by list. Any number, any list and any book is taken: numbers 1 to 4 stand before each call.
+use crate::faults::class_fault;
 use release::Released;
-ghost use mathlib.Core.Path.{_≡_};
 ghost use Prim.Native.Nat.{_+_, _≤_};
 ghost use Rattle.release.specs.Act.{Answered};
 ghost use Rattle.vigbuso.specs.Blocks.{releaseOn, ReleaseEnds};
-
-const MAX_HOST: u32 = 15;
 
 // A release of a class among those of ids `low` to `low + many - 1`.
 fn release_on(
@@ -19,19 +17,13 @@ fn release_on(
     requires { ⌜ low + many ≤ 76 ⌝ }
     ensures { λ r. ⌜ Answered r (now (meta .exit)) (releaseOn low many (now (meta .entry)) class host (now (list .entry))) ⌝ }
 {
-    let fault = fields::fault::meta_fault(meta);
+    let fault = class_fault(meta, host, many, class);
     if fault != 0 {
         return Released::Refused(fault);
     }
-    if MAX_HOST < host {
-        return Released::Refused(3);
-    }
-    if many <= class {
-        return Released::Refused(4);
-    }
     let size = fields::arena::size(meta);
     let id = low + class;
-    release::release_call(meta, size, id, classes::shape_of(id), host, list)
+    release::release_blocks(meta, size, id, classes::shape_of(id), host, list)
 }
 
 #[no_mangle]

@@ -1,26 +1,18 @@
 // The takes. Any number, any list and any book is taken: numbers 1 to 4 stand before each call.
+use crate::faults::class_fault;
 use take::call::Take;
-ghost use mathlib.Core.Path.{_≡_};
 ghost use Prim.Native.Nat.{_+_, _≤_};
 ghost use Rattle.take.specs.TakeAnswer.{Takes};
 ghost use Rattle.vigbuso.specs.Blocks.{takeOn, TakeEnds};
-
-const MAX_HOST: u32 = 15;
 
 // A take of a class among those of ids `low` to `low + many - 1`.
 fn take_on(meta: &mut [u32], low: u32, many: u32, class: u32, host: u32, list: &mut [u32]) -> Take
     requires { ⌜ low + many ≤ 76 ⌝ }
     ensures { λ r. ⌜ Takes r (now (meta .exit)) (now (list .exit)) (takeOn low many (now (meta .entry)) class host (now (list .entry))) ⌝ }
 {
-    let fault = fields::fault::meta_fault(meta);
+    let fault = class_fault(meta, host, many, class);
     if fault != 0 {
         return Take::Refused(fault);
-    }
-    if MAX_HOST < host {
-        return Take::Refused(3);
-    }
-    if many <= class {
-        return Take::Refused(4);
     }
     let size = fields::arena::size(meta);
     take::call::take_call(meta, size, low + class, host, list)

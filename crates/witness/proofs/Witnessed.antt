@@ -1,4 +1,4 @@
--- What the contract of each exported function says of a call is what the demands say of it. Assumes nothing.
+-- What the contract of each exported function says of a call is what the demands say of it.
 use Prim.Native.Nat.{ℕ}
 use mathlib.Core.List.{List}
 use mathlib.Core.Path.{_≡_, sym, _∙_}
@@ -17,7 +17,7 @@ use Rattle.witness.specs.Seen.{Opened, TakeSeen, ListSeen, ChunksSeen, C
 
 module _ (b : List ℕ) (r : ℕ) (b′ : List ℕ) where
   pub open-seen : (n : ℕ) → Did r b′ (openOn b n) → Opened n r b b′
-  open-seen n e = record { number = open-refuses b n r b′ e; opens = (λ z. sym (e .answer) ∙ z, λ z. e .answer ∙ z); book = e .left }
+  open-seen n e = record { number = open-refuses b n r b′ e; opens = (λ z. sym (e .answer) ∙ z, λ z. e .answer ∙ z); book = e .book }
 
   pub commit-seen : (h m q q′ f f′ : ℕ) → CommitEnds (commitOn b h m) r b′ q q′ f f′ → CommitSeen (Calls.commit h m) r b b′ q q′ f f′
   commit-seen h m q q′ f f′ e = record { number = commit-refuses b h m r b′ q q′ f f′ e; replies = shows-call (Shows.commit h m r q q′ f f′ b′ e) }

@@ -11,8 +11,9 @@ use mathlib.Core.Logic.{_↔_}
 use mathlib.Core.Path.{_≡_}
 use lib.Dec.{eqb}
 use Rattle.model.specs.Calls as Calls
-use Rattle.model.specs.Calls.{Call, taken, fate, fates, released, contained}
-use Rattle.refinement.specs.Direct.{Reply, reply, reportedOf}
+use Rattle.model.specs.Calls.{Call, taken, fate, fates, released, contained, reported}
+use Rattle.refinement.specs.Direct.{Reply, reply}
+use Rattle.vigbuso.specs.Direct.{figuresIn}
 use Rattle.demands.specs.Call.{call}
 use Rattle.demands.specs.Run.{Opens, bookAfter}
 use Rattle.demands.specs.Contracts.{runSeen}
@@ -65,4 +66,4 @@ abbrev pub ContainsSeen : Call → ℕ → List ℕ → Type 0
 ContainsSeen x r b = Seen b x r (reply 0 (contained (eqb r 1)) b) (Unit {0})
 
 abbrev pub ReportSeen : ℕ → (b fs fs′ : List ℕ) → Type 0
-ReportSeen r b fs fs′ = Seen b Calls.report r (reply r (reportedOf fs′) b) (fs′ ≡ fs)
+ReportSeen r b fs fs′ = Seen b Calls.report r (reply r (reported (figuresIn fs′)) b) (fs′ ≡ fs)

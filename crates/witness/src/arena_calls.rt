@@ -1,4 +1,5 @@
 // The calls that go straight to the arena.
+use vigbuso::arena_calls::FIGURES;
 ghost use Rattle.model.specs.Calls as Calls;
 ghost use Rattle.witness.specs.Seen.{Opened, CommitSeen, GrowSeen, GiveSeen, ContainsSeen, ReportSeen};
 
@@ -39,7 +40,7 @@ pub fn contains(meta: &[u32], offset: u64, length: u64) -> u32
     vigbuso::arena_calls::vigbuso_contains(meta, offset, length)
 }
 
-pub fn report(meta: &[u32], figures: &mut [u64; 5]) -> u32
+pub fn report(meta: &[u32], figures: &mut [u64; FIGURES]) -> u32
     ensures { λ r. ⌜ ReportSeen r (now (meta .entry)) (now (figures .entry)) (now (figures .exit)) ⌝ }
 {
     vigbuso::arena_calls::vigbuso_report(meta, figures)

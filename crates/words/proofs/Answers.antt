@@ -2,18 +2,17 @@
 --     reservation-made, commit-made, done-made, zeroes-made, host-within    the answers of what is made; it is at most 15
 --     host-again             a host word of at most 15 from its answers
 --     set-bit, host-made     what the shifts of `new` give
--- Assumes nothing.
 use mathlib.Core.Bool.{Bool, true, false}
 use mathlib.Core.Path.{_≡_, refl, sym, ap, ap₂, _∙_}
 use Prim.Native.Nat.{ℕ, zero, suc, _+_, _*_, _/_, _%_, _^_, _≤_, _<_}
 use native.Mathlib.Nat.{mod-eq-of-lt}
 use native.Mathlib.Omega.{arith}
-use borrow.Author.Tests.{le-leb, leb-true}
+use borrow.Author.Tests.{le-ltb, ltb-false}
 use lib.Bits.{bitOr, or-shifted-r}
 use lib.Dec.{eqb}
 use lib.Arith.{digits-lt}
 use lib.Pow.{shl-exact, high, low, mod-pow-add}
-use Rattle.words.specs.Host.{bit, digit, hostBits, hostWord, reservationGranted, commitGranted, discardDone, discardZeroes, hostWithin}
+use Rattle.words.specs.Host.{bit, digit, hostBits, hostMax, hostWord, reservationGranted, commitGranted, discardDone, discardZeroes, badHost}
 
 digit-lt : (b : Bool) → digit b < 2 ^ 1
 digit-lt true = omega arith
@@ -69,8 +68,8 @@ module _ (reservation commit done zeroes : Bool) where
   pub zeroes-made : discardZeroes word ≡ zeroes
   zeroes-made = bit-made 3 0 (three reservation commit done) word zeroes (three-lt reservation commit done) (omega arith)
 
-  pub host-within : hostWithin word ≡ true
-  host-within = le-leb word 15 (omega (arith, digits-lt (digit-lt zeroes) (three-lt reservation commit done)))
+  pub host-within : badHost word ≡ false
+  host-within = le-ltb hostMax word (omega (arith, digits-lt (digit-lt zeroes) (three-lt reservation commit done)))
 
   -- the code's order: each bit is put above those before it
   pub host-made : (w : ℕ) → hostBits ≤ w
@@ -84,6 +83,6 @@ module _ (reservation commit done zeroes : Bool) where
 next-bit : (k h : ℕ) {n : ℕ} → n ≡ h % 2 ^ k → digit (bit k h) * 2 ^ k + n ≡ h % 2 ^ (1 + k)
 next-bit k h e = ap₂ (λ (x y : ℕ). x * 2 ^ k + y) (digit-bit k h) e ∙ sym (mod-pow-add h 1 k)
 
-pub host-again : (h : ℕ) → hostWithin h ≡ true → hostWord (reservationGranted h) (commitGranted h) (discardDone h) (discardZeroes h) ≡ h
+pub host-again : (h : ℕ) → badHost h ≡ false → hostWord (reservationGranted h) (commitGranted h) (discardDone h) (discardZeroes h) ≡ h
 host-again h e =
-    next-bit 3 h (next-bit 2 h (next-bit 1 h (omega (arith, digit-bit 0 h)))) ∙ mod-eq-of-lt (omega (arith, leb-true h 15 e))
+    next-bit 3 h (next-bit 2 h (next-bit 1 h (omega (arith, digit-bit 0 h)))) ∙ mod-eq-of-lt (omega (arith, ltb-false hostMax h e))

@@ -1,5 +1,4 @@
 -- Two parts in one word, by shifts and masks, over the widths. (What a mask and a shift give alone is `and-mask` of the library.)
--- Assumes nothing.
 use mathlib.Core.Path.{_≡_, ap, ap₂, _∙_}
 use Prim.Native.Nat.{ℕ, _+_, _-_, _*_, _%_, _^_, _≤_}
 use lib.Bits.{bitAnd, bitOr, and-mask, mask-lt, or-shifted}

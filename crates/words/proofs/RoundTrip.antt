@@ -3,7 +3,6 @@
 --     kind-chunk, count-chunk, page-chunk, chunk-again    of chunks
 --     pack-block, pack-chunk                              numbers that fit lose nothing
 --     block-lt, chunk-below, chunk-lt, kind-lt, granule-lt, count-lt, page-lt    what is made is a word, and the parts of a word fit
--- Assumes nothing.
 use mathlib.Core.Path.{_≡_, sym, ap, ap₂, _∙_}
 use Prim.Native.Nat.{ℕ, _+_, _*_, _/_, _%_, _^_, _<_}
 use native.Mathlib.Nat.{mod-lt, mod-eq-of-lt}

@@ -1,14 +1,18 @@
--- The host word: the system's answers for one call (document 01, "What the editor lends"). Assumes nothing.
+-- The host word: the system's answers for one call (document 01, "What the editor lends").
 use Prim.Native.Nat.{ℕ, _+_, _*_, _/_, _%_, _^_}
 use mathlib.Core.Bool.{Bool, true, false, _&&_}
-use lib.Dec.{eqb, leb}
+use lib.Dec.{eqb, ltb}
 
--- a host word has four bits, so that it is at most 15; more is refused by number 3
+-- a host word has four bits; the highest has all four set
 abbrev pub hostBits : ℕ
 hostBits = 4
 
-abbrev pub hostWithin : ℕ → Bool
-hostWithin h = leb h 15
+abbrev pub hostMax : ℕ
+hostMax = 15
+
+-- number 3: "The host word exceeds 15."
+abbrev pub badHost : ℕ → Bool
+badHost h = ltb hostMax h
 
 -- is bit k of a number set
 abbrev pub bit : ℕ → ℕ → Bool

@@ -1,5 +1,4 @@
 -- Words that pass between editor and heap (document 01, "What the editor lends"), in plain arithmetic.
--- Assumes nothing.
 use Prim.Native.Nat.{ℕ, _+_, _*_, _/_, _%_, _^_}
 
 -- the kinds: 0 none, 1 small block, 2 medium block, 3 group (a chunk, in the original's words)

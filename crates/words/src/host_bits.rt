@@ -1,7 +1,7 @@
 // The host word, made and taken apart.
 ghost use mathlib.Core.Path.{_≡_};
 ghost use Prim.Native.Nat.{_<_};
-ghost use Rattle.words.specs.Host.{bit, hostBits, hostWithin, hostWord, reservationGranted, commitGranted, discardDone, discardZeroes, discardZeroed};
+ghost use Rattle.words.specs.Host.{bit, hostBits, badHost, hostWord, reservationGranted, commitGranted, discardDone, discardZeroes, discardZeroed};
 use super::Host;
 
 impl Host {
@@ -27,11 +27,11 @@ impl Host {
         }
     }
 
-    // False is number 3's refusal.
-    pub fn within(self) -> bool
-        ensures { λ r. ⌜ r ≡ hostWithin (self .bits) ⌝ }
+    // Number 3.
+    pub fn is_bad(self) -> bool
+        ensures { λ r. ⌜ r ≡ badHost (self .bits) ⌝ }
     {
-        self.bits <= Host::MOST
+        Host::MOST < self.bits
     }
 
     fn bit(self, k: u32) -> bool

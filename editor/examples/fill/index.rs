@@ -1,78 +1,67 @@
-//! The index of the word list: for each length, position and letter the words that have it there, a bit each.
+//! The index of the word list, one record: for each length that the grid needs, each place and each letter the words that
+//! have it there, a bit each.
 
 use std::collections::BTreeMap;
 use std::ops::Range;
 
-use crate::words::Words;
+use super::bits::Bits;
+use super::grid::Grid;
+use super::store::{Record, Store};
+use super::words::Words;
+use super::Outcome;
 
-const LETTERS: usize = 26;
-
-/// A set of numbers, a bit each.
-pub struct Bits(Vec<u64>);
-
-impl Bits {
-    /// All numbers below a limit.
-    pub fn first(limit: usize) -> Bits {
-        let mut bits = vec![u64::MAX; limit / 64];
-        match limit % 64 {
-            0 => {}
-            rest => bits.push((1 << rest) - 1),
-        }
-        Bits(bits)
-    }
-
-    /// Keeps those that a row of the index has too.
-    pub fn keep(&mut self, row: &[u8]) {
-        for (bits, bytes) in self.0.iter_mut().zip(row.chunks_exact(8)) {
-            *bits &= u64::from_le_bytes(bytes.try_into().expect("eight bytes"));
-        }
-    }
-
-    pub fn remove(&mut self, number: usize) {
-        self.0[number / 64] &= !(1 << (number % 64));
-    }
-
-    pub fn count(&self) -> u32 {
-        self.0.iter().map(|bits| bits.count_ones()).sum()
-    }
-
-    /// The numbers, the least first.
-    pub fn numbers(&self) -> impl Iterator<Item = usize> + '_ {
-        let bits_of =
-            |at: usize, bits: u64| (0..64).filter(move |bit| bits >> bit & 1 == 1).map(move |bit| 64 * at + bit);
-        let words = self.0.iter().enumerate().filter(|(_, &bits)| bits != 0);
-        words.flat_map(move |(at, &bits)| bits_of(at, bits))
-    }
-}
+pub const LETTERS: usize = 26;
 
 /// Where the rows of a length stand in the index, and how many bytes each has.
 #[derive(Clone, Copy)]
-pub struct Table {
+struct Table {
     start: usize,
     row: usize,
 }
 
 impl Table {
-    /// The bytes of the row for a position and a letter.
-    pub fn row(self, position: usize, letter: u8) -> Range<usize> {
-        let start = self.start + (position * LETTERS + usize::from(letter - b'a')) * self.row;
-        start..start + self.row
+    /// The row of each letter, for a place in the word.
+    fn rows(self, place: usize) -> Range<usize> {
+        let start = self.start + place * LETTERS * self.row;
+        start..start + LETTERS * self.row
     }
 }
 
-/// The index as bytes, and the table of each length in it.
-pub fn index_of(words: &Words) -> (BTreeMap<usize, Table>, Vec<u8>) {
-    let (mut tables, mut bytes) = (BTreeMap::new(), Vec::new());
-    for length in words.lengths() {
-        let list = words.of_length(length);
-        let table = Table { start: bytes.len(), row: 8 * list.len().div_ceil(64) };
-        bytes.resize(table.start + length * LETTERS * table.row, 0);
-        for (number, word) in list.iter().enumerate() {
-            for (position, &letter) in word.letters.iter().enumerate() {
-                bytes[table.row(position, letter)][number / 8] |= 1 << (number % 8);
-            }
+pub struct Index {
+    record: Record,
+    tables: BTreeMap<usize, Table>,
+}
+
+impl Index {
+    /// None if the arena has no room for it.
+    pub fn new(grid: &Grid, words: &Words, store: &mut Store) -> Outcome<Option<Index>> {
+        let (mut tables, mut bytes) = (BTreeMap::new(), Vec::new());
+        for length in grid.slots().iter().map(Vec::len) {
+            tables.entry(length).or_insert_with(|| add_table(words, length, &mut bytes));
         }
-        tables.insert(length, table);
+        Ok(store.put(&bytes)?.map(|record| Index { record, tables }))
     }
-    (tables, bytes)
+
+    /// The rows of all letters at a place in words of a length, one after the other.
+    pub fn rows<'a>(&self, store: &'a Store, length: usize, place: usize) -> Outcome<std::slice::ChunksExact<'a, u8>> {
+        let table = self.tables[&length];
+        Ok(store.get(self.record, table.rows(place))?.chunks_exact(table.row.max(1)))
+    }
+
+    pub fn release(self, store: &mut Store) -> Outcome<()> {
+        store.free(self.record)
+    }
+}
+
+fn add_table(words: &Words, length: usize, bytes: &mut Vec<u8>) -> Table {
+    let list = words.of_length(length);
+    let table = Table { start: bytes.len(), row: Bits::bytes_for(list.len()) };
+    bytes.resize(table.start + length * LETTERS * table.row, 0);
+    for (number, word) in list.iter().enumerate() {
+        for (place, letter) in word.letters.iter().enumerate() {
+            let row = table.rows(place).start + usize::from(letter - b'a') * table.row;
+            bytes[row + number / 8] |= 1 << (number % 8);
+        }
+    }
+    table
 }

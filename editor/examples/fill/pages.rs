@@ -1,52 +1,91 @@
 //! Whose each page of the arena is, as far as the caller's own calls tell.
 
-use vigbuso::{block_bytes, medium_block_bytes, Block, Kind, Report, Run, PAGE_BYTES};
+use std::ops::Range;
 
-use crate::store::Class;
-use crate::Outcome;
+use super::blocks::{self, Class, Report, PAGE_BYTES};
+use super::Outcome;
 
 #[derive(Clone, Copy, PartialEq, Eq, PartialOrd, Ord, Debug)]
 pub enum Holder {
     /// The direct calls.
     Direct,
     /// A class: a block of it was seen there.
-    Class(Kind, u32),
+    Class(Class),
     /// Nobody, any more.
     Hole,
     /// Nobody, ever.
     Fresh,
 }
 
+impl Holder {
+    /// What a legend says of it.
+    pub fn name(self) -> String {
+        match self {
+            Holder::Direct => "direct run".into(),
+            Holder::Class(class) => blocks::name(class),
+            Holder::Hole => "hole".into(),
+            Holder::Fresh => "fresh".into(),
+        }
+    }
+
+    fn is_idle(self) -> bool {
+        matches!(self, Holder::Hole | Holder::Fresh)
+    }
+}
+
 #[derive(Clone, Copy)]
 pub struct Page {
     pub holder: Holder,
+    /// The first page of its span or run.
+    pub first: usize,
     /// Bytes in blocks that have a record, or of a run.
-    pub in_use: u64,
+    pub in_use: usize,
 }
 
+#[derive(Clone)]
 pub struct Pages(Vec<Page>);
 
 impl Pages {
-    /// The pages by holder, with the blocks in use. It must be as many as the heap reports.
-    pub fn new(holders: &[Holder], in_use: impl Iterator<Item = (Block, Class)>, report: Report) -> Outcome<Pages> {
-        let whole = PAGE_BYTES as u64;
-        let bytes = |holder: Holder| if holder == Holder::Direct { whole } else { 0 };
-        let mut pages: Vec<Page> = holders.iter().map(|&holder| Page { holder, in_use: bytes(holder) }).collect();
-        for (block, class) in in_use {
-            let (start, end) = (block.byte_offset(), block.byte_offset() + bytes_of(class));
-            for page in start / whole..=(end - 1) / whole {
-                pages[page as usize].in_use += end.min((page + 1) * whole) - start.max(page * whole);
+    pub fn new(pages: usize) -> Pages {
+        Pages((0..pages).map(|first| Page { holder: Holder::Fresh, first, in_use: 0 }).collect())
+    }
+
+    /// These pages, a span or a run, have a holder from now on.
+    pub fn hold(&mut self, pages: Range<usize>, holder: Holder) {
+        let first = pages.start;
+        self.0[pages].fill(Page { holder, first, in_use: 0 });
+    }
+
+    /// The pages with what is in use. It must agree with what the heap reports, where an empty page of a class may have
+    /// been given back.
+    pub fn with(&self, records: impl Iterator<Item = Range<usize>>, report: Report) -> Outcome<Pages> {
+        let mut pages = self.clone();
+        for page in pages.0.iter_mut().filter(|page| page.holder == Holder::Direct) {
+            page.in_use = PAGE_BYTES;
+        }
+        for bytes in records.filter(|bytes| !bytes.is_empty()) {
+            for page in bytes.start / PAGE_BYTES..=(bytes.end - 1) / PAGE_BYTES {
+                let end = bytes.end.min((page + 1) * PAGE_BYTES);
+                pages.0[page].in_use += end - bytes.start.max(page * PAGE_BYTES);
             }
         }
-        let idle = pages.iter().filter(|page| matches!(page.holder, Holder::Hole | Holder::Fresh)).count() as u64;
-        if (idle, pages.len() as u64 - idle) != (report.idle, report.held) {
-            return Err(format!("{idle} pages seem idle, but the heap says: {report}").into());
+        let held = pages.0.iter().filter(|page| !page.holder.is_idle()).count();
+        let in_use = pages.0.iter().filter(|page| page.in_use > 0).count();
+        match report.held as usize {
+            reported if (in_use..=held).contains(&reported) => Ok(pages),
+            _ => Err(format!("{in_use} to {held} pages seem held, but the heap says: {report}").into()),
         }
-        Ok(Pages(pages))
     }
 
     pub fn all(&self) -> &[Page] {
         &self.0
+    }
+
+    /// Whether a page and the one after it are of one span, one run or one hole.
+    pub fn joined(&self, page: usize) -> bool {
+        let next = self.0.get(page + 1);
+        self.0[page].holder != Holder::Fresh
+            && next.is_some_and(|next| (next.holder, next.first) == (self.0[page].holder, self.0[page].first))
     }
 
     /// The holders that occur, in order, each with its number of pages.
@@ -55,38 +94,4 @@ impl Pages {
         holders.sort_unstable();
         holders.chunk_by(|a, b| a == b).map(|equal| (equal[0], equal.len())).collect()
     }
-}
-
-impl Holder {
-    /// What a legend says of it.
-    pub fn name(self) -> String {
-        match self {
-            Holder::Direct => "direct run".into(),
-            Holder::Class(Kind::Small, class) => format!("class {class}: {} bytes", bytes_of((Kind::Small, class))),
-            Holder::Class(Kind::Medium, class) => {
-                format!("medium class {class}: {} bytes", bytes_of((Kind::Medium, class)))
-            }
-            Holder::Hole => "hole".into(),
-            Holder::Fresh => "fresh".into(),
-        }
-    }
-}
-
-/// The pages that a block has bytes on.
-pub fn pages_of_block(block: Block, class: Class) -> std::ops::RangeInclusive<usize> {
-    let start = block.byte_offset() as usize;
-    start / PAGE_BYTES..=(start + bytes_of(class) as usize - 1) / PAGE_BYTES
-}
-
-/// The pages of a run.
-pub fn pages_of_run(run: Run) -> std::ops::RangeInclusive<usize> {
-    run.first as usize..=(run.first + run.pages - 1) as usize
-}
-
-pub fn bytes_of((kind, class): Class) -> u64 {
-    match kind {
-        Kind::Small => block_bytes(class),
-        Kind::Medium => medium_block_bytes(class),
-    }
-    .expect("the class comes from a lookup")
 }

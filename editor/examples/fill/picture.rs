@@ -1,17 +1,25 @@
 //! The arena's pages by holder, as text and as a picture.
 
 use std::collections::BTreeMap;
-use std::fmt::Write;
 
-use vigbuso::{Kind, PAGE_BYTES};
-
-use crate::pages::{bytes_of, Holder, Page, Pages};
+use super::blocks::PAGE_BYTES;
+use super::pages::{Holder, Pages};
+use super::svg::{Colour, Rect, Svg, WHITE};
 
 /// Pages in a row.
 const ROW: usize = 16;
 
-/// A letter for each page, sixteen to a line, and what they stand for.
+/// A letter for each page, sixteen to a line, those of a span or run joined by a dash, and what they stand for.
 pub fn text(pages: &Pages) -> String {
+    let symbols = symbols(pages);
+    let rows = (0..pages.all().len()).step_by(ROW).map(|row| text_row(pages, &symbols, row));
+    let entry =
+        |(holder, number): (Holder, usize)| format!("    {} {:32}{number:>4}\n", symbols[&holder], holder.name());
+    let legend = pages.holders().into_iter().map(entry);
+    std::iter::once(format!("{}\n", title(pages))).chain(rows).chain(legend).collect()
+}
+
+fn symbols(pages: &Pages) -> BTreeMap<Holder, char> {
     let mut letters = ('a'..='z').chain('A'..='Z').chain('0'..='9').cycle();
     let mut symbol = |holder| match holder {
         Holder::Direct => '=',
@@ -19,16 +27,16 @@ pub fn text(pages: &Pages) -> String {
         Holder::Fresh => '.',
         Holder::Class(..) => letters.next().expect("the letters go round"),
     };
-    let symbols: BTreeMap<Holder, char> = pages.holders().iter().map(|&(holder, _)| (holder, symbol(holder))).collect();
-    let mut text = format!("{}\n", title(pages));
-    for (row, line) in pages.all().chunks(ROW).enumerate() {
-        let line: String = line.iter().flat_map(|page| [' ', symbols[&page.holder]]).collect();
-        text += &format!("{:>5} {line}\n", row * ROW);
-    }
-    for (holder, number) in pages.holders() {
-        text += &format!("    {} {:32}{number:>4}\n", symbols[&holder], holder.name());
-    }
-    text
+    pages.holders().iter().map(|&(holder, _)| (holder, symbol(holder))).collect()
+}
+
+fn text_row(pages: &Pages, symbols: &BTreeMap<Holder, char>, first: usize) -> String {
+    let symbol = |page: usize| {
+        let before = if page > first && pages.joined(page - 1) { '-' } else { ' ' };
+        [before, symbols[&pages.all()[page].holder]]
+    };
+    let row: String = (first..pages.all().len().min(first + ROW)).flat_map(symbol).collect();
+    format!("{first:>5} {row}\n")
 }
 
 fn title(pages: &Pages) -> String {
@@ -37,7 +45,7 @@ fn title(pages: &Pages) -> String {
 
 /// Pixels of a page's square, with the gap to the next.
 const SQUARE: usize = 52;
-const GAP: usize = 4;
+const GAP: usize = 6;
 const MARGIN: usize = 24;
 /// Above the squares: title and explanation.
 const HEAD: usize = 64;
@@ -45,122 +53,118 @@ const HEAD: usize = 64;
 const SIDE: usize = 28;
 const LEGEND_COLUMNS: usize = 3;
 const LEGEND_LINE: usize = 24;
+const SWATCH: usize = 16;
 
-/// A square for each page, filled up to the part in use, and a legend.
+const NOTE: &str =
+    "On a page: the bytes of its blocks; the filled part is in use. Pages of one span or one run are one field.";
+
+/// A square for each page, filled up to the part in use, those of a span or run as one field, and a legend.
 pub fn svg(pages: &Pages) -> String {
     let holders = pages.holders();
     let colours = colours(&holders);
     let width = 2 * MARGIN + SIDE + ROW * SQUARE;
     let legend = MARGIN + HEAD + pages.all().len().div_ceil(ROW) * SQUARE + MARGIN;
     let height = legend + holders.len().div_ceil(LEGEND_COLUMNS) * LEGEND_LINE + MARGIN;
-    let mut svg = Svg::new(width, height);
+    let mut svg = Svg::new(width, height, &title(pages), &description(&holders));
     svg.text(MARGIN, MARGIN + 16, "title", &title(pages));
-    svg.text(MARGIN, MARGIN + 38, "note", "On a page: the bytes of its blocks. The filled part is in use.");
-    for (row, line) in pages.all().chunks(ROW).enumerate() {
-        let y = MARGIN + HEAD + row * SQUARE;
-        svg.text(MARGIN, y + SQUARE / 2 + 2, "note", &(row * ROW).to_string());
-        for (column, page) in line.iter().enumerate() {
-            svg.page(MARGIN + SIDE + column * SQUARE, y, SQUARE - GAP, page, colours[&page.holder]);
-        }
+    svg.text(MARGIN, MARGIN + 38, "note", NOTE);
+    for row in (0..pages.all().len()).step_by(ROW) {
+        svg.text(MARGIN, MARGIN + HEAD + row / ROW * SQUARE + SQUARE / 2 + 2, "note", &row.to_string());
     }
-    let lines = holders.len().div_ceil(LEGEND_COLUMNS);
-    for (place, &(holder, number)) in holders.iter().enumerate() {
-        let x = MARGIN + place / lines * ((width - 2 * MARGIN) / LEGEND_COLUMNS);
-        let y = legend + place % lines * LEGEND_LINE;
-        let plural = if number == 1 { "" } else { "s" };
-        svg.square(x, y, 16, colours[&holder], holder);
-        svg.text(x + 24, y + 13, "entry", &format!("{}, {number} page{plural}", holder.name()));
+    for field in fields(pages) {
+        draw(&mut svg, pages, field, colours[&pages.all()[field.0].holder]);
     }
+    draw_legend(&mut svg, &holders, &colours, legend);
     svg.end()
 }
 
-type Colour = [u8; 3];
+fn description(holders: &[(Holder, usize)]) -> String {
+    let entries: Vec<String> = holders.iter().map(|&(holder, number)| entry(holder, number)).collect();
+    format!("A square for each page, filled up to the part in use. {}.", entries.join("; "))
+}
 
-const WHITE: Colour = [255, 255, 255];
-const GREY: Colour = [225, 225, 225];
-const PURPLE: Colour = [178, 150, 214];
-const ORANGE: Colour = [240, 170, 100];
-/// Small classes go from one to the other, by size.
-const GREEN: Colour = [160, 215, 140];
-const BLUE: Colour = [90, 160, 215];
+fn entry(holder: Holder, number: usize) -> String {
+    format!("{}, {number} page{}", holder.name(), if number == 1 { "" } else { "s" })
+}
+
+/// The first and the last page of each span, run or page alone, in parts where it goes over the end of a row.
+fn fields(pages: &Pages) -> Vec<(usize, usize)> {
+    let mut fields = Vec::new();
+    let mut first = 0;
+    for page in 0..pages.all().len() {
+        if !pages.joined(page) || page % ROW == ROW - 1 {
+            fields.push((first, page));
+            first = page + 1;
+        }
+    }
+    fields
+}
+
+/// A field, its colour pale where no byte is in use. It reaches out of the row where it goes on in another.
+fn draw(svg: &mut Svg, pages: &Pages, (first, last): (usize, usize), colour: Colour) {
+    let (from_before, goes_on) = (first > 0 && pages.joined(first - 1), pages.joined(last));
+    let out = |reaches: bool| if reaches { GAP } else { 0 };
+    let x = |page: usize| MARGIN + SIDE + page % ROW * SQUARE;
+    let left = x(first) - out(from_before);
+    let width = x(last) + SQUARE - GAP + out(goes_on) - left;
+    let field = Rect { x: left, y: MARGIN + HEAD + first / ROW * SQUARE, width, height: SQUARE - GAP };
+    let holder = pages.all()[first].holder;
+    svg.fill(field, if matches!(holder, Holder::Class(..)) { colour.pale() } else { colour });
+    for page in first..=last {
+        let height = (field.height * pages.all()[page].in_use).div_ceil(PAGE_BYTES);
+        let left = if page == first { field.x } else { x(page) };
+        let right = if page == last { field.x + field.width } else { x(page + 1) };
+        if height > 0 {
+            svg.fill(Rect { x: left, y: field.y + field.height - height, width: right - left, height }, colour);
+        }
+    }
+    svg.frame(field, holder == Holder::Hole);
+    svg.text(field.x + field.width / 2, field.y + field.height / 2 + 4, "size", &label(holder));
+}
+
+fn label(holder: Holder) -> String {
+    match holder {
+        Holder::Direct => "run".into(),
+        Holder::Class(class) => class.bytes().to_string(),
+        Holder::Hole => "hole".into(),
+        Holder::Fresh => String::new(),
+    }
+}
+
+fn draw_legend(svg: &mut Svg, holders: &[(Holder, usize)], colours: &BTreeMap<Holder, Colour>, top: usize) {
+    let lines = holders.len().div_ceil(LEGEND_COLUMNS);
+    for (place, &(holder, number)) in holders.iter().enumerate() {
+        let x = MARGIN + place / lines * ((SIDE + ROW * SQUARE) / LEGEND_COLUMNS);
+        let y = top + place % lines * LEGEND_LINE;
+        let swatch = Rect { x, y, width: SWATCH, height: SWATCH };
+        svg.fill(swatch, colours[&holder]);
+        svg.frame(swatch, holder == Holder::Hole);
+        svg.text(x + SWATCH + 8, y + 13, "entry", &entry(holder, number));
+    }
+}
+
+const GREY: Colour = Colour(232, 232, 232);
+const YELLOW: Colour = Colour(250, 215, 90);
+
+/// Classes have these in turn, so that neighbours are easy to tell apart.
+const CLASSES: [Colour; 8] = [
+    Colour(110, 178, 230),
+    Colour(244, 162, 97),
+    Colour(128, 196, 112),
+    Colour(236, 140, 170),
+    Colour(150, 150, 165),
+    Colour(90, 200, 190),
+    Colour(178, 144, 226),
+    Colour(200, 190, 100),
+];
 
 fn colours(holders: &[(Holder, usize)]) -> BTreeMap<Holder, Colour> {
-    let small = holders.iter().filter(|(holder, _)| matches!(holder, Holder::Class(Kind::Small, _))).count();
-    let mut shades = (0..small).map(|rank| mix(GREEN, BLUE, rank, small.max(2) - 1));
+    let mut classes = CLASSES.into_iter().cycle();
     let mut colour = |holder| match holder {
-        Holder::Direct => PURPLE,
+        Holder::Direct => YELLOW,
         Holder::Hole => WHITE,
         Holder::Fresh => GREY,
-        Holder::Class(Kind::Small, _) => shades.next().expect("a shade for each small class"),
-        Holder::Class(Kind::Medium, _) => ORANGE,
+        Holder::Class(..) => classes.next().expect("the colours go round"),
     };
     holders.iter().map(|&(holder, _)| (holder, colour(holder))).collect()
-}
-
-/// The colour `part` of `whole` steps on the way.
-fn mix(from: Colour, to: Colour, part: usize, whole: usize) -> Colour {
-    let step = |a: u8, b: u8| ((usize::from(a) * (whole - part) + usize::from(b) * part) / whole) as u8;
-    [step(from[0], to[0]), step(from[1], to[1]), step(from[2], to[2])]
-}
-
-/// The text of a picture.
-struct Svg(String);
-
-const STYLE: &str =
-    "text{font-family:'DejaVu Sans',Verdana,sans-serif;fill:#1a1a1a}.title{font-size:18px;font-weight:bold}\
-    .note{font-size:12px;fill:#555}.entry{font-size:13px}.size{font-size:12px;text-anchor:middle}";
-
-impl Svg {
-    fn new(width: usize, height: usize) -> Svg {
-        let mut svg = Svg(String::new());
-        svg.add(format_args!(
-            "<svg xmlns=\"http://www.w3.org/2000/svg\" width=\"{width}\" height=\"{height}\" \
-             viewBox=\"0 0 {width} {height}\">\n<style>{STYLE}</style>\n\
-             <rect width=\"{width}\" height=\"{height}\" fill=\"#ffffff\"/>"
-        ));
-        svg
-    }
-
-    fn add(&mut self, line: std::fmt::Arguments) {
-        writeln!(self.0, "{line}").expect("a string takes any text");
-    }
-
-    /// No text here has a character that XML would read otherwise.
-    fn text(&mut self, x: usize, y: usize, class: &str, text: &str) {
-        self.add(format_args!("<text x=\"{x}\" y=\"{y}\" class=\"{class}\">{text}</text>"));
-    }
-
-    /// A page, its colour pale where no byte is in use.
-    fn page(&mut self, x: usize, y: usize, side: usize, page: &Page, colour: Colour) {
-        let pale = if matches!(page.holder, Holder::Class(..)) { mix(colour, WHITE, 2, 3) } else { colour };
-        self.square(x, y, side, pale, page.holder);
-        let full = side * page.in_use as usize / PAGE_BYTES;
-        if full > 0 {
-            let [r, g, b] = colour;
-            let y = y + side - full;
-            self.add(format_args!(
-                "<rect x=\"{x}\" y=\"{y}\" width=\"{side}\" height=\"{full}\" rx=\"3\" fill=\"rgb({r},{g},{b})\"/>"
-            ));
-        }
-        let label = match page.holder {
-            Holder::Direct => "run".into(),
-            Holder::Class(kind, class) => bytes_of((kind, class)).to_string(),
-            Holder::Hole => "hole".into(),
-            Holder::Fresh => return,
-        };
-        self.text(x + side / 2, y + side / 2 + 4, "size", &label);
-    }
-
-    fn square(&mut self, x: usize, y: usize, side: usize, [r, g, b]: Colour, holder: Holder) {
-        let dashes = if holder == Holder::Hole { " stroke-dasharray=\"3 2\"" } else { "" };
-        self.add(format_args!(
-            "<rect x=\"{x}\" y=\"{y}\" width=\"{side}\" height=\"{side}\" rx=\"3\" fill=\"rgb({r},{g},{b})\" \
-             stroke=\"#888888\" stroke-width=\"1\"{dashes}/>"
-        ));
-    }
-
-    fn end(mut self) -> String {
-        self.0 += "</svg>\n";
-        self.0
-    }
 }

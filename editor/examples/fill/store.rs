@@ -1,157 +1,180 @@
-//! Records in heap blocks: the heap says where, the arena has the bytes.
+//! Records in the arena: the heap says where, the arena has the bytes.
 
 use std::cell::Cell;
-use std::collections::{BTreeMap, HashMap};
+use std::collections::{HashMap, HashSet};
 use std::ops::Range;
 
-use vigbuso::{class_for_size, medium_class_for_size, Block, Heap, Host, Kind, Report, Run, PAGE_BYTES};
+use super::blocks::{Block, Blocks, Class, Report, Run, PAGE_BYTES};
+use super::pages::{Holder, Pages};
+use super::Outcome;
 
-use vigbuso::Chunk;
+/// Where a record stands: in a block, or in pages of its own if no block is large enough.
+#[derive(Clone, Copy, PartialEq, Eq, Debug)]
+enum Place {
+    Block(Block),
+    Run(Run),
+}
 
-use crate::pages::{pages_of_block, pages_of_run, Holder, Pages};
-use crate::Outcome;
+impl Place {
+    fn start(self) -> usize {
+        match self {
+            Place::Block(block) => block.byte_offset() as usize,
+            Place::Run(run) => range(run).start,
+        }
+    }
+}
 
-/// The arena is memory that is there already and is never discarded.
-const HOST: Host = Host::GRANTED;
+#[derive(Clone, Copy, PartialEq, Eq, Debug)]
+pub struct Record {
+    place: Place,
+    bytes: usize,
+}
 
-/// Blocks of a class that are kept at hand before some go back to the heap.
-const STOCK: usize = 128;
+impl Record {
+    pub fn bytes(self) -> usize {
+        self.bytes
+    }
 
-/// A family and a class of it.
-pub type Class = (Kind, u32);
+    fn range(self, part: Range<usize>) -> Range<usize> {
+        self.place.start() + part.start..self.place.start() + part.end
+    }
+}
+
+/// How often blocks were used anew.
+#[derive(Clone, Default)]
+pub struct Tally {
+    /// Records written into blocks.
+    pub records: usize,
+    /// Blocks that have a record now, and the most that ever had.
+    pub out: usize,
+    pub most: usize,
+    /// All blocks that ever had one.
+    places: HashSet<Block>,
+}
+
+impl Tally {
+    pub fn blocks(&self) -> usize {
+        self.places.len()
+    }
+
+    fn count(&mut self, block: Block) {
+        self.records += 1;
+        self.out += 1;
+        self.most = self.most.max(self.out);
+        self.places.insert(block);
+    }
+}
 
 pub struct Store {
-    heap: Heap,
+    blocks: Blocks,
     arena: Vec<u8>,
-    /// Blocks that the heap has handed out and no record stands in. A take brings up to 64 of them.
-    stocks: BTreeMap<Class, Vec<Block>>,
-    /// What was written into each block, kept apart from the arena: were two blocks to share a byte, or one handed out
-    /// twice, a read would show it.
-    written: HashMap<Block, Vec<u8>>,
-    holders: Vec<Holder>,
+    /// By its first byte what was written into each record, kept apart from the arena: were two records to share a byte,
+    /// or a block to be handed out twice, a read would show it.
+    written: HashMap<usize, (Record, Vec<u8>)>,
+    pages: Pages,
+    tally: Tally,
     reads: Cell<usize>,
 }
 
 impl Store {
     pub fn open(pages: usize) -> Outcome<Store> {
         Ok(Store {
-            heap: Heap::open(pages as u64)?,
+            blocks: Blocks::open(pages)?,
             arena: vec![0; pages * PAGE_BYTES],
-            stocks: BTreeMap::new(),
             written: HashMap::new(),
-            holders: vec![Holder::Fresh; pages],
+            pages: Pages::new(pages),
+            tally: Tally::default(),
             reads: Cell::new(0),
         })
     }
 
-    /// Writes a record into a block of its own.
-    pub fn put(&mut self, record: &[u8]) -> Outcome<Block> {
-        let block = self.block_for(class_of(record.len()))?;
-        self.arena[bytes_of(block, 0..record.len())].copy_from_slice(record);
-        match self.written.insert(block, record.to_vec()) {
-            None => Ok(block),
-            Some(_) => Err(format!("{block:?} was handed out twice").into()),
+    /// Writes a record; none if the arena has no room for it.
+    pub fn put(&mut self, bytes: &[u8]) -> Outcome<Option<Record>> {
+        let Some(place) = self.place_for(bytes.len())? else {
+            return Ok(None);
+        };
+        let record = Record { place, bytes: bytes.len() };
+        self.arena[record.range(0..bytes.len())].copy_from_slice(bytes);
+        match self.written.insert(place.start(), (record, bytes.to_vec())) {
+            None => Ok(Some(record)),
+            Some(_) => Err(format!("{place:?} was handed out twice").into()),
         }
     }
 
-    /// Reads a part of the record in a block.
-    pub fn get(&self, block: Block, part: Range<usize>) -> Outcome<&[u8]> {
-        let read = &self.arena[bytes_of(block, part.clone())];
-        let written = self.written.get(&block).and_then(|record| record.get(part));
+    fn place_for(&mut self, bytes: usize) -> Outcome<Option<Place>> {
+        let Some(class) = Class::for_size(bytes) else {
+            return Ok(self.commit(bytes.div_ceil(PAGE_BYTES))?.map(Place::Run));
+        };
+        let block = self.blocks.alloc(bytes)?;
+        if let Some(block) = block {
+            let first = class.first_page(block).unwrap_or(block.page()) as usize;
+            self.pages.hold(first..first + class.pages(), Holder::Class(class));
+            self.tally.count(block);
+        }
+        Ok(block.map(Place::Block))
+    }
+
+    /// Writes something else of the same length into a record.
+    pub fn set(&mut self, record: Record, bytes: &[u8]) -> Outcome<()> {
+        self.get(record, 0..record.bytes)?;
+        self.arena[record.range(0..record.bytes)].copy_from_slice(bytes);
+        self.written.insert(record.place.start(), (record, bytes.to_vec()));
+        Ok(())
+    }
+
+    /// Reads a part of a record.
+    pub fn get(&self, record: Record, part: Range<usize>) -> Outcome<&[u8]> {
+        let read = &self.arena[record.range(part.clone())];
+        let written = self.written.get(&record.place.start()).and_then(|(_, bytes)| bytes.get(part));
         if written != Some(read) {
-            return Err(format!("{block:?} does not have what was written into it").into());
+            return Err(format!("{:?} does not have what was written into it", record.place).into());
         }
         self.count_read();
         Ok(read)
     }
 
-    /// Forgets the record of so many bytes in a block.
-    pub fn free(&mut self, block: Block, bytes: usize) -> Outcome<()> {
-        self.get(block, 0..bytes)?;
-        self.written.remove(&block);
-        let class = class_of(bytes);
-        let stock = self.stocks.entry(class).or_default();
-        stock.push(block);
-        if stock.len() > STOCK {
-            let oldest = stock.drain(..STOCK / 2).collect();
-            self.give_back(class, oldest)?;
+    /// Forgets a record, whose place is then free for others.
+    pub fn free(&mut self, record: Record) -> Outcome<()> {
+        self.get(record, 0..record.bytes)?;
+        self.written.remove(&record.place.start());
+        match record.place {
+            Place::Block(block) => {
+                self.tally.out -= 1;
+                self.blocks.free(block)
+            }
+            Place::Run(run) => self.release_run(run),
         }
-        Ok(())
     }
 
-    /// A block of the class at hand, or one that the heap hands out.
-    fn block_for(&mut self, class: Class) -> Outcome<Block> {
-        let stock = self.stocks.entry(class).or_default();
-        if stock.is_empty() {
-            let taken = match class.0 {
-                Kind::Small => self.heap.take(class.1, HOST)?,
-                Kind::Medium => self.heap.medium_take(class.1, HOST)?,
-            };
-            for &block in &taken {
-                self.holders[pages_of_block(block, class)].fill(Holder::Class(class.0, class.1));
-            }
-            // The lowest first, which is the last of the answer.
-            stock.extend(taken);
-        }
-        stock.pop().ok_or_else(|| format!("the arena has no block of {class:?} left").into())
-    }
-
-    /// Hands blocks back to the heap: small ones of many pages at once, medium ones page by page, since blocks that start on
-    /// one page are in one span.
-    fn give_back(&mut self, (kind, class): Class, mut blocks: Vec<Block>) -> Outcome<()> {
-        blocks.sort_unstable();
-        match kind {
-            Kind::Small => {
-                let chunks = Chunk::of(&blocks);
-                let fates = self.heap.release_chunks(class, HOST, &blocks, &chunks)?;
-                for (chunk, _) in chunks.iter().zip(fates).filter(|(_, fate)| fate.is_arena()) {
-                    self.holders[chunk.page() as usize] = Holder::Hole;
-                }
-            }
-            Kind::Medium => {
-                for list in blocks.chunk_by(|a, b| a.page() == b.page()) {
-                    self.heap.medium_release(class, HOST, list)?;
-                }
-            }
-        }
-        Ok(())
-    }
-
-    /// A run of pages, to be used directly.
-    pub fn commit(&mut self, pages: u64) -> Outcome<Run> {
-        let answer =
-            self.heap.commit(HOST, pages)?.ok_or_else(|| format!("the arena has no run of {pages} pages left"))?;
-        self.holders[pages_of_run(answer.run)].fill(Holder::Direct);
-        Ok(answer.run)
+    /// A run of pages, to be used directly; none if the arena has no such run left.
+    pub fn commit(&mut self, pages: usize) -> Outcome<Option<Run>> {
+        let run = self.blocks.commit(pages)?;
+        Ok(run.inspect(|&run| self.pages.hold(pages_of(run), Holder::Direct)))
     }
 
     /// The run with one page more, if it can grow where it is.
     pub fn grow(&mut self, run: Run) -> Outcome<Option<Run>> {
-        let grown = self.heap.grow_frontier(HOST, run, run.pages + 1)?;
-        if let Some(run) = grown {
-            self.holders[pages_of_run(run)].fill(Holder::Direct);
-        }
-        Ok(grown)
+        let run = self.blocks.grow(run)?;
+        Ok(run.inspect(|&run| self.pages.hold(pages_of(run), Holder::Direct)))
     }
 
     pub fn release_run(&mut self, run: Run) -> Outcome<()> {
-        self.heap.release_run(HOST, run)?;
-        self.holders[pages_of_run(run)].fill(Holder::Hole);
-        Ok(())
+        self.pages.hold(pages_of(run), Holder::Hole);
+        self.blocks.release_run(run)
     }
 
     /// The bytes of a run.
     pub fn run(&self, run: Run) -> &[u8] {
-        &self.arena[range(run.bytes())]
+        &self.arena[range(run)]
     }
 
     pub fn run_mut(&mut self, run: Run) -> &mut [u8] {
-        &mut self.arena[range(run.bytes())]
+        &mut self.arena[range(run)]
     }
 
     /// Copies the bytes of one run to the start of another.
     pub fn copy_run(&mut self, from: Run, to: Run) {
-        self.arena.copy_within(range(from.bytes()), to.bytes().start as usize);
+        self.arena.copy_within(range(from), range(to).start);
     }
 
     /// Counts a read that was compared.
@@ -164,41 +187,41 @@ impl Store {
         self.reads.get()
     }
 
+    pub fn tally(&self) -> &Tally {
+        &self.tally
+    }
+
     pub fn report(&self) -> Outcome<Report> {
-        Ok(self.heap.report()?)
+        self.blocks.report()
     }
 
     /// Whose each page is, as the calls have told, and how many of its bytes are in use.
     pub fn pages(&self) -> Outcome<Pages> {
-        let in_use = self.written.iter().map(|(&block, record)| (block, class_of(record.len())));
-        Pages::new(&self.holders, in_use, self.heap.report()?)
+        let records = self.written.values().map(|(record, _)| record.range(0..self.room(*record)));
+        self.pages.with(records, self.blocks.report()?)
     }
 
-    /// Hands everything back, once no record is left. That no release is refused shows that just these blocks are out.
+    /// All bytes of the block that a record stands in. A run's pages are in use whole, records or not.
+    fn room(&self, record: Record) -> usize {
+        match record.place {
+            Place::Block(block) => self.blocks.class_of(block).map_or(0, Class::bytes),
+            Place::Run(_) => 0,
+        }
+    }
+
+    /// Hands everything back, once no record is left.
     pub fn close(mut self) -> Outcome<()> {
-        if !self.written.is_empty() {
-            return Err(format!("{} records are left", self.written.len()).into());
+        match self.written.len() {
+            0 => self.blocks.flush(),
+            left => Err(format!("{left} records are left").into()),
         }
-        for (class, blocks) in std::mem::take(&mut self.stocks) {
-            self.give_back(class, blocks)?;
-        }
-        Ok(())
     }
 }
 
-fn class_of(bytes: usize) -> Class {
-    let size = bytes as u64;
-    match bytes {
-        0..=16_384 => (Kind::Small, class_for_size(size)),
-        _ => (Kind::Medium, medium_class_for_size(size)),
-    }
+fn pages_of(run: Run) -> Range<usize> {
+    run.first as usize..(run.first + run.pages) as usize
 }
 
-fn bytes_of(block: Block, part: Range<usize>) -> Range<usize> {
-    let start = block.byte_offset() as usize;
-    start + part.start..start + part.end
-}
-
-fn range(bytes: Range<u64>) -> Range<usize> {
-    bytes.start as usize..bytes.end as usize
+fn range(run: Run) -> Range<usize> {
+    run.bytes().start as usize..run.bytes().end as usize
 }

@@ -1,4 +1,4 @@
--- `mediumlist::describe` meets its contract: every medium block size is positive and at most a page. Assumes nothing.
+-- `mediumlist::describe` meets its contract: every medium block size is positive and at most a page.
 use Rattle.classes.proofs.Shapes.{medium-usable}
 use Rattle.mediumlist.specs.Line.{lineOf}
 use borrow.Author.Needs.{needs}

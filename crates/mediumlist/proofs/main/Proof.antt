@@ -1,4 +1,4 @@
--- `mediumlist::main` ends: it writes a line for each class. Assumes nothing.
+-- `mediumlist::main` ends: it writes a line for each class.
 use Prim.Native.Nat.{_≤_, _-_}
 use borrow.Author.Needs.{needs}
 use Rattle.mediumlist.proofs.main.Statement.{statement}

@@ -3,7 +3,7 @@ use Rattle.replay.proofs.room.Statement.{statement}
 use Rattle.replay.proofs.room.Tie as tie
 
 returns : tie.Need-returns
-returns c = zeros 393216
+returns c = zeros 524288
 
 pub room-spec : {M : Type 1} → statement M
 room-spec = tie.close (tie.spec returns)

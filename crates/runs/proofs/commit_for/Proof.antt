@@ -1,7 +1,7 @@
 use borrow.Author.Needs.{needs}
 use Rattle.runs.proofs.commit_for.Statement.{statement}
 use Rattle.runs.proofs.commit_for.Tie as tie
-use Rattle.runs.proofs.CommitWays.{request-in, fair-told, commits-on, commits-off}
+use Rattle.runs.proofs.CommitSteps.{request-in, fair-told, commits-on, commits-off}
 
 commit-recalled-requires : tie.Need-commit-recalled-requires
 commit-recalled-requires c κs = (search (request-in, fair-told), search fair-told)

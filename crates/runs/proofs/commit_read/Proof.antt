@@ -1,7 +1,7 @@
 use borrow.Author.Needs.{needs}
 use Rattle.runs.proofs.commit_read.Statement.{statement}
 use Rattle.runs.proofs.commit_read.Tie as tie
-use Rattle.runs.proofs.CommitWays.{loaded-few, loaded-record, plan-in, read-on, read-off}
+use Rattle.runs.proofs.CommitSteps.{loaded-few, loaded-record, plan-in, read-on, read-off}
 
 pub commit-read-spec : {M : Type 1} → statement M
 commit-read-spec =

@@ -1,7 +1,7 @@
 use borrow.Author.Needs.{needs}
 use Rattle.runs.proofs.commit_recalled.Statement.{statement}
 use Rattle.runs.proofs.commit_recalled.Tie as tie
-use Rattle.runs.proofs.CommitWays.{recalled-off, recalled-on}
+use Rattle.runs.proofs.CommitSteps.{recalled-off, recalled-on}
 
 pub commit-recalled-spec : {M : Type 1} → statement M
 commit-recalled-spec =

@@ -1,4 +1,4 @@
-use Rattle.chunks.proofs.CallWays.{no-list, no-chunks, many-chunks, few-fates, wrong-blocks, wrong-chunks, strike-asks}
+use Rattle.chunks.proofs.CallSteps.{no-list, no-chunks, many-chunks, few-fates, wrong-blocks, wrong-chunks, strike-asks}
 use borrow.Author.Needs.{needs}
 use Rattle.chunks.proofs.call.release_chunks.Statement.{statement}
 use Rattle.chunks.proofs.call.release_chunks.Tie as tie

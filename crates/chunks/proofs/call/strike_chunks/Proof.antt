@@ -1,4 +1,4 @@
-use Rattle.chunks.proofs.CallWays.{struck-low, restore-asks, not-out, struck-asks, released, restore-again, refused}
+use Rattle.chunks.proofs.CallSteps.{struck-low, restore-asks, not-out, struck-asks, released, restore-again, refused}
 use borrow.Author.Needs.{needs}
 use Rattle.chunks.proofs.call.strike_chunks.Statement.{statement}
 use Rattle.chunks.proofs.call.strike_chunks.Tie as tie

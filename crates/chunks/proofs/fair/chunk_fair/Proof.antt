@@ -1,4 +1,4 @@
-use Rattle.chunks.proofs.FairWays.{chunk-is}
+use Rattle.chunks.proofs.FairSteps.{chunk-is}
 use borrow.Author.Needs.{needs}
 use Rattle.chunks.proofs.fair.chunk_fair.Statement.{statement}
 use Rattle.chunks.proofs.fair.chunk_fair.Tie as tie

@@ -1,4 +1,4 @@
-use Rattle.chunks.proofs.FairWays.{above-arena, gives-asks, gives-last, no-row, no-page}
+use Rattle.chunks.proofs.FairSteps.{above-arena, gives-asks, gives-last, no-row, no-page}
 use borrow.Author.Needs.{needs}
 use Rattle.chunks.proofs.fair.chunks_fair.Statement.{statement}
 use Rattle.chunks.proofs.fair.chunks_fair.Tie as tie

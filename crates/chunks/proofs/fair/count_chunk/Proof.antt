@@ -1,4 +1,4 @@
-use Rattle.chunks.proofs.FairWays.{spotted-asks, count-one, count-none}
+use Rattle.chunks.proofs.FairSteps.{spotted-asks, count-one, count-none}
 use borrow.Author.Needs.{needs}
 use Rattle.chunks.proofs.fair.count_chunk.Statement.{statement}
 use Rattle.chunks.proofs.fair.count_chunk.Tie as tie

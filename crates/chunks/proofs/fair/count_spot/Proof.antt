@@ -1,4 +1,4 @@
-use Rattle.chunks.proofs.FairWays.{spot-empty, spot-cold, spot-arena}
+use Rattle.chunks.proofs.FairSteps.{spot-empty, spot-cold, spot-arena}
 use borrow.Author.Needs.{needs}
 use Rattle.chunks.proofs.fair.count_spot.Statement.{statement}
 use Rattle.chunks.proofs.fair.count_spot.Tie as tie
@@ -7,4 +7,12 @@ pub count-spot-spec : {M : Type 1} → statement M
 count-spot-spec =
     tie.close
     (tie.spec
-    (λ c. search needs) (λ c. search spot-empty) (λ c. search needs) (λ c. search spot-cold) (λ c. search needs) (λ c. search spot-arena))
+    (λ c. search (needs, spot-empty, spot-cold, spot-arena))
+    (λ c. search (needs, spot-empty, spot-cold, spot-arena))
+    (λ c. search (needs, spot-empty, spot-cold, spot-arena))
+    (λ c. search (needs, spot-empty, spot-cold, spot-arena))
+    (λ c. search (needs, spot-empty, spot-cold, spot-arena))
+    (λ c. search (needs, spot-empty, spot-cold, spot-arena))
+    (λ c. search (needs, spot-empty, spot-cold, spot-arena))
+    (λ c. search (needs, spot-empty, spot-cold, spot-arena))
+    (λ c. search (needs, spot-empty, spot-cold, spot-arena)))

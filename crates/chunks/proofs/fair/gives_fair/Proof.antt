@@ -1,4 +1,4 @@
-use Rattle.chunks.proofs.FairWays.{runs-asks, given-fits, none-given, some-given}
+use Rattle.chunks.proofs.FairSteps.{runs-asks, given-fits, none-given, some-given}
 use borrow.Author.Needs.{needs}
 use Rattle.chunks.proofs.fair.gives_fair.Statement.{statement}
 use Rattle.chunks.proofs.fair.gives_fair.Tie as tie

@@ -1,4 +1,4 @@
-use Rattle.chunks.proofs.FairWays.{PagesInv, pages-start, page-there, pages-go-on, pages-stop, pages-end}
+use Rattle.chunks.proofs.FairSteps.{PagesInv, pages-start, page-there, pages-go-on, pages-stop, pages-end}
 use borrow.Author.Needs.{needs}
 use Prim.Native.Nat.{_-_}
 use lib.ListN.{length}

@@ -1,4 +1,4 @@
-use Rattle.chunks.proofs.FairWays.{out-fits, returns-is}
+use Rattle.chunks.proofs.FairSteps.{out-fits, returns-is}
 use borrow.Author.Needs.{needs}
 use Rattle.chunks.proofs.fair.returns_all.Statement.{statement}
 use Rattle.chunks.proofs.fair.returns_all.Tie as tie

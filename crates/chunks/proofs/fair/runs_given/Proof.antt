@@ -1,4 +1,4 @@
-use Rattle.chunks.proofs.FairWays.{Counting, counting-none, counting-asks, counting-more, counting-done}
+use Rattle.chunks.proofs.FairSteps.{Counting, counting-none, counting-asks, counting-more, counting-done}
 use borrow.Author.Needs.{needs}
 use Prim.Native.Nat.{_-_}
 use lib.ListN.{length}

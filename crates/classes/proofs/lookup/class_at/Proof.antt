@@ -1,4 +1,4 @@
--- `classes::lookup::class_at` meets its contract: the test that its `requires` asks of the table gives the rule at each place. Assumes nothing.
+-- `classes::lookup::class_at` meets its contract: the test that its `requires` asks of the table gives the rule at each place.
 use native.Mathlib.Nat.{zero-add}
 use Rattle.classes.specs.Lookup.{classForSize}
 use Rattle.classes.proofs.Table.{obeys-at}

@@ -1,4 +1,4 @@
--- `classes::lookup::class_for_size` meets its contract: `refl` in `class-at-requires` is the test of the rule at every entry of the table. Assumes nothing.
+-- `classes::lookup::class_for_size` meets its contract: `refl` in `class-at-requires` is the test of the rule at every entry of the table.
 use mathlib.Core.Path.{refl, sym, _∙_}
 use native.Mathlib.Omega.{arith}
 use Rattle.classes.specs.Sizes.{smallSizes}

@@ -1,4 +1,4 @@
--- `classes::lookup::medium_class_at` meets its contract: the test that its `requires` asks of the table gives the rule at each place. Assumes nothing.
+-- `classes::lookup::medium_class_at` meets its contract: the test that its `requires` asks of the table gives the rule at each place.
 use Rattle.classes.specs.Lookup.{mediumClassForSize}
 use Rattle.classes.proofs.Table.{obeys-at}
 use borrow.Author.Needs.{needs}

@@ -1,4 +1,4 @@
--- `classes::lookup::medium_class_for_size` meets its contract: `refl` in `medium-class-at-requires` is the test of the rule at every entry of the table. Assumes nothing.
+-- `classes::lookup::medium_class_for_size` meets its contract: `refl` in `medium-class-at-requires` is the test of the rule at every entry of the table.
 use mathlib.Core.Path.{refl, sym, _∙_}
 use mathlib.Core.Logic.{⊎-elim, inl, inr}
 use native.Mathlib.Omega.{arith}

@@ -1,4 +1,4 @@
--- `classes::runs::medium_shape` meets its contract, field by field. Assumes nothing.
+-- `classes::runs::medium_shape` meets its contract, field by field.
 use Rattle.classes.specs.Shape.{mediumShape}
 use borrow.Author.Needs.{needs}
 use Rattle.classes.proofs.runs.medium_shape.Statement.{statement}

@@ -1,4 +1,4 @@
--- `classes::runs::shape_of` meets its contract: a small class below 64, a medium one from there on. Assumes nothing.
+-- `classes::runs::shape_of` meets its contract: a small class below 64, a medium one from there on.
 use borrow.Author.Tests.{lt-ltb, le-ltb}
 use Rattle.classes.specs.Shape.{shapeOf}
 use Rattle.classes.proofs.Shapes.{small-usable, medium-usable}

@@ -1,4 +1,4 @@
--- `classes::runs::small_shape` meets its contract, field by field. Assumes nothing.
+-- `classes::runs::small_shape` meets its contract, field by field.
 use Rattle.classes.specs.Shape.{smallShape}
 use borrow.Author.Needs.{needs}
 use Rattle.classes.proofs.runs.small_shape.Statement.{statement}

@@ -1,4 +1,4 @@
--- `classes::sizes::medium_capacity_for` meets its contract: the pages are those of `span_pages_for`. Assumes nothing.
+-- `classes::sizes::medium_capacity_for` meets its contract: the pages are those of `span_pages_for`.
 use borrow.Author.Needs.{needs}
 use Rattle.classes.proofs.sizes.medium_capacity_for.Statement.{statement}
 use Rattle.classes.proofs.sizes.medium_capacity_for.Tie as tie

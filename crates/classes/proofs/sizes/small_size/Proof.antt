@@ -1,4 +1,4 @@
--- `classes::sizes::small_size` meets its contract: its constant array is the table of `specs/`. Assumes nothing.
+-- `classes::sizes::small_size` meets its contract: its constant array is the table of `specs/`.
 use lib.ListN.{List·getD-eq-default}
 use mathlib.Core.Path.{sym}
 use Rattle.classes.specs.Sizes.{smallSizes}

@@ -1,7 +1,7 @@
 use borrow.Author.Needs.{needs}
 use Rattle.direct.proofs.calls.contains.Statement.{statement}
 use Rattle.direct.proofs.calls.contains.Tie as tie
-use Rattle.direct.proofs.Ways.{contains-off, contains-past, contains-is}
+use Rattle.direct.proofs.CallSteps.{contains-off, contains-past, contains-is}
 
 pub contains-spec : {M : Type 1} → statement M
 contains-spec =

@@ -1,7 +1,7 @@
 use borrow.Author.Needs.{needs}
 use Rattle.direct.proofs.calls.figures.Statement.{statement}
 use Rattle.direct.proofs.calls.figures.Tie as tie
-use Rattle.direct.proofs.Ways.{figures-below, figures-are}
+use Rattle.direct.proofs.CallSteps.{figures-below, figures-are}
 
 pub figures-spec : {M : Type 1} → statement M
 figures-spec =

@@ -1,8 +1,8 @@
 use borrow.Author.Needs.{needs}
 use Rattle.direct.proofs.calls.grow_fair.Statement.{statement}
 use Rattle.direct.proofs.calls.grow_fair.Tie as tie
-use Rattle.runs.proofs.CommitWays.{fair-told}
-use Rattle.direct.proofs.Ways.{grows-fair, grows-unfair}
+use Rattle.runs.proofs.CommitSteps.{fair-told}
+use Rattle.direct.proofs.CallSteps.{grows-fair, grows-unfair}
 
 pub grow-fair-spec : {M : Type 1} → statement M
 grow-fair-spec =

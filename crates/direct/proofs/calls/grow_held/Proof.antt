@@ -1,8 +1,8 @@
 use borrow.Author.Needs.{needs}
 use Rattle.direct.proofs.calls.grow_held.Statement.{statement}
 use Rattle.direct.proofs.calls.grow_held.Tie as tie
-use Rattle.runs.proofs.CommitWays.{request-in, loaded-record}
-use Rattle.direct.proofs.Ways.{grows-held}
+use Rattle.runs.proofs.CommitSteps.{request-in, loaded-record}
+use Rattle.direct.proofs.CallSteps.{grows-held}
 
 pub grow-held-spec : {M : Type 1} → statement M
 grow-held-spec =

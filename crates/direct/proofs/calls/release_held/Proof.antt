@@ -1,7 +1,7 @@
 use borrow.Author.Needs.{needs}
 use Rattle.direct.proofs.calls.release_held.Statement.{statement}
 use Rattle.direct.proofs.calls.release_held.Tie as tie
-use Rattle.direct.proofs.Ways.{give-in, released, released-not}
+use Rattle.direct.proofs.CallSteps.{give-in, released, released-not}
 
 pub release-held-spec : {M : Type 1} → statement M
 release-held-spec =

@@ -2,7 +2,7 @@ use Rattle.direct.proofs.open.clear_head.Statement.{statement}
 use Rattle.direct.proofs.open.clear_head.Tie as tie
 use Prim.Native.Nat.{_-_}
 use borrow.Author.Needs.{needs}
-use Rattle.direct.proofs.Ways.{Clearing, clear-start, clear-again, clear-done}
+use Rattle.direct.proofs.CallSteps.{Clearing, clear-start, clear-again, clear-done}
 
 abbrev Inv-loop : tie.InvT-loop
 Inv-loop meta₀ i₀ meta i = Clearing meta₀ meta i

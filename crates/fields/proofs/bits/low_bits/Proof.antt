@@ -1,5 +1,4 @@
 use borrow.Author.Needs.{needs}
-use mathlib.Core.Path.{refl}
 use lib.Pow.{pow-pos}
 use Rattle.fields.proofs.Shifts.{one-shl}
 use Rattle.fields.proofs.bits.low_bits.Statement.{statement}

@@ -1,5 +1,5 @@
 use borrow.Author.Tests.{eq-eqb, ne-eqb}
-use Rattle.arena.specs.Plan.{noPlan}
+use Rattle.holes.specs.Plan.{noPlan}
 use Rattle.holes.specs.Scan.{drawnOf}
 use Rattle.holes.proofs.plans.drawn.Statement.{statement}
 use Rattle.holes.proofs.plans.drawn.Tie as tie

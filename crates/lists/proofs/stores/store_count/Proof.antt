@@ -1,8 +1,8 @@
-use Rattle.pages.specs.Links.{tally}
+use Rattle.pages.specs.Links.{stored}
 use Rattle.lists.proofs.ListSteps.{read-told}
 use borrow.Author.Needs.{needs}
 use Rattle.lists.proofs.stores.store_count.Statement.{statement}
 use Rattle.lists.proofs.stores.store_count.Tie as tie
 
 pub store-count-spec : {M : Type 1} → statement M
-store-count-spec = tie.close (tie.spec (λ c. search needs) (λ c κs. search needs) (λ c. search needs) (λ c κs. search needs) (λ c. search (read-told tally)) (λ c. search (read-told tally)))
+store-count-spec = tie.close (tie.spec (λ c. search needs) (λ c κs. search needs) (λ c. search needs) (λ c κs. search needs) (λ c. search (read-told stored)) (λ c. search (read-told stored)))

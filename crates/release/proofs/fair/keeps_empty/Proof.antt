@@ -1,4 +1,4 @@
-use Rattle.release.proofs.FairWays.{many-empty, spot-fits, pages-left}
+use Rattle.release.proofs.FairSteps.{many-empty, spot-fits, pages-left}
 use borrow.Author.Needs.{needs}
 use Rattle.release.proofs.fair.keeps_empty.Statement.{statement}
 use Rattle.release.proofs.fair.keeps_empty.Tie as tie

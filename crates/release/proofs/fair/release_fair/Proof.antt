@@ -1,4 +1,4 @@
-use Rattle.release.proofs.FairWays.{above-arena, spot-asks, spot-last, no-row, no-page}
+use Rattle.release.proofs.FairSteps.{above-arena, spot-asks, spot-last, no-row, no-page}
 use borrow.Author.Needs.{needs}
 use Rattle.release.proofs.fair.release_fair.Statement.{statement}
 use Rattle.release.proofs.fair.release_fair.Tie as tie

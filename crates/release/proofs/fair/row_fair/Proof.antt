@@ -1,4 +1,4 @@
-use Rattle.release.proofs.FairWays.{far-partial, cold-last, no-empty}
+use Rattle.release.proofs.FairSteps.{far-partial, cold-last, no-empty}
 use borrow.Author.Needs.{needs}
 use Rattle.release.proofs.fair.row_fair.Statement.{statement}
 use Rattle.release.proofs.fair.row_fair.Tie as tie

@@ -1,4 +1,4 @@
-use Rattle.release.proofs.FairWays.{empties-low, spot-there}
+use Rattle.release.proofs.FairSteps.{empties-low, spot-there}
 use borrow.Author.Needs.{needs}
 use Rattle.release.proofs.fair.spot_at.Statement.{statement}
 use Rattle.release.proofs.fair.spot_at.Tie as tie

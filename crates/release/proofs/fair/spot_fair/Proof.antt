@@ -1,4 +1,4 @@
-use Rattle.release.proofs.FairWays.{out-fits, not-last, not-given, give-last}
+use Rattle.release.proofs.FairSteps.{out-fits, not-last, kept-empty, kept-cold, give-last}
 use borrow.Author.Needs.{needs}
 use Rattle.release.proofs.fair.spot_fair.Statement.{statement}
 use Rattle.release.proofs.fair.spot_fair.Tie as tie
@@ -7,5 +7,16 @@ pub spot-fair-spec : {M : Type 1} → statement M
 spot-fair-spec =
     tie.close
     (tie.spec
-    (λ c κs. search needs) (λ c κs. search needs) (λ c. search out-fits) (λ c. search needs) (λ c. search not-last) (λ c κs. search needs)
-    (λ c. search not-given) (λ c κs. search needs) (λ c. search give-last))
+    (λ c κs. search needs)
+    (λ c κs. search needs)
+    (λ c. search out-fits)
+    (λ c. search needs)
+    (λ c. search not-last)
+    (λ c κs. search needs)
+    (λ c. search needs)
+    (λ c. search needs)
+    (λ c. search needs)
+    (λ c κs. search needs)
+    (λ c. search (needs, kept-empty, kept-cold, give-last))
+    (λ c. search (needs, kept-empty, kept-cold, give-last))
+    (λ c. search (needs, kept-empty, kept-cold, give-last)))

@@ -1,4 +1,4 @@
-use Rattle.release.proofs.FairWays.{spot-empty, spot-cold, spot-arena}
+use Rattle.release.proofs.FairSteps.{spot-empty, spot-cold, spot-arena}
 use borrow.Author.Needs.{needs}
 use Rattle.release.proofs.fair.spot_of.Statement.{statement}
 use Rattle.release.proofs.fair.spot_of.Tie as tie

@@ -1,7 +1,7 @@
 use borrow.Author.Needs.{needs}
 use Prim.Native.Nat.{_-_}
 use lib.ListN.{length}
-use Rattle.release.proofs.Ways.{KindInv, kind-starts, kind-goes-on, kind-ends}
+use Rattle.release.proofs.RunSteps.{KindInv, kind-starts, kind-goes-on, kind-ends}
 use Rattle.release.proofs.kinds.all_of_kind.Statement.{statement}
 use Rattle.release.proofs.kinds.all_of_kind.Tie as tie
 

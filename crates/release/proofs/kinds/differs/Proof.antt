@@ -1,4 +1,4 @@
-use Rattle.release.proofs.Ways.{kind-test}
+use Rattle.release.proofs.RunSteps.{kind-test}
 use borrow.Author.Needs.{needs}
 use Rattle.release.proofs.kinds.differs.Statement.{statement}
 use Rattle.release.proofs.kinds.differs.Tie as tie

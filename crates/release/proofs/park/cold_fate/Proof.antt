@@ -1,4 +1,4 @@
-use Rattle.release.proofs.Parking.{span-kept, page-cold}
+use Rattle.release.proofs.ParkSteps.{span-kept, page-cold}
 use Rattle.release.proofs.park.cold_fate.Statement.{statement}
 use Rattle.release.proofs.park.cold_fate.Tie as tie
 

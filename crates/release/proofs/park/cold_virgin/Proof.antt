@@ -1,4 +1,4 @@
-use Rattle.release.proofs.Parking.{span-not-virgin, page-virgin}
+use Rattle.release.proofs.ParkSteps.{span-not-virgin, page-virgin}
 use borrow.Author.Needs.{needs}
 use Rattle.release.proofs.park.cold_virgin.Statement.{statement}
 use Rattle.release.proofs.park.cold_virgin.Tie as tie

@@ -1,4 +1,4 @@
-use Rattle.release.proofs.Backing.{push-asks, park-asks, none-out, link-asks, some-out}
+use Rattle.release.proofs.BackSteps.{push-asks, park-asks, none-out, link-asks, some-out}
 use borrow.Author.Needs.{needs}
 use Rattle.release.proofs.park.give_back.Statement.{statement}
 use Rattle.release.proofs.park.give_back.Tie as tie

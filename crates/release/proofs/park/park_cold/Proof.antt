@@ -1,4 +1,4 @@
-use Rattle.release.proofs.Parking.{cold-there, parked-cold}
+use Rattle.release.proofs.ParkSteps.{cold-there, parked-cold}
 use borrow.Author.Needs.{needs}
 use Rattle.release.proofs.park.park_cold.Statement.{statement}
 use Rattle.release.proofs.park.park_cold.Tie as tie

@@ -1,4 +1,4 @@
-use Rattle.release.proofs.Parking.{headed, in-list}
+use Rattle.release.proofs.ParkSteps.{headed, in-list}
 use borrow.Author.Needs.{needs}
 use Rattle.release.proofs.park.relist.Statement.{statement}
 use Rattle.release.proofs.park.relist.Tie as tie

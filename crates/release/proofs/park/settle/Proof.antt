@@ -1,4 +1,4 @@
-use Rattle.release.proofs.Backing.{back-asks, give-asks, given-away, kept-here}
+use Rattle.release.proofs.BackSteps.{back-asks, give-asks, given-away, kept-here}
 use borrow.Author.Needs.{needs}
 use Rattle.release.proofs.park.settle.Statement.{statement}
 use Rattle.release.proofs.park.settle.Tie as tie

@@ -1,4 +1,4 @@
-use Rattle.release.proofs.Parking.{links-there, left-list, in-no-list}
+use Rattle.release.proofs.ParkSteps.{links-there, left-list, in-no-list}
 use borrow.Author.Needs.{needs}
 use Rattle.release.proofs.park.unlist.Statement.{statement}
 use Rattle.release.proofs.park.unlist.Tie as tie

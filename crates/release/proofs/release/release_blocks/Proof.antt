@@ -1,4 +1,4 @@
-use Rattle.release.proofs.Releasing.{none-listed, first-idle, run-asks, bad-kind}
+use Rattle.release.proofs.ReleaseSteps.{none-listed, first-idle, run-asks, bad-kind}
 use borrow.Author.Needs.{needs}
 use Rattle.release.proofs.release.release_blocks.Statement.{statement}
 use Rattle.release.proofs.release.release_blocks.Tie as tie

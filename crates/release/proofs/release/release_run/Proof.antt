@@ -1,4 +1,4 @@
-use Rattle.release.proofs.Releasing.{run-in, rest-asks, refused-rest, fair-asks, settle-asks, settled, struck-low, restore-asks, refused-fair}
+use Rattle.release.proofs.ReleaseSteps.{run-in, rest-asks, refused-rest, fair-asks, settle-asks, settled, struck-low, restore-asks, refused-fair}
 use borrow.Author.Needs.{needs}
 use Rattle.release.proofs.release.release_run.Statement.{statement}
 use Rattle.release.proofs.release.release_run.Tie as tie

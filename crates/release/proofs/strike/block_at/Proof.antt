@@ -1,4 +1,4 @@
-use Rattle.release.proofs.Decode.{near-fits, index-fits, past-blocks, between-blocks, a-block}
+use Rattle.release.proofs.BlockSteps.{near-fits, index-fits, past-blocks, between-blocks, a-block}
 use borrow.Author.Needs.{needs}
 use Rattle.release.proofs.strike.block_at.Statement.{statement}
 use Rattle.release.proofs.strike.block_at.Tie as tie

@@ -1,4 +1,4 @@
-use Rattle.release.proofs.Restoring.{rest-within, rest-bits, all-out, not-all-out}
+use Rattle.release.proofs.RestoreSteps.{rest-within, rest-bits, all-out, not-all-out}
 use borrow.Author.Needs.{needs}
 use Rattle.release.proofs.strike.refuse_rest.Statement.{statement}
 use Rattle.release.proofs.strike.refuse_rest.Tie as tie

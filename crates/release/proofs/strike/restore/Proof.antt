@@ -1,4 +1,4 @@
-use Rattle.release.proofs.Restoring.{first-there, start-low, bit-there, restored-is}
+use Rattle.release.proofs.RestoreSteps.{first-there, start-low, bit-there, restored-is}
 use borrow.Author.Needs.{needs}
 use Rattle.release.proofs.strike.restore.Statement.{statement}
 use Rattle.release.proofs.strike.restore.Tie as tie

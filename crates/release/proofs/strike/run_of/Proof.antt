@@ -1,4 +1,4 @@
-use Rattle.release.proofs.Ways.{past-arena, past-frontier, past-page, past-run, in-run, not-whole}
+use Rattle.release.proofs.RunSteps.{past-arena, past-frontier, past-page, past-run, in-run, not-whole}
 use borrow.Author.Needs.{needs}
 use Rattle.release.proofs.strike.run_of.Statement.{statement}
 use Rattle.release.proofs.strike.run_of.Tie as tie

@@ -1,7 +1,7 @@
 use borrow.Author.Needs.{needs}
 use Prim.Native.Nat.{_-_}
 use lib.ListN.{length}
-use Rattle.release.proofs.Steps.{ClassInv, class-starts, class-none, class-stops, class-goes-on, class-ends, class-there}
+use Rattle.release.proofs.StrikeSteps.{ClassInv, class-starts, class-none, class-stops, class-goes-on, class-ends, class-there}
 use Rattle.release.proofs.strike.strike.Statement.{statement}
 use Rattle.release.proofs.strike.strike.Tie as tie
 

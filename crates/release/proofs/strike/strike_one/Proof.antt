@@ -1,4 +1,4 @@
-use Rattle.release.proofs.Decode.{not-block, has-bit, bit-set, not-out, was-out}
+use Rattle.release.proofs.BlockSteps.{not-block, has-bit, bit-set, not-out, was-out}
 use borrow.Author.Needs.{needs}
 use Rattle.release.proofs.strike.strike_one.Statement.{statement}
 use Rattle.release.proofs.strike.strike_one.Tie as tie

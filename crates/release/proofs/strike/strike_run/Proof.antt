@@ -1,7 +1,7 @@
 use borrow.Author.Needs.{needs}
 use Prim.Native.Nat.{_-_}
 use lib.ListN.{length}
-use Rattle.release.proofs.Steps.{RunInv, run-starts, run-goes-on, run-stops, run-ends}
+use Rattle.release.proofs.StrikeSteps.{RunInv, run-starts, run-goes-on, run-stops, run-ends}
 use Rattle.release.proofs.strike.strike_run.Statement.{statement}
 use Rattle.release.proofs.strike.strike_run.Tie as tie
 

@@ -1,7 +1,7 @@
 use Prim.Native.Nat.{_<_, _≤_}
 use native.Mathlib.Omega.{arith}
 use borrow.Author.Needs.{needs}
-use Rattle.release.proofs.Restoring.{RestoreInv, restore-starts, last-bit, restore-goes-on, restore-ends}
+use Rattle.release.proofs.RestoreSteps.{RestoreInv, restore-starts, last-bit, restore-goes-on, restore-ends}
 use Rattle.release.proofs.strike.unstrike.Statement.{statement}
 use Rattle.release.proofs.strike.unstrike.Tie as tie
 

@@ -1,7 +1,7 @@
 use borrow.Author.Needs.{needs}
 use Rattle.runs.proofs.act.commit_drawn.Statement.{statement}
 use Rattle.runs.proofs.act.commit_drawn.Tie as tie
-use Rattle.runs.proofs.ActWays.{none-drawn, plan-hole, hole-drawn}
+use Rattle.runs.proofs.ActSteps.{none-drawn, plan-hole, hole-drawn}
 
 pub commit-drawn-spec : {M : Type 1} → statement M
 commit-drawn-spec =

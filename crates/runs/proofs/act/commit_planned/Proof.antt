@@ -1,7 +1,7 @@
 use borrow.Author.Needs.{needs}
 use Rattle.runs.proofs.act.commit_planned.Statement.{statement}
 use Rattle.runs.proofs.act.commit_planned.Tie as tie
-use Rattle.runs.proofs.ActWays.{planned-off, record-with, plan-with, planned-on}
+use Rattle.runs.proofs.ActSteps.{planned-off, record-with, plan-with, planned-on}
 
 pub commit-planned-spec : {M : Type 1} → statement M
 commit-planned-spec =

@@ -1,7 +1,7 @@
 use borrow.Author.Needs.{needs}
 use Rattle.runs.proofs.act.cut.Statement.{statement}
 use Rattle.runs.proofs.act.cut.Tie as tie
-use Rattle.arena.specs.Act.{cutWords}
+use Rattle.holes.specs.Act.{cutWords}
 
 returns : tie.Need-returns
 unfolding cutWords

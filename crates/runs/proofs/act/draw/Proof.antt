@@ -1,7 +1,7 @@
 use borrow.Author.Needs.{needs}
 use Rattle.runs.proofs.act.draw.Statement.{statement}
 use Rattle.runs.proofs.act.draw.Tie as tie
-use Rattle.runs.proofs.ActWays.{draws-cut, draws-used}
+use Rattle.runs.proofs.ActSteps.{draws-cut, draws-used}
 
 pub draw-spec : {M : Type 1} → statement M
 draw-spec =

@@ -1,7 +1,7 @@
 use borrow.Author.Needs.{needs}
 use Rattle.runs.proofs.act.end_given.Statement.{statement}
 use Rattle.runs.proofs.act.end_given.Tie as tie
-use Rattle.runs.proofs.ActWays.{given-fresh, given-reuse}
+use Rattle.runs.proofs.ActSteps.{given-fresh, given-reuse}
 
 pub end-given-spec : {M : Type 1} → statement M
 end-given-spec =

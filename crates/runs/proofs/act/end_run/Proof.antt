@@ -1,7 +1,7 @@
 use borrow.Author.Needs.{needs}
 use Rattle.runs.proofs.act.end_run.Statement.{statement}
 use Rattle.runs.proofs.act.end_run.Tie as tie
-use Rattle.runs.proofs.ActWays.{run-ends}
+use Rattle.runs.proofs.ActSteps.{run-ends}
 
 pub end-run-spec : {M : Type 1} → statement M
 end-run-spec =

@@ -1,7 +1,7 @@
 use borrow.Author.Needs.{needs}
 use Rattle.runs.proofs.act.from_frontier.Statement.{statement}
 use Rattle.runs.proofs.act.from_frontier.Tie as tie
-use Rattle.runs.proofs.ActWays.{no-room, frontier-run, from-room}
+use Rattle.runs.proofs.ActSteps.{no-room, frontier-run, from-room}
 
 pub from-frontier-spec : {M : Type 1} → statement M
 from-frontier-spec =

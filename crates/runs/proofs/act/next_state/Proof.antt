@@ -1,7 +1,7 @@
 use borrow.Author.Needs.{needs}
 use Rattle.runs.proofs.act.next_state.Statement.{statement}
 use Rattle.runs.proofs.act.next_state.Tie as tie
-use Rattle.runs.proofs.ActWays.{state-stays, state-ready, state-off}
+use Rattle.runs.proofs.ActSteps.{state-stays, state-ready, state-off}
 
 pub next-state-spec : {M : Type 1} → statement M
 next-state-spec =

@@ -1,7 +1,7 @@
 use borrow.Author.Needs.{needs}
 use Rattle.runs.proofs.act.settle.Statement.{statement}
 use Rattle.runs.proofs.act.settle.Tie as tie
-use Rattle.runs.proofs.ActWays.{settles-run, settles-given}
+use Rattle.runs.proofs.ActSteps.{settles-run, settles-given}
 
 pub settle-spec : {M : Type 1} → statement M
 settle-spec =

@@ -1,7 +1,7 @@
 use borrow.Author.Needs.{needs}
 use Rattle.runs.proofs.act.used.Statement.{statement}
 use Rattle.runs.proofs.act.used.Tie as tie
-use Rattle.arena.specs.Act.{usedWords}
+use Rattle.holes.specs.Act.{usedWords}
 
 returns : tie.Need-returns
 unfolding usedWords

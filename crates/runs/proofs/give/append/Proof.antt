@@ -1,7 +1,7 @@
 use borrow.Author.Needs.{needs}
 use Rattle.runs.proofs.give.append.Statement.{statement}
 use Rattle.runs.proofs.give.append.Tie as tie
-use Rattle.arena.specs.Act.{appendWords}
+use Rattle.holes.specs.Act.{appendWords}
 
 returns : tie.Need-returns
 unfolding appendWords

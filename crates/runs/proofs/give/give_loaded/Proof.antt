@@ -1,7 +1,7 @@
 use borrow.Author.Needs.{needs}
 use Rattle.runs.proofs.give.give_loaded.Statement.{statement}
 use Rattle.runs.proofs.give.give_loaded.Tie as tie
-use Rattle.runs.proofs.GiveWays.{gives-loaded}
+use Rattle.runs.proofs.GiveSteps.{gives-loaded}
 
 pub give-loaded-spec : {M : Type 1} → statement M
 give-loaded-spec =

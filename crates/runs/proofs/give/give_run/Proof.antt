@@ -1,7 +1,7 @@
 use borrow.Author.Needs.{needs}
 use Rattle.runs.proofs.give.give_run.Statement.{statement}
 use Rattle.runs.proofs.give.give_run.Tie as tie
-use Rattle.runs.proofs.Ways.{gives-full, gives-over, gives}
+use Rattle.runs.proofs.RecordSteps.{gives-full, gives-over, gives}
 
 pub give-run-spec : {M : Type 1} → statement M
 give-run-spec =

@@ -1,7 +1,7 @@
 use borrow.Author.Needs.{needs}
 use Rattle.runs.proofs.growth.grow_run.Statement.{statement}
 use Rattle.runs.proofs.growth.grow_run.Tie as tie
-use Rattle.runs.proofs.CommitWays.{grows-not, grows-there}
+use Rattle.runs.proofs.CommitSteps.{grows-not, grows-there}
 
 pub grow-run-spec : {M : Type 1} → statement M
 grow-run-spec =

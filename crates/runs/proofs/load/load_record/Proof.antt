@@ -1,10 +1,8 @@
 use borrow.Author.Needs.{needs}
-use Rattle.fields.specs.Wide.{getWide}
 use Rattle.runs.proofs.load.load_record.Statement.{statement}
 use Rattle.runs.proofs.load.load_record.Tie as tie
 
 returns : tie.Need-returns
-unfolding getWide
 returns c = cc
 
 pub load-record-spec : {M : Type 1} → statement M

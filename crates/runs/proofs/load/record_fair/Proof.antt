@@ -1,7 +1,7 @@
 use borrow.Author.Needs.{needs}
 use Rattle.runs.proofs.load.record_fair.Statement.{statement}
 use Rattle.runs.proofs.load.record_fair.Tie as tie
-use Rattle.runs.proofs.Ways.{no-state, no-frontier, no-holes, no-pages, all-fair}
+use Rattle.runs.proofs.RecordSteps.{no-state, no-frontier, no-holes, no-pages, all-fair}
 
 pub record-fair-spec : {M : Type 1} → statement M
 record-fair-spec =

@@ -1,7 +1,7 @@
 use Rattle.runs.proofs.owners.all_direct.Statement.{statement}
 use Rattle.runs.proofs.owners.all_direct.Tie as tie
 use borrow.Author.Needs.{needs}
-use Rattle.runs.proofs.GiveWays.{Looking, looks-start, looks-again, looks-no, looks-done}
+use Rattle.runs.proofs.GiveSteps.{Looking, looks-start, looks-again, looks-no, looks-done}
 
 abbrev Inv-loop : tie.InvT-loop
 Inv-loop meta first pages left₀ left = Looking meta first pages left

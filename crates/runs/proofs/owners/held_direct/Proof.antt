@@ -1,7 +1,7 @@
 use borrow.Author.Needs.{needs}
 use Rattle.runs.proofs.owners.held_direct.Statement.{statement}
 use Rattle.runs.proofs.owners.held_direct.Tie as tie
-use Rattle.runs.proofs.GiveWays.{direct-long, direct-out, direct-above, direct-is}
+use Rattle.runs.proofs.GiveSteps.{direct-long, direct-out, direct-above, direct-is}
 
 pub held-direct-spec : {M : Type 1} → statement M
 held-direct-spec =

@@ -1,7 +1,7 @@
 use Rattle.runs.proofs.owners.own.Statement.{statement}
 use Rattle.runs.proofs.owners.own.Tie as tie
 use borrow.Author.Needs.{needs}
-use Rattle.runs.proofs.Ways.{Owning, owns-start, owns-again, owns-done}
+use Rattle.runs.proofs.RecordSteps.{Owning, owns-start, owns-again, owns-done}
 
 abbrev Inv-loop : tie.InvT-loop
 Inv-loop meta₀ first pages owner p₀ left₀ meta p left = Owning meta₀ first pages owner meta p left

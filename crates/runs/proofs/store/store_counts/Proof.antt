@@ -1,11 +1,10 @@
 use borrow.Author.Needs.{needs}
 use Rattle.runs.proofs.store.store_counts.Statement.{statement}
 use Rattle.runs.proofs.store.store_counts.Tie as tie
-use Rattle.fields.specs.Wide.{putWide}
 use Rattle.arena.specs.Store.{storeCounts}
 
 returns : tie.Need-returns
-unfolding storeCounts putWide
+unfolding storeCounts
 returns c = cc
 
 pub store-counts-spec : {M : Type 1} → statement M

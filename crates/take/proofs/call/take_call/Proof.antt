@@ -1,5 +1,5 @@
 use borrow.Author.Needs.{needs}
-use Rattle.take.proofs.TakeSteps.{call-host, call-short, call-asks, call-done}
+use Rattle.take.proofs.TakeSteps.{call-short, call-asks, call-done}
 use Rattle.take.proofs.call.take_call.Statement.{statement}
 use Rattle.take.proofs.call.take_call.Tie as tie
 
@@ -7,7 +7,6 @@ pub take-call-spec : {M : Type 1} → statement M
 take-call-spec =
     tie.close
     (tie.spec
-    (λ c. search call-host)
     (λ c κs. search needs)
     (λ c. search needs)
     (λ c. search call-short)

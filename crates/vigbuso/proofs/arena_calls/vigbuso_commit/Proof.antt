@@ -1,7 +1,7 @@
 use borrow.Author.Needs.{needs}
 use Rattle.vigbuso.proofs.arena_calls.vigbuso_commit.Statement.{statement}
 use Rattle.vigbuso.proofs.arena_calls.vigbuso_commit.Tie as tie
-use Rattle.vigbuso.proofs.DirectWays.{commit-ends-refused, commit-ends-run, commit-ends-none}
+use Rattle.vigbuso.proofs.DirectSteps.{commit-ends-refused, commit-ends-run, commit-ends-none}
 
 pub vigbuso-commit-spec : {M : Type 1} → statement M
 vigbuso-commit-spec =

@@ -1,7 +1,7 @@
 use borrow.Author.Needs.{needs}
 use Rattle.vigbuso.proofs.arena_calls.vigbuso_open.Statement.{statement}
 use Rattle.vigbuso.proofs.arena_calls.vigbuso_open.Tie as tie
-use Rattle.vigbuso.proofs.DirectWays.{open-refused, open-fits, open-long, open-done}
+use Rattle.vigbuso.proofs.DirectSteps.{open-refused, open-fits, open-long, open-done}
 
 pub vigbuso-open-spec : {M : Type 1} → statement M
 vigbuso-open-spec =

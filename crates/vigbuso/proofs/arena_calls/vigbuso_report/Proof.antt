@@ -1,7 +1,7 @@
 use borrow.Author.Needs.{needs}
 use Rattle.vigbuso.proofs.arena_calls.vigbuso_report.Statement.{statement}
 use Rattle.vigbuso.proofs.arena_calls.vigbuso_report.Tie as tie
-use Rattle.vigbuso.proofs.DirectWays.{report-ends-refused, report-ends-told}
+use Rattle.vigbuso.proofs.DirectSteps.{report-ends-refused, report-ends-told}
 
 pub vigbuso-report-spec : {M : Type 1} → statement M
 vigbuso-report-spec =

@@ -1,6 +1,7 @@
 use borrow.Author.Needs.{needs}
-use Rattle.vigbuso.proofs.DirectWays.{has-size}
-use Rattle.vigbuso.proofs.ChunkWays.{chunks-asks, chunks-goes, chunks-host, chunks-no-class, chunks-unfit}
+use Rattle.vigbuso.proofs.FaultSteps.{class-book}
+use Rattle.vigbuso.proofs.DirectSteps.{has-size}
+use Rattle.vigbuso.proofs.ChunkSteps.{chunks-asks, chunks-goes, chunks-unfit}
 use Rattle.vigbuso.proofs.chunk_calls.vigbuso_release_bin_chunks.Statement.{statement}
 use Rattle.vigbuso.proofs.chunk_calls.vigbuso_release_bin_chunks.Tie as tie
 
@@ -8,6 +9,5 @@ pub vigbuso-release-bin-chunks-spec : {M : Type 1} → statement M
 vigbuso-release-bin-chunks-spec =
     tie.close
     (tie.spec
-    (λ c κs. search needs) (λ c. search needs) (λ c. search chunks-unfit) (λ c. search needs) (λ c. search chunks-host) (λ c. search needs)
-    (λ c. search chunks-no-class) (λ c κs. search has-size) (λ c κs. search needs) (λ c κs. search chunks-asks) (λ c. search needs)
-    (λ c. search needs) (λ c. search chunks-goes))
+    (λ c κs. search needs) (λ c. search needs) (λ c. search chunks-unfit) (λ c κs. search (has-size, class-book)) (λ c κs. search needs)
+    (λ c κs. search chunks-asks) (λ c. search needs) (λ c. search needs) (λ c. search chunks-goes))

@@ -1,5 +1,5 @@
 use borrow.Author.Needs.{needs}
-use Rattle.vigbuso.proofs.ReleaseWays.{release-ends-fate, release-ends-refused}
+use Rattle.vigbuso.proofs.ReleaseSteps.{release-ends-fate, release-ends-refused}
 use Rattle.vigbuso.proofs.release_calls.vigbuso_release_blocks.Statement.{statement}
 use Rattle.vigbuso.proofs.release_calls.vigbuso_release_blocks.Tie as tie
 

@@ -1,6 +1,7 @@
 use borrow.Author.Needs.{needs}
-use Rattle.vigbuso.proofs.DirectWays.{has-size}
-use Rattle.vigbuso.proofs.TakeWays.{take-asks, take-goes, take-host, take-no-class, take-unfit}
+use Rattle.vigbuso.proofs.FaultSteps.{class-book, id-fits}
+use Rattle.vigbuso.proofs.DirectSteps.{has-size}
+use Rattle.vigbuso.proofs.TakeSteps.{take-asks, take-goes, take-unfit}
 use Rattle.vigbuso.proofs.take_calls.take_on.Statement.{statement}
 use Rattle.vigbuso.proofs.take_calls.take_on.Tie as tie
 
@@ -8,6 +9,5 @@ pub take-on-spec : {M : Type 1} → statement M
 take-on-spec =
     tie.close
     (tie.spec
-    (λ c κs. search needs) (λ c. search needs) (λ c. search take-unfit) (λ c. search needs) (λ c. search take-host) (λ c. search needs)
-    (λ c. search take-no-class) (λ c κs. search has-size) (λ c. search needs) (λ c κs. search take-asks) (λ c. search needs) (λ c. search needs)
-    (λ c. search take-goes))
+    (λ c κs. search needs) (λ c. search needs) (λ c. search take-unfit) (λ c κs. search (has-size, class-book))
+    (λ c. search id-fits) (λ c κs. search take-asks) (λ c. search needs) (λ c. search needs) (λ c. search take-goes))

@@ -1,4 +1,4 @@
--- `words::Host::bit` meets its contract. Assumes nothing.
+-- `words::Host::bit` meets its contract.
 use borrow.Author.Needs.{needs}
 use mathlib.Core.Path.{ap}
 use Prim.Native.Nat.{ℕ, _/_, _^_}

@@ -1,4 +1,4 @@
--- `words::Host::discard_zeroed` meets its contract. Assumes nothing.
+-- `words::Host::discard_zeroed` meets its contract.
 use borrow.Author.Needs.{needs}
 use Rattle.words.proofs.Host.discard_zeroed.Statement.{statement}
 use Rattle.words.proofs.Host.discard_zeroed.Tie as tie

@@ -1,4 +1,4 @@
--- `words::Host::new` meets its contract. Assumes nothing.
+-- `words::Host::new` meets its contract.
 use borrow.Author.Needs.{needs}
 use lib.Dec.{lit≤}
 use Rattle.words.proofs.Answers.{host-made}

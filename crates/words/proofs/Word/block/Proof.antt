@@ -1,4 +1,4 @@
--- `words::Word::block` meets its contract. Assumes nothing.
+-- `words::Word::block` meets its contract.
 use lib.Dec.{lit≤}
 use Rattle.words.specs.Word.{kindBits, kindWidth, wordBits}
 use Rattle.words.proofs.Masks.{joined}

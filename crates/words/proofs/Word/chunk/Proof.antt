@@ -1,5 +1,4 @@
 -- `words::Word::chunk` meets its contract: the count and page joined fit below the kind, so that `block` cuts nothing off.
--- Assumes nothing.
 use borrow.Author.Needs.{needs}
 use mathlib.Core.Path.{ap, _∙_}
 use native.Mathlib.Nat.{mod-lt}

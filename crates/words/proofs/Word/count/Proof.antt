@@ -1,4 +1,4 @@
--- `words::Word::count` meets its contract. Assumes nothing.
+-- `words::Word::count` meets its contract.
 use lib.Bits.{and-mask}
 use Rattle.words.specs.Word.{countBits}
 use Rattle.words.proofs.Word.count.Statement.{statement}

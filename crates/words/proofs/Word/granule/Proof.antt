@@ -1,4 +1,4 @@
--- `words::Word::granule` meets its contract. Assumes nothing.
+-- `words::Word::granule` meets its contract.
 use lib.Bits.{and-mask}
 use Rattle.words.specs.Word.{kindBits}
 use Rattle.words.proofs.Word.granule.Statement.{statement}

@@ -1,4 +1,4 @@
--- `words::Word::page` meets its contract. Assumes nothing.
+-- `words::Word::page` meets its contract.
 use lib.Bits.{and-mask}
 use Rattle.words.specs.Word.{pageBits}
 use Rattle.words.proofs.Word.page.Statement.{statement}

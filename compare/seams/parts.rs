@@ -1,0 +1,92 @@
+//! The parts of the original's source that are replaced before it is compiled: what document 01 shims ("What the editor
+//! lends"), and what makes its answers visible. A part that a request replaces by a reference of our own is a row here, its
+//! text a file beside this one (`put: include_str!("FILE.rs")`).
+
+/// What stands in a file from `from` on, which is there once, through the next `to`. With `to` empty it is `from` itself.
+pub struct Part {
+    pub file: &'static str,
+    pub why: &'static str,
+    pub from: &'static str,
+    pub to: &'static str,
+    pub put: &'static str,
+}
+
+/// The end of a function or block in a module's own column.
+const END: &str = "\n}\n";
+
+pub const PARTS: [Part; 10] = [
+    Part {
+        file: "arena.rs",
+        why: "the system's answers come from the host word",
+        from: "extern \"C\" {\n",
+        to: END,
+        put: "use crate::oracle::host::{mmap, munmap};\n",
+    },
+    Part {
+        file: "arena.rs",
+        why: "an arena of the history's length, a new one for each history",
+        from: "static ARENA: Arena = Arena::new();\n",
+        to: "",
+        put: "static ARENA: crate::oracle::slot::Slot<Arena> = crate::oracle::slot::Slot::new();\n",
+    },
+    Part {
+        file: "sys/unix.rs",
+        why: "the system's answers come from the host word",
+        from: "extern \"C\" {\n    fn mmap(\n",
+        to: END,
+        put: "use crate::oracle::host::{madvise, mmap, munmap};\n",
+    },
+    Part {
+        file: "sys/unix.rs",
+        why: "no page comes from outside the arena",
+        from: "pub(crate) unsafe fn map(size: usize) -> *mut u8 {\n",
+        to: END,
+        put: "pub(crate) unsafe fn map(_size: usize) -> *mut u8 {\n    core::ptr::null_mut()\n}\n",
+    },
+    Part {
+        file: "sys/unix.rs",
+        why: "whether a discard zeroes is the host word's bit 3",
+        from: "unsafe fn dontneed_zeroes() -> bool {\n",
+        to: END,
+        put: "unsafe fn dontneed_zeroes() -> bool {\n    crate::oracle::host::discard_zeroes()\n}\n",
+    },
+    Part {
+        file: "heap.rs",
+        why: "a page's fate is made visible",
+        from: "unsafe fn act_page_fate(page: *mut PageHeader, fate: PageFate) {\n",
+        to: "",
+        put: "unsafe fn act_page_fate(page: *mut PageHeader, fate: PageFate) {\n    \
+              crate::oracle::fates::push(match fate {\n        PageFate::Keep => 0,\n        \
+              PageFate::Cold => 1,\n        PageFate::Unmap => 2,\n    });\n",
+    },
+    Part {
+        file: "heap.rs",
+        why: "a span's fate is made visible",
+        from: "unsafe fn mact_fate(base: *mut u8, fate: SpanFate) {\n",
+        to: "",
+        put: "unsafe fn mact_fate(base: *mut u8, fate: SpanFate) {\n    \
+              crate::oracle::fates::push(match fate {\n        SpanFate::Keep => 0,\n        \
+              SpanFate::Unmap(_) => 2,\n    });\n",
+    },
+    Part {
+        file: "heap.rs",
+        why: "whether a group retired its page is read from its chunk",
+        from: "const PAGE_RELEASE_RETIRED: u16 = 0x8000;\n",
+        to: "",
+        put: "pub(crate) const PAGE_RELEASE_RETIRED: u16 = 0x8000;\n",
+    },
+    Part {
+        file: "heap.rs",
+        why: "one heap for each history, none for the process",
+        from: "pub(crate) static HEAP: GlobalHeap = GlobalHeap::new();\n",
+        to: "",
+        put: "",
+    },
+    Part {
+        file: "heap.rs",
+        why: "one heap for each history, none for the process",
+        from: "pub(crate) static MEDIUM_HEAP: MediumHeap = MediumHeap::new();\n",
+        to: "",
+        put: "",
+    },
+];

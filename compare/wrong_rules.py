@@ -1,0 +1,588 @@
+#!/usr/bin/env python3
+"""Tries wrong rules: heaps that follow document 01 but for one sentence of it, and says what notices each.
+
+A rule that is wrong in the model, on the words and in the code alike breaks no proof but the ones about it. So each entry
+of RULES is tried in two ways:
+
+    heap    the original's source with that rule changed is built as the stand-in (src/stand_in.rs), and runs the stored
+            histories of crates/replay/stdin and the tests of editor/tests/boundaries
+    model   the rule's definition is changed in a copy of the crates, and `rt dev CRATE` checks the crate's theorems and
+            examples. A proof that follows the old definition's shape may fail too, so only what is stated otherwise counts:
+            docs/RULES.md says which that is.
+
+    compare/wrong_rules.py [--heap | --model] [--work FOLDER] [--stored FILE] [WORD ..]
+
+With words, only the entries whose names have one of them. Ends with status 0 if the original as it is passes all, each wrong
+heap is noticed or is said to answer alike, and each wrong definition is refused.
+"""
+
+import argparse
+import ctypes
+import os
+import pathlib
+import re
+import shutil
+import subprocess
+import sys
+import tempfile
+from dataclasses import dataclass, field
+
+ROOT = pathlib.Path(__file__).resolve().parent.parent
+ORIGINAL = pathlib.Path(os.environ.get("VIGBUSO_ORIGINAL", ROOT.parent / "shared/docs/src"))
+
+# Where the definitions are.
+ARENA = "crates/model/specs/Arena.antt"
+CHUNKS = "crates/model/specs/Chunks.antt"
+CLASS = "crates/model/specs/Class.antt"
+HEAP = "crates/model/specs/Heap.antt"
+HOLES = "crates/model/specs/HoleStore.antt"
+PAGE = "crates/model/specs/Page.antt"
+RELEASE = "crates/model/specs/Release.antt"
+RANGES = "crates/demands/specs/Ranges.antt"
+# A class's limits are in its shape, by definition and in code.
+SHAPE = "crates/classes/specs/Shape.antt"
+SHAPE_CODE = "crates/classes/src/runs.rt"
+
+
+@dataclass
+class Rule:
+    name: str
+    #: Changes of the original, and of the tool's own part where the rule is there: file, old text, new text.
+    heap: list = field(default_factory=list)
+    #: Changes of the definitions.
+    model: list = field(default_factory=list)
+    #: The crate that is checked.
+    crate: str = "model"
+    #: Why no history can show it, if none can.
+    alike: str = ""
+
+
+def at(column, *lines):
+    return "\n".join(" " * column + line for line in lines)
+
+
+def limit(name, heap, *shape):
+    """A limit of the stores: a constant of the original, and places in the shape, definition and code alike."""
+    const, old, new = heap
+    in_code = lambda text: at(8, *(part.strip().replace(" = ", ": ") + "," for part in text.split(";"))).strip()
+    return Rule(
+        name,
+        heap=[("heap.rs", f"const {const} = {old};", f"const {const} = {new};")],
+        model=[(SHAPE, *shape), (SHAPE_CODE, *map(in_code, shape))],
+    )
+
+
+RULES = [
+    Rule(
+        "a reuse is counted for a fresh run",
+        heap=[
+            (
+                "arena.rs",
+                at(24, "return (base as *mut u8, true);"),
+                at(24, "self.reuses.fetch_add(1, Ordering::Relaxed);", "return (base as *mut u8, true);"),
+            )
+        ],
+        model=[(ARENA, "reuses = cond fresh (a .reuses) (more (a .reuses))", "reuses = more (a .reuses)")],
+    ),
+    Rule(
+        "a refused reservation does not disable",
+        heap=[
+            (
+                "arena.rs",
+                "if raw == usize::MAX {\n" + at(16, "self.state.store(2, Ordering::Release);"),
+                "if raw == usize::MAX {\n" + at(16, "self.state.store(0, Ordering::Release);"),
+            )
+        ],
+        model=[(ARENA, "(given (withStatus disabled a) none false)", "(given a none false)")],
+    ),
+    Rule(
+        "a cold span is virgin",
+        heap=[
+            (
+                "heap.rs",
+                at(16, "(*span).init(mclass, pages);", "(*span).flags &= !FLAG_VIRGIN;", "virgin = false;"),
+                at(16, "(*span).init(mclass, pages);", "virgin = true;"),
+            )
+        ],
+        model=[(CLASS, "(c .zeroed && not (isMedium sh))", "(c .zeroed)")],
+    ),
+    Rule(
+        "a done discard zeroes without bit 3",
+        heap=[("sys/unix.rs", "zeroed: ok && dontneed_zeroes(),", "zeroed: ok,")],
+        model=[
+            (RELEASE, "use Rattle.words.specs.Host.{discardZeroed}", "use Rattle.words.specs.Host.{discardDone}"),
+            (RELEASE, "zeroed = discardZeroed h", "zeroed = discardDone h"),
+        ],
+    ),
+    Rule(
+        "a cold span is answered as 1",
+        heap=[
+            ("heap.rs", "enum SpanFate {\n    Keep,\n", "enum SpanFate {\n    Keep,\n    Cold,\n"),
+            (
+                "heap.rs",
+                at(12, "sys::discard(span.cast::<u8>(), span_bytes);", "SpanFate::Keep"),
+                at(12, "sys::discard(span.cast::<u8>(), span_bytes);", "SpanFate::Cold"),
+            ),
+            ("heap.rs", at(8, "SpanFate::Keep => {}"), at(8, "SpanFate::Keep | SpanFate::Cold => {}")),
+            ("compare/seams/parts.rs", "SpanFate::Keep => 0,", "SpanFate::Keep => 0,\\n        SpanFate::Cold => 1,"),
+        ],
+        model=[(RELEASE, "coldFate sh = cond (isMedium sh) 0 1", "coldFate sh = 1")],
+    ),
+    Rule(
+        "virgin goes by the first page only",
+        heap=[
+            (
+                "heap.rs",
+                at(8, "if (*page).flags & FLAG_VIRGIN == 0 {", "    *virgin = false;", "}", "let before"),
+                at(8, "if *count == 0 && (*page).flags & FLAG_VIRGIN == 0 {", "    *virgin = false;", "}", "let before"),
+            )
+        ],
+        model=[(CLASS, "virgin = v && f .virgin;", "virgin = v;")],
+        alike="a virgin page enters an empty list only, so it stands behind all others",
+    ),
+    Rule(
+        "several pages' blocks stand in reverse page order",
+        heap=[
+            (
+                "compare/src/oracle/mod.rs",
+                at(8, "(words_of_chain(family, chain, count), virgin)"),
+                at(
+                    8,
+                    "let mut pages: Vec<Vec<u32>> = Vec::new();",
+                    "for word in words_of_chain(family, chain, count) {",
+                    "    match pages.last_mut() {",
+                    "        Some(page) if self.run_of(family, page[0]) == self.run_of(family, word) => page.push(word),",
+                    "        _ => pages.push(vec![word]),",
+                    "    }",
+                    "}",
+                    "pages.reverse();",
+                    "(pages.concat(), virgin)",
+                ),
+            )
+        ],
+        model=[(CLASS, "blocks = f .blocks ++ x .blocks;", "blocks = x .blocks ++ f .blocks;")],
+    ),
+    limit(
+        "5 empty pages",
+        ("EMPTY_PAGE_CACHE_PER_CLASS: u32", "4", "5"),
+        "empties = 4; emptypages = 4",
+        "empties = 5; emptypages = 5",
+    ),
+    limit(
+        "128 cold pages",
+        ("MAX_COLD_PAGE_SLOTS: usize", "256", "128"),
+        "emptypages = 4; colds = 256",
+        "emptypages = 4; colds = 128",
+    ),
+    limit(
+        "128 cold spans",
+        ("MAX_COLD_SPAN_SLOTS: usize", "256", "128"),
+        "emptypages = 128; colds = 256",
+        "emptypages = 128; colds = 128",
+    ),
+    limit("16 empty spans", ("EMPTY_SPAN_CACHE_PER_CLASS: u32", "32", "16"), "empties = 32", "empties = 16"),
+    limit(
+        "144 pages of empty spans",
+        ("MAX_EMPTY_SPAN_BYTES_PER_CLASS: usize", "8 * 1024 * 1024", "9 * 1024 * 1024"),
+        "emptypages = 128",
+        "emptypages = 144",
+    ),
+    Rule(
+        "2,057 groups pass",
+        heap=[
+            ("compare/src/words.rs", "MAX_CHUNKS: usize = 2_056", "MAX_CHUNKS: usize = 2_057"),
+            ("heap.rs", "MAX_PAGE_RELEASE_GROUPS: usize = 2056;", "MAX_PAGE_RELEASE_GROUPS: usize = 2057;"),
+        ],
+        model=[(CHUNKS, "chunksMax = 2056", "chunksMax = 2057")],
+    ),
+    Rule(
+        "groups are treated in reverse order",
+        heap=[
+            (
+                "heap.rs",
+                at(12, "for (i, g) in chunks.iter().enumerate() {", "    let fate = if g.n"),
+                at(12, "for (i, g) in chunks.iter().enumerate().rev() {", "    let fate = if g.n"),
+            )
+        ],
+        model=[
+            (
+                CHUNKS,
+                at(
+                    4,
+                    "let b = settleChunk sh h s ws (locate (startsAt (pageOf g)) s) in",
+                    "let r = settleChunks sh h ws (b .class) gs in",
+                    "record { class = r .class;",
+                ),
+                at(
+                    4,
+                    "let r = settleChunks sh h ws s gs in",
+                    "let b = settleChunk sh h (r .class) ws (locate (startsAt (pageOf g)) (r .class)) in",
+                    "record { class = b .class;",
+                ),
+            )
+        ],
+    ),
+    Rule(
+        "a group's chain is turned round",
+        heap=[
+            (
+                "heap.rs",
+                at(
+                    24,
+                    "if g.head.is_null() {",
+                    "    g.head = cursor;",
+                    "} else {",
+                    "    *g.tail.cast::<*mut u8>() = cursor;",
+                    "}",
+                    "g.tail = cursor;",
+                    "*cursor.cast::<*mut u8>() = ptr::null_mut();",
+                ),
+                at(
+                    24,
+                    "if g.head.is_null() {",
+                    "    g.tail = cursor;",
+                    "}",
+                    "*cursor.cast::<*mut u8>() = g.head;",
+                    "g.head = cursor;",
+                ),
+            )
+        ],
+        model=[
+            (CHUNKS, "{List, [], _∷_, _++_, map}", "{List, [], _∷_, _++_, map, reverse}"),
+            (CHUNKS, "true (blocksOn sh ws (x .page)) x", "true (reverse (blocksOn sh ws (x .page))) x"),
+        ],
+    ),
+    Rule(
+        "a released list goes behind the free list",
+        heap=[
+            (
+                "heap.rs",
+                at(4, "*tail.cast::<*mut u8>() = (*page).free_head;", "(*page).free_head = head;"),
+                at(
+                    4,
+                    "*tail.cast::<*mut u8>() = ptr::null_mut();",
+                    "let mut link: *mut *mut u8 = &mut (*page).free_head;",
+                    "while !(*link).is_null() {",
+                    "    link = (*link).cast();",
+                    "}",
+                    "*link = head;",
+                ),
+            )
+        ],
+        model=[(PAGE, "free = ws ++ p .free;", "free = p .free ++ ws;")],
+    ),
+    Rule(
+        "a page enters the partial list at its tail",
+        heap=[
+            (
+                "heap.rs",
+                at(4, "(*p).next = *list;", "if !(*list).is_null() {", "    (**list).prev = p;", "}", "*list = p;"),
+                at(
+                    4,
+                    "(*p).next = ptr::null_mut();",
+                    "let mut link: *mut *mut PageHeader = list;",
+                    "while !(*link).is_null() {",
+                    "    (*p).prev = *link;",
+                    "    link = &mut (**link).next;",
+                    "}",
+                    "*link = p;",
+                ),
+            )
+        ],
+        model=[(RELEASE, "with = λ p. lists (p ∷ s .partial)", "with = λ p. lists (s .partial ++ p ∷ [])")],
+    ),
+    Rule(
+        "empty pages come first in first out",
+        heap=[
+            (
+                "heap.rs",
+                at(8, "(*page).next = list.empty;", "list.empty = page;"),
+                at(
+                    8,
+                    "(*page).next = ptr::null_mut();",
+                    "let mut link: *mut *mut PageHeader = &mut list.empty;",
+                    "while !(*link).is_null() {",
+                    "    link = &mut (**link).next;",
+                    "}",
+                    "*link = page;",
+                ),
+            )
+        ],
+        model=[(RELEASE, "(p ∷ s .empty) (s .cold)", "(s .empty ++ p ∷ []) (s .cold)")],
+    ),
+    Rule(
+        "cold pages come oldest first",
+        heap=[
+            (
+                "heap.rs",
+                at(16, "list.cold_len -= 1;", "let cidx = list.cold_len as usize;", "let page ="),
+                at(
+                    16,
+                    "let all = list.cold_len as usize;",
+                    "list.cold[..all].rotate_left(1);",
+                    "list.cold_zeroed[..all].rotate_left(1);",
+                    "list.cold_decommitted[..all].rotate_left(1);",
+                    "list.cold_len -= 1;",
+                    "let cidx = list.cold_len as usize;",
+                    "let page =",
+                ),
+            )
+        ],
+        model=[
+            (
+                RELEASE,
+                "(record { first = p .first; zeroed = discardZeroed h } ∷ s .cold)",
+                "(s .cold ++ record { first = p .first; zeroed = discardZeroed h } ∷ [])",
+            )
+        ],
+    ),
+    Rule(
+        "a run may have 2 to the 48th pages",
+        heap=[("compare/src/words.rs", "RUN_LIMIT: u64 = 1 << 48;", "RUN_LIMIT: u64 = (1 << 48) + 1;")],
+        model=[(HEAP, "leb (2 ^ 48) n", "ltb (2 ^ 48) n")],
+    ),
+    Rule(
+        "a host word of 16",
+        heap=[("compare/src/words.rs", "HOST_ALL: u32 = 15;", "HOST_ALL: u32 = 16;")],
+        model=[(CHUNKS, "hostMax = 15", "hostMax = 16")],
+    ),
+    Rule(
+        "`contains` before the reservation",
+        heap=[
+            (
+                "compare/src/oracle/mod.rs",
+                "arena::contains(address(offset as usize), length as usize)",
+                "offset.checked_add(length).is_some_and(|end| end <= u64::from(self.pages) * PAGE_BYTES as u64)",
+            )
+        ],
+        model=[(ARENA, "contains size o b a = isReady (a .status) && (", "contains size o b a = (")],
+    ),
+    Rule(
+        "`contains` is no at the arena's end",
+        heap=[("arena.rs", "start <= b && top <= end && b >= start", "start <= b && top <= end && b < end")],
+        model=[(ARENA, "leb (o + b) (size * pageBytes))", "(leb (o + b) (size * pageBytes) && ltb o (size * pageBytes)))")],
+    ),
+    Rule(
+        "the report's commits and reuses are exchanged",
+        heap=[("compare/src/reference.rs", "let [commits, reuses, abandoned] =", "let [reuses, commits, abandoned] =")],
+        model=[(HEAP, "reported (H .arena .commits) (H .arena .reuses)", "reported (H .arena .reuses) (H .arena .commits)")],
+    ),
+    Rule(
+        "the report's reuses and abandoned are exchanged",
+        heap=[("compare/src/reference.rs", "let [commits, reuses, abandoned] =", "let [commits, abandoned, reuses] =")],
+        model=[(HEAP, "(H .arena .reuses) (H .arena .abandoned)", "(H .arena .abandoned) (H .arena .reuses)")],
+    ),
+    Rule(
+        "the report's held and idle pages are exchanged",
+        heap=[
+            (
+                "compare/src/reference.rs",
+                "self.ledger.held(), original.idle_pages()",
+                "original.idle_pages(), self.ledger.held()",
+            )
+        ],
+        model=[(HEAP, "(heldPages size H) (idlePages size (H .arena))", "(idlePages size (H .arena)) (heldPages size H)")],
+    ),
+    Rule(
+        "a cut's remainder is remembered at its length's lowest index",
+        heap=[("arena.rs", "holes.exact[remainder] = i as u16;", "holes.refresh_exact(remainder);")],
+        model=[(HOLES, "(remember (x .pages - n) (some i) (", "(refresh (x .pages - n) hs (")],
+    ),
+    Rule(
+        "the holes behind a used-up one move up",
+        heap=[("arena.rs", "holes.entries[i] = holes.entries[last];", "holes.entries.copy_within(i + 1..last + 1, i);")],
+        model=[
+            (
+                HOLES,
+                "removeAt i hs = setAt i (lastHole hs) (withoutLast hs)",
+                "removeAt i [] = []\nremoveAt zero (h ∷ hs) = hs\nremoveAt (suc i) (h ∷ hs) = h ∷ removeAt i hs",
+            )
+        ],
+    ),
+    Rule(
+        "lengths are remembered up to 127",
+        heap=[("arena.rs", "EXACT_BUCKET_MAX: usize = 128;", "EXACT_BUCKET_MAX: usize = 127;")],
+        model=[(HOLES, "rememberedMax = 128", "rememberedMax = 127")],
+    ),
+    Rule(
+        "lengths are remembered up to 129",
+        heap=[("arena.rs", "EXACT_BUCKET_MAX: usize = 128;", "EXACT_BUCKET_MAX: usize = 129;")],
+        model=[(HOLES, "rememberedMax = 128", "rememberedMax = 129")],
+    ),
+    Rule(
+        "4,095 holes",
+        heap=[("arena.rs", "HOLE_SLOTS: usize = 4096;", "HOLE_SLOTS: usize = 4095;")],
+        model=[(HOLES, "holeSlots = 4096", "holeSlots = 4095")],
+    ),
+    Rule(
+        "a total of just 65,536 pages is abandoned",
+        heap=[("arena.rs", "holes.bytes + bytes <= HOLE_CAP_BYTES", "holes.bytes + bytes < HOLE_CAP_BYTES")],
+        model=[(HOLES, "leb (s .total + n) holePagesMax", "ltb (s .total + n) holePagesMax")],
+    ),
+    # What a word may hold shows in no history: the table of ranges has it, and editor/tests/boundaries/ranges.rs.
+    Rule("VIRGIN up to 7", model=[(RANGES, "(virginFlag p) = upTo 1", "(virginFlag p) = upTo 7")], crate="demands"),
+    Rule("LISTED up to 9", model=[(RANGES, "(listedFlag p) = upTo 1", "(listedFlag p) = upTo 9")], crate="demands"),
+    Rule("MEMORY up to 5,000", model=[(RANGES, "(memoryFits n) = upTo holeSlots", "(memoryFits n) = upTo 5000")], crate="demands"),
+]
+
+
+def run(command, folder, **more):
+    """What a command says, both streams; one that does not end in time has status 124."""
+    try:
+        return subprocess.run(command, cwd=folder, text=True, stdout=subprocess.PIPE, stderr=subprocess.STDOUT, **more)
+    except subprocess.TimeoutExpired:
+        return subprocess.CompletedProcess(command, 124, stdout="")
+
+
+class Edited:
+    """Files with changes, as they were again afterwards."""
+
+    def __init__(self, place, changes):
+        self.place, self.changes, self.before = place, changes, {}
+
+    def __enter__(self):
+        try:
+            for name, old, new in self.changes:
+                path = self.place(name)
+                text = path.read_text()
+                if text.count(old) != 1:
+                    raise SystemExit(f"{name}: {text.count(old)} places, not 1, for:\n{old}")
+                self.before.setdefault(path, text)
+                path.write_text(text.replace(old, new))
+        except BaseException:
+            self.__exit__()
+            raise
+
+    def __exit__(self, *_):
+        for path, text in self.before.items():
+            path.write_text(text)
+
+
+class Heaps:
+    """Stand-ins built from copies of the original and of this tool."""
+
+    def __init__(self, work, stored):
+        self.work, self.library, self.stored = work, work / "library", stored
+        self.original, self.tool = work / "original", work / "compare"
+        shutil.copytree(ORIGINAL, self.original, dirs_exist_ok=True)
+        shutil.copytree(ROOT / "compare", self.tool, dirs_exist_ok=True, ignore=shutil.ignore_patterns("target"))
+        self.library.mkdir(exist_ok=True)
+
+    def place(self, name):
+        return self.work / name if name.startswith("compare/") else self.original / name
+
+    def build(self):
+        quick = {"CARGO_PROFILE_DEV_OPT_LEVEL": "0", "CARGO_PROFILE_DEV_DEBUG": "false"}
+        settings = dict(os.environ, VIGBUSO_ORIGINAL=str(self.original), **quick)
+        built = run(["cargo", "build", "--offline", "--lib"], self.tool, env=settings)
+        if built.returncode != 0:
+            raise SystemExit(built.stdout)
+        shutil.copy(self.tool / "target/debug/libstand_in.so", self.library / "libvigbuso.so")
+
+    def build_tests(self):
+        tests = ROOT / "editor/tests/boundaries/main.rs"
+        command = ["rustc", "--edition", "2021", "--test", "-L", f"native={self.library}", "-o", "boundaries", tests]
+        built = run(command, self.work)
+        if built.returncode != 0:
+            raise SystemExit(built.stdout)
+
+    def replay(self):
+        """The first stored answer that differs, or nothing."""
+        command = [sys.executable, __file__, "--replay", self.library / "libvigbuso.so", "--stored", self.stored]
+        answer = run(command, self.work, timeout=600)
+        if answer.returncode == 0:
+            return ""
+        return answer.stdout.strip().splitlines()[0] if answer.returncode == 1 else f"status {answer.returncode}"
+
+    def boundaries(self):
+        """The boundary tests that fail."""
+        settings = dict(os.environ, LD_LIBRARY_PATH=str(self.library))
+        # The stand-in's book has no words but one.
+        answer = run([self.work / "boundaries", "--skip", "ranges::"], self.work, env=settings, timeout=600)
+        failed = re.findall(r"^test (\S+) \.\.\. FAILED", answer.stdout, re.M)
+        return failed if failed or answer.returncode == 0 else [f"status {answer.returncode}"]
+
+
+def replay(library, stored):
+    return ctypes.CDLL(library).stand_in_replay(str(stored).encode())
+
+
+class Models:
+    """A copy of the crates, with what was proved of them."""
+
+    def __init__(self, work):
+        self.folder = work / "model"
+        for part in ["crates", "target"]:
+            shutil.copytree(ROOT / part, self.folder / part, dirs_exist_ok=True)
+        shutil.copy(ROOT / "crates.txt", self.folder)
+
+    def place(self, name):
+        return self.folder / name
+
+    def check(self, crate):
+        """What `rt dev` refuses, by name; what only rests on it is left out."""
+        answer = run(["rt", "dev", crate], self.folder)
+        errors = re.findall(r"error: `([^`]+)`: (.*)", answer.stdout)
+        names = dict.fromkeys(name for name, why in errors if "not admitted" not in why)
+        if answer.returncode == 0 or names:
+            return list(names)
+        return answer.stdout.strip().splitlines()[-1:]
+
+
+def try_heaps(rules, work, stored):
+    heaps = Heaps(work, stored)
+    heaps.build()
+    heaps.build_tests()
+    plain = heaps.replay(), heaps.boundaries()
+    print(f"the original as it is: {'nothing differs' if plain == ('', []) else plain}", flush=True)
+    good = plain == ("", [])
+    for rule in rules:
+        if not rule.heap:
+            continue
+        with Edited(heaps.place, rule.heap):
+            heaps.build()
+            answer, tests = heaps.replay(), heaps.boundaries()
+        print(rule.name)
+        print(f"    stored: {answer[:150] or 'nothing differs'}")
+        print(f"    tests: {', '.join(tests) or 'none fails'}", flush=True)
+        if not answer and not tests:
+            print(f"    {'answers alike: ' + rule.alike if rule.alike else 'NOT NOTICED'}", flush=True)
+        good &= bool(answer or tests) != bool(rule.alike)
+    return good
+
+
+def try_models(rules, work):
+    models = Models(work)
+    good = True
+    for rule in rules:
+        if not rule.model:
+            continue
+        with Edited(models.place, rule.model):
+            refused = models.check(rule.crate)
+        print(f"{rule.name}\n    {rule.crate}: {', '.join(refused) or 'NOT NOTICED'}", flush=True)
+        good &= bool(refused)
+    return good
+
+
+def main():
+    arguments = argparse.ArgumentParser(description=__doc__, formatter_class=argparse.RawDescriptionHelpFormatter)
+    arguments.add_argument("--heap", action="store_true", help="heaps only")
+    arguments.add_argument("--model", action="store_true", help="definitions only")
+    arguments.add_argument("--work", type=pathlib.Path, help="a folder that is kept; the default is a temporary one")
+    arguments.add_argument("--stored", type=pathlib.Path, default=ROOT / "crates/replay/stdin", help="other histories")
+    arguments.add_argument("--replay", metavar="LIBRARY", help=argparse.SUPPRESS)
+    arguments.add_argument("words", nargs="*")
+    asked = arguments.parse_args()
+    if asked.replay:
+        return replay(asked.replay, asked.stored)
+    rules = [rule for rule in RULES if not asked.words or any(word in rule.name for word in asked.words)]
+    with tempfile.TemporaryDirectory() as temporary:
+        work = (asked.work or pathlib.Path(temporary)).resolve()
+        work.mkdir(parents=True, exist_ok=True)
+        good = asked.model or try_heaps(rules, work, asked.stored.resolve())
+        good &= asked.heap or try_models(rules, work)
+    return 0 if good else 1
+
+
+if __name__ == "__main__":
+    sys.exit(main())

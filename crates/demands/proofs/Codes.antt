@@ -1,0 +1,84 @@
+-- A reply's number is 0 exactly if its answer is no refusal; so a call that names a class is refused exactly by number 3 or if the model's
+-- class refuses it.
+--     host-of                      a call of a class brings its request's host word
+--     next-host                    one that is not refused passed number 3
+--     next-step                    one that passed it goes to its class
+--     next-unrefused, next-zero    and then it is refused exactly if the class refuses it
+use Prim.Native.Nat.{ℕ, _+_}
+use native.Mathlib.Omega.{arith}
+use mathlib.Core.Bool.{Bool, true, false, cond, false≢true}
+use mathlib.Core.List.{List}
+use mathlib.Core.Option.{some, Option·none-ne-some}
+use mathlib.Core.Path.{_≡_, sym, ap}
+use lib.Dec.{eqb, ltb}
+use borrow.Author.Tests.{eqb-true}
+use Rattle.facts.proofs.Bools.{by-cases}
+use Rattle.words.specs.Host.{badHost}
+use Rattle.model.specs.Calls as Calls
+use Rattle.model.specs.Calls.{Call, Answer, Named, named, names, hostIn, wayOf, hostOf, Request, refused, isRefused}
+use Rattle.model.specs.Heap.{classCall, step}
+use Rattle.model.specs.History.{heapAfter}
+use Rattle.refinement.specs.Run.{classReply, callReply}
+use Rattle.demands.specs.Run.{Opens, bookAfter, next}
+use Rattle.demands.proofs.Histories.{next-is, next-agrees}
+
+pub zero-of : (k : ℕ) (x : Answer) → isRefused (cond (eqb k 0) x (refused k)) ≡ false → k ≡ 0
+zero-of k x u = by-cases (eqb k 0) (λ z. eqb-true k 0 z) (λ z. absurd (false≢true (sym (rw z at u))))
+
+pub unrefused-of : (k : ℕ) (x : Answer) → isRefused x ≡ false → k ≡ 0 → isRefused (cond (eqb k 0) x (refused k)) ≡ false
+unrefused-of k x u e = rw e u
+
+class-zero : (n : ℕ) (b : List ℕ) (c : ℕ) (r : Request) → isRefused (classReply n b c r .answer) ≡ false → classReply n b c r .code ≡ 0
+class-zero n b c (Calls.take h l) u = zero-of _ _ u
+class-zero n b c (Calls.giveBack h ws) u = zero-of _ _ u
+class-zero n b c (Calls.giveChunks h ws gs fs) u = zero-of _ _ u
+
+class-unrefused : (n : ℕ) (b : List ℕ) (c : ℕ) (r : Request) → classReply n b c r .code ≡ 0 → isRefused (classReply n b c r .answer) ≡ false
+class-unrefused n b c (Calls.take h l) e = rw e
+class-unrefused n b c (Calls.giveBack h ws) e = rw e
+class-unrefused n b c (Calls.giveChunks h ws gs fs) e = rw e
+
+-- ---- a call of a class brings its request's host word
+named-host : (t : Bool) (c : ℕ) (r : Request) (d : Named) → named t c r ≡ some d → hostOf r ≡ hostOf (d .request)
+named-host true c r d e = let z : record { class = c; request = r } ≡ d = cc in ap (λ (x : Named). hostOf (x .request)) z
+named-host false c r d e = absurd (Option·none-ne-some d e)
+
+pub host-of : (x : Call) (d : Named) → names x ≡ some d → hostIn x ≡ hostOf (d .request)
+host-of (Calls.takeBlocks c h l) d e = named-host (ltb c 64) c _ d e
+host-of (Calls.mediumTakeBlocks c h l) d e = named-host (ltb c 12) (64 + c) _ d e
+host-of (Calls.releaseBlocks c h ws) d e = named-host (ltb c 64) c _ d e
+host-of (Calls.mediumReleaseBlocks c h ws) d e = named-host (ltb c 12) (64 + c) _ d e
+host-of (Calls.releaseBinChunks c h ws gs fs) d e = named-host (ltb c 64) c _ d e
+host-of (Calls.commit h m) d e = absurd (Option·none-ne-some d e)
+host-of (Calls.growFrontier h q old new) d e = absurd (Option·none-ne-some d e)
+host-of (Calls.release h q m) d e = absurd (Option·none-ne-some d e)
+host-of (Calls.contains o k) d e = absurd (Option·none-ne-some d e)
+host-of Calls.report d e = absurd (Option·none-ne-some d e)
+
+module _ (n : ℕ) (b : List ℕ) (o : Opens n b) (xs : List Call) (x : Call) (d : Named) (e : names x ≡ some d) where
+  -- number 3
+  pub next-host : next n b xs x .code ≡ 0 → badHost (hostOf (d .request)) ≡ false
+  unfolding callReply wayOf
+  next-host z =
+      by-cases (badHost (hostOf (d .request)))
+      (λ t. absurd (let y = rw (next-is n b o xs x, host-of x d e, t) at z in omega arith))
+      (λ t. t)
+
+  module _ (good : badHost (hostOf (d .request)) ≡ false) where
+    pub next-step : step n (heapAfter n xs) x ≡ classCall n (heapAfter n xs) (d .class) (d .request)
+    unfolding step wayOf
+    next-step = rw (host-of x d e, good, e)
+
+    next-class : next n b xs x ≡ classReply n (bookAfter n b xs) (d .class) (d .request)
+    unfolding callReply wayOf
+    next-class = rw (next-is n b o xs x, host-of x d e, good, e)
+
+    pub next-unrefused : next n b xs x .code ≡ 0 → isRefused (classCall n (heapAfter n xs) (d .class) (d .request) .answer) ≡ false
+    next-unrefused z =
+        let u : isRefused (next n b xs x .answer) ≡ false = rw next-class (class-unrefused n (bookAfter n b xs) (d .class) (d .request) (rw next-class at z)) in
+        rw (next-agrees n b o xs x .answer, next-step) at u
+
+    pub next-zero : isRefused (classCall n (heapAfter n xs) (d .class) (d .request) .answer) ≡ false → next n b xs x .code ≡ 0
+    next-zero u =
+        let z : isRefused (next n b xs x .answer) ≡ false = rw (next-agrees n b o xs x .answer, next-step) u in
+        rw next-class (class-zero n (bookAfter n b xs) (d .class) (d .request) (rw next-class at z))

@@ -1,0 +1,124 @@
+-- Where a block that is out lies.
+--     out-block    it is a block of a run of its class
+--     same-page    on every page of the class that begins where that run does, it is out
+--     page-of      the page of a small block is its granule / 4,096
+--     byte-held    a page with one of its bytes is held by its class
+use Prim.Native.Nat.{ℕ, _+_, _-_, _*_, _/_, _≤_, _<_}
+use native.Mathlib.Omega.{arith}
+use native.Mathlib.Nat.{mul-le-mul-right}
+use mathlib.Core.Bool.{true, false, not, false≢true}
+use mathlib.Core.List.{List}
+use mathlib.Core.Option.{Option, none, some}
+use mathlib.Core.Path.{_≡_, refl, sym}
+use lib.Dec.{ltb}
+use borrow.Author.Tests.{eq-eqb, ltb-true, ltb-false}
+use Rattle.facts.specs.Lists.{elem, isSome}
+use Rattle.facts.proofs.Bools.{by-cases, and-left}
+use Rattle.words.specs.Word.{granuleOf}
+use Rattle.classes.specs.declared.Shape.{Shape}
+use Rattle.classes.specs.Sizes.{pageBytes, granuleBytes}
+use Rattle.classes.specs.Shape.{shapeOf}
+use Rattle.classes.specs.Sound.{Sound}
+use Rattle.classes.proofs.Shapes.{shape-sound}
+use Rattle.fields.specs.Ranges.{maxPages}
+use Rattle.model.specs.Cover.{covers}
+use Rattle.model.specs.Calls.{Call}
+use Rattle.model.specs.Page.{Page, pageGranules, wordOf, wordsFrom, carvedWords, isOut}
+use Rattle.model.specs.Class.{Class}
+use Rattle.model.specs.Release.{Site, locate, outHere}
+use Rattle.model.specs.History.{events, heapAfter}
+use Rattle.model.specs.Entries.{Entry, Live, HasByte}
+use Rattle.model.specs.Ledger.{heldBy}
+use Rattle.model.proofs.Counts.{elem-count}
+use Rattle.model.proofs.ArenaLaws.{above-at, covers-in}
+use Rattle.model.proofs.Pages.{outOf, is-out, out-is, GoodPage}
+use Rattle.model.proofs.Sites.{Once, GoodClass, SiteLaw, SiteLaws, Tells, outFrom, locate-law, locate-tells, out-first}
+use Rattle.model.proofs.Accounts.{held-le}
+use Rattle.model.proofs.HeapLaws.{kept}
+use Rattle.model.proofs.Apart.{which}
+use Rattle.model.proofs.Theorems.{outs, conserved}
+use Rattle.demands.specs.Returns.{BlockOf, pageOn}
+
+-- ---- a page
+module _ (sh : Shape) (ok : Sound sh) where
+  pub out-block : (p : Page) (w : ℕ) → GoodPage sh p → isOut sh w p ≡ true → BlockOf sh (p .first) w
+  unfolding isOut carvedWords
+  out-block p w good e =
+      let ws = wordsFrom sh (p .first) 0 (p .carved) in
+      let r = which sh (p .first) (p .carved) w (elem-count w ws (and-left (elem w ws) (not (elem w (p .free))) e)) in
+      record { index = r .0; inside = omega (arith, r .1, good .within); word = r .2 }
+
+  module _ (q w : ℕ) (low : q + sh .pages ≤ maxPages) (s : BlockOf sh q w) where
+    -- its place in the arena, in granules, and that it ends within the run
+    placed : (granuleOf w ≡ q * pageGranules + (sh .header + s .index * sh .block)) × (granuleOf w + sh .block ≤ (q + sh .pages) * pageGranules)
+    unfolding wordOf
+    placed =
+        let high = mul-le-mul-right (sh .block) (s .inside) in
+        (omega (arith, s .word, high, ok .fits, ok .wide), omega (arith, s .word, high, ok .fits, ok .wide))
+
+    pub page-of : sh .pages ≡ 1 → pageOn w ≡ q
+    page-of one = omega (arith, placed .0, placed .1, one, ok .wide)
+
+    byte-on : (b : ℕ) → granuleOf w * granuleBytes ≤ b → b < granuleOf w * granuleBytes + sh .block * granuleBytes → covers (sh .pages) q (b / pageBytes) ≡ 1
+    byte-on b f t = covers-in (sh .pages) q (b / pageBytes) (omega (arith, placed .0, f)) (omega (arith, placed .1, t))
+
+-- ---- a class
+module _ (sh : Shape) (ok : Sound sh) (s : Class) (good : GoodClass sh s) where
+  pub record Lies (w : ℕ) : Type 0 where
+    pub site : Site
+    pub law : SiteLaw sh s site
+    pub out : isOut sh w (site .page) ≡ true
+
+  pub lies : (w : ℕ) → outHere sh s w ≡ true → Lies w
+  unfolding outHere
+  lies w e = go (locate (isOut sh w) s) (locate-law sh s good (isOut sh w)) (locate-tells (isOut sh w) s) e
+    where
+      go : (o : Option Site) → SiteLaws sh s o → Tells (isOut sh w) s o → isSome o ≡ true → Lies w
+      go none l t e = absurd (false≢true e)
+      go (some x) l t e = record { site = x; law = l; out = t }
+
+  pub lies-on : (w : ℕ) (y : Lies w) → BlockOf sh (y .site .page .first) w
+  lies-on w y = out-block sh ok (y .site .page) w (y .law .page) (y .out)
+
+  pub same-page : Once sh s → (w : ℕ) (y : Lies w) (x : Site) → SiteLaw sh s x → x .page .first ≡ y .site .page .first → isOut sh w (x .page) ≡ true
+  same-page once w y x law e =
+      let q = x .page .first in
+      let f : outFrom sh q w (y .site .page) ≡ outOf sh w (y .site .page) = rw (eq-eqb (y .site .page .first) q (sym e)) in
+      out-is sh ok w (x .page)
+      (omega (arith, out-first sh ok s x law once q w (eq-eqb q q refl), f, y .law .out-rest (outFrom sh q w), is-out sh ok w (y .site .page) (y .out)))
+
+-- ---- the heap after a history
+module _ (n : ℕ) (small : n ≤ maxPages) (xs : List Call) where
+  abbrev class : ℕ → Class
+  class c = heapAfter n xs .classes c
+
+  held-low : (c y : ℕ) → 1 ≤ heldBy c (heapAfter n xs .holder y) → y < maxPages
+  held-low c y h =
+      let k = kept n xs in
+      let H = heapAfter n xs in
+      by-cases (ltb y (H .arena .frontier))
+      (λ e. omega (arith, ltb-true y (H .arena .frontier) e, k .inv .bound))
+      (λ e. absurd (omega (arith, held-le c (H .holder y), k .inv .one y, above-at (H .arena .frontier) y (ltb-false y (H .arena .frontier) e))))
+
+  pub good-class : (c : ℕ) → GoodClass (shapeOf c) (class c)
+  good-class c = kept n xs .inv .good c
+
+  pub once-class : (c : ℕ) → Once (shapeOf c) (class c)
+  once-class c x = omega (arith, kept n xs .inv .mine c x, held-le c (heapAfter n xs .holder x), kept n xs .inv .one x)
+
+  pub low-site : (c : ℕ) (x : Site) → SiteLaw (shapeOf c) (class c) x → x .page .first + shapeOf c .pages ≤ maxPages
+  low-site c x law =
+      let sh = shapeOf c in
+      let paged = shape-sound c .paged in
+      let y = x .page .first + sh .pages - 1 in
+      let z = covers-in (sh .pages) (x .page .first) y (omega (arith, paged)) (omega (arith, paged)) in
+      omega (arith, paged, held-low c y (omega (arith, z, law .pages-rest y, kept n xs .inv .mine c y)))
+
+  pub byte-held : (e : Entry) → Live 0 (events n xs) e → (b : ℕ) → HasByte e b → 1 ≤ heldBy (e .class) (heapAfter n xs .holder (b / pageBytes))
+  byte-held e l b h =
+      let c = e .class in
+      let sh = shapeOf c in
+      let o = outs n xs .out c (e .word) .1 (record { entry = e; live = l; class = refl; word = refl }) in
+      let y = lies sh (shape-sound c) (class c) (good-class c) (e .word) o in
+      let z = byte-on sh (shape-sound c) (y .site .page .first) (e .word) (low-site c (y .site) (y .law)) (lies-on sh (shape-sound c) (class c) (good-class c) (e .word) y) b (h .from) (h .to) in
+      omega (arith, z, y .law .pages-rest (b / pageBytes), conserved n xs .classes c (b / pageBytes))

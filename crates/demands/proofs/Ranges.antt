@@ -1,0 +1,321 @@
+-- Number 13's tests are the table of Specs/Ranges over the rows that the call reads. n is the arena's length, LENGTH of the book.
+use Prim.Native.Nat.{ℕ, zero, suc, _+_, _-_, _≤_, min}
+use native.Mathlib.Omega.{arith}
+use native.Mathlib.Nat.{add-zero}
+use mathlib.Core.Bool.{Bool, true, false, cond, not, _&&_, _||_, and-true, and-false, and-assoc, and-comm}
+use mathlib.Core.List.{List, [], _∷_, _++_}
+use mathlib.Core.Path.{_≡_, refl, sym, ap, _∙_}
+use lib.Dec.{eqb, ltb, leb}
+use lib.ListN.{length}
+use borrow.Author.Tests.{leb-true, le-leb, lt-leb, ltb-true, ltb-false, eqb-true, eqb-false, eq-eqb, ne-eqb}
+use Rattle.facts.specs.Lists.{every, below}
+use Rattle.facts.proofs.Bools.{by-cases, and-swap}
+use Rattle.words.specs.Word.{countOf, pageOf}
+use Rattle.classes.specs.declared.Shape.{Shape}
+use Rattle.fields.specs.Field.{arena, class, hole, page, size, frontier, holes, holePages, held, pages, partial, empty, cold, free, carved, listed, get}
+use Rattle.fields.specs.Ranges.{maxParked}
+use Rattle.model.specs.HoleStore.{rememberedMax}
+use Rattle.model.specs.Spot.{isArena}
+use Rattle.arena.specs.Load.{loadHoles}
+use Rattle.arena.specs.Fair.{recordFair, holeFair, holesFair, memoryFair, commitFair, giveFair}
+use Rattle.pages.specs.Runs.{ofRun, whole}
+use Rattle.pages.specs.Stack.{tops, latest, hasMore}
+use Rattle.pages.proofs.Draws.{latest-length}
+use Rattle.pages.specs.Links.{top, stored}
+use Rattle.pages.specs.Fair.{headerFair, linksFair}
+use Rattle.pages.specs.declared.Park.{Park}
+use Rattle.pages.specs.declared.Park.the-variants.{Empty, Cold}
+use Rattle.calls.specs.Take.{pageReady, sound, walk, parkFair}
+use Rattle.calls.specs.Release.{pageFair, rowFair, spotAt, spotFair, releaseFair}
+use Rattle.calls.specs.Chunks.{pagesGiven, chunksFair}
+use Rattle.demands.specs.Ranges.{Link, partialOf, emptyOf, coldOf, nextOf, prevOf, linkField, Use, stateKnown, frontierFits, holesFew, holePagesFew, heldFits, memoryFits, holeEnds, code, visited, emptyFew, emptyTaken, coldFew, coldTaken, ownerIs, firstIs, prevIs, listedFlag, listedYes, listedNo, freeFits, freeWith, carvedFits, virginFlag, inRange, fits, strays}
+use Rattle.demands.specs.Number13.{takeFair, Number13}
+use Rattle.demands.specs.Reads.{countReads, recordReads, holeReads, commitReads, giveReads, runReads, entryReads, pageReads, walkReads, walkVisits, parkReads, takeReads, takeVisits, supply, yields, yieldAll, barren, backReads, rowReads, releaseReads, backsReads, chunksReads}
+use Rattle.demands.proofs.RefusalsLaws.{not-and}
+
+-- ---- conjunctions
+
+ruleset sorts = (and-assoc, and-comm, and-swap)
+
+fits-append : (b : List ℕ) (us vs : List Use) → fits b (us ++ vs) ≡ (fits b us && fits b vs)
+unfolding fits
+fits-append b [] vs = refl
+fits-append b (u ∷ us) vs = ap (λ (t : Bool). inRange b u && t) (fits-append b us vs) ∙ sym (and-assoc (inRange b u) (fits b us) (fits b vs))
+
+fits-none : (b : List ℕ) → true ≡ fits b []
+unfolding fits
+fits-none b = refl
+
+every-cond : {A : Type 0} (t : A → Bool) (i : Bool) (us vs : List A) → every t (cond i us vs) ≡ cond i (every t us) (every t vs)
+every-cond t true us vs = refl
+every-cond t false us vs = refl
+
+-- ---- the arena
+hole-as : (x y z r : Bool) → ((x && (y && z)) && r) ≡ ((x && y) && (z && r))
+hole-as x y z r = simp and-assoc
+
+give-as : (s f h p l m : Bool) → ((s && (f && (h && (p && l)))) && m) ≡ (s && (f && (h && (p && ((m && l) && true)))))
+give-as s f h p l m = rw (and-true (m && l)) (simp sorts)
+
+module _ (b : List ℕ) where
+  record-ranges : recordFair (get b (arena size)) b ≡ fits b recordReads
+  unfolding recordFair fits recordReads countReads
+  record-ranges = rw (and-true (inRange b heldFits))
+
+  holes-ranges : (i k : ℕ) → every (holeFair (get b (arena holePages)) (get b (arena frontier))) (loadHoles b i k) ≡ fits b (holeReads i k)
+  unfolding loadHoles holeReads fits
+  holes-ranges i zero = refl
+  holes-ranges i (suc k) = rw (holes-ranges (suc i) k) (hole-as (leb 1 (get b (hole pages i))) (leb (get b (hole pages i)) (get b (arena holePages))) (inRange b (holeEnds i)) (fits b (holeReads (suc i) k)))
+
+  memory-ranges : (m : ℕ) → memoryFair b m ≡ fits b (cond (leb m rememberedMax) (memoryFits m ∷ []) [])
+  unfolding fits
+  memory-ranges m = by-cases (leb m rememberedMax) (λ e. rw (e, and-true (inRange b (memoryFits m)))) (λ e. rw e)
+
+  commit-ranges : (m : ℕ) → commitFair (get b (arena size)) b m ≡ fits b (commitReads b m)
+  unfolding commitFair commitReads holesFair
+  commit-ranges m = rw (record-ranges, memory-ranges m, holes-ranges 0 (get b (arena holes)), fits-append, fits-append)
+
+  give-ranges : (m : ℕ) → giveFair (get b (arena size)) b m ≡ fits b (giveReads m)
+  unfolding giveFair recordFair fits giveReads countReads
+  give-ranges m =
+      give-as (inRange b stateKnown) (inRange b frontierFits) (inRange b holesFew) (inRange b holePagesFew) (inRange b heldFits) (leb m (get b (arena held)))
+
+-- ---- releases
+back-as : (c f i l k : Bool) → ((c && (f && i)) && (l && k)) ≡ (c && (f && (l && (i && k))))
+back-as c f i l k = simp sorts
+
+row-as : (p e f c k : Bool) → (p && ((e && f) && (c && k))) ≡ (p && (e && (f && (c && (k && true)))))
+row-as p e f c k = rw (and-true k, and-assoc e f (c && k))
+
+module _ (b : List ℕ) (c : ℕ) (sh : Shape) where
+  back-ranges : (m q : ℕ) → pageFair b sh m q ≡ fits b (backReads b sh m q)
+  unfolding pageFair headerFair fits backReads
+  back-ranges m q =
+      rw (every-cond, and-true (inRange b (code (prevOf q))))
+      (back-as (inRange b (carvedFits q (sh .capacity))) (inRange b (freeWith q m)) (inRange b (virginFlag q)) (inRange b (listedFlag q)) (linksFair b q))
+
+  row-ranges : rowFair b c ≡ fits b (rowReads c)
+  unfolding rowFair fits rowReads
+  row-ranges = row-as (inRange b (code (partialOf c))) (inRange b (code (emptyOf c))) (inRange b (emptyFew c)) (inRange b (code (coldOf c))) (inRange b (coldFew c))
+
+  given-ranges : (t : Bool) (m : ℕ) → cond t (giveFair (get b (arena size)) b m) true ≡ fits b (cond t (giveReads m) [])
+  given-ranges true m = give-ranges b m
+  given-ranges false m = fits-none b
+
+  first-use : (us : List Use) → fits b (frontierFits ∷ us) ≡ (leb (get b (arena frontier)) (get b (arena size)) && fits b us)
+  unfolding fits
+  first-use us = refl
+
+  release-ranges : (m q : ℕ) → releaseFair (get b (arena size)) b c sh m q ≡ fits b (releaseReads b c sh m q)
+  unfolding releaseFair spotFair releaseReads
+  release-ranges m q =
+      rw (
+        back-ranges m q,
+        row-ranges,
+        given-ranges (eqb (get b (page free q) + m) (get b (page carved q)) && isArena (spotAt b c sh)) (sh .pages),
+        first-use,
+        fits-append,
+        fits-append,
+      )
+
+  backs-ranges : (gs : List ℕ) → every (λ g. pageFair b sh (countOf g) (pageOf g)) gs ≡ fits b (backsReads b sh gs)
+  unfolding backsReads
+  backs-ranges [] = fits-none b
+  backs-ranges (g ∷ gs) = rw (back-ranges (countOf g) (pageOf g), fits-append, backs-ranges gs)
+
+  nothing-given : (t : Bool) (m : ℕ) → cond t true (giveFair (get b (arena size)) b m) ≡ fits b (cond t [] (giveReads m))
+  nothing-given true m = fits-none b
+  nothing-given false m = give-ranges b m
+
+  chunks-ranges : (gs : List ℕ) → chunksFair (get b (arena size)) b c sh gs ≡ fits b (chunksReads b c sh gs)
+  unfolding chunksFair chunksReads
+  chunks-ranges gs =
+      rw (
+        backs-ranges gs,
+        row-ranges,
+        nothing-given (eqb (pagesGiven b c sh gs) 0) (pagesGiven b c sh gs),
+        first-use,
+        fits-append,
+        fits-append,
+      )
+
+-- ---- takes: a page that a take comes to
+page-as : (v o l f c i h e : Bool) → ((v && o) && (((c && (f && i)) && (l && h)) && e)) ≡ ((v && (l && (f && (c && (i && (o && e)))))) && h)
+page-as v o l f c i h e = simp sorts
+
+walk-as : (c p r h s y : Bool) → (c && (p && ((r && h) && (s && y)))) ≡ ((c && (p && (r && s))) && (h && y))
+walk-as c p r h s y = simp sorts
+
+park-as : (c z k r h x : Bool) → ((c && k) && (z && ((r && h) && x))) ≡ ((c && ((z && k) && (x && r))) && (h && true))
+park-as c z k r h x = rw (and-true h) (simp sorts)
+
+-- the supply
+module _ (b : List ℕ) (sh : Shape) (q : ℕ) where
+  less : (m f r : ℕ) → m - (min m f + min (m - f) r) ≡ m - (f + r)
+  less m f r = omega arith
+
+  pub wanted : (m : ℕ) → m - length (latest b sh q m) ≡ m - supply b sh q
+  wanted m = rw (latest-length b sh q m) (less m (get b (page free q)) (sh .capacity - get b (page carved q)))
+
+  more : hasMore b sh q ≡ yields b sh q
+  unfolding hasMore
+  more =
+      let f = get b (page free q) in
+      let k = get b (page carved q) in
+      by-cases (eqb f 0)
+      (λ e. by-cases (ltb k (sh .capacity))
+      (λ i. rw (e, i, ne-eqb (supply b sh q) 0 (λ z. let h = ltb-true k (sh .capacity) i in omega arith)))
+      (λ i. rw (e, i, eq-eqb (supply b sh q) 0 (let h = ltb-false k (sh .capacity) i in omega (arith, eqb-true f 0 e)))))
+      (λ e. rw (e, ne-eqb (supply b sh q) 0 (λ z. let d = eqb-false f 0 e in omega arith)))
+
+some-as : (v : ℕ) → not (eqb v 0) ≡ leb 1 v
+some-as v = by-cases (eqb v 0) (λ e. rw (e, lt-leb 1 v (omega (arith, eqb-true v 0 e)))) (λ e. rw (e, le-leb 1 v (let d = eqb-false v 0 e in omega arith)))
+
+module _ (b : List ℕ) (c : ℕ) (sh : Shape) where
+  run-ranges : (q : ℕ) (ks : List ℕ) → every (ofRun b c q) ks ≡ fits b (runReads c q ks)
+  unfolding runReads fits
+  run-ranges q [] = refl
+  run-ranges q (k ∷ ks) = rw (run-ranges q ks) (and-assoc (inRange b (ownerIs (q + k) c)) (inRange b (firstIs (q + k) q)) (fits b (runReads c q ks)))
+
+  page-uses : (f : Link) (on x y z : Use) (us vs : List Use)
+      → fits b (visited f (sh .pages) ∷ on ∷ x ∷ y ∷ z ∷ (us ++ vs)) ≡ (inRange b (visited f (sh .pages)) && (inRange b on && (inRange b x && (inRange b y && (inRange b z && (fits b us && fits b vs))))))
+  unfolding fits
+  page-uses f on x y z us vs = rw (fits-append b us vs)
+
+  use-one : (u : Use) → fits b (u ∷ []) ≡ inRange b u
+  unfolding fits
+  use-one u = and-true (inRange b u)
+
+  use-more : (u : Use) (us : List Use) → fits b (u ∷ us) ≡ (inRange b u && fits b us)
+  unfolding fits
+  use-more u us = refl
+
+  entry-ranges : (q m t : ℕ) → every (λ i. ltb i (get b (page carved q))) (tops b q m t) ≡ fits b (entryReads q m t)
+  unfolding entryReads fits
+  entry-ranges q zero t = refl
+  entry-ranges q (suc m) zero = refl
+  entry-ranges q (suc m) (suc t) = rw (entry-ranges q m t)
+
+  module _ (n : ℕ) (low : get b (arena frontier) ≤ n) where
+    whole-as : (q : ℕ) → whole n b sh c q ≡ (leb (q + sh .pages) (get b (arena frontier)) && fits b (runReads c q (below (sh .pages))))
+    unfolding whole
+    whole-as q =
+        rw (run-ranges q (below (sh .pages)))
+        (by-cases (leb (q + sh .pages) (get b (arena frontier)))
+        (λ e. let h = leb-true (q + sh .pages) (get b (arena frontier)) e in rw (e, le-leb (q + sh .pages) n (omega arith)))
+        (λ e. rw (e, and-false)))
+
+    page-ranges : (f : Link) (l : ℕ) (on : Use) (m : ℕ)
+        → inRange b on ≡ eqb (get b (page listed (get b (linkField f) - 1))) l
+        → sound n b c sh l m (get b (linkField f) - 1) ≡ (fits b (pageReads b c sh f on m) && yields b sh (get b (linkField f) - 1))
+    unfolding sound pageReady headerFair pageReads
+    page-ranges f l on m e =
+        let q = get b (linkField f) - 1 in
+        rw (whole-as q, more b sh q, entry-ranges q m (get b (page free q)), page-uses f on (freeFits q) (carvedFits q (sh .capacity)) (virginFlag q) (runReads c q (below (sh .pages))) (entryReads q m (get b (page free q))), e, add-zero)
+        (page-as (inRange b (visited f (sh .pages))) (fits b (runReads c q (below (sh .pages)))) (eqb (get b (page listed q)) l) (inRange b (freeFits q)) (inRange b (carvedFits q (sh .capacity))) (inRange b (virginFlag q)) (yields b sh q) (fits b (entryReads q m (get b (page free q)))))
+
+    -- the partial list from a code on
+    walk-ranges : (k m : ℕ) (f : Link) (y : ℕ)
+        → walk n b c sh k m (get b (linkField f)) y ≡ (fits b (walkReads b c sh k m f y) && every (yields b sh) (walkVisits b c sh k m f y))
+    unfolding walk walkReads walkVisits
+    walk-ranges zero m f y = rw (use-one (code f), and-true (inRange b (code f)))
+    walk-ranges (suc k) m f y =
+        let q = get b (linkField f) - 1 in
+        let m′ = m - supply b sh q in
+        by-cases (eqb m 0 || eqb (get b (linkField f)) 0)
+        (λ e. rw (e, use-one (code f), and-true (inRange b (code f))))
+        (λ e.
+        rw (
+          e,
+          wanted b sh q m,
+          page-ranges f 1 (listedYes q) m refl,
+          walk-ranges k m′ (nextOf q) (get b (linkField f)),
+          use-more (code f),
+          use-more (prevIs q y),
+          fits-append,
+        )
+        (walk-as (inRange b (code f)) (inRange b (prevIs q y)) (fits b (pageReads b c sh f (listedYes q) m)) (yields b sh q) (fits b (walkReads b c sh k m′ (nextOf q) (get b (linkField f)))) (every (yields b sh) (walkVisits b c sh k m′ (nextOf q) (get b (linkField f))))))
+
+    -- a store's newest page
+    park-ranges : (p : Park) (f : Link) (count : Use)
+        → get b (linkField f) ≡ get b (class (top p) c)
+        → inRange b count ≡ (leb 1 (get b (class (stored p) c)) && leb (get b (class (stored p) c)) maxParked)
+        → parkFair n b c sh p ≡ (fits b (parkReads b c sh f count) && (yields b sh (get b (linkField f) - 1) && true))
+    unfolding parkFair parkReads
+    park-ranges p f count e i =
+        let q = get b (linkField f) - 1 in
+        rw (
+          ← e,
+          some-as (get b (class (stored p) c)),
+          page-ranges f 0 (listedNo q) (sh .batch) refl,
+          use-more (code f),
+          use-more count,
+          use-more (code (nextOf q)),
+          i,
+        )
+        (park-as (inRange b (code f)) (leb 1 (get b (class (stored p) c))) (leb (get b (class (stored p) c)) maxParked) (fits b (pageReads b c sh f (listedNo q) (sh .batch))) (yields b sh q) (inRange b (code (nextOf q))))
+
+-- ---- the take's test: the frontier, then its source
+-- a code that is 0 is in its range
+none-fits : (v f : ℕ) → not (eqb v 0) ≡ false → leb v f ≡ true
+none-fits v f e = le-leb v f (omega (arith, eqb-true v 0 (by-cases (eqb v 0) (λ i. i) (λ i. let z : _≡_ {A = ℕ} 0 1 = cc in absurd (omega arith)))))
+
+module _ (b : List ℕ) (c : ℕ) (sh : Shape) where
+  source-ranges : leb (get b (arena frontier)) (get b (arena size)) ≡ true → takeFair (get b (arena size)) b c sh ≡ (fits b (takeReads b c sh) && yieldAll b c sh)
+  unfolding takeFair takeReads yieldAll takeVisits
+  source-ranges low =
+      let n = get b (arena size) in
+      let f = get b (arena frontier) in
+      let h = leb-true f n low in
+      rw (use-more b c sh frontierFits, low)
+      (by-cases (not (eqb (get b (class partial c)) 0))
+      (λ e. rw (e, walk-ranges b c sh n h (sh .batch) (sh .batch) (partialOf c) 0))
+      (λ e. rw (e, use-more b c sh (code (partialOf c)), none-fits (get b (class partial c)) f e)
+      (by-cases (not (eqb (get b (class empty c)) 0))
+      (λ e. rw (e, park-ranges b c sh n h Empty (emptyOf c) (emptyTaken c) refl refl))
+      (λ e. rw (e, use-more b c sh (code (emptyOf c)), none-fits (get b (class empty c)) f e)
+      (by-cases (not (eqb (get b (class cold c)) 0))
+      (λ e. rw (e, park-ranges b c sh n h Cold (coldOf c) (coldTaken c) refl refl))
+      (λ e. rw (e, use-more b c sh (code (coldOf c)), none-fits (get b (class cold c)) f e, commit-ranges b (sh .pages), and-true)))))))
+
+  take-ranges : takeFair (get b (arena size)) b c sh ≡ (fits b (takeReads b c sh) && yieldAll b c sh)
+  unfolding takeFair takeReads
+  take-ranges = by-cases (leb (get b (arena frontier)) (get b (arena size))) source-ranges (λ e. rw (use-more b c sh frontierFits, e))
+
+-- ---- the table
+pub number-13 : (b : List ℕ) → Number13 b
+number-13 b = record {
+  known = record-ranges b;
+  commit = commit-ranges b;
+  give = give-ranges b;
+  take = take-ranges b;
+  release = release-ranges b;
+  chunks = chunks-ranges b;
+}
+
+-- ---- for each call: its test fails exactly where a word that it reads is out of its range, or a listed page yields no block
+module _ (b : List ℕ) where
+  pub record-strays : not (recordFair (get b (arena size)) b) ≡ strays b recordReads
+  unfolding strays
+  record-strays = ap not (record-ranges b)
+
+  pub commit-strays : (m : ℕ) → not (commitFair (get b (arena size)) b m) ≡ strays b (commitReads b m)
+  unfolding strays
+  commit-strays m = ap not (commit-ranges b m)
+
+  pub give-strays : (m : ℕ) → not (giveFair (get b (arena size)) b m) ≡ strays b (giveReads m)
+  unfolding strays
+  give-strays m = ap not (give-ranges b m)
+
+  module _ (c : ℕ) (sh : Shape) where
+    pub take-strays : not (takeFair (get b (arena size)) b c sh) ≡ (strays b (takeReads b c sh) || barren b c sh)
+    unfolding strays barren
+    take-strays = ap not (take-ranges b c sh) ∙ not-and (fits b (takeReads b c sh)) (yieldAll b c sh)
+
+    pub release-strays : (m q : ℕ) → not (releaseFair (get b (arena size)) b c sh m q) ≡ strays b (releaseReads b c sh m q)
+    unfolding strays
+    release-strays m q = ap not (release-ranges b c sh m q)
+
+    pub chunks-strays : (gs : List ℕ) → not (chunksFair (get b (arena size)) b c sh gs) ≡ strays b (chunksReads b c sh gs)
+    unfolding strays
+    chunks-strays gs = ap not (chunks-ranges b c sh gs)

@@ -1,0 +1,290 @@
+-- Number 13's tests look at no word but those of the rows that Specs/Reads lists, and LENGTH: two books that have the same words there
+-- pass or fail alike.
+use Prim.Native.Nat.{ℕ, zero, suc, _+_, _-_}
+use mathlib.Core.Bool.{Bool, true, false, cond, not, _&&_, _||_}
+use mathlib.Core.List.{List, [], _∷_, _++_}
+use mathlib.Core.Path.{_≡_, refl}
+use lib.Dec.{eqb, leb}
+use Rattle.facts.specs.Lists.{every, All, below}
+use Rattle.facts.proofs.Bools.{by-cases}
+use Rattle.words.specs.Host.{digit}
+use Rattle.words.specs.Word.{countOf, pageOf}
+use Rattle.classes.specs.declared.Shape.{Shape}
+use Rattle.fields.specs.Field.{arena, class, page, size, frontier, holes, holePages, pages, partial, empty, emptyCount, cold, coldCount, free, carved, listed, get}
+use Rattle.model.specs.HoleStore.{rememberedMax}
+use Rattle.model.specs.Spot.{spotOf, isEmpty, isCold, isArena}
+use Rattle.arena.specs.Load.{loadHoles}
+use Rattle.arena.specs.Fair.{recordFair, holeFair, holesFair, memoryFair, commitFair, giveFair}
+use Rattle.pages.specs.Runs.{ofRun, whole}
+use Rattle.pages.specs.Stack.{tops, hasMore}
+use Rattle.pages.specs.Links.{top, stored}
+use Rattle.pages.specs.Fair.{headerFair}
+use Rattle.pages.specs.declared.Park.{Park}
+use Rattle.pages.specs.declared.Park.the-variants.{Empty, Cold}
+use Rattle.calls.specs.Take.{pageReady, sound, walk, parkFair}
+use Rattle.calls.specs.Release.{pageFair, rowFair, spotAt, spotFair, releaseFair}
+use Rattle.calls.specs.Chunks.{runsGiven, pagesGiven, chunksFair}
+use Rattle.demands.specs.Ranges.{Link, partialOf, emptyOf, coldOf, nextOf, linkField, Use, memoryFits, emptyTaken, coldTaken, listedYes, listedNo, field}
+use Rattle.demands.specs.Reads.{countReads, recordReads, holeReads, commitReads, giveReads, runReads, entryReads, pageReads, supply, walkReads, parkReads, takeReads, backReads, rowReads, releaseReads, backsReads, chunksReads}
+use Rattle.demands.specs.Number13.{takeFair, RowsDecide}
+use Rattle.demands.proofs.Ranges.{wanted}
+
+all-l : {A : Type 0} (P : A → Type 0) (s t : List A) → All P (s ++ t) → All P s
+all-l P [] t h = tt
+all-l P (x ∷ s) t h = (h .0, all-l P s t (h .1))
+
+all-r : {A : Type 0} (P : A → Type 0) (s t : List A) → All P (s ++ t) → All P t
+all-r P [] t h = h
+all-r P (x ∷ s) t h = all-r P s t (h .1)
+
+module _ (b b′ : List ℕ) where
+  -- the words of these rows are the same
+  abbrev Same : List Use → Type 0
+  Same us = All (λ u. get b (field u) ≡ get b′ (field u)) us
+
+  left : (us vs : List Use) → Same (us ++ vs) → Same us
+  left us vs h = all-l (λ u. get b (field u) ≡ get b′ (field u)) us vs h
+
+  right : (us vs : List Use) → Same (us ++ vs) → Same vs
+  right us vs h = all-r (λ u. get b (field u) ≡ get b′ (field u)) us vs h
+
+  module _ (n : ℕ) where
+    -- ---- the arena
+    record-same : Same recordReads → recordFair n b ≡ recordFair n b′
+    unfolding recordFair recordReads countReads
+    record-same h = rw (h .0, h .1 .0, h .1 .1 .0, h .1 .1 .1 .0, h .1 .1 .1 .1 .0)
+
+    give-same : (m : ℕ) → Same (giveReads m) → giveFair n b m ≡ giveFair n b′ m
+    unfolding giveFair recordFair giveReads countReads
+    give-same m h = rw (h .0, h .1 .0, h .1 .1 .0, h .1 .1 .1 .0, h .1 .1 .1 .1 .0)
+
+    memory-same : (m : ℕ) → Same (cond (leb m rememberedMax) (memoryFits m ∷ []) []) → memoryFair b m ≡ memoryFair b′ m
+    memory-same m h = by-cases (leb m rememberedMax) (λ e. rw (e, (rw e at h) .0)) (λ e. rw e)
+
+    holes-same : (total f i k : ℕ) → Same (holeReads i k) → every (holeFair total f) (loadHoles b i k) ≡ every (holeFair total f) (loadHoles b′ i k)
+    unfolding loadHoles holeReads
+    holes-same total f i zero h = refl
+    holes-same total f i (suc k) h = rw (h .0, h .1 .0, holes-same total f (suc i) k (h .1 .1))
+
+    holes-words : Same recordReads → (get b (arena holes) ≡ get b′ (arena holes)) × (get b (arena holePages) ≡ get b′ (arena holePages)) × (get b (arena frontier) ≡ get b′ (arena frontier))
+    unfolding recordReads
+    holes-words h = (h .1 .1 .0, h .1 .1 .1 .0, h .1 .0)
+
+    commit-same : (m : ℕ) → Same (commitReads b m) → commitFair n b m ≡ commitFair n b′ m
+    unfolding commitFair commitReads holesFair
+    commit-same m h =
+        let ms = cond (leb m rememberedMax) (memoryFits m ∷ []) [] in
+        let hs = holeReads 0 (get b (arena holes)) in
+        let r = left recordReads (ms ++ hs) h in
+        let t = right recordReads (ms ++ hs) h in
+        let w = holes-words r in
+        rw (record-same r, memory-same m (left ms hs t), holes-same (get b (arena holePages)) (get b (arena frontier)) 0 (get b (arena holes)) (right ms hs t), w .0, w .1, w .2)
+
+    -- ---- a page that a take comes to
+    run-same : (c q : ℕ) (ks : List ℕ) → Same (runReads c q ks) → every (ofRun b c q) ks ≡ every (ofRun b′ c q) ks
+    unfolding runReads
+    run-same c q [] h = refl
+    run-same c q (k ∷ ks) h = rw (h .0, h .1 .0, run-same c q ks (h .1 .1))
+
+    entry-same : (q m t : ℕ) → Same (entryReads q m t) → tops b q m t ≡ tops b′ q m t
+    unfolding entryReads
+    entry-same q zero t h = refl
+    entry-same q (suc m) zero h = refl
+    entry-same q (suc m) (suc t) h = rw (h .0, entry-same q m t (h .1))
+
+    module _ (low : get b (arena frontier) ≡ get b′ (arena frontier)) (c : ℕ) (sh : Shape) where
+      page-same : (f : Link) (l : ℕ) (on : Use) (m : ℕ)
+          → field on ≡ page listed (get b (linkField f) - 1)
+          → Same (pageReads b c sh f on m)
+          → sound n b c sh l m (get b (linkField f) - 1) ≡ sound n b′ c sh l m (get b (linkField f) - 1)
+      unfolding sound pageReady headerFair whole hasMore pageReads
+      page-same f l on m e h =
+          let q = get b (linkField f) - 1 in
+          let rs = runReads c q (below (sh .pages)) in
+          let es = entryReads q m (get b (page free q)) in
+          let t = h .1 .1 .1 .1 .1 in
+          let o : get b (page listed q) ≡ get b′ (page listed q) = rw e at h .1 .0 in
+          rw (run-same c q (below (sh .pages)) (left rs es t), entry-same q m (get b (page free q)) (right rs es t), low, o, h .1 .1 .0, h .1 .1 .1 .0, h .1 .1 .1 .1 .0)
+
+      supply-same : (f : Link) (on : Use) (m : ℕ) → Same (pageReads b c sh f on m) → supply b sh (get b (linkField f) - 1) ≡ supply b′ sh (get b (linkField f) - 1)
+      unfolding pageReads
+      supply-same f on m h = rw (h .1 .1 .0, h .1 .1 .1 .0)
+
+      walk-code : (k m : ℕ) (f : Link) (y : ℕ) → Same (walkReads b c sh k m f y) → get b (linkField f) ≡ get b′ (linkField f)
+      unfolding walkReads
+      walk-code zero m f y h = h .0
+      walk-code (suc k) m f y h = h .0
+
+      walk-same : (k m : ℕ) (f : Link) (y : ℕ) → Same (walkReads b c sh k m f y) → walk n b c sh k m (get b (linkField f)) y ≡ walk n b′ c sh k m (get b (linkField f)) y
+      unfolding walk walkReads
+      walk-same zero m f y h = rw low
+      walk-same (suc k) m f y h =
+          let q = get b (linkField f) - 1 in
+          let ps = pageReads b c sh f (listedYes q) m in
+          let ws = walkReads b c sh k (m - supply b sh q) (nextOf q) (get b (linkField f)) in
+          by-cases (eqb m 0 || eqb (get b (linkField f)) 0)
+          (λ e. rw (e, low))
+          (λ e.
+          let t = (rw e at h) .1 in
+          let p = left ps ws (t .1) in
+          let r = right ps ws (t .1) in
+          rw (e, wanted b sh q m, wanted b′ sh q m, page-same f 1 (listedYes q) m refl p, walk-same k (m - supply b sh q) (nextOf q) (get b (linkField f)) r, low, t .0, supply-same f (listedYes q) m p, walk-code k (m - supply b sh q) (nextOf q) (get b (linkField f)) r))
+
+      park-code : (f : Link) (count : Use) → Same (parkReads b c sh f count) → get b (linkField f) ≡ get b′ (linkField f)
+      unfolding parkReads
+      park-code f count h = h .0
+
+      park-same : (p : Park) (f : Link) (count : Use)
+          → linkField f ≡ class (top p) c
+          → field count ≡ class (stored p) c
+          → Same (parkReads b c sh f count)
+          → parkFair n b c sh p ≡ parkFair n b′ c sh p
+      unfolding parkFair parkReads
+      park-same p f count e i h =
+          let q = get b (linkField f) - 1 in
+          let k : get b (class (stored p) c) ≡ get b′ (class (stored p) c) = rw i at h .1 .0 in
+          let s = page-same f 0 (listedNo q) (sh .batch) refl (h .1 .1 .1) in
+          rw (← e, s, h .1 .1 .0, low, h .0, k)
+
+      -- ---- a take: its source
+      take-same : Same (takeReads b c sh) → takeFair n b c sh ≡ takeFair n b′ c sh
+      unfolding takeFair takeReads
+      take-same h =
+          by-cases (not (eqb (get b (class partial c)) 0))
+          (λ e.
+          let w = (rw e at h) .1 in
+          let x = walk-code (sh .batch) (sh .batch) (partialOf c) 0 w in
+          let e′ : not (eqb (get b′ (class partial c)) 0) ≡ true = rw x at e in
+          rw (e, e′, walk-same (sh .batch) (sh .batch) (partialOf c) 0 w, low, x))
+          (λ e.
+          let h = (rw e at h) .1 in
+          let e′ : not (eqb (get b′ (class partial c)) 0) ≡ false = rw (h .0) at e in
+          rw (e, e′)
+          (by-cases (not (eqb (get b (class empty c)) 0))
+          (λ e.
+          let w = (rw e at h) .1 in
+          let e′ : not (eqb (get b′ (class empty c)) 0) ≡ true = rw (park-code (emptyOf c) (emptyTaken c) w) at e in
+          rw (e, e′, park-same Empty (emptyOf c) (emptyTaken c) refl refl w, low))
+          (λ e.
+          let h = (rw e at h) .1 in
+          let e′ : not (eqb (get b′ (class empty c)) 0) ≡ false = rw (h .0) at e in
+          rw (e, e′)
+          (by-cases (not (eqb (get b (class cold c)) 0))
+          (λ e.
+          let w = (rw e at h) .1 in
+          let e′ : not (eqb (get b′ (class cold c)) 0) ≡ true = rw (park-code (coldOf c) (coldTaken c) w) at e in
+          rw (e, e′, park-same Cold (coldOf c) (coldTaken c) refl refl w, low))
+          (λ e.
+          let h = (rw e at h) .1 in
+          let e′ : not (eqb (get b′ (class cold c)) 0) ≡ false = rw (h .0) at e in
+          rw (e, e′, commit-same (sh .pages) (h .1), low))))))
+
+      -- ---- releases
+      back-same : (m q : ℕ) → Same (backReads b sh m q) → pageFair b sh m q ≡ pageFair b′ sh m q
+      unfolding pageFair headerFair backReads
+      back-same m q h =
+          by-cases (eqb (get b (page listed q)) 1)
+          (λ e.
+          let t = (rw e at h) .1 .1 .1 .1 in
+          let e′ : eqb (get b′ (page listed q)) 1 ≡ true = rw (h .1 .1 .0) at e in
+          rw (e, e′, t .0, t .1 .0, low, h .0, h .1 .0, h .1 .1 .0, h .1 .1 .1 .0))
+          (λ e.
+          let e′ : eqb (get b′ (page listed q)) 1 ≡ false = rw (h .1 .1 .0) at e in
+          rw (e, e′, h .0, h .1 .0, h .1 .1 .0, h .1 .1 .1 .0))
+
+      back-words : (m q : ℕ) → Same (backReads b sh m q) → (get b (page carved q) ≡ get b′ (page carved q)) × (get b (page free q) ≡ get b′ (page free q))
+      unfolding backReads
+      back-words m q h = (h .0, h .1 .0)
+
+      row-same : Same (rowReads c) → rowFair b c ≡ rowFair b′ c
+      unfolding rowFair rowReads
+      row-same h = rw (h .0, h .1 .0, h .1 .1 .0, h .1 .1 .1 .0, h .1 .1 .1 .1 .0, low)
+
+      row-words : Same (rowReads c) → (get b (class emptyCount c) ≡ get b′ (class emptyCount c)) × (get b (class coldCount c) ≡ get b′ (class coldCount c))
+      unfolding rowReads
+      row-words h = (h .1 .1 .0, h .1 .1 .1 .1 .0)
+
+      given-same : (t : Bool) (m : ℕ) → Same (cond t (giveReads m) []) → cond t (giveFair n b m) true ≡ cond t (giveFair n b′ m) true
+      given-same true m h = give-same m h
+      given-same false m h = refl
+
+      release-same : (m q : ℕ) → Same (releaseReads b c sh m q) → releaseFair n b c sh m q ≡ releaseFair n b′ c sh m q
+      unfolding releaseFair spotFair releaseReads
+      release-same m q h =
+          let ps = backReads b sh m q in
+          let t = eqb (get b (page free q) + m) (get b (page carved q)) && isArena (spotAt b c sh) in
+          let gs = cond t (giveReads (sh .pages)) [] in
+          let p = left ps (rowReads c ++ gs) (h .1) in
+          let r = right ps (rowReads c ++ gs) (h .1) in
+          let w = back-words m q p in
+          let e = row-words (left (rowReads c) gs r) in
+          rw (back-same m q p, row-same (left (rowReads c) gs r), given-same t (sh .pages) (right (rowReads c) gs r), low, w .0, w .1, e .0, e .1)
+
+      -- ---- releases of chunks
+      backs-same : (gs : List ℕ)
+          → Same (backsReads b sh gs)
+          → every (λ g. pageFair b sh (countOf g) (pageOf g)) gs ≡ every (λ g. pageFair b′ sh (countOf g) (pageOf g)) gs
+      unfolding backsReads
+      backs-same [] h = refl
+      backs-same (g ∷ gs) h =
+          let ps = backReads b sh (countOf g) (pageOf g) in
+          rw (back-same (countOf g) (pageOf g) (left ps (backsReads b sh gs) h), backs-same gs (right ps (backsReads b sh gs) h))
+
+      runs-same : (gs : List ℕ) (e k : ℕ) → Same (backsReads b sh gs) → runsGiven b sh gs e k ≡ runsGiven b′ sh gs e k
+      unfolding runsGiven backsReads
+      runs-same [] e k h = refl
+      runs-same (g ∷ gs) e k h =
+          let ps = backReads b sh (countOf g) (pageOf g) in
+          let w = back-words (countOf g) (pageOf g) (left ps (backsReads b sh gs) h) in
+          let r = right ps (backsReads b sh gs) h in
+          let s = spotOf sh e k in
+          rw (w .0, w .1, runs-same gs (e + digit (isEmpty s)) (k + digit (isCold s)) r, runs-same gs e k r)
+
+      none-same : (t : Bool) (m : ℕ) → Same (cond t [] (giveReads m)) → cond t true (giveFair n b m) ≡ cond t true (giveFair n b′ m)
+      none-same true m h = refl
+      none-same false m h = give-same m h
+
+      chunks-same : (gs : List ℕ) → Same (chunksReads b c sh gs) → chunksFair n b c sh gs ≡ chunksFair n b′ c sh gs
+      unfolding chunksFair chunksReads
+      chunks-same gs h =
+          let ps = backsReads b sh gs in
+          let m = pagesGiven b c sh gs in
+          let ms = cond (eqb m 0) [] (giveReads m) in
+          let p = left ps (rowReads c ++ ms) (h .1) in
+          let r = right ps (rowReads c ++ ms) (h .1) in
+          let e = row-words (left (rowReads c) ms r) in
+          rw (
+            backs-same gs p,
+            row-same (left (rowReads c) ms r),
+            none-same (eqb m 0) m (right (rowReads c) ms r),
+            runs-same gs (get b (class emptyCount c)) (get b (class coldCount c)) p,
+            low,
+            e .0,
+            e .1,
+          )
+
+-- ---- with LENGTH as each book has it
+module _ (b b′ : List ℕ) where
+  take-low : (c : ℕ) (sh : Shape) → Same b b′ (takeReads b c sh) → get b (arena frontier) ≡ get b′ (arena frontier)
+  unfolding takeReads
+  take-low c sh h = h .0
+
+  release-low : (c : ℕ) (sh : Shape) (m q : ℕ) → Same b b′ (releaseReads b c sh m q) → get b (arena frontier) ≡ get b′ (arena frontier)
+  unfolding releaseReads
+  release-low c sh m q h = h .0
+
+  chunks-low : (c : ℕ) (sh : Shape) (gs : List ℕ) → Same b b′ (chunksReads b c sh gs) → get b (arena frontier) ≡ get b′ (arena frontier)
+  unfolding chunksReads
+  chunks-low c sh gs h = h .0
+
+  pub rows-decide : RowsDecide b b′
+  rows-decide =
+      let n = get b′ (arena size) in
+      record {
+        known = λ h. rw (h .0) (record-same b b′ n (h .1));
+        commit = λ m h. rw (h .0) (commit-same b b′ n m (h .1));
+        give = λ m h. rw (h .0) (give-same b b′ n m (h .1));
+        take = λ c sh h. rw (h .0) (take-same b b′ n (take-low c sh (h .1)) c sh (h .1));
+        release = λ c sh m q h. rw (h .0) (release-same b b′ n (release-low c sh m q (h .1)) c sh m q (h .1));
+        chunks = λ c sh gs h. rw (h .0) (chunks-same b b′ n (chunks-low c sh gs (h .1)) c sh gs (h .1));
+      }

@@ -1,0 +1,119 @@
+-- What is given out was nobody's: its pages were idle, and each page is in one place only.
+--     commit-unused    the run that a direct commit answers
+--     growth-unused    the pages that a growth adds
+--     class-unused     the run that a class gets
+use Prim.Native.Nat.{ℕ, _+_, _-_, _/_, _≤_}
+use native.Mathlib.Omega.{arith}
+use mathlib.Core.Bool.{Bool, true, false, false≢true}
+use mathlib.Core.List.{List}
+use mathlib.Core.Option.{Option, none, some, Option·none-ne-some}
+use mathlib.Core.Path.{_≡_, refl, sym, ap, _∙_}
+use Rattle.facts.proofs.Bools.{by-cases}
+use Rattle.words.specs.Host.{badHost}
+use Rattle.classes.specs.Sizes.{pageBytes}
+use Rattle.classes.specs.Shape.{shapeOf}
+use Rattle.model.specs.declared.Hole.{Hole}
+use Rattle.model.specs.Cover.{inRun, covers, coversRun}
+use Rattle.model.specs.Calls as Calls
+use Rattle.model.specs.Calls.{Call, Named, names, hostIn, wayOf, hostOf}
+use Rattle.model.specs.Arena as Arenas
+use Rattle.model.specs.Arena.{Arena}
+use Rattle.model.specs.Class.{Ask, done, asks}
+use Rattle.model.specs.Chunks.{answer}
+use Rattle.model.specs.Heap.{direct, class, isDirect, heldDirect, badRun, badGrowth, runWith, asked, offer, finish, interact, classCall, answerRun, commitCall, growCall, directCall, step}
+use Rattle.model.specs.History.{heapAfter}
+use Rattle.model.specs.Entries.{runOf, isGrown}
+use Rattle.model.proofs.ArenaLaws.{idle, covers-in, commit-law, grow-law}
+use Rattle.model.proofs.Accounts.{held-le}
+use Rattle.model.proofs.Theorems.{conserved}
+use Rattle.refinement.proofs.DirectCalls.{direct-held}
+use Rattle.demands.specs.Run.{Opens, next, told}
+use Rattle.demands.specs.Demands.{Unused}
+use Rattle.demands.proofs.Calls.{room}
+use Rattle.demands.proofs.Histories.{next-agrees}
+use Rattle.demands.proofs.Told.{told-live, told-direct}
+use Rattle.demands.proofs.Places.{byte-held}
+
+-- ---- what each call draws from the idle pages
+run-of : (r : Option ℕ) (f : Bool) → runOf (answerRun r f) ≡ r
+run-of none f = refl
+run-of (some q) f = refl
+
+module _ (n : ℕ) (xs : List Call) where
+  abbrev arena : Arena
+  arena = heapAfter n xs .arena
+
+  commit-run : (h m q : ℕ) → runOf (step n (heapAfter n xs) (Calls.commit h m) .answer) ≡ some q → Arenas.commit n h m arena .run ≡ some q
+  unfolding step wayOf directCall commitCall
+  commit-run h m q e =
+      by-cases (badHost h) (λ t. absurd (Option·none-ne-some _ (rw t at e)))
+      (λ t. by-cases (badRun m) (λ u. absurd (Option·none-ne-some _ (rw (t, u) at e)))
+      (λ u. sym (run-of (Arenas.commit n h m arena .run) (Arenas.commit n h m arena .fresh)) ∙ (rw (t, u) at e)))
+
+  commit-idle : (h m q x : ℕ) → Arenas.commit n h m arena .run ≡ some q → covers m q x ≤ idle x arena
+  commit-idle h m q x e = omega (arith, commit-law n h m arena .pages x, ap (λ r. coversRun m r x) e)
+
+  growth-yes : (h q old new : ℕ) → isGrown (step n (heapAfter n xs) (Calls.growFrontier h q old new) .answer) ≡ true → Arenas.grow n h (q + old) (new - old) arena .grew ≡ true
+  unfolding step wayOf directCall growCall
+  growth-yes h q old new e =
+      by-cases (badHost h) (λ t. absurd (false≢true (rw t at e)))
+      (λ t. by-cases (badGrowth old new) (λ u. absurd (false≢true (rw (t, u) at e)))
+      (λ u. by-cases (heldDirect n (heapAfter n xs) q old) (λ v. rw (t, u, v) at e) (λ v. absurd (false≢true (rw (t, u, v) at e)))))
+
+  growth-idle : (h e m x : ℕ) → Arenas.grow n h e m arena .grew ≡ true → covers m e x ≤ idle x arena
+  growth-idle h e m x g = omega (arith, rw g at (grow-law n h e m arena x))
+
+  -- the run that a class gets
+  abbrev coversHole : Option Hole → ℕ → ℕ
+  coversHole none x = 0
+  coversHole (some r) x = covers (r .pages) (r .first) x
+
+  covers-with : (m : ℕ) (r : Option ℕ) (x : ℕ) → coversHole (runWith m r) x ≡ coversRun m r x
+  covers-with m none x = refl
+  covers-with m (some q) x = refl
+
+  offer-idle : (h : ℕ) (q : Ask) (x : ℕ) → coversHole (runWith (asked q) (offer n h arena q .run)) x ≤ idle x arena
+  unfolding offer
+  offer-idle h (done r) x = omega arith
+  offer-idle h (asks m k) x = omega (arith, commit-law n h m arena .pages x, covers-with m (Arenas.commit n h m arena .run) x)
+
+  class-idle : (y : Call) (d : Named) (r : Hole) → names y ≡ some d → step n (heapAfter n xs) y .run ≡ some r → (x : ℕ) → covers (r .pages) (r .first) x ≤ idle x arena
+  unfolding step wayOf classCall interact finish
+  class-idle y d r e f x =
+      let q = answer (shapeOf (d .class)) (heapAfter n xs .classes (d .class)) (d .request) in
+      by-cases (badHost (hostIn y)) (λ t. absurd (Option·none-ne-some r (rw t at f))) λ t.
+      let g : runWith (asked q) (offer n (hostOf (d .request)) arena q .run) ≡ some r = rw (t, e) at f in
+      omega (arith, offer-idle (hostOf (d .request)) q x, ap (λ t. coversHole t x) g)
+
+-- ---- an idle page is nobody's
+module _ (n : ℕ) (b : List ℕ) (o : Opens n b) (xs : List Call) where
+  idle-unused : (q m : ℕ) → ((x : ℕ) → covers m q x ≤ idle x (heapAfter n xs .arena)) → Unused (told n b xs) q m
+  idle-unused q m f =
+      let H = heapAfter n xs in
+      record {
+        offDirect = λ k l.
+            let x = q + k in
+            told-direct n b o xs x ∙ conserved n xs .direct x
+            ∙ by-cases (isDirect (H .holder x))
+            (λ t. absurd (omega (arith, direct-held (H .holder x) t, f x, covers-in m q x (omega arith) (omega arith), conserved n xs .one x)))
+            (λ t. t);
+        offBlocks = λ e l i h.
+            let x = i / pageBytes in
+            let held = byte-held n (room n b o .few-pages) xs e (told-live n b o xs e l) i h in
+            by-cases (inRun m q x)
+            (λ t. let c : covers m q x ≡ 1 = rw t in absurd (omega (arith, f x, c, held, held-le (e .class) (H .holder x), conserved n xs .one x)))
+            (λ t. t);
+      }
+
+  pub commit-unused : (h m q : ℕ) (fresh : Bool) → next n b xs (Calls.commit h m) .answer ≡ Calls.run q fresh → Unused (told n b xs) q m
+  commit-unused h m q fresh e =
+      let s : runOf (step n (heapAfter n xs) (Calls.commit h m) .answer) ≡ some q = ap runOf (sym (next-agrees n b o xs (Calls.commit h m) .answer) ∙ e) in
+      idle-unused q m (λ x. commit-idle n xs h m q x (commit-run n xs h m q s))
+
+  pub growth-unused : (h q old new : ℕ) → next n b xs (Calls.growFrontier h q old new) .answer ≡ Calls.grown true → Unused (told n b xs) (q + old) (new - old)
+  growth-unused h q old new e =
+      let s : isGrown (step n (heapAfter n xs) (Calls.growFrontier h q old new) .answer) ≡ true = ap isGrown (sym (next-agrees n b o xs (Calls.growFrontier h q old new) .answer) ∙ e) in
+      idle-unused (q + old) (new - old) (λ x. growth-idle n xs h (q + old) (new - old) x (growth-yes n xs h q old new s))
+
+  pub class-unused : (x : Call) (d : Named) (r : Hole) → names x ≡ some d → step n (heapAfter n xs) x .run ≡ some r → Unused (told n b xs) (r .first) (r .pages)
+  class-unused x d r e f = idle-unused (r .first) (r .pages) (class-idle n xs x d r e f)

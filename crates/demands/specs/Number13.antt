@@ -1,0 +1,56 @@
+-- Number 13 is one table: each test of the code is that every word which the call reads is in its range by Specs/Ranges, and, in a take,
+-- that each listed page which it comes to yields a block. For every book; n is LENGTH.
+--     takeFair    a take's test: the frontier, then its source, which is the partial list as far as the take goes, or the newest empty
+--                 page, or the newest cold one, or the arena
+--     Number13    the equations, one for each test of docs/RANGES.md, "Where each test stands"
+--     RowsDecide  a test looks at no word but those of the rows, and LENGTH
+use Prim.Native.Nat.{ℕ}
+use mathlib.Core.Bool.{Bool, cond, not, _&&_}
+use mathlib.Core.List.{List}
+use mathlib.Core.Path.{_≡_}
+use lib.Dec.{eqb, leb}
+use Rattle.facts.specs.Lists.{All}
+use Rattle.classes.specs.declared.Shape.{Shape}
+use Rattle.fields.specs.Field.{arena, class, size, frontier, partial, empty, cold, get}
+use Rattle.arena.specs.Fair.{recordFair, commitFair, giveFair}
+use Rattle.pages.specs.declared.Park.the-variants.{Empty, Cold}
+use Rattle.calls.specs.Take.{walk, parkFair}
+use Rattle.calls.specs.Release.{releaseFair}
+use Rattle.calls.specs.Chunks.{chunksFair}
+use Rattle.demands.specs.Ranges.{Use, field, fits}
+use Rattle.demands.specs.Reads.{recordReads, commitReads, giveReads, takeReads, yieldAll, releaseReads, chunksReads}
+
+unfoldable pub takeFair : ℕ → List ℕ → ℕ → Shape → Bool
+takeFair n b c sh =
+    leb (get b (arena frontier)) n
+    && cond (not (eqb (get b (class partial c)) 0)) (walk n b c sh (sh .batch) (sh .batch) (get b (class partial c)) 0)
+    (cond (not (eqb (get b (class empty c)) 0)) (parkFair n b c sh Empty)
+    (cond (not (eqb (get b (class cold c)) 0)) (parkFair n b c sh Cold)
+    (commitFair n b (sh .pages))))
+
+pub record Number13 (b : List ℕ) : Type 0 where
+  -- growth, report
+  pub known : recordFair (get b (arena size)) b ≡ fits b recordReads
+  pub commit : (m : ℕ) → commitFair (get b (arena size)) b m ≡ fits b (commitReads b m)
+  pub give : (m : ℕ) → giveFair (get b (arena size)) b m ≡ fits b (giveReads m)
+  pub take : (c : ℕ) (sh : Shape) → takeFair (get b (arena size)) b c sh ≡ (fits b (takeReads b c sh) && yieldAll b c sh)
+  pub release : (c : ℕ) (sh : Shape) (m q : ℕ) → releaseFair (get b (arena size)) b c sh m q ≡ fits b (releaseReads b c sh m q)
+  pub chunks : (c : ℕ) (sh : Shape) (gs : List ℕ) → chunksFair (get b (arena size)) b c sh gs ≡ fits b (chunksReads b c sh gs)
+
+-- ---- the rows are all that the tests look at
+-- two books with one LENGTH and the same word in each of these rows
+abbrev pub Alike : List ℕ → List ℕ → List Use → Type 0
+Alike b b′ us = (get b (arena size) ≡ get b′ (arena size)) × All (λ u. get b (field u) ≡ get b′ (field u)) us
+
+-- such books pass or fail a call's test alike, whatever their other words are
+pub record RowsDecide (b b′ : List ℕ) : Type 0 where
+  pub known : Alike b b′ recordReads → recordFair (get b (arena size)) b ≡ recordFair (get b′ (arena size)) b′
+  pub commit : (m : ℕ) → Alike b b′ (commitReads b m) → commitFair (get b (arena size)) b m ≡ commitFair (get b′ (arena size)) b′ m
+  pub give : (m : ℕ) → Alike b b′ (giveReads m) → giveFair (get b (arena size)) b m ≡ giveFair (get b′ (arena size)) b′ m
+  pub take : (c : ℕ) (sh : Shape) → Alike b b′ (takeReads b c sh) → takeFair (get b (arena size)) b c sh ≡ takeFair (get b′ (arena size)) b′ c sh
+  pub release : (c : ℕ) (sh : Shape) (m q : ℕ)
+      → Alike b b′ (releaseReads b c sh m q)
+      → releaseFair (get b (arena size)) b c sh m q ≡ releaseFair (get b′ (arena size)) b′ c sh m q
+  pub chunks : (c : ℕ) (sh : Shape) (gs : List ℕ)
+      → Alike b b′ (chunksReads b c sh gs)
+      → chunksFair (get b (arena size)) b c sh gs ≡ chunksFair (get b′ (arena size)) b′ c sh gs

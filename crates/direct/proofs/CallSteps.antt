@@ -1,0 +1,244 @@
+-- The ways out of the direct calls, and what they ask of the steps.
+use Prim.Native.Nat.{ℕ, zero, suc, _+_, _-_, _*_, _^_, _≤_, _<_}
+use native.Mathlib.Omega.{arith}
+use mathlib.Core.Bool.{Bool, true, false, _||_}
+use mathlib.Core.List.{List}
+use mathlib.Core.Option.{Option, none, some}
+use mathlib.Core.Path.{_≡_, refl, sym, ap, _∙_}
+use lib.Dec.{eqb, leb}
+use lib.ListN.{length, set, length-set}
+use mir.Val.{Fits}
+use mir.Syntax.{w32, w64}
+use borrow.Author.Tests.{lt-ltb, le-leb, lt-leb, leb-true, leb-false, eq-eqb, ne-eqb}
+use Rattle.facts.specs.Lists.{isSome}
+use Rattle.facts.proofs.Bools.{by-cases, and-left, and-no}
+use Rattle.words.specs.Limits.{maxPages}
+use Rattle.words.specs.Host.{commitGranted}
+use Rattle.fields.specs.Field.{arena, state, held, get}
+use Rattle.model.specs.declared.Figures.{Figures}
+use Rattle.model.specs.Heap.{badRun, badGrowth, direct}
+use Rattle.model.specs.Arena as Model
+use Rattle.holes.specs.declared.Arena.{Arena}
+use Rattle.runs.specs.declared.Commit.{Commit}
+use Rattle.runs.specs.declared.Commit.the-variants.{Refused}
+use Rattle.direct.specs.declared.Grow.{Grow}
+use Rattle.direct.specs.declared.Report.{Report}
+use Rattle.direct.specs.declared.Report.the-variants.{Told}
+use Rattle.arena.specs.Load.{statusOf, loadStore, loadArena}
+use Rattle.arena.specs.Owners.{ownerCode}
+use Rattle.holes.specs.Record.{recordOf}
+use Rattle.arena.specs.Fair.{recordFair, giveFair}
+use Rattle.arena.specs.Open.{cleared, headWords}
+use Rattle.arena.specs.Calls.{commitFor, commitCall, given, heldDirect, releaseCall, growCall, containsCall, figures}
+use Rattle.holes.specs.Act.{endNone, endRun, endGiven, settle, fromFrontier, growWith, growActs, clamped}
+use Rattle.runs.specs.Asks.{GiveIn, BookIn}
+use Rattle.runs.specs.Answer.{answerOf, Answers}
+use Rattle.direct.specs.Answer.{grownAs, growCommit, Grew, Grows, fairGrow, Releases, heldRelease, reportOf}
+use Rattle.holes.proofs.Acts.{fair-record, grow-acts}
+use Rattle.holes.proofs.PlanLaws.{clamp-commit, clamp-grow, clamped-le}
+
+-- ---- numbers
+pub bad-none : (m : ℕ) → m ≡ 0 → true ≡ badRun m
+unfolding badRun
+bad-none m e = rw (eq-eqb m 0 e)
+
+pub bad-long : (m : ℕ) → (m ≡ 0 → ⊥) → leb (2 ^ 48) m ≡ badRun m
+unfolding badRun
+bad-long m d = rw (ne-eqb m 0 d)
+
+or-true : (a : Bool) → (a || true) ≡ true
+or-true true = refl
+or-true false = refl
+
+module _ (old new : ℕ) where
+  pub bad-old : (t : Bool) → t ≡ badRun old → t ≡ true → true ≡ badGrowth old new
+  bad-old t e v = rw (← e, v)
+
+  pub bad-new : (t : Bool) → t ≡ badRun new → t ≡ true → true ≡ badGrowth old new
+  bad-new t e v = simp (← e, v, or-true)
+
+  pub bad-less : (t u : Bool) → t ≡ badRun old → t ≡ false → u ≡ badRun new → u ≡ false → leb new old ≡ badGrowth old new
+  bad-less t u e v f w = rw (← e, v, ← f, w)
+
+pub clamp-long : (m : ℕ) → maxPages < m → (maxPages + 1) ≡ clamped m
+unfolding clamped
+clamp-long m l = rw (lt-leb m maxPages l)
+
+pub clamp-is : (m : ℕ) → m ≤ maxPages → m ≡ clamped m
+unfolding clamped
+clamp-is m l = rw (le-leb m maxPages l)
+
+pub clamped-fits : (m r : ℕ) → r ≡ clamped m → r ≤ (maxPages + 1)
+clamped-fits m r e = rw e (clamped-le m)
+
+pub growth-more : (old new : ℕ) (t : Bool) → t ≡ badGrowth old new → t ≡ false → old ≤ new
+growth-more old new t e v = by-cases (leb new old) (λ z. absurd (bad (simp (z, or-true) at (sym e ∙ v)))) (λ z. let y = leb-false new old z in omega arith)
+  where
+    bad : true ≡ false → ⊥
+    bad i = let z : _≡_ {A = ℕ} 0 1 = cc in omega arith
+
+-- ---- opening
+pub record Clearing (b₀ b : List ℕ) (i : ℕ) : Type 0 where
+  pub within : i ≤ 768
+  pub long : length b ≡ length b₀
+  pub rest : b ≡ cleared b₀ i
+
+pub clear-start : (b : List ℕ) → Clearing b b 0
+unfolding cleared
+clear-start b = record { within = omega arith; long = refl; rest = refl }
+
+pub clear-again : (b₀ b : List ℕ) (i : ℕ) → Clearing b₀ b i → i < 768 → Clearing b₀ (set b i 0) (i + 1)
+unfolding cleared
+clear-again b₀ b i k l =
+    let z : i + 1 ≡ suc i = omega arith in
+    rw z (record { within = omega arith; long = length-set b i 0 ∙ k .long; rest = ap (λ x. set x i 0) (k .rest) })
+
+pub clear-done : (b₀ b : List ℕ) (i : ℕ) → Clearing b₀ b i → 768 ≤ i → b ≡ cleared b₀ headWords
+unfolding headWords
+clear-done b₀ b i k l = let z : i ≡ 768 = (let y = k .within in omega arith) in rw z at (k .rest)
+
+-- ---- contains
+module _ (n : ℕ) (b : List ℕ) (o k : ℕ) where
+  not-ready : (s : ℕ) → (s ≡ 1 → ⊥) → Model.isReady (statusOf s) ≡ false
+  not-ready zero d = refl
+  not-ready (suc zero) d = absurd (d refl)
+  not-ready (suc (suc s)) d = refl
+
+  pub contains-off : (s : ℕ) → s ≡ get b (arena state) → (s ≡ 1 → ⊥) → false ≡ containsCall n b o k
+  unfolding containsCall Model.contains loadArena
+  contains-off s e d = rw (← e, not-ready s d)
+
+  pub contains-past : (s : ℕ) → s ≡ get b (arena state) → s ≡ 1 → n * 65536 < o → false ≡ containsCall n b o k
+  unfolding containsCall Model.contains loadArena
+  contains-past s e v l = rw (← e, v) (simp (lt-leb (o + k) (n * 65536) (omega arith), and-no))
+
+  pub contains-is : (s : ℕ) → BookIn b n → s ≡ get b (arena state) → s ≡ 1 → o ≤ n * 65536 → leb k (n * 65536 - o) ≡ containsCall n b o k
+  unfolding containsCall Model.contains loadArena
+  contains-is s r e v l =
+      let z = r .small in
+      rw (← e, v)
+      (by-cases (leb k (n * 65536 - o))
+      (λ t. let y = leb-true k (n * 65536 - o) t in rw (t, lt-ltb (o + k) (2 ^ 64) (omega arith), le-leb (o + k) (n * 65536) (omega arith)))
+      (λ t. let y = leb-false k (n * 65536 - o) t in rw t (simp (lt-leb (o + k) (n * 65536) (omega arith), and-no))))
+
+-- ---- report
+module _ (n : ℕ) (b : List ℕ) where
+  pub figures-below : (a : Arena) → recordFair n b ≡ true → a ≡ recordOf b → a .frontier ≤ n
+  figures-below a t e = let z = fair-record n b t in let y : a .frontier ≡ recordOf b .frontier = ap (λ x. x .frontier) e in let x = z .frontier in omega arith
+
+  pub figures-are : (a : Arena) (d : ℕ) → a ≡ recordOf b → d ≡ get b (arena held)
+      → record { commits = a .commits; reuses = a .reuses; abandoned = a .abandoned; held = d; idle = a .total + (n - a .frontier) } ≡ figures n b
+  unfolding loadArena loadStore
+  figures-are a d e f = rw (e, f)
+
+  pub told : (t : Bool) (r : Figures) → t ≡ recordFair n b → t ≡ true → r ≡ figures n b → Told r ≡ reportOf n b
+  unfolding reportOf
+  told t r e v f = rw (← e, v, f)
+
+  pub untold : (t : Bool) → t ≡ recordFair n b → t ≡ false → Report.Refused 13 ≡ reportOf n b
+  unfolding reportOf
+  untold t e v = rw (← e, v)
+
+-- ---- what number 12's test says
+pub direct-inside : (n : ℕ) (b : List ℕ) (q m : ℕ) (t : Bool) → t ≡ heldDirect n b q m → t ≡ true → q + m ≤ n
+unfolding heldDirect
+direct-inside n b q m t e v = leb-true (q + m) n (and-left _ _ (sym e ∙ v))
+
+module _ (n : ℕ) (b : List ℕ) (q m : ℕ) (t : Bool) (k : BookIn b n) (e : t ≡ heldDirect n b q m) (v : t ≡ true) where
+  pub direct-first : Fits w32 q
+  direct-first = record { fits = let z = direct-inside n b q m t e v in let y = k .small in omega arith }
+
+  pub direct-pages : Fits w32 m
+  direct-pages = record { fits = let z = direct-inside n b q m t e v in let y = k .small in omega arith }
+
+  pub direct-end : Fits w64 (q + m)
+  direct-end = record { fits = let z = direct-inside n b q m t e v in let y = k .small in omega arith }
+
+  pub direct-near : Fits w32 (q + m)
+  direct-near = record { fits = let z = direct-inside n b q m t e v in let y = k .small in omega arith }
+
+-- ---- release
+module _ (n : ℕ) (b : List ℕ) (q m : ℕ) where
+  pub give-in : (t : Bool) → BookIn b n → q + m ≤ n → t ≡ giveFair n b m → t ≡ true → GiveIn b n q m
+  give-in t k l e v = record { long = k .long; small = k .small; inside = l; fair = sym e ∙ v }
+
+  pub released : (t : Bool) (x : List ℕ) → t ≡ giveFair n b m → t ≡ true → x ≡ given b q m → Releases 0 x (heldRelease n b q m)
+  unfolding heldRelease
+  released t x e v f = rw (← e, v) (record { code = refl; book = f })
+
+  pub released-not : (t : Bool) → t ≡ giveFair n b m → t ≡ false → Releases 13 b (heldRelease n b q m)
+  unfolding heldRelease
+  released-not t e v = rw (← e, v) (record { code = refl; book = refl })
+
+  pub release-bad : (t : Bool) → t ≡ badRun m → t ≡ true → Releases 6 b (releaseCall n b q m)
+  unfolding releaseCall
+  release-bad t e v = rw (← e, v) (record { code = refl; book = refl })
+
+  pub release-not : (t u : Bool) → t ≡ badRun m → t ≡ false → u ≡ heldDirect n b q m → u ≡ false → Releases 12 b (releaseCall n b q m)
+  unfolding releaseCall
+  release-not t u e v f w = rw (← e, v, ← f, w) (record { code = refl; book = refl })
+
+  pub release-held : (t u : Bool) (r : ℕ) (x : List ℕ) → t ≡ badRun m → t ≡ false → u ≡ heldDirect n b q m → u ≡ true → Releases r x (heldRelease n b q m) → Releases r x (releaseCall n b q m)
+  unfolding releaseCall heldRelease
+  release-held t u r x e v f w k = rw (← e, v, ← f, w) k
+
+-- ---- growth
+module _ (n : ℕ) (b : List ℕ) (h e m : ℕ) where
+  grow-as : (c : ℕ) (r : Option ℕ) (f : Bool) → growCommit (answerOf c r f) ≡ grownAs c (isSome r)
+  grow-as zero none f = refl
+  grow-as zero (some q) f = refl
+  grow-as (suc c) r f = refl
+
+  pub grows-held : (a : Arena) (d : ℕ) (c : Commit) (r : Grow) (x : List ℕ) → a ≡ recordOf b → d ≡ get b (arena held) → Answers c x (growWith n b a h e m (ownerCode direct) d) → r ≡ growCommit c → Grows r x (growActs n b h e m (ownerCode direct))
+  unfolding growActs
+  grows-held a d c r x f g k s =
+      let o = growWith n b a h e m (ownerCode direct) d in
+      rw (← f, ← g) (record { answer = s ∙ ap growCommit (k .answer) ∙ grow-as (o .code) (o .run) (o .fresh); book = k .book })
+
+  pub grows-fair : (t : Bool) (r : Grow) (x : List ℕ) → t ≡ recordFair n b → t ≡ true → Grows r x (growActs n b h e m (ownerCode direct)) → Grows r x (fairGrow n b h e m)
+  unfolding fairGrow
+  grows-fair t r x f v k = rw (← f, v) k
+
+  pub grows-unfair : (t : Bool) → t ≡ recordFair n b → t ≡ false → Grows (Grow.Refused 13) b (fairGrow n b h e m)
+  unfolding fairGrow
+  grows-unfair t f v = rw (← f, v) (record { answer = refl; book = refl })
+
+  grow-code : growActs n b h e m (ownerCode direct) .code ≡ 0
+  unfolding growActs growWith fromFrontier endNone settle endRun endGiven
+  grow-code =
+      by-cases (eqb (recordOf b .frontier) e)
+      (λ t. by-cases (leb (recordOf b .frontier + m) n)
+      (λ u. by-cases (commitGranted h) (λ v. rw (t, u, v)) (λ v. rw (t, u, v)))
+      (λ u. rw (t, u)))
+      (λ t. rw t)
+
+module _ (n : ℕ) (b : List ℕ) (h q old new : ℕ) where
+  pub grow-bad : (t : Bool) → t ≡ badGrowth old new → t ≡ true → Grew (Grow.Refused 6) b (growCall n b h q old new)
+  unfolding growCall
+  grow-bad t e v = rw (← e, v) (record { answer = refl; book = refl })
+
+  pub grow-not : (t u : Bool) → t ≡ badGrowth old new → t ≡ false → u ≡ heldDirect n b q old → u ≡ false → Grew (Grow.Refused 12) b (growCall n b h q old new)
+  unfolding growCall
+  grow-not t u e v f w = rw (← e, v, ← f, w) (record { answer = refl; book = refl })
+
+  pub grow-held : (t u : Bool) (m : ℕ) (r : Grow) (x : List ℕ) → BookIn b n → t ≡ badGrowth old new → t ≡ false → u ≡ heldDirect n b q old → u ≡ true → m ≡ clamped (new - old)
+      → Grows r x (fairGrow n b h (q + old) m) → Grew r x (growCall n b h q old new)
+  unfolding growCall fairGrow
+  grow-held t u m r x k e v f w g y =
+      by-cases (recordFair n b)
+      (λ z. let i = rw (z, g, clamp-grow n b (k .small) h (q + old) (ownerCode direct) (new - old)) at y in
+      let j = grow-acts n b (le-leb _ _ (k .long)) (fair-record n b z) h (new - old) (q + old) in
+      rw (← e, v, ← f, w, z) (record { answer = i .answer ∙ rw (grow-code n b h (q + old) (new - old), j .yes); book = i .book ∙ sym (j .book) }))
+      (λ z. let i = rw z at y in
+      rw (← e, v, ← f, w, z) (record { answer = i .answer; book = i .book }))
+
+-- ---- a commit
+module _ (n : ℕ) (b : List ℕ) (h m : ℕ) where
+  pub commit-bad : (t : Bool) → t ≡ badRun m → t ≡ true → Answers (Refused 6) b (commitCall n b h m)
+  unfolding commitCall
+  commit-bad t e v = rw (← e, v) (record { answer = refl; book = refl })
+
+  pub commit-goes : (t : Bool) (r : ℕ) (s : Commit) (x : List ℕ) → BookIn b n → t ≡ badRun m → t ≡ false → r ≡ clamped m → Answers s x (commitFor n b h r (ownerCode direct)) → Answers s x (commitCall n b h m)
+  unfolding commitCall
+  commit-goes t r s x k e v f a =
+      rw (← e, v) (rw (f, clamp-commit n b (le-leb _ _ (k .long)) (k .small) h (ownerCode direct) m) at a)

@@ -1,0 +1,1 @@
+// Facts on tests and lists that every layer uses. There is no code here.

@@ -1,0 +1,111 @@
+-- The functions that lend `plan_in` a local array of holes differ in its size: their MIR as a function of the size, and its walk by hand. The array is filled, laid out as a row of elements (`Laid.antt`), and lent
+-- as a `&mut [Hole]` for a lifetime that the walk makes and ends; what `plan_in` leaves in it is let go.
+--     planFn      the MIR at n holes, where the operand x says n
+--     walk        its walk, to any Post that what is left at the end gives
+use Rattle.holes.proofs.Walk.{_≡_, refl, sym, subst, _∙_, ℕ, _*_, _<_, _≤_, _^_, List, [], _∷_, length, URA, fullShare, named, erased, imm, mut, w32, w64, tyInt, tyArray, tyRef, Val, vint, SProp, ent, id⊢, GName, Lft, Share, Fml, ftrue, fat, flft, flent, Memory, Routine, Heap, Env, WpFn, Tables, Atoms, Fun, Given, Item, ‵, raw, _⊛_, ⋆, some, later, _$_, _∵_, !, qed, by, move, drop, use1, use2, use3, split, join, pick, rewrite, fsplit, fjoin, feqI, feqL, await, agg, look, init, forget, stop, from, load, lit, addr, and-then, no-more, assigns, land, returns, enter, alloc1, alloc0, params1, pass1, pass0, free1, free0, Arr, cells, arr-parts, lft-new, lft-end, fmOf, RattleType, owns, Is, Lawful, shows, pointee, mem, shares, Array, array-lawful, u32, row, whole-in, whole-out, Held, lends-slice, slice-back, RefT, now, sliceTy, sliceVal, ShrSlice, MutSlice, Room, shr-slice-lawful, shr-slice-copy, owned, peeks, Meets, arg, holds, asks-both, calls, number, aHole, aPlan, anArena, lentAt, machine, Lent}
+use types.Kit.{Go}
+use types.Run.{Opd}
+use mir.Syntax.{Opd as Operand, Fn, local, valueLocal, memorySlot, place, copy, int, aggregate, repeat, addrOf, seq, assign, call, return}
+use denote.Struct.Laws as LL
+use Rattle.fields.specs.Field.{hole, start, word}
+use Rattle.arena.specs.Load.{loadHoles}
+use Rattle.holes.specs.Plan.{planOf}
+use Rattle.holes.specs.Scan.{noHole}
+use Rattle.holes.proofs.Filled.{filled, copies, copies-length, fills, filled-own}
+use Rattle.holes.proofs.Laid.{laid, lifted}
+use Rattle.model.specs.declared.Hole.{Hole}
+use Rattle.holes.specs.declared.Plan.{Plan}
+use Rattle.holes.specs.declared.Arena.{Arena}
+use Rattle.model.proofs.Hole as T
+use Rattle.holes.proofs.Plan as P
+use Rattle.holes.proofs.Arena as S
+use Rattle.holes.proofs.plans.plan_in
+use lib.Dec.{lit<}
+
+abbrev R : RattleType
+R = T.the-row
+
+abbrev pub planFn : ℕ → Operand → Fn
+planFn n x = record {
+  lifetimes = 1;
+  outlives = [];
+  params = 4;
+  locals = local P.Laws.mir valueLocal ∷ local (sliceTy (tyRef (named 0) imm (pointee (u32 .written)))) valueLocal ∷ local S.Laws.mir valueLocal ∷ local (tyInt w32) valueLocal ∷ local (tyInt w32) valueLocal
+      ∷ local (tyArray T.Laws.mir n) memorySlot ∷ local T.Laws.mir valueLocal ∷ local (tyRef erased mut (tyArray (pointee (R .written)) n)) valueLocal ∷ local (sliceTy (tyRef erased mut (pointee (R .written)))) valueLocal ∷ [];
+  body = seq (assign (place 6 []) (aggregate (int w32 0 ∷ int w32 0 ∷ []))) (seq (assign (place 5 []) (repeat (copy (place 6 [])) n)) (seq (assign (place 7 []) (addrOf (place 5 [])))
+      (seq (assign (place 8 []) (aggregate (copy (place 7 []) ∷ x ∷ [])))
+      (seq (call plan_in.Symbol.name (copy (place 1 []) ∷ copy (place 8 []) ∷ copy (place 2 []) ∷ copy (place 3 []) ∷ copy (place 4 []) ∷ []) (place 0 [])) return))));
+}
+
+none-is : Is R noHole (aHole .low noHole ∷ [])
+none-is = LL.owes T.the-type T.Laws.the-laws noHole ((refl, lit< tt), ((refl, lit< tt), tt))
+
+-- what the functions answer
+abbrev pub Planned : List ℕ → Arena → ℕ → ℕ → Plan → Type 0
+Planned b a pages code r = r ≡ planOf (loadHoles b 0 (a .count)) (a .total) (a .frontier) pages code
+
+abbrev pub Rest : Arena → ℕ → ℕ → Fml
+Rest a pages code = owns (S.the-row ∷ u32 ∷ u32 ∷ []) (a, (pages, (code, tt))) (anArena .low a ∷ [], (vint w32 pages ∷ [], (vint w32 code ∷ [], tt)))
+
+module _ {M : Type 1} (𝓤 : URA M) (H : Heap 𝓤) (A : Atoms 𝓤) (W : Given 𝓤 H A) (at-mem : Memory → SProp 𝓤) (run : Routine → Fun 𝓤) (𝓣 : Tables 𝓤 H)
+    (known-plan-in : Meets 𝓤 H A plan_in.signature (𝓣 .C plan_in.Symbol.name) (plan_in.spec 𝓤 H A at-mem run))
+    (n : ℕ) (x : Operand) (reads : (Γ : List (Item 𝓤)) (E : Env 𝓤 H) → Opd (Go {0}) W Γ E x (vint w64 n)) (some-holes : 0 < n) (n-fits : n < 2 ^ 64) (bytes-fit : n * 8 < 2 ^ 63)
+    (κ : Lft) (q : Share) (m : RefT (List ℕ)) (a : Arena) (pages code : ℕ) (a-is : Is S.the-row a (anArena .low a ∷ [])) (pages-fits : pages < 2 ^ 32) (code-fits : code < 2 ^ 32) (pre : (a .count ≤ n) × (word (hole start (a .count)) ≤ length (now m)))
+    (Post : Val → SProp 𝓤) (exits : (r : Plan) → Is P.the-row r (aPlan .low r ∷ []) → Planned (now m) a pages code r → ent 𝓤 (⋆ 𝓤 H A (‵ (Lent κ u32 m) ∷ (‵ (flft κ q) ⊛ ‵ ftrue) ∷ ‵ (Rest a pages code) ∷ [])) (Post (aPlan .low r))) where
+  -- the array's list and machine value at first
+  abbrev hs : List Hole
+  hs = copies n noHole
+
+  abbrev low : Val
+  low = filled n (aHole .low noHole)
+
+  len : length hs ≡ n
+  len = copies-length n noHole
+
+  room : Room R (length hs)
+  room = (subst (λ (k : ℕ). k < 2 ^ 64) (sym len) n-fits, subst (λ (k : ℕ). k * 8 < 2 ^ 63) (sym len) bytes-fit)
+
+  fit : (0 < length hs) × (a .count ≤ length hs) × (word (hole start (a .count)) ≤ length (now m))
+  fit = (subst (λ (k : ℕ). 0 < k) (sym len) some-holes, subst (λ (k : ℕ). a .count ≤ k) (sym len) (pre .0), pre .1)
+
+  array-is : Lawful 𝓤 H A (Array R n)
+  array-is = array-lawful 𝓤 H A W R (aHole .lawful 𝓤 H A W) n
+
+  pub walk : Is (ShrSlice (named 0) κ u32) m (machine m ∷ [])
+      → ent 𝓤 (⋆ 𝓤 H A ((‵ (flft κ q) ⊛ ‵ ftrue) ∷ ‵ (owns (ShrSlice (named 0) κ u32 ∷ S.the-row ∷ u32 ∷ u32 ∷ []) (m, (a, (pages, (code, tt)))) (machine m ∷ [], (anArena .low a ∷ [], (vint w32 pages ∷ [], (vint w32 code ∷ [], tt))))) ∷ []))
+      (WpFn 𝓤 H (𝓣 .C) (𝓣 .Λ) (planFn n x) (machine m ∷ anArena .low a ∷ vint w32 pages ∷ vint w32 code ∷ []) Post)
+  walk shared =
+      qed W ((‵ (flft κ q) ⊛ ‵ ftrue) ∷ ‵ (owns (ShrSlice (named 0) κ u32 ∷ S.the-row ∷ u32 ∷ u32 ∷ []) (m, (a, (pages, (code, tt)))) (machine m ∷ [], (anArena .low a ∷ [], (vint w32 pages ∷ [], (vint w32 code ∷ [], tt))))) ∷ []) ∵
+      enter ! (𝓣 .C) (𝓣 .Λ) (planFn n x) (machine m ∷ anArena .low a ∷ vint w32 pages ∷ vint w32 code ∷ []) _ $
+      alloc1 ! (λ l₀. alloc1 ! (λ l₁. alloc1 ! (λ l₂. alloc1 ! (λ l₃. alloc1 ! (λ l₄. alloc1 ! (λ l₅. alloc1 ! (λ l₆. alloc1 ! (λ l₇. alloc1 ! (λ l₈. alloc0 ! $ params1 ! $
+      pass1 ! (init ! 14 refl (shr-slice-lawful 𝓤 H A W (named 0) κ u32 .typed m (machine m ∷ []) shared .0)) $ pass1 ! (init ! 12 refl (anArena .lawful 𝓤 H A W .typed a _ a-is .0)) $
+      pass1 ! (init ! 10 refl (tt, record { fits = pages-fits })) $ pass1 ! (init ! 8 refl (tt, record { fits = code-fits })) $ pass0 ! $
+      move ! (19 ∷ []) $ fsplit ! $ move ! (0 ∷ 20 ∷ 1 ∷ []) $
+      -- [what the words own; the token; the rest; _8; …; _7; …; _6; …; _5; …; _4; …; _3; …; _2; …; _1; …; room for _0; …]: the array is filled
+      assigns ! (agg ! (and-then ! (lit ! tt) (and-then ! (lit ! tt) (no-more !)))) (from ! (stop !)) (init ! 7 refl (aHole .lawful 𝓤 H A W .typed noHole _ none-is .0)) $
+      owned ! R (Is R) (aHole .makes 𝓤 H A W) noHole _ none-is $ use1 W (‵ (Array R n .own hs (low ∷ []))) (filled-own 𝓤 H A W R (LL.copy T.the-type T.Laws.the-copy 𝓤 H A W) n noHole (aHole .low noHole)) $
+      peeks ! (Array R n) (Is (Array R n)) (shows 𝓤 H A (Array R n)) hs (low ∷ []) (λ hs-is.
+      assigns ! (fills ! n (load ! (from ! (stop !)) (look ! 8 refl))) (from ! (stop !)) (init ! 10 refl (array-is .typed hs _ hs-is .0)) $
+      assigns ! (addr ! (from ! (stop !))) (from ! (stop !)) (init ! 6 refl (tt, tt)) $
+      assigns ! (agg ! (and-then ! (load ! (from ! (stop !)) (look ! 6 refl)) (and-then ! (reads _ _) (no-more !)))) (from ! (stop !)) (init ! 4 refl (tt, (tt, (record { fits = n-fits }, tt)))) $
+      rewrite ! 4 (λ (k : ℕ). ‵ (fat fullShare (sliceTy (tyRef erased mut (pointee (R .written)))) l₈ 0 (sliceVal (l₅, 0) k))) (sym len) refl $
+      -- it is laid out as a row, and lent
+      move ! (10 ∷ 0 ∷ []) $ use2 W (‵ (arr-parts (shares R) n .part fullShare hs l₅ 0)) (laid 𝓤 H A W R tt n (tyArray T.Laws.mir n) refl hs l₅ low) $ fsplit ! $ drop ! $ use1 W (‵ (cells (mem R) hs l₅ 0)) (whole-in 𝓤 H A W R hs l₅ 0) $
+      lft-new ! tt (λ ν. move ! (1 ∷ []) $ use1 W (later (some (λ (γ : GName). ‵ (MutSlice (named 1) (ν ∷ []) R .own (lentAt l₅ 0 γ hs) (sliceVal (l₅, 0) (length hs) ∷ [])) ⊛ ‵ (flent (ν ∷ []) (Held R (length hs) l₅ 0 γ)))))
+      (lends-slice 𝓤 H A W R (named 1) (ν ∷ []) hs l₅ 0 room) $ await ! tt $ pick ! (λ γ. split ! $
+      move ! (3 ∷ []) $ use1 W (‵ (Lent κ u32 m) ⊛ ‵ (Lent κ u32 m)) (shr-slice-copy 𝓤 H A W (named 0) κ u32 .twice m (machine m ∷ [])) $ split ! $ move ! (1 ∷ 5 ∷ []) $ join ! $ move ! (2 ∷ 4 ∷ []) $ join ! $
+      use2 W (raw _) (asks-both W (arg W anArena a a-is ∷ arg W (number w32) pages (refl, pages-fits) ∷ arg W (number w32) code (refl, code-fits) ∷ []) (holds W fit) (Lent κ u32 m) κ q (MutSlice (named 1) (ν ∷ []) R .own (lentAt l₅ 0 γ hs) (sliceVal (l₅, 0) (length hs) ∷ [])) (ν ∷ []) fullShare) $
+      -- [what the call asks; what the slice owns; the lender's part; the rest; _8; …; _7; …; _6; …; …; _4; …; _3; …; _2; …; _1; …; _0; …]
+      calls ! (fmOf 𝓤 H (W .laws) 𝓣) plan_in.ended (plan_in.clauses 𝓤 H A at-mem run) known-plan-in (((κ, (ν ∷ [], tt)), (q, (fullShare, tt)), tt, (m, (lentAt l₅ 0 γ hs, (a, (pages, (code, tt))))), (machine m ∷ [], (sliceVal (l₅, 0) (length hs) ∷ [], (anArena .low a ∷ [], (vint w32 pages ∷ [], (vint w32 code ∷ [], tt)))))), tt)
+      aPlan (λ r ws. Planned (now m) a pages code r) (λ r ws. id⊢ 𝓤 _) (and-then ! (load ! (from ! (stop !)) (look ! 17 refl)) (and-then ! (load ! (from ! (stop !)) (look ! 4 refl)) (and-then ! (load ! (from ! (stop !)) (look ! 15 refl)) (and-then ! (load ! (from ! (stop !)) (look ! 13 refl)) (and-then ! (load ! (from ! (stop !)) (look ! 11 refl)) (no-more !)))))) (λ r ws is e.
+      move ! (1 ∷ []) $ fsplit ! $ move ! (1 ∷ []) $ fsplit ! $ fsplit ! $ move ! (1 ∷ []) $ feqL ! (λ long. move ! (3 ∷ []) $
+      -- [the tokens; what says the last list; true; true; what the words own; the lender's part; the rest; _8; …; _7; …; _6; …; …; _4; …; _3; …; _2; …; _1; …; _0; …]
+      land ! (from ! (stop !)) (init ! 22 refl (aPlan .lawful 𝓤 H A W .typed r _ is .0)) $
+      -- the lifetime is ended, and the local is one value again
+      split ! $ move ! (1 ∷ []) $ split ! $ move ! (2 ∷ 1 ∷ []) $ join ! $ move ! (1 ∷ []) $ lft-end ! tt $
+      move ! (0 ∷ 6 ∷ 2 ∷ []) $ use3 W (later (‵ (Arr (mem R) (length hs) .lies (ws .1 .0) l₅ 0))) (slice-back 𝓤 H A W R (ν ∷ []) γ (ws .1 .0) (length hs) l₅ 0) $ await ! tt $
+      fsplit ! $ drop ! $ use1 W (‵ (row R fullShare (ws .1 .0) l₅ 0)) (whole-out 𝓤 H A W R (ws .1 .0) l₅ 0) $ feqI ! ℕ (length (ws .1 .0)) n (long ∙ len) $ fjoin ! $
+      use1 W (some (λ (u : Val). ‵ (fat fullShare (tyArray T.Laws.mir n) l₅ 0 u) ⊛ ‵ (Array R n .own (ws .1 .0) (u ∷ [])))) (lifted 𝓤 H A W R tt n (tyArray T.Laws.mir n) refl (ws .1 .0) l₅) $ pick ! (λ u. split ! $ move ! (1 ∷ []) $ drop ! $ move ! (2 ∷ []) $ drop ! $ move ! (2 ∷ []) $ drop ! $
+      returns ! (look ! 19 refl) $ forget ! 4 refl $ forget ! 6 refl $ forget ! 8 refl $ forget ! 0 refl $ forget ! 11 refl $ forget ! 13 refl $ forget ! 15 refl $ forget ! 17 refl $ forget ! 19 refl $
+      move ! (19 ∷ 20 ∷ []) $ free1 ! $ move ! (17 ∷ 18 ∷ []) $ free1 ! $ move ! (15 ∷ 16 ∷ []) $ free1 ! $ move ! (13 ∷ 14 ∷ []) $ free1 ! $ move ! (11 ∷ 12 ∷ []) $ free1 ! $ move ! (0 ∷ 10 ∷ []) $ free1 ! $ move ! (7 ∷ 8 ∷ []) $ free1 ! $ move ! (5 ∷ 6 ∷ []) $ free1 ! $ move ! (3 ∷ 4 ∷ []) $ free1 ! $ free0 ! $
+      move ! (1 ∷ 0 ∷ 2 ∷ []) $ by ! (exits r is e))))))))))))))))

@@ -1,0 +1,55 @@
+// Number 13 on a page's words and on a class's stores: each is in its range.
+ghost use mathlib.Core.Path.{_≡_};
+ghost use Rattle.pages.specs.Fair.{headerFair, linksFair, storeFair};
+ghost use Rattle.pages.specs.Asks.{PageAsks, RowAsks};
+use crate::stores::store_count;
+use crate::stores::store_top;
+use classes::Shape;
+use pages::Park;
+
+// No store has more pages.
+const MAX_PARKED: u32 = 256;
+
+// A page's own words, of which m blocks or more are out.
+pub fn header_fair(meta: &[u32], shape: Shape, m: usize, q: u32) -> bool
+    requires { ⌜ PageAsks (now meta) q ⌝ }
+    ensures { λ r. ⌜ r ≡ headerFair (now (meta .entry)) shape m q ⌝ }
+{
+    let carved = fields::page::carved(meta, q);
+    if carved > shape.capacity {
+        return false;
+    }
+    let free = fields::page::free(meta, q);
+    if free > carved {
+        return false;
+    }
+    if m > (carved - free) as usize {
+        return false;
+    }
+    fields::page::virgin(meta, q) <= 1
+}
+
+// A page's links are read only where it is listed.
+pub fn links_fair(meta: &[u32], q: u32) -> bool
+    requires { ⌜ PageAsks (now meta) q ⌝ }
+    ensures { λ r. ⌜ r ≡ linksFair (now (meta .entry)) q ⌝ }
+{
+    if fields::page::listed(meta, q) != 1 {
+        return true;
+    }
+    let frontier = fields::arena::frontier(meta);
+    if fields::page::next(meta, q) > frontier {
+        return false;
+    }
+    fields::page::prev(meta, q) <= frontier
+}
+
+pub fn store_fair(meta: &[u32], c: u32, park: Park) -> bool
+    requires { ⌜ RowAsks (now meta) c ⌝ }
+    ensures { λ r. ⌜ r ≡ storeFair (now (meta .entry)) c park ⌝ }
+{
+    if store_top(meta, c, park) > fields::arena::frontier(meta) {
+        return false;
+    }
+    store_count(meta, c, park) <= MAX_PARKED
+}

@@ -1,0 +1,79 @@
+-- A run that the arena gave, before it is carved and after.
+--     new-names      every page of it names its first
+--     bare-listed    it is in no list
+--     bare-outs      no block of it is out
+use Prim.Native.Nat.{ℕ, zero, suc, _+_, _*_, _≤_, _<_}
+use native.Mathlib.Omega.{arith}
+use native.Mathlib.Decide.{ℕ-discrete}
+use mathlib.Core.Bool.{Bool, true, not, _&&_}
+use mathlib.Core.List.{List}
+use mathlib.Core.Path.{_≡_, refl, _∙_}
+use lib.Dec.{eqb, ltb, leb}
+use lib.ListN.{length}
+use borrow.Author.Tests.{lt-ltb, ne-eqb}
+use Rattle.classes.specs.declared.Shape.{Shape}
+use Rattle.fields.specs.Field.{Field, page, out, first, listed, region, off, get, put, words}
+use Rattle.fields.specs.Clear.{clearOut}
+use Rattle.fields.proofs.Laws.{get-put-same, get-put-other, length-put}
+use Rattle.fields.proofs.Changes.{changes-none}
+use Rattle.fields.proofs.Clear.{get-clear, length-clear, changes-clear}
+use Rattle.pages.specs.Runs.{nameRun}
+use Rattle.pages.specs.Carve.{outWords, bareRun, newRun}
+use Rattle.pages.proofs.Frames.{changes-name, changes-carve}
+
+name-before : (b : List ℕ) (f x m y : ℕ) → y < x → get (nameRun b f x m) (page first y) ≡ get b (page first y)
+unfolding nameRun
+name-before b f x zero y l = refl
+name-before b f x (suc m) y l =
+    name-before (put b (page first x) f) f (suc x) m y (omega arith) ∙ get-put-other b (page first x) (page first y) f refl refl (ne-eqb x y (λ e. omega arith))
+
+name-in : (n : ℕ) (b : List ℕ) → leb (words n) (length b) ≡ true → (f x m y : ℕ) → x + m ≤ n → x ≤ y → y < x + m → get (nameRun b f x m) (page first y) ≡ f
+unfolding nameRun
+name-in n b hb f x zero y h l u = absurd (omega arith)
+name-in n b hb f x (suc m) y h l u =
+    elim (ℕ-discrete y x) [
+      | yes e ↦ rw e (name-before (put b (page first x) f) f (suc x) m x (omega arith) ∙ get-put-same n b (page first x) f hb (lt-ltb x n (omega arith)) refl)
+      | no e ↦ name-in n (put b (page first x) f) (rw length-put hb) f (suc x) m y (omega arith) (omega (arith, e)) (omega arith)
+    ]
+
+module _ (b : List ℕ) (sh : Shape) (few : sh .capacity ≤ 4096) (q : ℕ) where
+  abbrev named : List ℕ
+  named = nameRun b q q (sh .pages)
+
+  abbrev cleared : List ℕ
+  cleared = clearOut named q 0 (32 * outWords sh)
+
+  bits : 0 + 32 * outWords sh ≤ 4096
+  bits = omega (arith, few)
+
+  named-long : length named ≡ length b
+  named-long = changes-name (λ g. true) b b q q (sh .pages) (λ y l u. refl) (changes-none (λ g. true) b) .long
+
+  cleared-long : length cleared ≡ length b
+  cleared-long = length-clear (32 * outWords sh) q 0 named ∙ named-long
+
+  pub bare-long : length (bareRun b sh q) ≡ length b
+  unfolding bareRun
+  bare-long = length-put cleared (page listed q) 0 ∙ cleared-long
+
+  module _ (n : ℕ) (hb : leb (words n) (length b) ≡ true) where
+    -- what comes after the naming leaves FIRST alone
+    pub new-names : q + sh .pages ≤ n → (y : ℕ) → q ≤ y → y < q + sh .pages → get (newRun b sh q) (page first y) ≡ q
+    unfolding newRun bareRun
+    new-names inside y l u =
+        let t : Field → Bool = λ g. not (eqb (region g) 4 && eqb (off g) 1) in
+        changes-carve t (bareRun b sh q) q refl refl (λ i. refl) sh true refl few .kept (page first y) refl refl
+        ∙ get-put-other cleared (page listed q) (page first y) 0 refl refl refl
+        ∙ changes-clear t named (32 * outWords sh) q 0 named bits (λ j v w. refl) (changes-none t named) .kept (page first y) refl refl
+        ∙ name-in n b hb q q (sh .pages) y inside l u
+
+    module _ (hq : ltb q n ≡ true) where
+      pub bare-listed : get (bareRun b sh q) (page listed q) ≡ 0
+      unfolding bareRun
+      bare-listed = get-put-same n cleared (page listed q) 0 (rw cleared-long hb) hq refl
+
+      pub bare-outs : (i : ℕ) → i < sh .capacity → get (bareRun b sh q) (out q i) ≡ 0
+      unfolding bareRun
+      bare-outs i l =
+          get-put-other cleared (page listed q) (out q i) 0 refl (lt-ltb i 4096 (omega (arith, few))) refl
+          ∙ get-clear n q hq (32 * outWords sh) 0 i named (rw named-long hb) bits (omega arith) (omega (arith, few))

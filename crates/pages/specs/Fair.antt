@@ -1,0 +1,24 @@
+-- Number 13 on a page's words and on a class's stores: each is in its range (docs/RANGES.md).
+--     headerFair    CARVED, FREE and VIRGIN of page q, which has m blocks out or more
+--     linksFair     NEXT and PREV, which are read only where the page is listed
+--     storeFair     a store's newest page and its count
+use Prim.Native.Nat.{ℕ, _+_}
+use mathlib.Core.Bool.{Bool, true, cond, _&&_}
+use mathlib.Core.List.{List}
+use lib.Dec.{eqb, leb}
+use Rattle.classes.specs.declared.Shape.{Shape}
+use Rattle.fields.specs.Field.{arena, class, page, frontier, next, prev, free, carved, listed, virgin, get}
+use Rattle.fields.specs.Ranges.{maxParked}
+use Rattle.pages.specs.declared.Park.{Park}
+use Rattle.pages.specs.Links.{top, stored}
+
+unfoldable pub headerFair : List ℕ → Shape → ℕ → ℕ → Bool
+headerFair b sh m q =
+    leb (get b (page carved q)) (sh .capacity)
+    && (leb (get b (page free q) + m) (get b (page carved q)) && leb (get b (page virgin q)) 1)
+
+abbrev pub linksFair : List ℕ → ℕ → Bool
+linksFair b q = cond (eqb (get b (page listed q)) 1) (leb (get b (page next q)) (get b (arena frontier)) && leb (get b (page prev q)) (get b (arena frontier))) true
+
+abbrev pub storeFair : List ℕ → ℕ → Park → Bool
+storeFair b c k = leb (get b (class (top k) c)) (get b (arena frontier)) && leb (get b (class (stored k) c)) maxParked

@@ -1,0 +1,212 @@
+-- The listed blocks come back to their page, and the arena is the last step.
+use Prim.Native.Nat.{ℕ, _+_, _≤_, _<_}
+use native.Mathlib.Omega.{arith}
+use mathlib.Core.Bool.{Bool, true, false, cond, not, _&&_, _||_}
+use mathlib.Core.List.{List, map}
+use mathlib.Core.Path.{_≡_, refl, sym, ap, _∙_}
+use lib.Dec.{eqb, leb}
+use lib.ListN.{length, length-map}
+use borrow.Author.Tests.{leb-true, eqb-true, le-leb, lt-ltb, eq-eqb, ne-eqb}
+use Rattle.facts.proofs.Bools.{and-left, and-right}
+use Rattle.classes.specs.declared.Shape.{Shape}
+use Rattle.classes.specs.Sound.{Sound}
+use Rattle.fields.specs.Field.{Field, ArenaField, arena, class, page, region, off, frontier, state, holes, holePages, held, partial, empty, emptyCount, cold, coldCount, next, prev, free, carved, listed, virgin, get, put, words}
+use Rattle.fields.proofs.Laws.{get-put-same, length-put}
+use Rattle.fields.proofs.Changes.{Changes}
+use Rattle.model.specs.declared.Spot.{Spot}
+use Rattle.model.specs.declared.Spot.the-variants.{ToEmpty, ToCold, ToArena}
+use Rattle.model.specs.Spot.{isArena}
+use Rattle.arena.specs.Fair.{recordFair, giveFair}
+use Rattle.arena.specs.Calls.{given}
+use Rattle.runs.specs.Asks.{GiveIn}
+use Rattle.pages.specs.declared.Park.the-variants.{Empty, Cold}
+use Rattle.pages.specs.Asks.{LinkAsks, PushAsks}
+use Rattle.pages.specs.Links.{stow}
+use Rattle.pages.specs.Stack.{push, pushed, indexOf}
+use Rattle.pages.specs.Carve.{carveAnew}
+use Rattle.pages.proofs.Pushes.{length-push}
+use Rattle.pages.proofs.Frames.{changes-stow, changes-pushed}
+use Rattle.calls.specs.Release.{pageFair, rowFair, relisted, released, unlisted, parkCold, parkedIn, spotAt, parkAt, spotFair, releaseFair, lastStep}
+use Rattle.pages.specs.Fair.{linksFair}
+use Rattle.release.specs.Act.{settleAt, coldVirgin, ParkingAsks, BackAsks, SettleAsks, Parked}
+use Rattle.release.proofs.Spots.{arena-alone}
+use Rattle.release.proofs.FairSteps.{page-room, page-carved, links-fair, head-low}
+use Rattle.release.proofs.ParkSteps.{unlisted-changes, relisted-changes, carve-changes}
+
+-- ---- the page with its blocks back: of the words that are tested, only FREE and VIRGIN are other ones
+abbrev onStack : Field → Bool
+onStack f = eqb (region f) 6 || (eqb (region f) 4 && (eqb (off f) 4 || eqb (off f) 7))
+
+module _ (b : List ℕ) (q : ℕ) (is : List ℕ) (l : get b (page free q) + length is ≤ 4096) where
+  push-changes : Changes onStack b (pushed b q is)
+  push-changes = changes-pushed onStack b q refl refl (λ i. refl) is l
+
+  links-kept : linksFair (pushed b q is) q ≡ linksFair b q
+  links-kept =
+      let k = push-changes .kept in
+      rw (k (page listed q) refl refl, k (page next q) refl refl, k (page prev q) refl refl, k (arena frontier) refl refl)
+
+  pub free-now : words (q + 1) ≤ length b → get (pushed b q is) (page free q) ≡ get b (page free q) + length is
+  unfolding pushed
+  free-now h =
+      let b₁ = push b q (get b (page free q)) is in
+      let g : leb (words (q + 1)) (length (put b₁ (page virgin q) 0)) ≡ true = rw (length-put b₁ (page virgin q) 0, length-push b q (get b (page free q)) is) (le-leb (words (q + 1)) (length b) h) in
+      get-put-same (q + 1) (put b₁ (page virgin q) 0) (page free q) _ g (lt-ltb q (q + 1) (omega arith)) refl
+
+  module _ (c : ℕ) (hc : c < 76) where
+    row-kept : rowFair (pushed b q is) c ≡ rowFair b c
+    unfolding rowFair
+    row-kept =
+        let k = push-changes .kept in
+        let o = lt-ltb c 76 hc in
+        rw (k (class partial c) o refl, k (class empty c) o refl, k (class emptyCount c) o refl, k (class cold c) o refl, k (class coldCount c) o refl, k (arena frontier) refl refl)
+
+    spot-kept : (sh : Shape) → spotAt (pushed b q is) c sh ≡ spotAt b c sh
+    spot-kept sh =
+        let k = push-changes .kept in
+        let o = lt-ltb c 76 hc in
+        rw (k (class emptyCount c) o refl, k (class coldCount c) o refl)
+
+module _ (b : List ℕ) (c : ℕ) (sh : Shape) (h q : ℕ) (ws : List ℕ) where
+  slots-left : BackAsks b c sh q ws → get b (page free q) + length (map (indexOf sh q) ws) ≤ 4096
+  slots-left a = rw (length-map ws (indexOf sh q)) (omega (arith, page-room b sh (length ws) q (a .page), page-carved b sh (length ws) q (a .page), a .sound .few))
+
+  pub push-asks : BackAsks b c sh q ws → PushAsks b sh q ws
+  push-asks a = record { sound = a .sound; below = a .below; there = a .there; slots = omega (arith, page-room b sh (length ws) q (a .page), page-carved b sh (length ws) q (a .page), a .sound .few) }
+
+  module _ (b′ : List ℕ) (e : b′ ≡ pushed b q (map (indexOf sh q) ws)) where
+    pub park-asks : BackAsks b c sh q ws → ParkingAsks b′ c sh q
+    park-asks a =
+        let is = map (indexOf sh q) ws in
+        let l = slots-left a in
+        let k = push-changes b q is l in
+        rw e (record {
+          known = a .known;
+          sound = a .sound;
+          below = a .below;
+          there = omega (arith, k .long, a .there);
+          low = rw (k .kept (arena frontier) refl refl) (omega (arith, k .long, a .low));
+          links = links-kept b q is l ∙ links-fair b sh (length ws) q (a .page);
+          row = row-kept b q is l c (a .known) ∙ a .row;
+        })
+
+    pub link-asks : BackAsks b c sh q ws → LinkAsks b′ c q
+    link-asks a =
+        let k = push-changes b q (map (indexOf sh q) ws) (slots-left a) in
+        rw e (record {
+          known = a .known;
+          below = a .below;
+          there = omega (arith, k .long, a .there);
+          head = rw (k .kept (class partial c) (lt-ltb c 76 (a .known)) refl) (omega (arith, k .long, a .low, head-low b c (a .row)));
+        })
+
+    module _ (x y : ℕ) (j : x ≡ get b′ (page carved q)) (k : y ≡ get b′ (page free q)) where
+      pub none-out : (r : ℕ) (b″ : List ℕ) → x ≡ y → Parked r b″ (parkAt b′ c sh h q) → Parked r b″ (settleAt b c sh h q (map (indexOf sh q) ws))
+      unfolding settleAt
+      none-out r b″ z p = rw (← e, ← j, ← k, eq-eqb x y z) p
+
+      pub some-out : (b″ : List ℕ) → (x ≡ y → ⊥) → b″ ≡ relisted b′ c q → Parked 0 b″ (settleAt b c sh h q (map (indexOf sh q) ws))
+      unfolding settleAt
+      some-out b″ z p = rw (← e, ← j, ← k, ne-eqb x y z) (record { fate = refl; left = p })
+
+-- ---- the arena's words are as they were until the last step
+abbrev notArena : Field → Bool
+notArena f = not (eqb (region f) 0)
+
+give-kept : (n m : ℕ) (b b′ : List ℕ) → ((k : ArenaField) → get b′ (arena k) ≡ get b (arena k)) → giveFair n b′ m ≡ giveFair n b m
+unfolding giveFair recordFair
+give-kept n m b b′ k = rw (k state, k frontier, k holes, k holePages, k held)
+
+module _ (c : ℕ) (sh : Shape) (h q : ℕ) (hc : c < 76) (s : Sound sh) (k : ArenaField) where
+  stow-kept : (b : List ℕ) → get (stow b c Empty q) (arena k) ≡ get b (arena k)
+  stow-kept b = changes-stow notArena b c q (lt-ltb c 76 hc) Empty refl refl refl .kept (arena k) refl refl
+
+  cold-kept : (b : List ℕ) → get (parkCold b c sh h q) (arena k) ≡ get b (arena k)
+  cold-kept b =
+      changes-stow notArena (carveAnew b sh q (coldVirgin sh h)) c q (lt-ltb c 76 hc) Cold refl refl refl .kept (arena k) refl refl
+      ∙ carve-changes b c sh h q (coldVirgin sh h) s .kept (arena k) refl refl
+
+  in-kept : (b : List ℕ) (t : Spot) → get (parkedIn b c sh h q t) (arena k) ≡ get b (arena k)
+  in-kept b ToEmpty = stow-kept b
+  in-kept b ToCold = cold-kept b
+  in-kept b ToArena = refl
+
+  park-kept : (b : List ℕ) → get (parkAt b c sh h q .book) (arena k) ≡ get b (arena k)
+  unfolding parkAt
+  park-kept b = in-kept (unlisted b c q) (spotAt b c sh) ∙ unlisted-changes b c q hc .kept (arena k) refl refl
+
+  settle-kept : (b is : List ℕ) → get b (page free q) + length is ≤ 4096 → get (settleAt b c sh h q is .book) (arena k) ≡ get b (arena k)
+  unfolding settleAt
+  settle-kept b is l = by (eqb (get (pushed b q is) (page carved q)) (get (pushed b q is) (page free q))) ∙ push-changes b q is l .kept (arena k) refl refl
+    where
+      by : (t : Bool) → get (cond t (parkAt (pushed b q is) c sh h q) (released (relisted (pushed b q is) c q) 0) .book) (arena k) ≡ get (pushed b q is) (arena k)
+      by true = park-kept (pushed b q is)
+      by false = relisted-changes (pushed b q is) c q hc .kept (arena k) refl refl
+
+-- ---- a run whose fate is the arena is one that number 13 was tested for
+module _ (n : ℕ) (b : List ℕ) (c : ℕ) (sh : Shape) (q m : ℕ) (e : releaseFair n b c sh m q ≡ true) where
+  pub fair-low : get b (arena frontier) ≤ n
+  unfolding releaseFair
+  fair-low = leb-true (get b (arena frontier)) n (and-left _ _ e)
+
+  fair-rest : (pageFair b sh m q && (rowFair b c && spotFair n b c sh m q)) ≡ true
+  unfolding releaseFair
+  fair-rest = and-right (leb (get b (arena frontier)) n) _ e
+
+  pub fair-page : pageFair b sh m q ≡ true
+  fair-page = and-left (pageFair b sh m q) _ fair-rest
+
+  pub fair-row : rowFair b c ≡ true
+  fair-row = and-left (rowFair b c) _ (and-right (pageFair b sh m q) _ fair-rest)
+
+  fair-spot : get b (page free q) + m ≡ get b (page carved q) → isArena (spotAt b c sh) ≡ true → giveFair n b (sh .pages) ≡ true
+  unfolding spotFair
+  fair-spot x y = rw (eq-eqb _ _ x, y) at (and-right (rowFair b c) _ (and-right (pageFair b sh m q) _ fair-rest))
+
+module _ (n : ℕ) (b : List ℕ) (c : ℕ) (sh : Shape) (h q : ℕ) (ws : List ℕ) where
+  pub back-asks : SettleAsks n b c sh q ws → BackAsks b c sh q ws
+  back-asks a =
+      let k = a .class in
+      let f = a .fair in
+      record {
+        known = k .known;
+        sound = k .sound;
+        below = omega (arith, a .inside, k .few, k .sound .paged);
+        there = omega (arith, a .inside, k .long, k .sound .paged);
+        low = omega (arith, k .long, fair-low n b c sh q (length ws) f);
+        page = fair-page n b c sh q (length ws) f;
+        row = fair-row n b c sh q (length ws) f;
+      }
+
+  gives-fair : SettleAsks n b c sh q ws → settleAt b c sh h q (map (indexOf sh q) ws) .fate ≡ 2 → giveFair n b (sh .pages) ≡ true
+  unfolding settleAt parkAt
+  gives-fair a e = by (pushed b q (map (indexOf sh q) ws)) refl _ refl e
+    where
+      by : (d : List ℕ) → d ≡ pushed b q (map (indexOf sh q) ws) → (t : Bool) → eqb (get d (page carved q)) (get d (page free q)) ≡ t
+          → cond t (parkAt d c sh h q) (released (relisted d c q) 0) .fate ≡ 2 → giveFair n b (sh .pages) ≡ true
+      by d z true x y =
+          let is = map (indexOf sh q) ws in
+          let l = slots-left b c sh h q ws (back-asks a) in
+          let u : get d (page free q) ≡ get b (page free q) + length is = rw z (free-now b q is l (back-asks a .there)) in
+          let v : get d (page carved q) ≡ get b (page carved q) = rw z (push-changes b q is l .kept (page carved q) refl refl) in
+          let s : spotAt d c sh ≡ spotAt b c sh = rw z (spot-kept b q is l c (a .class .known) sh) in
+          let g = arena-alone sh (spotAt d c sh) y in
+          fair-spot n b c sh q (length ws) (a .fair) (omega (arith, eqb-true (get d (page carved q)) (get d (page free q)) x, u, v, length-map ws (indexOf sh q))) (ap isArena (sym s) ∙ g)
+      by d z false x y = absurd (omega (arith, y))
+
+  module _ (r : ℕ) (b′ : List ℕ) (p : Parked r b′ (settleAt b c sh h q (map (indexOf sh q) ws))) where
+    pub give-asks : SettleAsks n b c sh q ws → r ≡ 2 → length b′ ≡ length b → GiveIn b′ n q (sh .pages)
+    give-asks a x k =
+        record {
+          long = omega (arith, a .class .long);
+          small = a .class .few;
+          inside = a .inside;
+          fair = rw (p .left) (give-kept n (sh .pages) b _ (λ j. settle-kept c sh h q (a .class .known) (a .class .sound) j b (map (indexOf sh q) ws) (slots-left b c sh h q ws (back-asks a))) ∙ gives-fair a (sym (p .fate) ∙ x));
+        }
+
+    pub given-away : (b″ : List ℕ) → r ≡ 2 → b″ ≡ given b′ q (sh .pages) → Parked r b″ (lastStep sh q (settleAt b c sh h q (map (indexOf sh q) ws)))
+    given-away b″ x e =
+        rw (eq-eqb (settleAt b c sh h q (map (indexOf sh q) ws) .fate) 2 (sym (p .fate) ∙ x)) (record { fate = p .fate; left = e ∙ ap (λ d. given d q (sh .pages)) (p .left) })
+
+    pub kept-here : (r ≡ 2 → ⊥) → Parked r b′ (lastStep sh q (settleAt b c sh h q (map (indexOf sh q) ws)))
+    kept-here x = rw (ne-eqb (settleAt b c sh h q (map (indexOf sh q) ws) .fate) 2 (λ e. x (p .fate ∙ e))) p

@@ -1,0 +1,96 @@
+-- The ways out of `run_of` and of the loop over the kinds.
+use Prim.Native.Nat.{ℕ, zero, suc, _+_, _-_, _≤_, _<_}
+use native.Mathlib.Omega.{arith}
+use native.Mathlib.Decide.{ℕ-discrete}
+use native.Mathlib.Numerals.{add-one}
+use mathlib.Core.Bool.{Bool, true, false, _&&_, and-true, and-false, and-assoc}
+use mathlib.Core.List.{List}
+use mathlib.Core.Path.{_≡_, refl, sym, ap, _∙_}
+use lib.Bits.{bitOr, bitXor, or-zero-l, or-add-and, xor-add-and, xor-self, and-le-l, and-le-r}
+use lib.Dec.{eqb}
+use lib.ListN.{length, getD, drop}
+use lib.Seq.{drop-cons}
+use borrow.Author.Tests.{le-leb, lt-leb, lt-ltb, le-ltb, eq-eqb, ne-eqb}
+use Rattle.facts.specs.Lists.{every}
+use Rattle.facts.proofs.Lists.{drop-past}
+use Rattle.words.specs.Word.{kindOf}
+use Rattle.classes.specs.declared.Shape.{Shape}
+use Rattle.fields.specs.Field.{arena, page, frontier, first, get}
+use Rattle.model.specs.Release.{ofKind}
+use Rattle.pages.specs.Runs.{whole}
+use Rattle.pages.specs.Stack.{pageAt}
+use Rattle.calls.specs.Release.{startOf, inRunOf}
+use Rattle.release.specs.declared.Found.the-variants.{At, Nothing}
+use Rattle.release.specs.Strike.{runAt}
+
+module _ (n : ℕ) (b : List ℕ) (c : ℕ) (sh : Shape) (w p : ℕ) (e : p ≡ pageAt w) where
+  none-in : inRunOf n b sh c w ≡ false → Nothing ≡ runAt n b sh c w
+  none-in h = rw h
+
+  pub past-arena : n ≤ p → Nothing ≡ runAt n b sh c w
+  unfolding inRunOf
+  past-arena h = none-in (rw (le-ltb (pageAt w) n (rw e at h)))
+
+  pub past-frontier : (f : ℕ) → f ≡ get b (arena frontier) → f ≤ p → Nothing ≡ runAt n b sh c w
+  unfolding inRunOf
+  past-frontier f k h = none-in (rw (← k) (simp (le-ltb (pageAt w) f (rw e at h), and-false)))
+
+  module _ (q : ℕ) (k : q ≡ get b (page first p)) where
+    starts-at : startOf b w ≡ q
+    unfolding startOf
+    starts-at = rw (← e) (sym k)
+
+    pub past-page : p < q → Nothing ≡ runAt n b sh c w
+    unfolding inRunOf
+    past-page h = none-in (rw starts-at (simp (lt-leb q (pageAt w) (rw e at h), and-false)))
+
+    pub past-run : q ≤ p → sh .pages ≤ p - q → Nothing ≡ runAt n b sh c w
+    unfolding inRunOf
+    past-run l h = none-in (rw starts-at (simp (le-ltb (pageAt w) (q + sh .pages) (omega arith), and-false)))
+
+    pub not-whole : (t : Bool) → t ≡ whole n b sh c q → t ≡ false → Nothing ≡ runAt n b sh c w
+    unfolding inRunOf
+    not-whole t x h = none-in (rw (starts-at, ← x, h) (simp and-false))
+
+    pub in-run : (f : ℕ) (t : Bool) → p < n → f ≡ get b (arena frontier) → p < f → q ≤ p → p - q < sh .pages → t ≡ whole n b sh c q → t ≡ true → At q ≡ runAt n b sh c w
+    unfolding inRunOf
+    in-run f t h₁ y h₂ h₃ h₄ x h =
+        rw (starts-at, ← y, ← x, h, lt-ltb (pageAt w) n (rw e at h₁), lt-ltb (pageAt w) f (rw e at h₂), le-leb q (pageAt w) (rw e at h₃), lt-ltb (pageAt w) (q + sh .pages) (omega arith))
+
+-- ---- lists
+
+-- ---- number 9
+or-none : (a d : ℕ) → eqb (bitOr a d) 0 ≡ (eqb a 0 && eqb d 0)
+or-none zero d = rw (or-zero-l d)
+or-none (suc a) d = ne-eqb (bitOr (suc a) d) 0 (λ z. omega (arith, or-add-and (suc a) d, and-le-r (suc a) d)) ∙ sym (rw (ne-eqb (suc a) 0 (λ z. omega arith)))
+
+xor-none : (a k : ℕ) → eqb (bitXor a k) 0 ≡ eqb a k
+xor-none a k =
+    elim (ℕ-discrete a k) [
+      | yes z ↦ rw (eq-eqb a k z) (eq-eqb (bitXor a k) 0 (rw z (xor-self k)))
+      | no z ↦ rw (ne-eqb a k z) (ne-eqb (bitXor a k) 0 (λ y. z (omega (arith, xor-add-and a k, and-le-l a k, and-le-r a k))))
+    ]
+
+pub kind-test : (v k w kind : ℕ) → v ≡ w → k ≡ kindOf v → eqb (bitXor k kind) 0 ≡ ofKind kind w
+unfolding ofKind
+kind-test v k w kind e h = xor-none k kind ∙ rw (h, e)
+
+-- d has the bits by which the kinds before place i differ
+pub record KindInv (k : ℕ) (ws : List ℕ) (d i : ℕ) : Type 0 where
+  pub within : i ≤ length ws
+  pub rest : (eqb d 0 && every (ofKind k) (drop i ws)) ≡ every (ofKind k) ws
+
+module _ (k : ℕ) (ws : List ℕ) where
+  pub kind-starts : KindInv k ws 0 0
+  kind-starts = record { within = omega arith; rest = refl }
+
+  pub kind-goes-on : (d i r : ℕ) → KindInv k ws d i → i < length ws → eqb r 0 ≡ ofKind k (getD ws i 0) → KindInv k ws (bitOr d r) (i + 1)
+  kind-goes-on d i r v l e =
+      let z : every (ofKind k) (drop i ws) ≡ (eqb r 0 && every (ofKind k) (drop (i + 1) ws)) = rw (add-one, e, drop-cons ws i 0 l) in
+      record {
+        within = omega arith;
+        rest = rw (or-none d r) (and-assoc (eqb d 0) (eqb r 0) _ ∙ ap (λ t. eqb d 0 && t) (sym z) ∙ v .rest);
+      }
+
+  pub kind-ends : (d i : ℕ) → KindInv k ws d i → length ws ≤ i → eqb d 0 ≡ every (ofKind k) ws
+  kind-ends d i v l = sym (and-true (eqb d 0)) ∙ (rw (drop-past ws i l) at (v .rest))

@@ -1,0 +1,48 @@
+-- What a spot tells: the store that it names has room, and its fate's number.
+--     empty-room, cold-room    the store is below its limit
+--     arena-alone, fate-low    only a run for the arena has the arena's fate, and no fate is above it
+use Prim.Native.Nat.{ℕ, _≤_, _<_}
+use native.Mathlib.Omega.{arith}
+use mathlib.Core.Bool.{Bool, true, false, cond}
+use mathlib.Core.Path.{_≡_, refl}
+use lib.Dec.{ltb}
+use borrow.Author.Tests.{ltb-true}
+use Rattle.facts.proofs.Bools.{and-left}
+use Rattle.classes.specs.declared.Shape.{Shape}
+use Rattle.model.specs.declared.Spot.{Spot}
+use Rattle.model.specs.declared.Spot.the-variants.{ToEmpty, ToCold, ToArena}
+use Rattle.model.specs.Page.{isMedium}
+use Rattle.model.specs.Spot.{keepsEmpty, spotOf, isEmpty, isCold, isArena, keptFate, arenaFate, fateOf}
+
+module _ (sh : Shape) (e k : ℕ) where
+  pub empty-room : isEmpty (spotOf sh e k) ≡ true → e < sh .empties
+  unfolding spotOf
+  empty-room h = by (keepsEmpty sh e) refl (ltb k (sh .colds)) h
+    where
+      by : (t : Bool) → keepsEmpty sh e ≡ t → (u : Bool) → isEmpty (cond t ToEmpty (cond u ToCold ToArena)) ≡ true → e < sh .empties
+      by true z u h = ltb-true e (sh .empties) (and-left _ _ z)
+      by false z true h = absurd (let z : _≡_ {A = ℕ} 0 1 = cc in omega arith)
+      by false z false h = absurd (let z : _≡_ {A = ℕ} 0 1 = cc in omega arith)
+
+  pub cold-room : isCold (spotOf sh e k) ≡ true → k < sh .colds
+  unfolding spotOf
+  cold-room h = by (keepsEmpty sh e) (ltb k (sh .colds)) refl h
+    where
+      by : (t u : Bool) → ltb k (sh .colds) ≡ u → isCold (cond t ToEmpty (cond u ToCold ToArena)) ≡ true → k < sh .colds
+      by true u z h = absurd (let z : _≡_ {A = ℕ} 0 1 = cc in omega arith)
+      by false true z h = ltb-true k (sh .colds) z
+      by false false z h = absurd (let z : _≡_ {A = ℕ} 0 1 = cc in omega arith)
+
+cold-low : (t : Bool) → cond t keptFate 1 ≤ 1
+cold-low true = omega arith
+cold-low false = omega arith
+
+pub arena-alone : (sh : Shape) (s : Spot) → fateOf sh s ≡ arenaFate → isArena s ≡ true
+arena-alone sh ToEmpty e = absurd (omega (arith, e))
+arena-alone sh ToCold e = absurd (omega (arith, e, cold-low (isMedium sh)))
+arena-alone sh ToArena e = refl
+
+pub fate-low : (sh : Shape) (s : Spot) → fateOf sh s ≤ arenaFate
+fate-low sh ToEmpty = omega arith
+fate-low sh ToCold = omega (arith, cold-low (isMedium sh))
+fate-low sh ToArena = omega arith

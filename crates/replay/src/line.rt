@@ -1,0 +1,47 @@
+// A line as it is read: a number for each of its words. The name has one too, and stands first.
+
+// A line's numbers, and its answers or the low halves of its numbers.
+pub type Numbers = [u64; 4096];
+
+pub type Words = [u32; 4096];
+
+// A number with a byte more: a blank starts another, a digit counts as one. Of a name the first letter counts a hundred times its byte,
+// each other letter one.
+fn read(value: u64, b: u8) -> u64 {
+    if b == b' ' || b == b'\n' {
+        return 0;
+    }
+    if b'0' <= b && b <= b'9' {
+        return std::num::wrapping_add_u64(value % 1_844_674_407_370_955_162 * 10, (b % 48) as u64);
+    }
+    if value == 0 {
+        return b as u64 * 100;
+    }
+    std::num::wrapping_add_u64(value, 1)
+}
+
+pub fn low(value: u64) -> u32 {
+    (value % 4_294_967_296) as u32
+}
+
+pub fn put(line: &mut Numbers, words: &mut Words, at: usize, b: u8) {
+    if at < 4096 {
+        let value = read(line[at], b);
+        line[at] = value;
+        words[at] = low(value);
+    }
+}
+
+// Whether the answers are those told after the `=`, and the places past them hold what they held.
+pub fn same(words: &Words, equals: usize, count: usize, answers: &Words, fill: u32) -> bool {
+    let mut i = equals;
+    while i < 4095 {
+        let answer = answers[i - equals];
+        i += 1;
+        let due = if i <= count { words[i] } else { fill };
+        if answer != due {
+            return false;
+        }
+    }
+    true
+}

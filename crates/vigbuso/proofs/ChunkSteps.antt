@@ -1,0 +1,41 @@
+-- The ways out of the exported group release.
+use Prim.Native.Nat.{ℕ}
+use native.Mathlib.Omega.{arith}
+use mathlib.Core.Bool.{true}
+use mathlib.Core.List.{List}
+use mathlib.Core.Path.{_≡_, refl}
+use lib.Dec.{ltb}
+use borrow.Author.Tests.{eq-eqb, ne-eqb, lt-ltb}
+use Rattle.classes.specs.declared.Shape.{Shape}
+use Rattle.classes.specs.Shape.{shapeOf, smallShape}
+use Rattle.fields.specs.Field.{arena, size, get}
+use Rattle.calls.specs.Chunks.{ChunksReleased, releaseChunks}
+use Rattle.chunks.specs.CallAsks.{CallAsks, ChunksAnswered}
+use Rattle.chunks.proofs.PlaceSteps.{class-limits}
+use Rattle.vigbuso.specs.Faults.{classFault}
+use Rattle.vigbuso.specs.Blocks.{chunksOn, ChunksEnds}
+use Rattle.vigbuso.proofs.FaultSteps.{class-book, class-below}
+use Rattle.vigbuso.proofs.ReleaseSteps.{class-asks}
+
+-- a small class's run is one page
+one-page : (c : ℕ) → ltb c 64 ≡ true → shapeOf c .pages ≡ 1
+unfolding shapeOf smallShape
+one-page c e = rw e refl
+
+pub chunks-asks : (b : List ℕ) (h r c n : ℕ) (sh : Shape) → r ≡ classFault b h 64 c → r ≡ 0 → n ≡ get b (arena size) → sh ≡ shapeOf c → CallAsks n b c sh
+chunks-asks b h r c n sh e z f w =
+    let l = class-below b h 64 c r e z in
+    record { class = class-asks b c n sh (class-book b h 64 c r e z) (omega arith) f w; single = rw w (one-page c (lt-ltb c 64 l)); limits = rw w (class-limits c) }
+
+ends : {o : ChunksReleased} {s : ℕ} {x y : List ℕ} → ChunksAnswered s x y o → ChunksEnds o s x y
+ends t = record { code = t .answer; book = t .left; fates = t .fates }
+
+module _ (b : List ℕ) (h c r : ℕ) (e : r ≡ classFault b h 64 c) (ws gs fs : List ℕ) where
+  pub chunks-unfit : (r ≡ 0 → ⊥) → ChunksEnds (chunksOn b c h ws gs fs) r b fs
+  unfolding chunksOn
+  chunks-unfit d = rw (← e, ne-eqb r 0 d) (record { code = refl; book = refl; fates = refl })
+
+  pub chunks-goes : (n : ℕ) (sh : Shape) (s : ℕ) (x y : List ℕ) → r ≡ 0 → n ≡ get b (arena size) → sh ≡ shapeOf c
+      → ChunksAnswered s x y (releaseChunks n b c sh h ws gs fs) → ChunksEnds (chunksOn b c h ws gs fs) s x y
+  unfolding chunksOn
+  chunks-goes n sh s x y z f w t = rw (← e, eq-eqb r 0 z) (ends (rw w at (rw f at t)))

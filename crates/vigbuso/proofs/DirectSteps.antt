@@ -1,0 +1,152 @@
+-- The ways out of the exported calls that go straight to the arena.
+use Prim.Native.Nat.{ℕ, zero, suc, _≤_}
+use native.Mathlib.Omega.{arith}
+use mathlib.Core.Bool.{Bool, true, false}
+use mathlib.Core.List.{List}
+use mathlib.Core.Option.{none}
+use mathlib.Core.Path.{_≡_, refl, sym, _∙_}
+use lib.Dec.{leb}
+use lib.ListN.{length}
+use mir.Val.{Fits, boolByte}
+use mir.Syntax.{w32}
+use borrow.Author.Tests.{leb-true, eq-eqb, ne-eqb}
+use Rattle.facts.proofs.Bools.{and-right}
+use Rattle.words.specs.Host.{digit}
+use Rattle.fields.specs.Field.{arena, size, get, Has, words}
+use Rattle.fields.specs.Outcome.{Did}
+use Rattle.fields.specs.Ranges.{within, between, maxPages, lengthFault, metaFault}
+use Rattle.fields.proofs.Sound.{sound, both}
+use Rattle.runs.specs.declared.Commit.{Commit}
+use Rattle.runs.specs.declared.Commit.the-variants.{Refused, Run, Nothing}
+use Rattle.direct.specs.declared.Grow.{Grow}
+use Rattle.direct.specs.declared.Grow.the-variants.{Yes, No}
+use Rattle.model.specs.declared.Figures.{Figures}
+use Rattle.direct.specs.declared.Report.{Report}
+use Rattle.direct.specs.declared.Report.the-variants.{Told}
+use Rattle.arena.specs.Calls.{Committed, commitCall, Done, growCall, releaseCall, containsCall}
+use Rattle.arena.specs.Open.{opened}
+use Rattle.runs.specs.Asks.{BookIn}
+use Rattle.runs.specs.Answer.{answerOf, Answers}
+use Rattle.direct.specs.Answer.{grownAs, Grew, Releases, reportOf}
+use Rattle.vigbuso.specs.Faults.{callFault}
+use Rattle.vigbuso.specs.Direct.{openOn, noPage, commitOn, CommitEnds, growOn, GrowEnds, releaseOn, containsOn, reportOn, figuresOut, ReportEnds}
+
+-- ---- numbers 1 and 2
+pub none-before : (b : List ℕ) (r : ℕ) → r ≡ metaFault b → r ≡ 0 → metaFault b ≡ 0
+none-before b r e z = sym e ∙ z
+
+module _ (b : List ℕ) (z : metaFault b ≡ 0) where
+  pub has-size : Has b (arena size)
+  has-size = let k = leb-true (words (get b (arena size))) (length b) (sound b 0 (sym z) refl .long) in omega arith
+
+  pub book-in : (n : ℕ) → n ≡ get b (arena size) → BookIn b n
+  book-in n f =
+      let k = sound b 0 (sym z) refl in
+      let l = leb-true (words (get b (arena size))) (length b) (k .long) in
+      let m = leb-true (get b (arena size)) maxPages (and-right (leb 1 (get b (arena size))) _ (k .sized)) in
+      record { long = omega arith; small = omega arith }
+
+-- a number that is none of 0 is a refusal's
+refusal : (k : ℕ) → (k ≡ 0 → ⊥) → Refused k ≡ answerOf k none false
+refusal zero d = absurd (d refl)
+refusal (suc k) d = refl
+
+grow-refusal : (k : ℕ) → (k ≡ 0 → ⊥) → Grow.Refused k ≡ grownAs k false
+grow-refusal zero d = absurd (d refl)
+grow-refusal (suc k) d = refl
+
+-- ---- opening
+
+module _ (b : List ℕ) (n r : ℕ) (e : r ≡ lengthFault n (length b)) where
+  pub open-refused : (r ≡ 0 → ⊥) → Did r b (openOn b n)
+  unfolding openOn
+  open-refused d = rw (← e, ne-eqb r 0 d) (record { answer = refl; book = refl })
+
+  module _ (z : r ≡ 0) where
+    sides : (within (between 1 maxPages) n ≡ true) × (leb (words n) (length b) ≡ true)
+    sides = both _ _ r e z
+
+    pub open-fits : Fits w32 n
+    open-fits = record { fits = let k = leb-true n maxPages (and-right (leb 1 n) _ (sides .0)) in omega arith }
+
+    pub open-long : 40000 ≤ length b
+    open-long = let k = leb-true (words n) (length b) (sides .1) in omega arith
+
+    pub open-done : (x : List ℕ) → x ≡ opened n b → Did 0 x (openOn b n)
+    unfolding openOn
+    open-done x f = rw (← e, eq-eqb r 0 z) (record { answer = refl; book = f })
+
+-- ---- the calls
+module _ (b : List ℕ) (h r : ℕ) (e : r ≡ callFault b h) where
+  pub commit-refused : (m : ℕ) → (r ≡ 0 → ⊥) → Answers (Refused r) b (commitOn b h m)
+  unfolding commitOn
+  commit-refused m d = rw (← e, ne-eqb r 0 d) (record { answer = refusal r d; book = refl })
+
+  pub commit-goes : (m n : ℕ) (s : Commit) (x : List ℕ) → r ≡ 0 → n ≡ get b (arena size) → Answers s x (commitCall n b h m) → Answers s x (commitOn b h m)
+  unfolding commitOn
+  commit-goes m n s x z f k = rw (← e, eq-eqb r 0 z) (rw f at k)
+
+  pub grow-refused : (q old new : ℕ) → (r ≡ 0 → ⊥) → Grew (Grow.Refused r) b (growOn b h q old new)
+  unfolding growOn
+  grow-refused q old new d = rw (← e, ne-eqb r 0 d) (record { answer = grow-refusal r d; book = refl })
+
+  pub grow-goes : (q old new n : ℕ) (s : Grow) (x : List ℕ) → r ≡ 0 → n ≡ get b (arena size) → Grew s x (growCall n b h q old new) → Grew s x (growOn b h q old new)
+  unfolding growOn
+  grow-goes q old new n s x z f k = rw (← e, eq-eqb r 0 z) (rw f at k)
+
+  pub release-refused : (q m : ℕ) → (r ≡ 0 → ⊥) → Releases r b (releaseOn b h q m)
+  unfolding releaseOn
+  release-refused q m d = rw (← e, ne-eqb r 0 d) (record { code = refl; book = refl })
+
+  pub release-goes : (q m n s : ℕ) (x : List ℕ) → r ≡ 0 → n ≡ get b (arena size) → Releases s x (releaseCall n b q m) → Releases s x (releaseOn b h q m)
+  unfolding releaseOn
+  release-goes q m n s x z f k = rw (← e, eq-eqb r 0 z) (rw f at k)
+
+module _ (b : List ℕ) (r : ℕ) (e : r ≡ metaFault b) where
+  pub contains-refused : (o k : ℕ) → (r ≡ 0 → ⊥) → false ≡ containsOn b o k
+  unfolding containsOn
+  contains-refused o k d = rw (← e, ne-eqb r 0 d)
+
+  pub contains-goes : (o k n : ℕ) (s : Bool) → r ≡ 0 → n ≡ get b (arena size) → s ≡ containsCall n b o k → s ≡ containsOn b o k
+  unfolding containsOn
+  contains-goes o k n s z f g = rw (← e, eq-eqb r 0 z) (rw f at g)
+
+  pub report-refused : (r ≡ 0 → ⊥) → Report.Refused r ≡ reportOn b
+  unfolding reportOn
+  report-refused d = rw (← e, ne-eqb r 0 d)
+
+  pub report-goes : (n : ℕ) (s : Report) → r ≡ 0 → n ≡ get b (arena size) → s ≡ reportOf n b → s ≡ reportOn b
+  unfolding reportOn
+  report-goes n s z f g = rw (← e, eq-eqb r 0 z) (rw f at g)
+
+-- ---- the out-parameters
+pub byte-digit : (g : Bool) → boolByte g ≡ digit g
+byte-digit true = refl
+byte-digit false = refl
+
+module _ (o : Committed) (x : List ℕ) (s : Commit) (k : Answers s x o) where
+  pub commit-ends-refused : (c q f : ℕ) → s ≡ Refused c → CommitEnds o c x q q f f
+  commit-ends-refused c q f e = let z = sym (k .answer) ∙ e in record { code = rw z; book = k .book; first = rw z; fresh = rw z }
+
+  pub commit-ends-run : (p q f : ℕ) (g : Bool) → s ≡ Run p g → CommitEnds o 0 x q p f (boolByte g)
+  commit-ends-run p q f g e = let z = sym (k .answer) ∙ e in record { code = rw z; book = k .book; first = rw z; fresh = rw z (byte-digit g) }
+
+  pub commit-ends-none : (q f : ℕ) → s ≡ Nothing → CommitEnds o 0 x q noPage f 0
+  commit-ends-none q f e = let z = sym (k .answer) ∙ e in record { code = rw z; book = k .book; first = rw z; fresh = rw z }
+
+module _ (o : Done) (x : List ℕ) (s : Grow) (k : Grew s x o) where
+  pub grow-ends-refused : (c g : ℕ) → s ≡ Grow.Refused c → GrowEnds o c x g g
+  grow-ends-refused c g e = let z = sym (k .answer) ∙ e in record { code = rw z; book = k .book; grown = rw z }
+
+  pub grow-ends-yes : (g : ℕ) → s ≡ Yes → GrowEnds o 0 x g 1
+  grow-ends-yes g e = let z = sym (k .answer) ∙ e in record { code = rw z; book = k .book; grown = rw z }
+
+  pub grow-ends-no : (g : ℕ) → s ≡ No → GrowEnds o 0 x g 0
+  grow-ends-no g e = let z = sym (k .answer) ∙ e in record { code = rw z; book = k .book; grown = rw z }
+
+module _ (o s : Report) (k : s ≡ o) where
+  pub report-ends-refused : (c : ℕ) (fs : List ℕ) → s ≡ Report.Refused c → ReportEnds o c fs fs
+  report-ends-refused c fs e = let z = sym k ∙ e in record { code = rw z; figures = rw z }
+
+  pub report-ends-told : (f : Figures) (fs : List ℕ) → s ≡ Told f → ReportEnds o 0 fs (figuresOut (Told f) fs)
+  report-ends-told f fs e = let z = sym k ∙ e in record { code = rw z; figures = rw z }

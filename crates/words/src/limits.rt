@@ -1,0 +1,12 @@
+// Document 01's limits, as specs/Limits.antt has them.
+
+// The longest arena, in pages.
+pub const MAX_PAGES: u64 = 262_144;
+
+// The holes that are stored, and the pages in them.
+pub const HOLE_SLOTS: u32 = 4_096;
+
+pub const HOLE_PAGES_MAX: u32 = 65_536;
+
+// The longest run whose length has a memory.
+pub const REMEMBERED_MAX: u32 = 128;

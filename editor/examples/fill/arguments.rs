@@ -1,0 +1,59 @@
+//! What the command line asks for.
+
+pub const USAGE: &str = "\
+usage: fill [--grid FILE] [--words FILE] [--pages N] [--turns N] [--draw] [--svg FILE] [--plot FILE]
+
+  --grid FILE   the grid: a row a line, a dot for a letter and # for a block, spaces between (9 x 9 by default)
+  --words FILE  the words: one a line, with a score after it or not (a list of 3 to 15 letters by default)
+  --pages N     pages of the arena, 64 KiB each (32 by default)
+  --turns N     how often the search turns back before it is content with its best fill (20000 by default)
+  --draw        print the arena's pages by holder
+  --svg FILE    draw them as a picture
+  --plot FILE   draw pages held and blocks out over the search
+";
+
+#[derive(Debug, PartialEq, Eq)]
+pub struct Arguments {
+    pub help: bool,
+    pub draw: bool,
+    pub svg: Option<String>,
+    pub plot: Option<String>,
+    pub grid: Option<String>,
+    pub words: Option<String>,
+    pub pages: usize,
+    pub turns: usize,
+}
+
+impl Default for Arguments {
+    fn default() -> Arguments {
+        Arguments { help: false, draw: false, svg: None, plot: None, grid: None, words: None, pages: 32, turns: 20_000 }
+    }
+}
+
+impl Arguments {
+    pub fn parse(mut words: impl Iterator<Item = String>) -> Result<Arguments, String> {
+        let mut found = Arguments::default();
+        while let Some(word) = words.next() {
+            let mut next = || words.next().ok_or_else(|| format!("{word} wants a value"));
+            match word.as_str() {
+                "--help" => found.help = true,
+                "--draw" => found.draw = true,
+                "--svg" => found.svg = Some(next()?),
+                "--plot" => found.plot = Some(next()?),
+                "--grid" => found.grid = Some(next()?),
+                "--words" => found.words = Some(next()?),
+                "--pages" => found.pages = number(&word, &next()?)?,
+                "--turns" => found.turns = number(&word, &next()?)?,
+                _ => return Err(format!("`{word}` is no option\n\n{USAGE}")),
+            }
+        }
+        Ok(found)
+    }
+}
+
+fn number(option: &str, text: &str) -> Result<usize, String> {
+    match text.parse() {
+        Ok(number) if number > 0 => Ok(number),
+        _ => Err(format!("{option} wants a number above 0, not `{text}`")),
+    }
+}

@@ -1,0 +1,61 @@
+//! Releases by chunks: 2,056 of them, their order, and the order of a chunk's blocks.
+
+use crate::heap::{Family, Heap, ALL};
+
+/// Three blocks to a page.
+const CLASS: u32 = 45;
+
+/// A heap with so many pages of the class: a block of each, and a chunk for each.
+fn pages(number: usize) -> (Heap, Vec<u32>, Vec<(u32, u32)>) {
+    let mut heap = Heap::open(2_100);
+    let list = (0..number).map(|_| heap.take(Family::Small, CLASS, ALL).expect("class 45").0[0]).collect();
+    let chunks = (0..).take(number).map(|page| (1, page)).collect();
+    (heap, list, chunks)
+}
+
+#[test]
+fn with_2_056_chunks_a_release_passes() {
+    let (mut heap, list, chunks) = pages(2_056);
+    assert_eq!(heap.give_chunks(CLASS, &list, &chunks, 2_056), Ok(vec![0; 2_056]));
+    assert_eq!(heap.report(), [2_056, 0, 0, 2_056, 44]);
+    // The blocks are out no more.
+    assert_eq!(heap.give_chunks(CLASS, &list[..1], &chunks[..1], 1), Err(10));
+}
+
+#[test]
+fn with_2_057_chunks_it_is_refused_as_8() {
+    let (mut heap, list, chunks) = pages(2_057);
+    assert_eq!(heap.give_chunks(CLASS, &list, &chunks, 2_057), Err(8));
+    // So it is with a fate too few.
+    assert_eq!(heap.give_chunks(CLASS, &list[1..], &chunks[1..], 2_055), Err(8));
+    // Each block is still out: one chunk fewer passes, then the one left over.
+    assert_eq!(heap.give_chunks(CLASS, &list[1..], &chunks[1..], 2_056), Ok(vec![0; 2_056]));
+    assert_eq!(heap.give_chunks(CLASS, &list[..1], &chunks[..1], 1), Ok(vec![0]));
+}
+
+#[test]
+fn a_chunk_keeps_the_chains_order() {
+    let mut heap = Heap::open(4);
+    assert_eq!(heap.take(Family::Small, CLASS, ALL), Ok((vec![2_051, 1_027, 3], true)));
+    assert_eq!(heap.give_chunks(CLASS, &[2_051, 3], &[(2, 0)], 1), Ok(vec![0]));
+    // 2051 is popped first, and the latest popped is listed first.
+    assert_eq!(heap.take(Family::Small, CLASS, ALL), Ok((vec![3, 2_051], false)));
+}
+
+#[test]
+fn chunks_are_treated_in_order() {
+    let mut heap = Heap::open(16);
+    let mut list = Vec::new();
+    for _ in 0..6 {
+        list.extend(heap.take(Family::Small, CLASS, ALL).expect("class 45").0);
+    }
+    // Six pages emptied at once, the fifth chunk's and the sixth's have no room left among the empty.
+    let chunks = [(3, 2), (3, 0), (3, 5), (3, 1), (3, 4), (3, 3)];
+    assert_eq!(heap.give_chunks(CLASS, &list, &chunks, 7), Ok(vec![4, 4, 4, 4, 5, 5, 9]));
+    // The empty pages last in first out, carved anew, then the cold ones newest first.
+    for (page, virgin) in [(1, false), (5, false), (0, false), (2, false), (3, true), (4, true)] {
+        let first = page * 4_096;
+        let expected = vec![first + 2_051, first + 1_027, first + 3];
+        assert_eq!(heap.take(Family::Small, CLASS, ALL), Ok((expected, virgin)));
+    }
+}

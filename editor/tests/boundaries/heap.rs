@@ -1,0 +1,212 @@
+//! A heap by its C functions (docs/CALLS.md) alone. So these tests stand on the boundary itself, and run on whatever library
+//! has these functions.
+
+/// Host words: all granted, and all but one.
+pub const ALL: u32 = 15;
+pub const NO_RESERVATION: u32 = 14;
+pub const NO_COMMIT: u32 = 13;
+pub const NO_DISCARD: u32 = 11;
+pub const NO_ZEROES: u32 = 7;
+
+#[derive(Clone, Copy)]
+pub enum Family {
+    Small,
+    Medium,
+}
+
+// The folder is the build script's.
+#[link(name = "vigbuso")]
+extern "C" {
+    fn vigbuso_open(book: *mut u32, book_len: usize, pages: u64) -> u32;
+    fn vigbuso_commit(book: *mut u32, book_len: usize, host: u32, pages: u64, first: *mut u32, fresh: *mut u32) -> u32;
+    fn vigbuso_grow_frontier(
+        book: *mut u32,
+        book_len: usize,
+        host: u32,
+        first: u64,
+        old_pages: u64,
+        new_pages: u64,
+        grown: *mut u32,
+    ) -> u32;
+    fn vigbuso_release(book: *mut u32, book_len: usize, host: u32, first: u64, pages: u64) -> u32;
+    fn vigbuso_contains(book: *const u32, book_len: usize, offset: u64, length: u64) -> u32;
+    fn vigbuso_report(book: *const u32, book_len: usize, figures: *mut u64) -> u32;
+    fn vigbuso_take_blocks(
+        book: *mut u32,
+        book_len: usize,
+        class: u32,
+        host: u32,
+        list: *mut u32,
+        list_len: usize,
+        count: *mut u32,
+        virgin: *mut u32,
+    ) -> u32;
+    fn vigbuso_medium_take_blocks(
+        book: *mut u32,
+        book_len: usize,
+        class: u32,
+        host: u32,
+        list: *mut u32,
+        list_len: usize,
+        count: *mut u32,
+        virgin: *mut u32,
+    ) -> u32;
+    fn vigbuso_release_blocks(
+        book: *mut u32,
+        book_len: usize,
+        class: u32,
+        host: u32,
+        list: *const u32,
+        list_len: usize,
+        fate: *mut u32,
+    ) -> u32;
+    fn vigbuso_medium_release_blocks(
+        book: *mut u32,
+        book_len: usize,
+        class: u32,
+        host: u32,
+        list: *const u32,
+        list_len: usize,
+        fate: *mut u32,
+    ) -> u32;
+    fn vigbuso_release_bin_chunks(
+        book: *mut u32,
+        book_len: usize,
+        class: u32,
+        host: u32,
+        list: *const u32,
+        list_len: usize,
+        chunks: *const u32,
+        chunks_len: usize,
+        fates: *mut u32,
+        fates_len: usize,
+    ) -> u32;
+}
+
+type ReleaseBlocks = unsafe extern "C" fn(*mut u32, usize, u32, u32, *const u32, usize, *mut u32) -> u32;
+
+/// What a call answers, or the number of its refusal.
+pub type Answer<T> = Result<T, u32>;
+
+fn answered<T>(number: u32, value: T) -> Answer<T> {
+    match number {
+        0 => Ok(value),
+        _ => Err(number),
+    }
+}
+
+/// The blocks of a take, as granules counted from the arena's start, and virgin.
+pub type Taken = (Vec<u32>, bool);
+
+#[derive(Clone)]
+pub struct Heap {
+    /// Written by the heap; docs/RANGES.md says what stands where.
+    pub book: Vec<u32>,
+}
+
+// SAFETY of every call below: the book, the lists and the out-parameters are lent for the call, with their own lengths.
+impl Heap {
+    /// The book's words are zero until they are written, so most of a long one costs no memory.
+    pub fn open(pages: u64) -> Heap {
+        let words = usize::try_from(40_000 + 4_112 * pages).expect("64 bits");
+        let mut book = vec![0; words];
+        assert_eq!(unsafe { vigbuso_open(book.as_mut_ptr(), book.len(), pages) }, 0);
+        Heap { book }
+    }
+
+    /// The run's first page and whether it is fresh, or none.
+    pub fn commit(&mut self, host: u32, pages: u64) -> Answer<Option<(u32, bool)>> {
+        let (mut first, mut fresh) = (0, 0);
+        let book = &mut self.book;
+        let number =
+            unsafe { vigbuso_commit(book.as_mut_ptr(), book.len(), host, pages, &raw mut first, &raw mut fresh) };
+        answered(number, (first != u32::MAX).then_some((first, fresh == 1)))
+    }
+
+    pub fn grow(&mut self, host: u32, first: u64, old: u64, new: u64) -> Answer<bool> {
+        let mut grown = 0;
+        let book = &mut self.book;
+        let number =
+            unsafe { vigbuso_grow_frontier(book.as_mut_ptr(), book.len(), host, first, old, new, &raw mut grown) };
+        answered(number, grown == 1)
+    }
+
+    pub fn release(&mut self, host: u32, first: u64, pages: u64) -> Answer<()> {
+        let book = &mut self.book;
+        answered(unsafe { vigbuso_release(book.as_mut_ptr(), book.len(), host, first, pages) }, ())
+    }
+
+    pub fn contains(&self, offset: u64, length: u64) -> bool {
+        unsafe { vigbuso_contains(self.book.as_ptr(), self.book.len(), offset, length) == 1 }
+    }
+
+    /// Commits, reuses, abandoned, pages held, idle pages.
+    pub fn report(&self) -> [u64; 5] {
+        self.try_report().expect("a reached book")
+    }
+
+    pub fn try_report(&self) -> Answer<[u64; 5]> {
+        let mut figures = [0; 5];
+        let number = unsafe { vigbuso_report(self.book.as_ptr(), self.book.len(), figures.as_mut_ptr()) };
+        answered(number, figures)
+    }
+
+    pub fn take(&mut self, family: Family, class: u32, host: u32) -> Answer<Taken> {
+        let (mut list, mut count, mut virgin) = ([0; 64], 0, 0);
+        let call = match family {
+            Family::Small => vigbuso_take_blocks,
+            Family::Medium => vigbuso_medium_take_blocks,
+        };
+        let (book, words) = (self.book.as_mut_ptr(), self.book.len());
+        let number =
+            unsafe { call(book, words, class, host, list.as_mut_ptr(), list.len(), &raw mut count, &raw mut virgin) };
+        let granules = list[..count as usize].iter().map(|word| word & 0x3FFF_FFFF).collect();
+        answered(number, (granules, virgin == 1))
+    }
+
+    /// The fate of the page or span that these granules' blocks go back to.
+    pub fn give(&mut self, family: Family, class: u32, host: u32, granules: &[u32]) -> Answer<u32> {
+        let (kind, call) = match family {
+            Family::Small => (1, vigbuso_release_blocks as ReleaseBlocks),
+            Family::Medium => (2, vigbuso_medium_release_blocks as ReleaseBlocks),
+        };
+        let list = words(kind, granules);
+        let mut fate = 0;
+        let (book, words) = (self.book.as_mut_ptr(), self.book.len());
+        let number = unsafe { call(book, words, class, host, list.as_ptr(), list.len(), &raw mut fate) };
+        answered(number, fate)
+    }
+
+    /// The fates of the chunks, each a count and a page, with room for so many fates.
+    pub fn give_chunks(
+        &mut self,
+        class: u32,
+        granules: &[u32],
+        chunks: &[(u32, u32)],
+        room: usize,
+    ) -> Answer<Vec<u32>> {
+        let list = words(1, granules);
+        let chunks: Vec<u32> = chunks.iter().map(|(count, page)| 3 << 30 | count << 18 | page).collect();
+        let mut fates = vec![9; room];
+        let number = unsafe {
+            vigbuso_release_bin_chunks(
+                self.book.as_mut_ptr(),
+                self.book.len(),
+                class,
+                ALL,
+                list.as_ptr(),
+                list.len(),
+                chunks.as_ptr(),
+                chunks.len(),
+                fates.as_mut_ptr(),
+                fates.len(),
+            )
+        };
+        answered(number, fates)
+    }
+}
+
+/// The words of blocks of a kind.
+fn words(kind: u32, granules: &[u32]) -> Vec<u32> {
+    granules.iter().map(|granule| kind << 30 | granule).collect()
+}

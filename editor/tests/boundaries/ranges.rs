@@ -1,0 +1,135 @@
+//! Number 13: the highest value of a word's range passes, the next is refused. docs/RANGES.md has words and ranges; here
+//! they are written down once more, so that a range that is wrong everywhere else shows.
+
+use crate::heap::{Answer, Family, Heap, ALL};
+
+/// Three blocks to a page.
+const CLASS: u32 = 45;
+/// Words of its row: PARTIAL and on.
+const PARTIAL: usize = 160 + 8 * 45;
+const EMPTY_COUNT: usize = PARTIAL + 2;
+const COLD_COUNT: usize = PARTIAL + 4;
+/// Words of a page.
+const FREE: usize = 4;
+const CARVED: usize = 5;
+const LISTED: usize = 6;
+const VIRGIN: usize = 7;
+const STACK: usize = 272;
+
+fn page(page: usize, word: usize) -> usize {
+    40_000 + 4_112 * page + word
+}
+
+/// Page 0 of the class has all blocks out, page 1 all but one; pages 2 and 3 are a hole, page 4 is held directly.
+fn scene() -> Heap {
+    let mut heap = Heap::open(64);
+    for first in [2_051, 6_147] {
+        let blocks = vec![first, first - 1_024, first - 2_048];
+        assert_eq!(heap.take(Family::Small, CLASS, ALL), Ok((blocks, true)));
+    }
+    assert_eq!(heap.give(Family::Small, CLASS, ALL, &[6_147]), Ok(0));
+    assert_eq!(heap.commit(ALL, 2), Ok(Some((2, true))));
+    assert_eq!(heap.commit(ALL, 1), Ok(Some((4, true))));
+    assert_eq!(heap.release(ALL, 2, 2), Ok(()));
+    heap
+}
+
+/// With this value in a word the call is refused as 13 and changes nothing, or it is not.
+fn with<T>(word: usize, value: u32, refused: bool, call: impl Fn(&mut Heap) -> Answer<T>) {
+    let mut heap = scene();
+    heap.book[word] = value;
+    let before = heap.book.clone();
+    let number = call(&mut heap).err();
+    assert_eq!(number == Some(13), refused, "word {word} with {value}: {number:?}");
+    assert!(!refused || heap.book == before, "word {word} with {value}: refused, and the book changed");
+}
+
+/// The highest value passes, those behind it do not.
+fn up_to<T>(word: usize, highest: u32, call: impl Fn(&mut Heap) -> Answer<T>) {
+    with(word, highest, false, &call);
+    for value in [highest + 1, highest + 6, highest + 904, u32::MAX] {
+        with(word, value, true, &call);
+    }
+}
+
+fn report(heap: &mut Heap) -> Answer<[u64; 5]> {
+    heap.try_report()
+}
+
+fn commit(pages: u64) -> impl Fn(&mut Heap) -> Answer<Option<(u32, bool)>> {
+    move |heap| heap.commit(ALL, pages)
+}
+
+fn take(heap: &mut Heap) -> Answer<(Vec<u32>, bool)> {
+    heap.take(Family::Small, CLASS, ALL)
+}
+
+fn give(granules: &[u32]) -> impl Fn(&mut Heap) -> Answer<u32> + '_ {
+    move |heap| heap.give(Family::Small, CLASS, ALL, granules)
+}
+
+#[test]
+fn the_arenas_record() {
+    up_to(1, 2, report);
+    up_to(2, 64, report);
+    up_to(3, 4_096, report);
+    up_to(4, 65_536, report);
+    up_to(11, 64, report);
+}
+
+#[test]
+fn memory_and_holes_in_a_commit() {
+    up_to(16 + 3, 4_096, commit(3));
+    up_to(16 + 128, 4_096, commit(128));
+    // Hole 0: two pages, which end at the frontier, 5.
+    with(1_025, 0, true, commit(1));
+    up_to(1_025, 2, commit(1));
+    up_to(1_024, 3, commit(1));
+}
+
+#[test]
+fn memory_in_a_take() {
+    // No partial page, so that the take comes to the arena, for one page.
+    let asks = |heap: &mut Heap| {
+        heap.book[PARTIAL] = 0;
+        take(heap)
+    };
+    let mut heap = scene();
+    assert_eq!(asks(&mut heap), Ok((vec![10_243, 9_219, 8_195], true)));
+    for (value, number) in [(4_096, None), (4_097, Some(13)), (5_000, Some(13))] {
+        let mut heap = scene();
+        heap.book[16 + 1] = value;
+        assert_eq!(asks(&mut heap).err(), number);
+    }
+}
+
+#[test]
+fn a_page_in_a_take() {
+    up_to(page(1, VIRGIN), 1, take);
+    for listed in [0, 2, 9] {
+        with(page(1, LISTED), listed, true, take);
+    }
+    up_to(page(1, CARVED), 3, take);
+    up_to(page(1, FREE), 3, take);
+    // The one entry of its stack.
+    up_to(page(1, STACK), 2, take);
+}
+
+#[test]
+fn a_page_in_a_release() {
+    up_to(page(0, VIRGIN), 1, give(&[3]));
+    up_to(page(0, LISTED), 1, give(&[3]));
+    up_to(page(0, CARVED), 3, give(&[3]));
+    up_to(page(0, FREE), 2, give(&[3]));
+}
+
+#[test]
+fn a_classs_row() {
+    // Page 1 has code 2, and the frontier is 5.
+    up_to(PARTIAL, 5, give(&[3]));
+    for code in [6, u32::MAX] {
+        with(PARTIAL, code, true, take);
+    }
+    up_to(EMPTY_COUNT, 256, give(&[2_051, 1_027, 3]));
+    up_to(COLD_COUNT, 256, give(&[2_051, 1_027, 3]));
+}
