@@ -11,7 +11,7 @@ use Rattle.classes.specs.Sizes.{granuleBytes}
 use Rattle.classes.specs.Shape.{shapeOf}
 use Rattle.classes.specs.Examples as Lookups
 use Rattle.model.specs.declared.Hole.{Hole}
-use Rattle.model.specs.Calls.{Call, takeBlocks, mediumTakeBlocks, releaseBlocks, releaseBinChunks, commit, release, contains, report, Answer, refused, taken, fate, fates, run, noRun, released, contained, reported}
+use Rattle.model.specs.Calls.{Call, takeBlocks, mediumTakeBlocks, releaseBlocks, releaseBinChunks, commit, growFrontier, release, contains, report, Answer, refused, taken, fate, fates, run, noRun, released, grown, contained, reported}
 use Rattle.model.specs.HoleStore.{hole, store, choose, accepts}
 use Rattle.model.specs.Page.{Page, carveAs}
 use Rattle.model.specs.Class.{newClass, lists, Ask, serve, takeFrom}
@@ -77,7 +77,7 @@ rising a d zero = []
 rising a d (suc n) = a ∷ rising (a + d) d n
 
 abbrev pub lent : ℕ → List ℕ
-lent n = replicate n 0
+lent n = replicate n 9
 
 abbrev take0 : Call
 take0 = takeBlocks 0 15 (lent 64)
@@ -122,9 +122,17 @@ rules =
     -- "The host word exceeds 15."
     ∷ onNewHeap (commit 16 1 ∷ takeBlocks 0 16 (lent 64) ∷ [])
     (refused 3 ∷ refused 3 ∷ []) []
+    -- "whether it came from hole or frontier"
+    ∷ onNewHeap (commit 13 2 ∷ []) (noRun ∷ []) (hole 0 2 ∷ [])
+    -- "the frontier stays moved, the added pages are given to the holes and the answer is no"
+    ∷ onNewHeap (commit 15 2 ∷ growFrontier 13 0 2 5 ∷ growFrontier 15 0 2 5 ∷ commit 15 3 ∷ commit 15 1 ∷ [])
+    (run 0 true ∷ grown false ∷ grown false ∷ run 2 false ∷ run 5 true ∷ []) []
     -- "these counts, pages held, and idle pages": a fresh run is no reuse
     ∷ onNewHeap (commit 15 5 ∷ commit 15 4 ∷ release 15 0 5 ∷ commit 15 1 ∷ report ∷ [])
     (run 0 true ∷ run 5 true ∷ released ∷ run 0 false ∷ reported (record { commits = 3; reuses = 1; abandoned = 0; held = 5; idle = 59 }) ∷ []) (hole 1 4 ∷ [])
+    -- "Both then set the memory of the length the hole had": two holes of 5 pages are left after one is cut
+    ∷ onNewHeap (commit 15 18 ∷ release 15 0 5 ∷ release 15 6 5 ∷ release 15 12 5 ∷ commit 15 3 ∷ commit 15 5 ∷ [])
+    (run 0 true ∷ released ∷ released ∷ released ∷ run 0 false ∷ run 6 false ∷ []) (hole 3 2 ∷ hole 12 5 ∷ [])
     -- "so is a cut's remainder", at its own index
     ∷ onNewHeap (commit 15 9 ∷ release 15 0 2 ∷ release 15 3 5 ∷ commit 15 3 ∷ commit 15 2 ∷ [])
     (run 0 true ∷ released ∷ released ∷ run 3 false ∷ run 6 false ∷ []) (hole 0 2 ∷ [])
@@ -148,6 +156,9 @@ rules =
     -- "others keep the chain's order"
     ∷ onNewHeap (take45 ∷ releaseBinChunks 45 15 (smalls (2051 ∷ 3 ∷ [])) (chunkWord 2 0 ∷ []) (9 ∷ 9 ∷ []) ∷ take45 ∷ [])
     (taken45 0 true ∷ fates (0 ∷ 9 ∷ []) ∷ taken 2 (smalls (3 ∷ 2051 ∷ []) ++ lent 62) false ∷ []) []
+    -- "Each source is tried only if the earlier gave no block": a partial page with one block, and an empty page
+    ∷ onNewHeap (take45 ∷ take45 ∷ give45 15 (threeOf 4096) ∷ give45 15 (smalls (3 ∷ [])) ∷ take45 ∷ [])
+    (taken45 0 true ∷ taken45 4096 true ∷ fate 0 ∷ fate 0 ∷ taken 1 (smalls (3 ∷ []) ++ lent 63) false ∷ []) []
     -- "treats groups in order": the second's page heads the partial list
     ∷ onNewHeap (take45 ∷ take45 ∷ releaseBinChunks 45 15 (smalls (2051 ∷ 6147 ∷ [])) (chunkWord 1 0 ∷ chunkWord 1 1 ∷ []) (9 ∷ 9 ∷ []) ∷ take45 ∷ [])
     (taken45 0 true ∷ taken45 4096 true ∷ fates (0 ∷ 0 ∷ []) ∷ taken 2 (smalls (2051 ∷ 6147 ∷ []) ++ lent 62) false ∷ []) []
