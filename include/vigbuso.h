@@ -91,6 +91,9 @@ enum vigbuso_fate { VIGBUSO_KEPT = 0, VIGBUSO_COLD = 1, VIGBUSO_TO_ARENA = 2, VI
 enum vigbuso_refusal {
     VIGBUSO_ARENA_LENGTH = 1,
     VIGBUSO_BOOK_TOO_SHORT = 2,
+    VIGBUSO_GROWTH = 22,
+    VIGBUSO_TOP = 23,
+    VIGBUSO_SLOTS = 24,
     VIGBUSO_HOST_WORD = 3,
     VIGBUSO_CLASS = 4,
     VIGBUSO_LIST_TOO_SHORT = 5,
@@ -135,6 +138,12 @@ static inline const char *vigbuso_refusal_text(uint32_t number) {
         return "the run handed to release or to growth isn't wholly held by the direct calls";
     case 13:
         return "another book word that the call reads is out of its range, or a listed page yields no block";
+    case 22:
+        return "the growth's a is not above b, b is 0, or either exceeds 1,000";
+    case 23:
+        return "the top is below 16, not a multiple of 16 or above 65,472";
+    case 24:
+        return "the slots are 0, more than the lent list or too few to reach the top";
     default:
         return number == 0 ? "carried out" : "no refusal has this number";
     }
@@ -269,6 +278,14 @@ uint32_t vigbuso_medium_release_blocks(uint32_t *book, size_t book_len, uint32_t
 uint32_t vigbuso_release_bin_chunks(uint32_t *book, size_t book_len, uint32_t size_class, uint32_t host,
                                     const uint32_t *list, size_t list_len, const uint32_t *chunks, size_t chunks_len,
                                     uint32_t *fates, size_t fates_len);
+
+/*
+ * A class table from a growth rate: so many sizes in bytes, from 16 on. Each size times a is divided by b, rounded up, then up to
+ * a multiple of 16, and cut at the top; the slots that remain hold the top. 9, 8, 16384, 64 is the small class table.
+ *   list   list_len words, slots at least; the first slots are written, the others kept
+ * Returns 0, or 22, 23, 24.
+ */
+uint32_t vigbuso_class_table(uint64_t a, uint64_t b, uint64_t top, uint64_t slots, uint32_t *list, size_t list_len);
 
 #ifdef __cplusplus
 }

@@ -2,6 +2,7 @@
 
 mod arguments;
 mod call;
+mod class_tables;
 mod damaged;
 mod generate;
 mod histories;
@@ -28,6 +29,7 @@ use std::process::ExitCode;
 
 const USAGE: &str = "usage: compare COMMAND [--NAME VALUE ..]
   lookups      both size lookups
+  tables       class tables from a growth rate
   histories    [--calls N] [--seed S] [--pages N,N..] [--scenario NAME]
                random histories on the original and on the port
   record       --file F [--calls N] [--seed S] [--pages N,N..] [--scenario NAME] [--kinds all|arena]
@@ -46,6 +48,7 @@ fn main() -> ExitCode {
     let rest = words.get(1..).unwrap_or(&[]);
     let result = match words.first().map(String::as_str) {
         Some("lookups") => Ok(lookups::run()),
+        Some("tables") => Ok(class_tables::run()),
         Some("histories") => histories::histories(rest),
         Some("record") => histories::record(rest),
         Some("replay") => histories::replay(rest),

@@ -9,6 +9,7 @@ use crate::words::{Family, NO_PAGE};
 extern "C" {
     fn vigbuso_class_for_size(size: u64) -> u32;
     fn vigbuso_medium_class_for_size(size: u64) -> u32;
+    fn vigbuso_class_table(a: u64, b: u64, top: u64, slots: u64, list: *mut u32, len: usize) -> u32;
     fn vigbuso_open(book: *mut u32, words: usize, pages: u64) -> u32;
     fn vigbuso_commit(book: *mut u32, words: usize, host: u32, pages: u64, first: *mut u32, fresh: *mut u32) -> u32;
     fn vigbuso_grow_frontier(
@@ -83,6 +84,12 @@ pub fn class_for_size(size: u64) -> u32 {
 pub fn medium_class_for_size(size: u64) -> u32 {
     // SAFETY: a number for a number.
     unsafe { vigbuso_medium_class_for_size(size) }
+}
+
+/// What is returned; the list's first slots are written.
+pub fn class_table(a: u64, b: u64, top: u64, slots: u64, list: &mut [u32]) -> u32 {
+    // SAFETY: the slice is lent for the call.
+    unsafe { vigbuso_class_table(a, b, top, slots, list.as_mut_ptr(), list.len()) }
 }
 
 /// 0, or the refusal's number.

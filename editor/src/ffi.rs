@@ -23,7 +23,7 @@
 use alloc::alloc::{alloc_zeroed, Layout};
 use alloc::vec::Vec;
 
-use crate::{Block, Chunk, Class, Fate, Host, Kind, Refusal, Report, Run, Word};
+use crate::{Block, Chunk, Class, Fate, Growth, Host, Kind, Refusal, Report, Run, Word};
 
 extern "C" {
     #[cfg(test)]
@@ -94,13 +94,14 @@ extern "C" {
         fates: *mut u32,
         fates_len: usize,
     ) -> u32;
+    fn vigbuso_class_table(a: u64, b: u64, top: u64, slots: u64, list: *mut u32, list_len: usize) -> u32;
 }
 
 /// Whether a call was carried out.
 fn carried_out(number: u32) -> Result<(), Refusal> {
     match number {
         0 => Ok(()),
-        _ => Err(Refusal::from_number(number).expect("a call answers 0 or one of document 01's numbers")),
+        _ => Err(Refusal::from_number(number).expect("a call answers 0 or one of the papers' numbers")),
     }
 }
 
@@ -246,6 +247,12 @@ pub(crate) fn release_chunks(
             fates.len(),
         )
     })
+}
+
+/// Writes a class table into the first slots of the list.
+pub(crate) fn class_table(growth: Growth, top: u64, slots: u64, list: &mut [u32]) -> Result<(), Refusal> {
+    // SAFETY: the slice is lent for the call.
+    carried_out(unsafe { vigbuso_class_table(growth.a, growth.b, top, slots, list.as_mut_ptr(), list.len()) })
 }
 
 /// The refusals that the types above rule out can be seen here only.

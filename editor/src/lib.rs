@@ -69,6 +69,7 @@ mod release;
 mod report;
 mod run;
 mod store;
+mod table;
 mod taken;
 
 pub use block::{Block, Kind, Word};
@@ -83,6 +84,7 @@ pub use refusal::Refusal;
 pub use report::Report;
 pub use run::{Committed, Run};
 pub use store::{Record, Store};
+pub use table::{class_table, Growth};
 pub use taken::{Taken, BATCH};
 
 /// Bytes of a page.

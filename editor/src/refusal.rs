@@ -6,7 +6,7 @@ use core::fmt;
 /// The numbers, their names and their meanings: a line of this table is all that a number needs.
 macro_rules! refusals {
     ($($number:literal $name:ident $meaning:literal)*) => {
-        /// The number of a refused call, as document 01 lists them, in checking order. A refused call changes nothing.
+        /// The number of a refused call, as documents 01 and 02 list them. A refused call changes nothing.
         ///
         /// [`Heap`](crate::Heap) itself rules some of them out: a [`Host`](crate::Host) has no more than four bits (3), a
         /// [`Class`](crate::Class) is there (4), and a take's list has room for a batch (5). A heap that was opened by
@@ -62,6 +62,9 @@ refusals! {
     11 OtherPage "a block is on another page or span than the first; for chunks, a page twice, a count 0 or not the list's, a page missing"
     12 NotHeld "the run handed to release or to growth isn't wholly held by the direct calls"
     13 BookWord "another book word that the call reads is out of its range, or a listed page yields no block"
+    22 Growth "the growth's a is not above b, b is 0, or either exceeds 1,000"
+    23 Top "the top is below 16, not a multiple of 16 or above 65,472"
+    24 Slots "the slots are 0, more than the lent list or too few to reach the top"
 }
 
 impl Refusal {

@@ -124,6 +124,20 @@ static void chunks(void) {
     IS(fates[1], 7);
 }
 
+static void class_table(void) {
+    uint32_t list[66];
+    list[64] = list[65] = 7;
+    IS(vigbuso_class_table(8, 8, 16384, 64, list, 66), VIGBUSO_GROWTH);
+    IS(vigbuso_class_table(9, 8, 16385, 64, list, 66), VIGBUSO_TOP);
+    IS(vigbuso_class_table(9, 8, 16384, 67, list, 66), VIGBUSO_SLOTS);
+    IS(vigbuso_class_table(9, 8, 16384, 64, list, 66), 0);
+    for (uint32_t c = 0; c < VIGBUSO_SMALL_CLASSES; c++) {
+        IS(list[c], vigbuso_block_bytes(c));
+    }
+    IS(list[64], 7);
+    IS(list[65], 7);
+}
+
 int main(void) {
     book = (uint32_t *)calloc(words, sizeof *book);
     if (book == NULL) {
@@ -138,6 +152,7 @@ int main(void) {
     runs();
     report();
     chunks();
+    class_table();
     free(book);
     printf("%d differences\n", differences);
     return differences != 0;

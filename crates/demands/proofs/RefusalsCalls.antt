@@ -13,6 +13,7 @@ use Rattle.words.specs.Host.{badHost}
 use Rattle.words.specs.Word.{chunkKind}
 use Rattle.classes.specs.declared.Shape.{Shape}
 use Rattle.classes.specs.Shape.{shapeOf}
+use Rattle.tables.specs.Table.{badRate, badTop, badSlots, Tabled, classTable}
 use Rattle.fields.specs.Field.{arena, class, page, size, frontier, partial, empty, cold, free, carved, get}
 use Rattle.fields.specs.Outcome.{Outcome}
 use Rattle.fields.specs.Outcome as Fields
@@ -37,7 +38,7 @@ use Rattle.vigbuso.specs.Direct as Direct
 use Rattle.vigbuso.specs.Direct.{openOn, commitOn, growOn, reportOn, reportCode, figuresOut}
 use Rattle.vigbuso.specs.Blocks as Blocks
 use Rattle.vigbuso.specs.Blocks.{takeOn, chunksOn}
-use Rattle.demands.specs.Refusals.{shortList, nothingListed, manyChunks, wrongKind, notOut, otherPage, chunksDiffer, notHeld, openTable, commitTable, growTable, giveTable, reportTable, takeTable, releaseTable, chunksTable}
+use Rattle.demands.specs.Refusals.{shortList, nothingListed, manyChunks, wrongKind, notOut, otherPage, chunksDiffer, notHeld, openTable, commitTable, growTable, giveTable, reportTable, takeTable, releaseTable, chunksTable, rateTable}
 use Rattle.demands.specs.Number13.{takeFair}
 use Rattle.demands.proofs.Ranges.{record-strays, commit-strays, give-strays, take-strays, release-strays, chunks-strays}
 use Rattle.demands.proofs.RefusalsLaws.{not-and, le-not-lt, Ends, ends, turn, unless, book-turn, chain, choose, before}
@@ -202,3 +203,12 @@ chunks-table b c h ws gs fs =
     ends _ _ _ refl))
     n
     b)
+
+-- ---- class tables
+pub rate-table : (a b top slots : ℕ) (l : List ℕ) → Ends {R = Tabled} (λ o. o .code) (λ o. o .list ≡ l) (rateTable a b top slots l) (classTable a b top slots l)
+unfolding classTable
+rate-table a b top slots l =
+    turn _ _ (badRate a b) 22 _ _ _ refl refl λ e.
+    turn _ _ (badTop top) 23 _ _ _ refl refl λ e.
+    turn _ _ (badSlots a b top slots (length l)) 24 _ _ _ refl refl λ e.
+    ends _ _ _ refl

@@ -1,6 +1,7 @@
--- Demand 1: document 01's table "Numbers for a refused call, in checking order", for each exported function.
+-- Demand 1: document 01's table "Numbers for a refused call, in checking order", with document 02's numbers in it, for each exported
+-- function.
 --     badLength to notHeld       when each number applies, with document 01's sentence
---     openTable to chunksTable   for each function the numbers that it can answer, in checking order, and whether each applies
+--     openTable to rateTable     for each function the numbers that it can answer, in checking order, and whether each applies
 --     firstNumber                the first of them that applies, 0 if none does
 --     Refuses                    a call answered that number, and changed nothing where it is not 0
 --     Demand1                    every exported function does so, by what its contract says of it
@@ -18,6 +19,7 @@ use Rattle.words.specs.Host.{badHost, digit}
 use Rattle.classes.specs.declared.Shape.{Shape}
 use Rattle.classes.specs.Shape.{shapeOf}
 use Rattle.classes.specs.Lookup.{classForSize, mediumClassForSize}
+use Rattle.tables.specs.Table.{badRate, badTop, badSlots, classTable, TableEnds}
 use Rattle.fields.specs.Field.{arena, size, words, get}
 use Rattle.fields.specs.Outcome.{Did}
 use Rattle.fields.specs.Ranges.{maxPages}
@@ -87,6 +89,8 @@ notHeld n b q m = not (heldDirect n b q m)
 -- 13. "Another book word that the call reads is out of its range, or a listed page yields no block.": `strays` and `barren`, over the
 -- rows that the call reads of the one table, Specs/Ranges. That the tests of the code are just these is Specs/Number13.
 
+-- Document 02's: 22, 23 and 24 are `badRate`, `badTop` and `badSlots`.
+
 -- ---- a table's rows are a number and whether it applies
 abbrev pub Row : Type 0
 Row = ℕ × Bool
@@ -95,9 +99,11 @@ abbrev pub firstNumber : List Row → ℕ
 firstNumber [] = 0
 firstNumber (row ∷ rows) = cond (row .1) (row .0) (firstNumber rows)
 
--- the order in which a call is checked, and that a table keeps it: its numbers stand there one behind another
+-- the order in which a call is checked, and that a table keeps it: its numbers stand there one behind another. Document 02 puts its
+-- numbers between 01's; 13 stands twice, as its A.3 tests a mark before 15.
 abbrev pub checkingOrder : List ℕ
-checkingOrder = 1 ∷ 2 ∷ 3 ∷ 4 ∷ 5 ∷ 6 ∷ 7 ∷ 8 ∷ 9 ∷ 10 ∷ 11 ∷ 12 ∷ 13 ∷ []
+checkingOrder =
+    1 ∷ 2 ∷ 19 ∷ 18 ∷ 17 ∷ 14 ∷ 16 ∷ 20 ∷ 21 ∷ 22 ∷ 23 ∷ 24 ∷ 3 ∷ 4 ∷ 5 ∷ 6 ∷ 7 ∷ 8 ∷ 9 ∷ 13 ∷ 15 ∷ 10 ∷ 11 ∷ 12 ∷ 13 ∷ []
 
 abbrev pub inOrder : List ℕ → List Row → Bool
 inOrder ks [] = true
@@ -179,6 +185,10 @@ chunksTable b c h ws gs fs =
     ∷ (13, strays b (chunksReads b c sh gs))
     ∷ []
 
+-- vigbuso_class_table
+abbrev pub rateTable : ℕ → ℕ → ℕ → ℕ → List ℕ → List Row
+rateTable a b top slots l = (22, badRate a b) ∷ (23, badTop top) ∷ (24, badSlots a b top slots (length l)) ∷ []
+
 -- ---- "Each returns its number and changes nothing."
 -- A call with these rows answered r; Same says that all that it was lent to write is as it was: book, list, out-parameters.
 pub record Refuses (rows : List Row) (r : ℕ) (Same : Type 0) : Type 0 where
@@ -228,6 +238,13 @@ ChunksRefuses =
     → ChunksEnds (chunksOn b c h ws gs fs) r b′ fs′
     → Refuses (chunksTable b c h ws gs fs) r ((b′ ≡ b) × (fs′ ≡ fs))
 
+-- no book is lent
+abbrev pub TableRefuses : Type 0
+TableRefuses =
+    (a b top slots : ℕ) (l : List ℕ) (r : ℕ) (l′ : List ℕ)
+    → TableEnds (classTable a b top slots l) r l′
+    → Refuses (rateTable a b top slots l) r (l′ ≡ l)
+
 -- "Sizes and `contains` refuse nothing": a size has a class that number 4 does not refuse; `contains` is 1 or 0, yes or no, and no "on
 -- a book that 1, 2 or 13 would refuse".
 pub record Contains (b : List ℕ) (r : ℕ) : Type 0 where
@@ -252,6 +269,7 @@ pub record Demand1 : Type 0 where
   pub releaseBlocks : ReleaseRefuses 0 64
   pub mediumReleaseBlocks : ReleaseRefuses 64 12
   pub releaseBinChunks : ChunksRefuses
+  pub classTable : TableRefuses
   pub contains : ContainsAnswers
   pub classForSize : SizeAnswers classForSize 64
   pub mediumClassForSize : SizeAnswers mediumClassForSize 12

@@ -1,6 +1,7 @@
 // The exported C functions. Numbers and slices only; each is thin over a proved function.
 pub mod arena_calls;
 pub mod chunk_calls;
+pub mod class_table;
 mod faults;
 pub mod lookup;
 pub mod release_calls;

@@ -3,6 +3,7 @@ use Prim.Native.Nat.{ℕ}
 use mathlib.Core.List.{List}
 use mathlib.Core.Path.{_≡_, sym, _∙_}
 use Rattle.words.specs.Host.{digit}
+use Rattle.tables.specs.Table.{classTable, TableEnds}
 use Rattle.fields.specs.Outcome.{Did}
 use Rattle.model.specs.Calls as Calls
 use Rattle.direct.specs.Answer.{Releases}
@@ -12,8 +13,10 @@ use Rattle.vigbuso.specs.Blocks as Blocks
 use Rattle.vigbuso.specs.Blocks.{takeOn, TakeEnds, ReleaseEnds, chunksOn, ChunksEnds}
 use Rattle.demands.specs.Contracts as Shows
 use Rattle.demands.proofs.Contracts.{shows-call}
-use Rattle.demands.proofs.Refusals.{open-refuses, commit-refuses, grow-refuses, give-refuses, report-refuses, take-refuses, release-refuses, chunks-refuses, contains-answers}
-use Rattle.witness.specs.Seen.{Opened, TakeSeen, ListSeen, ChunksSeen, CommitSeen, GrowSeen, GiveSeen, ContainsSeen, ReportSeen}
+use Rattle.demands.proofs.Refusals.{open-refuses, commit-refuses, grow-refuses, give-refuses, report-refuses, take-refuses, release-refuses, chunks-refuses, contains-answers, table-refuses}
+use Rattle.demands.specs.ClassTables.{SmallTable}
+use Rattle.demands.proofs.ClassTables.{class-tables}
+use Rattle.witness.specs.Seen.{Opened, TakeSeen, ListSeen, ChunksSeen, CommitSeen, GrowSeen, GiveSeen, ContainsSeen, ReportSeen, TableSeen}
 
 module _ (b : List ℕ) (r : ℕ) (b′ : List ℕ) where
   pub open-seen : (n : ℕ) → Did r b′ (openOn b n) → Opened n r b b′
@@ -54,3 +57,10 @@ module _ (b : List ℕ) (r : ℕ) where
 
   pub report-seen : (fs fs′ : List ℕ) → ReportEnds (reportOn b) r fs fs′ → ReportSeen r b fs fs′
   report-seen fs fs′ e = record { number = report-refuses b r fs fs′ e; replies = shows-call (Shows.report r fs fs′ e) }
+
+module _ (r : ℕ) (l l′ : List ℕ) where
+  pub table-seen : (a b top slots : ℕ) → TableEnds (classTable a b top slots l) r l′ → TableSeen a b top slots r l l′
+  table-seen a b top slots e = record { number = table-refuses a b top slots l r l′ e; filled = class-tables .filled a b top slots l r l′ e; exactly = class-tables .exactly a b top slots l r l′ e }
+
+  pub small-table-seen : TableEnds (classTable 9 8 16384 64 l) r l′ → SmallTable r l l′
+  small-table-seen e = class-tables .small l r l′ e

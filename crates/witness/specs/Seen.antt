@@ -17,7 +17,8 @@ use Rattle.vigbuso.specs.Direct.{figuresIn}
 use Rattle.demands.specs.Call.{call}
 use Rattle.demands.specs.Run.{Opens, bookAfter}
 use Rattle.demands.specs.Contracts.{runSeen}
-use Rattle.demands.specs.Refusals.{Refuses, Contains, openTable, commitTable, growTable, giveTable, reportTable, takeTable, releaseTable, chunksTable}
+use Rattle.demands.specs.Refusals.{Refuses, Contains, openTable, commitTable, growTable, giveTable, reportTable, takeTable, releaseTable, chunksTable, rateTable}
+use Rattle.demands.specs.ClassTables.{ClassTable, Reaches}
 
 -- Same: all that the call was lent to write is as it was
 abbrev pub Numbered : List ℕ → Call → ℕ → Type 0 → Type 0
@@ -67,3 +68,9 @@ ContainsSeen x r b = Seen b x r (reply 0 (contained (eqb r 1)) b) (Unit {0})
 
 abbrev pub ReportSeen : ℕ → (b fs fs′ : List ℕ) → Type 0
 ReportSeen r b fs fs′ = Seen b Calls.report r (reply r (reported (figuresIn fs′)) b) (fs′ ≡ fs)
+
+-- ---- class tables: the same of a call that is lent no book
+pub record TableSeen (a b top slots r : ℕ) (l l′ : List ℕ) : Type 0 where
+  pub number : Refuses (rateTable a b top slots l) r (l′ ≡ l)
+  pub filled : r ≡ 0 → ClassTable a b top slots l l′
+  pub exactly : Reaches a b top slots r l

@@ -2,6 +2,7 @@
 // demands' words for that call. It adds nothing to the library.
 pub mod arena_calls;
 pub mod chunk_calls;
+pub mod class_table;
 pub mod lookup;
 pub mod release_calls;
 pub mod take_calls;
