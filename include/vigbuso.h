@@ -91,6 +91,7 @@ enum vigbuso_fate { VIGBUSO_KEPT = 0, VIGBUSO_COLD = 1, VIGBUSO_TO_ARENA = 2, VI
 enum vigbuso_refusal {
     VIGBUSO_ARENA_LENGTH = 1,
     VIGBUSO_BOOK_TOO_SHORT = 2,
+    VIGBUSO_GAME = 21,
     VIGBUSO_GROWTH = 22,
     VIGBUSO_TOP = 23,
     VIGBUSO_SLOTS = 24,
@@ -138,6 +139,8 @@ static inline const char *vigbuso_refusal_text(uint32_t number) {
         return "the run handed to release or to growth isn't wholly held by the direct calls";
     case 13:
         return "another book word that the call reads is out of its range, or a listed page yields no block";
+    case 21:
+        return "the game's pages are not 1 to 6, its live limit not 1 to the pages, or its moves above 8";
     case 22:
         return "the growth's a is not above b, b is 0, or either exceeds 1,000";
     case 23:
@@ -286,6 +289,14 @@ uint32_t vigbuso_release_bin_chunks(uint32_t *book, size_t book_len, uint32_t si
  * Returns 0, or 22, 23, 24.
  */
 uint32_t vigbuso_class_table(uint64_t a, uint64_t b, uint64_t top, uint64_t slots, uint32_t *list, size_t list_len);
+
+/*
+ * Whether an asker can break an arena of so many pages, 1 to 6, whatever the placing: in each of at most so many moves, 0 to 8, it
+ * asks for a run that keeps the live pages within live, 1 to pages, or releases a run; it wins when a run has no place.
+ *   wins   1 for yes, 0 for no
+ * Returns 0, or 21.
+ */
+uint32_t vigbuso_asker_wins(uint64_t pages, uint64_t live, uint64_t moves, uint32_t *wins);
 
 #ifdef __cplusplus
 }

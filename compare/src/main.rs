@@ -4,6 +4,7 @@ mod arguments;
 mod call;
 mod class_tables;
 mod damaged;
+mod game;
 mod generate;
 mod histories;
 mod history;
@@ -30,6 +31,7 @@ use std::process::ExitCode;
 const USAGE: &str = "usage: compare COMMAND [--NAME VALUE ..]
   lookups      both size lookups
   tables       class tables from a growth rate
+  game         an asker against any placing
   histories    [--calls N] [--seed S] [--pages N,N..] [--scenario NAME]
                random histories on the original and on the port
   record       --file F [--calls N] [--seed S] [--pages N,N..] [--scenario NAME] [--kinds all|arena]
@@ -49,6 +51,7 @@ fn main() -> ExitCode {
     let result = match words.first().map(String::as_str) {
         Some("lookups") => Ok(lookups::run()),
         Some("tables") => Ok(class_tables::run()),
+        Some("game") => Ok(game::run()),
         Some("histories") => histories::histories(rest),
         Some("record") => histories::record(rest),
         Some("replay") => histories::replay(rest),

@@ -9,6 +9,7 @@ use crate::words::{Family, NO_PAGE};
 extern "C" {
     fn vigbuso_class_for_size(size: u64) -> u32;
     fn vigbuso_medium_class_for_size(size: u64) -> u32;
+    fn vigbuso_asker_wins(pages: u64, live: u64, moves: u64, wins: *mut u32) -> u32;
     fn vigbuso_class_table(a: u64, b: u64, top: u64, slots: u64, list: *mut u32, len: usize) -> u32;
     fn vigbuso_open(book: *mut u32, words: usize, pages: u64) -> u32;
     fn vigbuso_commit(book: *mut u32, words: usize, host: u32, pages: u64, first: *mut u32, fresh: *mut u32) -> u32;
@@ -90,6 +91,12 @@ pub fn medium_class_for_size(size: u64) -> u32 {
 pub fn class_table(a: u64, b: u64, top: u64, slots: u64, list: &mut [u32]) -> u32 {
     // SAFETY: the slice is lent for the call.
     unsafe { vigbuso_class_table(a, b, top, slots, list.as_mut_ptr(), list.len()) }
+}
+
+/// What is returned.
+pub fn asker_wins(pages: u64, live: u64, moves: u64, wins: &mut u32) -> u32 {
+    // SAFETY: the number is lent for the call.
+    unsafe { vigbuso_asker_wins(pages, live, moves, wins) }
 }
 
 /// 0, or the refusal's number.

@@ -95,6 +95,7 @@ extern "C" {
         fates_len: usize,
     ) -> u32;
     fn vigbuso_class_table(a: u64, b: u64, top: u64, slots: u64, list: *mut u32, list_len: usize) -> u32;
+    fn vigbuso_asker_wins(pages: u64, live: u64, moves: u64, wins: *mut u32) -> u32;
 }
 
 /// Whether a call was carried out.
@@ -253,6 +254,14 @@ pub(crate) fn release_chunks(
 pub(crate) fn class_table(growth: Growth, top: u64, slots: u64, list: &mut [u32]) -> Result<(), Refusal> {
     // SAFETY: the slice is lent for the call.
     carried_out(unsafe { vigbuso_class_table(growth.a, growth.b, top, slots, list.as_mut_ptr(), list.len()) })
+}
+
+/// 1 if the asker wins.
+pub(crate) fn asker_wins(pages: u64, live: u64, moves: u64) -> Result<u32, Refusal> {
+    let mut wins = 0;
+    // SAFETY: the local is lent for the call.
+    carried_out(unsafe { vigbuso_asker_wins(pages, live, moves, &raw mut wins) })?;
+    Ok(wins)
 }
 
 /// The refusals that the types above rule out can be seen here only.

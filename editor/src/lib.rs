@@ -61,6 +61,7 @@ mod error;
 mod fate;
 #[allow(unsafe_code)]
 mod ffi;
+mod game;
 mod heap;
 mod host;
 mod pool;
@@ -77,6 +78,7 @@ pub use chunk::Chunk;
 pub use class::Class;
 pub use error::{AllocError, OpenError, ReleaseError};
 pub use fate::Fate;
+pub use game::asker_wins;
 pub use heap::{book_words, Heap, MAX_PAGES};
 pub use host::Host;
 pub use pool::{Pool, PoolReport};

@@ -138,6 +138,16 @@ static void class_table(void) {
     IS(list[65], 7);
 }
 
+static void game(void) {
+    uint32_t wins = 7;
+    IS(vigbuso_asker_wins(7, 3, 6, &wins), VIGBUSO_GAME);
+    IS(wins, 7);
+    IS(vigbuso_asker_wins(3, 3, 6, &wins), 0);
+    IS(wins, 1);
+    IS(vigbuso_asker_wins(3, 3, 0, &wins), 0);
+    IS(wins, 0);
+}
+
 int main(void) {
     book = (uint32_t *)calloc(words, sizeof *book);
     if (book == NULL) {
@@ -153,6 +163,7 @@ int main(void) {
     report();
     chunks();
     class_table();
+    game();
     free(book);
     printf("%d differences\n", differences);
     return differences != 0;

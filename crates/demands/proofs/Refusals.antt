@@ -28,9 +28,9 @@ use Rattle.take.specs.TakeAnswer as Takes
 use Rattle.release.specs.Act.{answerAs}
 use Rattle.vigbuso.specs.Direct.{firstOut, freshOut, grownOut, containsOn}
 use Rattle.vigbuso.specs.Blocks.{codeOut, countOut, virginOut, releaseCode, fateOut}
-use Rattle.demands.specs.Refusals.{Row, firstNumber, checkingOrder, inOrder, Refuses, OpenRefuses, CommitRefuses, GrowRefuses, GiveRefuses, ReportRefuses, TakeRefuses, ReleaseRefuses, ChunksRefuses, containsTable, ContainsAnswers, SizeAnswers, Demand1, TableRefuses}
+use Rattle.demands.specs.Refusals.{Row, firstNumber, checkingOrder, inOrder, Refuses, OpenRefuses, CommitRefuses, GrowRefuses, GiveRefuses, ReportRefuses, TakeRefuses, ReleaseRefuses, ChunksRefuses, containsTable, ContainsAnswers, SizeAnswers, Demand1, TableRefuses, GameRefuses}
 use Rattle.demands.proofs.RefusalsLaws.{Ends, book-turn}
-use Rattle.demands.proofs.RefusalsCalls.{open-table, commit-table, grow-table, give-table, report-table, take-table, release-table, chunks-table, rate-table}
+use Rattle.demands.proofs.RefusalsCalls.{open-table, commit-table, grow-table, give-table, report-table, take-table, release-table, chunks-table, rate-table, game-table}
 use Rattle.pages.proofs.Downs.{digit-le}
 
 -- ---- the answer's number is the definition's, and where it is one, the out-parameters stay as they were
@@ -115,6 +115,9 @@ chunks-refuses b c h ws gs fs r b′ fs′ e = refuses _ _ _ _ (chunks-table b c
 pub table-refuses : TableRefuses
 table-refuses a b top slots l r l′ e = refuses _ _ _ _ (rate-table a b top slots l) _ r refl (e .code) λ d s. e .list ∙ s
 
+pub game-refuses : GameRefuses
+game-refuses n limit k r w w′ e = refuses _ _ _ _ (game-table n limit k w) _ r refl (e .code) λ d s. e .wins ∙ s
+
 -- ---- the lookups and `contains` refuse nothing
 pub small-answers : SizeAnswers classForSize 64
 small-answers bytes r e = lt-leb 64 r (omega (arith, small-class bytes))
@@ -159,6 +162,7 @@ demand-1 = record {
   mediumReleaseBlocks = release-refuses 64 12;
   releaseBinChunks = chunks-refuses;
   classTable = table-refuses;
+  askerWins = game-refuses;
   contains = contains-answers;
   classForSize = small-answers;
   mediumClassForSize = medium-answers;

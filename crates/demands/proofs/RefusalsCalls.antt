@@ -14,6 +14,7 @@ use Rattle.words.specs.Word.{chunkKind}
 use Rattle.classes.specs.declared.Shape.{Shape}
 use Rattle.classes.specs.Shape.{shapeOf}
 use Rattle.tables.specs.Table.{badRate, badTop, badSlots, Tabled, classTable}
+use Rattle.game.specs.Game.{badGame, Played, askerWins, winsOut}
 use Rattle.fields.specs.Field.{arena, class, page, size, frontier, partial, empty, cold, free, carved, get}
 use Rattle.fields.specs.Outcome.{Outcome}
 use Rattle.fields.specs.Outcome as Fields
@@ -38,7 +39,7 @@ use Rattle.vigbuso.specs.Direct as Direct
 use Rattle.vigbuso.specs.Direct.{openOn, commitOn, growOn, reportOn, reportCode, figuresOut}
 use Rattle.vigbuso.specs.Blocks as Blocks
 use Rattle.vigbuso.specs.Blocks.{takeOn, chunksOn}
-use Rattle.demands.specs.Refusals.{shortList, nothingListed, manyChunks, wrongKind, notOut, otherPage, chunksDiffer, notHeld, openTable, commitTable, growTable, giveTable, reportTable, takeTable, releaseTable, chunksTable, rateTable}
+use Rattle.demands.specs.Refusals.{shortList, nothingListed, manyChunks, wrongKind, notOut, otherPage, chunksDiffer, notHeld, openTable, commitTable, growTable, giveTable, reportTable, takeTable, releaseTable, chunksTable, rateTable, gameTable}
 use Rattle.demands.specs.Number13.{takeFair}
 use Rattle.demands.proofs.Ranges.{record-strays, commit-strays, give-strays, take-strays, release-strays, chunks-strays}
 use Rattle.demands.proofs.RefusalsLaws.{not-and, le-not-lt, Ends, ends, turn, unless, book-turn, chain, choose, before}
@@ -212,3 +213,8 @@ rate-table a b top slots l =
     turn _ _ (badTop top) 23 _ _ _ refl refl λ e.
     turn _ _ (badSlots a b top slots (length l)) 24 _ _ _ refl refl λ e.
     ends _ _ _ refl
+
+-- ---- the game
+pub game-table : (n limit k w : ℕ) → Ends {R = Played} (λ o. o .code) (λ o. winsOut o w ≡ w) (gameTable n limit k) (askerWins n limit k)
+unfolding askerWins
+game-table n limit k w = turn _ _ (badGame n limit k) 21 _ _ _ refl refl λ e. ends _ _ _ refl

@@ -8,3 +8,4 @@ pub mod Reads
 pub mod Number13
 pub mod Refusals
 pub mod ClassTables
+pub mod Game

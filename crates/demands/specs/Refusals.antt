@@ -1,7 +1,7 @@
 -- Demand 1: document 01's table "Numbers for a refused call, in checking order", with document 02's numbers in it, for each exported
 -- function.
 --     badLength to notHeld       when each number applies, with document 01's sentence
---     openTable to rateTable     for each function the numbers that it can answer, in checking order, and whether each applies
+--     openTable to gameTable     for each function the numbers that it can answer, in checking order, and whether each applies
 --     firstNumber                the first of them that applies, 0 if none does
 --     Refuses                    a call answered that number, and changed nothing where it is not 0
 --     Demand1                    every exported function does so, by what its contract says of it
@@ -20,6 +20,7 @@ use Rattle.classes.specs.declared.Shape.{Shape}
 use Rattle.classes.specs.Shape.{shapeOf}
 use Rattle.classes.specs.Lookup.{classForSize, mediumClassForSize}
 use Rattle.tables.specs.Table.{badRate, badTop, badSlots, classTable, TableEnds}
+use Rattle.game.specs.Game.{badGame, askerWins, GameEnds}
 use Rattle.fields.specs.Field.{arena, size, words, get}
 use Rattle.fields.specs.Outcome.{Did}
 use Rattle.fields.specs.Ranges.{maxPages}
@@ -89,7 +90,7 @@ notHeld n b q m = not (heldDirect n b q m)
 -- 13. "Another book word that the call reads is out of its range, or a listed page yields no block.": `strays` and `barren`, over the
 -- rows that the call reads of the one table, Specs/Ranges. That the tests of the code are just these is Specs/Number13.
 
--- Document 02's: 22, 23 and 24 are `badRate`, `badTop` and `badSlots`.
+-- Document 02's: 21 is `badGame`; 22, 23 and 24 are `badRate`, `badTop` and `badSlots`.
 
 -- ---- a table's rows are a number and whether it applies
 abbrev pub Row : Type 0
@@ -189,6 +190,10 @@ chunksTable b c h ws gs fs =
 abbrev pub rateTable : ℕ → ℕ → ℕ → ℕ → List ℕ → List Row
 rateTable a b top slots l = (22, badRate a b) ∷ (23, badTop top) ∷ (24, badSlots a b top slots (length l)) ∷ []
 
+-- vigbuso_asker_wins
+abbrev pub gameTable : ℕ → ℕ → ℕ → List Row
+gameTable n limit k = (21, badGame n limit k) ∷ []
+
 -- ---- "Each returns its number and changes nothing."
 -- A call with these rows answered r; Same says that all that it was lent to write is as it was: book, list, out-parameters.
 pub record Refuses (rows : List Row) (r : ℕ) (Same : Type 0) : Type 0 where
@@ -238,12 +243,15 @@ ChunksRefuses =
     → ChunksEnds (chunksOn b c h ws gs fs) r b′ fs′
     → Refuses (chunksTable b c h ws gs fs) r ((b′ ≡ b) × (fs′ ≡ fs))
 
--- no book is lent
+-- no book is lent here, nor below
 abbrev pub TableRefuses : Type 0
 TableRefuses =
     (a b top slots : ℕ) (l : List ℕ) (r : ℕ) (l′ : List ℕ)
     → TableEnds (classTable a b top slots l) r l′
     → Refuses (rateTable a b top slots l) r (l′ ≡ l)
+
+abbrev pub GameRefuses : Type 0
+GameRefuses = (n limit k r w w′ : ℕ) → GameEnds (askerWins n limit k) r w w′ → Refuses (gameTable n limit k) r (w′ ≡ w)
 
 -- "Sizes and `contains` refuse nothing": a size has a class that number 4 does not refuse; `contains` is 1 or 0, yes or no, and no "on
 -- a book that 1, 2 or 13 would refuse".
@@ -270,6 +278,7 @@ pub record Demand1 : Type 0 where
   pub mediumReleaseBlocks : ReleaseRefuses 64 12
   pub releaseBinChunks : ChunksRefuses
   pub classTable : TableRefuses
+  pub askerWins : GameRefuses
   pub contains : ContainsAnswers
   pub classForSize : SizeAnswers classForSize 64
   pub mediumClassForSize : SizeAnswers mediumClassForSize 12

@@ -1,5 +1,6 @@
 // The exported C functions. Numbers and slices only; each is thin over a proved function.
 pub mod arena_calls;
+pub mod asker;
 pub mod chunk_calls;
 pub mod class_table;
 mod faults;

@@ -4,6 +4,7 @@ use mathlib.Core.List.{List}
 use mathlib.Core.Path.{_≡_, sym, _∙_}
 use Rattle.words.specs.Host.{digit}
 use Rattle.tables.specs.Table.{classTable, TableEnds}
+use Rattle.game.specs.Game.{askerWins, GameEnds}
 use Rattle.fields.specs.Outcome.{Did}
 use Rattle.model.specs.Calls as Calls
 use Rattle.direct.specs.Answer.{Releases}
@@ -13,10 +14,12 @@ use Rattle.vigbuso.specs.Blocks as Blocks
 use Rattle.vigbuso.specs.Blocks.{takeOn, TakeEnds, ReleaseEnds, chunksOn, ChunksEnds}
 use Rattle.demands.specs.Contracts as Shows
 use Rattle.demands.proofs.Contracts.{shows-call}
-use Rattle.demands.proofs.Refusals.{open-refuses, commit-refuses, grow-refuses, give-refuses, report-refuses, take-refuses, release-refuses, chunks-refuses, contains-answers, table-refuses}
+use Rattle.demands.proofs.Refusals.{open-refuses, commit-refuses, grow-refuses, give-refuses, report-refuses, take-refuses, release-refuses, chunks-refuses, contains-answers, table-refuses, game-refuses}
 use Rattle.demands.specs.ClassTables.{SmallTable}
 use Rattle.demands.proofs.ClassTables.{class-tables}
-use Rattle.witness.specs.Seen.{Opened, TakeSeen, ListSeen, ChunksSeen, CommitSeen, GrowSeen, GiveSeen, ContainsSeen, ReportSeen, TableSeen}
+use Rattle.demands.specs.Game.{ThreeYes}
+use Rattle.demands.proofs.Game.{game}
+use Rattle.witness.specs.Seen.{Opened, TakeSeen, ListSeen, ChunksSeen, CommitSeen, GrowSeen, GiveSeen, ContainsSeen, ReportSeen, TableSeen, GameSeen}
 
 module _ (b : List ℕ) (r : ℕ) (b′ : List ℕ) where
   pub open-seen : (n : ℕ) → Did r b′ (openOn b n) → Opened n r b b′
@@ -64,3 +67,10 @@ module _ (r : ℕ) (l l′ : List ℕ) where
 
   pub small-table-seen : TableEnds (classTable 9 8 16384 64 l) r l′ → SmallTable r l l′
   small-table-seen e = class-tables .small l r l′ e
+
+module _ (r w w′ : ℕ) where
+  pub game-seen : (n limit k : ℕ) → GameEnds (askerWins n limit k) r w w′ → GameSeen n limit k r w w′
+  game-seen n limit k e = record { number = game-refuses n limit k r w w′ e; answers = game .answers n limit k r w w′ e }
+
+  pub three-seen : GameEnds (askerWins 3 3 6) r w w′ → ThreeYes r w′
+  three-seen e = game .three-yes r w w′ e

@@ -17,8 +17,9 @@ use Rattle.vigbuso.specs.Direct.{figuresIn}
 use Rattle.demands.specs.Call.{call}
 use Rattle.demands.specs.Run.{Opens, bookAfter}
 use Rattle.demands.specs.Contracts.{runSeen}
-use Rattle.demands.specs.Refusals.{Refuses, Contains, openTable, commitTable, growTable, giveTable, reportTable, takeTable, releaseTable, chunksTable, rateTable}
+use Rattle.demands.specs.Refusals.{Refuses, Contains, openTable, commitTable, growTable, giveTable, reportTable, takeTable, releaseTable, chunksTable, rateTable, gameTable}
 use Rattle.demands.specs.ClassTables.{ClassTable, Reaches}
+use Rattle.demands.specs.Game.{AskerWins}
 
 -- Same: all that the call was lent to write is as it was
 abbrev pub Numbered : List ℕ → Call → ℕ → Type 0 → Type 0
@@ -74,3 +75,8 @@ pub record TableSeen (a b top slots r : ℕ) (l l′ : List ℕ) : Type 0 where
   pub number : Refuses (rateTable a b top slots l) r (l′ ≡ l)
   pub filled : r ≡ 0 → ClassTable a b top slots l l′
   pub exactly : Reaches a b top slots r l
+
+-- ---- the game, likewise
+pub record GameSeen (n limit k r w w′ : ℕ) : Type 0 where
+  pub number : Refuses (gameTable n limit k) r (w′ ≡ w)
+  pub answers : r ≡ 0 → AskerWins n limit k w′
