@@ -20,6 +20,7 @@ use Rattle.classes.proofs.Meaning.{small-class, medium-class}
 use Rattle.fields.specs.Field.{arena, size, state, get}
 use Rattle.fields.specs.Ranges.{metaFault}
 use Rattle.model.specs.Arena.{contains, isReady}
+use Rattle.plan.specs.Plan.{badPlan}
 use Rattle.arena.specs.Load.{statusOf, loadArena}
 use Rattle.arena.specs.Calls.{containsCall}
 use Rattle.runs.specs.Answer.{answerOf, commitCode}
@@ -28,7 +29,7 @@ use Rattle.take.specs.TakeAnswer as Takes
 use Rattle.release.specs.Act.{answerAs}
 use Rattle.vigbuso.specs.Direct.{firstOut, freshOut, grownOut, containsOn}
 use Rattle.vigbuso.specs.Blocks.{codeOut, countOut, virginOut, releaseCode, fateOut}
-use Rattle.demands.specs.Refusals.{Row, firstNumber, checkingOrder, inOrder, Refuses, OpenRefuses, CommitRefuses, GrowRefuses, GiveRefuses, ReportRefuses, TakeRefuses, ReleaseRefuses, ChunksRefuses, containsTable, ContainsAnswers, SizeAnswers, Demand1}
+use Rattle.demands.specs.Refusals.{Row, firstNumber, checkingOrder, inOrder, Refuses, OpenRefuses, CommitRefuses, GrowRefuses, GiveRefuses, ReportRefuses, TakeRefuses, ReleaseRefuses, ChunksRefuses, PlanRefuses, containsTable, ContainsAnswers, SizeAnswers, Demand1}
 use Rattle.demands.proofs.RefusalsLaws.{Ends, book-turn}
 use Rattle.demands.proofs.RefusalsCalls.{open-table, commit-table, grow-table, give-table, report-table, take-table, release-table, chunks-table}
 use Rattle.pages.proofs.Downs.{digit-le}
@@ -112,6 +113,12 @@ release-refuses low many b c h ws r b′ f f′ e =
 pub chunks-refuses : ChunksRefuses
 chunks-refuses b c h ws gs fs r b′ fs′ e = refuses _ _ _ _ (chunks-table b c h ws gs fs) _ r refl (e .code) λ d s. (e .book ∙ s .0, e .fates ∙ s .1)
 
+pub plan-refuses : PlanRefuses
+plan-refuses ks ts r t t′ e = record { order = refl; number = e .code; kept = λ d. kept d }
+  where
+    kept : (r ≡ 0 → ⊥) → t′ ≡ t
+    kept d = by-cases (badPlan ks ts) (λ b. e .total ∙ rw b) (λ b. absurd (d (e .code ∙ rw b)))
+
 -- ---- the lookups and `contains` refuse nothing
 pub small-answers : SizeAnswers classForSize 64
 small-answers bytes r e = lt-leb 64 r (omega (arith, small-class bytes))
@@ -155,6 +162,7 @@ demand-1 = record {
   releaseBlocks = release-refuses 0 64;
   mediumReleaseBlocks = release-refuses 64 12;
   releaseBinChunks = chunks-refuses;
+  plan = plan-refuses;
   contains = contains-answers;
   classForSize = small-answers;
   mediumClassForSize = medium-answers;

@@ -7,3 +7,4 @@ pub mod Ranges
 pub mod Reads
 pub mod Number13
 pub mod Refusals
+pub mod Plan

@@ -1,6 +1,6 @@
--- Demand 1: document 01's table "Numbers for a refused call, in checking order", for each exported function.
+-- Demand 1: document 01's table "Numbers for a refused call, in checking order", with document 02's numbers, for each exported function.
 --     badLength to notHeld       when each number applies, with document 01's sentence
---     openTable to chunksTable   for each function the numbers that it can answer, in checking order, and whether each applies
+--     openTable to planTable     for each function the numbers that it can answer, in checking order, and whether each applies
 --     firstNumber                the first of them that applies, 0 if none does
 --     Refuses                    a call answered that number, and changed nothing where it is not 0
 --     Demand1                    every exported function does so, by what its contract says of it
@@ -24,6 +24,8 @@ use Rattle.fields.specs.Ranges.{maxPages}
 use Rattle.model.specs.Heap.{badRun, badGrowth}
 use Rattle.model.specs.Release.{ofKind}
 use Rattle.model.specs.Chunks.{chunksMax}
+use Rattle.plan.specs.Plan.{badPlan}
+use Rattle.plan.specs.Code.{PlanEnds}
 use Rattle.arena.specs.Calls.{heldDirect}
 use Rattle.direct.specs.Answer.{Releases}
 use Rattle.calls.specs.Release.{startOf, outAt, firstOf}
@@ -87,6 +89,8 @@ notHeld n b q m = not (heldDirect n b q m)
 -- 13. "Another book word that the call reads is out of its range, or a listed page yields no block.": `strays` and `barren`, over the
 -- rows that the call reads of the one table, Specs/Ranges. That the tests of the code are just these is Specs/Number13.
 
+-- 14, document 02's, of a plan: `badPlan`
+
 -- ---- a table's rows are a number and whether it applies
 abbrev pub Row : Type 0
 Row = ℕ × Bool
@@ -95,9 +99,11 @@ abbrev pub firstNumber : List Row → ℕ
 firstNumber [] = 0
 firstNumber (row ∷ rows) = cond (row .1) (row .0) (firstNumber rows)
 
--- the order in which a call is checked, and that a table keeps it: its numbers stand there one behind another
+-- the order in which a call is checked, documents 01 and 02 together, and that a table keeps it: its numbers stand there one behind
+-- another. 13 stands twice: a mark that is set comes before 15.
 abbrev pub checkingOrder : List ℕ
-checkingOrder = 1 ∷ 2 ∷ 3 ∷ 4 ∷ 5 ∷ 6 ∷ 7 ∷ 8 ∷ 9 ∷ 10 ∷ 11 ∷ 12 ∷ 13 ∷ []
+checkingOrder =
+    1 ∷ 2 ∷ 19 ∷ 18 ∷ 17 ∷ 14 ∷ 16 ∷ 20 ∷ 21 ∷ 22 ∷ 23 ∷ 24 ∷ 3 ∷ 4 ∷ 5 ∷ 6 ∷ 7 ∷ 8 ∷ 9 ∷ 13 ∷ 15 ∷ 10 ∷ 11 ∷ 12 ∷ 13 ∷ []
 
 abbrev pub inOrder : List ℕ → List Row → Bool
 inOrder ks [] = true
@@ -179,6 +185,10 @@ chunksTable b c h ws gs fs =
     ∷ (13, strays b (chunksReads b c sh gs))
     ∷ []
 
+-- vigbuso_plan: "it stands after 2, though no book is lent"
+abbrev pub planTable : List ℕ → List ℕ → List Row
+planTable ks ts = (14, badPlan ks ts) ∷ []
+
 -- ---- "Each returns its number and changes nothing."
 -- A call with these rows answered r; Same says that all that it was lent to write is as it was: book, list, out-parameters.
 pub record Refuses (rows : List Row) (r : ℕ) (Same : Type 0) : Type 0 where
@@ -228,6 +238,10 @@ ChunksRefuses =
     → ChunksEnds (chunksOn b c h ws gs fs) r b′ fs′
     → Refuses (chunksTable b c h ws gs fs) r ((b′ ≡ b) × (fs′ ≡ fs))
 
+-- no book is lent, and both lists are only read
+abbrev pub PlanRefuses : Type 0
+PlanRefuses = (ks ts : List ℕ) (r t t′ : ℕ) → PlanEnds ks ts r t t′ → Refuses (planTable ks ts) r (t′ ≡ t)
+
 -- "Sizes and `contains` refuse nothing": a size has a class that number 4 does not refuse; `contains` is 1 or 0, yes or no, and no "on
 -- a book that 1, 2 or 13 would refuse".
 pub record Contains (b : List ℕ) (r : ℕ) : Type 0 where
@@ -252,6 +266,7 @@ pub record Demand1 : Type 0 where
   pub releaseBlocks : ReleaseRefuses 0 64
   pub mediumReleaseBlocks : ReleaseRefuses 64 12
   pub releaseBinChunks : ChunksRefuses
+  pub plan : PlanRefuses
   pub contains : ContainsAnswers
   pub classForSize : SizeAnswers classForSize 64
   pub mediumClassForSize : SizeAnswers mediumClassForSize 12

@@ -1,21 +1,20 @@
 -- Every plan that is not refused can be carried out: one take after the other.
-use Prim.Native.Nat.{ℕ, zero, suc, _+_, _-_, _≤_, _<_}
-use mathlib.Core.Path.{_≡_, refl, sym, ap, _∙_, subst}
-use mathlib.Core.List.{List, [], _∷_, _++_}
+use Prim.Native.Nat.{ℕ, zero, suc, _+_, _-_, _≤_}
+use mathlib.Core.Path.{_≡_, refl}
+use mathlib.Core.List.{List, [], _∷_}
 use mathlib.Core.Option.{some}
-use mathlib.Core.Bool.{Bool, true, false, cond}
+use mathlib.Core.Bool.{true, false, cond}
 use native.Mathlib.Omega.{arith}
 use lib.Dec.{eqb, leb, ltb}
-use lib.ListN.{length, replicate, length-replicate}
-use borrow.Author.Tests.{leb-true, lt-ltb, le-ltb, ltb-true, ltb-false}
-use Rattle.classes.specs.Shape.{shapeOf}
+use lib.ListN.{length, replicate}
+use borrow.Author.Tests.{leb-true, lt-ltb, ltb-true, ltb-false}
 use Rattle.classes.proofs.Shapes.{shape-sound}
 use Rattle.facts.specs.Lists.{All, every}
 use Rattle.model.specs.Calls as Calls
 use Rattle.model.specs.Calls.{Call, names}
 use Rattle.model.specs.History.{callsOf}
 use Rattle.facts.proofs.Bools.{by-cases, and-left, and-right}
-use Rattle.plan.specs.Plan.{classCount, lastClass, takesOf, badPlan}
+use Rattle.plan.specs.Plan.{lastClass, badPlan}
 use Rattle.plan.specs.Fits.{Asks, Granted, small, medium, Carries, Carried}
 use Rattle.plan.proofs.FaultSteps.{fine}
 

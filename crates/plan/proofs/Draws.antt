@@ -1,14 +1,13 @@
 -- A granted commit where no hole is stored: at the frontier, if the arena suffices.
 use Prim.Native.Nat.{ℕ, _+_, _≤_, _<_}
-use mathlib.Core.Path.{_≡_, refl, sym, ap, _∙_, subst}
-use mathlib.Core.List.{List, [], _∷_}
-use mathlib.Core.Option.{Option, none, some}
-use mathlib.Core.Bool.{Bool, true, false, cond, true≢false}
-use native.Mathlib.Omega.{arith}
+use mathlib.Core.Path.{_≡_, refl, sym, ap, _∙_}
+use mathlib.Core.List.{[]}
+use mathlib.Core.Option.{none, some}
+use mathlib.Core.Bool.{Bool, true, false, true≢false}
 use lib.Dec.{leb}
 use borrow.Author.Tests.{leb-true, leb-false}
 use Rattle.words.specs.Host.{reservationGranted, commitGranted}
-use Rattle.model.specs.HoleStore.{chooseIn, choose}
+use Rattle.model.specs.HoleStore.{chooseIn}
 use Rattle.model.specs.Arena.{Arena, Status, unasked, ready, disabled, Given, withStatus, drawFrom, draw, grant, commitReady, commitAs, commit}
 use Rattle.facts.proofs.Bools.{by-cases}
 

@@ -1,23 +1,22 @@
 -- A class from which nothing was released: at most one partial page, no empty or cold one; how a take moves it.
-use Prim.Native.Nat.{ℕ, zero, suc, _+_, _-_, _*_, _≤_, _<_, min}
-use mathlib.Core.Path.{_≡_, refl, sym, ap, _∙_, subst}
+use Prim.Native.Nat.{ℕ, zero, suc, _+_, _-_, _*_, _≤_, _<_}
+use mathlib.Core.Path.{_≡_, refl, subst}
 use mathlib.Core.List.{List, [], _∷_}
 use mathlib.Core.Option.{Option, none, some}
-use mathlib.Core.Bool.{Bool, true, false, cond, not, _||_, false≢true}
+use mathlib.Core.Bool.{Bool, true, false, not, _||_, false≢true}
 use native.Mathlib.Omega.{arith}
-use lib.Dec.{eqb, ltb}
+use lib.Dec.{ltb}
 use lib.ListN.{length, length-drop}
-use borrow.Author.Tests.{ltb-true, ltb-false, ne-eqb, lt-ltb, le-ltb}
+use borrow.Author.Tests.{ne-eqb, lt-ltb, le-ltb}
 use Rattle.classes.specs.declared.Shape.{Shape}
 use Rattle.classes.specs.Sound.{Sound}
 use Rattle.facts.specs.Lists.{All, isNil}
 use Rattle.model.specs.Calls as Calls
 use Rattle.model.specs.Calls.{blocksOf}
-use Rattle.model.specs.Page.{Page, isMedium, carve, carveAs, wordsFrom, hasMore, carvedNow, pop, reused}
+use Rattle.model.specs.Page.{Page, isMedium, carve, carveAs, hasMore, carvedNow, pop, reused}
 use Rattle.model.specs.Class.{Class, Cold, Result, Ask, done, asks, after, fillFromList, served, onRun, takeFrom}
 use Rattle.model.specs.Chunks.{answer}
-use Rattle.model.specs.Yields.{Listed, TakeYields, refuses, yields, asks-first}
-use Rattle.facts.proofs.Bools.{by-cases}
+use Rattle.model.specs.Yields.{TakeYields, refuses, yields, asks-first}
 use Rattle.model.proofs.NewRun.{length-words}
 use Rattle.model.proofs.Yields.{answer-yields}
 use Rattle.plan.proofs.Rounding.{per, per-low, per-high, per-some}

@@ -17,7 +17,7 @@ use Rattle.model.specs.Heap.{Heap, newHeap, step}
 use Rattle.model.specs.History.{eventsFrom, answers, callsOf}
 use Rattle.model.proofs.Update.{other-way}
 use Rattle.plan.specs.Plan.{pagesOf, takesOf, planTotal}
-use Rattle.plan.specs.Fits.{Granted, Gives, Carries, Planned}
+use Rattle.plan.specs.Fits.{Granted, Gives, Carries, OneMore, Planned}
 use Rattle.plan.proofs.Rounding.{Moves}
 use Rattle.plan.proofs.PageSums.{bump, bump-more, pages-up}
 use Rattle.plan.proofs.HeapSteps.{HeapAt, StepIs, fits, fails, Named, granted-names, step-is, new-at}
@@ -61,14 +61,14 @@ plan-fits n ks ts xs g e =
     let same : all (λ c. 0) xs ≡ takesOf ks ts = fun-ext (λ c. omega (arith, e c)) in
     subst (λ f. All Gives (answers n xs) ↔ (pagesOf f ≤ n)) same (fits-from n (λ c. 0) newHeap (new-at n) xs g)
 
-plan-one-more : (c : ℕ) (ks ts : List ℕ) → Moves c (planTotal ks ts) (planTotal (c ∷ ks) (1 ∷ ts))
+plan-one-more : (c : ℕ) (ks ts ks′ ts′ : List ℕ) → OneMore c ks ts ks′ ts′ → Moves c (planTotal ks ts) (planTotal ks′ ts′)
 unfolding planTotal
-plan-one-more c ks ts =
-    let same : bump (takesOf ks ts) c ≡ takesOf (c ∷ ks) (1 ∷ ts) =
+plan-one-more c ks ts ks′ ts′ m =
+    let same : bump (takesOf ks ts) c ≡ takesOf ks′ ts′ =
     fun-ext (λ d.
     by-cases (eqb c d)
-    (λ b. let k = eqb-true c d b in rw (b, eq-eqb d c (sym k), k) (omega arith))
-    (λ b. rw (b, other-way c d b) (omega arith))) in
+    (λ b. let k = eqb-true c d b in rw (m d, b, eq-eqb d c (sym k), k) (omega arith))
+    (λ b. rw (m d, b, other-way c d b) (omega arith))) in
     subst (λ f. Moves c (pagesOf (takesOf ks ts)) (pagesOf f)) same (bump-more (takesOf ks ts) c)
 
 -- entries behind equally long beginnings count alike

@@ -5,6 +5,7 @@ use mathlib.Core.Path.{_≡_, sym, _∙_}
 use Rattle.words.specs.Host.{digit}
 use Rattle.fields.specs.Outcome.{Did}
 use Rattle.model.specs.Calls as Calls
+use Rattle.plan.specs.Code.{PlanEnds}
 use Rattle.direct.specs.Answer.{Releases}
 use Rattle.vigbuso.specs.Direct as Direct
 use Rattle.vigbuso.specs.Direct.{openOn, commitOn, CommitEnds, growOn, GrowEnds, containsOn, reportOn, ReportEnds}
@@ -12,8 +13,9 @@ use Rattle.vigbuso.specs.Blocks as Blocks
 use Rattle.vigbuso.specs.Blocks.{takeOn, TakeEnds, ReleaseEnds, chunksOn, ChunksEnds}
 use Rattle.demands.specs.Contracts as Shows
 use Rattle.demands.proofs.Contracts.{shows-call}
-use Rattle.demands.proofs.Refusals.{open-refuses, commit-refuses, grow-refuses, give-refuses, report-refuses, take-refuses, release-refuses, chunks-refuses, contains-answers}
-use Rattle.witness.specs.Seen.{Opened, TakeSeen, ListSeen, ChunksSeen, CommitSeen, GrowSeen, GiveSeen, ContainsSeen, ReportSeen}
+use Rattle.demands.proofs.Refusals.{open-refuses, commit-refuses, grow-refuses, give-refuses, report-refuses, take-refuses, release-refuses, chunks-refuses, plan-refuses, contains-answers}
+use Rattle.demands.proofs.Plan.{fits}
+use Rattle.witness.specs.Seen.{Opened, TakeSeen, ListSeen, ChunksSeen, CommitSeen, GrowSeen, GiveSeen, ContainsSeen, ReportSeen, PlanSeen}
 
 module _ (b : List ℕ) (r : ℕ) (b′ : List ℕ) where
   pub open-seen : (n : ℕ) → Did r b′ (openOn b n) → Opened n r b b′
@@ -54,3 +56,6 @@ module _ (b : List ℕ) (r : ℕ) where
 
   pub report-seen : (fs fs′ : List ℕ) → ReportEnds (reportOn b) r fs fs′ → ReportSeen r b fs fs′
   report-seen fs fs′ e = record { number = report-refuses b r fs fs′ e; replies = shows-call (Shows.report r fs fs′ e) }
+
+pub plan-seen : (ks ts : List ℕ) (r t t′ : ℕ) → PlanEnds ks ts r t t′ → PlanSeen ks ts r t t′
+plan-seen ks ts r t t′ e = record { number = plan-refuses ks ts r t t′ e; fits = λ z. fits ks ts t t′ (record { code = sym z ∙ e .code; total = e .total }) }

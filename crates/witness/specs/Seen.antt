@@ -17,7 +17,8 @@ use Rattle.vigbuso.specs.Direct.{figuresIn}
 use Rattle.demands.specs.Call.{call}
 use Rattle.demands.specs.Run.{Opens, bookAfter}
 use Rattle.demands.specs.Contracts.{runSeen}
-use Rattle.demands.specs.Refusals.{Refuses, Contains, openTable, commitTable, growTable, giveTable, reportTable, takeTable, releaseTable, chunksTable}
+use Rattle.demands.specs.Refusals.{Refuses, Contains, openTable, commitTable, growTable, giveTable, reportTable, takeTable, releaseTable, chunksTable, planTable}
+use Rattle.demands.specs.Plan.{Fits}
 
 -- Same: all that the call was lent to write is as it was
 abbrev pub Numbered : List ℕ → Call → ℕ → Type 0 → Type 0
@@ -67,3 +68,8 @@ ContainsSeen x r b = Seen b x r (reply 0 (contained (eqb r 1)) b) (Unit {0})
 
 abbrev pub ReportSeen : ℕ → (b fs fs′ : List ℕ) → Type 0
 ReportSeen r b fs fs′ = Seen b Calls.report r (reply r (reported (figuresIn fs′)) b) (fs′ ≡ fs)
+
+-- a plan is no call on a book: its number, and its total against every history of its takes
+pub record PlanSeen (ks ts : List ℕ) (r t t′ : ℕ) : Type 0 where
+  pub number : Refuses (planTable ks ts) r (t′ ≡ t)
+  pub fits : r ≡ 0 → Fits ks ts t′
