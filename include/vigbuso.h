@@ -101,7 +101,8 @@ enum vigbuso_refusal {
     VIGBUSO_NOT_OUT = 10,
     VIGBUSO_OTHER_PAGE = 11,
     VIGBUSO_NOT_HELD = 12,
-    VIGBUSO_BOOK_WORD = 13
+    VIGBUSO_BOOK_WORD = 13,
+    VIGBUSO_PLAN = 14
 };
 
 /* What the number that a call returned means. */
@@ -135,6 +136,9 @@ static inline const char *vigbuso_refusal_text(uint32_t number) {
         return "the run handed to release or to growth isn't wholly held by the direct calls";
     case 13:
         return "another book word that the call reads is out of its range, or a listed page yields no block";
+    case 14:
+        return "the plan is empty, has lists of unequal length or above 4,096 entries, names a class above 75 or has a number above "
+               "1,000,000";
     default:
         return number == 0 ? "carried out" : "no refusal has this number";
     }
@@ -269,6 +273,17 @@ uint32_t vigbuso_medium_release_blocks(uint32_t *book, size_t book_len, uint32_t
 uint32_t vigbuso_release_bin_chunks(uint32_t *book, size_t book_len, uint32_t size_class, uint32_t host,
                                     const uint32_t *list, size_t list_len, const uint32_t *chunks, size_t chunks_len,
                                     uint32_t *fates, size_t fates_len);
+
+/*
+ * The pages that a plan of takes needs on a newly opened heap, with every host answer granted and no release: all its takes
+ * succeed, in whatever order, exactly if the arena has so many. No book is lent.
+ *   classes  classes_len classes, read; 1 to 4,096. Small ones are 0 to 63, medium ones 64 to 75; a class may be named twice
+ *   takes    takes_len numbers, read; as many: the takes of each, 0 to 1,000,000
+ *   total    the pages
+ * Returns 0, or 14.
+ */
+uint32_t vigbuso_plan(const uint32_t *classes, size_t classes_len, const uint32_t *takes, size_t takes_len,
+                      uint64_t *total);
 
 #ifdef __cplusplus
 }

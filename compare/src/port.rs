@@ -2,6 +2,7 @@
 
 use crate::call::{Answer, Call, Lent};
 use crate::memory::{Fence, Fenced};
+use crate::planned::Planned;
 use crate::words::{Family, NO_PAGE};
 
 // The folder is the build script's.
@@ -9,6 +10,7 @@ use crate::words::{Family, NO_PAGE};
 extern "C" {
     fn vigbuso_class_for_size(size: u64) -> u32;
     fn vigbuso_medium_class_for_size(size: u64) -> u32;
+    fn vigbuso_plan(classes: *const u32, len: usize, takes: *const u32, takes_len: usize, total: *mut u64) -> u32;
     fn vigbuso_open(book: *mut u32, words: usize, pages: u64) -> u32;
     fn vigbuso_commit(book: *mut u32, words: usize, host: u32, pages: u64, first: *mut u32, fresh: *mut u32) -> u32;
     fn vigbuso_grow_frontier(
@@ -83,6 +85,20 @@ pub fn class_for_size(size: u64) -> u32 {
 pub fn medium_class_for_size(size: u64) -> u32 {
     // SAFETY: a number for a number.
     unsafe { vigbuso_medium_class_for_size(size) }
+}
+
+/// A refusal keeps the total.
+pub fn plan(classes: &[u32], takes: &[u32]) -> Planned {
+    let mut total = UNTOUCHED_FIGURE;
+    // SAFETY: both slices are lent for the call, to be read, and the out-parameter to be written.
+    let number = unsafe { vigbuso_plan(classes.as_ptr(), classes.len(), takes.as_ptr(), takes.len(), &mut total) };
+    match number {
+        0 => Planned::Pages(total),
+        _ => {
+            assert_eq!(total, UNTOUCHED_FIGURE, "refused as {number}, yet the total changed");
+            Planned::Refused(number)
+        }
+    }
 }
 
 /// 0, or the refusal's number.

@@ -6,7 +6,7 @@ use core::fmt;
 /// The numbers, their names and their meanings: a line of this table is all that a number needs.
 macro_rules! refusals {
     ($($number:literal $name:ident $meaning:literal)*) => {
-        /// The number of a refused call, as document 01 lists them, in checking order. A refused call changes nothing.
+        /// The number of a refused call, as document 01 lists them, in checking order, and then document 02. A refused call changes nothing.
         ///
         /// [`Heap`](crate::Heap) itself rules some of them out: a [`Host`](crate::Host) has no more than four bits (3), a
         /// [`Class`](crate::Class) is there (4), and a take's list has room for a batch (5). A heap that was opened by
@@ -62,6 +62,7 @@ refusals! {
     11 OtherPage "a block is on another page or span than the first; for chunks, a page twice, a count 0 or not the list's, a page missing"
     12 NotHeld "the run handed to release or to growth isn't wholly held by the direct calls"
     13 BookWord "another book word that the call reads is out of its range, or a listed page yields no block"
+    14 Plan "the plan is empty, has lists of unequal length or above 4,096 entries, names a class above 75 or has a number above 1,000,000"
 }
 
 impl Refusal {

@@ -124,6 +124,16 @@ static void chunks(void) {
     IS(fates[1], 7);
 }
 
+/* Class 0 has 64 takes a page, medium class 0 a span of three pages a take. */
+static void plan(void) {
+    const uint32_t classes[3] = {0, 64, 0}, takes[3] = {60, 2, 5};
+    uint64_t total = 7;
+    IS(vigbuso_plan(classes, 3, takes, 2, &total), VIGBUSO_PLAN);
+    IS(total, 7);
+    IS(vigbuso_plan(classes, 3, takes, 3, &total), 0);
+    IS(total, 2 + 6);
+}
+
 int main(void) {
     book = (uint32_t *)calloc(words, sizeof *book);
     if (book == NULL) {
@@ -138,6 +148,7 @@ int main(void) {
     runs();
     report();
     chunks();
+    plan();
     free(book);
     printf("%d differences\n", differences);
     return differences != 0;
