@@ -30,8 +30,13 @@ extern "C" {
     fn vigbuso_class_for_size(size: u64) -> u32;
     #[cfg(test)]
     fn vigbuso_medium_class_for_size(size: u64) -> u32;
-    fn vigbuso_plan(classes: *const u32, classes_len: usize, takes: *const u32, takes_len: usize, total: *mut u64)
-        -> u32;
+    fn vigbuso_plan(
+        classes: *const u32,
+        classes_len: usize,
+        takes: *const u32,
+        takes_len: usize,
+        total: *mut u64,
+    ) -> u32;
     fn vigbuso_open(book: *mut u32, book_len: usize, pages: u64) -> u32;
     fn vigbuso_commit(book: *mut u32, book_len: usize, host: u32, pages: u64, first: *mut u32, fresh: *mut u32) -> u32;
     fn vigbuso_grow_frontier(
@@ -142,9 +147,7 @@ pub(crate) fn zeroed(words: usize) -> Option<Vec<u32>> {
 pub(crate) fn plan(classes: &[u32], takes: &[u32]) -> Result<u64, Refusal> {
     let mut total = 0;
     // SAFETY: both slices are lent for the call, to be read, and the local to be written.
-    carried_out(unsafe {
-        vigbuso_plan(classes.as_ptr(), classes.len(), takes.as_ptr(), takes.len(), &raw mut total)
-    })?;
+    carried_out(unsafe { vigbuso_plan(classes.as_ptr(), classes.len(), takes.as_ptr(), takes.len(), &raw mut total) })?;
     Ok(total)
 }
 

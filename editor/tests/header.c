@@ -50,7 +50,7 @@ static void texts(void) {
     IS(strcmp(version, VIGBUSO_VERSION), 0);
     IS(strcmp(vigbuso_refusal_text(VIGBUSO_HOST_WORD), "the host word exceeds 15"), 0);
     IS(strcmp(vigbuso_refusal_text(0), "carried out"), 0);
-    IS(strcmp(vigbuso_refusal_text(VIGBUSO_BOOK_WORD + 1), "no refusal has this number"), 0);
+    IS(strcmp(vigbuso_refusal_text(UINT32_MAX), "no refusal has this number"), 0);
 }
 
 static void opening(void) {

@@ -99,8 +99,8 @@ abbrev pub firstNumber : List Row → ℕ
 firstNumber [] = 0
 firstNumber (row ∷ rows) = cond (row .1) (row .0) (firstNumber rows)
 
--- the order in which a call is checked, documents 01 and 02 together, and that a table keeps it: its numbers stand there one behind
--- another. 13 stands twice: a mark that is set comes before 15.
+-- the order in which a call is checked, and that a table keeps it: its numbers stand there one behind another. Document 02 puts its
+-- numbers between 01's; 13 stands twice, as its A.3 tests a mark before 15.
 abbrev pub checkingOrder : List ℕ
 checkingOrder =
     1 ∷ 2 ∷ 19 ∷ 18 ∷ 17 ∷ 14 ∷ 16 ∷ 20 ∷ 21 ∷ 22 ∷ 23 ∷ 24 ∷ 3 ∷ 4 ∷ 5 ∷ 6 ∷ 7 ∷ 8 ∷ 9 ∷ 13 ∷ 15 ∷ 10 ∷ 11 ∷ 12 ∷ 13 ∷ []
