@@ -3,7 +3,7 @@ use Prim.Native.Nat.{ℕ}
 use native.Mathlib.Omega.{arith}
 use mathlib.Core.Bool.{false}
 use mathlib.Core.List.{List}
-use mathlib.Core.Path.{_≡_, refl, sym, _∙_}
+use mathlib.Core.Path.{_≡_, sym, _∙_}
 use Rattle.facts.proofs.Bools.{by-cases}
 use Rattle.plan.specs.Plan.{planTotal, badPlan}
 use Rattle.plan.specs.Code.{PlanEnds}

@@ -5,7 +5,7 @@ ghost use lib.ListN.{getD};
 ghost use Rattle.plan.specs.Plan.{pagesFor, pagesOf};
 ghost use Rattle.plan.specs.Code.{sumMax, Low};
 
-const CLASSES: usize = 76;
+const CLASS_COUNT: usize = 76;
 
 // A run has at most 8 pages, so no sum over the classes wraps.
 fn pages_for(class: u32, takes: u64) -> u64
@@ -27,7 +27,7 @@ pub fn sum_pages(sums: &[u64; 76]) -> u64
 {
     let mut sum: u64 = 0;
     let mut c: usize = 0;
-    while c < CLASSES {
+    while c < CLASS_COUNT {
         sum += pages_for(c as u32, sums[c]);
         c += 1;
     }
