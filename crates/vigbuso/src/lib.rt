@@ -3,6 +3,6 @@ pub mod arena_calls;
 pub mod chunk_calls;
 mod faults;
 pub mod lookup;
-pub mod plan;
+pub mod plan_call;
 pub mod release_calls;
 pub mod take_calls;
