@@ -91,6 +91,7 @@ enum vigbuso_fate { VIGBUSO_KEPT = 0, VIGBUSO_COLD = 1, VIGBUSO_TO_ARENA = 2, VI
 enum vigbuso_refusal {
     VIGBUSO_ARENA_LENGTH = 1,
     VIGBUSO_BOOK_TOO_SHORT = 2,
+    VIGBUSO_PLAN = 14,
     VIGBUSO_GAME = 21,
     VIGBUSO_GROWTH = 22,
     VIGBUSO_TOP = 23,
@@ -139,6 +140,9 @@ static inline const char *vigbuso_refusal_text(uint32_t number) {
         return "the run handed to release or to growth isn't wholly held by the direct calls";
     case 13:
         return "another book word that the call reads is out of its range, or a listed page yields no block";
+    case 14:
+        return "the plan is empty, has lists of unequal length or above 4,096 entries, names a class above 75 or has a number above "
+               "1,000,000";
     case 21:
         return "the game's pages are not 1 to 6, its live limit not 1 to the pages, or its moves above 8";
     case 22:
@@ -297,6 +301,17 @@ uint32_t vigbuso_class_table(uint64_t a, uint64_t b, uint64_t top, uint64_t slot
  * Returns 0, or 21.
  */
 uint32_t vigbuso_asker_wins(uint64_t pages, uint64_t live, uint64_t moves, uint32_t *wins);
+
+/*
+ * The pages that a plan of takes needs on a newly opened heap, with every host answer granted and no release: all its takes
+ * succeed, in whatever order, exactly if the arena has so many. No book is lent.
+ *   classes  classes_len classes, read; 1 to 4,096. Small ones are 0 to 63, medium ones 64 to 75; a class may be named twice
+ *   takes    takes_len numbers, read; as many: the takes of each, 0 to 1,000,000
+ *   total    the pages
+ * Returns 0, or 14.
+ */
+uint32_t vigbuso_plan(const uint32_t *classes, size_t classes_len, const uint32_t *takes, size_t takes_len,
+                      uint64_t *total);
 
 #ifdef __cplusplus
 }

@@ -4,6 +4,7 @@ mod arguments;
 mod call;
 mod class_tables;
 mod damaged;
+mod fits;
 mod game;
 mod generate;
 mod histories;
@@ -14,6 +15,7 @@ mod memory;
 mod model_test;
 mod oracle;
 mod plan;
+mod planned;
 mod port;
 mod progress;
 mod random;
@@ -42,6 +44,8 @@ const USAGE: &str = "usage: compare COMMAND [--NAME VALUE ..]
                histories with the original's answers, computed by the checker on the model
   damaged      [--calls N] [--seed S] [--only HISTORY]
                calls with any arguments on damaged books
+  fits         [--plans N] [--seed S]
+               plans of takes, made in orders of chance on arenas of just their total and of a page less
   speed        [--file F] [--seconds S]
                the port's time against the original's, for each scenario S seconds; the table is also written to F";
 
@@ -57,6 +61,7 @@ fn main() -> ExitCode {
         Some("replay") => histories::replay(rest),
         Some("model-test") => model_test::run(rest),
         Some("damaged") => damaged::run(rest),
+        Some("fits") => fits::run(rest),
         Some("speed") => speed::run(rest),
         _ => Err(USAGE.into()),
     };

@@ -2,6 +2,7 @@
 
 use crate::call::{Answer, Call, Lent};
 use crate::memory::{Fence, Fenced};
+use crate::planned::Planned;
 use crate::words::{Family, NO_PAGE};
 
 // The folder is the build script's.
@@ -11,6 +12,7 @@ extern "C" {
     fn vigbuso_medium_class_for_size(size: u64) -> u32;
     fn vigbuso_asker_wins(pages: u64, live: u64, moves: u64, wins: *mut u32) -> u32;
     fn vigbuso_class_table(a: u64, b: u64, top: u64, slots: u64, list: *mut u32, len: usize) -> u32;
+    fn vigbuso_plan(classes: *const u32, len: usize, takes: *const u32, takes_len: usize, total: *mut u64) -> u32;
     fn vigbuso_open(book: *mut u32, words: usize, pages: u64) -> u32;
     fn vigbuso_commit(book: *mut u32, words: usize, host: u32, pages: u64, first: *mut u32, fresh: *mut u32) -> u32;
     fn vigbuso_grow_frontier(
@@ -97,6 +99,20 @@ pub fn class_table(a: u64, b: u64, top: u64, slots: u64, list: &mut [u32]) -> u3
 pub fn asker_wins(pages: u64, live: u64, moves: u64, wins: &mut u32) -> u32 {
     // SAFETY: the number is lent for the call.
     unsafe { vigbuso_asker_wins(pages, live, moves, wins) }
+}
+
+/// A refusal keeps the total.
+pub fn plan(classes: &[u32], takes: &[u32]) -> Planned {
+    let mut total = UNTOUCHED_FIGURE;
+    // SAFETY: both slices are lent for the call, to be read, and the out-parameter to be written.
+    let number = unsafe { vigbuso_plan(classes.as_ptr(), classes.len(), takes.as_ptr(), takes.len(), &mut total) };
+    match number {
+        0 => Planned::Pages(total),
+        _ => {
+            assert_eq!(total, UNTOUCHED_FIGURE, "refused as {number}, yet the total changed");
+            Planned::Refused(number)
+        }
+    }
 }
 
 /// 0, or the refusal's number.

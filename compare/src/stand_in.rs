@@ -12,6 +12,7 @@ mod history;
 mod ledger;
 mod memory;
 mod oracle;
+mod planned;
 mod reference;
 mod words;
 
@@ -21,6 +22,7 @@ use std::slice;
 use std::sync::{Mutex, MutexGuard};
 
 use call::{Answer, Call, Lent};
+use planned::{planned, Planned};
 use reference::Reference;
 use words::{book_words, Family, MAX_PAGES, NO_PAGE};
 
@@ -81,6 +83,23 @@ pub extern "C" fn vigbuso_class_for_size(size: u64) -> u32 {
 #[no_mangle]
 pub extern "C" fn vigbuso_medium_class_for_size(size: u64) -> u32 {
     oracle::medium_class_for_size(size)
+}
+
+#[no_mangle]
+pub unsafe extern "C" fn vigbuso_plan(
+    classes: *const u32,
+    classes_len: usize,
+    takes: *const u32,
+    takes_len: usize,
+    total: *mut u64,
+) -> u32 {
+    match planned(&list(classes, classes_len), &list(takes, takes_len)) {
+        Planned::Refused(number) => number,
+        Planned::Pages(pages) => {
+            total.write(pages);
+            0
+        }
+    }
 }
 
 #[no_mangle]

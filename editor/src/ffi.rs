@@ -30,6 +30,13 @@ extern "C" {
     fn vigbuso_class_for_size(size: u64) -> u32;
     #[cfg(test)]
     fn vigbuso_medium_class_for_size(size: u64) -> u32;
+    fn vigbuso_plan(
+        classes: *const u32,
+        classes_len: usize,
+        takes: *const u32,
+        takes_len: usize,
+        total: *mut u64,
+    ) -> u32;
     fn vigbuso_open(book: *mut u32, book_len: usize, pages: u64) -> u32;
     fn vigbuso_commit(book: *mut u32, book_len: usize, host: u32, pages: u64, first: *mut u32, fresh: *mut u32) -> u32;
     fn vigbuso_grow_frontier(
@@ -136,6 +143,14 @@ pub(crate) fn zeroed(words: usize) -> Option<Vec<u32>> {
     }
     // SAFETY: the global allocator gave this memory for an array of so many `u32`, and 0 is one.
     Some(unsafe { Vec::from_raw_parts(memory, words, words) })
+}
+
+/// The pages of a plan.
+pub(crate) fn plan(classes: &[u32], takes: &[u32]) -> Result<u64, Refusal> {
+    let mut total = 0;
+    // SAFETY: both slices are lent for the call, to be read, and the local to be written.
+    carried_out(unsafe { vigbuso_plan(classes.as_ptr(), classes.len(), takes.as_ptr(), takes.len(), &raw mut total) })?;
+    Ok(total)
 }
 
 pub(crate) fn open(book: &mut [u32], pages: u64) -> Result<(), Refusal> {
@@ -288,6 +303,13 @@ mod tests {
         let medium = |size| unsafe { vigbuso_medium_class_for_size(size) };
         assert_eq!([0, 16_384, 16_385, u64::MAX].map(small), [0, 45, 63, 63]);
         assert_eq!([18_432, 18_433, 65_472, 65_473, 16_384].map(medium), [0, 1, 11, 11, 11]);
+    }
+
+    #[test]
+    fn a_plan_has_lists_of_one_length_and_classes_that_are_there() {
+        assert_eq!(plan(&[0], &[]), Err(Refusal::Plan));
+        assert_eq!(plan(&[0, 1], &[1]), Err(Refusal::Plan));
+        assert_eq!([plan(&[75], &[1]), plan(&[76], &[1])], [Ok(8), Err(Refusal::Plan)]);
     }
 
     #[test]

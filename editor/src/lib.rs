@@ -32,7 +32,8 @@
 //! # Ok::<(), vigbuso::Refusal>(())
 //! ```
 //!
-//! Every call of the library is a method of [`Heap`], both size lookups are [`Class::for_size`]. A call with bad arguments
+//! Every call of the library is a method of [`Heap`], both size lookups are [`Class::for_size`]; [`plan`] works out, before a
+//! large fill, how many pages it needs. A call with bad arguments
 //! changes nothing and answers a [`Refusal`].
 //!
 //! | arena | blocks |
@@ -64,6 +65,7 @@ mod ffi;
 mod game;
 mod heap;
 mod host;
+mod plan;
 mod pool;
 mod refusal;
 mod release;
@@ -81,6 +83,7 @@ pub use fate::Fate;
 pub use game::asker_wins;
 pub use heap::{book_words, Heap, MAX_PAGES};
 pub use host::Host;
+pub use plan::plan;
 pub use pool::{Pool, PoolReport};
 pub use refusal::Refusal;
 pub use report::Report;

@@ -50,7 +50,7 @@ static void texts(void) {
     IS(strcmp(version, VIGBUSO_VERSION), 0);
     IS(strcmp(vigbuso_refusal_text(VIGBUSO_HOST_WORD), "the host word exceeds 15"), 0);
     IS(strcmp(vigbuso_refusal_text(0), "carried out"), 0);
-    IS(strcmp(vigbuso_refusal_text(VIGBUSO_BOOK_WORD + 1), "no refusal has this number"), 0);
+    IS(strcmp(vigbuso_refusal_text(UINT32_MAX), "no refusal has this number"), 0);
 }
 
 static void opening(void) {
@@ -148,6 +148,16 @@ static void game(void) {
     IS(wins, 0);
 }
 
+/* Class 0 has 64 takes a page, medium class 0 a span of three pages a take. */
+static void plan(void) {
+    const uint32_t classes[3] = {0, 64, 0}, takes[3] = {60, 2, 5};
+    uint64_t total = 7;
+    IS(vigbuso_plan(classes, 3, takes, 2, &total), VIGBUSO_PLAN);
+    IS(total, 7);
+    IS(vigbuso_plan(classes, 3, takes, 3, &total), 0);
+    IS(total, 2 + 6);
+}
+
 int main(void) {
     book = (uint32_t *)calloc(words, sizeof *book);
     if (book == NULL) {
@@ -164,6 +174,7 @@ int main(void) {
     chunks();
     class_table();
     game();
+    plan();
     free(book);
     printf("%d differences\n", differences);
     return differences != 0;

@@ -176,11 +176,11 @@ fn a_heap_keeps_its_host_word() {
 
 #[test]
 fn every_number_prints_its_meaning() {
-    for number in 1..=13 {
-        let refusal = Refusal::from_number(number).expect("document 01 has 13 numbers");
+    for number in 1..=14 {
+        let refusal = Refusal::from_number(number).expect("documents 01 and 02 have it");
         assert_eq!(refusal.number(), number);
         let error: Box<dyn Error> = Box::new(refusal);
         assert_eq!(error.to_string(), format!("refused as {number}: {}", refusal.meaning()));
     }
-    assert_eq!([0, 14].map(Refusal::from_number), [None, None]);
+    assert_eq!([0, u32::MAX].map(Refusal::from_number), [None, None]);
 }

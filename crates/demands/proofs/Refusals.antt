@@ -20,6 +20,7 @@ use Rattle.classes.proofs.Meaning.{small-class, medium-class}
 use Rattle.fields.specs.Field.{arena, size, state, get}
 use Rattle.fields.specs.Ranges.{metaFault}
 use Rattle.model.specs.Arena.{contains, isReady}
+use Rattle.plan.specs.Plan.{badPlan}
 use Rattle.arena.specs.Load.{statusOf, loadArena}
 use Rattle.arena.specs.Calls.{containsCall}
 use Rattle.runs.specs.Answer.{answerOf, commitCode}
@@ -28,7 +29,7 @@ use Rattle.take.specs.TakeAnswer as Takes
 use Rattle.release.specs.Act.{answerAs}
 use Rattle.vigbuso.specs.Direct.{firstOut, freshOut, grownOut, containsOn}
 use Rattle.vigbuso.specs.Blocks.{codeOut, countOut, virginOut, releaseCode, fateOut}
-use Rattle.demands.specs.Refusals.{Row, firstNumber, checkingOrder, inOrder, Refuses, OpenRefuses, CommitRefuses, GrowRefuses, GiveRefuses, ReportRefuses, TakeRefuses, ReleaseRefuses, ChunksRefuses, containsTable, ContainsAnswers, SizeAnswers, Demand1, TableRefuses, GameRefuses}
+use Rattle.demands.specs.Refusals.{Row, firstNumber, checkingOrder, inOrder, Refuses, OpenRefuses, CommitRefuses, GrowRefuses, GiveRefuses, ReportRefuses, TakeRefuses, ReleaseRefuses, ChunksRefuses, containsTable, ContainsAnswers, SizeAnswers, Demand1, TableRefuses, GameRefuses, PlanRefuses}
 use Rattle.demands.proofs.RefusalsLaws.{Ends, book-turn}
 use Rattle.demands.proofs.RefusalsCalls.{open-table, commit-table, grow-table, give-table, report-table, take-table, release-table, chunks-table, rate-table, game-table}
 use Rattle.pages.proofs.Downs.{digit-le}
@@ -118,6 +119,12 @@ table-refuses a b top slots l r l′ e = refuses _ _ _ _ (rate-table a b top slo
 pub game-refuses : GameRefuses
 game-refuses n limit k r w w′ e = refuses _ _ _ _ (game-table n limit k w) _ r refl (e .code) λ d s. e .wins ∙ s
 
+pub plan-refuses : PlanRefuses
+plan-refuses ks ts r t t′ e = record { order = refl; number = e .code; kept = λ d. kept d }
+  where
+    kept : (r ≡ 0 → ⊥) → t′ ≡ t
+    kept d = by-cases (badPlan ks ts) (λ b. e .total ∙ rw b) (λ b. absurd (d (e .code ∙ rw b)))
+
 -- ---- the lookups and `contains` refuse nothing
 pub small-answers : SizeAnswers classForSize 64
 small-answers bytes r e = lt-leb 64 r (omega (arith, small-class bytes))
@@ -163,6 +170,7 @@ demand-1 = record {
   releaseBinChunks = chunks-refuses;
   classTable = table-refuses;
   askerWins = game-refuses;
+  plan = plan-refuses;
   contains = contains-answers;
   classForSize = small-answers;
   mediumClassForSize = medium-answers;

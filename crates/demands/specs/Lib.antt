@@ -9,3 +9,4 @@ pub mod Number13
 pub mod Refusals
 pub mod ClassTables
 pub mod Game
+pub mod Plan

@@ -5,5 +5,6 @@ pub mod chunk_calls;
 pub mod class_table;
 mod faults;
 pub mod lookup;
+pub mod plan_call;
 pub mod release_calls;
 pub mod take_calls;

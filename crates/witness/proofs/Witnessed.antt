@@ -7,6 +7,7 @@ use Rattle.tables.specs.Table.{classTable, TableEnds}
 use Rattle.game.specs.Game.{askerWins, GameEnds}
 use Rattle.fields.specs.Outcome.{Did}
 use Rattle.model.specs.Calls as Calls
+use Rattle.plan.specs.Code.{PlanEnds}
 use Rattle.direct.specs.Answer.{Releases}
 use Rattle.vigbuso.specs.Direct as Direct
 use Rattle.vigbuso.specs.Direct.{openOn, commitOn, CommitEnds, growOn, GrowEnds, containsOn, reportOn, ReportEnds}
@@ -14,12 +15,13 @@ use Rattle.vigbuso.specs.Blocks as Blocks
 use Rattle.vigbuso.specs.Blocks.{takeOn, TakeEnds, ReleaseEnds, chunksOn, ChunksEnds}
 use Rattle.demands.specs.Contracts as Shows
 use Rattle.demands.proofs.Contracts.{shows-call}
-use Rattle.demands.proofs.Refusals.{open-refuses, commit-refuses, grow-refuses, give-refuses, report-refuses, take-refuses, release-refuses, chunks-refuses, contains-answers, table-refuses, game-refuses}
+use Rattle.demands.proofs.Refusals.{open-refuses, commit-refuses, grow-refuses, give-refuses, report-refuses, take-refuses, release-refuses, chunks-refuses, contains-answers, table-refuses, game-refuses, plan-refuses}
 use Rattle.demands.specs.ClassTables.{SmallTable}
 use Rattle.demands.proofs.ClassTables.{class-tables}
 use Rattle.demands.specs.Game.{ThreeYes}
 use Rattle.demands.proofs.Game.{game}
-use Rattle.witness.specs.Seen.{Opened, TakeSeen, ListSeen, ChunksSeen, CommitSeen, GrowSeen, GiveSeen, ContainsSeen, ReportSeen, TableSeen, GameSeen}
+use Rattle.witness.specs.Seen.{Opened, TakeSeen, ListSeen, ChunksSeen, CommitSeen, GrowSeen, GiveSeen, ContainsSeen, ReportSeen, TableSeen, GameSeen, PlanSeen}
+use Rattle.demands.proofs.Plan.{fits}
 
 module _ (b : List ℕ) (r : ℕ) (b′ : List ℕ) where
   pub open-seen : (n : ℕ) → Did r b′ (openOn b n) → Opened n r b b′
@@ -74,3 +76,6 @@ module _ (r w w′ : ℕ) where
 
   pub three-seen : GameEnds (askerWins 3 3 6) r w w′ → ThreeYes r w′
   three-seen e = game .three-yes r w w′ e
+
+pub plan-seen : (ks ts : List ℕ) (r t t′ : ℕ) → PlanEnds ks ts r t t′ → PlanSeen ks ts r t t′
+plan-seen ks ts r t t′ e = record { number = plan-refuses ks ts r t t′ e; fits = λ z. fits ks ts t t′ (record { code = sym z ∙ e .code; total = e .total }) }

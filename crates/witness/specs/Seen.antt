@@ -17,9 +17,10 @@ use Rattle.vigbuso.specs.Direct.{figuresIn}
 use Rattle.demands.specs.Call.{call}
 use Rattle.demands.specs.Run.{Opens, bookAfter}
 use Rattle.demands.specs.Contracts.{runSeen}
-use Rattle.demands.specs.Refusals.{Refuses, Contains, openTable, commitTable, growTable, giveTable, reportTable, takeTable, releaseTable, chunksTable, rateTable, gameTable}
+use Rattle.demands.specs.Refusals.{Refuses, Contains, openTable, commitTable, growTable, giveTable, reportTable, takeTable, releaseTable, chunksTable, rateTable, gameTable, planTable}
 use Rattle.demands.specs.ClassTables.{ClassTable, Reaches}
 use Rattle.demands.specs.Game.{AskerWins}
+use Rattle.demands.specs.Plan.{Fits}
 
 -- Same: all that the call was lent to write is as it was
 abbrev pub Numbered : List ℕ → Call → ℕ → Type 0 → Type 0
@@ -80,3 +81,8 @@ pub record TableSeen (a b top slots r : ℕ) (l l′ : List ℕ) : Type 0 where
 pub record GameSeen (n limit k r w w′ : ℕ) : Type 0 where
   pub number : Refuses (gameTable n limit k) r (w′ ≡ w)
   pub answers : r ≡ 0 → AskerWins n limit k w′
+
+-- a plan is no call on a book: its number, and its total against every history of its takes
+pub record PlanSeen (ks ts : List ℕ) (r t t′ : ℕ) : Type 0 where
+  pub number : Refuses (planTable ks ts) r (t′ ≡ t)
+  pub fits : r ≡ 0 → Fits ks ts t′

@@ -1,0 +1,71 @@
+-- The steps of `add_entry` and `add_takes`.
+use Prim.Native.Nat.{ℕ, _+_, _*_, _≤_, _<_}
+use mathlib.Core.Path.{_≡_, sym, ap, _∙_}
+use mathlib.Core.List.{List, [], _∷_, _++_}
+use mathlib.Core.Bool.{cond}
+use native.Mathlib.Omega.{arith}
+use native.Mathlib.Numerals.{add-one}
+use lib.Dec.{eqb, leb}
+use lib.ListN.{length, length-set, getD, set, take}
+use lib.Seq.{take-suc, take-all, length-take-le, getD-set-same, getD-set-other}
+use borrow.Author.Tests.{leb-true, eqb-true, eqb-false}
+use Rattle.facts.proofs.Bools.{by-cases}
+use Rattle.facts.proofs.Lists.{every-get}
+use Rattle.plan.specs.Plan.{classCount, lastClass, takesMax, takesOf}
+use Rattle.plan.specs.Code.{Fine, Sums, Zeros, Summed, AddAsks, Added}
+
+pub record AddInv (ks ts ss : List ℕ) (i : ℕ) : Type 0 where
+  pub at : i ≤ length ks
+  pub long : length ss ≡ classCount
+  pub sums : Sums (take i ks) (take i ts) ss
+  pub low : (c : ℕ) → c < classCount → getD ss c 0 ≤ i * takesMax
+
+pub added : (ss : List ℕ) (k t r : ℕ) → r ≡ t → AddAsks ss k t → Added ss k t (set ss k (getD ss k 0 + r))
+added ss k t r q a = rw q (record { long = length-set ss k (getD ss k 0 + t) ∙ a .long; sums = at })
+  where
+    at : (c : ℕ) → c < classCount → getD (set ss k (getD ss k 0 + t)) c 0 ≡ getD ss c 0 + cond (eqb k c) t 0
+    at c l =
+        by-cases (eqb k c)
+        (λ e. let z = eqb-true k c e in rw e (rw (← z) (getD-set-same ss k (getD ss k 0 + t) 0 (omega (arith, a .long, a .known)))))
+        (λ e. rw e (getD-set-other ss k c (getD ss k 0 + t) 0 (λ z. eqb-false k c e (sym z)) ∙ omega arith))
+
+takes-snoc : (xs ys : List ℕ) (k t c : ℕ) → length xs ≡ length ys → takesOf (xs ++ k ∷ []) (ys ++ t ∷ []) c ≡ takesOf xs ys c + cond (eqb k c) t 0
+takes-snoc [] [] k t c e = omega arith
+takes-snoc [] (y ∷ ys) k t c e = absurd (omega arith)
+takes-snoc (x ∷ xs) [] k t c e = absurd (omega arith)
+takes-snoc (x ∷ xs) (y ∷ ys) k t c e = omega (arith, takes-snoc xs ys k t c (omega arith))
+
+module _ (ks ts : List ℕ) (f : Fine ks ts) where
+  pub add-start : (ss : List ℕ) → Zeros ss → AddInv ks ts ss 0
+  add-start ss z = record { at = omega arith; long = z .long; sums = z .zeros; low = λ c h. omega (arith, z .zeros c h) }
+
+  module _ (ss : List ℕ) (i : ℕ) (v : AddInv ks ts ss i) (h : i < length ks) where
+    entry-known : getD ks i 0 < classCount
+    entry-known = omega (arith, leb-true (getD ks i 0) lastClass (every-get (λ k. leb k lastClass) ks i (f .known) h))
+
+    entry-small : getD ts i 0 ≤ takesMax
+    entry-small = leb-true (getD ts i 0) takesMax (every-get (λ t. leb t takesMax) ts i (f .small) (omega (arith, f .same)))
+
+    pub add-asks : AddAsks ss (getD ks i 0) (getD ts i 0)
+    add-asks = record { long = v .long; known = entry-known; fits = omega (arith, v .low (getD ks i 0) entry-known, entry-small, f .few) }
+
+    pub add-next : (ss′ : List ℕ) → Added ss (getD ks i 0) (getD ts i 0) ss′ → AddInv ks ts ss′ (i + 1)
+    add-next ss′ a = record {
+      at = omega arith;
+      long = a .long;
+      sums = λ c l. a .sums c l ∙ rw (add-one, take-suc ks i 0, take-suc ts i 0 (omega (arith, f .same)))
+          (ap (λ z. z + cond (eqb (getD ks i 0) c) (getD ts i 0) 0) (v .sums c l)
+          ∙ sym (takes-snoc (take i ks) (take i ts) (getD ks i 0) (getD ts i 0) c (omega (arith, length-take-le i ks (omega arith), length-take-le i ts (omega (arith, f .same))))));
+      low = λ c l. omega (arith, a .sums c l, v .low c l, entry-small, once c);
+    }
+      where
+        once : (c : ℕ) → cond (eqb (getD ks i 0) c) (getD ts i 0) 0 ≤ getD ts i 0
+        once c = by-cases (eqb (getD ks i 0) c) (λ e. rw e (omega arith)) (λ e. rw e (omega arith))
+
+  pub add-end : (ss : List ℕ) (i : ℕ) → AddInv ks ts ss i → length ks ≤ i → Summed ks ts ss
+  add-end ss i v h =
+      let e : i ≡ length ks = omega (arith, v .at) in
+      record {
+        sums = λ c l. v .sums c l ∙ rw (take-all i ks, take-all i ts (omega (arith, f .same)));
+        low = λ c l. omega (arith, v .low c l, f .few);
+      }

@@ -1,0 +1,12 @@
+pub mod Rounding
+pub mod Takes
+pub mod Draws
+pub mod PageSums
+pub mod HeapSteps
+pub mod FaultSteps
+pub mod AddSteps
+pub mod PageSteps
+pub mod PlanSteps
+pub mod Carried
+pub mod Theorems
+pub mod Examples

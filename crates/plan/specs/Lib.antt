@@ -1,0 +1,4 @@
+pub mod Plan
+pub mod Fits
+pub mod Code
+pub mod Examples
