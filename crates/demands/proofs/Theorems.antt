@@ -31,7 +31,7 @@ use Rattle.demands.proofs.Sizes as Sizes
 use Rattle.demands.proofs.Fits.{commit-fits, run-fits, memory-fits, take-yields}
 use Rattle.demands.proofs.Returns.{word-returns, list-returns}
 use Rattle.demands.proofs.ChunkReturns.{chunks-return}
-use Rattle.demands.proofs.Held.{held-releases, unheld-refused, held-grows, unheld-stays, growth-fits}
+use Rattle.demands.proofs.Held.{held-releases, unheld-refused, run-given, run-abandoned, held-grows, unheld-stays, growth-fits}
 use Rattle.demands.proofs.Unused.{commit-unused, growth-unused, class-unused}
 
 -- what a caller sees of an exported function, by its contract, is the reply of `call`; of calls in turn from an opening, that of `run`
@@ -87,6 +87,8 @@ demand-2 n b o xs = record {
   returnsChunks = chunks-return n b o xs;
   releases = held-releases n b o xs;
   unheld = unheld-refused n b o xs;
+  gives = run-given n b o xs;
+  abandons = run-abandoned n b o xs;
   grows = held-grows n b o xs;
   unheldGrowth = unheld-stays n b o xs;
   growths = growth-fits n b o xs;

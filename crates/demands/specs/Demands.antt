@@ -1,11 +1,11 @@
 -- Demands 2 and 3, as statements about every history of calls on the words, from an opening on any book. proofs/Theorems proves them.
 use Prim.Native.Nat.{ℕ, _+_, _-_, _/_, _≤_, _<_}
 use mathlib.Core.Bool.{Bool, true, false}
-use mathlib.Core.List.{List, [], _∷_}
+use mathlib.Core.List.{List, [], _∷_, _++_}
 use mathlib.Core.Logic.{_⊎_, _↔_}
 use mathlib.Core.Option.{Option, none, some}
 use mathlib.Core.Path.{_≡_}
-use lib.ListN.{getD}
+use lib.ListN.{getD, length}
 use Rattle.facts.specs.Lists.{isNil}
 use Rattle.words.specs.Host.{hostMax, commitGranted}
 use Rattle.classes.specs.Sizes.{smallSizes, mediumSizes, pageBytes}
@@ -14,8 +14,8 @@ use Rattle.model.specs.declared.Hole.{Hole}
 use Rattle.model.specs.Cover.{inRun}
 use Rattle.model.specs.Calls as Calls
 use Rattle.model.specs.Calls.{Call, Answer, Named, names, hostOf, Request, blocksOf}
-use Rattle.model.specs.HoleStore.{hole}
-use Rattle.model.specs.Arena.{Arena}
+use Rattle.model.specs.HoleStore.{hole, holeSlots, holePagesMax}
+use Rattle.model.specs.Arena.{Arena, more}
 use Rattle.model.specs.Class.{Class}
 use Rattle.model.specs.Heap.{badRun, answerRun, step}
 use Rattle.model.specs.History.{Event, answers, events, heapAfter, callsOf, answersOf, runsOf}
@@ -82,6 +82,11 @@ pub record GrowFits (n h e m : ℕ) (a : Arena) (x : Answer) : Type 0 where
   pub fits : Grows n h e m a yes
   pub answer : x ≡ Calls.grown yes
 
+-- a run was abandoned: the holes are as they were, and the count is one more
+pub record Abandoned (a a′ : Arena) : Type 0 where
+  pub holes : a′ .store .holes ≡ a .store .holes
+  pub counted : a′ .abandoned ≡ more (a .abandoned)
+
 -- nobody has a page of this run: none is held by the direct calls, and no entry not yet released has a byte in it
 pub record Unused (vs : List Event) (q m : ℕ) : Type 0 where
   pub offDirect : (k : ℕ) → k < m → directAfter vs (q + k) ≡ false
@@ -115,6 +120,14 @@ pub record Demand2 (n : ℕ) (b : List ℕ) (xs : List Call) : Type 0 where
   -- else it is refused as 12
   pub unheld : (h q m : ℕ) → h ≤ hostMax → badRun m ≡ false → (k : ℕ) → k < m → directAfter (told n b xs) (q + k) ≡ false
       → next n b xs (Calls.release h q m) .answer ≡ Calls.refused 12
+  -- a run released directly is stored behind the other holes where the store has room for it
+  pub gives : (h q m : ℕ) → next n b xs (Calls.release h q m) .code ≡ 0
+      → length (loadArena (bookAfter n b xs) .store .holes) < holeSlots → loadArena (bookAfter n b xs) .store .total + m ≤ holePagesMax
+      → loadArena (next n b xs (Calls.release h q m) .book) .store .holes ≡ loadArena (bookAfter n b xs) .store .holes ++ hole q m ∷ []
+  -- where it has none the run is abandoned, and counted
+  pub abandons : (h q m : ℕ) → next n b xs (Calls.release h q m) .code ≡ 0
+      → (holeSlots ≤ length (loadArena (bookAfter n b xs) .store .holes)) ⊎ (holePagesMax < loadArena (bookAfter n b xs) .store .total + m)
+      → Abandoned (loadArena (bookAfter n b xs)) (loadArena (next n b xs (Calls.release h q m) .book))
   -- so with a growth, and one that is not refused is answered by `Grows`
   pub grows : (h q old new : ℕ) → h ≤ hostMax → badRun old ≡ false → badRun new ≡ false → old < new
       → (next n b xs (Calls.growFrontier h q old new) .code ≡ 0) ↔ ((k : ℕ) → k < old → directAfter (told n b xs) (q + k) ≡ true)
