@@ -34,7 +34,7 @@ use Rattle.demands.proofs.Histories.{run-represents, next-agrees}
 use Rattle.demands.proofs.Codes.{zero-of, unrefused-of}
 use Rattle.demands.proofs.Told.{told-direct}
 
-grow-fits : (n h e m : ℕ) (a : Arena) → Grows n h e m a (grow n h e m a .grew)
+pub grow-fits : (n h e m : ℕ) (a : Arena) → Grows n h e m a (grow n h e m a .grew)
 unfolding grow
 grow-fits n h e m a =
     by-cases (eqb (a .frontier) e)

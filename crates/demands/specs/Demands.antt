@@ -87,8 +87,10 @@ pub record Abandoned (a a′ : Arena) : Type 0 where
   pub holes : a′ .store .holes ≡ a .store .holes
   pub counted : a′ .abandoned ≡ more (a .abandoned)
 
--- nobody has a page of this run: none is held by the direct calls, and no entry not yet released has a byte in it
-pub record Unused (vs : List Event) (q m : ℕ) : Type 0 where
+-- the run lies in the arena, of n pages, and nobody has a page of it: none is held by the direct calls, and no entry not yet released
+-- has a byte in it
+pub record Unused (n : ℕ) (vs : List Event) (q m : ℕ) : Type 0 where
+  pub inside : q + m ≤ n
   pub offDirect : (k : ℕ) → k < m → directAfter vs (q + k) ≡ false
   pub offBlocks : (e : Entry) → Live 0 vs e → (b : ℕ) → HasByte e b → inRun m q (b / pageBytes) ≡ false
 
@@ -136,10 +138,10 @@ pub record Demand2 (n : ℕ) (b : List ℕ) (xs : List Call) : Type 0 where
   pub growths : (h q old new : ℕ) → h ≤ hostMax → badRun old ≡ false → badRun new ≡ false → old < new
       → next n b xs (Calls.growFrontier h q old new) .code ≡ 0
       → GrowFits n h (q + old) (new - old) (loadArena (bookAfter n b xs)) (next n b xs (Calls.growFrontier h q old new) .answer)
-  -- what is given out was nobody's: the run that a direct commit answers, the pages that a growth adds, the run that a class gets
-  pub newRuns : (h m q : ℕ) (fresh : Bool) → next n b xs (Calls.commit h m) .answer ≡ Calls.run q fresh → Unused (told n b xs) q m
-  pub newPages : (h q old new : ℕ) → next n b xs (Calls.growFrontier h q old new) .answer ≡ Calls.grown true → Unused (told n b xs) (q + old) (new - old)
-  pub newOfClass : (x : Call) (d : Named) (r : Hole) → names x ≡ some d → step n (heapAfter n xs) x .run ≡ some r → Unused (told n b xs) (r .first) (r .pages)
+  -- what is given out lies in the arena and was nobody's: the run that a direct commit answers, the pages that a growth adds, the run that a class gets
+  pub newRuns : (h m q : ℕ) (fresh : Bool) → next n b xs (Calls.commit h m) .answer ≡ Calls.run q fresh → Unused n (told n b xs) q m
+  pub newPages : (h q old new : ℕ) → next n b xs (Calls.growFrontier h q old new) .answer ≡ Calls.grown true → Unused n (told n b xs) (q + old) (new - old)
+  pub newOfClass : (x : Call) (d : Named) (r : Hole) → names x ≡ some d → step n (heapAfter n xs) x .run ≡ some r → Unused n (told n b xs) (r .first) (r .pages)
   -- blocks not yet released lie in the arena and have no byte in common
   pub apart : IsoDisjoint n (told n b xs)
 
