@@ -34,7 +34,7 @@ use Rattle.arena.specs.Load.{loadArena}
 use Rattle.demands.specs.Run.{Opens, bookAfter, next}
 use Rattle.demands.specs.Demands.{CommitFits, RunFits, unasked, nothing, given, Asks, Spent}
 use Rattle.demands.proofs.Histories.{run-represents, next-agrees}
-use Rattle.demands.proofs.Codes.{host-of, next-host, next-step, next-unrefused, next-zero}
+use Rattle.demands.proofs.Codes.{host-of, next-host, next-step, next-answer, next-unrefused, next-zero}
 
 -- ---- a request stays with its class, or goes to the arena for m pages; A says that it should
 data Reaches (m : ℕ) (A : Type 0) : Ask → Type 0 where
@@ -166,7 +166,7 @@ module _ (n : ℕ) (b : List ℕ) (o : Opens n b) (xs : List Call) where
 
       served : next n b xs x .answer ≡ serve ask gives .answer
       unfolding classCall interact finish
-      served = next-agrees n b o xs x .answer ∙ rw (next-step n b o xs x d e host)
+      served = next-answer n b o xs x d e host
 
       reached : Reaches (shapeOf (d .class) .pages) Asked ask
       reached = reaches (shapeOf (d .class)) (heapAfter n xs .classes (d .class)) (next n b xs x .code) gives (d .request) codes

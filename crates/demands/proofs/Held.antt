@@ -53,11 +53,11 @@ give-stored m q a few low = rw (lt-ltb (length (a .store .holes)) holeSlots few,
 give-abandoned : (m q : ℕ) (a : Arena) → (holeSlots ≤ length (a .store .holes)) ⊎ (holePagesMax < a .store .total + m) → Abandoned a (give m q a)
 unfolding give accepts
 give-abandoned m q a full =
-    let no : accepts m (a .store) ≡ false = elim full [
-      inl l ↦ rw (le-ltb (length (a .store .holes)) holeSlots l)
-    | inr l ↦ by-cases (ltb (length (a .store .holes)) holeSlots) (λ t. rw (t, lt-leb (a .store .total + m) holePagesMax l)) (λ t. rw t)
+    let t : accepts m (a .store) ≡ false = elim full [
+      | inl l ↦ rw (le-ltb (length (a .store .holes)) holeSlots l)
+      | inr l ↦ by-cases (ltb (length (a .store .holes)) holeSlots) (λ t. rw (t, lt-leb (a .store .total + m) holePagesMax l)) (λ t. rw t)
     ] in
-    rw no (record { holes = refl; counted = refl })
+    rw t (record { holes = refl; counted = refl })
 
 -- a release that is not refused gives
 step-gives : (n : ℕ) (H : Heap) (h q m : ℕ) → isRefused (step n H (Calls.release h q m) .answer) ≡ false → step n H (Calls.release h q m) .heap .arena ≡ give m q (H .arena)

@@ -6,7 +6,7 @@ use mathlib.Core.Logic.{_⊎_, _↔_}
 use mathlib.Core.Option.{Option, none, some}
 use mathlib.Core.Path.{_≡_}
 use lib.ListN.{getD, length}
-use Rattle.facts.specs.Lists.{isNil}
+use Rattle.facts.specs.Lists.{isNil, every}
 use Rattle.words.specs.Host.{hostMax, commitGranted}
 use Rattle.classes.specs.Sizes.{smallSizes, mediumSizes, pageBytes}
 use Rattle.classes.specs.Shape.{shapeOf}
@@ -17,15 +17,16 @@ use Rattle.model.specs.Calls.{Call, Answer, Named, names, hostOf, Request, bloc
 use Rattle.model.specs.HoleStore.{hole, holeSlots, holePagesMax}
 use Rattle.model.specs.Arena.{Arena, more}
 use Rattle.model.specs.Class.{Class}
+use Rattle.model.specs.Release.{ofKind}
 use Rattle.model.specs.Heap.{badRun, answerRun, step}
 use Rattle.model.specs.History.{Event, answers, events, heapAfter, callsOf, answersOf, runsOf}
-use Rattle.model.specs.Entries.{Entry, Live, HasByte, blockBytes, OutIn, directAfter}
+use Rattle.model.specs.Entries.{Entry, Live, HasByte, blockBytes, OutIn, AllOut, directAfter}
 use Rattle.model.specs.BestFit.{Commits, Remembers}
 use Rattle.model.specs.Demands.{Disjoint, IsoDisjoint}
 use Rattle.arena.specs.Load.{loadArena}
 use Rattle.refinement.specs.Run.{answersIn}
 use Rattle.demands.specs.Run.{Opens, run, bookAfter, next, told}
-use Rattle.demands.specs.Returns.{ListOut, ChunksOut}
+use Rattle.demands.specs.Returns.{OneRun, ListOut, ChunksOut}
 
 -- ---- Demand 3, "one claim about whole histories, not one for each call"
 pub record Demand3 : Type 0 where
@@ -116,6 +117,12 @@ pub record Demand2 (n : ℕ) (b : List ℕ) (xs : List Call) : Type 0 where
       → (next n b xs x .code ≡ 0) ↔ ListOut (told n b xs) c h ws
   pub returnsChunks : (c h : ℕ) (ws gs fs : List ℕ) → c < 64
       → (next n b xs (Calls.releaseBinChunks c h ws gs fs) .code ≡ 0) ↔ ChunksOut (told n b xs) c h ws gs fs
+  -- a list of the class's kind is refused as 10 if its blocks are not all out, each once; if they are, as 11 if they do not stand on one run
+  pub notOut : (c : ℕ) (x : Call) (h : ℕ) (ws : List ℕ) → h ≤ hostMax → names x ≡ some (record { class = c; request = Calls.giveBack h ws })
+      → isNil ws ≡ false → every (ofKind (shapeOf c .kind)) ws ≡ true → (AllOut (told n b xs) c ws → ⊥) → next n b xs x .answer ≡ Calls.refused 10
+  pub notTogether : (c : ℕ) (x : Call) (h : ℕ) (ws : List ℕ) → h ≤ hostMax → names x ≡ some (record { class = c; request = Calls.giveBack h ws })
+      → isNil ws ≡ false → every (ofKind (shapeOf c .kind)) ws ≡ true → AllOut (told n b xs) c ws → (OneRun (shapeOf c) ws → ⊥)
+      → next n b xs x .answer ≡ Calls.refused 11
   -- a run can be released directly exactly if each of its pages is held by the direct calls
   pub releases : (h q m : ℕ) → h ≤ hostMax → badRun m ≡ false
       → (next n b xs (Calls.release h q m) .code ≡ 0) ↔ ((k : ℕ) → k < m → directAfter (told n b xs) (q + k) ≡ true)
