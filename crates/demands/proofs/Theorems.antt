@@ -28,7 +28,7 @@ use Rattle.demands.proofs.Contracts as Contracts
 use Rattle.demands.proofs.Histories as Histories
 use Rattle.demands.proofs.Told.{told-answers, told-disjoint, told-iso}
 use Rattle.demands.proofs.Sizes as Sizes
-use Rattle.demands.proofs.Fits.{commit-fits, run-fits, memory-fits, take-yields}
+use Rattle.demands.proofs.Fits.{commit-fits, run-fits, memory-fits, holes-counted, take-yields}
 use Rattle.demands.proofs.Returns.{word-returns, list-returns, not-out, not-together}
 use Rattle.demands.proofs.ChunkReturns.{chunks-return}
 use Rattle.demands.proofs.Held.{held-releases, unheld-refused, run-given, run-abandoned, held-grows, unheld-stays, growth-fits}
@@ -89,6 +89,7 @@ demand-2 n b o xs = record {
   notTogether = not-together n b o xs;
   releases = held-releases n b o xs;
   unheld = unheld-refused n b o xs;
+  holeTotal = holes-counted n b o xs;
   gives = run-given n b o xs;
   abandons = run-abandoned n b o xs;
   grows = held-grows n b o xs;

@@ -27,10 +27,11 @@ use Rattle.model.specs.Entries.{runOf, isGrown}
 use Rattle.model.specs.BestFit as BestFit
 use Rattle.model.specs.BestFit.{Commits, from-hole, from-frontier, unusable}
 use Rattle.model.proofs.HoleLists.{all-at}
+use Rattle.model.proofs.HistoryArena.{holes-after}
 use Rattle.model.proofs.ArenaLaws.{idle, covers-in, commit-law, grow-law}
 use Rattle.model.proofs.Accounts.{held-le}
 use Rattle.model.proofs.Theorems.{conserved, best-fit}
-use Rattle.refinement.proofs.ArenaReached.{reached-after, reached-holes}
+use Rattle.refinement.proofs.ArenaReached.{reached-after}
 use Rattle.refinement.proofs.DirectCalls.{direct-held}
 use Rattle.demands.specs.Run.{Opens, next, told}
 use Rattle.demands.specs.Demands.{Grows, grew, elsewhere, exhausted, ungranted, Unused}
@@ -94,10 +95,9 @@ module _ (n : ℕ) (xs : List Call) where
   -- ---- and that it lies in the arena
   commits-inside : {h m q : ℕ} {r : Option ℕ} {f : Bool} → Commits n h m arena r f → r ≡ some q → q + m ≤ n
   commits-inside {h} {m} {q} (from-hole i u g l w) e =
-      let r = reached-after n xs in
       let hs = arena .store .holes in
       let z : holeAt i hs .first ≡ q = cc in
-      omega (arith, all-at (λ x. x .first + x .pages ≤ arena .frontier) i hs (l .inside) (reached-holes n (heapAfter n xs) r), l .enough, r .bound)
+      omega (arith, all-at (λ x. x .first + x .pages ≤ arena .frontier) i hs (l .inside) (holes-after n xs), l .enough, reached-after n xs .bound)
   commits-inside {h} {m} {q} (from-frontier u g s l) e = let z : arena .frontier ≡ q = cc in omega (arith, l)
   commits-inside (unusable u) e = absurd (Option·none-ne-some _ e)
   commits-inside (BestFit.ungranted u) e = absurd (Option·none-ne-some _ e)

@@ -6,7 +6,7 @@ use mathlib.Core.Logic.{_⊎_, _↔_}
 use mathlib.Core.Option.{Option, none, some}
 use mathlib.Core.Path.{_≡_}
 use lib.ListN.{getD, length}
-use Rattle.facts.specs.Lists.{isNil, every}
+use Rattle.facts.specs.Lists.{isNil, every, total}
 use Rattle.words.specs.Host.{hostMax, commitGranted}
 use Rattle.classes.specs.Sizes.{smallSizes, mediumSizes, pageBytes}
 use Rattle.classes.specs.Shape.{shapeOf}
@@ -129,6 +129,8 @@ pub record Demand2 (n : ℕ) (b : List ℕ) (xs : List Call) : Type 0 where
   -- else it is refused as 12
   pub unheld : (h q m : ℕ) → h ≤ hostMax → badRun m ≡ false → (k : ℕ) → k < m → directAfter (told n b xs) (q + k) ≡ false
       → next n b xs (Calls.release h q m) .answer ≡ Calls.refused 12
+  -- the total that a give looks at is the pages of all holes
+  pub holeTotal : loadArena (bookAfter n b xs) .store .total ≡ total (λ x. x .pages) (loadArena (bookAfter n b xs) .store .holes)
   -- a run released directly is stored behind the other holes where the store has room for it
   pub gives : (h q m : ℕ) → next n b xs (Calls.release h q m) .code ≡ 0
       → length (loadArena (bookAfter n b xs) .store .holes) < holeSlots → loadArena (bookAfter n b xs) .store .total + m ≤ holePagesMax
