@@ -2,21 +2,21 @@
 -- class refuses it.
 --     host-of                      a call of a class brings its request's host word
 --     next-host                    one that is not refused passed number 3
---     next-step                    one that passed it goes to its class
+--     next-step, next-answer       one that passed it goes to its class, whose answer is the reply's
 --     next-unrefused, next-zero    and then it is refused exactly if the class refuses it
 use Prim.Native.Nat.{ℕ, _+_}
 use native.Mathlib.Omega.{arith}
 use mathlib.Core.Bool.{Bool, true, false, cond, false≢true}
 use mathlib.Core.List.{List}
 use mathlib.Core.Option.{some, Option·none-ne-some}
-use mathlib.Core.Path.{_≡_, sym, ap}
+use mathlib.Core.Path.{_≡_, sym, ap, _∙_}
 use lib.Dec.{eqb, ltb}
 use borrow.Author.Tests.{eqb-true}
 use Rattle.facts.proofs.Bools.{by-cases}
 use Rattle.words.specs.Host.{badHost}
 use Rattle.model.specs.Calls as Calls
 use Rattle.model.specs.Calls.{Call, Answer, Named, named, names, hostIn, wayOf, hostOf, Request, refused, isRefused}
-use Rattle.model.specs.Heap.{classCall, step}
+use Rattle.model.specs.Heap.{Outcome, classCall, step}
 use Rattle.model.specs.History.{heapAfter}
 use Rattle.refinement.specs.Run.{classReply, callReply}
 use Rattle.demands.specs.Run.{Opens, bookAfter, next}
@@ -68,6 +68,9 @@ module _ (n : ℕ) (b : List ℕ) (o : Opens n b) (xs : List Call) (x : Call) (d
     pub next-step : step n (heapAfter n xs) x ≡ classCall n (heapAfter n xs) (d .class) (d .request)
     unfolding step wayOf
     next-step = rw (host-of x d e, good, e)
+
+    pub next-answer : next n b xs x .answer ≡ classCall n (heapAfter n xs) (d .class) (d .request) .answer
+    next-answer = next-agrees n b o xs x .answer ∙ ap (λ (y : Outcome). y .answer) next-step
 
     next-class : next n b xs x ≡ classReply n (bookAfter n b xs) (d .class) (d .request)
     unfolding callReply wayOf

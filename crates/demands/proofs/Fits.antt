@@ -11,7 +11,7 @@ use mathlib.Core.Path.{_≡_, refl, sym, ap, _∙_}
 use lib.Dec.{ltb}
 use lib.ListN.{length}
 use borrow.Author.Tests.{le-ltb}
-use Rattle.facts.specs.Lists.{isNil}
+use Rattle.facts.specs.Lists.{isNil, total}
 use Rattle.facts.proofs.Bools.{by-cases}
 use Rattle.words.specs.Host.{hostMax, badHost}
 use Rattle.classes.specs.declared.Shape.{Shape}
@@ -29,12 +29,12 @@ use Rattle.model.specs.Heap.{badRun, runWith, asked, offer, finish, interact, c
 use Rattle.model.specs.History.{heapAfter}
 use Rattle.model.specs.BestFit.{Commits, Remembers, from-hole, from-frontier, unusable, ungranted, exhausted}
 use Rattle.model.specs.Yields.{TakeYields, refuses, yields, asks-first}
-use Rattle.model.proofs.Theorems.{best-fit, yielding}
+use Rattle.model.proofs.Theorems.{best-fit, yielding, conserved}
 use Rattle.arena.specs.Load.{loadArena}
 use Rattle.demands.specs.Run.{Opens, bookAfter, next}
 use Rattle.demands.specs.Demands.{CommitFits, RunFits, unasked, nothing, given, Asks, Spent}
 use Rattle.demands.proofs.Histories.{run-represents, next-agrees}
-use Rattle.demands.proofs.Codes.{host-of, next-host, next-step, next-unrefused, next-zero}
+use Rattle.demands.proofs.Codes.{host-of, next-host, next-step, next-answer, next-unrefused, next-zero}
 
 -- ---- a request stays with its class, or goes to the arena for m pages; A says that it should
 data Reaches (m : ℕ) (A : Type 0) : Ask → Type 0 where
@@ -136,6 +136,9 @@ module _ (n : ℕ) (b : List ℕ) (o : Opens n b) (xs : List Call) where
   pub memory-fits : Remembers (loadArena (bookAfter n b xs) .store)
   memory-fits = rw loads (best-fit n xs .remembers)
 
+  pub holes-counted : loadArena (bookAfter n b xs) .store .total ≡ total (λ x. x .pages) (loadArena (bookAfter n b xs) .store .holes)
+  holes-counted = rw loads (conserved n xs .holeTotal)
+
   pub commit-fits : (h m : ℕ) → h ≤ hostMax → badRun m ≡ false → CommitFits n h m (loadArena (bookAfter n b xs)) (next n b xs (Calls.commit h m) .answer)
   unfolding step wayOf directCall commitCall
   commit-fits h m low good = record {
@@ -166,7 +169,7 @@ module _ (n : ℕ) (b : List ℕ) (o : Opens n b) (xs : List Call) where
 
       served : next n b xs x .answer ≡ serve ask gives .answer
       unfolding classCall interact finish
-      served = next-agrees n b o xs x .answer ∙ rw (next-step n b o xs x d e host)
+      served = next-answer n b o xs x d e host
 
       reached : Reaches (shapeOf (d .class) .pages) Asked ask
       reached = reaches (shapeOf (d .class)) (heapAfter n xs .classes (d .class)) (next n b xs x .code) gives (d .request) codes

@@ -1,6 +1,7 @@
 -- A release by list is refused exactly as the history and the list's words tell.
---     list-returns    it is not refused exactly if the list is `ListOut`
---     word-returns    so a block alone is released exactly if it is out, which is that it is an entry's not yet released
+--     list-returns                it is not refused exactly if the list is `ListOut`
+--     not-out, not-together       a list with a block that is not out is refused as 10, one of blocks of several runs as 11
+--     word-returns                so a block alone is released exactly if it is out, which is that it is an entry's not yet released
 use Prim.Native.Nat.{ℕ, _+_, _*_, _^_, _≤_, _<_}
 use native.Mathlib.Omega.{arith}
 use native.Mathlib.Nat.{mul-le-mul-right}
@@ -37,7 +38,7 @@ use Rattle.demands.specs.Run.{Opens, next, told}
 use Rattle.demands.specs.Returns.{BlockOf, OneRun, ListOut}
 use Rattle.demands.proofs.Calls.{room}
 use Rattle.demands.proofs.Told.{told-out, out-told}
-use Rattle.demands.proofs.Codes.{next-host, next-unrefused, next-zero}
+use Rattle.demands.proofs.Codes.{next-host, next-answer, next-unrefused, next-zero}
 use Rattle.demands.proofs.Sizes.{one-first}
 use Rattle.demands.proofs.Places.{out-block, Lies, lies, lies-on, same-page, good-class, once-class, low-site}
 
@@ -121,6 +122,29 @@ module _ (sh : Shape) (ok : Sound sh) (s : Class) (good : GoodClass sh s) (once 
   unfolding answer releaseList
   tests-list ws t = rw (t .listed, t .kinds, t .out, t .single) (first-unrefused ws (t .listed) (t .out) (t .together))
 
+  -- one that fails the test of 10, or passes it and fails that of 11
+  refused-ten : (ws : List ℕ) → isNil ws ≡ false → every (ofKind (sh .kind)) ws ≡ true → (every (outHere sh s) ws && distinct ws) ≡ false
+      → serve (answer sh s (Calls.giveBack h ws)) g .answer ≡ Calls.refused 10
+  unfolding answer releaseList
+  refused-ten ws listed kinds t = rw (listed, kinds, t)
+
+  page-eleven : (ws : List ℕ) (o : Option Site) → SiteLaws sh s o → isSome o ≡ true → (OneRun sh ws → ⊥) → serve (onPage sh h s ws o) g .answer ≡ Calls.refused 11
+  unfolding onPage
+  page-eleven ws none l e r = absurd (false≢true e)
+  page-eleven ws (some x) l e r =
+      by-cases (every (λ w. isOut sh w (x .page)) ws) (λ t. absurd (r (page-together ws (some x) l (page-unrefused ws x t)))) (λ t. rw t)
+
+  first-found : (ws : List ℕ) → isNil ws ≡ false → every (outHere sh s) ws ≡ true → isSome (siteOfFirst sh s ws) ≡ true
+  unfolding outHere
+  first-found [] e out = absurd (false≢true (sym e))
+  first-found (w ∷ ws) e out = and-left (isSome (locate (isOut sh w) s)) _ out
+
+  refused-eleven : (ws : List ℕ) → isNil ws ≡ false → every (ofKind (sh .kind)) ws ≡ true → every (outHere sh s) ws ≡ true → distinct ws ≡ true → (OneRun sh ws → ⊥)
+      → serve (answer sh s (Calls.giveBack h ws)) g .answer ≡ Calls.refused 11
+  unfolding answer releaseList
+  refused-eleven ws listed kinds out single r =
+      rw (listed, kinds, out, single) (page-eleven ws (siteOfFirst sh s ws) (first-laws ws) (first-found ws listed out) r)
+
 -- ---- the heap after a history
 word-kind : (sh : Shape) (ok : Sound sh) (q i : ℕ) → q + sh .pages ≤ maxPages → i < sh .capacity → ofKind (sh .kind) (wordOf sh q i) ≡ true
 unfolding ofKind wordOf
@@ -181,6 +205,26 @@ module _ (n : ℕ) (b : List ℕ) (o : Opens n b) (xs : List Call) where
           record { host = ltb-false hostMax h host; listed = t .listed; kinds = t .kinds; out = all-out c ws (t .out) (t .single); together = t .together },
       λ p. returned (le-ltb hostMax h (p .host)) (record { listed = p .listed; kinds = p .kinds; out = out-all c ws (p .out); single = p .out .once; together = p .together }),
     )
+
+  module _ (c : ℕ) (x : Call) (h : ℕ) (ws : List ℕ) (low : h ≤ hostMax) (d : names x ≡ some (record { class = c; request = Calls.giveBack h ws })) where
+    abbrev class-answer : next n b xs x .answer ≡ classCall n (heapAfter n xs) c (Calls.giveBack h ws) .answer
+    class-answer = next-answer n b o xs x _ d (le-ltb hostMax h low)
+
+    module _ (listed : isNil ws ≡ false) (kinds : every (ofKind (shapeOf c .kind)) ws ≡ true) where
+      pub not-out : (AllOut (told n b xs) c ws → ⊥) → next n b xs x .answer ≡ Calls.refused 10
+      unfolding classCall interact finish
+      not-out r =
+          let s = heapAfter n xs .classes c in
+          let out = every (outHere (shapeOf c) s) ws in
+          let t : (out && distinct ws) ≡ false = by-cases (out && distinct ws) (λ t. absurd (r (all-out c ws (and-left out (distinct ws) t) (and-right out (distinct ws) t)))) (λ t. t) in
+          class-answer
+          ∙ refused-ten (shapeOf c) (shape-sound c) s (good-class n small xs c) (once-class n small xs c) (one-first c) h (gives c x h ws d) ws listed kinds t
+
+      pub not-together : AllOut (told n b xs) c ws → (OneRun (shapeOf c) ws → ⊥) → next n b xs x .answer ≡ Calls.refused 11
+      unfolding classCall interact finish
+      not-together p r =
+          class-answer
+          ∙ refused-eleven (shapeOf c) (shape-sound c) (heapAfter n xs .classes c) (good-class n small xs c) (once-class n small xs c) (one-first c) h (gives c x h ws d) ws listed kinds (out-all c ws p) (p .once) r
 
   -- a block alone
   alone-out : (c w h : ℕ) → h ≤ hostMax → OutIn (told n b xs) c w → ListOut (told n b xs) c h (w ∷ [])

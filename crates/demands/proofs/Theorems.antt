@@ -28,10 +28,10 @@ use Rattle.demands.proofs.Contracts as Contracts
 use Rattle.demands.proofs.Histories as Histories
 use Rattle.demands.proofs.Told.{told-answers, told-disjoint, told-iso}
 use Rattle.demands.proofs.Sizes as Sizes
-use Rattle.demands.proofs.Fits.{commit-fits, run-fits, memory-fits, take-yields}
-use Rattle.demands.proofs.Returns.{word-returns, list-returns}
+use Rattle.demands.proofs.Fits.{commit-fits, run-fits, memory-fits, holes-counted, take-yields}
+use Rattle.demands.proofs.Returns.{word-returns, list-returns, not-out, not-together}
 use Rattle.demands.proofs.ChunkReturns.{chunks-return}
-use Rattle.demands.proofs.Held.{held-releases, unheld-refused, held-grows, unheld-stays, growth-fits}
+use Rattle.demands.proofs.Held.{held-releases, unheld-refused, run-given, run-abandoned, held-grows, unheld-stays, growth-fits}
 use Rattle.demands.proofs.Unused.{commit-unused, growth-unused, class-unused}
 
 -- what a caller sees of an exported function, by its contract, is the reply of `call`; of calls in turn from an opening, that of `run`
@@ -85,8 +85,13 @@ demand-2 n b o xs = record {
   returns = word-returns n b o xs;
   returnsList = list-returns n b o xs;
   returnsChunks = chunks-return n b o xs;
+  notOut = not-out n b o xs;
+  notTogether = not-together n b o xs;
   releases = held-releases n b o xs;
   unheld = unheld-refused n b o xs;
+  holeTotal = holes-counted n b o xs;
+  gives = run-given n b o xs;
+  abandons = run-abandoned n b o xs;
   grows = held-grows n b o xs;
   unheldGrowth = unheld-stays n b o xs;
   growths = growth-fits n b o xs;

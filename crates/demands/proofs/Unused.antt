@@ -1,4 +1,4 @@
--- What is given out was nobody's: its pages were idle, and each page is in one place only.
+-- What is given out lies in the arena and was nobody's: its pages were idle, and each page is in one place only.
 --     commit-unused    the run that a direct commit answers
 --     growth-unused    the pages that a growth adds
 --     class-unused     the run that a class gets
@@ -7,7 +7,7 @@ use native.Mathlib.Omega.{arith}
 use mathlib.Core.Bool.{Bool, true, false, false≢true}
 use mathlib.Core.List.{List}
 use mathlib.Core.Option.{Option, none, some, Option·none-ne-some}
-use mathlib.Core.Path.{_≡_, refl, sym, ap, _∙_}
+use mathlib.Core.Path.{_≡_, refl, sym, ap, _∙_, subst}
 use Rattle.facts.proofs.Bools.{by-cases}
 use Rattle.words.specs.Host.{badHost}
 use Rattle.classes.specs.Sizes.{pageBytes}
@@ -16,6 +16,7 @@ use Rattle.model.specs.declared.Hole.{Hole}
 use Rattle.model.specs.Cover.{inRun, covers, coversRun}
 use Rattle.model.specs.Calls as Calls
 use Rattle.model.specs.Calls.{Call, Named, names, hostIn, wayOf, hostOf}
+use Rattle.model.specs.HoleStore.{hole, holeAt}
 use Rattle.model.specs.Arena as Arenas
 use Rattle.model.specs.Arena.{Arena}
 use Rattle.model.specs.Class.{Ask, done, asks}
@@ -23,15 +24,21 @@ use Rattle.model.specs.Chunks.{answer}
 use Rattle.model.specs.Heap.{direct, class, isDirect, heldDirect, badRun, badGrowth, runWith, asked, offer, finish, interact, classCall, answerRun, commitCall, growCall, directCall, step}
 use Rattle.model.specs.History.{heapAfter}
 use Rattle.model.specs.Entries.{runOf, isGrown}
+use Rattle.model.specs.BestFit as BestFit
+use Rattle.model.specs.BestFit.{Commits, from-hole, from-frontier, unusable}
+use Rattle.model.proofs.HoleLists.{all-at}
+use Rattle.model.proofs.HistoryArena.{holes-after}
 use Rattle.model.proofs.ArenaLaws.{idle, covers-in, commit-law, grow-law}
 use Rattle.model.proofs.Accounts.{held-le}
-use Rattle.model.proofs.Theorems.{conserved}
+use Rattle.model.proofs.Theorems.{conserved, best-fit}
+use Rattle.refinement.proofs.ArenaReached.{reached-after}
 use Rattle.refinement.proofs.DirectCalls.{direct-held}
 use Rattle.demands.specs.Run.{Opens, next, told}
-use Rattle.demands.specs.Demands.{Unused}
+use Rattle.demands.specs.Demands.{Grows, grew, elsewhere, exhausted, ungranted, Unused}
 use Rattle.demands.proofs.Calls.{room}
 use Rattle.demands.proofs.Histories.{next-agrees}
 use Rattle.demands.proofs.Told.{told-live, told-direct}
+use Rattle.demands.proofs.Held.{grow-fits}
 use Rattle.demands.proofs.Places.{byte-held}
 
 -- ---- what each call draws from the idle pages
@@ -85,12 +92,48 @@ module _ (n : ℕ) (xs : List Call) where
       let g : runWith (asked q) (offer n (hostOf (d .request)) arena q .run) ≡ some r = rw (t, e) at f in
       omega (arith, offer-idle (hostOf (d .request)) q x, ap (λ t. coversHole t x) g)
 
+  -- ---- and that it lies in the arena
+  commits-inside : {h m q : ℕ} {r : Option ℕ} {f : Bool} → Commits n h m arena r f → r ≡ some q → q + m ≤ n
+  commits-inside {h} {m} {q} (from-hole i u g l w) e =
+      let hs = arena .store .holes in
+      let z : holeAt i hs .first ≡ q = cc in
+      omega (arith, all-at (λ x. x .first + x .pages ≤ arena .frontier) i hs (l .inside) (holes-after n xs), l .enough, reached-after n xs .bound)
+  commits-inside {h} {m} {q} (from-frontier u g s l) e = let z : arena .frontier ≡ q = cc in omega (arith, l)
+  commits-inside (unusable u) e = absurd (Option·none-ne-some _ e)
+  commits-inside (BestFit.ungranted u) e = absurd (Option·none-ne-some _ e)
+  commits-inside (BestFit.exhausted u v) e = absurd (Option·none-ne-some _ e)
+
+  commit-inside : (h m q : ℕ) → Arenas.commit n h m arena .run ≡ some q → q + m ≤ n
+  commit-inside h m q e = commits-inside (best-fit n xs .commits h m) e
+
+  offer-inside : (h : ℕ) (q : Ask) (r : Hole) → runWith (asked q) (offer n h arena q .run) ≡ some r → r .first + r .pages ≤ n
+  unfolding offer
+  offer-inside h (done x) r e = absurd (Option·none-ne-some r e)
+  offer-inside h (asks m k) r e = with-inside (Arenas.commit n h m arena .run) refl e
+    where
+      with-inside : (g : Option ℕ) → Arenas.commit n h m arena .run ≡ g → runWith m g ≡ some r → r .first + r .pages ≤ n
+      with-inside none d f = absurd (Option·none-ne-some r f)
+      with-inside (some q) d f = let z : hole q m ≡ r = cc in subst (λ (x : Hole). x .first + x .pages ≤ n) z (commit-inside h m q d)
+
+  class-inside : (y : Call) (d : Named) (r : Hole) → names y ≡ some d → step n (heapAfter n xs) y .run ≡ some r → r .first + r .pages ≤ n
+  unfolding step wayOf classCall interact finish
+  class-inside y d r e f =
+      by-cases (badHost (hostIn y)) (λ t. absurd (Option·none-ne-some r (rw t at f)))
+      (λ t. offer-inside (hostOf (d .request)) (answer (shapeOf (d .class)) (heapAfter n xs .classes (d .class)) (d .request)) r (rw (t, e) at f))
+
+grows-inside : {n h e m : ℕ} {a : Arena} {yes : Bool} → Grows n h e m a yes → yes ≡ true → e + m ≤ n
+grows-inside (grew f l c) y = l
+grows-inside (elsewhere f) y = absurd (false≢true y)
+grows-inside (exhausted l) y = absurd (false≢true y)
+grows-inside (ungranted c) y = absurd (false≢true y)
+
 -- ---- an idle page is nobody's
 module _ (n : ℕ) (b : List ℕ) (o : Opens n b) (xs : List Call) where
-  idle-unused : (q m : ℕ) → ((x : ℕ) → covers m q x ≤ idle x (heapAfter n xs .arena)) → Unused (told n b xs) q m
-  idle-unused q m f =
+  idle-unused : (q m : ℕ) → q + m ≤ n → ((x : ℕ) → covers m q x ≤ idle x (heapAfter n xs .arena)) → Unused n (told n b xs) q m
+  idle-unused q m low f =
       let H = heapAfter n xs in
       record {
+        inside = low;
         offDirect = λ k l.
             let x = q + k in
             told-direct n b o xs x ∙ conserved n xs .direct x
@@ -105,15 +148,17 @@ module _ (n : ℕ) (b : List ℕ) (o : Opens n b) (xs : List Call) where
             (λ t. t);
       }
 
-  pub commit-unused : (h m q : ℕ) (fresh : Bool) → next n b xs (Calls.commit h m) .answer ≡ Calls.run q fresh → Unused (told n b xs) q m
+  pub commit-unused : (h m q : ℕ) (fresh : Bool) → next n b xs (Calls.commit h m) .answer ≡ Calls.run q fresh → Unused n (told n b xs) q m
   commit-unused h m q fresh e =
       let s : runOf (step n (heapAfter n xs) (Calls.commit h m) .answer) ≡ some q = ap runOf (sym (next-agrees n b o xs (Calls.commit h m) .answer) ∙ e) in
-      idle-unused q m (λ x. commit-idle n xs h m q x (commit-run n xs h m q s))
+      let r = commit-run n xs h m q s in
+      idle-unused q m (commit-inside n xs h m q r) (λ x. commit-idle n xs h m q x r)
 
-  pub growth-unused : (h q old new : ℕ) → next n b xs (Calls.growFrontier h q old new) .answer ≡ Calls.grown true → Unused (told n b xs) (q + old) (new - old)
+  pub growth-unused : (h q old new : ℕ) → next n b xs (Calls.growFrontier h q old new) .answer ≡ Calls.grown true → Unused n (told n b xs) (q + old) (new - old)
   growth-unused h q old new e =
       let s : isGrown (step n (heapAfter n xs) (Calls.growFrontier h q old new) .answer) ≡ true = ap isGrown (sym (next-agrees n b o xs (Calls.growFrontier h q old new) .answer) ∙ e) in
-      idle-unused (q + old) (new - old) (λ x. growth-idle n xs h (q + old) (new - old) x (growth-yes n xs h q old new s))
+      let g = growth-yes n xs h q old new s in
+      idle-unused (q + old) (new - old) (grows-inside (grow-fits n h (q + old) (new - old) (heapAfter n xs .arena)) g) (λ x. growth-idle n xs h (q + old) (new - old) x g)
 
-  pub class-unused : (x : Call) (d : Named) (r : Hole) → names x ≡ some d → step n (heapAfter n xs) x .run ≡ some r → Unused (told n b xs) (r .first) (r .pages)
-  class-unused x d r e f = idle-unused (r .first) (r .pages) (class-idle n xs x d r e f)
+  pub class-unused : (x : Call) (d : Named) (r : Hole) → names x ≡ some d → step n (heapAfter n xs) x .run ≡ some r → Unused n (told n b xs) (r .first) (r .pages)
+  class-unused x d r e f = idle-unused (r .first) (r .pages) (class-inside n xs x d r e f) (class-idle n xs x d r e f)

@@ -1,12 +1,12 @@
 -- Demands 2 and 3, as statements about every history of calls on the words, from an opening on any book. proofs/Theorems proves them.
 use Prim.Native.Nat.{ℕ, _+_, _-_, _/_, _≤_, _<_}
 use mathlib.Core.Bool.{Bool, true, false}
-use mathlib.Core.List.{List, [], _∷_}
+use mathlib.Core.List.{List, [], _∷_, _++_}
 use mathlib.Core.Logic.{_⊎_, _↔_}
 use mathlib.Core.Option.{Option, none, some}
 use mathlib.Core.Path.{_≡_}
-use lib.ListN.{getD}
-use Rattle.facts.specs.Lists.{isNil}
+use lib.ListN.{getD, length}
+use Rattle.facts.specs.Lists.{isNil, every, total}
 use Rattle.words.specs.Host.{hostMax, commitGranted}
 use Rattle.classes.specs.Sizes.{smallSizes, mediumSizes, pageBytes}
 use Rattle.classes.specs.Shape.{shapeOf}
@@ -14,18 +14,19 @@ use Rattle.model.specs.declared.Hole.{Hole}
 use Rattle.model.specs.Cover.{inRun}
 use Rattle.model.specs.Calls as Calls
 use Rattle.model.specs.Calls.{Call, Answer, Named, names, hostOf, Request, blocksOf}
-use Rattle.model.specs.HoleStore.{hole}
-use Rattle.model.specs.Arena.{Arena}
+use Rattle.model.specs.HoleStore.{hole, holeSlots, holePagesMax}
+use Rattle.model.specs.Arena.{Arena, more}
 use Rattle.model.specs.Class.{Class}
+use Rattle.model.specs.Release.{ofKind}
 use Rattle.model.specs.Heap.{badRun, answerRun, step}
 use Rattle.model.specs.History.{Event, answers, events, heapAfter, callsOf, answersOf, runsOf}
-use Rattle.model.specs.Entries.{Entry, Live, HasByte, blockBytes, OutIn, directAfter}
+use Rattle.model.specs.Entries.{Entry, Live, HasByte, blockBytes, OutIn, AllOut, directAfter}
 use Rattle.model.specs.BestFit.{Commits, Remembers}
 use Rattle.model.specs.Demands.{Disjoint, IsoDisjoint}
 use Rattle.arena.specs.Load.{loadArena}
 use Rattle.refinement.specs.Run.{answersIn}
 use Rattle.demands.specs.Run.{Opens, run, bookAfter, next, told}
-use Rattle.demands.specs.Returns.{ListOut, ChunksOut}
+use Rattle.demands.specs.Returns.{OneRun, ListOut, ChunksOut}
 
 -- ---- Demand 3, "one claim about whole histories, not one for each call"
 pub record Demand3 : Type 0 where
@@ -82,8 +83,15 @@ pub record GrowFits (n h e m : ℕ) (a : Arena) (x : Answer) : Type 0 where
   pub fits : Grows n h e m a yes
   pub answer : x ≡ Calls.grown yes
 
--- nobody has a page of this run: none is held by the direct calls, and no entry not yet released has a byte in it
-pub record Unused (vs : List Event) (q m : ℕ) : Type 0 where
+-- a run was abandoned: the holes are as they were, and the count is one more
+pub record Abandoned (a a′ : Arena) : Type 0 where
+  pub holes : a′ .store .holes ≡ a .store .holes
+  pub counted : a′ .abandoned ≡ more (a .abandoned)
+
+-- the run lies in the arena, of n pages, and nobody has a page of it: none is held by the direct calls, and no entry not yet released
+-- has a byte in it
+pub record Unused (n : ℕ) (vs : List Event) (q m : ℕ) : Type 0 where
+  pub inside : q + m ≤ n
   pub offDirect : (k : ℕ) → k < m → directAfter vs (q + k) ≡ false
   pub offBlocks : (e : Entry) → Live 0 vs e → (b : ℕ) → HasByte e b → inRun m q (b / pageBytes) ≡ false
 
@@ -109,12 +117,28 @@ pub record Demand2 (n : ℕ) (b : List ℕ) (xs : List Call) : Type 0 where
       → (next n b xs x .code ≡ 0) ↔ ListOut (told n b xs) c h ws
   pub returnsChunks : (c h : ℕ) (ws gs fs : List ℕ) → c < 64
       → (next n b xs (Calls.releaseBinChunks c h ws gs fs) .code ≡ 0) ↔ ChunksOut (told n b xs) c h ws gs fs
+  -- a list of the class's kind is refused as 10 if its blocks are not all out, each once; if they are, as 11 if they do not stand on one run
+  pub notOut : (c : ℕ) (x : Call) (h : ℕ) (ws : List ℕ) → h ≤ hostMax → names x ≡ some (record { class = c; request = Calls.giveBack h ws })
+      → isNil ws ≡ false → every (ofKind (shapeOf c .kind)) ws ≡ true → (AllOut (told n b xs) c ws → ⊥) → next n b xs x .answer ≡ Calls.refused 10
+  pub notTogether : (c : ℕ) (x : Call) (h : ℕ) (ws : List ℕ) → h ≤ hostMax → names x ≡ some (record { class = c; request = Calls.giveBack h ws })
+      → isNil ws ≡ false → every (ofKind (shapeOf c .kind)) ws ≡ true → AllOut (told n b xs) c ws → (OneRun (shapeOf c) ws → ⊥)
+      → next n b xs x .answer ≡ Calls.refused 11
   -- a run can be released directly exactly if each of its pages is held by the direct calls
   pub releases : (h q m : ℕ) → h ≤ hostMax → badRun m ≡ false
       → (next n b xs (Calls.release h q m) .code ≡ 0) ↔ ((k : ℕ) → k < m → directAfter (told n b xs) (q + k) ≡ true)
   -- else it is refused as 12
   pub unheld : (h q m : ℕ) → h ≤ hostMax → badRun m ≡ false → (k : ℕ) → k < m → directAfter (told n b xs) (q + k) ≡ false
       → next n b xs (Calls.release h q m) .answer ≡ Calls.refused 12
+  -- the total that a give looks at is the pages of all holes
+  pub holeTotal : loadArena (bookAfter n b xs) .store .total ≡ total (λ x. x .pages) (loadArena (bookAfter n b xs) .store .holes)
+  -- a run released directly is stored behind the other holes where the store has room for it
+  pub gives : (h q m : ℕ) → next n b xs (Calls.release h q m) .code ≡ 0
+      → length (loadArena (bookAfter n b xs) .store .holes) < holeSlots → loadArena (bookAfter n b xs) .store .total + m ≤ holePagesMax
+      → loadArena (next n b xs (Calls.release h q m) .book) .store .holes ≡ loadArena (bookAfter n b xs) .store .holes ++ hole q m ∷ []
+  -- where it has none the run is abandoned, and counted
+  pub abandons : (h q m : ℕ) → next n b xs (Calls.release h q m) .code ≡ 0
+      → (holeSlots ≤ length (loadArena (bookAfter n b xs) .store .holes)) ⊎ (holePagesMax < loadArena (bookAfter n b xs) .store .total + m)
+      → Abandoned (loadArena (bookAfter n b xs)) (loadArena (next n b xs (Calls.release h q m) .book))
   -- so with a growth, and one that is not refused is answered by `Grows`
   pub grows : (h q old new : ℕ) → h ≤ hostMax → badRun old ≡ false → badRun new ≡ false → old < new
       → (next n b xs (Calls.growFrontier h q old new) .code ≡ 0) ↔ ((k : ℕ) → k < old → directAfter (told n b xs) (q + k) ≡ true)
@@ -123,10 +147,10 @@ pub record Demand2 (n : ℕ) (b : List ℕ) (xs : List Call) : Type 0 where
   pub growths : (h q old new : ℕ) → h ≤ hostMax → badRun old ≡ false → badRun new ≡ false → old < new
       → next n b xs (Calls.growFrontier h q old new) .code ≡ 0
       → GrowFits n h (q + old) (new - old) (loadArena (bookAfter n b xs)) (next n b xs (Calls.growFrontier h q old new) .answer)
-  -- what is given out was nobody's: the run that a direct commit answers, the pages that a growth adds, the run that a class gets
-  pub newRuns : (h m q : ℕ) (fresh : Bool) → next n b xs (Calls.commit h m) .answer ≡ Calls.run q fresh → Unused (told n b xs) q m
-  pub newPages : (h q old new : ℕ) → next n b xs (Calls.growFrontier h q old new) .answer ≡ Calls.grown true → Unused (told n b xs) (q + old) (new - old)
-  pub newOfClass : (x : Call) (d : Named) (r : Hole) → names x ≡ some d → step n (heapAfter n xs) x .run ≡ some r → Unused (told n b xs) (r .first) (r .pages)
+  -- what is given out lies in the arena and was nobody's: the run that a direct commit answers, the pages that a growth adds, the run that a class gets
+  pub newRuns : (h m q : ℕ) (fresh : Bool) → next n b xs (Calls.commit h m) .answer ≡ Calls.run q fresh → Unused n (told n b xs) q m
+  pub newPages : (h q old new : ℕ) → next n b xs (Calls.growFrontier h q old new) .answer ≡ Calls.grown true → Unused n (told n b xs) (q + old) (new - old)
+  pub newOfClass : (x : Call) (d : Named) (r : Hole) → names x ≡ some d → step n (heapAfter n xs) x .run ≡ some r → Unused n (told n b xs) (r .first) (r .pages)
   -- blocks not yet released lie in the arena and have no byte in common
   pub apart : IsoDisjoint n (told n b xs)
 
