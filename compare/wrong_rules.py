@@ -38,6 +38,10 @@ HEAP = "crates/model/specs/Heap.antt"
 HOLES = "crates/model/specs/HoleStore.antt"
 PAGE = "crates/model/specs/Page.antt"
 RELEASE = "crates/model/specs/Release.antt"
+SPOT = "crates/model/specs/Spot.antt"
+LIMITS = "crates/words/specs/Limits.antt"
+HOST = "crates/words/specs/Host.antt"
+HOST_CODE = "crates/words/src/host_bits.rt"
 RANGES = "crates/demands/specs/Ranges.antt"
 # A class's limits are in its shape, by definition and in code.
 SHAPE = "crates/classes/specs/Shape.antt"
@@ -126,7 +130,7 @@ RULES = [
             ("heap.rs", at(8, "SpanFate::Keep => {}"), at(8, "SpanFate::Keep | SpanFate::Cold => {}")),
             ("compare/seams/parts.rs", "SpanFate::Keep => 0,", "SpanFate::Keep => 0,\\n        SpanFate::Cold => 1,"),
         ],
-        model=[(RELEASE, "coldFate sh = cond (isMedium sh) 0 1", "coldFate sh = 1")],
+        model=[(SPOT, "fateOf sh ToCold = cond (isMedium sh) keptFate 1", "fateOf sh ToCold = 1")],
     ),
     Rule(
         "virgin goes by the first page only",
@@ -344,7 +348,7 @@ RULES = [
     Rule(
         "a host word of 16",
         heap=[("compare/src/words.rs", "HOST_ALL: u32 = 15;", "HOST_ALL: u32 = 16;")],
-        model=[(CHUNKS, "hostMax = 15", "hostMax = 16")],
+        model=[(HOST, "hostMax = 15", "hostMax = 16"), (HOST_CODE, "pub const MOST: u32 = 15;", "pub const MOST: u32 = 16;")],
     ),
     Rule(
         "`contains` before the reservation",
@@ -365,12 +369,12 @@ RULES = [
     Rule(
         "the report's commits and reuses are exchanged",
         heap=[("compare/src/reference.rs", "let [commits, reuses, abandoned] =", "let [reuses, commits, abandoned] =")],
-        model=[(HEAP, "reported (H .arena .commits) (H .arena .reuses)", "reported (H .arena .reuses) (H .arena .commits)")],
+        model=[(HEAP, "commits = a .commits; reuses = a .reuses", "commits = a .reuses; reuses = a .commits")],
     ),
     Rule(
         "the report's reuses and abandoned are exchanged",
         heap=[("compare/src/reference.rs", "let [commits, reuses, abandoned] =", "let [commits, abandoned, reuses] =")],
-        model=[(HEAP, "(H .arena .reuses) (H .arena .abandoned)", "(H .arena .abandoned) (H .arena .reuses)")],
+        model=[(HEAP, "reuses = a .reuses; abandoned = a .abandoned", "reuses = a .abandoned; abandoned = a .reuses")],
     ),
     Rule(
         "the report's held and idle pages are exchanged",
@@ -381,7 +385,7 @@ RULES = [
                 "original.idle_pages(), self.ledger.held()",
             )
         ],
-        model=[(HEAP, "(heldPages size H) (idlePages size (H .arena))", "(idlePages size (H .arena)) (heldPages size H)")],
+        model=[(HEAP, "held = k; idle = idlePages size a", "held = idlePages size a; idle = k")],
     ),
     Rule(
         "a cut's remainder is remembered at its length's lowest index",
@@ -402,17 +406,17 @@ RULES = [
     Rule(
         "lengths are remembered up to 127",
         heap=[("arena.rs", "EXACT_BUCKET_MAX: usize = 128;", "EXACT_BUCKET_MAX: usize = 127;")],
-        model=[(HOLES, "rememberedMax = 128", "rememberedMax = 127")],
+        model=[(LIMITS, "rememberedMax = 128", "rememberedMax = 127")],
     ),
     Rule(
         "lengths are remembered up to 129",
         heap=[("arena.rs", "EXACT_BUCKET_MAX: usize = 128;", "EXACT_BUCKET_MAX: usize = 129;")],
-        model=[(HOLES, "rememberedMax = 128", "rememberedMax = 129")],
+        model=[(LIMITS, "rememberedMax = 128", "rememberedMax = 129")],
     ),
     Rule(
         "4,095 holes",
         heap=[("arena.rs", "HOLE_SLOTS: usize = 4096;", "HOLE_SLOTS: usize = 4095;")],
-        model=[(HOLES, "holeSlots = 4096", "holeSlots = 4095")],
+        model=[(LIMITS, "holeSlots = 4096", "holeSlots = 4095")],
     ),
     Rule(
         "a total of just 65,536 pages is abandoned",
