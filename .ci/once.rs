@@ -23,14 +23,14 @@ fn main() {
         }
         if place.ends_with(".antt") {
             // a function's proof answers needs that Rattle names, so only its longer parts count
-            let least = if place.ends_with("Proof.antt") { 900 } else { 60 };
+            let least = if place.ends_with("Proof.antt") { 900 } else { 40 };
             for (top, name, head, body) in blocks(&text) {
                 // a short fact within a module speaks of its parameters
                 if body.len() > if top { least } else { least.max(120) } {
                     texts.entry(replace(&body, &name, "@")).or_default().push((name.clone(), place.clone()));
                 }
                 let said = unbound(&head);
-                let top = top && least == 60 && !place.ends_with("Theorems.antt"); // which lists what other files prove
+                let top = top && least == 40 && !place.ends_with("Theorems.antt"); // which lists what other files prove
                 if top && said.len() > 40 && said.contains('≡') && said.contains('→') {
                     statements.entry(said).or_default().push((name, place.clone()));
                 }

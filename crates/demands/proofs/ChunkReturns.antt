@@ -31,8 +31,9 @@ use Rattle.model.specs.History.{heapAfter}
 use Rattle.model.proofs.Counts.{elem-count, every-count}
 use Rattle.model.proofs.Pages.{outOf, is-out}
 use Rattle.model.proofs.Sites.{Once, GoodClass, SiteLaw, SiteLaws, Tells, outFrom, locate-law, locate-tells}
+use Rattle.pages.specs.Stack.{pageAt}
 use Rattle.demands.specs.Run.{Opens, next, told}
-use Rattle.demands.specs.Returns.{ChunksOut, pageOn, countFits}
+use Rattle.demands.specs.Returns.{ChunksOut, countFits}
 use Rattle.demands.proofs.Calls.{room}
 use Rattle.demands.proofs.Codes.{next-host, next-unrefused, next-zero}
 use Rattle.demands.proofs.Places.{out-block, page-of, Lies, lies, same-page, good-class, once-class, low-site}
@@ -57,42 +58,42 @@ module _ (sh : Shape) (ok : Sound sh) (s : Class) (good : GoodClass sh s) (once 
   lie : (w : ℕ) → elem w ws ≡ true → Lies sh ok s good w
   lie w m = lies sh ok s good w (every-count (outHere sh s) w ws out (elem-count w ws m))
 
-  site-page : (w : ℕ) (x : Site) → SiteLaw sh s x → isOut sh w (x .page) ≡ true → pageOn w ≡ x .page .first
+  site-page : (w : ℕ) (x : Site) → SiteLaw sh s x → isOut sh w (x .page) ≡ true → pageAt w ≡ x .page .first
   site-page w x law t = page-of sh ok (x .page .first) w (low x law) (out-block sh ok (x .page) w (law .page) t) paged
 
-  lie-page : (w : ℕ) (m : elem w ws ≡ true) → pageOn w ≡ lie w m .site .page .first
+  lie-page : (w : ℕ) (m : elem w ws ≡ true) → pageAt w ≡ lie w m .site .page .first
   lie-page w m = let y = lie w m in site-page w (y .site) (y .law) (y .out)
 
   -- a block is out on the page where the words say that it is
-  out-at : (x : Site) → SiteLaw sh s x → (q : ℕ) → x .page .first ≡ q → (w : ℕ) → elem w ws ≡ true → isOut sh w (x .page) ≡ eqb (pageOn w) q
+  out-at : (x : Site) → SiteLaw sh s x → (q : ℕ) → x .page .first ≡ q → (w : ℕ) → elem w ws ≡ true → isOut sh w (x .page) ≡ eqb (pageAt w) q
   out-at x law q f w m =
-      by-cases (eqb (pageOn w) q)
-      (λ e. rw e (same-page sh ok s good once w (lie w m) x law (f ∙ sym (eqb-true (pageOn w) q e) ∙ lie-page w m)))
-      (λ e. rw e (by-cases (isOut sh w (x .page)) (λ t. absurd (eqb-false (pageOn w) q e (site-page w x law t ∙ f))) (λ t. t)))
+      by-cases (eqb (pageAt w) q)
+      (λ e. rw e (same-page sh ok s good once w (lie w m) x law (f ∙ sym (eqb-true (pageAt w) q e) ∙ lie-page w m)))
+      (λ e. rw e (by-cases (isOut sh w (x .page)) (λ t. absurd (eqb-false (pageAt w) q e (site-page w x law t ∙ f))) (λ t. t)))
 
   -- where the class has no page, the list has no block
-  none-at : (q : ℕ) → Tells (startsAt q) s none → (w : ℕ) → elem w ws ≡ true → eqb (pageOn w) q ≡ false
+  none-at : (q : ℕ) → Tells (startsAt q) s none → (w : ℕ) → elem w ws ≡ true → eqb (pageAt w) q ≡ false
   none-at q t w m =
       let y = lie w m in
-      by-cases (eqb (pageOn w) q)
-      (λ e. let f : outFrom sh q w (y .site .page) ≡ outOf sh w (y .site .page) = rw (eq-eqb (y .site .page .first) q (sym (lie-page w m) ∙ eqb-true (pageOn w) q e)) in
+      by-cases (eqb (pageAt w) q)
+      (λ e. let f : outFrom sh q w (y .site .page) ≡ outOf sh w (y .site .page) = rw (eq-eqb (y .site .page .first) q (sym (lie-page w m) ∙ eqb-true (pageAt w) q e)) in
       absurd (omega (arith, t (outOf sh w), f, y .law .out-rest (outFrom sh q w), is-out sh ok w (y .site .page) (y .out))))
       (λ e. e)
 
   fits-on : (g : ℕ) (o : Option Site) → SiteLaws sh s o → Tells (startsAt (pageOf g)) s o → fitsOn sh ws g o ≡ countFits ws g
   unfolding blocksOn
-  fits-on g none l t = rw (filter-none (λ w. eqb (pageOn w) (pageOf g)) ws (none-at (pageOf g) t)) (by-cases (eqb (countOf g) 0) (λ e. rw e) (λ e. rw e))
-  fits-on g (some x) l t = rw (filter-is (λ w. isOut sh w (x .page)) (λ w. eqb (pageOn w) (pageOf g)) ws (out-at x l (pageOf g) (eqb-true (x .page .first) (pageOf g) t)))
+  fits-on g none l t = rw (filter-none (λ w. eqb (pageAt w) (pageOf g)) ws (none-at (pageOf g) t)) (by-cases (eqb (countOf g) 0) (λ e. rw e) (λ e. rw e))
+  fits-on g (some x) l t = rw (filter-is (λ w. isOut sh w (x .page)) (λ w. eqb (pageAt w) (pageOf g)) ws (out-at x l (pageOf g) (eqb-true (x .page .first) (pageOf g) t)))
 
   fits-is : (g : ℕ) → chunkFits sh s ws g ≡ countFits ws g
   unfolding chunkFits
   fits-is g = fits-on g (locate (startsAt (pageOf g)) s) (locate-law sh s good (startsAt (pageOf g))) (locate-tells (startsAt (pageOf g)) s)
 
-  chunked-on : (gs : List ℕ) (w : ℕ) (o : Option Site) → SiteLaws sh s o → Tells (isOut sh w) s o → isSome o ≡ true → chunkedOn gs o ≡ elem (pageOn w) (map pageOf gs)
+  chunked-on : (gs : List ℕ) (w : ℕ) (o : Option Site) → SiteLaws sh s o → Tells (isOut sh w) s o → isSome o ≡ true → chunkedOn gs o ≡ elem (pageAt w) (map pageOf gs)
   chunked-on gs w none l t e = absurd (false≢true e)
   chunked-on gs w (some x) l t e = ap (λ q. elem q (map pageOf gs)) (sym (site-page w x l t))
 
-  chunked-is : (gs : List ℕ) (w : ℕ) → elem w ws ≡ true → chunked sh s gs w ≡ elem (pageOn w) (map pageOf gs)
+  chunked-is : (gs : List ℕ) (w : ℕ) → elem w ws ≡ true → chunked sh s gs w ≡ elem (pageAt w) (map pageOf gs)
   unfolding chunked outHere
   chunked-is gs w m =
       chunked-on gs w (locate (isOut sh w) s) (locate-law sh s good (isOut sh w)) (locate-tells (isOut sh w) s) (every-count (outHere sh s) w ws out (elem-count w ws m))
@@ -100,8 +101,8 @@ module _ (sh : Shape) (ok : Sound sh) (s : Class) (good : GoodClass sh s) (once 
   counts-are : (gs : List ℕ) → every (chunkFits sh s ws) gs ≡ every (countFits ws) gs
   counts-are gs = every-is (chunkFits sh s ws) (countFits ws) gs (λ g m. fits-is g)
 
-  presence-is : (gs : List ℕ) → every (chunked sh s gs) ws ≡ every (λ w. elem (pageOn w) (map pageOf gs)) ws
-  presence-is gs = every-is (chunked sh s gs) (λ w. elem (pageOn w) (map pageOf gs)) ws (chunked-is gs)
+  presence-is : (gs : List ℕ) → every (chunked sh s gs) ws ≡ every (λ w. elem (pageAt w) (map pageOf gs)) ws
+  presence-is gs = every-is (chunked sh s gs) (λ w. elem (pageAt w) (map pageOf gs)) ws (chunked-is gs)
 
 -- all numbers after 3, on a class
 module _ (sh : Shape) (s : Class) (h : ℕ) (ws gs fs : List ℕ) (g : Option ℕ) where
@@ -186,7 +187,7 @@ module _ (n : ℕ) (b : List ℕ) (o : Opens n b) (xs : List Call) (c h : ℕ) (
     counts-told : every (chunkFits (shapeOf c) class ws) gs ≡ every (countFits ws) gs
     counts-told = counts-are (shapeOf c) (shape-sound c) class (good-class n few-pages xs c) (once-class n few-pages xs c) (small-paged c small) (low-site n few-pages xs c) ws out gs
 
-    presence-told : every (chunked (shapeOf c) class gs) ws ≡ every (λ w. elem (pageOn w) (map pageOf gs)) ws
+    presence-told : every (chunked (shapeOf c) class gs) ws ≡ every (λ w. elem (pageAt w) (map pageOf gs)) ws
     presence-told = presence-is (shapeOf c) (shape-sound c) class (good-class n few-pages xs c) (once-class n few-pages xs c) (small-paged c small) (low-site n few-pages xs c) ws out gs
 
   tests-out : badHost h ≡ false → Tests (shapeOf c) class h ws gs fs gives → ChunksOut (told n b xs) c h ws gs fs

@@ -37,7 +37,8 @@ use Rattle.model.proofs.Accounts.{held-le}
 use Rattle.model.proofs.HeapLaws.{kept}
 use Rattle.model.proofs.Apart.{which}
 use Rattle.model.proofs.Theorems.{outs, conserved}
-use Rattle.demands.specs.Returns.{BlockOf, pageOn}
+use Rattle.pages.specs.Stack.{pageAt}
+use Rattle.demands.specs.Returns.{BlockOf}
 
 -- ---- a page
 module _ (sh : Shape) (ok : Sound sh) where
@@ -56,7 +57,7 @@ module _ (sh : Shape) (ok : Sound sh) where
         let high = mul-le-mul-right (sh .block) (s .inside) in
         (omega (arith, s .word, high, ok .fits, ok .wide), omega (arith, s .word, high, ok .fits, ok .wide))
 
-    pub page-of : sh .pages ≡ 1 → pageOn w ≡ q
+    pub page-of : sh .pages ≡ 1 → pageAt w ≡ q
     page-of one = omega (arith, placed .0, placed .1, one, ok .wide)
 
     byte-on : (b : ℕ) → granuleOf w * granuleBytes ≤ b → b < granuleOf w * granuleBytes + sh .block * granuleBytes → covers (sh .pages) q (b / pageBytes) ≡ 1

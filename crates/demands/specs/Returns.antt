@@ -3,7 +3,7 @@
 --     OneRun       the blocks stand on one page or span
 --     ListOut      what a release by list asks
 --     ChunksOut    what a group release asks
-use Prim.Native.Nat.{ℕ, _/_, _≤_, _<_}
+use Prim.Native.Nat.{ℕ, _≤_, _<_}
 use mathlib.Core.Bool.{Bool, true, false, not, _&&_}
 use mathlib.Core.List.{List, map}
 use mathlib.Core.Path.{_≡_}
@@ -11,14 +11,15 @@ use lib.Dec.{eqb}
 use lib.ListN.{length}
 use Rattle.facts.specs.Lists.{isNil, filter, every, elem, distinct}
 use Rattle.words.specs.Host.{hostMax}
-use Rattle.words.specs.Word.{chunkKind, countOf, pageOf, granuleOf}
+use Rattle.words.specs.Word.{chunkKind, countOf, pageOf}
 use Rattle.classes.specs.declared.Shape.{Shape}
 use Rattle.classes.specs.Shape.{shapeOf}
-use Rattle.model.specs.Page.{pageGranules, wordOf}
+use Rattle.model.specs.Page.{wordOf}
 use Rattle.model.specs.Release.{ofKind}
 use Rattle.model.specs.Chunks.{chunksMax}
 use Rattle.model.specs.History.{Event}
 use Rattle.model.specs.Entries.{AllOut}
+use Rattle.pages.specs.Stack.{pageAt}
 
 -- w is a block of the run that begins at page q: "block i of a page starts at byte 48 + i × size", of a span "at 64 + i × size"
 pub record BlockOf (sh : Shape) (q w : ℕ) : Type 0 where
@@ -39,13 +40,9 @@ pub record ListOut (vs : List Event) (c h : ℕ) (ws : List ℕ) : Type 0 where
   pub out : AllOut vs c ws  -- 10
   pub together : OneRun (shapeOf c) ws  -- 11
 
--- the page of a small block, whose run is that page
-abbrev pub pageOn : ℕ → ℕ
-pageOn w = granuleOf w / pageGranules
-
--- a group's count is not 0, and it is the list's: as many of the blocks are on its page
+-- a group's count is not 0, and it is the list's: as many of the blocks are on its page (a small block's run is its page)
 abbrev pub countFits : List ℕ → ℕ → Bool
-countFits ws g = not (eqb (countOf g) 0) && eqb (countOf g) (length (filter (λ w. eqb (pageOn w) (pageOf g)) ws))
+countFits ws g = not (eqb (countOf g) 0) && eqb (countOf g) (length (filter (λ w. eqb (pageAt w) (pageOf g)) ws))
 
 -- a group release
 pub record ChunksOut (vs : List Event) (c h : ℕ) (ws gs fs : List ℕ) : Type 0 where
@@ -59,4 +56,4 @@ pub record ChunksOut (vs : List Event) (c h : ℕ) (ws gs fs : List ℕ) : Type 
   pub out : AllOut vs c ws  -- 10
   pub pages : distinct (map pageOf gs) ≡ true  -- 11: no page twice
   pub counts : every (countFits ws) gs ≡ true  -- no count 0 or not the list's
-  pub present : every (λ w. elem (pageOn w) (map pageOf gs)) ws ≡ true  -- no page missing
+  pub present : every (λ w. elem (pageAt w) (map pageOf gs)) ws ≡ true  -- no page missing

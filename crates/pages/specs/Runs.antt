@@ -2,16 +2,12 @@
 --     whole     the run at q is the class's: every page of it says so and names q, and it ends at or below FRONTIER
 --     claimed   the pages of a run are made to say so
 use Prim.Native.Nat.{ℕ, zero, suc, _+_}
-use mathlib.Core.Bool.{Bool, true, false, _&&_}
+use mathlib.Core.Bool.{Bool, _&&_}
 use mathlib.Core.List.{List}
 use lib.Dec.{eqb, leb}
 use Rattle.facts.specs.Lists.{every, below}
 use Rattle.classes.specs.declared.Shape.{Shape}
 use Rattle.fields.specs.Field.{arena, page, owner, first, frontier, get, put}
-
-abbrev pub digit : Bool → ℕ
-digit true = 1
-digit false = 0
 
 abbrev pub ofRun : List ℕ → ℕ → ℕ → ℕ → Bool
 ofRun b c q k = eqb (get b (page owner (q + k))) (suc c) && eqb (get b (page first (q + k))) q
