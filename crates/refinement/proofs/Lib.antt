@@ -23,6 +23,7 @@ pub mod Plan
 pub mod Take
 pub mod CommitRuns
 pub mod ArenaKeeps
+pub mod Reported
 pub mod DirectCalls
 pub mod GiveClass
 pub mod Pushes
