@@ -19,7 +19,6 @@ use Rattle.fields.specs.Field.{arena, class, held, emptyCount, coldCount, get}
 use Rattle.model.specs.declared.Figures.{Figures}
 use Rattle.model.specs.Heap.{parkedPages}
 use Rattle.holes.specs.declared.Arena.{Arena}
-use Rattle.direct.specs.declared.Report.{Report}
 use Rattle.direct.specs.declared.Report.the-variants.{Told, Refused}
 use Rattle.arena.specs.Load.{loadStore, loadArena}
 use Rattle.arena.specs.Fair.{recordFair, countsFair, allCountsFair, reportFair}

@@ -1,6 +1,6 @@
 -- A report's figures count the pages held, the idle ones, and those that are both (document 02, A.5).
-use Prim.Native.Nat.{ℕ, _+_, _≤_}
-use mathlib.Core.Path.{_≡_, refl, sym, _∙_}
+use Prim.Native.Nat.{ℕ, _+_}
+use mathlib.Core.Path.{_≡_, refl}
 use mathlib.Core.List.{List}
 use native.Mathlib.Omega.{arith}
 use Rattle.facts.specs.Lists.{total, below}

@@ -207,7 +207,7 @@ module _ (size n : ℕ) (H : Heap) (es : List Entry) (f : ℕ → Bool) (l : ℕ
   run-of none b = refl
   run-of (some q) b = refl
 
-  run-answered : (o : Option ℕ) (b : Bool) → isRefused (answerRun o b) ≡ false
+  pub run-answered : (o : Option ℕ) (b : Bool) → isRefused (answerRun o b) ≡ false
   run-answered none b = refl
   run-answered (some q) b = refl
 

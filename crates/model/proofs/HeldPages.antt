@@ -32,7 +32,7 @@ use Rattle.model.proofs.ArenaLaws.{idle, commit-law, give-all-law, give
 use Rattle.model.proofs.Accounts.{held-le}
 use Rattle.model.proofs.ClassLaws.{Lawful, lawful-done, lawful-asks, answer-lawful}
 use Rattle.model.proofs.Fates.{runs-told}
-use Rattle.model.proofs.HeapLaws.{Inv, step-inv, route-inv, start}
+use Rattle.model.proofs.HeapLaws.{Inv, run-answered, step-inv, route-inv, start}
 
 -- a class's call asks for no page itself, and gives none
 class-hands : (x : Call) (d : Named) → names x ≡ some d → (wantedPages x ≡ 0) × (givenPages x ≡ 0)
@@ -123,10 +123,6 @@ module _ (size n : ℕ) (H : Heap) (es : List Entry) (f : ℕ → Bool) (l : ℕ
   direct-same : (x : Call) (a : Answer) → directGains x a ≡ 0 → directLosses x a ≡ 0 → Direct x (unchanged H a)
   direct-same x a e d = record { keeps = λ one. omega arith }
 
-  run-answered : (o : Option ℕ) (b : Bool) → isRefused (answerRun o b) ≡ false
-  run-answered none b = refl
-  run-answered (some q) b = refl
-
   run-gains : (m : ℕ) (o : Option ℕ) (b : Bool) → cond (isSome (runOf (answerRun o b)) || isGrown (answerRun o b)) m 0 ≡ runPages (runWith m o)
   run-gains m none b = refl
   run-gains m (some q) b = refl
@@ -143,7 +139,7 @@ module _ (size n : ℕ) (H : Heap) (es : List Entry) (f : ℕ → Bool) (l : ℕ
           run-gains m (g .run) (g .fresh),
           cond-none (isRefused (answerRun (g .run) (g .fresh))),
           total-balance (λ y. isHeld (H .holder y)) (λ y. isHeld (commitCall size H h m .heap .holder y)) (coversRun m (g .run)) (λ y. 0) (below size)
-              (λ y. omega (arith, rw (run-answered (g .run) (g .fresh)) at (one y), k .pages y, inv .one y)),
+              (λ y. omega (arith, rw (run-answered size n H es f l inv (g .run) (g .fresh)) at (one y), k .pages y, inv .one y)),
           zeros (below size),
         );
       }

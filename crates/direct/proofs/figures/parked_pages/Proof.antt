@@ -1,5 +1,4 @@
 use Prim.Native.Nat.{_-_}
-use native.Mathlib.Omega.{arith}
 use borrow.Author.Needs.{needs}
 use Rattle.direct.proofs.figures.parked_pages.Statement.{statement}
 use Rattle.direct.proofs.figures.parked_pages.Tie as tie
