@@ -237,16 +237,18 @@ fn the_readme_shows_the_output() {
     assert!(README.contains(printed), "the README has another output than\n{printed}");
 }
 
-/// As many pages are drawn as held as the status line says.
+/// As many pages are drawn as held, and as parked, as the status line says.
 fn assert_drawn(output: &str) {
     let status = output.lines().find(|line| line.starts_with("heap: ")).expect("a status line");
     let numbers: Vec<usize> = status.split(' ').filter_map(|word| word.parse().ok()).collect();
     let (held, idle) = (numbers[0], numbers[1]);
+    let parked = if status.contains(" of them parked") { numbers[2] } else { 0 };
     let drawn = output.split("by holder\n").nth(1).expect("the pages are drawn");
-    let rows = drawn.lines().take((held + idle).div_ceil(16));
+    let rows = drawn.lines().take((held + idle - parked).div_ceil(16));
     let symbols: String = rows.map(|row| row[6..].replace([' ', '-'], "")).collect();
-    assert_eq!(symbols.len(), held + idle);
+    assert_eq!(symbols.len(), held + idle - parked);
     assert_eq!(symbols.replace(['_', '.'], "").len(), held);
+    assert_eq!(symbols.matches('~').count(), parked);
 }
 
 #[test]

@@ -107,7 +107,7 @@ static void runs(void) {
 
 /* After all the calls above: a page of class 0 and the three of a span are held, parked ones included. */
 static void report(void) {
-    uint64_t figures[5];
+    uint64_t figures[VIGBUSO_FIGURES];
     IS(vigbuso_report(book, words, figures), 0);
     IS(figures[3], 4);
     IS(figures[4], PAGES - 4);

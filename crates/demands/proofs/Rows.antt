@@ -10,11 +10,12 @@ use Rattle.facts.proofs.Bools.{by-cases}
 use Rattle.words.specs.Host.{digit}
 use Rattle.words.specs.Word.{countOf, pageOf}
 use Rattle.classes.specs.declared.Shape.{Shape}
+use Rattle.classes.specs.Shape.{classCount}
 use Rattle.fields.specs.Field.{arena, class, page, size, frontier, holes, holePages, pages, partial, empty, emptyCount, cold, coldCount, free, carved, listed, get}
 use Rattle.model.specs.HoleStore.{rememberedMax}
 use Rattle.model.specs.Spot.{spotOf, isEmpty, isCold, isArena}
 use Rattle.arena.specs.Load.{loadHoles}
-use Rattle.arena.specs.Fair.{recordFair, holeFair, holesFair, memoryFair, commitFair, giveFair}
+use Rattle.arena.specs.Fair.{recordFair, holeFair, holesFair, memoryFair, commitFair, giveFair, countsFair, allCountsFair, reportFair}
 use Rattle.pages.specs.Runs.{ofRun, whole}
 use Rattle.pages.specs.Stack.{tops, hasMore}
 use Rattle.pages.specs.Links.{top, stored}
@@ -25,7 +26,7 @@ use Rattle.calls.specs.Take.{pageReady, sound, walk, parkFair}
 use Rattle.calls.specs.Release.{pageFair, rowFair, spotAt, spotFair, releaseFair}
 use Rattle.calls.specs.Chunks.{runsGiven, pagesGiven, chunksFair}
 use Rattle.demands.specs.Ranges.{Link, partialOf, emptyOf, coldOf, nextOf, linkField, Use, memoryFits, emptyTaken, coldTaken, listedYes, listedNo, field}
-use Rattle.demands.specs.Reads.{countReads, recordReads, holeReads, commitReads, giveReads, runReads, entryReads, pageReads, supply, walkReads, parkReads, takeReads, backReads, rowReads, releaseReads, backsReads, chunksReads}
+use Rattle.demands.specs.Reads.{countReads, recordReads, holeReads, commitReads, giveReads, parkedReads, reportReads, runReads, entryReads, pageReads, supply, walkReads, parkReads, takeReads, backReads, rowReads, releaseReads, backsReads, chunksReads}
 use Rattle.demands.specs.Number13.{takeFair, RowsDecide}
 use Rattle.demands.proofs.Ranges.{wanted}
 
