@@ -12,6 +12,7 @@ use fill::arguments::Arguments;
 use fill::grid::Grid;
 use fill::job::{Done, Job};
 use fill::search::{Progress, Stop};
+use fill::store::Store;
 use fill::words::Words;
 use fill::{picture, plot, progress};
 
@@ -172,6 +173,26 @@ fn spans_are_one_field_and_neighbours_have_other_colours() {
         let apart: i32 = parts(pair[0]).iter().zip(parts(pair[1])).map(|(a, b)| (a - b).abs()).sum();
         assert!(apart > 60, "{pair:?} are too like each other");
     }
+}
+
+#[test]
+fn parked_pages_are_drawn_as_such() {
+    let mut store = Store::open(32).expect("an arena");
+    let mut put = |bytes| store.put(&vec![7; bytes]).expect("no refusal").expect("room");
+    let (_kept, records) = (put(100), [put(16), put(20_000), put(60_000)]);
+    for record in records {
+        store.free(record).expect("its place");
+    }
+    // As long as their blocks are in stock, the pages are in use.
+    assert_eq!(store.report().expect("a reached book").overlap, 0);
+    assert!(!picture::text(&store.pages().expect("what the heap says")).contains('~'));
+    store.flush().expect("blocks that are out");
+    let report = store.report().expect("a reached book");
+    assert!(report.to_string().starts_with("13 pages held, 31 idle, 12 of them parked; "), "{report}");
+    let pages = store.pages().expect("what the heap says");
+    let rows: String = picture::text(&pages).lines().skip(1).take(2).collect();
+    assert_eq!(rows.matches('~').count(), 12);
+    assert!(picture::svg(&pages).contains("parked, medium class 11: 65472 bytes, 8 pages"));
 }
 
 #[test]

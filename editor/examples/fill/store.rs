@@ -209,10 +209,15 @@ impl Store {
         }
     }
 
+    /// Hands the blocks without a record back.
+    pub fn flush(&mut self) -> Outcome<()> {
+        self.blocks.flush()
+    }
+
     /// Hands everything back, once no record is left.
     pub fn close(mut self) -> Outcome<()> {
         match self.written.len() {
-            0 => self.blocks.flush(),
+            0 => self.flush(),
             left => Err(format!("{left} records are left").into()),
         }
     }
