@@ -8,7 +8,7 @@ use borrow.Author.Tests.{eqb-true}
 use Rattle.facts.proofs.Bools.{by-cases}
 use Rattle.model.specs.declared.Figures.{Figures}
 use Rattle.model.specs.Calls as Calls
-use Rattle.model.specs.Calls.{Call, Answer, refused, reported, isRefused, wayOf}
+use Rattle.model.specs.Calls.{Call, refused, reported, isRefused, wayOf}
 use Rattle.model.specs.Heap.{Heap, figures, directCall, step}
 use Rattle.model.specs.History.{heapAfter}
 use Rattle.model.specs.Demands.{Figured}

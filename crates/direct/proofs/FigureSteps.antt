@@ -85,6 +85,11 @@ module _ (b : List ℕ) (c x y : ℕ) (t : countsFair b c ≡ true) (e : x ≡ g
   pub runs-fit : x + y < 2 ^ 32
   runs-fit = omega (arith, runs-few)
 
+  pub parks-none : x + y ≡ 0 → Parks b c 0
+  parks-none h =
+      let none : parkedRuns b c ≡ 0 = rw (← e, ← k) h in
+      record { pages = rw none (omega arith); few = omega arith }
+
   module _ (s : Shape) (d : s ≡ shapeOf c) where
     pages-few : (x + y) * s .pages ≤ parkedMax
     pages-few = let short : s .pages ≤ 8 = rw d (shape-sound c .short) in mul-le-mul runs-few short

@@ -56,6 +56,9 @@ fn parked_of(meta: &[u32], c: u32) -> u32
     ensures { λ r. ⌜ Parks (now (meta .entry)) c r ⌝ }
 {
     let runs = fields::class::empty_count(meta, c) + fields::class::cold_count(meta, c);
+    if runs == 0 {
+        return 0;
+    }
     runs * classes::shape_of(c).pages
 }
 
