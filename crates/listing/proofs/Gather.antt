@@ -1,7 +1,9 @@
--- Lists written one after the other, as the loops go.
+-- Lists gathered, and written one after the other as the loops go.
 use Prim.Native.Nat.{ℕ, zero, suc, _+_, _-_, _≤_, _<_}
-use mathlib.Core.List.{List, [], _∷_, _++_}
+use mathlib.Core.List.{List, [], _∷_, _++_, List·Memᴰ, List·Memᴰ·not-nil, List·Memᴰ·append-cases, Memᴰ·append-left, Memᴰ·append-right}
+use mathlib.Core.Logic.{_⊎_, ⊎-elim}
 use mathlib.Core.Path.{_≡_, refl, sym, ap, _∙_}
+use native.Mathlib.Nat.{eq-or-lt-of-le}
 use native.Mathlib.Numerals.{add-one}
 use native.Mathlib.Omega.{arith}
 use lib.ListN.{length, set, length-append}
@@ -24,6 +26,30 @@ gather-none : (f : ℕ → List ℕ) (i m : ℕ) → m ≤ i → gather f i (m -
 unfolding gather
 gather-none f i m h = let z : m - i ≡ 0 = omega arith in rw z refl
 
+-- ---- what is in one of the lists
+pub gather-in : {A : Type 0} (f : ℕ → List A) (i m j : ℕ) {x : A} → i ≤ j → j < i + m → List·Memᴰ x (f j) → List·Memᴰ x (gather f i m)
+unfolding gather
+gather-in f i zero j l h e = absurd (omega arith)
+gather-in f i (suc m) j {x} l h e =
+    ⊎-elim
+    (λ (same : i ≡ j). Memᴰ·append-left (gather f (suc i) m) (rw (← same) at e))
+    (λ later. Memᴰ·append-right (f i) (gather-in f (suc i) m j (omega arith) (omega arith) e))
+    (eq-or-lt-of-le l)
+
+pub record Found {A : Type 0} (f : ℕ → List A) (i m : ℕ) (x : A) : Type 0 where
+  pub at : ℕ
+  pub from : i ≤ at
+  pub below : at < i + m
+  pub there : List·Memᴰ x (f at)
+
+pub gather-of : {A : Type 0} (f : ℕ → List A) (i m : ℕ) {x : A} → List·Memᴰ x (gather f i m) → Found f i m x
+unfolding gather
+gather-of f i zero e = absurd (List·Memᴰ·not-nil e)
+gather-of f i (suc m) {x} e =
+    let later : Found f (suc i) m x → Found f i (suc m) x = λ r. record { at = r .at; from = omega (arith, r .from); below = omega (arith, r .below); there = r .there } in
+    ⊎-elim (λ h. record { at = i; from = omega arith; below = omega arith; there = h }) (λ t. later (gather-of f (suc i) m t)) (List·Memᴰ·append-cases (f i) e)
+
+-- ---- written one after the other
 -- all are to be written to l₀ from one place on; l has them but for the rest, which goes on at `to`
 pub record Ahead (all rest : List ℕ) (at to : ℕ) (l₀ l : List ℕ) : Type 0 where
   pub ends : to + length rest ≡ at + length all

@@ -11,7 +11,7 @@ use mathlib.Core.List.{List, [], _∷_, _++_, map, List·Memᴰ}
 use mathlib.Core.Option.{Option, none, some}
 use mathlib.Core.Path.{_≡_}
 use lib.ListN.{length}
-use Rattle.facts.specs.Lists.{All, update}
+use Rattle.facts.specs.Lists.{update}
 use Rattle.words.specs.Host.{hostWord}
 use Rattle.model.specs.Arena.{Arena, newArena}
 use Rattle.model.specs.Arena as Arena
@@ -73,10 +73,10 @@ pub data Before : List Call → List Call → Type 0 where
   here : {c d : Call} {cs ds : List Call} → First c d → Before (c ∷ cs) (d ∷ ds)
   there : {c : Call} {cs ds : List Call} → Before cs ds → Before (c ∷ cs) (c ∷ ds)
 
--- each stands before all that follow, and none stands before itself: so each stands there once
+-- each stands before all that follow; as none stands before itself, each is there once
 abbrev pub Ordered : List (List Call) → Type 0
 Ordered [] = Unit {0}
-Ordered (h ∷ hs) = All (Before h) hs × Ordered hs
+Ordered (h ∷ hs) = ((g : List Call) → List·Memᴰ g hs → Before h g) × Ordered hs
 
 -- ---- "histories follow each other without a mark"
 unfoldable pub written : List (List Call) → List ℕ
