@@ -2,7 +2,7 @@
 -- the model's arena is computed, for each arena and length: nothing else here goes by the arena's rules.
 use Prim.Native.Nat.{ℕ, zero, suc, _+_, _≤_}
 use mathlib.Core.Bool.{true}
-use mathlib.Core.List.{List, List·Memᴰ}
+use mathlib.Core.List.{List, [], _∷_, List·Memᴰ}
 use mathlib.Core.Path.{_≡_, refl, subst}
 use native.Mathlib.Omega.{arith}
 use lib.Dec.{leb}
@@ -59,3 +59,13 @@ listing-is n k some pages calls = record {
   only = histories-are n k opened;
   order = histories-ordered n k opened;
 }
+
+-- "the history with no call is the only one of length 0": it has no number
+pub none-listed : (n : ℕ) → listing n 0 ≡ []
+unfolding gather soFar listFrom
+none-listed n = refl
+
+-- "On one page, length 2 gives 1, 1, 1, 4."
+pub two-listed : listing 1 2 ≡ 1 ∷ 1 ∷ 1 ∷ 4 ∷ []
+unfolding commitNode mayCall afterCall gather soFar listFrom
+two-listed = refl
