@@ -103,7 +103,9 @@ pub fn run() -> bool {
             }
             numbers += if number == 0 { written } else { 0 };
             if (number, list, written) != due(size, length, room) {
-                println!("short_histories({size}, {length}) with room for {room}: the port answers {number}, {written}");
+                println!(
+                    "short_histories({size}, {length}) with room for {room}: the port answers {number}, {written}"
+                );
                 differences += 1;
             }
         }

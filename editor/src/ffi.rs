@@ -284,9 +284,7 @@ pub(crate) fn asker_wins(pages: u64, live: u64, moves: u64) -> Result<u32, Refus
 pub(crate) fn short_histories(pages: u64, length: u64, list: &mut [u32]) -> Result<u64, Refusal> {
     let mut written = 0;
     // SAFETY: the slice and the local are lent for the call.
-    carried_out(unsafe {
-        vigbuso_short_histories(pages, length, list.as_mut_ptr(), list.len(), &raw mut written)
-    })?;
+    carried_out(unsafe { vigbuso_short_histories(pages, length, list.as_mut_ptr(), list.len(), &raw mut written) })?;
     Ok(written)
 }
 
@@ -329,7 +327,7 @@ mod tests {
         assert_eq!(short_histories(3, 4, &mut list[..791]), Err(Refusal::Listing));
         assert_eq!(list, [9; 793]);
         assert_eq!(short_histories(3, 4, &mut list), Ok(792));
-        assert_eq!((list[791], list[792]), (4, 9));
+        assert_eq!(list[788..], [3, 4, 3, 6, 9]);
     }
 
     #[test]

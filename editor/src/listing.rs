@@ -43,11 +43,11 @@ impl DirectCall {
 /// It is there to check a change of the arena on everything that can happen in a few calls:
 ///
 /// ```
-/// use vigbuso::{short_histories, DirectCall, Heap};
+/// use vigbuso::{short_histories, DirectCall, Heap, Run};
 ///
 /// for history in short_histories(3, 4)? {
 ///     let mut heap = Heap::open(3)?;
-///     let mut runs = Vec::new();
+///     let mut runs: Vec<Option<Run>> = Vec::new();
 ///     for call in history {
 ///         let run = match call {
 ///             DirectCall::Commit(pages) => heap.commit(pages)?.map(|answer| answer.run),
@@ -80,7 +80,7 @@ pub fn short_histories(pages: u64, length: u64) -> Result<ShortHistories, Refusa
 /// ```
 /// use vigbuso::short_histories;
 ///
-/// assert_eq!([0, 1, 2, 3, 4].map(|length| short_histories(3, length).map(|all| all.len())), [1, 3, 12, 47, 198].map(Ok));
+/// assert_eq!([0, 1, 2, 3, 4].map(|length| short_histories(3, length).map(|all| all.len())), [1, 3, 12, 48, 198].map(Ok));
 /// ```
 #[derive(Clone, Debug)]
 pub struct ShortHistories {

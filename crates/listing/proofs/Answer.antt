@@ -51,6 +51,6 @@ module _ (n k : ℕ) (l : List ℕ) (old : ℕ) (s : Bool) (e : s ≡ badBounds 
     listed-all h x f r l′ w =
         let fits : length (listing n k) ≤ length l = rw d at h in
         let whole : sets l 0 (listing n k) ≡ listing n k ++ drop (length (listing n k)) l =
-            sets-eq (listing n k) l 0 (omega arith) ∙ ap (λ (j : ℕ). listing n k ++ drop j l) (zero-add (length (listing n k))) in
+        sets-eq (listing n k) l 0 (omega arith) ∙ ap (λ (j : ℕ). listing n k ++ drop j l) (zero-add (length (listing n k))) in
         rw (sym e ∙ u, le-ltb (length l) (length (listing n k)) fits)
         (record { code = refl; list = w .list ∙ (ap (λ (y : Node). sets l 0 (listFrom n k y)) f ∙ whole); written = d })

@@ -1,6 +1,6 @@
 -- What the listing writes is just the histories of the length, each once, in the order (`listing-is`). That the code's own state follows
 -- the model's arena is computed, for each arena and length: nothing else here goes by the arena's rules.
-use Prim.Native.Nat.{ℕ, zero, suc, _+_, _≤_}
+use Prim.Native.Nat.{ℕ, zero, suc, _≤_}
 use mathlib.Core.Bool.{true}
 use mathlib.Core.List.{List, [], _∷_, List·Memᴰ}
 use mathlib.Core.Path.{_≡_, refl, subst}
@@ -10,7 +10,7 @@ use lib.ListN.{length}
 use borrow.Author.Tests.{leb-true}
 use Rattle.model.specs.HoleStore.{lowest, leastFit, stillHolds, chooseIn, cutFrom, accepts, append}
 use Rattle.model.specs.Arena.{give, drawFrom, draw, grant, commitReady, commitAs, commit}
-use Rattle.listing.specs.History.{Call, opened, committed, released, written, History, Lists}
+use Rattle.listing.specs.History.{opened, committed, released, written, Lists}
 use Rattle.listing.specs.Listing.{mostPages, mostCalls, mostNumbers, commitNode, mayCall, afterCall, gather, soFar, listFrom, listing}
 use Rattle.listing.proofs.Histories.{histories, histories-all, histories-are}
 use Rattle.listing.proofs.Order.{histories-ordered}

@@ -4,7 +4,6 @@ use mathlib.Core.Logic.{⊎-elim}
 use mathlib.Core.Path.{_≡_, refl, sym, subst, _∙_}
 use native.Mathlib.Nat.{pos-of-ne-zero}
 use native.Mathlib.Omega.{arith}
-use borrow.Author.Needs.{needs}
 use borrow.Fn.Kinds.{In}
 use borrow.Fn.PlainCycle.{Measures, is, falls, and}
 use lib.ListN.{length}
@@ -90,10 +89,10 @@ module _ (t : ℕ) where
       let may = sym (c .before .may-call .ensures) in
       let within : number < 3 + node .calls + 1 = omega arith in
       let wrote : Wrote (turnOf n left node number) (at .loop .to) (c .if2 .to) (at .loop .out) (c .if2 .out) =
-          ⊎-elim
-          (λ w. went-on n left node number (at .loop .to) _ (may ∙ w .0 .taken) (w .1 .ensures) _ _ _ _ _ (w .3 .ensures) (w .6) (w .7))
-          (λ w. stayed n left node number (at .loop .to) (may ∙ w .0 .left) _ _ _ (w .1) (w .2))
-          (c .if2 .came) in (
+      ⊎-elim
+      (λ w. went-on n left node number (at .loop .to) _ (may ∙ w .0 .taken) (w .1 .ensures) _ _ _ _ _ (w .3 .ensures) (w .6) (w .7))
+      (λ w. stayed n left node number (at .loop .to) (may ∙ w .0 .left) _ _ _ (w .1) (w .2))
+      (c .if2 .came) in (
         omega arith,
         (omega arith, (same-length _ _ _ _ _ wrote ∙ at .loop .inv .1 .1 .0, next (turnOf n left node) number (3 + node .calls + 1) _ _ _ _ _ (at .loop .inv .1 .1 .1) within _ _ wrote)),
       )

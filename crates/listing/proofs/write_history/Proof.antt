@@ -1,10 +1,10 @@
 use Prim.Native.Nat.{_+_, _-_, _≤_}
-use mathlib.Core.Path.{_≡_, refl, ap, _∙_}
+use mathlib.Core.Path.{_≡_, refl, _∙_}
 use native.Mathlib.Nat.{sub-zero}
 use native.Mathlib.Omega.{arith}
 use borrow.Author.Needs.{needs}
 use lib.ListN.{length}
-use Rattle.listing.specs.Listing.{mostNumbers, numberAt, gather, soFar, Wrote}
+use Rattle.listing.specs.Listing.{numberAt, gather, soFar, Wrote}
 use Rattle.listing.proofs.Gather.{Ahead, none-yet, same-length, next, no-more}
 use Rattle.listing.proofs.write_history.Statement.{statement}
 use Rattle.listing.proofs.write_history.Tie as tie
@@ -30,7 +30,7 @@ loop-again c =
     let at = c .before .before .before .before .before in
     let args = at .before .before .before .args in
     let wrote : Wrote (numberAt (args .node .numbers) (at .loop .i)) (args .at + at .loop .i) (args .at + (at .loop .i + 1)) (at .loop .out) _ =
-        record { next = omega arith; list = c .before .before .write .ensures } in (
+    record { next = omega arith; list = c .before .before .write .ensures } in (
       omega arith,
       (same-length _ _ _ _ _ wrote ∙ at .loop .inv .1 .0, next (numberAt (args .node .numbers)) (at .loop .i) (args .node .calls) _ _ _ _ _ (at .loop .inv .1 .1) (c .before .before .before .before .loop-test .taken) _ _ wrote),
     )
