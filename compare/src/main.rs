@@ -35,7 +35,7 @@ const USAGE: &str = "usage: compare COMMAND [--NAME VALUE ..]
   lookups      both size lookups
   tables       class tables from a growth rate
   game         an asker against any placing
-  listing      all short histories of the hand-run calls
+  listing      all short histories of the direct calls
   histories    [--calls N] [--seed S] [--pages N,N..] [--scenario NAME]
                random histories on the original and on the port
   record       --file F [--calls N] [--seed S] [--pages N,N..] [--scenario NAME] [--kinds all|arena]

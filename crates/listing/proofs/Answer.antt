@@ -11,8 +11,9 @@ use lib.ListN.{length, drop}
 use lib.Seq.{sets, sets-eq}
 use borrow.Author.Tests.{ltb-false, eqb-false, lt-ltb, le-ltb}
 use Rattle.facts.proofs.Bools.{nor-left, nor-right}
-use Rattle.listing.specs.declared.Node.{Node}
-use Rattle.listing.specs.Listing.{mostPages, mostCalls, mostNumbers, start, listFrom, listing, badBounds, Wrote, shortHistories, ListingEnds}
+use Rattle.listing.specs.declared.node.Node.{Node}
+use Rattle.listing.specs.Node.{mostPages, mostCalls, start}
+use Rattle.listing.specs.Listing.{mostNumbers, listFrom, listing, badBounds, Wrote, shortHistories, ListingEnds}
 use Rattle.listing.proofs.Theorems.{Bounds, listing-small}
 
 pub bounds-of : (n k : ℕ) → badBounds n k ≡ false → Bounds n k

@@ -11,7 +11,8 @@ use borrow.Author.Tests.{leb-true}
 use Rattle.model.specs.HoleStore.{lowest, leastFit, stillHolds, chooseIn, cutFrom, accepts, append}
 use Rattle.model.specs.Arena.{give, drawFrom, draw, grant, commitReady, commitAs, commit}
 use Rattle.listing.specs.History.{opened, committed, released, written, Lists}
-use Rattle.listing.specs.Listing.{mostPages, mostCalls, mostNumbers, commitNode, mayCall, afterCall, gather, soFar, listFrom, listing}
+use Rattle.listing.specs.Node.{mostPages, mostCalls, commitNode, mayCall, afterCall}
+use Rattle.listing.specs.Listing.{mostNumbers, gather, soFar, listFrom, listing}
 use Rattle.listing.proofs.Histories.{histories, histories-all, histories-are}
 use Rattle.listing.proofs.Order.{histories-ordered}
 

@@ -5,8 +5,9 @@ use mathlib.Core.List.{List}
 use mathlib.Core.Path.{_≡_, refl, ap}
 use native.Mathlib.Omega.{arith}
 use lib.ListN.{length}
-use Rattle.listing.specs.declared.Node.{Node}
-use Rattle.listing.specs.Listing.{mostPages, mostCalls, mostNumbers, mayCall, afterCall, gather, soFar, goesOn, listFrom, Wrote}
+use Rattle.listing.specs.declared.node.Node.{Node}
+use Rattle.listing.specs.Node.{mostPages, mostCalls, mayCall, afterCall}
+use Rattle.listing.specs.Listing.{mostNumbers, gather, soFar, goesOn, listFrom, Wrote}
 
 pub none-left : (n left : ℕ) (x : Node) → left ≡ 0 → listFrom n left x ≡ soFar x
 unfolding listFrom

@@ -1,4 +1,4 @@
--- What the short histories are (document 02, A.10): by-hand calls on the model's arena, one after the other, each granted.
+-- What the short histories are (document 02, A.10): direct calls on the model's arena, one after the other, each granted.
 --     Call, numberOf      a call, and the number that it is written as
 --     State               the arena after some calls, and the runs still held
 --     History             these calls are a history, on an arena of n pages
@@ -39,7 +39,7 @@ pub record State : Type 0 where
 abbrev pub opened : State
 opened = record { arena = newArena; calls = 0; runs = λ i. none }
 
--- "all granted": a release by hand asks nothing that matters
+-- "all granted": reservation and commits; the answer of a discard shows nowhere
 abbrev pub granted : ℕ
 granted = hostWord true true false false
 

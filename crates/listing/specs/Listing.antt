@@ -1,56 +1,20 @@
--- All short histories (document 02, A.10), computed as the code goes. Node is the struct of src/lib.rt; specs/History says what a history is.
---     mayCall, afterCall    the call that a number stands for: whether it may come next, and what it leaves
---     listFrom              the numbers of all histories that go on from a node
---     badListing            when number 20 applies
---     shortHistories        a call: its number, the lent list afterwards and how many numbers were written
-use Prim.Native.Nat.{ℕ, zero, suc, _+_, _-_}
-use mathlib.Core.Bool.{Bool, cond, not, _||_}
+-- All short histories (document 02, A.10), computed as the code goes. specs/History says what a history is.
+--     listFrom          the numbers of all histories that go on from a node
+--     badListing        when number 20 applies
+--     shortHistories    a call: its number, the lent list afterwards and how many numbers were written
+use Prim.Native.Nat.{ℕ, zero, suc, _+_}
+use mathlib.Core.Bool.{Bool, cond, _||_}
 use mathlib.Core.List.{List, [], _∷_, _++_}
 use mathlib.Core.Path.{_≡_}
-use lib.Dec.{leb, ltb, eqb}
-use lib.ListN.{length, getD, set, drop, replicate}
+use lib.Dec.{ltb, eqb}
+use lib.ListN.{length, getD, drop}
 use lib.Seq.{sets}
-use Rattle.listing.specs.declared.Node.{Node}
+use Rattle.listing.specs.declared.node.Node.{Node}
+use Rattle.listing.specs.Node.{mostPages, mostCalls, start, mayCall, afterCall}
 
--- the most pages, the most calls, and the most numbers of a listing: those of 3 pages and 4 calls
-abbrev pub mostPages : ℕ
-mostPages = 3
-
-abbrev pub mostCalls : ℕ
-mostCalls = 4
-
+-- the most numbers of a listing: those of 3 pages and 4 calls
 abbrev pub mostNumbers : ℕ
 mostNumbers = 792
-
--- before any call
-abbrev pub start : ℕ → Node
-start n = record { numbers = replicate mostCalls 0; calls = 0; runs = replicate mostCalls 0; hole = 0; fresh = n }
-
--- ---- one call more
-abbrev pub withArena : List ℕ → ℕ → ℕ → Node → Node
-withArena runs hole fresh x = record { numbers = x .numbers; calls = x .calls; runs = runs; hole = hole; fresh = fresh }
-
--- from the hole, from the pages never given out, or in vain
-unfoldable pub commitNode : Node → ℕ → Node
-commitNode x p =
-    cond (leb p (x .hole)) (withArena (set (x .runs) (x .calls) p) (x .hole - p) (x .fresh) x)
-    (cond (leb p (x .fresh)) (withArena (set (x .runs) (x .calls) p) (x .hole) (x .fresh - p) x)
-    x)
-
--- the run from call j (from 0)
-abbrev pub releaseNode : Node → ℕ → Node
-releaseNode x j = withArena (set (x .runs) j 0) (getD (x .runs) j 0) (x .fresh) x
-
--- the number of call i (from 0) put down
-abbrev pub noted : ℕ → ℕ → Node → Node
-noted i number x = record { numbers = set (x .numbers) i number; calls = i + 1; runs = x .runs; hole = x .hole; fresh = x .fresh }
-
--- a number up to 3 is a commit of so many pages; 4 + j is a release
-unfoldable pub mayCall : ℕ → Node → ℕ → Bool
-mayCall n x number = cond (leb number mostPages) (leb number n) (not (eqb (getD (x .runs) (number - 4) 0) 0))
-
-unfoldable pub afterCall : Node → ℕ → Node
-afterCall x number = noted (x .calls) number (cond (leb number mostPages) (commitNode x number) (releaseNode x (number - 4)))
 
 -- ---- lists from i on, m of them, one after the other
 unfoldable pub gather : {A : Type 0} → (ℕ → List A) → ℕ → ℕ → List A

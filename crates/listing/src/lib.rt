@@ -1,108 +1,18 @@
-// All short histories of the hand-run calls on a small arena (document 02, A.10).
+// All short histories of the direct calls on a small arena (document 02, A.10).
+mod node;
+
 ghost use mathlib.Core.Path.{_≡_};
 ghost use mathlib.Core.Bool.{false};
-ghost use Prim.Native.Nat.{_+_, _<_, _≤_};
+ghost use Prim.Native.Nat.{_+_, _≤_};
 ghost use lib.ListN.{length, set};
-ghost use Rattle.listing.specs.Listing.{mostNumbers, start, commitNode, releaseNode, noted, mayCall, afterCall, soFar, listFrom, listing, badBounds, Wrote, shortHistories, ListingEnds};
-
-const MOST_PAGES: usize = 3;
+ghost use Rattle.listing.specs.Listing.{mostNumbers, soFar, listFrom, listing, badBounds, Wrote, shortHistories, ListingEnds};
+use node::MOST_PAGES;
+use node::Node;
+use node::after_call;
+use node::may_call;
+use node::start;
 
 const MOST_CALLS: u64 = 4;
-
-// The calls so far, and the arena after them by lengths alone: within four calls a commit never finds more than one hole, and where
-// runs lie shows in no history.
-pub struct Node {
-    // The calls as they are written.
-    pub numbers: [u32; 4],
-    pub calls: usize,
-    // For each call the pages of the run from it, while it is held; else 0.
-    pub runs: [usize; 4],
-    pub hole: usize,
-    // Pages never given out.
-    pub fresh: usize,
-}
-
-// Before any call.
-fn start_node(n: usize) -> Node
-    ensures { λ r. ⌜ r ≡ start n ⌝ }
-{
-    Node {
-        numbers: [0u32; 4],
-        calls: 0,
-        runs: [0usize; 4],
-        hole: 0,
-        fresh: n,
-    }
-}
-
-// A commit, whether it succeeds or not.
-fn commit_node(node: Node, p: usize) -> Node
-    requires { ⌜ node .calls < 4 ⌝ }
-    ensures { λ r. ⌜ r ≡ commitNode node p ⌝ }
-{
-    let calls = node.calls;
-    let hole = node.hole;
-    let fresh = node.fresh;
-    let mut next = node;
-    if p <= hole {
-        next.runs[calls] = p;
-        next.hole = hole - p;
-        return next;
-    }
-    if p <= fresh {
-        next.runs[calls] = p;
-        next.fresh = fresh - p;
-        return next;
-    }
-    next
-}
-
-// The release of the run from call j.
-fn release_node(node: Node, j: usize) -> Node
-    requires { ⌜ j < 4 ⌝ }
-    ensures { λ r. ⌜ r ≡ releaseNode node j ⌝ }
-{
-    let pages = node.runs[j];
-    let mut next = node;
-    next.runs[j] = 0;
-    next.hole = pages;
-    next
-}
-
-// Puts down the number of call i.
-fn note(node: Node, i: usize, number: usize) -> Node
-    requires { ⌜ i < 4 ⌝ }
-    requires { ⌜ number < 8 ⌝ }
-    ensures { λ r. ⌜ r ≡ noted i number node ⌝ }
-{
-    let mut next = node;
-    next.numbers[i] = number as u32;
-    next.calls = i + 1;
-    next
-}
-
-// May the call that a number stands for come next?
-fn may_call(n: usize, node: Node, number: usize) -> bool
-    requires { ⌜ number < 8 ⌝ }
-    ensures { λ r. ⌜ r ≡ mayCall n node number ⌝ }
-{
-    if number <= MOST_PAGES {
-        return number <= n;
-    }
-    node.runs[number - 4] != 0
-}
-
-fn after_call(node: Node, number: usize) -> Node
-    requires { ⌜ number < 8 ⌝ }
-    requires { ⌜ node .calls < 4 ⌝ }
-    ensures { λ r. ⌜ r ≡ afterCall node number ⌝ }
-{
-    let calls = node.calls;
-    if number <= MOST_PAGES {
-        return note(commit_node(node, number), calls, number);
-    }
-    note(release_node(node, number - 4), calls, number)
-}
 
 // Writes a number where the list has a place for it.
 fn write(out: &mut [u32], at: usize, number: u32)
@@ -169,7 +79,7 @@ fn listing_size(n: usize, k: usize) -> usize
     ensures { λ r. ⌜ r ≡ length (listing n k) ⌝ }
 {
     let mut first = [0u32; 1];
-    list_from(n, k, start_node(n), &mut first, 0)
+    list_from(n, k, start(n), &mut first, 0)
 }
 
 // Lists all histories of so many calls: 0 with how many numbers were written, or the number of the refusal.
@@ -185,7 +95,7 @@ pub fn short_histories(pages: u64, calls: u64, list: &mut [u32], written: &mut u
     if list.len() < size {
         return 20;
     }
-    list_from(n, k, start_node(n), list, 0);
+    list_from(n, k, start(n), list, 0);
     *written = size as u64;
     0
 }

@@ -1,4 +1,4 @@
-// All short histories of the hand-run calls on a small arena. No book is lent.
+// All short histories of the direct calls on a small arena. No book is lent.
 ghost use Rattle.listing.specs.Listing.{shortHistories, ListingEnds};
 
 #[no_mangle]

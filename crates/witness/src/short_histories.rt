@@ -1,4 +1,4 @@
-// All short histories of the hand-run calls.
+// All short histories of the direct calls on a small arena.
 ghost use Rattle.demands.specs.Listing.{OnePageTwoCalls};
 ghost use Rattle.witness.specs.Seen.{ListingSeen};
 

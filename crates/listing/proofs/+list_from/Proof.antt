@@ -13,8 +13,8 @@ use Rattle.listing.proofs.Turns.{none-left, turnOf, turn, may-go-on, we
 use Rattle.listing.proofs.list_from.Reads as list-from
 use Rattle.listing.proofs.list_from.Kinds as list-from-kinds
 use Rattle.listing.proofs.+list_from.Lts-list_from as lts
-use Rattle.listing.proofs.after_call.Reads as after-call-reads
-use Rattle.listing.proofs.may_call.Reads as may-call-reads
+use Rattle.listing.proofs.node.after_call.Reads as after-call-reads
+use Rattle.listing.proofs.node.may_call.Reads as may-call-reads
 use Rattle.listing.proofs.write_history.Reads as write-history-reads
 use Rattle.listing.proofs.+list_from.{statement}
 use Rattle.listing.proofs.+list_from.Tie.{close}

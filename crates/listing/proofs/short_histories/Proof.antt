@@ -10,7 +10,7 @@ listing-size-requires c κs = sym (c .before .bad-bounds .ensures) ∙ c .if1 .l
 list-from-requires : tie.Need-list-from-requires
 list-from-requires c κs =
     let at = c .before .before .before .before in
-    may-list _ _ _ (c .before .start-node .ensures) (sym (at .before .bad-bounds .ensures) ∙ at .if1 .left)
+    may-list _ _ _ (c .before .start .ensures) (sym (at .before .bad-bounds .ensures) ∙ at .if1 .left)
 
 returns-2 : tie.Need-returns-2
 returns-2 c =
@@ -21,7 +21,7 @@ returns-3 : tie.Need-returns-3
 returns-3 c =
     let two = c .before .before .before .before .before in
     let at = two .before .before in
-    listed-all _ _ _ _ _ (at .before .bad-bounds .ensures) (at .if1 .left) _ (two .before .listing-size .ensures) (two .if2 .left) _ (c .before .before .before .before .start-node .ensures) _ _ (c .before .before .list-from .ensures)
+    listed-all _ _ _ _ _ (at .before .bad-bounds .ensures) (at .if1 .left) _ (two .before .listing-size .ensures) (two .if2 .left) _ (c .before .before .before .before .start .ensures) _ _ (c .before .before .list-from .ensures)
 
 pub short-histories-spec : {M : Type 1} → statement M
 short-histories-spec =

@@ -1,9 +1,9 @@
 use mathlib.Core.Path.{refl}
 use borrow.Author.Needs.{needs}
 use borrow.Author.Tests.{le-leb, lt-leb}
-use Rattle.listing.specs.Listing.{mayCall}
-use Rattle.listing.proofs.may_call.Statement.{statement}
-use Rattle.listing.proofs.may_call.Tie as tie
+use Rattle.listing.specs.Node.{mayCall}
+use Rattle.listing.proofs.node.may_call.Statement.{statement}
+use Rattle.listing.proofs.node.may_call.Tie as tie
 
 returns : tie.Need-returns
 unfolding mayCall
