@@ -9,4 +9,5 @@ pub mod Number13
 pub mod Refusals
 pub mod ClassTables
 pub mod Game
+pub mod Listing
 pub mod Plan
