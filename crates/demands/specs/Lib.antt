@@ -9,5 +9,6 @@ pub mod Number13
 pub mod Refusals
 pub mod ClassTables
 pub mod Game
+pub mod Listing
 pub mod Plan
 pub mod Idle
