@@ -93,7 +93,7 @@ module _ (n : ℕ) (b : List ℕ) (H : Heap) (R : Represents n b H) (ok : Reache
   one : 1 ≤ shapeOf c .pages
   one = shape-sound c .paged
 
-  few : length (commit n h (shapeOf c .pages) (H .arena) .arena .store .holes) ≤ holeSlots
+  pub few : length (commit n h (shapeOf c .pages) (H .arena) .arena .store .holes) ≤ holeSlots
   few = tidy-commit n h pages one (H .arena) (ok .tidy) .slots
 
   changes : Changes (isStep owned) b after
@@ -150,7 +150,7 @@ module _ (n : ℕ) (b : List ℕ) (H : Heap) (R : Represents n b H) (ok : Reache
     outside y i = written .kept (page first y) refl (or-none (inRun pages q y) ∙ i) ∙ step-first owned b after changes y
 
     -- which runs are whole: the new one, and the others as before; none was there
-    same : (d x : ℕ) → (d ≡ c → x ≡ q → ⊥) → whole n new (shapeOf d) d x ≡ whole n b (shapeOf d) d x
+    pub same : (d x : ℕ) → (d ≡ c → x ≡ q → ⊥) → whole n new (shapeOf d) d x ≡ whole n b (shapeOf d) d x
     same d x ne = claim-others n b H (R .arena) ok h pages one q e c (H .classes) new (rep₂ (H .classes)) inside outside (shapeOf d) d x (shape-sound d .paged) ne
 
     whole-now : whole n new (shapeOf c) c q ≡ true

@@ -41,3 +41,16 @@ pub mod ChunkTests
 pub mod Chunks
 pub mod ChunkWhole
 pub mod Whole
+pub mod Mix
+pub mod LocalPages
+pub mod LocalFill
+pub mod LocalTake
+pub mod LocalArena
+pub mod LocalGives
+pub mod LocalNew
+pub mod LocalBack
+pub mod LocalList
+pub mod LocalChunks
+pub mod Lengths
+pub mod Foot
+pub mod ChangePlaces

@@ -65,7 +65,7 @@ module _ {n : ℕ} {b : List ℕ} {c : ℕ} {sh : Shape} (s : Setting n b c sh) 
       let f = fills s₂ (p ∷ []) fs (sh .batch) (sh .batch) (omega arith) (parked-more n b (s .shape) c p (r .parked .0), tt) r₂ in
       record { rep = f .rep; blocks = f .blocks; virgin = f .virgin; only = only-trans c (only-trans c o₁ o₂) (f .only) }
 
-  from-park-is : (k : Park) (p : Page) (xs ys fs : List Page) → ClassRep n b c sh k [] (p ∷ xs) ys fs
+  pub from-park-is : (k : Park) (p : Page) (xs ys fs : List Page) → ClassRep n b c sh k [] (p ∷ xs) ys fs
       → fromPark n b c sh k l ≡ took l (fillFrom (wake b c k (p .first)) c sh (sh .batch) (sh .batch))
   unfolding fromPark
   from-park-is k p xs ys fs r = rw (park-passes n b (s .shape) c k p xs (r .store) (r .parked), r .store .line .0, pred (p .first))
