@@ -10,3 +10,4 @@ pub mod Refusals
 pub mod ClassTables
 pub mod Game
 pub mod Plan
+pub mod ChangePlaces
