@@ -1,15 +1,15 @@
 -- Neighbouring calls of the exported functions may change places (document 02, A.14): the refinement's `change-places`, on `run`.
 use Prim.Native.Nat.{ℕ}
-use mathlib.Core.Bool.{true, false, not, _&&_, true≢false}
+use mathlib.Core.Bool.{true, false, not, true≢false}
 use mathlib.Core.List.{List, [], _∷_, _++_}
 use mathlib.Core.Logic.{_⊎_, inl, inr}
 use mathlib.Core.Option.{some}
-use mathlib.Core.Path.{_≡_, refl, sym, ap, _∙_, subst}
+use mathlib.Core.Path.{_≡_, refl, sym, ap, _∙_}
 use Rattle.facts.specs.Lists.{isNil}
 use Rattle.facts.proofs.Bools.{by-cases, and-false}
 use Rattle.words.specs.Host.{badHost}
 use Rattle.model.specs.Calls.{Call, Named, names, hostIn, wayOf}
-use Rattle.model.specs.Class.{Result, Ask, done, asks}
+use Rattle.model.specs.Class.{Ask, done, asks}
 use Rattle.model.specs.Demands.{StaysHome, stays}
 use Rattle.model.specs.History.{heapAfter}
 use Rattle.vigbuso.specs.Direct.{openOn}
@@ -19,7 +19,7 @@ use Rattle.refinement.proofs.ChangePlaces as Words
 use Rattle.refinement.proofs.ChangePlaces.{AtHome}
 use Rattle.demands.specs.Call.{call}
 use Rattle.demands.specs.Run.{Opens, run, bookAfter, next}
-use Rattle.demands.specs.ChangePlaces.{usesArena, reaches, Swapped, ChangePlaces}
+use Rattle.demands.specs.ChangePlaces.{usesArena, reaches, ChangePlaces}
 use Rattle.demands.proofs.Calls.{room}
 use Rattle.demands.proofs.Histories.{run-represents, run-calls, next-is}
 

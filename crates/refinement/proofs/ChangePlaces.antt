@@ -4,29 +4,28 @@
 --     change-places     the two orders, on a book after any history
 use Prim.Native.Nat.{ℕ, suc, _+_, _≤_, _<_}
 use native.Mathlib.Omega.{arith}
-use mathlib.Core.Bool.{Bool, true, false, cond, not}
+use mathlib.Core.Bool.{Bool, true, false, cond}
 use mathlib.Core.List.{List, [], _∷_, _++_}
 use mathlib.Core.Logic.{_⊎_, inl, inr}
 use mathlib.Core.Option.{some}
 use mathlib.Core.Path.{_≡_, refl, sym, ap, _∙_, subst}
 use lib.Dec.{eqb, ltb}
 use lib.ListN.{length}
-use borrow.Author.Tests.{eqb-true, eqb-false, ltb-true, lt-ltb}
+use borrow.Author.Tests.{eqb-true, eqb-false}
 use Rattle.words.specs.Host.{badHost}
 use Rattle.classes.specs.Shape.{shapeOf}
 use Rattle.classes.proofs.Shapes.{shape-sound}
 use Rattle.fields.specs.Ranges.{maxPages}
-use Rattle.facts.specs.Lists.{update}
 use Rattle.model.specs.Calls as Calls
 use Rattle.model.specs.Calls.{Call, Named, named, names, hostIn, wayOf, Request, take, giveBack, giveChunks, hostOf}
 use Rattle.model.specs.Page.{Page}
-use Rattle.model.specs.Class.{Class, Ask, done, lists, takeFrom}
+use Rattle.model.specs.Class.{Ask, lists, takeFrom}
 use Rattle.model.specs.Release.{releaseList}
 use Rattle.model.specs.Chunks as Chunks
 use Rattle.model.specs.Chunks.{answer}
 use Rattle.model.specs.Heap.{Heap, nobody, offer, finish, interact, classCall, step, newHeap}
 use Rattle.model.specs.History.{heapAfter}
-use Rattle.model.specs.Demands.{StaysHome, stays, Commute}
+use Rattle.model.specs.Demands.{StaysHome, stays}
 use Rattle.model.specs.Yields.{Listed}
 use Rattle.facts.proofs.Bools.{by-cases}
 use Rattle.model.proofs.Update.{other-way, update-other}
@@ -42,7 +41,7 @@ use Rattle.refinement.specs.Direct.{Reply, turnedReply}
 use Rattle.refinement.specs.Run.{classReply, callReply}
 use Rattle.refinement.proofs.ArenaReached.{Reached, reached-after, heap-next}
 use Rattle.refinement.proofs.ArenaFair.{loads-frontier}
-use Rattle.refinement.proofs.Book.{setting-of, frontier-in}
+use Rattle.refinement.proofs.Book.{setting-of, state-as, frontier-in}
 use Rattle.refinement.proofs.Frames.{whole-owner, whole-below}
 use Rattle.refinement.proofs.ArenaHolders.{small-class, medium-class}
 use Rattle.refinement.proofs.Whole.{call-whole}
@@ -80,7 +79,7 @@ module _ {S : ℕ → Bool} (n : ℕ) (hn : n ≤ maxPages) (b : List ℕ) (H : 
   unfolding answer
   reply-local (take h l) hc a =
       take-local d (setting-of n b H R c hc) (setting-of n (mix S b d) H′ R′ c hc) hm (frontier-in n b H R ok) (frontier-in n (mix S b d) H′ R′ ok′) h l (H .classes c)
-      (λ u. go u a) (listed .partial) (R .classes c hc) (subst (λ (t : Class). StateRep n (mix S b d) c (shapeOf c) t) et (R′ .classes c hc))
+      (λ u. go u a) (listed .partial) (R .classes c hc) (state-as R′ hc et)
     where
       go : ltb (length l) (shapeOf c .batch) ≡ false → StaysHome (answer (shapeOf c) (H .classes c) (take h l)) ⊎ Abroad S H H′ c
           → StaysHome (takeFrom (shapeOf c) l (H .classes c .partial) (H .classes c .empty) (H .classes c .cold) (H .classes c .full))

@@ -1,11 +1,11 @@
 -- What lies in a class's words, and what in the others.
 --     foot-home          a class's steps keep to its own words
 --     off-home, off-arena, off-page    those of another class, and the arena's, to the other words
-use Prim.Native.Nat.{ℕ, suc, _+_, _-_, _*_, _/_, _≤_, _<_}
+use Prim.Native.Nat.{ℕ, suc, _+_, _-_, _*_, _/_, _<_}
 use native.Mathlib.Omega.{arith}
-use mathlib.Core.Bool.{Bool, true, false, cond, not}
+use mathlib.Core.Bool.{true, false}
 use mathlib.Core.List.{List}
-use mathlib.Core.Path.{_≡_, refl, sym, ap, _∙_}
+use mathlib.Core.Path.{_≡_, sym, _∙_}
 use lib.Dec.{eqb, ltb}
 use borrow.Author.Tests.{eq-eqb, ne-eqb, lt-ltb, le-ltb, ltb-true}
 use Rattle.classes.specs.declared.Shape.{Shape}
@@ -15,7 +15,7 @@ use Rattle.facts.proofs.Bools.{by-cases}
 use Rattle.pages.specs.Runs.{whole}
 use Rattle.refinement.specs.Foot.{foot, off}
 use Rattle.refinement.proofs.Frames.{whole-owner}
-use Rattle.refinement.proofs.Mix.{PageIn, RowIn}
+use Rattle.refinement.proofs.Mix.{PageIn}
 use Rattle.refinement.proofs.LocalFill.{Home}
 use Rattle.refinement.proofs.LocalArena.{ArenaIn}
 

@@ -1,17 +1,15 @@
 -- Every call of a class leaves a book of the same length, whatever book it is.
-use Prim.Native.Nat.{ℕ, zero, suc, _+_, _-_, _*_}
-use mathlib.Core.Bool.{Bool, true, false, cond, not, _&&_, _||_}
-use mathlib.Core.List.{List, [], _∷_, _++_, map}
+use Prim.Native.Nat.{ℕ, zero, suc, _-_, _*_}
+use mathlib.Core.Bool.{Bool, true, false, not, _&&_, _||_}
+use mathlib.Core.List.{List, [], _∷_, map}
 use mathlib.Core.Option.{Option, none, some}
-use mathlib.Core.Path.{_≡_, refl, sym, ap, _∙_}
-use lib.Dec.{eqb, ltb, leb}
+use mathlib.Core.Path.{_≡_, refl, _∙_}
+use lib.Dec.{eqb, ltb}
 use lib.ListN.{length}
 use Rattle.words.specs.Host.{discardZeroed}
 use Rattle.words.specs.Word.{chunkKind, pageOf}
 use Rattle.classes.specs.declared.Shape.{Shape}
-use Rattle.fields.specs.Field.{PageField, arena, class, page, owner, first, frontier, partial, empty, cold, virgin, free, carved, listed, held, next, prev, out, get, put}
-use Rattle.fields.specs.Outcome.{putAt}
-use Rattle.fields.specs.Clear.{clearOut}
+use Rattle.fields.specs.Field.{arena, class, page, owner, first, frontier, partial, empty, cold, free, carved, listed, next, get, put}
 use Rattle.fields.proofs.Laws.{length-put}
 use Rattle.fields.proofs.Outcome.{length-putAt}
 use Rattle.fields.proofs.Clear.{length-clear}
@@ -22,23 +20,22 @@ use Rattle.model.specs.declared.Spot.the-variants.{ToEmpty, ToCold, ToArena}
 use Rattle.model.specs.declared.Hole.{Hole}
 use Rattle.model.specs.HoleStore.{Memory}
 use Rattle.facts.specs.Lists.{isNil, every, distinct}
-use Rattle.model.specs.Page.{isMedium, wordOf}
+use Rattle.model.specs.Page.{isMedium}
 use Rattle.model.specs.Release.{ofKind}
 use Rattle.model.specs.Chunks.{chunksMax}
 use Rattle.model.specs.Arena as Model
 use Rattle.model.specs.Arena.{Arena, Given}
 use Rattle.facts.proofs.Bools.{by-cases}
-use Rattle.arena.specs.Load.{loadArena}
-use Rattle.arena.specs.Store.{storeHoles, storeMemory, memoryWords, storeCounts, storeTop, storeStore, storeArena}
+use Rattle.arena.specs.Store.{storeHoles, storeMemory, storeCounts, storeTop, storeStore, storeArena}
 use Rattle.arena.specs.Owners.{own, ownFresh, ownRun}
 use Rattle.arena.specs.Fair.{commitFair}
-use Rattle.arena.specs.Calls.{Committed, advance, committed, commitFor, given}
+use Rattle.arena.specs.Calls.{advance, committed, commitFor, given}
 use Rattle.pages.specs.Runs.{nameRun}
-use Rattle.pages.specs.Stack.{downs, marks, latest, draw, hasMore, push, pushed, back, indexOf}
+use Rattle.pages.specs.Stack.{latest, draw, hasMore, pushed, back, indexOf}
 use Rattle.pages.specs.declared.Park.{Park}
 use Rattle.pages.specs.declared.Park.the-variants.{Empty, Cold}
 use Rattle.pages.specs.Links.{pointNext, linked, cutOut, link, unlink, top, stow, unstow, wake}
-use Rattle.pages.specs.Carve.{stocked, carveAnew, outWords, bareRun, newRun}
+use Rattle.pages.specs.Carve.{carveAnew, outWords, bareRun, newRun}
 use Rattle.calls.specs.Take.{unlistSpent, fillFrom, fromPartial, fromPark, onRun, takeNew, takeBlocks, takeCall, walk, parkFair}
 use Rattle.calls.specs.Release.{startOf, outAt, firstOf, Released, unlisted, relisted, parkAs, spotAt, parkAt, emptied, leaves, placed, giveBackAt, lastStep, releaseFair, releaseBlocks}
 use Rattle.calls.specs.Chunks.{blocksOn, chunkBackAt, chunksMatch, chunksFair, settleChunks, giveRuns, releaseChunks}

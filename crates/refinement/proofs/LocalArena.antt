@@ -1,38 +1,35 @@
 -- The arena's steps keep to the arena's words and those of the pages that they pass on.
 use Prim.Native.Nat.{ℕ, zero, suc, _+_, _-_, _*_, _/_, _≤_, _<_}
 use native.Mathlib.Omega.{arith}
-use mathlib.Core.Bool.{Bool, true, false, cond}
+use mathlib.Core.Bool.{Bool, true}
 use mathlib.Core.List.{List, [], _∷_}
 use mathlib.Core.Option.{Option, none, some}
-use mathlib.Core.Path.{_≡_, refl, sym, ap, _∙_, fun-ext}
+use mathlib.Core.Path.{_≡_, refl, fun-ext}
 use lib.Dec.{leb}
 use lib.ListN.{length}
 use borrow.Author.Tests.{leb-true}
 use Rattle.classes.specs.declared.Shape.{Shape}
-use Rattle.fields.specs.Field.{ArenaField, HoleField, arena, memory, hole, page, out, size, state, frontier, holes, holePages, commits, commitsHigh, reuses, reusesHigh, abandoned, abandonedHigh, held, start, pages, owner, first, listed, arenaOff, holeOff, word, get, put}
+use Rattle.fields.specs.Field.{ArenaField, HoleField, arena, memory, hole, page, out, size, state, frontier, holes, holePages, commits, commitsHigh, reuses, reusesHigh, abandoned, abandonedHigh, held, start, pages, owner, first, listed, arenaOff, word, get, put}
 use Rattle.fields.specs.Clear.{clearOut}
 use Rattle.model.specs.declared.Hole.{Hole}
-use Rattle.model.specs.HoleStore.{HoleStore, Memory, rememberedMax}
+use Rattle.model.specs.HoleStore.{Memory, rememberedMax}
 use Rattle.model.specs.Arena.{Arena, Given}
 use Rattle.model.specs.Arena as Model
 use Rattle.facts.proofs.Bools.{by-cases}
-use Rattle.arena.specs.Load.{statusCode, indexOf, loadHoles, loadStore, loadArena, recall}
+use Rattle.arena.specs.Load.{loadHoles, loadStore, loadArena, recall}
 use Rattle.arena.specs.Store.{storeHoles, storeMemory, memoryWords, storeCounts, storeTop, storeStore, storeArena}
-use Rattle.arena.specs.Owners.{own, ownFresh, ownRun, heldWith}
+use Rattle.arena.specs.Owners.{own, ownFresh, ownRun}
 use Rattle.arena.specs.Calls.{advance, committed, given}
 use Rattle.pages.specs.Runs.{nameRun}
 use Rattle.pages.specs.Carve.{stocked, outWords, bareRun, newRun}
 use Rattle.pages.proofs.Frames.{stocked-le}
-use Rattle.refinement.proofs.Mix.{mix, PageIn, get-in, put-in, put-page, put-out}
+use Rattle.refinement.proofs.Mix.{mix, PageIn, at-word, get-in, put-in, put-page, put-out}
 use Rattle.refinement.proofs.LocalPages.{carve-in}
 
 -- the record, the memory and the holes lie in S
 pub record ArenaIn (S : ℕ → Bool) : Type 0 where
   pub low : (j : ℕ) → j < 160 → S j ≡ true
   pub high : (j : ℕ) → j < 8192 → S (1024 + j) ≡ true
-
-at-word : (S : ℕ → Bool) {i j : ℕ} → i ≡ j → S i ≡ true → S j ≡ true
-at-word S e h = rw (sym e) h
 
 -- the m pages from q on lie in S
 abbrev pub RunIn : (ℕ → Bool) → ℕ → ℕ → Type 0

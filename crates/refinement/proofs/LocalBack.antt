@@ -1,11 +1,10 @@
 -- A page whose blocks come back, by list or by a chunk, up to the give: that keeps to the class's words.
-use Prim.Native.Nat.{ℕ, _+_, _≤_}
+use Prim.Native.Nat.{ℕ, _≤_}
 use native.Mathlib.Omega.{arith}
-use mathlib.Core.Bool.{Bool, true, false, cond, not, _&&_}
-use mathlib.Core.List.{List, [], _∷_, _++_, map}
-use mathlib.Core.Path.{_≡_, refl, sym, ap, _∙_}
-use lib.Dec.{eqb, ltb}
-use lib.ListN.{length}
+use mathlib.Core.Bool.{Bool, true, false, not, _&&_}
+use mathlib.Core.List.{List, map}
+use mathlib.Core.Path.{_≡_, refl, ap}
+use lib.Dec.{eqb}
 use Rattle.words.specs.Host.{discardZeroed}
 use Rattle.classes.specs.declared.Shape.{Shape}
 use Rattle.fields.specs.Field.{class, page, partial, emptyCount, coldCount, next, prev, free, carved, listed, get}
@@ -20,11 +19,10 @@ use Rattle.facts.proofs.Bools.{by-cases}
 use Rattle.pages.specs.Stack.{back, indexOf}
 use Rattle.pages.specs.declared.Park.the-variants.{Empty, Cold}
 use Rattle.pages.specs.Carve.{stocked, carveAnew}
-use Rattle.pages.proofs.Downs.{small, every-below}
+use Rattle.pages.proofs.Downs.{every-below}
 use Rattle.pages.proofs.Frames.{stocked-le}
 use Rattle.calls.specs.Release.{Released, unlisted, parkAs, spotAt, parkAt, emptied, markRetired, leaves, placed, giveBackAt}
 use Rattle.calls.specs.Chunks.{chunkBackAt}
-use Rattle.refinement.specs.Represents.{PageRep, ClassRep}
 use Rattle.refinement.proofs.Basics.{Setting}
 use Rattle.refinement.proofs.Found.{Placed, among, aside, placed-rep}
 use Rattle.refinement.proofs.Returned.{return-data, return-fit, return-slots}

@@ -1,7 +1,7 @@
 -- A group release on two books that stand for one state of its class: refused on both, or settled alike.
 --     chunks-in      the chunks in order
 --     group-local    the release keeps to the class's words, and the arena's where it gives
-use Prim.Native.Nat.{ℕ, suc, _+_, _≤_, _<_}
+use Prim.Native.Nat.{ℕ, _+_, _≤_, _<_}
 use native.Mathlib.Omega.{arith}
 use mathlib.Core.Bool.{Bool, true, false, cond, not, _&&_, _||_}
 use mathlib.Core.List.{List, [], _∷_, _++_, map}
@@ -10,17 +10,17 @@ use mathlib.Core.Option.{Option, none, some, Option·none-ne-some, Option·some-
 use mathlib.Core.Path.{_≡_, refl, sym, ap, _∙_, subst}
 use lib.Dec.{eqb, ltb, leb}
 use lib.ListN.{length, drop}
-use borrow.Author.Tests.{eqb-true, not-true, not-false, leb-true, ltb-true}
+use borrow.Author.Tests.{eqb-true, not-true, leb-true, ltb-true}
 use Rattle.words.specs.Word.{chunkKind, pageOf}
 use Rattle.classes.specs.declared.Shape.{Shape}
 use Rattle.classes.specs.Shape.{smallShape, shapeOf}
-use Rattle.fields.specs.Field.{page, first, get}
+use Rattle.fields.specs.Field.{page, first}
 use Rattle.fields.specs.Ranges.{maxPages}
 use Rattle.fields.proofs.Changes.{changes-none}
-use Rattle.facts.specs.Lists.{All, every, elem, filter, distinct, isNil}
+use Rattle.facts.specs.Lists.{All, every, elem, distinct, isNil}
 use Rattle.model.specs.Calls.{fates}
 use Rattle.model.specs.Page.{Page, isMedium}
-use Rattle.model.specs.Class.{Class, Result, Ask, done}
+use Rattle.model.specs.Class.{Class, done}
 use Rattle.model.specs.Release.{Site, Settled, locate, ofKind, outHere, settle}
 use Rattle.model.specs.Chunks as Model
 use Rattle.model.specs.Chunks.{startsAt, chunked, chunksMax}
@@ -30,14 +30,14 @@ use Rattle.facts.proofs.Bools.{by-cases, and-left, and-right}
 use Rattle.model.proofs.Find.{pageIn, located-first}
 use Rattle.pages.specs.Runs.{whole}
 use Rattle.pages.specs.Stack.{indexOf, pageAt}
-use Rattle.calls.specs.Release.{startOf, inRunOf, outIn, outAt, Released}
+use Rattle.calls.specs.Release.{startOf, inRunOf, outAt, Released}
 use Rattle.calls.specs.Chunks as Words
 use Rattle.calls.specs.Chunks.{blocksOn, chunksMatch, chunksFair, chunkBackAt, givesOf, settleChunks, giveRuns, chunksNone, releaseChunks}
 use Rattle.refinement.specs.Represents.{StateRep, Represents}
 use Rattle.refinement.proofs.Basics.{Setting, setting-kept}
 use Rattle.refinement.proofs.Frames.{ofClass, Only, only-trans}
 use Rattle.refinement.proofs.ArenaReached.{Reached}
-use Rattle.refinement.proofs.Book.{setting-of}
+use Rattle.refinement.proofs.Book.{setting-of, state-as}
 use Rattle.refinement.proofs.Found.{Located, located, located-passes, Away, found-at, outs-here}
 use Rattle.refinement.proofs.Release.{Limits, shape-limits, SettledRep, stays, goes, settle-chunk}
 use Rattle.refinement.proofs.LocalGives.{all-local}
@@ -126,9 +126,9 @@ module _ (S : ℕ → Bool) {n c : ℕ} {sh : Shape} (hn : n ≤ maxPages) (lim 
       (located-first (startsAt (pageOf g)) t ∙ a .0 .found)
 
 -- ---- the whole call, of a small class: its runs have one page
-one-page : (c : ℕ) → ltb c 64 ≡ true → shapeOf c .pages ≡ 1
+one-page : (c : ℕ) → ltb c 64 ≡ true → (x y : ℕ) → x ≤ y → y < x + shapeOf c .pages → x ≡ y
 unfolding shapeOf smallShape
-one-page c e = rw e
+one-page c e x y l u = let z : y < x + 1 = rw e at u in omega arith
 
 module _ {S : ℕ → Bool} (n : ℕ) (hn : n ≤ maxPages) (b : List ℕ) (H : Heap) (R : Represents n b H) (ok : Reached n H) (c : ℕ) (hs : ltb c 64 ≡ true) (hm : Home S n b c (shapeOf c)) (d : List ℕ)
     (H′ : Heap) (R′ : Represents n (mix S b d) H′) (ok′ : Reached n H′) (et : H′ .classes c ≡ H .classes c) (h : ℕ) where
@@ -142,7 +142,7 @@ module _ {S : ℕ → Bool} (n : ℕ) (hn : n ≤ maxPages) (b : List ℕ) (H : 
   s′ = setting-of n (mix S b d) H′ R′ c hc
 
   r′ : StateRep n (mix S b d) c (shapeOf c) (H .classes c)
-  r′ = subst (λ (t : Class). StateRep n (mix S b d) c (shapeOf c) t) et (R′ .classes c hc)
+  r′ = state-as R′ hc et
 
   -- the pages of blocks that are out
   home-of : (w : ℕ) → outAt n b c (shapeOf c) w ≡ true → PageIn S (pageAt w)
@@ -152,11 +152,8 @@ module _ {S : ℕ → Bool} (n : ℕ) (hn : n ≤ maxPages) (b : List ℕ) (H : 
       let run : whole n b (shapeOf c) c (startOf b w) ≡ true = search (and-left, and-right) in
       let low : leb (startOf b w) (pageAt w) ≡ true = search (and-left, and-right) in
       let high : ltb (pageAt w) (startOf b w + shapeOf c .pages) ≡ true = search (and-left, and-right) in
-      let here : startOf b w ≡ pageAt w = between (startOf b w) (pageAt w) (shapeOf c .pages) (one-page c hs) (leb-true _ _ low) (ltb-true _ _ high) in
+      let here : startOf b w ≡ pageAt w = one-page c hs (startOf b w) (pageAt w) (leb-true _ _ low) (ltb-true _ _ high) in
       subst (λ (x : ℕ). PageIn S x) here (hm .pages q run)
-    where
-      between : (x y k : ℕ) → k ≡ 1 → x ≤ y → y < x + k → x ≡ y
-      between x y k e l u = omega arith
 
   homes-of : (ws : List ℕ) → every (outAt n b c (shapeOf c)) ws ≡ true → All (λ w. PageIn S (pageAt w)) ws
   homes-of [] o = tt

@@ -1,13 +1,13 @@
 -- A class's moves and its filling keep to the class's words.
 --     Home S n b c sh    S has the words of the class's row and of the first page of each of its runs
 --     .. -local          a step on two books put together is the step, put together with the same words
-use Prim.Native.Nat.{ℕ, zero, suc, _+_, _-_, _≤_, _<_}
+use Prim.Native.Nat.{ℕ, zero, suc, _+_, _-_, _≤_}
 use native.Mathlib.Omega.{arith}
-use mathlib.Core.Bool.{Bool, true, false, _||_}
+use mathlib.Core.Bool.{Bool, true}
 use mathlib.Core.List.{List, [], _∷_, _++_, map}
-use mathlib.Core.Logic.{inl, inr}
+use mathlib.Core.Logic.{inr}
 use mathlib.Core.Path.{_≡_, refl, sym, ap, _∙_, subst}
-use lib.Dec.{eqb, ltb}
+use lib.Dec.{eqb}
 use lib.ListN.{length}
 use borrow.Author.Tests.{eqb-true}
 use Rattle.classes.specs.declared.Shape.{Shape}
@@ -23,10 +23,10 @@ use Rattle.pages.specs.declared.Park.{Park}
 use Rattle.pages.proofs.Downs.{small, every-below}
 use Rattle.calls.specs.Take.{Filled, filledNone, thenFilled, unlistSpent, fillFrom}
 use Rattle.refinement.specs.Chain.{In, Chain}
-use Rattle.refinement.specs.Represents.{Slots, Holds, firsts, heads, ClassRep}
+use Rattle.refinement.specs.Represents.{Slots, firsts, heads, ClassRep}
 use Rattle.refinement.proofs.Basics.{Setting, setting-kept}
 use Rattle.refinement.proofs.Lists.{in-left, in-count, firsts-append, first-page, last-page, part}
-use Rattle.refinement.proofs.Frames.{Owns, Only, only-owns, whole-kept}
+use Rattle.refinement.proofs.Frames.{Only, only-owns, whole-kept}
 use Rattle.refinement.proofs.Kept.{listed-whole}
 use Rattle.refinement.proofs.Moves.{at-partial, from-partial, from-store, to-partial, unlink-only, unstow-only, link-only}
 use Rattle.refinement.proofs.Draw.{latest-fit, draw-data, draw-only, pop-rep}

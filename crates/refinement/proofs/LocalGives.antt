@@ -1,6 +1,6 @@
 -- Runs of a class that go to the arena keep to the arena's words and those of the class's pages.
 --     all-local     the gives, one after the other
-use Prim.Native.Nat.{ℕ, suc, _+_, _-_, _≤_, _<_}
+use Prim.Native.Nat.{ℕ, suc, _+_, _-_, _≤_}
 use native.Mathlib.Omega.{arith}
 use mathlib.Core.Bool.{Bool, true, cond}
 use mathlib.Core.List.{List, [], _∷_}

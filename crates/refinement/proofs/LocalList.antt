@@ -5,18 +5,18 @@ use native.Mathlib.Omega.{arith}
 use mathlib.Core.Bool.{Bool, true, false, cond, not, _&&_}
 use mathlib.Core.Logic.{_⊎_, inl, inr}
 use mathlib.Core.List.{List, [], _∷_, map}
-use mathlib.Core.Option.{Option, none, some, Option·some-injective}
+use mathlib.Core.Option.{Option, Option·some-injective}
 use mathlib.Core.Path.{_≡_, refl, sym, ap, _∙_, subst}
 use lib.Dec.{eqb, ltb}
 use lib.ListN.{length}
-use borrow.Author.Tests.{eqb-true, ne-eqb}
+use borrow.Author.Tests.{ne-eqb}
 use Rattle.classes.specs.Shape.{shapeOf}
 use Rattle.fields.specs.Ranges.{maxPages}
-use Rattle.facts.specs.Lists.{every, distinct, count, isSome}
+use Rattle.facts.specs.Lists.{every, distinct, count}
 use Rattle.model.specs.Calls.{fate}
 use Rattle.model.specs.Page.{isOut}
-use Rattle.model.specs.Class.{Class, Result, Ask, done, refuse}
-use Rattle.model.specs.Release.{Site, Settled, locate, ofKind, outHere, onPage, settle, releaseList}
+use Rattle.model.specs.Class.{Result, Ask, done}
+use Rattle.model.specs.Release.{Site, Settled, ofKind, outHere, onPage, settle, releaseList}
 use Rattle.model.specs.Heap.{Heap}
 use Rattle.model.specs.Demands as Home
 use Rattle.model.specs.Demands.{StaysHome}
@@ -28,7 +28,7 @@ use Rattle.calls.specs.Release.{startOf, outAt, Released, releasedNone, lastSte
 use Rattle.refinement.specs.Represents.{StateRep, Represents}
 use Rattle.refinement.proofs.Basics.{Setting}
 use Rattle.refinement.proofs.ArenaReached.{Reached}
-use Rattle.refinement.proofs.Book.{setting-of}
+use Rattle.refinement.proofs.Book.{setting-of, state-as}
 use Rattle.refinement.proofs.Found.{At, found-at, placed-rep, same-pages, outs-here}
 use Rattle.refinement.proofs.Returned.{return-room}
 use Rattle.refinement.proofs.Release.{shape-limits, SettledRep, stays, goes, settle-list}
@@ -66,7 +66,7 @@ module _ {S : ℕ → Bool} (n : ℕ) (hn : n ≤ maxPages) (b : List ℕ) (H : 
     s′ = setting-of n (mix S b d) H′ R′ c hc
 
     r′ : StateRep n (mix S b d) c (shapeOf c) (H .classes c)
-    r′ = subst (λ (t : Class). StateRep n (mix S b d) c (shapeOf c) t) et (R′ .classes c hc)
+    r′ = state-as R′ hc et
 
     abbrev ask : List ℕ → Ask
     ask ws = releaseList (shapeOf c) h (H .classes c) ws

@@ -1,27 +1,24 @@
 -- A take that asks the arena keeps to the class's words, the arena's, and those of the pages that nobody holds.
-use Prim.Native.Nat.{ℕ, suc, _+_, _-_, _≤_, _<_}
+use Prim.Native.Nat.{ℕ, suc, _+_, _-_, _<_}
 use native.Mathlib.Omega.{arith}
 use native.Mathlib.Decide.{ℕ-discrete}
-use mathlib.Core.Bool.{Bool, true, false}
+use mathlib.Core.Bool.{Bool, true}
 use mathlib.Core.List.{List, [], _∷_}
 use mathlib.Core.Option.{Option, none, some}
-use mathlib.Core.Path.{_≡_, refl, sym, ap, _∙_, subst}
+use mathlib.Core.Path.{_≡_, refl, sym, _∙_, subst}
 use lib.Dec.{ltb}
-use lib.ListN.{length}
 use borrow.Author.Tests.{le-leb, lt-ltb}
 use Rattle.classes.specs.Shape.{shapeOf}
 use Rattle.classes.proofs.Shapes.{shape-sound}
-use Rattle.fields.specs.Field.{arena, frontier, get}
+use Rattle.fields.specs.Field.{arena, frontier}
 use Rattle.model.specs.Page.{Page, carve}
-use Rattle.model.specs.Arena.{Arena, commit, Given}
+use Rattle.model.specs.Arena.{commit, Given}
 use Rattle.model.specs.Heap.{Heap, nobody}
-use Rattle.pages.specs.Runs.{whole}
 use Rattle.pages.specs.declared.Park.the-variants.{Empty}
 use Rattle.pages.specs.Links.{link}
 use Rattle.pages.specs.Carve.{newRun}
 use Rattle.calls.specs.Take.{onRun, takeNew}
 use Rattle.arena.specs.Calls.{committed}
-use Rattle.arena.specs.Represents.{ArenaRep}
 use Rattle.refinement.specs.Represents.{ClassRep, Represents}
 use Rattle.refinement.proofs.ArenaReached.{Reached}
 use Rattle.refinement.proofs.ArenaFair.{loads-frontier}

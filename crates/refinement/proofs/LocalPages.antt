@@ -1,15 +1,15 @@
 -- The steps on a class's pages keep to the words of its row and of those pages: each is the same step on two books put together, with
 -- the other words as they were. S has the words of the row of c and of page q.
-use Prim.Native.Nat.{ℕ, zero, suc, _+_, _-_, _≤_, _<_}
+use Prim.Native.Nat.{ℕ, zero, suc, _+_, _-_, _≤_}
 use native.Mathlib.Omega.{arith}
-use mathlib.Core.Bool.{Bool, true, false, cond}
+use mathlib.Core.Bool.{Bool, true}
 use mathlib.Core.List.{List, [], _∷_}
-use mathlib.Core.Path.{_≡_, refl, sym, ap, _∙_}
-use lib.Dec.{eqb, ltb}
+use mathlib.Core.Path.{_≡_, refl}
+use lib.Dec.{eqb}
 use lib.ListN.{length}
 use borrow.Author.Tests.{ltb-true, eqb-true}
 use Rattle.classes.specs.declared.Shape.{Shape}
-use Rattle.fields.specs.Field.{PageField, class, page, slot, out, partial, next, prev, free, carved, listed, virgin, get, put}
+use Rattle.fields.specs.Field.{PageField, class, page, partial, next, prev, free, listed, get}
 use Rattle.fields.specs.Outcome.{putAt}
 use Rattle.facts.specs.Lists.{every}
 use Rattle.facts.proofs.Bools.{by-cases, and-left, and-right}

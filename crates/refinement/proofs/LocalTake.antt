@@ -6,7 +6,7 @@ use native.Mathlib.Omega.{arith}
 use mathlib.Core.Bool.{Bool, true, false, true≢false}
 use mathlib.Core.Logic.{_⊎_, inl, inr}
 use mathlib.Core.List.{List, [], _∷_, map}
-use mathlib.Core.Path.{_≡_, refl, sym, ap, _∙_}
+use mathlib.Core.Path.{_≡_, refl, sym}
 use lib.Dec.{ltb}
 use lib.ListN.{length}
 use borrow.Author.Tests.{ne-eqb}
@@ -19,7 +19,7 @@ use Rattle.model.specs.Demands.{StaysHome, stays}
 use Rattle.facts.proofs.Bools.{by-cases}
 use Rattle.pages.specs.declared.Park.the-variants.{Empty, Cold}
 use Rattle.pages.specs.Links.{wake}
-use Rattle.calls.specs.Take.{Took, took, fillFrom, fromPartial, takeNew, takeBlocks, takeCall}
+use Rattle.calls.specs.Take.{took, fillFrom, fromPartial, takeNew, takeBlocks, takeCall}
 use Rattle.refinement.specs.Represents.{StateRep}
 use Rattle.refinement.proofs.Basics.{Setting}
 use Rattle.refinement.proofs.Moves.{swap}

@@ -4,16 +4,13 @@
 --     get-in, put-in a read and a write of a field that lies in S
 --     PageIn, RowIn  all words of a page lie in S; all words of a class's row do
 --     swapped        two steps, one that keeps to S and one that keeps to the other words, may change places
-use Prim.Native.Nat.{ℕ, zero, suc, _+_, _*_, _/_, _≤_, _<_}
+use Prim.Native.Nat.{ℕ, zero, suc, _+_, _*_, _/_, _<_}
 use native.Mathlib.Omega.{arith}
 use mathlib.Core.Bool.{Bool, true, false, cond, not}
 use mathlib.Core.List.{List, [], _∷_}
 use mathlib.Core.Path.{_≡_, refl, sym, ap, _∙_}
-use lib.Dec.{ltb}
 use lib.ListN.{length, getD, set, drop}
-use borrow.Author.Tests.{ltb-true}
 use Rattle.fields.specs.Field.{Field, ClassField, PageField, class, page, slot, out, partial, empty, emptyCount, cold, coldCount, owner, first, next, prev, free, carved, listed, virgin, tally, classOff, pageOff, part, place, read, word, get, put}
-use Rattle.fields.specs.Outcome.{putAt}
 
 unfoldable pub mix : (ℕ → Bool) → List ℕ → List ℕ → List ℕ
 mix S [] d = []
@@ -72,7 +69,7 @@ pub record PageIn (S : ℕ → Bool) (q : ℕ) : Type 0 where
 pub record RowIn (S : ℕ → Bool) (c : ℕ) : Type 0 where
   pub words : (j : ℕ) → j < 8 → S (160 + 8 * c + j) ≡ true
 
-at-word : (S : ℕ → Bool) {i j : ℕ} → i ≡ j → S i ≡ true → S j ≡ true
+pub at-word : (S : ℕ → Bool) {i j : ℕ} → i ≡ j → S i ≡ true → S j ≡ true
 at-word S e h = rw (sym e) h
 
 module _ {S : ℕ → Bool} {q : ℕ} (p : PageIn S q) (b d : List ℕ) where
