@@ -13,6 +13,7 @@ pub mod Basics
 pub mod Lists
 pub mod Frames
 pub mod Kept
+pub mod Neighbours
 pub mod Links
 pub mod Linked
 pub mod Moves

@@ -5,8 +5,7 @@ use Prim.Native.Nat.{ℕ, zero, suc, _+_, _-_, _≤_}
 use native.Mathlib.Omega.{arith}
 use mathlib.Core.Bool.{Bool, true}
 use mathlib.Core.List.{List, [], _∷_, _++_, map}
-use mathlib.Core.Logic.{inr}
-use mathlib.Core.Path.{_≡_, refl, sym, ap, _∙_, subst}
+use mathlib.Core.Path.{_≡_, refl, sym, ap, _∙_}
 use lib.Dec.{eqb}
 use lib.ListN.{length}
 use borrow.Author.Tests.{eqb-true}
@@ -22,12 +21,10 @@ use Rattle.pages.specs.Links.{link, unlink, stow, unstow, wake}
 use Rattle.pages.specs.declared.Park.{Park}
 use Rattle.pages.proofs.Downs.{small, every-below}
 use Rattle.calls.specs.Take.{Filled, filledNone, thenFilled, unlistSpent, fillFrom}
-use Rattle.refinement.specs.Chain.{In, Chain}
-use Rattle.refinement.specs.Represents.{Slots, firsts, heads, ClassRep}
+use Rattle.refinement.specs.Represents.{Slots, heads, ClassRep}
 use Rattle.refinement.proofs.Basics.{Setting, setting-kept}
-use Rattle.refinement.proofs.Lists.{in-left, in-count, firsts-append, first-page, last-page, part}
 use Rattle.refinement.proofs.Frames.{Only, only-owns, whole-kept}
-use Rattle.refinement.proofs.Kept.{listed-whole}
+use Rattle.refinement.proofs.Neighbours.{each-listed, each-head, each-beside}
 use Rattle.refinement.proofs.Moves.{at-partial, from-partial, from-store, to-partial, unlink-only, unstow-only, link-only}
 use Rattle.refinement.proofs.Draw.{latest-fit, draw-data, draw-only, pop-rep}
 use Rattle.refinement.proofs.Fill.{fill-none, fill-empty, stepFilled, fill-step}
@@ -47,24 +44,11 @@ slots-few b q (x ∷ xs) s = let z = s .1 in omega arith
 
 module _ {S : ℕ → Bool} {n : ℕ} {b : List ℕ} {c : ℕ} {sh : Shape} {k : Park} (s : Setting n b c sh) (h : Home S n b c sh) (d : List ℕ) where
   pub page-home : (x : ℕ) {ps xs ys fs : List Page} → ClassRep n b c sh k ps xs ys fs → 1 ≤ heads x ps + heads x xs + heads x ys + heads x fs → PageIn S x
-  page-home x r e = h .pages x (listed-whole (s .shape) r x e)
+  page-home = each-listed (s .shape) (PageIn S) (h .pages)
 
-  -- the pages before and behind a page of the partial list
   pub links-home : (ss : List Page) (p : Page) (ts : List Page) {xs ys fs : List Page} → ClassRep n b c sh k (ss ++ p ∷ ts) xs ys fs
       → CodeIn S (get b (page next (p .first))) × CodeIn S (get b (page prev (p .first)))
-  links-home ss p ts {xs} {ys} {fs} r =
-      let q = p .first in
-      let ch : Chain n b c (firsts ss ++ p .first ∷ firsts ts) = rw (firsts-append ss (p ∷ ts)) at (r .chain) in
-      let pa = part b 0 (get b (class partial c)) (firsts ss) q (firsts ts) 0 (ch .links) in
-      let has : (z : ℕ) → In z (firsts ss ++ p .first ∷ firsts ts) → PageIn S z
-      = λ z i. page-home z r (omega (arith, in-count z (firsts (ss ++ p ∷ ts)) (subst (λ (l : List ℕ). In z l) (sym (firsts-append ss (p ∷ ts))) i))) in (
-        (λ z e. has z (in-mid (firsts ss) q (firsts ts) z (inr (first-page b (suc q) (get b (page next q)) (firsts ts) z (pa .aft) e)))),
-        (λ z e. has z (in-left z (firsts ss) (p .first ∷ firsts ts) (last-page (firsts ss) z (sym (pa .before) ∙ e)))),
-      )
-    where
-      in-mid : (us : List ℕ) (q : ℕ) (vs : List ℕ) (z : ℕ) → In z (q ∷ vs) → In z (us ++ q ∷ vs)
-      in-mid [] q vs z i = i
-      in-mid (u ∷ us) q vs z i = inr (in-mid us q vs z i)
+  links-home = each-beside (s .shape) (PageIn S) (h .pages)
 
   pub unlink-local : (p : Page) (ts : List Page) {xs ys fs : List Page} → ClassRep n b c sh k (p ∷ ts) xs ys fs → unlink (mix S b d) c (p .first) ≡ mix S (unlink b c (p .first)) d
   unlink-local p ts r =
@@ -73,7 +57,7 @@ module _ {S : ℕ → Bool} {n : ℕ} {b : List ℕ} {c : ℕ} {sh : Shape} {k :
       unlink-in (h .row) (page-home (p .first) r (omega arith)) b d (l .0) (l .1)
 
   pub head-home : {ps xs ys fs : List Page} → ClassRep n b c sh k ps xs ys fs → CodeIn S (get b (class partial c))
-  head-home {ps} r z e = page-home z r (omega (arith, in-count z (firsts ps) (first-page b 0 (get b (class partial c)) (firsts ps) z (r .chain .links) e)))
+  head-home = each-head (s .shape) (PageIn S) (h .pages)
 
   pub link-local : {p : Page} {ps xs ys fs : List Page} → ClassRep n b c sh k ps xs ys (p ∷ fs) → link (mix S b d) c (p .first) ≡ mix S (link b c (p .first)) d
   link-local {p} r = let i = itself (p .first) in link-in (h .row) (page-home (p .first) r (omega arith)) b d (head-home r)

@@ -20,6 +20,7 @@ use Rattle.pages.specs.Carve.{stocked, carveAnew}
 use Rattle.pages.proofs.Downs.{small, length-downs}
 use Rattle.pages.proofs.Frames.{back-free}
 use Rattle.calls.specs.Release.{unlisted, relisted, emptied}
+use Rattle.refinement.proofs.Neighbours.{Named}
 use Rattle.refinement.proofs.Mix.{mix, PageIn, RowIn, get-page, put-page, get-slot, put-slot, put-out, get-row, put-row}
 
 -- ---- a page's blocks
@@ -72,7 +73,7 @@ module _ {S : ℕ → Bool} {q : ℕ} (p : PageIn S q) (b d : List ℕ) where
 -- ---- the class's lists
 -- the page of a code, if there is one, lies in S
 abbrev pub CodeIn : (ℕ → Bool) → ℕ → Type 0
-CodeIn S x = (z : ℕ) → x ≡ suc z → PageIn S z
+CodeIn S x = Named (PageIn S) x
 
 putAt-in : {S : ℕ → Bool} (k : PageField) (x v : ℕ) → CodeIn S x → (b d : List ℕ) → putAt (mix S b d) k x v ≡ mix S (putAt b k x v) d
 putAt-in k zero v h b d = refl
