@@ -51,15 +51,9 @@ use Rattle.refinement.proofs.LocalTake.{take-local}
 use Rattle.refinement.proofs.LocalNew.{new-local}
 use Rattle.refinement.proofs.LocalList.{Roams, list-local}
 use Rattle.refinement.proofs.LocalChunks.{group-local}
-use Rattle.refinement.proofs.Lengths.{take-len, list-len, group-len}
+use Rattle.refinement.proofs.Lengths.{Ours, reply-long}
 use Rattle.refinement.specs.Foot.{foot, off}
 use Rattle.refinement.proofs.Foot.{foot-home, off-home, off-arena, off-page}
-
--- the classes that a request may be made of: group releases are the small classes'
-abbrev pub Ours : ℕ → Request → Type 0
-Ours c (take h l) = ltb c 76 ≡ true
-Ours c (giveBack h ws) = ltb c 76 ≡ true
-Ours c (giveChunks h ws gs fs) = ltb c 64 ≡ true
 
 ours-row : (c : ℕ) (x : Request) → Ours c x → ltb c 76 ≡ true
 ours-row c (take h l) e = e
@@ -96,11 +90,6 @@ module _ {S : ℕ → Bool} (n : ℕ) (hn : n ≤ maxPages) (b : List ℕ) (H : 
       go : StaysHome (answer (shapeOf c) (H .classes c) (giveChunks h ws gs fs)) ⊎ Abroad S H H′ c → StaysHome (Chunks.releaseChunks (shapeOf c) h (H .classes c) ws gs fs) ⊎ Roams S H c
       go (inl z) = inl z
       go (inr z) = inr (z .roams)
-
-reply-len : (n : ℕ) (b : List ℕ) (c : ℕ) (x : Request) → length (classReply n b c x .book) ≡ length b
-reply-len n b c (take h l) = take-len n b c (shapeOf c) h l
-reply-len n b c (giveBack h ws) = list-len n b c (shapeOf c) h ws
-reply-len n b c (giveChunks h ws gs fs) = group-len n b c (shapeOf c) h ws gs fs
 
 -- ---- the model: another class's call leaves the class, and a call that stays at home leaves the arena
 other-class : (n : ℕ) (H : Heap) (c d : ℕ) (y : Request) → eqb c d ≡ false → classCall n H d y .heap .classes c ≡ H .classes c
@@ -151,7 +140,7 @@ module _ (n : ℕ) (hn : n ≤ maxPages) (b : List ℕ) (H : Heap) (R : Represen
       let T = off n b (shapeOf c) c in
       let hS = foot-home n b (shapeOf c) c row in
       let hT = off-home n b (shapeOf c) c row (shape-sound c) d (ours-row d y oy) apart (shape-sound d) in
-      swapped (foot n b (shapeOf c) c) (λ m. classReply n m c x .book) (λ m. classReply n m d y .book) b (reply-len n b c x) (reply-len n b d y)
+      swapped (foot n b (shapeOf c) c) (λ m. classReply n m c x .book) (λ m. classReply n m d y .book) b (reply-long n hn b H R ok c lc x ox) (reply-long n hn b H R ok d ld y oy)
       (reply-local n hn b H R ok b H (subst (λ (m : List ℕ). Represents n m H) (sym (mix-same S b)) R) ok c lc refl hS x ox (inl home))
       (λ e. reply-local n hn b H R ok (classReply n b d y .book) Hy (subst (λ (m : List ℕ). Represents n m Hy) e Ry) oky c lc sameC hS x ox (inl home))
       (reply-local n hn b H R ok b H (subst (λ (m : List ℕ). Represents n m H) (sym (mix-same T b)) R) ok d ld refl hT y oy (inr (away refl)))

@@ -96,7 +96,7 @@ module _ (n : ℕ) (b : List ℕ) (H : Heap) (R : Represents n b H) (ok : Reache
   pub few : length (commit n h (shapeOf c .pages) (H .arena) .arena .store .holes) ≤ holeSlots
   few = tidy-commit n h pages one (H .arena) (ok .tidy) .slots
 
-  changes : Changes (isStep owned) b after
+  pub changes : Changes (isStep owned) b after
   changes = committed-changes b grant pages (suc c) few
 
   rep₁ : (cs : ℕ → Class) → ArenaRep n after (heapOf (grant .arena) (passTo (class c) (coversRun pages (grant .run)) (H .holder)) cs)
@@ -125,7 +125,7 @@ module _ (n : ℕ) (b : List ℕ) (H : Heap) (R : Represents n b H) (ok : Reache
     s₁ : Setting n after c (shapeOf c)
     s₁ = record { long = rep₁ (H .classes) .long; row = hc; shape = shape-sound c }
 
-    written : Changes (isNew q pages) after new
+    pub written : Changes (isNew q pages) after new
     written = new-changes s₁ q (isNew q pages) (new-lets q pages)
 
     pub new-setting : Setting n new c (shapeOf c)

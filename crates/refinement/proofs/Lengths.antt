@@ -1,253 +1,135 @@
--- Every call of a class leaves a book of the same length, whatever book it is.
-use Prim.Native.Nat.{ℕ, zero, suc, _-_, _*_}
-use mathlib.Core.Bool.{Bool, true, false, not, _&&_, _||_}
+-- Every call of a class leaves a book of the same length, where the book stands for a reached heap. n is at most the longest arena.
+use Prim.Native.Nat.{ℕ, suc, _≤_}
+use mathlib.Core.Bool.{Bool, true, false, cond, not, _&&_, _||_}
 use mathlib.Core.List.{List, [], _∷_, map}
 use mathlib.Core.Option.{Option, none, some}
-use mathlib.Core.Path.{_≡_, refl, _∙_}
-use lib.Dec.{eqb, ltb}
+use mathlib.Core.Path.{_≡_, refl, ap, _∙_}
+use lib.Dec.{ltb}
 use lib.ListN.{length}
-use Rattle.words.specs.Host.{discardZeroed}
-use Rattle.words.specs.Word.{chunkKind, pageOf}
-use Rattle.classes.specs.declared.Shape.{Shape}
-use Rattle.fields.specs.Field.{arena, class, page, owner, first, frontier, partial, empty, cold, free, carved, listed, next, get, put}
-use Rattle.fields.proofs.Laws.{length-put}
-use Rattle.fields.proofs.Outcome.{length-putAt}
-use Rattle.fields.proofs.Clear.{length-clear}
-use Rattle.pages.proofs.Marks.{length-marks}
-use Rattle.pages.proofs.Pushes.{length-push}
-use Rattle.model.specs.declared.Spot.{Spot}
-use Rattle.model.specs.declared.Spot.the-variants.{ToEmpty, ToCold, ToArena}
-use Rattle.model.specs.declared.Hole.{Hole}
-use Rattle.model.specs.HoleStore.{Memory}
+use borrow.Author.Tests.{ne-eqb, not-false}
 use Rattle.facts.specs.Lists.{isNil, every, distinct}
-use Rattle.model.specs.Page.{isMedium}
+use Rattle.facts.proofs.Bools.{by-cases, and-left, and-right}
+use Rattle.words.specs.Word.{chunkKind, pageOf}
+use Rattle.classes.specs.Shape.{shapeOf}
+use Rattle.classes.proofs.Shapes.{shape-sound}
+use Rattle.fields.specs.Ranges.{maxPages}
+use Rattle.model.specs.Calls.{Request, take, giveBack, giveChunks}
+use Rattle.model.specs.Page.{Page}
+use Rattle.model.specs.Class.{Class, Ask}
 use Rattle.model.specs.Release.{ofKind}
-use Rattle.model.specs.Chunks.{chunksMax}
-use Rattle.model.specs.Arena as Model
-use Rattle.model.specs.Arena.{Arena, Given}
-use Rattle.facts.proofs.Bools.{by-cases}
-use Rattle.arena.specs.Store.{storeHoles, storeMemory, storeCounts, storeTop, storeStore, storeArena}
-use Rattle.arena.specs.Owners.{own, ownFresh, ownRun}
-use Rattle.arena.specs.Fair.{commitFair}
-use Rattle.arena.specs.Calls.{advance, committed, commitFor, given}
-use Rattle.pages.specs.Runs.{nameRun}
-use Rattle.pages.specs.Stack.{latest, draw, hasMore, pushed, back, indexOf}
-use Rattle.pages.specs.declared.Park.{Park}
-use Rattle.pages.specs.declared.Park.the-variants.{Empty, Cold}
-use Rattle.pages.specs.Links.{pointNext, linked, cutOut, link, unlink, top, stow, unstow, wake}
-use Rattle.pages.specs.Carve.{carveAnew, outWords, bareRun, newRun}
-use Rattle.calls.specs.Take.{unlistSpent, fillFrom, fromPartial, fromPark, onRun, takeNew, takeBlocks, takeCall, walk, parkFair}
-use Rattle.calls.specs.Release.{startOf, outAt, firstOf, Released, unlisted, relisted, parkAs, spotAt, parkAt, emptied, leaves, placed, giveBackAt, lastStep, releaseFair, releaseBlocks}
-use Rattle.calls.specs.Chunks.{blocksOn, chunkBackAt, chunksMatch, chunksFair, settleChunks, giveRuns, releaseChunks}
+use Rattle.model.specs.Chunks as Model
+use Rattle.model.specs.Chunks.{chunked, chunksMax}
+use Rattle.model.specs.Arena.{commit}
+use Rattle.model.specs.Heap.{Heap}
+use Rattle.model.specs.Yields.{Listed}
+use Rattle.model.proofs.ArenaTidy.{tidy-give}
+use Rattle.arena.specs.Calls.{committed, given}
+use Rattle.pages.specs.declared.Park.the-variants.{Empty}
+use Rattle.calls.specs.Take.{Took, onRun, takeNew, takeCall}
+use Rattle.calls.specs.Release.{outAt, Released}
+use Rattle.calls.specs.Chunks.{chunksMatch, chunksFair, settleChunks, giveRuns, ChunksReleased, releaseChunks}
+use Rattle.refinement.specs.Represents.{firsts, StateRep, ClassRep, Represents}
+use Rattle.refinement.specs.Run.{classReply}
+use Rattle.refinement.proofs.Frames.{Only}
+use Rattle.refinement.proofs.ArenaFrames.{given-changes}
+use Rattle.refinement.proofs.ArenaReached.{Reached}
+use Rattle.refinement.proofs.CommitRep.{commit-for}
+use Rattle.refinement.proofs.Book.{setting-of, frontier-in}
+use Rattle.refinement.proofs.Join.{changes, written}
+use Rattle.refinement.proofs.Take.{TakeRep, did, asked, take-own}
+use Rattle.refinement.proofs.TakeWhole.{run-only, run-fills}
+use Rattle.refinement.proofs.Release.{stays, goes}
+use Rattle.refinement.proofs.ReleaseGives.{waiting, next, next-reached, next-represents, next-class, left-represents, left-reached, left-class}
+use Rattle.refinement.proofs.ReleaseWhole as Listed
+use Rattle.refinement.proofs.ReleaseWhole.{ReleaseRep, denied, release-rep}
+use Rattle.refinement.proofs.ChunkTests.{chunks-same}
+use Rattle.refinement.proofs.ChunkWhole.{all-settled}
+use Rattle.refinement.proofs.ArenaHolders.{small-class}
 
-point-len : (b : List ℕ) (c y x : ℕ) → length (pointNext b c y x) ≡ length b
-point-len b c zero x = length-put b (class partial c) x
-point-len b c (suc y) x = length-put b (page next y) x
+-- the classes that a request may be made of: group releases are the small classes'
+abbrev pub Ours : ℕ → Request → Type 0
+Ours c (take h l) = ltb c 76 ≡ true
+Ours c (giveBack h ws) = ltb c 76 ≡ true
+Ours c (giveChunks h ws gs fs) = ltb c 64 ≡ true
 
-module _ (b : List ℕ) (c q : ℕ) where
-  link-len : length (link b c q) ≡ length b
-  unfolding link linked
-  link-len = simp (length-put, length-putAt)
+-- ---- gives
+gives-long : (n c : ℕ) (hc : ltb c 76 ≡ true) (ps : List Page) (s : Class) (b : List ℕ) (H : Heap) → Reached n H → Represents n b H → H .classes c ≡ waiting s ps
+    → length (giveRuns b (shapeOf c .pages) (firsts ps)) ≡ length b
+gives-long n c hc [] s b H ok R e = refl
+gives-long n c hc (p ∷ ps) s b H ok R e =
+    let t = waiting s ps in
+    let m = shapeOf c .pages in
+    gives-long n c hc ps s (given b (p .first) m) (next n c hc p t b H ok R e) (next-reached n c hc p t b H ok R e) (next-represents n c hc p t b H ok R e) (next-class n c hc p t b H ok R e)
+    ∙ given-changes b (p .first) m (rw (R .arena .loads) (tidy-give (shapeOf c .pages) (shape-sound c .paged) (p .first) (H .arena) (ok .tidy) .slots)) .long
 
-  unlink-len : length (unlink b c q) ≡ length b
-  unfolding unlink cutOut
-  unlink-len = simp (length-put, length-putAt, point-len)
+module _ (n : ℕ) (hn : n ≤ maxPages) (b : List ℕ) (H : Heap) (R : Represents n b H) (ok : Reached n H) (c : ℕ) where
+  given-long : (hc : ltb c 76 ≡ true) (b′ : List ℕ) (o : Only c b b′) (s : Class) (ps : List Page) (r : StateRep n b′ c (shapeOf c) (waiting s ps)) (qs : List ℕ) → firsts ps ≡ qs
+      → length (giveRuns b′ (shapeOf c .pages) qs) ≡ length b
+  given-long hc b′ o s ps r qs e =
+      rw (← e) (gives-long n c hc ps s b′ _ (left-reached n b H R ok c hc b′ o s ps r) (left-represents n b H R ok c hc b′ o s ps r) (left-class n b H R ok c hc b′ o s ps r) ∙ o .long)
 
-  stow-len : (k : Park) → length (stow b c k q) ≡ length b
-  unfolding stow
-  stow-len k = simp length-put
+  -- ---- takes
+  module _ (hc : ltb c 76 ≡ true) (h : ℕ) (l : List ℕ) where
+    new-long : (fs : List Page) → ClassRep n b c (shapeOf c) Empty [] [] [] fs → length (takeNew n b c (shapeOf c) h l .book) ≡ length b
+    unfolding takeNew onRun
+    new-long fs z = rw (commit-for n b H (R .arena) ok h (shapeOf c .pages) (suc c)) (go (commit n h (shapeOf c .pages) (H .arena) .run) refl)
+      where
+        go : (o : Option ℕ) → commit n h (shapeOf c .pages) (H .arena) .run ≡ o
+            → length (onRun (committed b (commit n h (shapeOf c .pages) (H .arena)) (shapeOf c .pages) (suc c)) c (shapeOf c) l o .book) ≡ length b
+        go none e = changes n b H R ok c hc h .long
+        go (some q) e =
+            run-fills n b H R ok c hc h l fs z q e .only .long ∙ run-only n b H R ok c hc h l fs z q e .long ∙ written n b H R ok c hc h q e .long ∙ changes n b H R ok c hc h .long
 
-  unstow-len : (k : Park) → length (unstow b c k q) ≡ length b
-  unfolding unstow
-  unstow-len k = simp length-put
+    own-long : {w : Took} {q : Ask} → TakeRep n b c (shapeOf c) h l w q → length (w .book) ≡ length b
+    own-long (did k) = k .only .long
+    own-long (asked fs z) = new-long fs z
 
-  unlisted-len : length (unlisted b c q) ≡ length b
-  unfolding unlisted
-  unlisted-len = by-cases (eqb (get b (page listed q)) 1) (λ e. rw e unlink-len) (λ e. rw e)
+    take-long : Listed (shapeOf c) (H .classes c) → length (takeCall n b c (shapeOf c) h l .book) ≡ length b
+    unfolding takeCall
+    take-long y =
+        by-cases (ltb (length l) (shapeOf c .batch)) (λ u. rw u)
+        (λ u. rw u (own-long (take-own (setting-of n b H R c hc) l h (H .classes c .partial) (H .classes c .empty) (H .classes c .cold) (H .classes c .full)
+        (frontier-in n b H R ok) (y .partial) (R .classes c hc))))
 
-  relisted-len : length (relisted b c q) ≡ length b
-  unfolding relisted
-  relisted-len = by-cases (eqb (get b (page listed q)) 0) (λ e. rw e link-len) (λ e. rw e)
+  -- ---- releases by list
+  list-long : (hc : ltb c 76 ≡ true) (h : ℕ) {w : Released} {x : Ask} → ReleaseRep n hn b H R ok c hc h w x → length (w .book) ≡ length b
+  list-long hc h (denied k e ne) = refl
+  list-long hc h (Listed.did q (stays {f = f} ne r o)) = rw (ne-eqb f 2 ne) (o .long)
+  list-long hc h (Listed.did q (goes {b′ = b′} {s = t} p e r o)) = given-long hc b′ o t (p ∷ []) r (q ∷ []) (ap (λ x. x ∷ []) e)
 
-  spent-len : (sh : Shape) → length (unlistSpent b c sh q) ≡ length b
-  unfolding unlistSpent
-  spent-len sh = by-cases (hasMore b sh q) (λ e. rw e) (λ e. rw e unlink-len)
+  -- ---- group releases
+  module _ (hs : ltb c 64 ≡ true) (h : ℕ) (ws gs fs : List ℕ) where
+    long-cond : (t : Bool) (w w′ : ChunksReleased) → (t ≡ true → length (w .book) ≡ length b) → (t ≡ false → length (w′ .book) ≡ length b) → length (cond t w w′ .book) ≡ length b
+    long-cond true w w′ f g = f refl
+    long-cond false w w′ f g = g refl
 
-module _ (b : List ℕ) (q : ℕ) where
-  draw-len : (sh : Shape) (m : ℕ) → length (draw b sh q m) ≡ length b
-  unfolding draw
-  draw-len sh m = simp (length-put, length-marks)
+    chunks-long : length (releaseChunks n b c (shapeOf c) h ws gs fs .book) ≡ length b
+    unfolding releaseChunks
+    chunks-long =
+        let sh = shapeOf c in
+        let hc = small-class c hs in
+        let s = setting-of n b H R c hc in
+        let k₁ = every (ofKind (shapeOf c .kind)) ws in
+        let k₂ = every (ofKind chunkKind) gs in
+        let t₁ = distinct (map pageOf gs) in
+        let t₂ = every (Model.chunkFits (shapeOf c) (H .classes c) ws) gs in
+        let t₃ = every (chunked (shapeOf c) (H .classes c) gs) ws in
+        let x = Model.settleChunks (shapeOf c) h ws (H .classes c) gs in
+        long-cond (isNil ws || isNil gs) _ _ (λ e. refl)
+        (λ e. long-cond (ltb chunksMax (length gs) || ltb (length fs) (length gs)) _ _ (λ e. refl)
+        (λ e. long-cond (not (k₁ && k₂)) _ _ (λ e. refl)
+        (λ e₁. long-cond (not (every (outAt n b c (shapeOf c)) ws && distinct ws)) _ _ (λ e. refl)
+        (λ e₂. long-cond (not (chunksMatch b ws gs)) _ _ (λ e. refl)
+        (λ e₃. long-cond (not (chunksFair n b c (shapeOf c) gs)) _ _ (λ e. refl)
+        (λ e₄. let k = and-left k₁ k₂ (not-false (k₁ && k₂) e₁) in
+        let u = not-false (every (outAt n b c sh) ws && distinct ws) e₂ in
+        let o = and-left (every (outAt n b c sh) ws) (distinct ws) u in
+        let v : (t₁ && (t₂ && t₃)) ≡ true = rw (chunks-same s hn (H .classes c) (R .classes c hc) ws k o gs) at (not-false (chunksMatch b ws gs) e₃) in
+        let w = all-settled n hn b H R ok c hs ws k o (and-right (every (outAt n b c sh) ws) (distinct ws) u) h gs (and-left t₂ t₃ (and-right t₁ (t₂ && t₃) v)) (and-left t₁ (t₂ && t₃) v) in
+        rw (w .gives) (given-long hc (settleChunks b c sh h ws gs .book) (w .only) (x .class) (w .pages) (w .rep) (x .gives) (w .named))))))))
 
-  back-len : (is : List ℕ) → length (back b q is) ≡ length b
-  unfolding back pushed
-  back-len is = simp (length-put, length-push, length-marks)
-
-  carve-len : (sh : Shape) (v : Bool) → length (carveAnew b sh q v) ≡ length b
-  unfolding carveAnew
-  carve-len sh v = simp (length-put, length-push)
-
-  emptied-len : length (emptied b q) ≡ length b
-  unfolding emptied
-  emptied-len = simp length-put
-
--- ---- takes
-fill-len : (k m : ℕ) (b : List ℕ) (c : ℕ) (sh : Shape) → length (fillFrom b c sh k m .book) ≡ length b
-unfolding fillFrom
-fill-len zero m b c sh = refl
-fill-len (suc k) m b c sh =
-    let q = get b (class partial c) - 1 in
-    by-cases (eqb m 0 || eqb (get b (class partial c)) 0) (λ e. rw e)
-    (λ e. rw e (fill-len k (m - length (latest b sh q m)) (unlistSpent (draw b sh q m) c sh q) c sh ∙ spent-len (draw b sh q m) c q sh ∙ draw-len b q sh m))
-
-name-len : (m f x : ℕ) (b : List ℕ) → length (nameRun b f x m) ≡ length b
-unfolding nameRun
-name-len zero f x b = refl
-name-len (suc m) f x b = name-len m f (suc x) (put b (page first x) f) ∙ length-put b (page first x) f
-
-new-len : (b : List ℕ) (sh : Shape) (q : ℕ) → length (newRun b sh q) ≡ length b
-unfolding newRun bareRun
-new-len b sh q = carve-len _ q sh true ∙ length-put _ (page listed q) 0 ∙ length-clear (32 * outWords sh) q 0 (nameRun b q q (sh .pages)) ∙ name-len (sh .pages) q q b
-
-own-len : (m q w : ℕ) (b : List ℕ) → length (own b q m w) ≡ length b
-unfolding own
-own-len zero q w b = refl
-own-len (suc m) q w b = own-len m (suc q) w (put b (page owner q) w) ∙ length-put b (page owner q) w
-
-holes-len : (hs : List Hole) (i : ℕ) (b : List ℕ) → length (storeHoles b i hs) ≡ length b
-unfolding storeHoles
-holes-len [] i b = refl
-holes-len (x ∷ hs) i b = simp length-put (holes-len hs (suc i) b)
-
-memory-len : (m : Memory) (k : ℕ) (b : List ℕ) → length (storeMemory b m k) ≡ length b
-unfolding storeMemory
-memory-len m zero b = refl
-memory-len m (suc k) b = simp length-put (memory-len m k b)
-
-arena-len : (b : List ℕ) (a : Arena) → length (storeArena b a) ≡ length b
-unfolding storeArena storeStore storeCounts storeTop
-arena-len b a = simp (length-put, memory-len, holes-len)
-
-committed-len : (b : List ℕ) (g : Given) (m w : ℕ) → length (committed b g m w) ≡ length b
-unfolding committed advance
-committed-len b g m w = simp length-put (run-len (g .run) ∙ own-len (g .arena .frontier - get b (arena frontier)) (get b (arena frontier)) 0 (storeArena b (g .arena)) ∙ arena-len b (g .arena))
-  where
-    run-len : (o : Option ℕ) → length (ownRun (ownFresh (storeArena b (g .arena)) (get b (arena frontier)) (g .arena .frontier)) o m w)
-        ≡ length (ownFresh (storeArena b (g .arena)) (get b (arena frontier)) (g .arena .frontier))
-    run-len none = refl
-    run-len (some q) = own-len m q w _
-
-given-len : (b : List ℕ) (q m : ℕ) → length (given b q m) ≡ length b
-unfolding given
-given-len b q m = simp (length-put, own-len, arena-len)
-
-module _ (n : ℕ) (b : List ℕ) (c : ℕ) (sh : Shape) (l : List ℕ) where
-  partial-len : length (fromPartial n b c sh l .book) ≡ length b
-  unfolding fromPartial
-  partial-len = by-cases (walk n b c sh (sh .batch) (sh .batch) (get b (class partial c)) 0) (λ e. rw e (fill-len (sh .batch) (sh .batch) b c sh)) (λ e. rw e)
-
-  park-len : (k : Park) → length (fromPark n b c sh k l .book) ≡ length b
-  unfolding fromPark
-  park-len k =
-      let q = get b (class (top k) c) - 1 in
-      by-cases (parkFair n b c sh k)
-      (λ e. rw e (fill-len (sh .batch) (sh .batch) (wake b c k q) c sh ∙ link-len (unstow b c k q) c q ∙ unstow-len b c q k)) (λ e. rw e)
-
-  run-len : (o : Option ℕ) → length (onRun b c sh l o .book) ≡ length b
-  unfolding onRun
-  run-len none = refl
-  run-len (some q) = fill-len (sh .batch) (sh .batch) (link (newRun b sh q) c q) c sh ∙ link-len (newRun b sh q) c q ∙ new-len b sh q
-
-module _ (n : ℕ) (b : List ℕ) (c : ℕ) (sh : Shape) (h : ℕ) (l : List ℕ) where
-  commit-len : length (commitFor n b h (sh .pages) (suc c) .book) ≡ length b
-  unfolding commitFor
-  commit-len = by-cases (commitFair n b (sh .pages)) (λ e. rw e (committed-len b _ (sh .pages) (suc c))) (λ e. rw e)
-
-  takeNew-len : length (takeNew n b c sh h l .book) ≡ length b
-  unfolding takeNew
-  takeNew-len =
-      let g = commitFor n b h (sh .pages) (suc c) in
-      by-cases (eqb (commitFor n b h (sh .pages) (suc c) .code) 0) (λ e. rw e (run-len n (g .book) c sh l (g .run) ∙ commit-len)) (λ e. rw e)
-
-  blocks-len : length (takeBlocks n b c sh h l .book) ≡ length b
-  unfolding takeBlocks
-  blocks-len =
-      by-cases (ltb n (get b (arena frontier))) (λ e. rw e)
-      (λ e₁. by-cases (eqb (get b (class partial c)) 0)
-      (λ e₂. by-cases (eqb (get b (class empty c)) 0)
-      (λ e₃. by-cases (eqb (get b (class cold c)) 0) (λ e. rw (e₁, e₂, e₃, e) takeNew-len) (λ e. rw (e₁, e₂, e₃, e) (park-len n b c sh l Cold)))
-      (λ e₃. rw (e₁, e₂, e₃) (park-len n b c sh l Empty)))
-      (λ e₂. rw (e₁, e₂) (partial-len n b c sh l)))
-
-  pub take-len : length (takeCall n b c sh h l .book) ≡ length b
-  unfolding takeCall
-  take-len = by-cases (ltb (length l) (sh .batch)) (λ u. rw u) (λ u. rw u blocks-len)
-
--- ---- releases
-module _ (c : ℕ) (sh : Shape) (h q : ℕ) where
-  as-len : (b : List ℕ) (k : Spot) → length (parkAs b c sh h q k .book) ≡ length b
-  as-len b ToEmpty = stow-len b c q Empty
-  as-len b ToCold = stow-len (carveAnew b sh q (discardZeroed h && not (isMedium sh))) c q Cold ∙ carve-len b q sh _
-  as-len b ToArena = refl
-
-  at-len : (b : List ℕ) → length (parkAt b c sh h q .book) ≡ length b
-  unfolding parkAt
-  at-len b = as-len (unlisted b c q) (spotAt b c sh) ∙ unlisted-len b c q
-
-  leaves-len : (t : Bool) (b : List ℕ) → length (leaves t b c sh h q .book) ≡ length b
-  leaves-len true b = at-len (emptied b q) ∙ emptied-len b q
-  leaves-len false b = at-len b
-
-  placed-len : (t : Bool) (b : List ℕ) → length (placed t b c sh h q .book) ≡ length b
-  placed-len t b = by-cases (eqb (get b (page carved q)) (get b (page free q))) (λ e. rw e (leaves-len t b)) (λ e. rw e (relisted-len b c q))
-
-  giveBack-len : (b is : List ℕ) → length (giveBackAt b c sh h q is .book) ≡ length b
-  unfolding giveBackAt
-  giveBack-len b is = placed-len false (back b q is) ∙ back-len b q is
-
-  chunk-len : (b is : List ℕ) → length (chunkBackAt b c sh h q is .book) ≡ length b
-  unfolding chunkBackAt
-  chunk-len b is = placed-len true (back b q is) ∙ back-len b q is
-
-last-len : (sh : Shape) (q : ℕ) (r : Released) → length (lastStep sh q r .book) ≡ length (r .book)
-last-len sh q r = by-cases (eqb (r .fate) 2) (λ e. rw e (given-len (r .book) q (sh .pages))) (λ e. rw e)
-
-module _ (n : ℕ) (b : List ℕ) (c : ℕ) (sh : Shape) (h : ℕ) (ws : List ℕ) where
-  pub list-len : length (releaseBlocks n b c sh h ws .book) ≡ length b
-  unfolding releaseBlocks
-  list-len =
-      let q = startOf b (firstOf ws) in
-      by-cases (isNil ws) (λ e. rw e)
-      (λ e₁. by-cases (every (ofKind (sh .kind)) ws)
-      (λ e₂. by-cases (every (outAt n b c sh) ws && distinct ws)
-      (λ e₃. by-cases (every (λ w. eqb (startOf b w) (startOf b (firstOf ws))) ws)
-      (λ e₄. by-cases (releaseFair n b c sh (length ws) (startOf b (firstOf ws)))
-      (λ e₅. rw (e₁, e₂, e₃, e₄, e₅) (last-len sh q (giveBackAt b c sh h q (map (indexOf sh q) ws)) ∙ giveBack-len c sh h q b (map (indexOf sh q) ws)))
-      (λ e₅. rw (e₁, e₂, e₃, e₄, e₅)))
-      (λ e₄. rw (e₁, e₂, e₃, e₄)))
-      (λ e₃. rw (e₁, e₂, e₃)))
-      (λ e₂. rw (e₁, e₂)))
-
-settle-len : (gs : List ℕ) (b : List ℕ) (c : ℕ) (sh : Shape) (h : ℕ) (ws : List ℕ) → length (settleChunks b c sh h ws gs .book) ≡ length b
-unfolding settleChunks
-settle-len [] b c sh h ws = refl
-settle-len (g ∷ gs) b c sh h ws = settle-len gs _ c sh h ws ∙ chunk-len c sh h (pageOf g) b (map (indexOf sh (pageOf g)) (blocksOn b ws (pageOf g)))
-
-gives-len : (qs : List ℕ) (b : List ℕ) (m : ℕ) → length (giveRuns b m qs) ≡ length b
-gives-len [] b m = refl
-gives-len (q ∷ qs) b m = gives-len qs (given b q m) m ∙ given-len b q m
-
-module _ (n : ℕ) (b : List ℕ) (c : ℕ) (sh : Shape) (h : ℕ) (ws gs fs : List ℕ) where
-  pub group-len : length (releaseChunks n b c sh h ws gs fs .book) ≡ length b
-  unfolding releaseChunks
-  group-len =
-      by-cases (isNil ws || isNil gs) (λ e. rw e)
-      (λ e₁. by-cases (ltb chunksMax (length gs) || ltb (length fs) (length gs)) (λ e. rw (e₁, e))
-      (λ e₂. by-cases (every (ofKind (sh .kind)) ws && every (ofKind chunkKind) gs)
-      (λ e₃. by-cases (every (outAt n b c sh) ws && distinct ws)
-      (λ e₄. by-cases (chunksMatch b ws gs)
-      (λ e₅. by-cases (chunksFair n b c sh gs)
-      (λ e₆. rw (e₁, e₂, e₃, e₄, e₅, e₆) (gives-len (settleChunks b c sh h ws gs .gives) _ (sh .pages) ∙ settle-len gs b c sh h ws))
-      (λ e₆. rw (e₁, e₂, e₃, e₄, e₅, e₆)))
-      (λ e₅. rw (e₁, e₂, e₃, e₄, e₅)))
-      (λ e₄. rw (e₁, e₂, e₃, e₄)))
-      (λ e₃. rw (e₁, e₂, e₃))))
+  -- ---- any request
+  pub reply-long : Listed (shapeOf c) (H .classes c) → (x : Request) → Ours c x → length (classReply n b c x .book) ≡ length b
+  reply-long y (take h l) hc = take-long hc h l y
+  reply-long y (giveBack h ws) hc = list-long hc h (release-rep n hn b H R ok c hc h ws)
+  reply-long y (giveChunks h ws gs fs) hs = chunks-long hs h ws gs fs

@@ -24,11 +24,9 @@ use Rattle.refinement.proofs.ArenaReached.{Reached}
 use Rattle.refinement.proofs.ArenaFair.{loads-frontier}
 use Rattle.refinement.proofs.CommitRep.{commit-for}
 use Rattle.refinement.proofs.CommitRuns.{run-nobody}
-use Rattle.refinement.proofs.Basics.{setting-kept}
-use Rattle.refinement.proofs.Frames.{Only}
-use Rattle.refinement.proofs.Moves.{to-partial, link-only}
 use Rattle.refinement.proofs.Pushes.{carve-first}
 use Rattle.refinement.proofs.Join.{few, same, new-setting, class-joins}
+use Rattle.refinement.proofs.TakeWhole.{run-setting, run-rep, run-only}
 use Rattle.refinement.proofs.Mix.{mix, PageIn}
 use Rattle.refinement.proofs.LocalFill.{Home, home-only, link-local, fill-local}
 use Rattle.refinement.proofs.LocalArena.{ArenaIn, RunIn, committed-in, new-in}
@@ -66,16 +64,12 @@ module _ {S : ℕ → Bool} (n : ℕ) (b : List ℕ) (H : Heap) (R : Represents 
           | no y ↦ hm .pages x (sym (same n b H R ok c hc h q e c x (λ t. y)) ∙ w)
         ];
       } in
-      let r₃ : ClassRep n (link (newRun after (shapeOf c) q) c q) c (shapeOf c) Empty (carve (shapeOf c) q true ∷ []) [] [] fs
-      = subst (λ (x : ℕ). ClassRep n (link (newRun after (shapeOf c) q) c x) c (shapeOf c) Empty (carve (shapeOf c) q true ∷ []) [] [] fs) start (to-partial s₂ r₂) in
-      let o₃ : Only c (newRun after (shapeOf c) q) (link (newRun after (shapeOf c) q) c q)
-      = subst (λ (x : ℕ). Only c (newRun after (shapeOf c) q) (link (newRun after (shapeOf c) q) c x)) start (link-only s₂ r₂) in
       let k₃ : link (mix S (newRun after (shapeOf c) q) d) c q ≡ mix S (link (newRun after (shapeOf c) q) c q) d
       = subst (λ (x : ℕ). link (mix S (newRun after (shapeOf c) q) d) c x ≡ mix S (link (newRun after (shapeOf c) q) c x) d) start (link-local s₂ h₂ d r₂) in
       rw (
         new-in d after sh q (shape-sound c .few) (shape-sound c .paged) (run-in q e),
         k₃,
-        fill-local d (sh .batch) (sh .batch) (link b₂ c q) (p ∷ []) [] [] fs (setting-kept _ (o₃ .long) s₂) (home-only o₃ h₂) r₃,
+        fill-local d (sh .batch) (sh .batch) (link b₂ c q) (p ∷ []) [] [] fs (run-setting n b H R ok c hc h l fs z q e) (home-only (run-only n b H R ok c hc h l fs z q e) h₂) (run-rep n b H R ok c hc h l fs z q e),
       )
 
   with-answer : (o : Option ℕ) → commit n h (shapeOf c .pages) (H .arena) .run ≡ o → onRun (mix S after d) c (shapeOf c) l o .book ≡ mix S (onRun after c (shapeOf c) l o .book) d
