@@ -21,6 +21,7 @@ pub mod Blocks
 pub mod Draw
 pub mod Fill
 pub mod Plan
+pub mod Sources
 pub mod Take
 pub mod CommitRuns
 pub mod ArenaKeeps

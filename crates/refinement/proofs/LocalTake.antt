@@ -1,74 +1,27 @@
 -- A take from the class's own pages keeps to the class's words.
---     take-partial .. take-none    what a take comes to on a book that stands for the class's state, source by source
---     take-local                   the take on two books put together
-use Prim.Native.Nat.{ℕ, suc}
-use native.Mathlib.Omega.{arith}
+use Prim.Native.Nat.{ℕ}
 use mathlib.Core.Bool.{Bool, true, false, true≢false}
 use mathlib.Core.Logic.{_⊎_, inl, inr}
 use mathlib.Core.List.{List, [], _∷_, map}
 use mathlib.Core.Path.{_≡_, refl, sym}
 use lib.Dec.{ltb}
 use lib.ListN.{length}
-use borrow.Author.Tests.{ne-eqb}
 use Rattle.classes.specs.declared.Shape.{Shape}
-use Rattle.fields.specs.Field.{arena, class, partial, frontier, get}
+use Rattle.fields.specs.Field.{arena, partial, frontier, get}
 use Rattle.model.specs.Page.{Page, reused}
 use Rattle.model.specs.Class as Model
 use Rattle.model.specs.Class.{Class, Ask, done, asks, lists, thawed, takeFrom}
 use Rattle.model.specs.Demands.{StaysHome, stays}
 use Rattle.facts.proofs.Bools.{by-cases}
-use Rattle.pages.specs.declared.Park.the-variants.{Empty, Cold}
-use Rattle.pages.specs.Links.{wake}
-use Rattle.calls.specs.Take.{took, fillFrom, fromPartial, takeNew, takeBlocks, takeCall}
+use Rattle.pages.specs.declared.Park.the-variants.{Cold}
+use Rattle.calls.specs.Take.{takeNew, takeBlocks, takeCall}
 use Rattle.refinement.specs.Represents.{StateRep}
 use Rattle.refinement.proofs.Basics.{Setting}
 use Rattle.refinement.proofs.Moves.{swap}
 use Rattle.refinement.proofs.Fill.{AllMore}
-use Rattle.refinement.proofs.Plan.{walk-passes}
-use Rattle.refinement.proofs.Take.{from-park-is}
+use Rattle.refinement.proofs.Sources.{take-partial, take-empty, take-cold, take-none}
 use Rattle.refinement.proofs.Mix.{mix}
 use Rattle.refinement.proofs.LocalFill.{Home, fill-local, wake-local}
-
-module _ {n : ℕ} {b : List ℕ} {c : ℕ} {sh : Shape} (s : Setting n b c sh) (low : ltb n (get b (arena frontier)) ≡ false) (h : ℕ) (l : List ℕ) where
-  take-partial : (p : Page) (ps es : List Page) (cs : List Model.Cold) (fs : List Page) → AllMore sh (p ∷ ps) → StateRep n b c sh (lists (p ∷ ps) es cs fs)
-      → takeBlocks n b c sh h l ≡ took l (fillFrom b c sh (sh .batch) (sh .batch))
-  unfolding takeBlocks fromPartial
-  take-partial p ps es cs fs g r =
-      rw (
-        walk-passes n b (s .shape) c (p ∷ ps) (sh .batch) (sh .batch) (get b (class partial c)) 0 (r .chain .links) (r .partials) g,
-        low,
-        r .chain .links .0,
-        ne-eqb (suc (p .first)) 0 (λ z. omega arith),
-      )
-
-  take-empty : (e : Page) (es : List Page) (cs : List Model.Cold) (fs : List Page) → StateRep n b c sh (lists [] (e ∷ es) cs fs)
-      → takeBlocks n b c sh h l ≡ took l (fillFrom (wake b c Empty (reused sh e .first)) c sh (sh .batch) (sh .batch))
-  unfolding takeBlocks
-  take-empty e es cs fs r =
-      rw (
-        low,
-        r .chain .links,
-        r .store .line .0,
-        ne-eqb (suc (reused sh e .first)) 0 (λ z. omega arith),
-        from-park-is s l Empty (reused sh e) (map (reused sh) es) (map (thawed sh) cs) fs r,
-      )
-
-  take-cold : (e : Model.Cold) (cs : List Model.Cold) (fs : List Page) → StateRep n b c sh (lists [] [] (e ∷ cs) fs)
-      → takeBlocks n b c sh h l ≡ took l (fillFrom (wake b c Cold (thawed sh e .first)) c sh (sh .batch) (sh .batch))
-  unfolding takeBlocks
-  take-cold e cs fs r =
-      rw (
-        low,
-        r .chain .links,
-        r .store .line,
-        r .beside .line .0,
-        ne-eqb (suc (thawed sh e .first)) 0 (λ z. omega arith),
-        from-park-is s l Cold (thawed sh e) (map (thawed sh) cs) [] fs (swap r),
-      )
-
-  pub take-none : (fs : List Page) → StateRep n b c sh (lists [] [] [] fs) → takeBlocks n b c sh h l ≡ takeNew n b c sh h l
-  unfolding takeBlocks
-  take-none fs r = rw (low, r .chain .links, r .store .line, r .beside .line)
 
 isDone : Ask → Bool
 isDone (done r) = true
