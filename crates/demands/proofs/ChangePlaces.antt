@@ -1,17 +1,30 @@
 -- Neighbouring calls of the exported functions may change places (document 02, A.14): the refinement's `change-places`, on `run`.
 use Prim.Native.Nat.{ℕ}
+use native.Mathlib.Omega.{arith}
 use mathlib.Core.Bool.{true, false, not, true≢false}
 use mathlib.Core.List.{List, [], _∷_, _++_}
 use mathlib.Core.Logic.{_⊎_, inl, inr}
 use mathlib.Core.Option.{some}
 use mathlib.Core.Path.{_≡_, refl, sym, ap, _∙_}
+use lib.ListN.{getD}
 use Rattle.facts.specs.Lists.{isNil}
 use Rattle.facts.proofs.Bools.{by-cases, and-false}
 use Rattle.words.specs.Host.{badHost}
-use Rattle.model.specs.Calls.{Call, Named, names, hostIn, wayOf}
+use Rattle.classes.specs.Sizes.{smallSizes}
+use Rattle.classes.specs.Shape.{smallShape, shapeOf}
+use Rattle.model.specs.Calls as Calls
+use Rattle.model.specs.Calls.{Call, blocksOf, Named, names, hostIn, wayOf}
 use Rattle.model.specs.Class.{Ask, done, asks}
 use Rattle.model.specs.Demands.{StaysHome, stays}
+use Rattle.model.specs.HoleStore as Holes
+use Rattle.model.specs.Arena as Arenas
+use Rattle.model.specs.Page as Pages
+use Rattle.model.specs.Class as Classes
+use Rattle.model.specs.Chunks as Chunks
+use Rattle.model.specs.Heap as Heaps
+use Rattle.model.specs.Heap.{newHeap, step}
 use Rattle.model.specs.History.{heapAfter}
+use Rattle.pages.specs.Stack.{pageAt}
 use Rattle.vigbuso.specs.Direct.{openOn}
 use Rattle.refinement.specs.Direct.{Reply}
 use Rattle.refinement.specs.Run.{callReply, repliesFrom, bookFrom}
@@ -19,9 +32,9 @@ use Rattle.refinement.proofs.ChangePlaces as Words
 use Rattle.refinement.proofs.ChangePlaces.{AtHome}
 use Rattle.demands.specs.Call.{call}
 use Rattle.demands.specs.Run.{Opens, run, bookAfter, next}
-use Rattle.demands.specs.ChangePlaces.{usesArena, reaches, ChangePlaces}
+use Rattle.demands.specs.ChangePlaces.{usesArena, reaches, ChangePlaces, takeOf, OneOnly}
 use Rattle.demands.proofs.Calls.{room}
-use Rattle.demands.proofs.Histories.{run-represents, run-calls, next-is}
+use Rattle.demands.proofs.Histories.{run-represents, run-calls, next-is, next-agrees}
 
 -- ---- a call that does not reach the arena is at home
 home-of : (q : Ask) → usesArena q ≡ false → StaysHome q
@@ -80,3 +93,22 @@ change-places n b o xs x y p q ex ey ne one =
     home : (reaches n xs x ≡ false) ⊎ (reaches n xs y ≡ false) → AtHome (heapAfter n xs) x p ⊎ AtHome (heapAfter n xs) y q
     home (inl r) = inl (at-home n xs x p ex r)
     home (inr r) = inr (at-home n xs y q ey r)
+
+-- ---- two takes that both commit
+-- the page of the first block that a take answers: on a new heap, and after a take of another class
+firstPage : Calls.Answer → ℕ
+firstPage x = pageAt (getD (blocksOf x) 0 0)
+
+first-alone : firstPage (step 64 newHeap (takeOf 44) .answer) ≡ 0
+unfolding firstPage smallSizes smallShape shapeOf Holes.lowest Holes.leastFit Holes.stillHolds Holes.chooseIn Holes.cutFrom Arenas.drawFrom Arenas.draw Arenas.grant Arenas.commitReady Arenas.commitAs Arenas.commit Pages.wordOf Pages.carveAs Pages.hasMore Pages.carvedNow Pages.pop Classes.after Classes.fillFromList Classes.served Classes.onRun Classes.takeFrom Chunks.answer Heaps.newHeap Heaps.offer Heaps.finish Heaps.interact Heaps.classCall Heaps.step wayOf
+first-alone = refl
+
+first-behind : firstPage (step 64 (heapAfter 64 (takeOf 45 ∷ [])) (takeOf 44) .answer) ≡ 1
+unfolding firstPage smallSizes smallShape shapeOf Holes.lowest Holes.leastFit Holes.stillHolds Holes.chooseIn Holes.cutFrom Arenas.drawFrom Arenas.draw Arenas.grant Arenas.commitReady Arenas.commitAs Arenas.commit Pages.wordOf Pages.carveAs Pages.hasMore Pages.carvedNow Pages.pop Classes.after Classes.fillFromList Classes.served Classes.onRun Classes.takeFrom Chunks.answer Heaps.newHeap Heaps.offer Heaps.finish Heaps.interact Heaps.classCall Heaps.step wayOf
+first-behind = refl
+
+pub one-only : OneOnly
+one-only b o s =
+    let e : _≡_ {A = ℕ} 0 1
+    = sym first-alone ∙ ap firstPage (sym (next-agrees 64 b o [] (takeOf 44) .answer) ∙ s .first ∙ next-agrees 64 b o (takeOf 45 ∷ []) (takeOf 44) .answer) ∙ first-behind in
+    omega arith

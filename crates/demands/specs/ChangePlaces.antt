@@ -4,6 +4,7 @@
 --                      for a run, or has one to give. The call before it in either order is on another class and does not change that
 --     Swapped          both orders, after xs: x and y with the same numbers and list contents
 --     ChangePlaces     for every opening, every history and every two such calls, refused ones included
+--     OneOnly          two calls that both reach the arena may not
 use Prim.Native.Nat.{ℕ}
 use mathlib.Core.Bool.{Bool, true, false, not, _&&_}
 use mathlib.Core.List.{List, [], _∷_, _++_}
@@ -12,11 +13,12 @@ use mathlib.Core.Path.{_≡_}
 use lib.Dec.{eqb}
 use Rattle.facts.specs.Lists.{isNil}
 use Rattle.classes.specs.Shape.{shapeOf}
-use Rattle.model.specs.Calls.{Call, Named, names, Way, turned, straight, toClass, wayOf}
+use Rattle.model.specs.Calls.{Call, takeBlocks, Named, names, Way, turned, straight, toClass, wayOf}
 use Rattle.model.specs.Class.{Ask, done, asks}
 use Rattle.model.specs.Chunks.{answer}
 use Rattle.model.specs.Heap.{Heap}
 use Rattle.model.specs.History.{heapAfter}
+use Rattle.model.specs.Examples.{lent}
 use Rattle.refinement.specs.Direct.{Reply}
 use Rattle.demands.specs.Run.{Opens, run, bookAfter, next}
 
@@ -50,3 +52,10 @@ abbrev pub ChangePlaces : Type 0
 ChangePlaces =
     (n : ℕ) (b : List ℕ) → Opens n b → (xs : List Call) (x y : Call) (p q : Named) → names x ≡ some p → names y ≡ some q → eqb (p .class) (q .class) ≡ false
     → (reaches n xs x && reaches n xs y) ≡ false → Swapped n b xs x y
+
+-- the premise is needed: of two takes on a new heap that both commit, the one that is made first has the lower page
+abbrev pub takeOf : ℕ → Call
+takeOf c = takeBlocks c 15 (lent 64)
+
+abbrev pub OneOnly : Type 0
+OneOnly = (b : List ℕ) → Opens 64 b → Swapped 64 b [] (takeOf 44) (takeOf 45) → ⊥
