@@ -55,4 +55,5 @@ pub mod LocalList
 pub mod LocalChunks
 pub mod Lengths
 pub mod Foot
+pub mod LocalReply
 pub mod ChangePlaces

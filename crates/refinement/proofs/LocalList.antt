@@ -18,7 +18,7 @@ use Rattle.model.specs.Page.{isOut}
 use Rattle.model.specs.Class.{Result, Ask, done}
 use Rattle.model.specs.Release.{Site, Settled, ofKind, outHere, onPage, settle, releaseList}
 use Rattle.model.specs.Heap.{Heap}
-use Rattle.model.specs.Demands as Home
+use Rattle.model.specs.Demands as Demands
 use Rattle.model.specs.Demands.{StaysHome}
 use Rattle.facts.proofs.Bools.{by-cases, and-left, and-right}
 use Rattle.model.proofs.Counts.{distinct-count}
@@ -48,7 +48,7 @@ pub record Roams (S : ℕ → Bool) (H : Heap) (c : ℕ) : Type 0 where
 
 -- a call that stays at home gives nothing
 pub home-gives : {q : Ask} (r : Result) → StaysHome q → q ≡ done r → r .gives ≡ []
-home-gives r (Home.stays s a) e = let z : record { class = s; answer = a; gives = [] } ≡ r = cc in sym (ap (λ (x : Result). x .gives) z)
+home-gives r (Demands.stays s a) e = let z : record { class = s; answer = a; gives = [] } ≡ r = cc in sym (ap (λ (x : Result). x .gives) z)
 
 module _ {S : ℕ → Bool} (n : ℕ) (hn : n ≤ maxPages) (b : List ℕ) (H : Heap) (R : Represents n b H) (ok : Reached n H) (c : ℕ) (hc : ltb c 76 ≡ true) (hm : Home S n b c (shapeOf c)) (d : List ℕ) where
   -- the last step, where a run may be given
