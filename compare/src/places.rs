@@ -1,5 +1,5 @@
-//! Neighbouring calls that change places (document 02, A.14), on the port: each call of a random history is also made before the
-//! one ahead of it, on a copy of the book. Where both are on classes, different ones, and at most one reaches the arena, both
+//! Neighbouring calls that change places (document 02, A.14), on the port: each call of a random history on another class than
+//! the one ahead of it is also made before that one, on a copy of the book. Where at most one of the two reaches the arena, both
 //! must answer the same and leave the same book, word for word. Where both reach it, it is counted how often they do not.
 
 use crate::arguments::Arguments;
@@ -104,26 +104,23 @@ impl Walk {
     fn step(&mut self, call: Call, tally: &mut Tally) -> &Answer {
         self.before.copy_from_slice(&self.book);
         let answer = port::ask(&mut self.book, &mut self.room, &call);
-        let committed = self.commits(&self.book) != self.commits(&self.before);
+        let committed = commits(&self.book) != commits(&self.before);
         let told = Told { reaches: reaches(&answer, committed), call, answer };
         tally.calls += 1;
         if let Some(last) = self.last.take().filter(|last| on_two_classes(&last.call, &told.call)) {
             let second = port::ask(&mut self.earlier, &mut self.room, &told.call);
             let first = port::ask(&mut self.earlier, &mut self.room, &last.call);
-            tally.note(
-                &last,
-                &told,
-                (first, second) == (last.answer.clone(), told.answer.clone()) && self.earlier == self.book,
-            );
+            let same = first == last.answer && second == told.answer && self.earlier == self.book;
+            tally.note(&last, &told, same);
         }
         std::mem::swap(&mut self.earlier, &mut self.before);
         &self.last.insert(told).answer
     }
+}
 
-    /// Granted commits since the opening.
-    fn commits(&self, book: &[u32]) -> u64 {
-        port::report_figures(book)[0]
-    }
+/// Granted commits since the opening.
+fn commits(book: &[u32]) -> u64 {
+    port::report_figures(book)[0]
 }
 
 /// A take reaches the arena if it finds no page at home: then it answers a block of a run that was committed for it, or none.

@@ -1,10 +1,10 @@
 -- The words of a class (document 02, A.14). n is the arena's length, b the book, sh the class's shape, c its id.
 --     foot n b sh c i    word i of the book is the class's: it stands in the class's row, or it is a word of a page at which a run of the
 --                        class begins
--- A call on the class that does not reach the arena reads and writes these words and looks at nothing else of what other calls write: what it
--- answers, and what it makes of its words, is told by them. Only its tests read beyond them (FRONTIER, and who holds the page of a
--- listed block), and what they find there no call on another class can change, since that never takes a page of this class nor
--- makes one. A call on another class, whether it reaches the arena or not, keeps to the words that are not the class's.
+-- A call on the class that does not reach the arena reads and writes these words and no others, but for its tests: they also look at LENGTH
+-- and FRONTIER and at who holds the page of a listed block, and find the same there whatever calls on other classes were made, since
+-- none of these takes a page of this class or makes one. A call on another class, also one that reaches the arena, keeps to the words that
+-- are not this class's.
 -- A word of OWNER at or above FRONTIER may hold anything, and so does not make its page the class's; `whole` says what does.
 use Prim.Native.Nat.{ℕ, _+_, _-_, _/_}
 use mathlib.Core.Bool.{Bool, cond, not}
