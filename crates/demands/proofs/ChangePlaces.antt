@@ -50,7 +50,7 @@ unfolding wayOf
 at-home n xs x p e r = by-cases (badHost (hostIn x)) inl (λ g. inr (home-of _ (rw (g, e) at r)))
 
 -- ---- the book after more calls
-book-split : (b : List ℕ) (xs ys : List Call) → bookFrom call b (xs ++ ys) ≡ bookFrom call (bookFrom call b xs) ys
+pub book-split : (b : List ℕ) (xs ys : List Call) → bookFrom call b (xs ++ ys) ≡ bookFrom call (bookFrom call b xs) ys
 book-split b [] ys = refl
 book-split b (x ∷ xs) ys = book-split (call b x .book) xs ys
 

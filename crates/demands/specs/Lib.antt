@@ -11,3 +11,4 @@ pub mod ClassTables
 pub mod Game
 pub mod Plan
 pub mod ChangePlaces
+pub mod Reorders
