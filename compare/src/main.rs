@@ -10,6 +10,7 @@ mod generate;
 mod histories;
 mod history;
 mod ledger;
+mod listing;
 mod lookups;
 mod memory;
 mod model_test;
@@ -35,6 +36,7 @@ const USAGE: &str = "usage: compare COMMAND [--NAME VALUE ..]
   lookups      both size lookups
   tables       class tables from a growth rate
   game         an asker against any placing
+  listing      all short histories of the direct calls
   histories    [--calls N] [--seed S] [--pages N,N..] [--scenario NAME]
                random histories on the original and on the port
   record       --file F [--calls N] [--seed S] [--pages N,N..] [--scenario NAME] [--kinds all|arena]
@@ -59,6 +61,7 @@ fn main() -> ExitCode {
         Some("lookups") => Ok(lookups::run()),
         Some("tables") => Ok(class_tables::run()),
         Some("game") => Ok(game::run()),
+        Some("listing") => Ok(listing::run()),
         Some("histories") => histories::histories(rest),
         Some("record") => histories::record(rest),
         Some("replay") => histories::replay(rest),

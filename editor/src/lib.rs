@@ -33,7 +33,7 @@
 //! ```
 //!
 //! Every call of the library is a method of [`Heap`], both size lookups are [`Class::for_size`]; [`plan`] works out, before a
-//! large fill, how many pages it needs. A call with bad arguments
+//! large fill, how many pages it needs; [`short_histories`] lists all that can happen in a few direct calls. A call with bad arguments
 //! changes nothing and answers a [`Refusal`].
 //!
 //! | arena | blocks |
@@ -66,6 +66,7 @@ mod ffi;
 mod game;
 mod heap;
 mod host;
+mod listing;
 mod plan;
 mod pool;
 mod refusal;
@@ -84,6 +85,7 @@ pub use fate::Fate;
 pub use game::asker_wins;
 pub use heap::{book_words, Heap, MAX_PAGES};
 pub use host::Host;
+pub use listing::{short_histories, DirectCall, ShortHistories};
 pub use plan::plan;
 pub use pool::{Pool, PoolReport};
 pub use refusal::Refusal;
