@@ -11,3 +11,5 @@ pub mod ClassTables
 pub mod Game
 pub mod Listing
 pub mod Plan
+pub mod ChangePlaces
+pub mod Reorders
