@@ -15,6 +15,7 @@ mod lookups;
 mod memory;
 mod model_test;
 mod oracle;
+mod places;
 mod plan;
 mod planned;
 mod port;
@@ -50,6 +51,8 @@ const USAGE: &str = "usage: compare COMMAND [--NAME VALUE ..]
                calls with any arguments on damaged books
   fits         [--plans N] [--seed S]
                plans of takes, made in orders of chance on arenas of just their total and of a page less
+  places       [--pairs N] [--seed S]
+               neighbouring calls on two classes the other way round, books compared word for word
   speed        [--file F] [--seconds S]
                the port's time against the original's, for each scenario S seconds; the table is also written to F";
 
@@ -68,6 +71,7 @@ fn main() -> ExitCode {
         Some("model-test") => model_test::run(rest),
         Some("damaged") => damaged::run(rest),
         Some("fits") => fits::run(rest),
+        Some("places") => places::run(rest),
         Some("speed") => speed::run(rest),
         _ => Err(USAGE.into()),
     };

@@ -351,6 +351,14 @@ fn contains(book: &[u32], offset: u64, length: u64) -> Answer {
     yes_or_no("contains", answer, Answer::Contains)
 }
 
+/// Commits, reuses, abandoned, pages held, idle pages, of a book on which a report is not refused.
+pub fn report_figures(book: &[u32]) -> [u64; 5] {
+    match report(book) {
+        Answer::Report(figures) => figures,
+        answer => panic!("a report answers {answer:?}"),
+    }
+}
+
 fn report(book: &[u32]) -> Answer {
     let mut figures = [UNTOUCHED_FIGURE; FIGURES];
     // SAFETY: the book is lent for the call, to be read, and the figures to be written.

@@ -45,7 +45,8 @@
 //! The code behind the methods is proved: what each call answers and leaves behind is a definition, and the library is
 //! built only if the code does just that. This crate is the part that is not proved: types over those calls, and [`Pool`] and
 //! [`Store`] on top. Document 01, which the comments cite, is the paper that states the heap's rules; `docs/CALLS.md` of the
-//! repository describes the C functions, `docs/DEMANDS.md` what is proved of them.
+//! repository describes the C functions, `docs/REORDER.md` which of them may change places, `docs/DEMANDS.md` what is proved of
+//! them.
 //!
 //! The crate needs no `std`, only `alloc`.
 #![no_std]

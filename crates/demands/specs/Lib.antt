@@ -12,3 +12,5 @@ pub mod Game
 pub mod Listing
 pub mod Plan
 pub mod Idle
+pub mod ChangePlaces
+pub mod Reorders
