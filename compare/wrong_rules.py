@@ -369,12 +369,12 @@ RULES = [
     Rule(
         "the report's commits and reuses are exchanged",
         heap=[("compare/src/reference.rs", "let [commits, reuses, abandoned] =", "let [reuses, commits, abandoned] =")],
-        model=[(HEAP, "commits = a .commits; reuses = a .reuses", "commits = a .reuses; reuses = a .commits")],
+        model=[(HEAP, "commits = a .commits;\n  reuses = a .reuses", "commits = a .reuses;\n  reuses = a .commits")],
     ),
     Rule(
         "the report's reuses and abandoned are exchanged",
         heap=[("compare/src/reference.rs", "let [commits, reuses, abandoned] =", "let [commits, abandoned, reuses] =")],
-        model=[(HEAP, "reuses = a .reuses; abandoned = a .abandoned", "reuses = a .abandoned; abandoned = a .reuses")],
+        model=[(HEAP, "reuses = a .reuses;\n  abandoned = a .abandoned", "reuses = a .abandoned;\n  abandoned = a .reuses")],
     ),
     Rule(
         "the report's held and idle pages are exchanged",
@@ -385,7 +385,35 @@ RULES = [
                 "original.idle_pages(), self.ledger.held()",
             )
         ],
-        model=[(HEAP, "held = k; idle = idlePages size a", "held = idlePages size a; idle = k")],
+        model=[
+            (
+                HEAP,
+                "held = held;\n  idle = a .store .total + (size - a .frontier) + parked",
+                "held = a .store .total + (size - a .frontier) + parked;\n  idle = held",
+            )
+        ],
+    ),
+    Rule(
+        "cold pages are not idle",
+        heap=[
+            (
+                "compare/seams/heap.rs",
+                "list.empty_count as usize + list.cold_bytes / PAGE_SIZE",
+                "list.empty_count as usize",
+            )
+        ],
+        model=[(HEAP, "parkedRuns s = length (s .empty) + length (s .cold)", "parkedRuns s = length (s .empty)")],
+    ),
+    Rule(
+        "a parked span is one idle page",
+        heap=[
+            (
+                "compare/seams/heap.rs",
+                "(list.empty_bytes + list.cold_bytes) / PAGE_SIZE",
+                "(list.empty_count + list.cold_len) as usize",
+            )
+        ],
+        model=[(HEAP, "runs c * shapeOf c .pages", "runs c")],
     ),
     Rule(
         "a cut's remainder is remembered at its length's lowest index",

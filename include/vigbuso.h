@@ -51,6 +51,9 @@ extern "C" {
 /* The most chunks (document 01's groups) of a release by chunks. */
 #define VIGBUSO_MAX_CHUNKS 2056u
 
+/* How many figures vigbuso_report writes. */
+#define VIGBUSO_FIGURES 6u
+
 /* What vigbuso_commit writes as first page for none. */
 #define VIGBUSO_NO_PAGE UINT32_MAX
 
@@ -230,9 +233,10 @@ uint32_t vigbuso_release(uint32_t *book, size_t book_len, uint32_t host, uint64_
 uint32_t vigbuso_contains(const uint32_t *book, size_t book_len, uint64_t offset, uint64_t length);
 
 /*
- * The arena's figures.
+ * The arena's figures. A run whose blocks are all back is parked in its class's empty or cold store: its pages are held, and idle
+ * as well. Idle are also the pages of holes and those above the frontier.
  *   book     book_len words, read
- *   figures  5 numbers: commits, reuses, abandoned, pages held, idle pages
+ *   figures  VIGBUSO_FIGURES numbers: commits, reuses, abandoned, pages held, idle pages, pages that are both
  * Returns 0, or 1, 2, 13.
  */
 uint32_t vigbuso_report(const uint32_t *book, size_t book_len, uint64_t *figures);

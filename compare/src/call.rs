@@ -1,6 +1,6 @@
 //! One call of a history, and its answer, as CALLS.md passes them.
 
-use crate::words::Family;
+use crate::words::{Family, FIGURES};
 
 /// A lent list of a take or of fates: so many entries, all with this content before the call.
 #[derive(Clone, Copy, PartialEq, Eq, Debug)]
@@ -40,8 +40,8 @@ pub enum Answer {
     Grown(bool),
     Released,
     Contains(bool),
-    /// Commits, reuses, abandoned, pages held, idle pages.
-    Report([u64; 5]),
+    /// Commits, reuses, abandoned, pages held, idle pages, and how many are both.
+    Report([u64; FIGURES]),
     /// Something that CALLS.md rules out, in words.
     Broken(String),
 }

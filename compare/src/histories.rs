@@ -12,6 +12,7 @@ use crate::plan::Plan;
 use crate::port::{self, Room};
 use crate::progress::Progress;
 use crate::random::Random;
+use crate::reference::Reference;
 use crate::run::{self, Book, Difference};
 use crate::shrink::shrink;
 use crate::tally::Tally;
@@ -121,6 +122,34 @@ pub fn record(words: &[String]) -> Result<bool, String> {
     }
     fs::write(file, text).map_err(|error| format!("{file}: {error}"))?;
     println!("{tally}");
+    Ok(true)
+}
+
+/// Writes the calls of a file back with the original's answers as they are now. What says nothing stays.
+pub fn restate(words: &[String]) -> Result<bool, String> {
+    let arguments = Arguments::read(words, &["file"])?;
+    let file = arguments.text("file").ok_or("restate needs --file")?;
+    let text = fs::read_to_string(file).map_err(|error| format!("{file}: {error}"))?;
+    let mut reference = None;
+    let mut restated = String::new();
+    for (at, line) in text.lines().enumerate() {
+        let bad = || format!("{file}, line {}: {line}", at + 1);
+        if let Some(pages) = line.strip_prefix("open ") {
+            drop(reference.take());
+            reference = Some(Reference::open(pages.parse().map_err(|_| bad())?));
+        }
+        if line.is_empty() || line.starts_with('#') || line.starts_with("open ") {
+            restated += line;
+        } else {
+            let call = history::asked(line).ok_or_else(bad)?;
+            let answer = reference.as_mut().ok_or_else(bad)?.answer(&call);
+            restated += &history::line(&call, &answer);
+        }
+        restated.push('\n');
+    }
+    let changed = restated.lines().zip(text.lines()).filter(|(new, old)| new != old).count();
+    fs::write(file, restated).map_err(|error| format!("{file}: {error}"))?;
+    println!("{changed} lines changed");
     Ok(true)
 }
 

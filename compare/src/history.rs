@@ -9,7 +9,7 @@
 //! grow_frontier HOST FIRST OLD NEW = 0 GROWN
 //! release HOST FIRST PAGES = 0
 //! contains OFFSET LENGTH = YES
-//! report = 0 COMMITS REUSES ABANDONED HELD IDLE
+//! report = 0 COMMITS REUSES ABANDONED HELD IDLE OVERLAP
 //! ```
 //!
 //! A refused call has just its number after `=`. A lent list of LENGTH entries holds FILL in each before the call.
@@ -18,7 +18,7 @@
 use std::fmt::Write;
 
 use crate::call::{Answer, Call, Due, Kind, Lent};
-use crate::words::{Family, NO_PAGE};
+use crate::words::{Family, FIGURES, NO_PAGE};
 
 #[derive(Clone, PartialEq, Eq, Debug)]
 pub struct History {
@@ -156,14 +156,21 @@ impl Numbers {
     }
 }
 
-fn parse_line(line: &str) -> Option<Due> {
-    let (asked, answered) = line.split_once(" =")?;
+/// The call of a line, whatever answer stands there.
+pub fn asked(line: &str) -> Option<Call> {
+    let (asked, _) = line.split_once(" =")?;
     let (name, rest) = asked.split_once(' ').unwrap_or((asked, ""));
     let mut from = Numbers::of(rest)?;
     let call = parse_call(Kind::named(name)?, &mut from)?;
+    from.next().is_none().then_some(call)
+}
+
+fn parse_line(line: &str) -> Option<Due> {
+    let call = asked(line)?;
+    let (_, answered) = line.split_once(" =")?;
     let mut results = Numbers::of(answered)?;
     let answer = parse_answer(&call, &mut results)?;
-    (from.next().is_none() && results.next().is_none()).then_some((call, answer))
+    results.next().is_none().then_some((call, answer))
 }
 
 fn parse_call(kind: Kind, from: &mut Numbers) -> Option<Call> {
@@ -219,7 +226,13 @@ fn parse_answer(call: &Call, from: &mut Numbers) -> Option<Answer> {
         },
         Call::Grow { .. } => Answer::Grown(from.flag()?),
         Call::Release { .. } => Answer::Released,
-        Call::Report => Answer::Report([from.next()?, from.next()?, from.next()?, from.next()?, from.next()?]),
+        Call::Report => {
+            let mut figures = [0; FIGURES];
+            for figure in &mut figures {
+                *figure = from.next()?;
+            }
+            Answer::Report(figures)
+        }
         Call::Contains { .. } => unreachable!("answered above"),
     })
 }

@@ -3,7 +3,7 @@
 use crate::call::{Answer, Call, Lent};
 use crate::memory::{Fence, Fenced};
 use crate::planned::Planned;
-use crate::words::{Family, NO_PAGE};
+use crate::words::{Family, FIGURES, NO_PAGE};
 
 // The folder is the build script's.
 #[link(name = "vigbuso", kind = "static")]
@@ -360,10 +360,10 @@ pub fn report_figures(book: &[u32]) -> [u64; 5] {
 }
 
 fn report(book: &[u32]) -> Answer {
-    let mut figures = [UNTOUCHED_FIGURE; 5];
-    // SAFETY: the book is lent for the call, to be read, and the five figures to be written.
+    let mut figures = [UNTOUCHED_FIGURE; FIGURES];
+    // SAFETY: the book is lent for the call, to be read, and the figures to be written.
     match unsafe { vigbuso_report(book.as_ptr(), book.len(), figures.as_mut_ptr()) } {
         0 => Answer::Report(figures),
-        number => refusal(number, figures == [UNTOUCHED_FIGURE; 5]),
+        number => refusal(number, figures == [UNTOUCHED_FIGURE; FIGURES]),
     }
 }

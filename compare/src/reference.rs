@@ -60,7 +60,8 @@ impl Reference {
             Call::Contains { offset, length } => Answer::Contains(original.contains(*offset, *length)),
             Call::Report => {
                 let [commits, reuses, abandoned] = original.counts();
-                Answer::Report([commits, reuses, abandoned, self.ledger.held(), original.idle_pages()])
+                let (held, idle) = (self.ledger.held(), original.idle_pages());
+                Answer::Report([commits, reuses, abandoned, held, idle, original.parked_pages()])
             }
         }
     }

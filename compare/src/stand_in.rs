@@ -24,7 +24,7 @@ use std::sync::{Mutex, MutexGuard};
 use call::{Answer, Call, Lent};
 use planned::{planned, Planned};
 use reference::Reference;
-use words::{book_words, Family, MAX_PAGES, NO_PAGE};
+use words::{book_words, Family, FIGURES, MAX_PAGES, NO_PAGE};
 
 /// The original has one arena for the process.
 static ORIGINAL: Mutex<()> = Mutex::new(());
@@ -163,7 +163,7 @@ pub unsafe extern "C" fn vigbuso_contains(book: *const u32, _words: usize, offse
 pub unsafe extern "C" fn vigbuso_report(book: *const u32, _words: usize, figures: *mut u64) -> u32 {
     returned(ask(book, Call::Report), |answer| {
         let Answer::Report(seen) = answer else { unreachable!("a report answers figures") };
-        figures.cast::<[u64; 5]>().write(seen);
+        figures.cast::<[u64; FIGURES]>().write(seen);
     })
 }
 

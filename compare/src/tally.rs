@@ -59,6 +59,7 @@ impl Tally {
             Answer::NoRun => self.event("commit answers none"),
             Answer::Grown(true) => self.event("growth answers yes"),
             Answer::Grown(false) => self.event("growth answers no"),
+            Answer::Report([.., overlap]) if *overlap > 0 => self.event("report with parked pages"),
             Answer::Taken { words, .. } if words.is_empty() => self.event("take answers none"),
             Answer::Taken { virgin: true, .. } => self.event("take is virgin"),
             Answer::Taken { virgin: false, .. } => self.event("take is not virgin"),

@@ -13,6 +13,8 @@ pub const MEDIUM_CLASSES: u32 = 12;
 pub const SMALL_BATCH: usize = 64;
 /// What `commit` writes as first page for none.
 pub const NO_PAGE: u32 = u32::MAX;
+/// How many figures a report has.
+pub const FIGURES: usize = 6;
 
 /// Words that a book for so many pages has at least.
 pub const fn book_words(pages: u32) -> usize {

@@ -192,7 +192,7 @@ pub(crate) fn contains(book: &[u32], offset: u64, length: u64) -> u32 {
 
 pub(crate) fn report(book: &[u32]) -> Result<Report, Refusal> {
     let mut figures = [0; Report::FIGURES];
-    // SAFETY: the slice is lent for the call, to be read, and the local of five to be written.
+    // SAFETY: the slice is lent for the call, to be read, and the local of figures to be written.
     carried_out(unsafe { vigbuso_report(book.as_ptr(), book.len(), figures.as_mut_ptr()) })?;
     Ok(Report::new(figures))
 }

@@ -299,6 +299,20 @@ impl<B: AsRef<[u32]> + AsMut<[u32]>> Pool<B> {
         &mut self.heap
     }
 
+    /// The blocks in stock. A page with none of these and none handed out is parked, or the heap has it back.
+    ///
+    /// ```
+    /// # use vigbuso::Pool;
+    /// let mut pool = Pool::open(64)?;
+    /// let block = pool.alloc(100)?;
+    /// assert_eq!(pool.stock().count(), 63);
+    /// assert!(pool.stock().all(|other| other != block));
+    /// # Ok::<(), Box<dyn std::error::Error>>(())
+    /// ```
+    pub fn stock(&self) -> impl Iterator<Item = Block> + '_ {
+        self.stocks.iter().flat_map(|stock| stock.blocks.iter().copied())
+    }
+
     /// The figures of pool and arena.
     ///
     /// ```

@@ -12,6 +12,7 @@ use fill::arguments::Arguments;
 use fill::grid::Grid;
 use fill::job::{Done, Job};
 use fill::search::{Progress, Stop};
+use fill::store::Store;
 use fill::words::Words;
 use fill::{picture, plot, progress};
 
@@ -175,6 +176,26 @@ fn spans_are_one_field_and_neighbours_have_other_colours() {
 }
 
 #[test]
+fn parked_pages_are_drawn_as_such() {
+    let mut store = Store::open(32).expect("an arena");
+    let mut put = |bytes| store.put(&vec![7; bytes]).expect("no refusal").expect("room");
+    let (_kept, records) = (put(100), [put(16), put(20_000), put(60_000)]);
+    for record in records {
+        store.free(record).expect("its place");
+    }
+    // As long as their blocks are in stock, the pages are in use.
+    assert_eq!(store.report().expect("a reached book").overlap, 0);
+    assert!(!picture::text(&store.pages().expect("what the heap says")).contains('~'));
+    store.flush().expect("blocks that are out");
+    let report = store.report().expect("a reached book");
+    assert!(report.to_string().starts_with("13 pages held, 31 idle, 12 of them parked; "), "{report}");
+    let pages = store.pages().expect("what the heap says");
+    let rows: String = picture::text(&pages).lines().skip(1).take(2).collect();
+    assert_eq!(rows.matches('~').count(), 12);
+    assert!(picture::svg(&pages).contains("parked, medium class 11: 65472 bytes, 8 pages"));
+}
+
+#[test]
 fn pictures_say_what_they_show() {
     let done = run(&job(500, 32));
     for svg in [picture::svg(&done.pages), plot::svg(&done.history, 32)] {
@@ -237,16 +258,18 @@ fn the_readme_shows_the_output() {
     assert!(README.contains(printed), "the README has another output than\n{printed}");
 }
 
-/// As many pages are drawn as held as the status line says.
+/// As many pages are drawn as held, and as parked, as the status line says.
 fn assert_drawn(output: &str) {
     let status = output.lines().find(|line| line.starts_with("heap: ")).expect("a status line");
     let numbers: Vec<usize> = status.split(' ').filter_map(|word| word.parse().ok()).collect();
     let (held, idle) = (numbers[0], numbers[1]);
+    let parked = if status.contains(" of them parked") { numbers[2] } else { 0 };
     let drawn = output.split("by holder\n").nth(1).expect("the pages are drawn");
-    let rows = drawn.lines().take((held + idle).div_ceil(16));
+    let rows = drawn.lines().take((held + idle - parked).div_ceil(16));
     let symbols: String = rows.map(|row| row[6..].replace([' ', '-'], "")).collect();
-    assert_eq!(symbols.len(), held + idle);
+    assert_eq!(symbols.len(), held + idle - parked);
     assert_eq!(symbols.replace(['_', '.'], "").len(), held);
+    assert_eq!(symbols.matches('~').count(), parked);
 }
 
 #[test]

@@ -105,12 +105,13 @@ static void runs(void) {
     IS(fresh, 0);
 }
 
-/* After all the calls above: a page of class 0 and the three of a span are held, parked ones included. */
+/* After all the calls above: a page of class 0 and the three of a span are held; the span is parked, so its pages are idle too. */
 static void report(void) {
-    uint64_t figures[5];
+    uint64_t figures[VIGBUSO_FIGURES];
     IS(vigbuso_report(book, words, figures), 0);
     IS(figures[3], 4);
-    IS(figures[4], PAGES - 4);
+    IS(figures[4], PAGES - 1);
+    IS(figures[5], 3);
 }
 
 static void chunks(void) {

@@ -135,7 +135,7 @@ impl Play {
         let report = self.heap.report().expect("a reached book");
         assert!(pages.len() as u64 <= report.held);
         assert_eq!(report.abandoned, 0);
-        assert_eq!(report.held + report.idle, self.heap.pages());
+        assert_eq!(report.held + report.idle, self.heap.pages() + report.overlap);
     }
 }
 

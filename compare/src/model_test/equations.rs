@@ -136,7 +136,8 @@ fn answer_term(call: &Call, answer: &Answer) -> String {
         (_, Answer::Released) => (names::RELEASED, String::new()),
         (_, Answer::Contains(yes)) => (names::CONTAINED, yes.to_string()),
         (_, Answer::Report(figures)) => {
-            (names::REPORTED, figures.iter().map(u64::to_string).collect::<Vec<String>>().join(" "))
+            let fields = names::FIGURES.iter().zip(figures).map(|(name, figure)| format!("{name} = {figure}"));
+            (names::REPORTED, format!("(record {{ {} }})", fields.collect::<Vec<String>>().join("; ")))
         }
         (_, Answer::Taken { .. } | Answer::Fates(_) | Answer::Broken(_)) => unreachable!("no answer of this call"),
     };

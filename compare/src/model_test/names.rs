@@ -40,6 +40,8 @@ pub const GROWN: &str = "grown";
 pub const RELEASED: &str = "released";
 pub const CONTAINED: &str = "contained";
 pub const REPORTED: &str = "reported";
+/// The fields of the last one's figures, in the report's order.
+pub const FIGURES: [&str; 6] = ["commits", "reuses", "abandoned", "held", "idle", "overlap"];
 
 /// The events of a history from a heap, and the heap after it, in the module of histories; the heap after an opening.
 pub const EVENTS_FROM: &str = "eventsFrom";

@@ -220,9 +220,14 @@ impl Original {
         arena::stored_holes().1 as u32
     }
 
-    /// Hole pages, and those at or above the frontier.
+    /// Pages in the empty and cold stores of every class, by the original's own counts.
+    pub fn parked_pages(&self) -> u64 {
+        (self.small.parked_pages() + self.medium.parked_pages()) as u64
+    }
+
+    /// Hole pages, those at or above the frontier, and the parked ones (document 02, A.5).
     pub fn idle_pages(&self) -> u64 {
-        u64::from(self.hole_pages()) + u64::from(self.pages - self.frontier())
+        u64::from(self.hole_pages()) + u64::from(self.pages - self.frontier()) + self.parked_pages()
     }
 }
 

@@ -7,14 +7,14 @@ use mathlib.Core.Option.{Option, none, some}
 use mathlib.Core.Bool.{Bool, true, false, cond, not, _&&_}
 use lib.Dec.{eqb, leb}
 use Rattle.facts.specs.Lists.{every, below}
-use Rattle.fields.specs.Field.{arena, page, owner, frontier, held, get, put}
+use Rattle.fields.specs.Field.{arena, class, page, owner, frontier, held, emptyCount, coldCount, get, put}
 use Rattle.model.specs.declared.Figures.{Figures}
-use Rattle.model.specs.Heap.{badRun, badGrowth, direct, figuresWith}
+use Rattle.model.specs.Heap.{badRun, badGrowth, direct, parkedPages, figuresWith}
 use Rattle.model.specs.Arena as Model
 use Rattle.model.specs.Arena.{Arena, Given, Grown}
 use Rattle.arena.specs.Load.{loadArena}
 use Rattle.arena.specs.Store.{storeArena}
-use Rattle.arena.specs.Fair.{recordFair, commitFair, giveFair}
+use Rattle.arena.specs.Fair.{recordFair, commitFair, giveFair, reportFair}
 use Rattle.arena.specs.Owners.{ownerCode, own, ownFresh, ownRun, heldWith}
 
 -- ---- steps, for the direct calls and for the classes above
@@ -90,8 +90,11 @@ unfoldable pub containsCall : ℕ → List ℕ → ℕ → ℕ → Bool
 containsCall n b o k = Model.contains n o k (loadArena b)
 
 -- a report's figures
+abbrev pub parkedRuns : List ℕ → ℕ → ℕ
+parkedRuns b c = get b (class emptyCount c) + get b (class coldCount c)
+
 abbrev pub figures : ℕ → List ℕ → Figures
-figures n b = figuresWith n (loadArena b) (get b (arena held))
+figures n b = figuresWith n (loadArena b) (get b (arena held)) (parkedPages (parkedRuns b))
 
 unfoldable pub reportCode : ℕ → List ℕ → ℕ
-reportCode n b = cond (recordFair n b) 0 13
+reportCode n b = cond (reportFair n b) 0 13

@@ -4,8 +4,10 @@ use Prim.Native.Nat.{ℕ, _+_}
 use mathlib.Core.List.{List}
 use mathlib.Core.Bool.{Bool, true, cond, _&&_}
 use lib.Dec.{leb}
-use Rattle.facts.specs.Lists.{every}
-use Rattle.fields.specs.Field.{arena, memory, state, frontier, holes, holePages, held, get}
+use Rattle.facts.specs.Lists.{every, below}
+use Rattle.fields.specs.Field.{arena, memory, class, state, frontier, holes, holePages, held, emptyCount, coldCount, get}
+use Rattle.fields.specs.Ranges.{maxParked}
+use Rattle.classes.specs.Shape.{classCount}
 use Rattle.model.specs.declared.Hole.{Hole}
 use Rattle.model.specs.HoleStore.{holeSlots, holePagesMax, rememberedMax}
 use Rattle.arena.specs.Load.{loadHoles}
@@ -36,3 +38,13 @@ commitFair n b m = recordFair n b && (memoryFair b m && holesFair b)
 
 unfoldable pub giveFair : ℕ → List ℕ → ℕ → Bool
 giveFair n b m = recordFair n b && leb m (get b (arena held))
+
+-- a report reads the record and how many runs each class has parked
+abbrev pub countsFair : List ℕ → ℕ → Bool
+countsFair b c = leb (get b (class emptyCount c)) maxParked && leb (get b (class coldCount c)) maxParked
+
+unfoldable pub allCountsFair : List ℕ → Bool
+allCountsFair b = every (countsFair b) (below classCount)
+
+unfoldable pub reportFair : ℕ → List ℕ → Bool
+reportFair n b = recordFair n b && allCountsFair b

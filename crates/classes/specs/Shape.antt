@@ -15,6 +15,10 @@ smallShape size = record { kind = smallKind; block = size / granuleBytes; header
 unfoldable pub mediumShape : ℕ → Shape
 mediumShape size = record { kind = mediumKind; block = size / granuleBytes; header = mediumHeader / granuleBytes; pages = spanPages size; capacity = spanCapacity size; batch = spanCapacity size; empties = 32; emptypages = 128; colds = 256 }
 
+-- 0 to 63 and 64 to 75
+abbrev pub classCount : ℕ
+classCount = 76
+
 -- every number has a shape; above 75 it is no class, and its shape is never used
 unfoldable pub shapeOf : ℕ → Shape
 shapeOf c = cond (ltb c 64) (smallShape (getD smallSizes c 16384)) (mediumShape (getD mediumSizes (c - 64) 65472))

@@ -8,6 +8,7 @@ mod sizes;
 pub use lookup::class_for_size;
 pub use lookup::medium_class_for_size;
 pub use runs::shape_of;
+pub use sizes::CLASS_COUNT;
 pub use sizes::NUM_CLASSES;
 pub use sizes::NUM_MEDIUM;
 pub use sizes::capacity_for;

@@ -17,6 +17,9 @@ pub const NUM_CLASSES: u32 = 64;
 
 pub const NUM_MEDIUM: u32 = 12;
 
+// Small and medium classes by one number.
+pub const CLASS_COUNT: u32 = 76;
+
 const CLASSES: [u32; 64] = [
     16,
     32,

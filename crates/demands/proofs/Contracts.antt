@@ -24,7 +24,7 @@ use Rattle.model.specs.Heap.{answerRun, badRun}
 use Rattle.model.specs.BestFit.{Commits, from-hole, from-frontier, unusable, ungranted, exhausted}
 use Rattle.model.proofs.BestFit.{commits}
 use Rattle.arena.specs.Load.{loadArena, loadStore}
-use Rattle.arena.specs.Fair.{holeFair, holesFair, recordFair, memoryFair, commitFair}
+use Rattle.arena.specs.Fair.{holeFair, holesFair, recordFair, memoryFair, commitFair, reportFair}
 use Rattle.arena.specs.Calls.{commitCall, commitFor}
 use Rattle.take.specs.TakeAnswer.{answerOf}
 use Rattle.release.specs.Act.{answerAs}
@@ -124,7 +124,7 @@ unfolding call reportOn reportOf
 report-says b fs fs′ r e =
     rw (e .code, e .figures)
     (by-cases (eqb (metaFault b) 0)
-    (λ u. rw u (by-cases (recordFair (get b (arena size)) b) (λ v. rw v) (λ v. rw v)))
+    (λ u. rw u (by-cases (reportFair (get b (arena size)) b) (λ v. rw v) (λ v. rw v)))
     (λ u. rw (u, u)))
 
 pub shows-call : {b : List ℕ} {x : Call} {w : Reply} → Shows b x w → w ≡ call b x

@@ -12,12 +12,13 @@ use Rattle.facts.specs.Lists.{every, below}
 use Rattle.facts.proofs.Bools.{by-cases, and-swap}
 use Rattle.words.specs.Word.{countOf, pageOf}
 use Rattle.classes.specs.declared.Shape.{Shape}
+use Rattle.classes.specs.Shape.{classCount}
 use Rattle.fields.specs.Field.{arena, class, hole, page, size, frontier, holes, holePages, held, pages, partial, empty, cold, free, carved, listed, get}
 use Rattle.fields.specs.Ranges.{maxParked}
 use Rattle.model.specs.HoleStore.{rememberedMax}
 use Rattle.model.specs.Spot.{isArena}
 use Rattle.arena.specs.Load.{loadHoles}
-use Rattle.arena.specs.Fair.{recordFair, holeFair, holesFair, memoryFair, commitFair, giveFair}
+use Rattle.arena.specs.Fair.{recordFair, holeFair, holesFair, memoryFair, commitFair, giveFair, countsFair, allCountsFair, reportFair}
 use Rattle.pages.specs.Runs.{ofRun, whole}
 use Rattle.pages.specs.Stack.{tops, latest, hasMore}
 use Rattle.pages.proofs.Draws.{latest-length}
@@ -30,7 +31,7 @@ use Rattle.calls.specs.Release.{pageFair, rowFair, spotAt, spotFair, releaseFai
 use Rattle.calls.specs.Chunks.{pagesGiven, chunksFair}
 use Rattle.demands.specs.Ranges.{Link, partialOf, emptyOf, coldOf, nextOf, prevOf, linkField, Use, stateKnown, frontierFits, holesFew, holePagesFew, heldFits, memoryFits, holeEnds, code, visited, emptyFew, emptyTaken, coldFew, coldTaken, ownerIs, firstIs, prevIs, listedFlag, listedYes, listedNo, freeFits, freeWith, carvedFits, virginFlag, inRange, fits, strays}
 use Rattle.demands.specs.Number13.{takeFair, Number13}
-use Rattle.demands.specs.Reads.{countReads, recordReads, holeReads, commitReads, giveReads, runReads, entryReads, pageReads, walkReads, walkVisits, parkReads, takeReads, takeVisits, supply, yields, yieldAll, barren, backReads, rowReads, releaseReads, backsReads, chunksReads}
+use Rattle.demands.specs.Reads.{countReads, recordReads, holeReads, commitReads, giveReads, parkedReads, reportReads, runReads, entryReads, pageReads, walkReads, walkVisits, parkReads, takeReads, takeVisits, supply, yields, yieldAll, barren, backReads, rowReads, releaseReads, backsReads, chunksReads}
 use Rattle.demands.proofs.RefusalsLaws.{not-and}
 
 -- ---- conjunctions
@@ -79,6 +80,15 @@ module _ (b : List ℕ) where
   unfolding giveFair recordFair fits giveReads countReads
   give-ranges m =
       give-as (inRange b stateKnown) (inRange b frontierFits) (inRange b holesFew) (inRange b holePagesFew) (inRange b heldFits) (leb m (get b (arena held)))
+
+  parked-ranges : (cs : List ℕ) → every (countsFair b) cs ≡ fits b (parkedReads cs)
+  unfolding fits parkedReads
+  parked-ranges [] = refl
+  parked-ranges (c ∷ cs) = rw (parked-ranges cs) (and-assoc (inRange b (emptyFew c)) (inRange b (coldFew c)) (fits b (parkedReads cs)))
+
+  report-ranges : reportFair (get b (arena size)) b ≡ fits b reportReads
+  unfolding reportFair allCountsFair reportReads
+  report-ranges = rw (record-ranges, parked-ranges (below classCount), fits-append)
 
 -- ---- releases
 back-as : (c f i l k : Bool) → ((c && (f && i)) && (l && k)) ≡ (c && (f && (l && (i && k))))
@@ -288,6 +298,7 @@ number-13 b = record {
   known = record-ranges b;
   commit = commit-ranges b;
   give = give-ranges b;
+  report = report-ranges b;
   take = take-ranges b;
   release = release-ranges b;
   chunks = chunks-ranges b;
@@ -306,6 +317,10 @@ module _ (b : List ℕ) where
   pub give-strays : (m : ℕ) → not (giveFair (get b (arena size)) b m) ≡ strays b (giveReads m)
   unfolding strays
   give-strays m = ap not (give-ranges b m)
+
+  pub report-strays : not (reportFair (get b (arena size)) b) ≡ strays b reportReads
+  unfolding strays
+  report-strays = ap not (report-ranges b)
 
   module _ (c : ℕ) (sh : Shape) where
     pub take-strays : not (takeFair (get b (arena size)) b c sh) ≡ (strays b (takeReads b c sh) || barren b c sh)

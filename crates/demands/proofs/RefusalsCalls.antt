@@ -23,7 +23,7 @@ use Rattle.fields.specs.Ranges.{metaFault}
 use Rattle.model.specs.declared.Spot.{Spot}
 use Rattle.model.specs.Heap.{badRun, badGrowth}
 use Rattle.model.specs.Release.{ofKind}
-use Rattle.arena.specs.Fair.{recordFair, commitFair, giveFair}
+use Rattle.arena.specs.Fair.{recordFair, commitFair, giveFair, reportFair}
 use Rattle.arena.specs.Calls as Arena
 use Rattle.arena.specs.Calls.{Committed, commitRefused, commitFor, commitCall, Done, doneRefused, growCall}
 use Rattle.pages.specs.declared.Park.{Park}
@@ -42,7 +42,7 @@ use Rattle.vigbuso.specs.Blocks as Blocks
 use Rattle.vigbuso.specs.Blocks.{takeOn, chunksOn}
 use Rattle.demands.specs.Refusals.{shortList, nothingListed, manyChunks, wrongKind, notOut, otherPage, chunksDiffer, notHeld, openTable, commitTable, growTable, giveTable, reportTable, takeTable, releaseTable, chunksTable, rateTable, gameTable, listingTable}
 use Rattle.demands.specs.Number13.{takeFair}
-use Rattle.demands.proofs.Ranges.{record-strays, commit-strays, give-strays, take-strays, release-strays, chunks-strays}
+use Rattle.demands.proofs.Ranges.{record-strays, commit-strays, give-strays, report-strays, take-strays, release-strays, chunks-strays}
 use Rattle.demands.proofs.RefusalsLaws.{not-and, le-not-lt, Ends, ends, turn, unless, book-turn, chain, choose, before}
 
 -- ---- opening
@@ -92,9 +92,9 @@ give-table b h q m =
 pub report-table : (b fs : List ℕ) → Ends {R = Report} reportCode (λ o. figuresOut o fs ≡ fs) (reportTable b) (reportOn b)
 unfolding reportOn metaFault reportOf
 report-table b fs =
-    rw (← (record-strays b))
+    rw (← (report-strays b))
     (book-turn _ _ _ Report.Refused _ (λ k. refl) (λ k. refl)
-    (unless _ _ (recordFair (get b (arena size)) b) 13 _ _ _ refl refl λ e.
+    (unless _ _ (reportFair (get b (arena size)) b) 13 _ _ _ refl refl λ e.
     ends _ _ _ refl)
     (get b (arena size))
     b)

@@ -10,11 +10,12 @@ use Rattle.facts.proofs.Bools.{by-cases}
 use Rattle.words.specs.Host.{digit}
 use Rattle.words.specs.Word.{countOf, pageOf}
 use Rattle.classes.specs.declared.Shape.{Shape}
+use Rattle.classes.specs.Shape.{classCount}
 use Rattle.fields.specs.Field.{arena, class, page, size, frontier, holes, holePages, pages, partial, empty, emptyCount, cold, coldCount, free, carved, listed, get}
 use Rattle.model.specs.HoleStore.{rememberedMax}
 use Rattle.model.specs.Spot.{spotOf, isEmpty, isCold, isArena}
 use Rattle.arena.specs.Load.{loadHoles}
-use Rattle.arena.specs.Fair.{recordFair, holeFair, holesFair, memoryFair, commitFair, giveFair}
+use Rattle.arena.specs.Fair.{recordFair, holeFair, holesFair, memoryFair, commitFair, giveFair, countsFair, allCountsFair, reportFair}
 use Rattle.pages.specs.Runs.{ofRun, whole}
 use Rattle.pages.specs.Stack.{tops, hasMore}
 use Rattle.pages.specs.Links.{top, stored}
@@ -25,7 +26,7 @@ use Rattle.calls.specs.Take.{pageReady, sound, walk, parkFair}
 use Rattle.calls.specs.Release.{pageFair, rowFair, spotAt, spotFair, releaseFair}
 use Rattle.calls.specs.Chunks.{runsGiven, pagesGiven, chunksFair}
 use Rattle.demands.specs.Ranges.{Link, partialOf, emptyOf, coldOf, nextOf, linkField, Use, memoryFits, emptyTaken, coldTaken, listedYes, listedNo, field}
-use Rattle.demands.specs.Reads.{countReads, recordReads, holeReads, commitReads, giveReads, runReads, entryReads, pageReads, supply, walkReads, parkReads, takeReads, backReads, rowReads, releaseReads, backsReads, chunksReads}
+use Rattle.demands.specs.Reads.{countReads, recordReads, holeReads, commitReads, giveReads, parkedReads, reportReads, runReads, entryReads, pageReads, supply, walkReads, parkReads, takeReads, backReads, rowReads, releaseReads, backsReads, chunksReads}
 use Rattle.demands.specs.Number13.{takeFair, RowsDecide}
 use Rattle.demands.proofs.Ranges.{wanted}
 
@@ -57,6 +58,17 @@ module _ (b b′ : List ℕ) where
     give-same : (m : ℕ) → Same (giveReads m) → giveFair n b m ≡ giveFair n b′ m
     unfolding giveFair recordFair giveReads countReads
     give-same m h = rw (h .0, h .1 .0, h .1 .1 .0, h .1 .1 .1 .0, h .1 .1 .1 .1 .0)
+
+    parked-same : (cs : List ℕ) → Same (parkedReads cs) → every (countsFair b) cs ≡ every (countsFair b′) cs
+    unfolding parkedReads
+    parked-same [] h = refl
+    parked-same (c ∷ cs) h = rw (h .0, h .1 .0, parked-same cs (h .1 .1))
+
+    report-same : Same reportReads → reportFair n b ≡ reportFair n b′
+    unfolding reportFair allCountsFair reportReads
+    report-same h =
+        let cs = parkedReads (below classCount) in
+        rw (record-same (left recordReads cs h), parked-same (below classCount) (right recordReads cs h))
 
     memory-same : (m : ℕ) → Same (cond (leb m rememberedMax) (memoryFits m ∷ []) []) → memoryFair b m ≡ memoryFair b′ m
     memory-same m h = by-cases (leb m rememberedMax) (λ e. rw (e, (rw e at h) .0)) (λ e. rw e)
@@ -284,6 +296,7 @@ module _ (b b′ : List ℕ) where
         known = λ h. rw (h .0) (record-same b b′ n (h .1));
         commit = λ m h. rw (h .0) (commit-same b b′ n m (h .1));
         give = λ m h. rw (h .0) (give-same b b′ n m (h .1));
+        report = λ h. rw (h .0) (report-same b b′ n (h .1));
         take = λ c sh h. rw (h .0) (take-same b b′ n (take-low c sh (h .1)) c sh (h .1));
         release = λ c sh m q h. rw (h .0) (release-same b b′ n (release-low c sh m q (h .1)) c sh m q (h .1));
         chunks = λ c sh gs h. rw (h .0) (chunks-same b b′ n (chunks-low c sh gs (h .1)) c sh gs (h .1));

@@ -11,5 +11,6 @@ pub mod ClassTables
 pub mod Game
 pub mod Listing
 pub mod Plan
+pub mod Idle
 pub mod ChangePlaces
 pub mod Reorders

@@ -12,13 +12,13 @@ use lib.Dec.{eqb, leb}
 use Rattle.facts.specs.Lists.{All}
 use Rattle.classes.specs.declared.Shape.{Shape}
 use Rattle.fields.specs.Field.{arena, class, size, frontier, partial, empty, cold, get}
-use Rattle.arena.specs.Fair.{recordFair, commitFair, giveFair}
+use Rattle.arena.specs.Fair.{recordFair, commitFair, giveFair, reportFair}
 use Rattle.pages.specs.declared.Park.the-variants.{Empty, Cold}
 use Rattle.calls.specs.Take.{walk, parkFair}
 use Rattle.calls.specs.Release.{releaseFair}
 use Rattle.calls.specs.Chunks.{chunksFair}
 use Rattle.demands.specs.Ranges.{Use, field, fits}
-use Rattle.demands.specs.Reads.{recordReads, commitReads, giveReads, takeReads, yieldAll, releaseReads, chunksReads}
+use Rattle.demands.specs.Reads.{recordReads, commitReads, giveReads, reportReads, takeReads, yieldAll, releaseReads, chunksReads}
 
 unfoldable pub takeFair : ℕ → List ℕ → ℕ → Shape → Bool
 takeFair n b c sh =
@@ -29,10 +29,11 @@ takeFair n b c sh =
     (commitFair n b (sh .pages))))
 
 pub record Number13 (b : List ℕ) : Type 0 where
-  -- growth, report
+  -- growth
   pub known : recordFair (get b (arena size)) b ≡ fits b recordReads
   pub commit : (m : ℕ) → commitFair (get b (arena size)) b m ≡ fits b (commitReads b m)
   pub give : (m : ℕ) → giveFair (get b (arena size)) b m ≡ fits b (giveReads m)
+  pub report : reportFair (get b (arena size)) b ≡ fits b reportReads
   pub take : (c : ℕ) (sh : Shape) → takeFair (get b (arena size)) b c sh ≡ (fits b (takeReads b c sh) && yieldAll b c sh)
   pub release : (c : ℕ) (sh : Shape) (m q : ℕ) → releaseFair (get b (arena size)) b c sh m q ≡ fits b (releaseReads b c sh m q)
   pub chunks : (c : ℕ) (sh : Shape) (gs : List ℕ) → chunksFair (get b (arena size)) b c sh gs ≡ fits b (chunksReads b c sh gs)
@@ -47,6 +48,7 @@ pub record RowsDecide (b b′ : List ℕ) : Type 0 where
   pub known : Alike b b′ recordReads → recordFair (get b (arena size)) b ≡ recordFair (get b′ (arena size)) b′
   pub commit : (m : ℕ) → Alike b b′ (commitReads b m) → commitFair (get b (arena size)) b m ≡ commitFair (get b′ (arena size)) b′ m
   pub give : (m : ℕ) → Alike b b′ (giveReads m) → giveFair (get b (arena size)) b m ≡ giveFair (get b′ (arena size)) b′ m
+  pub report : Alike b b′ reportReads → reportFair (get b (arena size)) b ≡ reportFair (get b′ (arena size)) b′
   pub take : (c : ℕ) (sh : Shape) → Alike b b′ (takeReads b c sh) → takeFair (get b (arena size)) b c sh ≡ takeFair (get b′ (arena size)) b′ c sh
   pub release : (c : ℕ) (sh : Shape) (m q : ℕ)
       → Alike b b′ (releaseReads b c sh m q)

@@ -1,6 +1,7 @@
 -- The words that number 13 is about: for each kind of call the rows of Specs/Ranges that it reads, along the call's own way through the
 -- book. "Another book word that the call reads": those that numbers 1 and 10 to 12 judge stand there.
---     recordReads    growth, a report, and within the next two
+--     recordReads    growth, and within the next three
+--     reportReads    a report
 --     commitReads    a commit of m pages, a take's too
 --     giveReads      a give of m pages, a release's too
 --     takeReads      a take, from its first source that has a page
@@ -14,6 +15,7 @@ use lib.Dec.{eqb, leb}
 use Rattle.facts.specs.Lists.{every, below}
 use Rattle.words.specs.Word.{countOf, pageOf}
 use Rattle.classes.specs.declared.Shape.{Shape}
+use Rattle.classes.specs.Shape.{classCount}
 use Rattle.fields.specs.Field.{arena, class, page, commits, commitsHigh, reuses, reusesHigh, abandoned, abandonedHigh, holes, partial, empty, cold, free, carved, listed, get}
 use Rattle.model.specs.HoleStore.{rememberedMax}
 use Rattle.model.specs.Spot.{isArena}
@@ -38,6 +40,14 @@ commitReads b m = recordReads ++ (cond (leb m rememberedMax) (memoryFits m ∷ [
 
 unfoldable pub giveReads : ℕ → List Use
 giveReads m = stateKnown ∷ frontierFits ∷ holesFew ∷ holePagesFew ∷ heldGives m ∷ countReads
+
+-- how many runs these classes have parked
+unfoldable pub parkedReads : List ℕ → List Use
+parkedReads [] = []
+parkedReads (c ∷ cs) = emptyFew c ∷ coldFew c ∷ parkedReads cs
+
+unfoldable pub reportReads : List Use
+reportReads = recordReads ++ parkedReads (below classCount)
 
 -- ---- a page that a take comes to, by a code of its run; m blocks are wanted
 -- the listed pages of the run at q

@@ -39,7 +39,7 @@ use Rattle.vigbuso.specs.Direct.{openOn, commitOn, CommitEnds, growOn, GrowEnds
 use Rattle.vigbuso.specs.Blocks as Blocks
 use Rattle.vigbuso.specs.Blocks.{takeOn, TakeEnds, ReleaseEnds, chunksOn, ChunksEnds}
 use Rattle.demands.specs.Ranges.{stateKnown, inRange, strays}
-use Rattle.demands.specs.Reads.{recordReads, commitReads, giveReads, takeReads, barren, releaseReads, chunksReads}
+use Rattle.demands.specs.Reads.{recordReads, commitReads, giveReads, reportReads, takeReads, barren, releaseReads, chunksReads}
 
 -- ---- when each number applies
 -- 1. "Arena length, given at opening or stored as the book's first word, is 0 (an empty book reads so) or above 262,144."
@@ -141,7 +141,7 @@ giveTable b h q m =
 abbrev pub reportTable : List ℕ → List Row
 reportTable b =
     let n = get b (arena size) in
-    (1, badLength n) ∷ (2, tooShort n b) ∷ (13, strays b recordReads) ∷ []
+    (1, badLength n) ∷ (2, tooShort n b) ∷ (13, strays b reportReads) ∷ []
 
 -- vigbuso_contains answers none of these: it is no where one applies
 abbrev pub containsTable : List ℕ → List Row

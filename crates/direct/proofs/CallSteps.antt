@@ -15,25 +15,22 @@ use Rattle.facts.proofs.Bools.{by-cases, and-left, and-no}
 use Rattle.words.specs.Limits.{maxPages}
 use Rattle.words.specs.Host.{commitGranted}
 use Rattle.fields.specs.Field.{arena, state, held, get}
-use Rattle.model.specs.declared.Figures.{Figures}
 use Rattle.model.specs.Heap.{badRun, badGrowth, direct}
 use Rattle.model.specs.Arena as Model
 use Rattle.holes.specs.declared.Arena.{Arena}
 use Rattle.runs.specs.declared.Commit.{Commit}
 use Rattle.runs.specs.declared.Commit.the-variants.{Refused}
 use Rattle.direct.specs.declared.Grow.{Grow}
-use Rattle.direct.specs.declared.Report.{Report}
-use Rattle.direct.specs.declared.Report.the-variants.{Told}
-use Rattle.arena.specs.Load.{statusOf, loadStore, loadArena}
+use Rattle.arena.specs.Load.{statusOf, loadArena}
 use Rattle.arena.specs.Owners.{ownerCode}
 use Rattle.holes.specs.Record.{recordOf}
 use Rattle.arena.specs.Fair.{recordFair, giveFair}
 use Rattle.arena.specs.Open.{cleared, headWords}
-use Rattle.arena.specs.Calls.{commitFor, commitCall, given, heldDirect, releaseCall, growCall, containsCall, figures}
+use Rattle.arena.specs.Calls.{commitFor, commitCall, given, heldDirect, releaseCall, growCall, containsCall}
 use Rattle.holes.specs.Act.{endNone, endRun, endGiven, settle, fromFrontier, growWith, growActs, clamped}
 use Rattle.runs.specs.Asks.{GiveIn, BookIn}
 use Rattle.runs.specs.Answer.{answerOf, Answers}
-use Rattle.direct.specs.Answer.{grownAs, growCommit, Grew, Grows, fairGrow, Releases, heldRelease, reportOf}
+use Rattle.direct.specs.Answer.{grownAs, growCommit, Grew, Grows, fairGrow, Releases, heldRelease}
 use Rattle.holes.proofs.Acts.{fair-record, grow-acts}
 use Rattle.holes.proofs.PlanLaws.{clamp-commit, clamp-grow, clamped-le}
 
@@ -120,24 +117,6 @@ module _ (n : ℕ) (b : List ℕ) (o k : ℕ) where
       (by-cases (leb k (n * 65536 - o))
       (λ t. let y = leb-true k (n * 65536 - o) t in rw (t, lt-ltb (o + k) (2 ^ 64) (omega arith), le-leb (o + k) (n * 65536) (omega arith)))
       (λ t. let y = leb-false k (n * 65536 - o) t in rw t (simp (lt-leb (o + k) (n * 65536) (omega arith), and-no))))
-
--- ---- report
-module _ (n : ℕ) (b : List ℕ) where
-  pub figures-below : (a : Arena) → recordFair n b ≡ true → a ≡ recordOf b → a .frontier ≤ n
-  figures-below a t e = let z = fair-record n b t in let y : a .frontier ≡ recordOf b .frontier = ap (λ x. x .frontier) e in let x = z .frontier in omega arith
-
-  pub figures-are : (a : Arena) (d : ℕ) → a ≡ recordOf b → d ≡ get b (arena held)
-      → record { commits = a .commits; reuses = a .reuses; abandoned = a .abandoned; held = d; idle = a .total + (n - a .frontier) } ≡ figures n b
-  unfolding loadArena loadStore
-  figures-are a d e f = rw (e, f)
-
-  pub told : (t : Bool) (r : Figures) → t ≡ recordFair n b → t ≡ true → r ≡ figures n b → Told r ≡ reportOf n b
-  unfolding reportOf
-  told t r e v f = rw (← e, v, f)
-
-  pub untold : (t : Bool) → t ≡ recordFair n b → t ≡ false → Report.Refused 13 ≡ reportOf n b
-  unfolding reportOf
-  untold t e v = rw (← e, v)
 
 -- ---- what number 12's test says
 pub direct-inside : (n : ℕ) (b : List ℕ) (q m : ℕ) (t : Bool) → t ≡ heldDirect n b q m → t ≡ true → q + m ≤ n

@@ -1,1 +1,2 @@
 mod CallSteps
+mod FigureSteps

@@ -14,7 +14,7 @@ use Rattle.direct.specs.declared.Grow.the-variants.{Yes, No}
 use Rattle.direct.specs.declared.Report.{Report}
 use Rattle.direct.specs.declared.Report.the-variants.{Told}
 use Rattle.arena.specs.Owners.{ownerCode}
-use Rattle.arena.specs.Fair.{recordFair, giveFair}
+use Rattle.arena.specs.Fair.{recordFair, giveFair, reportFair}
 use Rattle.arena.specs.Calls.{Committed, commitRefused, Done, doneRefused, given, figures}
 use Rattle.holes.specs.Act.{growActs}
 
@@ -57,4 +57,4 @@ heldRelease n b q m = cond (not (giveFair n b m)) (doneRefused b 13) (record { c
 
 -- a report
 unfoldable pub reportOf : ℕ → List ℕ → Report
-reportOf n b = cond (recordFair n b) (Told (figures n b)) (Report.Refused 13)
+reportOf n b = cond (reportFair n b) (Told (figures n b)) (Report.Refused 13)

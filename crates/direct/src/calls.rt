@@ -1,8 +1,6 @@
 // The direct calls, from number 6 on: the book is long enough for an arena of `size` pages.
 use super::Grow;
-use super::Report;
 use arena::DIRECT;
-use model::Figures;
 use runs::Commit;
 use runs::Request;
 use runs::give;
@@ -17,11 +15,11 @@ ghost use Rattle.words.specs.Limits.{maxPages};
 ghost use Rattle.model.specs.Heap.{badRun, badGrowth, direct};
 ghost use Rattle.arena.specs.Owners.{ownerCode};
 ghost use Rattle.arena.specs.Fair.{recordFair};
-ghost use Rattle.arena.specs.Calls.{commitCall, releaseCall, growCall, containsCall, figures};
+ghost use Rattle.arena.specs.Calls.{commitCall, releaseCall, growCall, containsCall};
 ghost use Rattle.holes.specs.Act.{clamped, growActs};
 ghost use Rattle.runs.specs.Asks.{BookIn};
 ghost use Rattle.runs.specs.Answer.{Answers};
-ghost use Rattle.direct.specs.Answer.{growCommit, Releases, Grows, Grew, fairGrow, reportOf, heldRelease};
+ghost use Rattle.direct.specs.Answer.{growCommit, Releases, Grows, Grew, fairGrow, heldRelease};
 
 fn bad_run(pages: u64) -> bool
     ensures { λ r. ⌜ r ≡ badRun pages ⌝ }
@@ -152,28 +150,4 @@ pub fn contains(meta: &[u32], size: u32, offset: u64, length: u64) -> bool
         return false;
     }
     length <= bytes - offset
-}
-
-fn figures(meta: &[u32], size: u32) -> Figures
-    requires { ⌜ BookIn (now meta) size × (recordFair size (now meta) ≡ true) ⌝ }
-    ensures { λ r. ⌜ r ≡ figures size (now (meta .entry)) ⌝ }
-{
-    let a = load::load_record(meta);
-    Figures {
-        commits: a.commits,
-        reuses: a.reuses,
-        abandoned: a.abandoned,
-        held: fields::arena::held(meta) as u64,
-        idle: (a.total as u64) + ((size - a.frontier) as u64),
-    }
-}
-
-pub fn report(meta: &[u32], size: u32) -> Report
-    requires { ⌜ BookIn (now meta) size ⌝ }
-    ensures { λ r. ⌜ r ≡ reportOf size (now (meta .entry)) ⌝ }
-{
-    if load::record_fair(meta, size) {
-        return Report::Told(figures(meta, size));
-    }
-    Report::Refused(13)
 }

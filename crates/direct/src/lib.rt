@@ -1,5 +1,6 @@
 // The calls that go straight to the arena: its direct calls, and opening.
 pub mod calls;
+pub mod figures;
 pub mod open;
 
 use model::Figures;

@@ -6,9 +6,7 @@ use crate::stores::store_count;
 use crate::stores::store_top;
 use classes::Shape;
 use pages::Park;
-
-// No store has more pages.
-const MAX_PARKED: u32 = 256;
+use words::limits::MAX_PARKED;
 
 // A page's own words, of which m blocks or more are out.
 pub fn header_fair(meta: &[u32], shape: Shape, m: usize, q: u32) -> bool

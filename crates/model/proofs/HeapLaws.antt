@@ -207,7 +207,7 @@ module _ (size n : ℕ) (H : Heap) (es : List Entry) (f : ℕ → Bool) (l : ℕ
   run-of none b = refl
   run-of (some q) b = refl
 
-  run-answered : (o : Option ℕ) (b : Bool) → isRefused (answerRun o b) ≡ false
+  pub run-answered : (o : Option ℕ) (b : Bool) → isRefused (answerRun o b) ≡ false
   run-answered none b = refl
   run-answered (some q) b = refl
 
@@ -285,7 +285,7 @@ module _ (size n : ℕ) (H : Heap) (es : List Entry) (f : ℕ → Bool) (l : ℕ
       all-stay [] = refl
       all-stay (e ∷ es) = rw (and-no (eqb (e .class) (d .class))) (ap (λ (t : List Entry). e ∷ t) (all-stay es))
 
-  route-inv : (x : Call) {w : Way} → Goes x w
+  pub route-inv : (x : Call) {w : Way} → Goes x w
       → Inv size (suc n) (route size H x w .heap) (liveNext n (names x) (route size H x w .answer) es) (directNext x (route size H x w .answer) f) (λ y. l y + callAbandons size H x w y)
   unfolding classCall interact finish classAbandons
   route-inv x (is-turned t) = rw (live-refused (names x) 3) (next-same x (Calls.refused 3) (refused-quiet x 3) (λ y. refl) .next)

@@ -1,4 +1,4 @@
--- Along every history the hole store is tidy: hence best fit, what is remembered, the total of the holes, and the figure of idle pages.
+-- Along every history the hole store is tidy: hence best fit, what is remembered, the total of the holes, and the figure of the arena's idle pages.
 use Prim.Native.Nat.{ℕ, _+_, _-_, _≤_}
 use mathlib.Core.Path.{_≡_, refl}
 use mathlib.Core.List.{List, [], _∷_}
@@ -19,7 +19,7 @@ use Rattle.model.specs.Page.{Page}
 use Rattle.model.specs.Class.{Class, Cold, Result, Ask, done, asks, serve, takeFrom}
 use Rattle.model.specs.Release.{Site, onPage, releaseList}
 use Rattle.model.specs.Chunks.{answer, releaseChunks}
-use Rattle.model.specs.Heap.{Heap, Outcome, newHeap, offer, finish, interact, classCall, badRun, badGrowth, commitCall, growCall, releaseCall, idlePages, unchanged, directCall, route, step}
+use Rattle.model.specs.Heap.{Heap, Outcome, newHeap, offer, finish, interact, classCall, badRun, badGrowth, commitCall, growCall, releaseCall, unchanged, directCall, route, step}
 use Rattle.model.specs.History.{heapFrom, heapAfter}
 use Rattle.model.specs.Demands.{BestFit}
 use Rattle.model.proofs.ArenaLaws.{idle}
@@ -150,7 +150,7 @@ module _ (size : ℕ) (xs : List Call) where
   idle-once : (x : ℕ) → idle x arena ≤ 1
   idle-once x = omega (arith, kept size xs .inv .one x)
 
-  pub idle-after : idlePages size arena ≡ total (λ x. idle x arena) (below size)
+  pub idle-after : arena .store .total + (size - arena .frontier) ≡ total (λ x. idle x arena) (below size)
   idle-after = idle-figure size arena tidy-after (kept size xs .inv .bound) idle-once
 
   -- every hole lies below the frontier

@@ -1,6 +1,6 @@
--- The idle pages: holes lie below the frontier, and the report's figure counts the pages in holes and at or above the frontier.
-use Prim.Native.Nat.{ℕ, zero, suc, _+_, _-_, _≤_}
-use mathlib.Core.Path.{_≡_, refl, sym, ap, _∙_}
+-- The arena's idle pages: holes lie below the frontier, and the report counts the pages in holes and at or above the frontier.
+use Prim.Native.Nat.{ℕ, _+_, _-_, _≤_}
+use mathlib.Core.Path.{_≡_, ap}
 use mathlib.Core.List.{List, [], _∷_}
 use mathlib.Core.Option.{some}
 use native.Mathlib.Omega.{arith}
@@ -11,9 +11,9 @@ use Rattle.facts.proofs.Bools.{by-cases}
 use Rattle.model.specs.Cover.{covers, coversRun}
 use Rattle.model.specs.declared.Hole.{Hole}
 use Rattle.model.specs.Arena.{Arena, commit}
-use Rattle.model.specs.Heap.{idlePages}
 use Rattle.model.specs.Ledger.{inHoles, above}
-use Rattle.model.proofs.Runs.{covers-in, above-at, above-not, above-cut}
+use Rattle.model.proofs.Runs.{covers-in, above-at}
+use Rattle.model.proofs.Sums.{zeros, total-plus, above-total, covers-total}
 use Rattle.model.proofs.HoleLists.{all-map}
 use Rattle.model.proofs.Remembers.{Tidy}
 use Rattle.model.proofs.ArenaLaws.{idle, commit-law}
@@ -42,34 +42,9 @@ holesBelow f (h ∷ hs) each k =
 pub holes-below : (a : Arena) → Tidy (a .store) → ((x : ℕ) → idle x a ≤ 1) → HolesBelow (a .frontier) (a .store .holes)
 holes-below a t k = holesBelow (a .frontier) (a .store .holes) (t .each) k
 
--- sums over the pages of the arena
-total-plus : {A : Type 0} (f g : A → ℕ) (l : List A) → total (λ x. f x + g x) l ≡ total f l + total g l
-total-plus f g [] = omega arith
-total-plus f g (x ∷ l) = let ih = total-plus f g l in omega arith
-
-total-same : {A : Type 0} (f g : A → ℕ) (l : List A) → ((x : A) → f x ≡ g x) → total f l ≡ total g l
-total-same f g [] e = refl
-total-same f g (x ∷ l) e = omega (arith, e x, total-same f g l e)
-
-above-total : (f size : ℕ) → total (above f) (below size) ≡ size - f
-above-total f zero = omega arith
-above-total f (suc s) =
-    let ih = above-total f s in
-    by-cases (ltb s f)
-    (λ e. omega (arith, above-not f s (ltb-true s f e), ltb-true s f e))
-    (λ e. omega (arith, above-at f s (ltb-false s f e), ltb-false s f e))
-
-covers-total : (n q size : ℕ) → q + n ≤ size → total (covers n q) (below size) ≡ n
-covers-total n q size l =
-    let both = sym (total-plus (covers n q) (above (q + n)) (below size)) ∙ total-same (λ x. covers n q x + above (q + n) x) (above q) (below size) (above-cut n q) in
-    omega (arith, both, above-total q size, above-total (q + n) size)
-
+-- the pages of the holes
 holes-total : (size : ℕ) (hs : List Hole) → HolesBelow size hs → total (λ x. total (λ h. covers (h .pages) (h .first) x) hs) (below size) ≡ total (λ h. h .pages) hs
 holes-total size [] k = zeros (below size)
-  where
-    zeros : (l : List ℕ) → total (λ x. 0) l ≡ 0
-    zeros [] = refl
-    zeros (x ∷ l) = let ih = zeros l in omega arith
 holes-total size (h ∷ hs) k =
     omega (
       arith,
@@ -78,7 +53,7 @@ holes-total size (h ∷ hs) k =
       holes-total size hs (k .1),
     )
 
-pub idle-figure : (size : ℕ) (a : Arena) → Tidy (a .store) → a .frontier ≤ size → ((x : ℕ) → idle x a ≤ 1) → idlePages size a ≡ total (λ x. idle x a) (below size)
+pub idle-figure : (size : ℕ) (a : Arena) → Tidy (a .store) → a .frontier ≤ size → ((x : ℕ) → idle x a ≤ 1) → a .store .total + (size - a .frontier) ≡ total (λ x. idle x a) (below size)
 idle-figure size a t l k =
     let low = all-map (λ h. h .first + h .pages ≤ a .frontier) (λ h. h .first + h .pages ≤ size) (λ h b. omega arith) (a .store .holes) (holes-below a t k) in
     omega (

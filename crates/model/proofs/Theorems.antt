@@ -9,12 +9,13 @@ use Rattle.words.specs.Limits.{maxPages}
 use Rattle.classes.specs.Shape.{shapeOf}
 use Rattle.model.specs.Calls.{Call, Request}
 use Rattle.model.specs.Chunks.{answer}
-use Rattle.model.specs.Heap.{Heap}
-use Rattle.model.specs.History.{events}
-use Rattle.model.specs.Demands.{BestFit, Yielding, Outs, Conserved, Demand3, IsoDisjoint, Commute, StaysHome}
+use Rattle.model.specs.Heap.{Heap, figures}
+use Rattle.model.specs.History.{events, heapAfter}
+use Rattle.model.specs.Demands.{BestFit, Yielding, Outs, Conserved, Figured, Demand3, IsoDisjoint, Commute, StaysHome}
 use Rattle.model.proofs.HistoryArena as Arenas
 use Rattle.model.proofs.Yields as Yields
 use Rattle.model.proofs.Conserved as Pages
+use Rattle.model.proofs.Figured as Figures
 use Rattle.model.proofs.Alone as Alone
 use Rattle.model.proofs.Apart as Apart
 use Rattle.model.proofs.Outs as Blocks
@@ -38,8 +39,11 @@ conserved size xs = record {
   classes = Pages.one-run size xs;
   direct = Pages.told-direct size xs;
   holeTotal = Arenas.hole-total size xs;
-  idle = Arenas.idle-after size xs;
 }
+
+-- document 02, A.5: a report's figures
+pub figured : (size : ℕ) (xs : List Call) → Figured size xs (figures size (heapAfter size xs))
+figured = Figures.figured
 
 -- Demand 3, both halves; a word has room for the granules of no longer arena
 pub demand-3 : (size : ℕ) → size ≤ maxPages → Demand3 size

@@ -8,15 +8,17 @@ use mathlib.Core.Option.{some}
 use Rattle.facts.specs.Lists.{total, below}
 use Rattle.classes.specs.Sizes.{pageBytes}
 use Rattle.classes.specs.Shape.{shapeOf}
+use Rattle.model.specs.declared.Figures.{Figures}
 use Rattle.model.specs.Calls.{Call, Named, names, Request, take, listOf, Answer, isRefused}
 use Rattle.model.specs.Arena as Arenas
 use Rattle.model.specs.Class.{Class, Ask, done}
 use Rattle.model.specs.Release.{outHere}
 use Rattle.model.specs.Chunks.{answer}
-use Rattle.model.specs.Heap.{Heap, isHeld, isDirect, idlePages, classCall, step}
+use Rattle.model.specs.Heap.{Heap, isHeld, isDirect, classCall, step}
 use Rattle.model.specs.History.{Event, events, heapAfter, callsOf, answersOf, runsOf}
 use Rattle.model.specs.Entries.{Entry, Live, OutIn, AllOut, HasByte, firstByte, blockBytes, directAfter}
 use Rattle.model.specs.Ledger.{inHoles, above, runsWith, heldBy, abandonedFrom}
+use Rattle.model.specs.Held.{gained, lost, parkedAt, idleAt}
 use Rattle.model.specs.BestFit.{Commits, Remembers}
 use Rattle.model.specs.Yields.{Listed, TakeYields}
 use Rattle.model.specs.Heap.{newHeap}
@@ -37,13 +39,26 @@ pub record Outs (size : ℕ) (xs : List Call) : Type 0 where
   pub out : (c w : ℕ) → (outHere (shapeOf c) (heapAfter size xs .classes c) w ≡ true) ↔ OutIn (events size xs) c w
   pub released : (x : Call) (d : Named) → names x ≡ some d → isRefused (step size (heapAfter size xs) x .answer) ≡ false → AllOut (events size xs) (d .class) (listOf (d .request))
 
--- Conservation: every page is in exactly one place, and the report's figures count these places
+-- Conservation: every page is in exactly one place
 pub record Conserved (size : ℕ) (xs : List Call) : Type 0 where
   pub one : (x : ℕ) → isHeld (heapAfter size xs .holder x) + inHoles x (heapAfter size xs .arena) + above (heapAfter size xs .arena .frontier) x + abandonedFrom size newHeap xs x ≡ 1
   pub classes : (c x : ℕ) → runsWith (shapeOf c) x (heapAfter size xs .classes c) ≡ heldBy c (heapAfter size xs .holder x)
   pub direct : (x : ℕ) → directAfter (events size xs) x ≡ isDirect (heapAfter size xs .holder x)
   pub holeTotal : heapAfter size xs .arena .store .total ≡ total (λ h. h .pages) (heapAfter size xs .arena .store .holes)
-  pub idle : idlePages size (heapAfter size xs .arena) ≡ total (λ x. inHoles x (heapAfter size xs .arena) + above (heapAfter size xs .arena .frontier) x) (below size)
+
+-- Document 02, A.5: the figures of a report after the history count pages
+pub record Figured (size : ℕ) (xs : List Call) (f : Figures) : Type 0 where
+  -- those held, by the history: commits answered and growths answered yes add, gives take off, for classes and direct calls alike
+  pub held-history : gained (events size xs) ≡ f .held + lost (events size xs)
+  pub held-counts : f .held ≡ total (λ x. isHeld (heapAfter size xs .holder x)) (below size)
+  -- those idle, each once
+  pub idle-counts : f .idle ≡ total (idleAt (heapAfter size xs)) (below size)
+  pub idle-once : (x : ℕ) → idleAt (heapAfter size xs) x ≤ 1
+  -- those parked: a page is held and idle exactly if it is one of them
+  pub overlap-counts : f .overlap ≡ total (parkedAt (heapAfter size xs)) (below size)
+  pub overlap-both : (x : ℕ) → ((isHeld (heapAfter size xs .holder x) ≡ 1) × (idleAt (heapAfter size xs) x ≡ 1)) ↔ (parkedAt (heapAfter size xs) x ≡ 1)
+  -- the pages held or idle, and those abandoned, are the arena's
+  pub arena-whole : f .held + f .idle + total (abandonedFrom size newHeap xs) (below size) ≡ size + f .overlap
 
 -- Demand 3, second half: two entries not yet released share a byte exactly when they are the same entry, and none has a byte of a
 -- page held by the direct calls

@@ -11,7 +11,7 @@ use Rattle.classes.specs.Sizes.{granuleBytes}
 use Rattle.classes.specs.Shape.{shapeOf}
 use Rattle.classes.specs.Examples as Lookups
 use Rattle.model.specs.declared.Hole.{Hole}
-use Rattle.model.specs.Calls.{Call, takeBlocks, mediumTakeBlocks, releaseBlocks, releaseBinChunks, commit, growFrontier, release, contains, report, Answer, refused, taken, fate, fates, run, noRun, released, grown, contained, reported}
+use Rattle.model.specs.Calls.{Call, takeBlocks, mediumTakeBlocks, releaseBlocks, mediumReleaseBlocks, releaseBinChunks, commit, growFrontier, release, contains, report, Answer, refused, taken, fate, fates, run, noRun, released, grown, contained, reported}
 use Rattle.model.specs.HoleStore.{hole, store, choose, accepts}
 use Rattle.model.specs.Page.{Page, carveAs}
 use Rattle.model.specs.Class.{newClass, lists, Ask, serve, takeFrom}
@@ -129,7 +129,11 @@ rules =
     (run 0 true ∷ grown false ∷ grown false ∷ run 2 false ∷ run 5 true ∷ []) []
     -- "these counts, pages held, and idle pages": a fresh run is no reuse
     ∷ onNewHeap (commit 15 5 ∷ commit 15 4 ∷ release 15 0 5 ∷ commit 15 1 ∷ report ∷ [])
-    (run 0 true ∷ run 5 true ∷ released ∷ run 0 false ∷ reported (record { commits = 3; reuses = 1; abandoned = 0; held = 5; idle = 59 }) ∷ []) (hole 1 4 ∷ [])
+    (run 0 true ∷ run 5 true ∷ released ∷ run 0 false ∷ reported (record { commits = 3; reuses = 1; abandoned = 0; held = 5; idle = 59; overlap = 0 }) ∷ []) (hole 1 4 ∷ [])
+    -- "Idle shall also count pages in the empty and cold stores of every class" (document 02, A.5): four empty pages, one of them retired,
+    -- a cold one and a span of three; not the page with a block out
+    ∷ onNewHeap (map (λ q. take45) (below 6) ++ map (λ q. give45 15 (threeOf (q * 4096))) (5 ∷ 4 ∷ 3 ∷ []) ++ releaseBinChunks 45 15 (threeOf 8192) (chunkWord 3 2 ∷ []) (9 ∷ []) ∷ give45 15 (threeOf 4096) ∷ give45 15 (smalls (2051 ∷ 1027 ∷ [])) ∷ mediumTakeBlocks 0 15 (lent 10) ∷ mediumReleaseBlocks 0 15 (mediums (rising 393280 18432 10)) ∷ report ∷ [])
+    (map (λ q. taken45 (q * 4096) true) (0 ∷ 1 ∷ 2 ∷ 3 ∷ 4 ∷ 5 ∷ []) ++ fate 0 ∷ fate 0 ∷ fate 0 ∷ fates (4 ∷ []) ∷ fate 1 ∷ fate 0 ∷ taken 10 (mediums (rising 393280 18432 10)) true ∷ fate 0 ∷ reported (record { commits = 7; reuses = 0; abandoned = 0; held = 9; idle = 63; overlap = 8 }) ∷ []) []
     -- "Both then set the memory of the length the hole had": two holes of 5 pages are left after one is cut
     ∷ onNewHeap (commit 15 18 ∷ release 15 0 5 ∷ release 15 6 5 ∷ release 15 12 5 ∷ commit 15 3 ∷ commit 15 5 ∷ [])
     (run 0 true ∷ released ∷ released ∷ released ∷ run 0 false ∷ run 6 false ∷ []) (hole 3 2 ∷ hole 12 5 ∷ [])

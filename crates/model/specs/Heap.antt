@@ -1,12 +1,13 @@
 -- The heap: the arena, who holds each page, the classes; and one call of it.
-use Prim.Native.Nat.{ℕ, _+_, _-_, _^_}
+use Prim.Native.Nat.{ℕ, _+_, _-_, _*_, _^_}
 use mathlib.Core.Option.{Option, none, some}
 use mathlib.Core.Bool.{Bool, true, false, cond, not, _&&_, _||_}
 use lib.Dec.{eqb, leb}
+use lib.ListN.{length}
 use Rattle.facts.specs.Lists.{every, total, update, below}
 use Rattle.model.specs.Cover.{covers, coversAll, coversRun}
 use Rattle.classes.specs.declared.Shape.{Shape}
-use Rattle.classes.specs.Shape.{shapeOf}
+use Rattle.classes.specs.Shape.{shapeOf, classCount}
 use Rattle.model.specs.declared.Hole.{Hole}
 use Rattle.model.specs.declared.Figures.{Figures}
 use Rattle.model.specs.Calls as Calls
@@ -116,19 +117,31 @@ growCall size H h q old new =
 unfoldable pub releaseCall : Heap → ℕ → ℕ → Outcome
 releaseCall H q n = unchanged (withPages (Arenas.give n q (H .arena)) (passTo nobody (covers n q) (H .holder)) H) released
 
--- "these counts, pages held, and idle pages, which are hole pages plus those above the frontier"
+-- "these counts, pages held, and idle pages"
 abbrev pub heldPages : ℕ → Heap → ℕ
 heldPages size H = total (λ x. isHeld (H .holder x)) (below size)
 
-abbrev pub idlePages : ℕ → Arena → ℕ
-idlePages size a = a .store .total + (size - a .frontier)
+-- the runs that a class has parked; the pages of all parked runs, where class c has `runs c` of them
+abbrev pub parkedRuns : Class → ℕ
+parkedRuns s = length (s .empty) + length (s .cold)
 
--- of an arena with so many pages held
-abbrev pub figuresWith : ℕ → Arena → ℕ → Figures
-figuresWith size a k = record { commits = a .commits; reuses = a .reuses; abandoned = a .abandoned; held = k; idle = idlePages size a }
+unfoldable pub parkedPages : (ℕ → ℕ) → ℕ
+parkedPages runs = total (λ c. runs c * shapeOf c .pages) (below classCount)
+
+-- idle pages "are hole pages plus those above the frontier" and, by document 02, A.5, "also .. pages in the empty and cold stores of
+-- every class": these are held as well, so they are the overlap
+abbrev pub figuresWith : ℕ → Arena → (held parked : ℕ) → Figures
+figuresWith size a held parked = record {
+  commits = a .commits;
+  reuses = a .reuses;
+  abandoned = a .abandoned;
+  held = held;
+  idle = a .store .total + (size - a .frontier) + parked;
+  overlap = parked;
+}
 
 abbrev pub figures : ℕ → Heap → Figures
-figures size H = figuresWith size (H .arena) (heldPages size H)
+figures size H = figuresWith size (H .arena) (heldPages size H) (parkedPages (λ c. parkedRuns (H .classes c)))
 
 -- a call that names no class of ours: number 4
 abbrev pub noClass : Heap → Outcome

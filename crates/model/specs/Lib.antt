@@ -11,6 +11,7 @@ pub mod Heap
 pub mod History
 pub mod Entries
 pub mod Ledger
+pub mod Held
 pub mod BestFit
 pub mod Yields
 pub mod Demands

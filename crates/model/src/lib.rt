@@ -14,11 +14,12 @@ pub enum Spot {
     ToArena,
 }
 
-// A report's figures: three counts, pages held, idle pages.
+// A report's figures: three counts, pages held, idle pages, and how many pages are both.
 pub struct Figures {
     pub commits: u64,
     pub reuses: u64,
     pub abandoned: u64,
     pub held: u64,
     pub idle: u64,
+    pub overlap: u64,
 }

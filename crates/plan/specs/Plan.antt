@@ -7,9 +7,7 @@ use lib.Dec.{eqb, leb, ltb}
 use lib.ListN.{length}
 use Rattle.facts.specs.Lists.{total, below, every}
 use Rattle.classes.specs.Shape.{shapeOf}
-
-abbrev pub classCount : ℕ
-classCount = 76
+pub use Rattle.classes.specs.Shape.{classCount}
 
 -- a division rounded up
 abbrev pub ceil : ℕ → ℕ → ℕ

@@ -1,11 +1,10 @@
 // The pages for so many takes, of one class and of all.
+use classes::CLASS_COUNT;
 ghost use mathlib.Core.Path.{_≡_};
 ghost use Prim.Native.Nat.{_≤_, _*_};
 ghost use lib.ListN.{getD};
 ghost use Rattle.plan.specs.Plan.{pagesFor, pagesOf};
 ghost use Rattle.plan.specs.Code.{sumMax, Low};
-
-const CLASS_COUNT: usize = 76;
 
 // A run has at most 8 pages, so no sum over the classes wraps.
 fn pages_for(class: u32, takes: u64) -> u64
@@ -26,9 +25,9 @@ pub fn sum_pages(sums: &[u64; 76]) -> u64
     ensures { λ r. ⌜ r ≡ pagesOf (λ c. getD (now (sums .entry)) c 0) ⌝ }
 {
     let mut sum: u64 = 0;
-    let mut c: usize = 0;
+    let mut c = 0;
     while c < CLASS_COUNT {
-        sum += pages_for(c as u32, sums[c]);
+        sum += pages_for(c, sums[c as usize]);
         c += 1;
     }
     sum

@@ -14,6 +14,7 @@ use Rattle.facts.specs.Lists.{every, total, count, below}
 use Rattle.facts.proofs.Bools.{by-cases}
 use Rattle.classes.specs.declared.Shape.{Shape}
 use Rattle.model.specs.Page.{wordOf, wordsFrom}
+use Rattle.model.proofs.Sums.{total-plus}
 use Rattle.words.specs.Host.{digit}
 use Rattle.pages.specs.Stack.{tops, downs}
 use Rattle.pages.proofs.Downs.{digit-true, digit-false, digit-cases, eq-cases}
@@ -60,10 +61,6 @@ pub count-downs-zero : (j k : ℕ) → count j (downs 0 k) ≡ digit (ltb j k)
 count-downs-zero j k = omega (arith, count-downs j 0 k, digit-false j 0 (omega arith), ap (λ z. digit (ltb j z)) (zero-add k))
 
 -- ---- how long a list is by its counts
-total-plus : (f g : ℕ → ℕ) (l : List ℕ) → total (λ x. f x + g x) l ≡ total f l + total g l
-total-plus f g [] = omega arith
-total-plus f g (x ∷ l) = let ih = total-plus f g l in omega arith
-
 total-one : (x m : ℕ) → total (λ i. cond (eqb i x) 1 0) (below m) ≡ digit (ltb x m)
 total-one x zero = sym (digit-false x 0 (omega arith))
 total-one x (suc m) =

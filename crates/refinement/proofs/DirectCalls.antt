@@ -1,8 +1,7 @@
 -- Every direct call on the words answers what the model answers, number by number, is never refused by number 13, and leaves a book that
 -- stands for the model's arena and holders.
 --     held-direct       number 12's test on the words is the model's
---     direct-agrees     every call that names no class, in the arena's part
---     direct-represents    the same for the whole book
+--     direct-represents    every call that names no class, on the whole book
 use Prim.Native.Nat.{ℕ, suc, _+_, _-_, _≤_, _<_}
 use native.Mathlib.Omega.{arith}
 use mathlib.Core.Bool.{Bool, true, false, cond, not, _&&_, _||_, true≢false, false≢true}
@@ -39,6 +38,7 @@ use Rattle.refinement.proofs.CommitRep.{commit-for, commit-rep, grow-re
 use Rattle.refinement.proofs.GiveRep.{give-fair, give-rep}
 use Rattle.refinement.proofs.ArenaRuns.{isOf, direct-other, commit-whole, grow-whole, given-step, give-whole}
 use Rattle.refinement.proofs.ArenaKeeps.{step-class}
+use Rattle.refinement.proofs.Reported.{Classes, report-passes, parked-same}
 
 -- what a call leaves alone of the classes: their rows, their pages' words but OWNER, and their runs
 record Beside (n : ℕ) (b b′ : List ℕ) : Type 0 where
@@ -193,30 +193,27 @@ module _ (n : ℕ) (b : List ℕ) (H : Heap) (rep : ArenaRep n b H) (r : Reached
   unfolding containsCall directCall
   settle-contains o k = rw (rep .loads) (settle-same 0 (λ z. omega arith) (Calls.contained (Model.contains n o k (H .arena))))
 
-  settle-report : Settled (reply (reportCode n b) (Calls.reported (figures n b)) b) (directCall n H Calls.report)
+  settle-report : Classes n b H → Settled (reply (reportCode n b) (Calls.reported (figures n b)) b) (directCall n H Calls.report)
   unfolding reportCode directCall
-  settle-report = rw (record-passes n b H rep r, rep .loads, rep .held) (settle-same 0 (λ z. omega arith) (Calls.reported (Heaps.figures n H)))
+  settle-report cs = rw (report-passes n b H cs (record-passes n b H rep r), rep .loads, rep .held, parked-same n b H cs) (settle-same 0 (λ z. omega arith) (Calls.reported (Heaps.figures n H)))
 
-  settle-direct : (x : Call) → Settled (directReply n b x) (directCall n H x)
+  settle-direct : Classes n b H → (x : Call) → Settled (directReply n b x) (directCall n H x)
   unfolding directReply directCall
-  settle-direct (Calls.takeBlocks c h l) = settle-refused 4 (λ z. omega arith)
-  settle-direct (Calls.mediumTakeBlocks c h l) = settle-refused 4 (λ z. omega arith)
-  settle-direct (Calls.releaseBlocks c h ws) = settle-refused 4 (λ z. omega arith)
-  settle-direct (Calls.mediumReleaseBlocks c h ws) = settle-refused 4 (λ z. omega arith)
-  settle-direct (Calls.releaseBinChunks c h ws gs fs) = settle-refused 4 (λ z. omega arith)
-  settle-direct (Calls.commit h m) = settle-commit h m
-  settle-direct (Calls.growFrontier h q old new) = settle-grow h q old new
-  settle-direct (Calls.release h q m) = settle-release h q m
-  settle-direct (Calls.contains o k) = settle-contains o k
-  settle-direct Calls.report = settle-report
-
-  pub direct-agrees : (x : Call) → Agrees (ArenaRep n) (directReply n b x) (directCall n H x)
-  direct-agrees x = settle-direct x .agrees
+  settle-direct cs (Calls.takeBlocks c h l) = settle-refused 4 (λ z. omega arith)
+  settle-direct cs (Calls.mediumTakeBlocks c h l) = settle-refused 4 (λ z. omega arith)
+  settle-direct cs (Calls.releaseBlocks c h ws) = settle-refused 4 (λ z. omega arith)
+  settle-direct cs (Calls.mediumReleaseBlocks c h ws) = settle-refused 4 (λ z. omega arith)
+  settle-direct cs (Calls.releaseBinChunks c h ws gs fs) = settle-refused 4 (λ z. omega arith)
+  settle-direct cs (Calls.commit h m) = settle-commit h m
+  settle-direct cs (Calls.growFrontier h q old new) = settle-grow h q old new
+  settle-direct cs (Calls.release h q m) = settle-release h q m
+  settle-direct cs (Calls.contains o k) = settle-contains o k
+  settle-direct cs Calls.report = settle-report cs
 
 -- the whole book
 pub direct-represents : (n : ℕ) (b : List ℕ) (H : Heap) → Represents n b H → Reached n H → (x : Call) → Agrees (Represents n) (directReply n b x) (directCall n H x)
 direct-represents n b H rep r x =
-    let s = settle-direct n b H (rep .arena) r x in
+    let s = settle-direct n b H (rep .arena) r (rep .classes) x in
     let e = s .beside in
     let c = directReply n b x .book in
     record {

@@ -25,6 +25,7 @@ pub mod Sources
 pub mod Take
 pub mod CommitRuns
 pub mod ArenaKeeps
+pub mod Reported
 pub mod DirectCalls
 pub mod GiveClass
 pub mod Pushes

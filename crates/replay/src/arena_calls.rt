@@ -49,12 +49,13 @@ pub fn contains(meta: &mut [u32], line: &Numbers, mut answers: Words) -> Words {
 }
 
 pub fn report(meta: &mut [u32], mut answers: Words) -> Words {
-    let mut figures: [u64; 5] = [0; 5];
+    let mut figures: [u64; 6] = [0; 6];
     answers[0] = vigbuso::arena_calls::vigbuso_report(meta, &mut figures);
     answers[1] = low(figures[0]);
     answers[2] = low(figures[1]);
     answers[3] = low(figures[2]);
     answers[4] = low(figures[3]);
     answers[5] = low(figures[4]);
+    answers[6] = low(figures[5]);
     answers
 }

@@ -84,10 +84,10 @@ reportCode (Told f) = 0
 -- the figures as a list, and read from it
 abbrev pub figuresOut : Report → List ℕ → List ℕ
 figuresOut (Report.Refused k) old = old
-figuresOut (Told f) old = f .commits ∷ f .reuses ∷ f .abandoned ∷ f .held ∷ f .idle ∷ []
+figuresOut (Told f) old = f .commits ∷ f .reuses ∷ f .abandoned ∷ f .held ∷ f .idle ∷ f .overlap ∷ []
 
 abbrev pub figuresIn : List ℕ → Figures
-figuresIn fs = record { commits = getD fs 0 0; reuses = getD fs 1 0; abandoned = getD fs 2 0; held = getD fs 3 0; idle = getD fs 4 0 }
+figuresIn fs = record { commits = getD fs 0 0; reuses = getD fs 1 0; abandoned = getD fs 2 0; held = getD fs 3 0; idle = getD fs 4 0; overlap = getD fs 5 0 }
 
 pub record ReportEnds (o : Report) (r : ℕ) (fs fs′ : List ℕ) : Type 0 where
   pub code : r ≡ reportCode o

@@ -14,7 +14,7 @@ ghost use Rattle.vigbuso.specs.Direct.{openOn, commitOn, CommitEnds, gro
 const NO_PAGE: u32 = 4_294_967_295;
 
 // How many figures a report has.
-pub const FIGURES: usize = 5;
+pub const FIGURES: usize = 6;
 
 #[no_mangle]
 pub extern "C" fn vigbuso_open(meta: &mut [u32], pages: u64) -> u32
@@ -136,7 +136,7 @@ fn report_on(meta: &[u32]) -> Report
         return Report::Refused(fault);
     }
     let size = fields::arena::size(meta);
-    direct::calls::report(meta, size)
+    direct::figures::report(meta, size)
 }
 
 #[no_mangle]
@@ -146,7 +146,7 @@ pub extern "C" fn vigbuso_report(meta: &[u32], figures: &mut [u64; FIGURES]) -> 
     match report_on(meta) {
         Report::Refused(k) => k,
         Report::Told(f) => {
-            *figures = [f.commits, f.reuses, f.abandoned, f.held, f.idle];
+            *figures = [f.commits, f.reuses, f.abandoned, f.held, f.idle, f.overlap];
             0
         }
     }

@@ -1,7 +1,7 @@
 -- What the contract of each exported function says of a call is what the demands say of it.
 use Prim.Native.Nat.{ℕ}
 use mathlib.Core.List.{List}
-use mathlib.Core.Path.{_≡_, sym, _∙_}
+use mathlib.Core.Path.{_≡_, sym, _∙_, subst}
 use Rattle.words.specs.Host.{digit}
 use Rattle.tables.specs.Table.{classTable, TableEnds}
 use Rattle.game.specs.Game.{askerWins, GameEnds}
@@ -25,6 +25,7 @@ use Rattle.demands.specs.Listing.{OnePageTwoCalls}
 use Rattle.demands.proofs.Listing.{short-histories}
 use Rattle.witness.specs.Seen.{Opened, TakeSeen, ListSeen, ChunksSeen, CommitSeen, GrowSeen, GiveSeen, ContainsSeen, ReportSeen, TableSeen, GameSeen, PlanSeen, ListingSeen}
 use Rattle.demands.proofs.Plan.{fits}
+use Rattle.demands.proofs.Idle.{idle}
 
 module _ (b : List ℕ) (r : ℕ) (b′ : List ℕ) where
   pub open-seen : (n : ℕ) → Did r b′ (openOn b n) → Opened n r b b′
@@ -64,7 +65,10 @@ module _ (b : List ℕ) (r : ℕ) where
   contains-seen o k e = record { number = contains-answers b o k r e; replies = shows-call (Shows.contains o k r e) }
 
   pub report-seen : (fs fs′ : List ℕ) → ReportEnds (reportOn b) r fs fs′ → ReportSeen r b fs fs′
-  report-seen fs fs′ e = record { number = report-refuses b r fs fs′ e; replies = shows-call (Shows.report r fs fs′ e) }
+  report-seen fs fs′ e = record {
+    seen = record { number = report-refuses b r fs fs′ e; replies = shows-call (Shows.report r fs fs′ e) };
+    idle = λ n b₀ o xs d. idle n b₀ o xs r fs fs′ (subst (λ c. ReportEnds (reportOn c) r fs fs′) d e);
+  }
 
 module _ (r : ℕ) (l l′ : List ℕ) where
   pub table-seen : (a b top slots : ℕ) → TableEnds (classTable a b top slots l) r l′ → TableSeen a b top slots r l l′

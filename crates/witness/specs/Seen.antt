@@ -21,6 +21,7 @@ use Rattle.demands.specs.Refusals.{Refuses, Contains, openTable, commitTable, g
 use Rattle.demands.specs.ClassTables.{ClassTable, Reaches}
 use Rattle.demands.specs.Game.{AskerWins}
 use Rattle.demands.specs.Plan.{Fits}
+use Rattle.demands.specs.Idle.{Idle}
 use Rattle.demands.specs.Listing.{ShortHistories}
 
 -- Same: all that the call was lent to write is as it was
@@ -69,8 +70,10 @@ GiveSeen x r b b′ = Seen b x r (reply r released b′) (b′ ≡ b)
 abbrev pub ContainsSeen : Call → ℕ → List ℕ → Type 0
 ContainsSeen x r b = Seen b x r (reply 0 (contained (eqb r 1)) b) (Unit {0})
 
-abbrev pub ReportSeen : ℕ → (b fs fs′ : List ℕ) → Type 0
-ReportSeen r b fs fs′ = Seen b Calls.report r (reply r (reported (figuresIn fs′)) b) (fs′ ≡ fs)
+-- and what the figures count on a book that a history left
+pub record ReportSeen (r : ℕ) (b fs fs′ : List ℕ) : Type 0 where
+  pub seen : Seen b Calls.report r (reply r (reported (figuresIn fs′)) b) (fs′ ≡ fs)
+  pub idle : (n : ℕ) (b₀ : List ℕ) → Opens n b₀ → (xs : List Call) → b ≡ bookAfter n b₀ xs → Idle n xs r fs′
 
 -- ---- class tables: the same of a call that is lent no book
 pub record TableSeen (a b top slots r : ℕ) (l l′ : List ℕ) : Type 0 where

@@ -55,6 +55,11 @@ impl Blocks {
         Ok(self.0.heap_mut().release_run(run)?)
     }
 
+    /// Blocks that no record stands in and that are out nevertheless.
+    pub fn stock(&self) -> impl Iterator<Item = Block> + '_ {
+        self.0.stock()
+    }
+
     pub fn report(&self) -> Outcome<Report> {
         Ok(self.0.report()?.arena)
     }

@@ -1,16 +1,19 @@
 //! Whose each page of the arena is, as far as the caller's own calls tell.
 
+use std::collections::BTreeSet;
 use std::ops::Range;
 
-use super::blocks::{self, Class, Report, PAGE_BYTES};
+use super::blocks::{self, Block, Class, Report, PAGE_BYTES};
 use super::Outcome;
 
 #[derive(Clone, Copy, PartialEq, Eq, PartialOrd, Ord, Debug)]
 pub enum Holder {
     /// The direct calls.
     Direct,
-    /// A class: a block of it was seen there.
+    /// A class: a block of it is out there.
     Class(Class),
+    /// A class, with no block of it out: idle all the same.
+    Parked(Class),
     /// Nobody, any more.
     Hole,
     /// Nobody, ever.
@@ -23,13 +26,14 @@ impl Holder {
         match self {
             Holder::Direct => "direct run".into(),
             Holder::Class(class) => blocks::name(class),
+            Holder::Parked(class) => format!("parked, {}", blocks::name(class)),
             Holder::Hole => "hole".into(),
             Holder::Fresh => "fresh".into(),
         }
     }
 
-    fn is_idle(self) -> bool {
-        matches!(self, Holder::Hole | Holder::Fresh)
+    fn is_busy(self) -> bool {
+        matches!(self, Holder::Direct | Holder::Class(_))
     }
 }
 
@@ -56,9 +60,14 @@ impl Pages {
         self.0[pages].fill(Page { holder, first, in_use: 0 });
     }
 
-    /// The pages with what is in use. It must agree with what the heap reports, where an empty page of a class may have
-    /// been given back.
-    pub fn with(&self, records: impl Iterator<Item = Range<usize>>, report: Report) -> Outcome<Pages> {
+    /// The pages with what is in use, and the parked ones as such: those of a class with no record and no block in stock. It
+    /// must agree with what the heap reports, where a parked page may have been given back.
+    pub fn with(
+        &self,
+        records: impl Iterator<Item = Range<usize>>,
+        stock: impl Iterator<Item = Block>,
+        report: Report,
+    ) -> Outcome<Pages> {
         let mut pages = self.clone();
         for page in pages.0.iter_mut().filter(|page| page.holder == Holder::Direct) {
             page.in_use = PAGE_BYTES;
@@ -69,11 +78,24 @@ impl Pages {
                 pages.0[page].in_use += end - bytes.start.max(page * PAGE_BYTES);
             }
         }
-        let held = pages.0.iter().filter(|page| !page.holder.is_idle()).count();
-        let in_use = pages.0.iter().filter(|page| page.in_use > 0).count();
-        match report.held as usize {
-            reported if (in_use..=held).contains(&reported) => Ok(pages),
-            _ => Err(format!("{in_use} to {held} pages seem held, but the heap says: {report}").into()),
+        pages.park(stock);
+        let busy = pages.0.iter().filter(|page| page.holder.is_busy()).count() as u64;
+        let parked = pages.0.iter().filter(|page| matches!(page.holder, Holder::Parked(_))).count() as u64;
+        match (report.held - report.overlap, report.overlap) {
+            (held, overlap) if held == busy && overlap <= parked => Ok(pages),
+            _ => Err(format!("{busy} pages seem busy and {parked} parked, but the heap says: {report}").into()),
+        }
+    }
+
+    /// The runs of a class without a byte in use and without one of these blocks are parked.
+    fn park(&mut self, stock: impl Iterator<Item = Block>) {
+        let stocked = stock.map(|block| self.0[block.page() as usize].first);
+        let used = self.0.iter().filter(|page| page.in_use > 0).map(|page| page.first);
+        let out: BTreeSet<usize> = stocked.chain(used).collect();
+        for page in self.0.iter_mut().filter(|page| !out.contains(&page.first)) {
+            if let Holder::Class(class) = page.holder {
+                page.holder = Holder::Parked(class);
+            }
         }
     }
 

@@ -25,6 +25,7 @@ fn symbols(pages: &Pages) -> BTreeMap<Holder, char> {
         Holder::Direct => '=',
         Holder::Hole => '_',
         Holder::Fresh => '.',
+        Holder::Parked(..) => '~',
         Holder::Class(..) => letters.next().expect("the letters go round"),
     };
     pages.holders().iter().map(|&(holder, _)| (holder, symbol(holder))).collect()
@@ -118,14 +119,20 @@ fn draw(svg: &mut Svg, pages: &Pages, (first, last): (usize, usize), colour: Col
             svg.fill(Rect { x: left, y: field.y + field.height - height, width: right - left, height }, colour);
         }
     }
-    svg.frame(field, holder == Holder::Hole);
+    svg.frame(field, is_idle(holder));
     svg.text(field.x + field.width / 2, field.y + field.height / 2 + 4, "size", &label(holder));
+}
+
+/// A page that was in use and is not.
+fn is_idle(holder: Holder) -> bool {
+    matches!(holder, Holder::Hole | Holder::Parked(_))
 }
 
 fn label(holder: Holder) -> String {
     match holder {
         Holder::Direct => "run".into(),
         Holder::Class(class) => class.bytes().to_string(),
+        Holder::Parked(..) => "parked".into(),
         Holder::Hole => "hole".into(),
         Holder::Fresh => String::new(),
     }
@@ -138,12 +145,13 @@ fn draw_legend(svg: &mut Svg, holders: &[(Holder, usize)], colours: &BTreeMap<Ho
         let y = top + place % lines * LEGEND_LINE;
         let swatch = Rect { x, y, width: SWATCH, height: SWATCH };
         svg.fill(swatch, colours[&holder]);
-        svg.frame(swatch, holder == Holder::Hole);
+        svg.frame(swatch, is_idle(holder));
         svg.text(x + SWATCH + 8, y + 13, "entry", &entry(holder, number));
     }
 }
 
 const GREY: Colour = Colour(232, 232, 232);
+const MIST: Colour = Colour(214, 226, 236);
 const YELLOW: Colour = Colour(250, 215, 90);
 
 /// Classes have these in turn, so that neighbours are easy to tell apart.
@@ -164,6 +172,7 @@ fn colours(holders: &[(Holder, usize)]) -> BTreeMap<Holder, Colour> {
         Holder::Direct => YELLOW,
         Holder::Hole => WHITE,
         Holder::Fresh => GREY,
+        Holder::Parked(..) => MIST,
         Holder::Class(..) => classes.next().expect("the colours go round"),
     };
     holders.iter().map(|&(holder, _)| (holder, colour(holder))).collect()

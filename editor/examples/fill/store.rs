@@ -198,7 +198,7 @@ impl Store {
     /// Whose each page is, as the calls have told, and how many of its bytes are in use.
     pub fn pages(&self) -> Outcome<Pages> {
         let records = self.written.values().map(|(record, _)| record.range(0..self.room(*record)));
-        self.pages.with(records, self.blocks.report()?)
+        self.pages.with(records, self.blocks.stock(), self.blocks.report()?)
     }
 
     /// All bytes of the block that a record stands in. A run's pages are in use whole, records or not.
@@ -209,10 +209,15 @@ impl Store {
         }
     }
 
+    /// Hands the blocks without a record back.
+    pub fn flush(&mut self) -> Outcome<()> {
+        self.blocks.flush()
+    }
+
     /// Hands everything back, once no record is left.
     pub fn close(mut self) -> Outcome<()> {
         match self.written.len() {
-            0 => self.blocks.flush(),
+            0 => self.flush(),
             left => Err(format!("{left} records are left").into()),
         }
     }

@@ -17,7 +17,7 @@ fn pages(number: usize) -> (Heap, Vec<u32>, Vec<(u32, u32)>) {
 fn with_2_056_chunks_a_release_passes() {
     let (mut heap, list, chunks) = pages(2_056);
     assert_eq!(heap.give_chunks(CLASS, &list, &chunks, 2_056), Ok(vec![0; 2_056]));
-    assert_eq!(heap.report(), [2_056, 0, 0, 2_056, 44]);
+    assert_eq!(heap.report(), [2_056, 0, 0, 2_056, 44, 0]);
     // The blocks are out no more.
     assert_eq!(heap.give_chunks(CLASS, &list[..1], &chunks[..1], 1), Err(10));
 }

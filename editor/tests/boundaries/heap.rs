@@ -140,13 +140,13 @@ impl Heap {
         unsafe { vigbuso_contains(self.book.as_ptr(), self.book.len(), offset, length) == 1 }
     }
 
-    /// Commits, reuses, abandoned, pages held, idle pages.
-    pub fn report(&self) -> [u64; 5] {
+    /// Commits, reuses, abandoned, pages held, idle pages, and how many are both.
+    pub fn report(&self) -> [u64; 6] {
         self.try_report().expect("a reached book")
     }
 
-    pub fn try_report(&self) -> Answer<[u64; 5]> {
-        let mut figures = [0; 5];
+    pub fn try_report(&self) -> Answer<[u64; 6]> {
+        let mut figures = [0; 6];
         let number = unsafe { vigbuso_report(self.book.as_ptr(), self.book.len(), figures.as_mut_ptr()) };
         answered(number, figures)
     }

@@ -36,9 +36,9 @@ fn comb(pages: u64, runs: u32, length: u32, holes: u32) -> Heap {
 #[test]
 fn with_4_095_holes_a_give_is_stored() {
     let mut heap = comb(5_000, 4_097, 1, 4_095);
-    assert_eq!(heap.report(), [4_097, 0, 0, 2, 4_998]);
+    assert_eq!(heap.report(), [4_097, 0, 0, 2, 4_998, 0]);
     give(&mut heap, 4_095, 1);
-    assert_eq!(heap.report(), [4_097, 0, 0, 1, 4_999]);
+    assert_eq!(heap.report(), [4_097, 0, 0, 1, 4_999, 0]);
     reused(&mut heap, 1, 4_095);
 }
 
@@ -46,7 +46,7 @@ fn with_4_095_holes_a_give_is_stored() {
 fn with_4_096_holes_a_give_is_abandoned() {
     let mut heap = comb(5_000, 4_098, 1, 4_096);
     give(&mut heap, 4_096, 1);
-    assert_eq!(heap.report(), [4_098, 0, 1, 1, 4_998]);
+    assert_eq!(heap.report(), [4_098, 0, 1, 1, 4_998, 0]);
     // The last one given is remembered. Then the lowest index each time, to which the last hole has come.
     reused(&mut heap, 1, 4_095);
     reused(&mut heap, 1, 0);
@@ -61,7 +61,7 @@ fn with_4_096_holes_a_give_is_abandoned() {
 fn with_4_096_holes_a_cut_hole_given_back_is_abandoned() {
     let mut heap = comb(9_000, 4_097, 2, 4_096);
     ungranted(&mut heap, 1);
-    assert_eq!(heap.report(), [4_097, 0, 1, 2, 8_997]);
+    assert_eq!(heap.report(), [4_097, 0, 1, 2, 8_997, 0]);
     // Page 0 is lost, its hole's remainder is there; the last hole comes to its place.
     reused(&mut heap, 1, 1);
     reused(&mut heap, 1, 8_190);
@@ -71,7 +71,7 @@ fn with_4_096_holes_a_cut_hole_given_back_is_abandoned() {
 fn with_4_095_holes_a_cut_hole_given_back_is_stored() {
     let mut heap = comb(9_000, 4_096, 2, 4_095);
     ungranted(&mut heap, 1);
-    assert_eq!(heap.report(), [4_096, 0, 0, 2, 8_998]);
+    assert_eq!(heap.report(), [4_096, 0, 0, 2, 8_998, 0]);
     reused(&mut heap, 1, 0);
     reused(&mut heap, 1, 1);
 }
@@ -80,7 +80,7 @@ fn with_4_095_holes_a_cut_hole_given_back_is_stored() {
 fn with_4_096_holes_a_used_up_hole_given_back_is_stored() {
     let mut heap = comb(9_000, 4_097, 2, 4_096);
     ungranted(&mut heap, 2);
-    assert_eq!(heap.report(), [4_097, 0, 0, 2, 8_998]);
+    assert_eq!(heap.report(), [4_097, 0, 0, 2, 8_998, 0]);
     reused(&mut heap, 2, 8_190);
 }
 
@@ -91,12 +91,12 @@ fn holes_of_65_536_pages_are_stored_and_of_65_537_not() {
     fresh(&mut heap, 1, 65_535);
     fresh(&mut heap, 2, 65_536);
     give(&mut heap, 0, 65_535);
-    assert_eq!(heap.report(), [3, 0, 0, 3, 65_537]);
+    assert_eq!(heap.report(), [3, 0, 0, 3, 65_537, 0]);
     // Two pages more would make 65,537, one makes 65,536.
     give(&mut heap, 65_536, 2);
-    assert_eq!(heap.report(), [3, 0, 1, 1, 65_537]);
+    assert_eq!(heap.report(), [3, 0, 1, 1, 65_537, 0]);
     give(&mut heap, 65_535, 1);
-    assert_eq!(heap.report(), [3, 0, 1, 0, 65_538]);
+    assert_eq!(heap.report(), [3, 0, 1, 0, 65_538, 0]);
     reused(&mut heap, 1, 65_535);
     reused(&mut heap, 65_535, 0);
 }
@@ -106,12 +106,12 @@ fn one_hole_may_have_all_65_536_pages_and_no_more() {
     let mut heap = Heap::open(65_540);
     fresh(&mut heap, 65_536, 0);
     give(&mut heap, 0, 65_536);
-    assert_eq!(heap.report(), [1, 0, 0, 0, 65_540]);
+    assert_eq!(heap.report(), [1, 0, 0, 0, 65_540, 0]);
 
     let mut heap = Heap::open(65_540);
     fresh(&mut heap, 65_537, 0);
     give(&mut heap, 0, 65_537);
-    assert_eq!(heap.report(), [1, 0, 1, 0, 3]);
+    assert_eq!(heap.report(), [1, 0, 1, 0, 3, 0]);
     fresh(&mut heap, 1, 65_537);
 }
 

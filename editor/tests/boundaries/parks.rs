@@ -33,7 +33,7 @@ fn four_empty_pages_then_256_cold_then_the_arena() {
     assert_eq!(fates[..4], [0; 4]);
     assert_eq!(fates[4..260], [1; 256]);
     assert_eq!(fates[260..], [2; 2]);
-    assert_eq!(heap.report(), [262, 0, 0, 260, 40]);
+    assert_eq!(heap.report(), [262, 0, 0, 260, 300, 260]);
     // Empty pages come back last in first out, as released.
     for page in [3, 2, 1, 0] {
         assert_eq!(comes_back(&mut heap, Family::Small, 45), (page, false, false));
@@ -44,7 +44,7 @@ fn four_empty_pages_then_256_cold_then_the_arena() {
     }
     // Then the arena's, here from the hole given last.
     assert_eq!(comes_back(&mut heap, Family::Small, 45), (261, true, true));
-    assert_eq!(heap.report(), [263, 1, 0, 261, 39]);
+    assert_eq!(heap.report(), [263, 1, 0, 261, 39, 0]);
 }
 
 #[test]

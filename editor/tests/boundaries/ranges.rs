@@ -52,7 +52,7 @@ fn up_to<T>(word: usize, highest: u32, call: impl Fn(&mut Heap) -> Answer<T>) {
     }
 }
 
-fn report(heap: &mut Heap) -> Answer<[u64; 5]> {
+fn report(heap: &mut Heap) -> Answer<[u64; 6]> {
     heap.try_report()
 }
 
@@ -75,6 +75,14 @@ fn the_arenas_record() {
     up_to(3, 4_096, report);
     up_to(4, 65_536, report);
     up_to(11, 64, report);
+}
+
+#[test]
+fn every_classs_counts_in_a_report() {
+    for class in 0..76 {
+        up_to(160 + 8 * class + 2, 256, report);
+        up_to(160 + 8 * class + 4, 256, report);
+    }
 }
 
 #[test]

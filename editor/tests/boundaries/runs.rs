@@ -19,7 +19,7 @@ fn a_run_of_two_to_the_48th_pages_is_refused_as_6() {
         assert_eq!(heap.release(ALL, 0, pages), Err(6));
     }
     assert_eq!(heap.grow(ALL, 0, 2, 2), Err(6));
-    assert_eq!(heap.report(), [1, 0, 0, 2, 2]);
+    assert_eq!(heap.report(), [1, 0, 0, 2, 2, 0]);
 }
 
 #[test]
@@ -50,7 +50,7 @@ fn a_refused_reservation_disables_the_arena_for_good() {
     assert_eq!(heap.commit(ALL, 1), Ok(None));
     assert_eq!(heap.take(Family::Small, 0, ALL), Ok((vec![], false)));
     assert!(!heap.contains(0, 0));
-    assert_eq!(heap.report(), [0, 0, 0, 0, 8]);
+    assert_eq!(heap.report(), [0, 0, 0, 0, 8, 0]);
 }
 
 #[test]
@@ -93,13 +93,13 @@ fn the_reports_columns_are_told_apart() {
         assert_eq!(heap.commit(ALL, 1), Ok(Some((first, true))));
     }
     assert_eq!(heap.grow(ALL, 65_534, 1, 10), Ok(true));
-    assert_eq!(heap.report(), [7, 0, 0, 65_544, 56]);
+    assert_eq!(heap.report(), [7, 0, 0, 65_544, 56, 0]);
     // A give is stored; one of nine pages more would pass 65,536.
     assert_eq!(heap.release(ALL, 0, 65_530), Ok(()));
     assert_eq!(heap.release(ALL, 65_535, 9), Ok(()));
-    assert_eq!(heap.report(), [7, 0, 1, 5, 65_586]);
+    assert_eq!(heap.report(), [7, 0, 1, 5, 65_586, 0]);
     // Two commits from the hole.
     assert_eq!(heap.commit(ALL, 20), Ok(Some((0, false))));
     assert_eq!(heap.commit(ALL, 30), Ok(Some((20, false))));
-    assert_eq!(heap.report(), [9, 2, 1, 55, 65_536]);
+    assert_eq!(heap.report(), [9, 2, 1, 55, 65_536, 0]);
 }

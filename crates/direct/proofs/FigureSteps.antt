@@ -1,0 +1,146 @@
+-- The steps of a report: number 13 on what it reads, the pages of the parked runs, the figures.
+use Prim.Native.Nat.{ℕ, _+_, _-_, _*_, _^_, _≤_, _<_}
+use native.Mathlib.Omega.{arith}
+use native.Mathlib.Nat.{mul-le-mul}
+use native.Mathlib.Numerals.{add-one}
+use mathlib.Core.Bool.{Bool, true, false, not, _&&_}
+use mathlib.Core.List.{List}
+use mathlib.Core.Path.{_≡_, refl, sym, ap, _∙_}
+use lib.Dec.{leb}
+use borrow.Author.Tests.{le-leb, lt-leb, leb-true, not-true, not-false}
+use Rattle.facts.specs.Lists.{every, total, below}
+use Rattle.facts.proofs.Bools.{and-left, and-right}
+use Rattle.facts.proofs.Lists.{below-last, every-at}
+use Rattle.words.specs.Limits.{maxParked}
+use Rattle.classes.specs.declared.Shape.{Shape}
+use Rattle.classes.specs.Shape.{shapeOf, classCount}
+use Rattle.classes.proofs.Shapes.{shape-sound}
+use Rattle.fields.specs.Field.{arena, class, held, emptyCount, coldCount, get}
+use Rattle.model.specs.declared.Figures.{Figures}
+use Rattle.model.specs.Heap.{parkedPages}
+use Rattle.holes.specs.declared.Arena.{Arena}
+use Rattle.direct.specs.declared.Report.the-variants.{Told, Refused}
+use Rattle.arena.specs.Load.{loadStore, loadArena}
+use Rattle.arena.specs.Fair.{recordFair, countsFair, allCountsFair, reportFair}
+use Rattle.arena.specs.Calls.{parkedRuns, figures}
+use Rattle.holes.specs.Record.{recordOf}
+use Rattle.holes.proofs.Acts.{fair-record}
+use Rattle.runs.specs.Asks.{BookIn}
+use Rattle.direct.specs.Answer.{reportOf}
+use Rattle.direct.specs.Asks.{CountsIn, parkedMax, Parks}
+
+-- ---- number 13, class by class
+module _ (b : List ℕ) (c x : ℕ) (e : x ≡ get b (class emptyCount c)) where
+  pub many-empty : maxParked < x → false ≡ countsFair b c
+  many-empty h = rw (← e, lt-leb x maxParked h)
+
+  pub counts-told : (y : ℕ) → x ≤ maxParked → y ≡ get b (class coldCount c) → leb y maxParked ≡ countsFair b c
+  counts-told y h k = rw (← e, ← k, le-leb x maxParked h)
+
+module _ (b : List ℕ) where
+  -- the classes below k decide it
+  pub record CountsInv (k : ℕ) : Type 0 where
+    pub within : k ≤ classCount
+    pub rest : every (countsFair b) (below k) ≡ allCountsFair b
+
+  pub counts-start : CountsInv classCount
+  unfolding allCountsFair
+  counts-start = record { within = omega arith; rest = refl }
+
+  counts-last : (k : ℕ) (r : Bool) → (k ≡ 0 → ⊥) → r ≡ countsFair b (k - 1) → every (countsFair b) (below k) ≡ (r && every (countsFair b) (below (k - 1)))
+  counts-last k r h e = rw (below-last k (omega (arith, h)), e)
+
+  pub counts-again : (k : ℕ) (r : Bool) → (k ≡ 0 → ⊥) → CountsInv k → r ≡ countsFair b (k - 1) → not r ≡ false → CountsInv (k - 1)
+  counts-again k r h i e t = record { within = omega (arith, i .within); rest = sym (ap (λ z. z && every (countsFair b) (below (k - 1))) (not-false r t)) ∙ sym (counts-last k r h e) ∙ i .rest }
+
+  pub counts-fail : (k : ℕ) (r : Bool) → (k ≡ 0 → ⊥) → CountsInv k → r ≡ countsFair b (k - 1) → not r ≡ true → false ≡ allCountsFair b
+  counts-fail k r h i e f = sym (ap (λ z. z && every (countsFair b) (below (k - 1))) (not-true r f)) ∙ sym (counts-last k r h e) ∙ i .rest
+
+  pub counts-pass : (k : ℕ) → k ≡ 0 → CountsInv k → true ≡ allCountsFair b
+  counts-pass k h i = rw h at (i .rest)
+
+  pub counts-at : (c : ℕ) → allCountsFair b ≡ true → c < classCount → countsFair b c ≡ true
+  unfolding allCountsFair
+  counts-at c t h = every-at (countsFair b) classCount c t h
+
+module _ (n : ℕ) (b : List ℕ) (t : Bool) (e : t ≡ recordFair n b) where
+  pub record-passes : (u : Bool) → t ≡ true → u ≡ allCountsFair b → u ≡ reportFair n b
+  unfolding reportFair
+  record-passes u v f = rw (← e, v) f
+
+  pub record-fails : t ≡ false → false ≡ reportFair n b
+  unfolding reportFair
+  record-fails v = rw (← e, v)
+
+-- ---- the parked runs of a class
+module _ (b : List ℕ) (c x y : ℕ) (t : countsFair b c ≡ true) (e : x ≡ get b (class emptyCount c)) (k : y ≡ get b (class coldCount c)) where
+  runs-few : x + y ≤ maxParked + maxParked
+  runs-few =
+      omega (
+        arith,
+        leb-true x maxParked (rw e (and-left (leb (get b (class emptyCount c)) maxParked) _ t)),
+        leb-true y maxParked (rw k (and-right (leb (get b (class emptyCount c)) maxParked) _ t)),
+      )
+
+  pub runs-fit : x + y < 2 ^ 32
+  runs-fit = omega (arith, runs-few)
+
+  pub parks-none : x + y ≡ 0 → Parks b c 0
+  parks-none h =
+      let none : parkedRuns b c ≡ 0 = rw (← e, ← k) h in
+      record { pages = rw none (omega arith); few = omega arith }
+
+  module _ (s : Shape) (d : s ≡ shapeOf c) where
+    pages-few : (x + y) * s .pages ≤ parkedMax
+    pages-few = let short : s .pages ≤ 8 = rw d (shape-sound c .short) in mul-le-mul runs-few short
+
+    pub pages-fit : (x + y) * s .pages < 2 ^ 32
+    pages-fit = omega (arith, pages-few)
+
+    pub parks : Parks b c ((x + y) * s .pages)
+    parks = record { pages = rw (d, e, k); few = pages-few }
+
+-- ---- of all classes
+pub record ParkedInv (b : List ℕ) (sum c : ℕ) : Type 0 where
+  pub at : c ≤ classCount
+  pub is : sum ≡ total (λ k. parkedRuns b k * shapeOf k .pages) (below c)
+  pub low : sum ≤ c * parkedMax
+
+pub parked-start : (b : List ℕ) → ParkedInv b 0 0
+parked-start b = record { at = omega arith; is = refl; low = omega arith }
+
+pub parked-next : (b : List ℕ) (sum c r : ℕ) → ParkedInv b sum c → c < classCount → Parks b c r → ParkedInv b (sum + r) (c + 1)
+parked-next b sum c r v h e = record { at = omega arith; is = rw add-one (omega (arith, v .is, e .pages)); low = omega (arith, v .low, e .few) }
+
+pub sum-fits : (b : List ℕ) (sum c r : ℕ) → ParkedInv b sum c → c < classCount → Parks b c r → sum + r < 2 ^ 32
+sum-fits b sum c r v h e = omega (arith, v .low, e .few)
+
+pub parked-end : (b : List ℕ) (sum c : ℕ) → ParkedInv b sum c → classCount ≤ c → sum ≡ parkedPages (parkedRuns b)
+unfolding parkedPages
+parked-end b sum c v h = let e : c ≡ classCount = omega (arith, v .at) in v .is ∙ ap (λ m. total (λ k. parkedRuns b k * shapeOf k .pages) (below m)) e
+
+-- ---- the figures
+module _ (n : ℕ) (b : List ℕ) where
+  pub counts-in : BookIn b n → reportFair n b ≡ true → CountsIn b
+  unfolding reportFair
+  counts-in k t = record { long = omega (arith, k .long); fair = and-right (recordFair n b) (allCountsFair b) t }
+
+  pub figures-below : (a : Arena) → reportFair n b ≡ true → a ≡ recordOf b → a .frontier ≤ n
+  unfolding reportFair
+  figures-below a t e = rw e (fair-record n b (and-left (recordFair n b) (allCountsFair b) t) .frontier)
+
+  pub figures-are : (a : Arena) (d p : ℕ) → a ≡ recordOf b → d ≡ get b (arena held) → p ≡ parkedPages (parkedRuns b)
+      → record { commits = a .commits; reuses = a .reuses; abandoned = a .abandoned; held = d; idle = a .total + (n - a .frontier) + p; overlap = p } ≡ figures n b
+  unfolding loadArena loadStore
+  figures-are a d p e f g = rw (e, f, g)
+
+  pub told : (t : Bool) (r : Figures) → t ≡ reportFair n b → t ≡ true → r ≡ figures n b → Told r ≡ reportOf n b
+  unfolding reportOf
+  told t r e v f = rw (← e, v, f)
+
+  pub untold : (t : Bool) → t ≡ reportFair n b → t ≡ false → Refused 13 ≡ reportOf n b
+  unfolding reportOf
+  untold t e v = rw (← e, v)
+
+  pub fair-reported : (t : Bool) → t ≡ reportFair n b → t ≡ true → reportFair n b ≡ true
+  fair-reported t e v = sym e ∙ v

@@ -1,0 +1,10 @@
+use borrow.Author.Needs.{needs}
+use Rattle.direct.proofs.figures.parked_of.Statement.{statement}
+use Rattle.direct.proofs.figures.parked_of.Tie as tie
+use Rattle.direct.proofs.FigureSteps.{runs-fit, parks-none, pages-fit, parks}
+
+pub parked-of-spec : {M : Type 1} → statement M
+parked-of-spec =
+    tie.close
+    (tie.spec
+    (λ c κs. search needs) (λ c κs. search needs) (λ c. search runs-fit) (λ c. search parks-none) (λ c κs. search needs) (λ c. search pages-fit) (λ c. search parks))
