@@ -48,6 +48,15 @@ pub medium-first-fit : (size : ℕ) → size ≤ maxMediumSize → FirstFit size
 unfolding mediumSizes
 medium-first-fit size h = first-fit size mediumSizes 11 (omega arith) (omega arith)
 
+-- what first fit answers is a class
+pub small-class : (size : ℕ) → size ≤ maxSmallSize → firstFit size smallSizes < 64
+unfolding smallSizes
+small-class size h = small-first-fit size h .within
+
+pub medium-class : (size : ℕ) → size ≤ maxMediumSize → firstFit size mediumSizes < 12
+unfolding mediumSizes
+medium-class size h = medium-first-fit size h .within
+
 -- "answers small class, medium class, or too large": the smallest class that is large enough, for every size
 pub smallest-class : (size : ℕ) → Smallest size (sizeClass size)
 smallest-class size =
