@@ -49,7 +49,8 @@ fn plan(random: &mut Random) -> Vec<(u32, u32)> {
     let size = |random: &mut Random| {
         let (family, number) = family(((first + random.below(span)) % u64::from(CLASSES)) as u32);
         let bytes = oracle::block_bytes(family, number) as u32;
-        bytes - random.below(random.pick(&[1, 16, 17, u64::from(bytes) + 1])) as u32
+        let off = random.pick(&[1, 16, 17, u64::from(bytes) + 1]);
+        bytes - random.below(off) as u32
     };
     (0..=random.index(entries)).map(|_| (size(random), random.below(most + 1) as u32)).collect()
 }

@@ -10,7 +10,7 @@ use Rattle.classes.specs.declared.Shape.{Shape}
 use Rattle.classes.specs.Sizes.{smallSizes, mediumSizes, pageBytes}
 use Rattle.classes.specs.Shape.{smallShape, mediumShape, shapeOf}
 use Rattle.classes.specs.Sound.{Sound}
-use Rattle.classes.proofs.Table.{every, every-at}
+use Rattle.classes.proofs.Table.{every-at}
 
 abbrev within : ℕ → ℕ → ℕ → Bool
 within low n high = leb low n && leb n high

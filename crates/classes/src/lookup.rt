@@ -7,8 +7,8 @@ ghost use Rattle.classes.specs.Near.{Near};
 use super::Sized;
 use super::by_class::medium_size;
 use super::by_class::small_size;
-use super::near::by_1024;
 use super::near::by_128;
+use super::near::by_1024;
 use super::near::by_2048;
 use super::near::by_granules;
 
@@ -40,7 +40,11 @@ fn small_class(size: u32) -> u32
         return by_granules((size + 15) / 16);
     }
     let near = near_small(size);
-    if size <= small_size(near) { near } else { near + 1 }
+    if size <= small_size(near) {
+        near
+    } else {
+        near + 1
+    }
 }
 
 fn medium_class(size: u32) -> u32
@@ -49,7 +53,11 @@ fn medium_class(size: u32) -> u32
     ensures { λ r. ⌜ r ≡ firstFit size mediumSizes ⌝ }
 {
     let near = near_medium(size);
-    if size <= medium_size(near) { near } else { near + 1 }
+    if size <= medium_size(near) {
+        near
+    } else {
+        near + 1
+    }
 }
 
 // The first class whose blocks hold a size, small or medium.

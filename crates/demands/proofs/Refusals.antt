@@ -132,10 +132,10 @@ plan-refuses ks ts r t t′ e = record { order = refl; number = e .code; kept = 
 
 -- ---- the lookup and `contains` refuse nothing
 pub size-answers : SizeAnswers
-size-answers size r c c′ e = record {
-  small = λ h. rw (e .kind, e .class, sized-small size h) (refl, small-first-fit size h, lt-leb 64 (firstFit size smallSizes) (small-class size h));
-  medium = λ l h. rw (e .kind, e .class, sized-medium size l h) (refl, medium-first-fit size h, lt-leb 12 (firstFit size mediumSizes) (medium-class size h));
-  large = λ l. rw (e .kind, e .class, sized-large size l) (refl, refl);
+size-answers bytes r c c′ e = record {
+  small = λ h. rw (e .kind, e .class, sized-small bytes h) (refl, small-first-fit bytes h, lt-leb 64 (firstFit bytes smallSizes) (small-class bytes h));
+  medium = λ l h. rw (e .kind, e .class, sized-medium bytes l h) (refl, medium-first-fit bytes h, lt-leb 12 (firstFit bytes mediumSizes) (medium-class bytes h));
+  large = λ l. rw (e .kind, e .class, sized-large bytes l) (refl, refl);
 }
 
 beyond-ready : (s : ℕ) → leb s 2 ≡ false → isReady (statusOf s) ≡ false

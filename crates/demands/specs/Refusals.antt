@@ -287,13 +287,13 @@ ContainsAnswers = (b : List ℕ) (o k r : ℕ) → r ≡ digit (containsOn b o k
 
 -- Document 02, A.6: the lookup "answers small class, medium class, or too large". The class is the first whose blocks hold the size, and
 -- number 4 does not refuse it; a size that is too large leaves the out-parameter, c, as it was.
-pub record SizeAnswer (size r c c′ : ℕ) : Type 0 where
-  pub small : size ≤ maxSmallSize → (r ≡ smallKind) × FirstFit size smallSizes c′ × (noClass 64 c′ ≡ false)
-  pub medium : maxSmallSize < size → size ≤ maxMediumSize → (r ≡ mediumKind) × FirstFit size mediumSizes c′ × (noClass 12 c′ ≡ false)
-  pub large : maxMediumSize < size → (r ≡ noneKind) × (c′ ≡ c)
+pub record SizeAnswer (bytes r c c′ : ℕ) : Type 0 where
+  pub small : bytes ≤ maxSmallSize → (r ≡ smallKind) × FirstFit bytes smallSizes c′ × (noClass 64 c′ ≡ false)
+  pub medium : maxSmallSize < bytes → bytes ≤ maxMediumSize → (r ≡ mediumKind) × FirstFit bytes mediumSizes c′ × (noClass 12 c′ ≡ false)
+  pub large : maxMediumSize < bytes → (r ≡ noneKind) × (c′ ≡ c)
 
 abbrev pub SizeAnswers : Type 0
-SizeAnswers = (size r c c′ : ℕ) → SizeEnds (sizeClass size) r c c′ → SizeAnswer size r c c′
+SizeAnswers = (bytes r c c′ : ℕ) → SizeEnds (sizeClass bytes) r c c′ → SizeAnswer bytes r c c′
 
 -- ---- the demand, a field for each exported function
 pub record Demand1 : Type 0 where
