@@ -14,7 +14,8 @@ pub fn size_class(size: u64) -> Option<(Family, u32)> {
     })
 }
 
-/// The original's lookup for a family.
+/// The original's lookup for a family. It is called like the port's and not made part of its caller, for the sake of `speed`.
+#[inline(never)]
 pub fn original(family: Family, size: u64) -> u32 {
     match family {
         Family::Small => oracle::class_for_size(size),
