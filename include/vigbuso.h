@@ -145,8 +145,8 @@ static inline const char *vigbuso_refusal_text(uint32_t number) {
     case 13:
         return "another book word that the call reads is out of its range, or a listed page yields no block";
     case 14:
-        return "the plan is empty, has lists of unequal length or above 4,096 entries, names a class above 75 or has a number above "
-               "1,000,000";
+        return "the plan is empty, has lists of unequal length or above 4,096 entries, names a size above 65,472 or has a number "
+               "above 1,000,000";
     case 20:
         return "the listing's arena isn't 1 to 3 pages, its length is above 4, or the lent list is shorter than the listing";
     case 21:
@@ -179,18 +179,12 @@ static inline uint32_t vigbuso_medium_block_bytes(uint32_t size_class) {
 }
 
 /*
- * The small class for a size in bytes: the first whose blocks are not smaller; 63 above 16,384, where its blocks are too
- * small: such a size is for vigbuso_medium_class_for_size.
- * Returns 0 to 63.
+ * The class for a size in bytes: the first whose blocks are not smaller, small up to 16,384 and medium up to 65,472. A larger
+ * size is for vigbuso_commit.
+ *   size_class  the class, 0 to 45 small or 0 to 11 medium; as it was where the size is too large
+ * Returns the kind that its blocks' words have: VIGBUSO_SMALL, VIGBUSO_MEDIUM, or VIGBUSO_NONE for too large.
  */
-uint32_t vigbuso_class_for_size(uint64_t size);
-
-/*
- * The medium class for a size in bytes: the first whose blocks are not smaller; 11 at or below 16,384 and above 65,472,
- * where its blocks are too small: such a size is for vigbuso_commit.
- * Returns 0 to 11.
- */
-uint32_t vigbuso_medium_class_for_size(uint64_t size);
+uint32_t vigbuso_size_class(uint64_t size, uint32_t *size_class);
 
 /*
  * Opens a heap on an arena of so many pages, 1 to 262,144. Every other call works on a book that was opened.
@@ -312,13 +306,12 @@ uint32_t vigbuso_asker_wins(uint64_t pages, uint64_t live, uint64_t moves, uint3
 /*
  * The pages that a plan of takes needs on a newly opened heap, with every host answer granted and no release: all its takes
  * succeed, in whatever order, exactly if the arena has so many. No book is lent.
- *   classes  classes_len classes, read; 1 to 4,096. Small ones are 0 to 63, medium ones 64 to 75; a class may be named twice
- *   takes    takes_len numbers, read; as many: the takes of each, 0 to 1,000,000
- *   total    the pages
+ *   sizes  sizes_len sizes in bytes, read; 1 to 4,096 of them, each at most 65,472. Several may be of one class
+ *   takes  takes_len numbers, read; as many: the takes of each, 0 to 1,000,000
+ *   total  the pages
  * Returns 0, or 14.
  */
-uint32_t vigbuso_plan(const uint32_t *classes, size_t classes_len, const uint32_t *takes, size_t takes_len,
-                      uint64_t *total);
+uint32_t vigbuso_plan(const uint32_t *sizes, size_t sizes_len, const uint32_t *takes, size_t takes_len, uint64_t *total);
 
 /*
  * Every history of so many direct calls, 0 to 4, on an arena of so many pages, 1 to 3, all granted: commits of 1 page up to the

@@ -1,8 +1,11 @@
-//! Both size lookups, at every small size and around every power of two.
+//! The size lookup, at every small size and around every power of two: against the rule at all of them, and against the original's
+//! two lookups where equality with them is claimed.
 
-use crate::{oracle, port};
+use crate::port;
+use crate::sizes::{original, size_class};
+use crate::words::Family;
 
-/// Every size up to here is compared: both tables end well below.
+/// Every size up to here is compared: the largest class ends well below.
 const LAST_OF_ALL: u64 = 200_000;
 /// And so many sizes on either side of every power of two.
 const AROUND: u64 = 1_024;
@@ -22,26 +25,25 @@ pub fn sizes() -> Vec<u64> {
 /// Prints the differences and how many sizes were compared; true if there is no difference.
 pub fn run() -> bool {
     let sizes = sizes();
-    let mut differences = 0;
+    let (mut differences, mut claimed) = (0, 0);
     for &size in &sizes {
-        differences += differs("class_for_size", size, oracle::class_for_size(size), port::class_for_size(size));
-        differences += differs(
-            "medium_class_for_size",
-            size,
-            oracle::medium_class_for_size(size),
-            port::medium_class_for_size(size),
-        );
+        let found = port::size_class(size);
+        differences += differs("the rule", size, size_class(size), found);
+        // A size that is too large has a class in the original, of blocks that are too small (docs/DIFFERENCES.md).
+        if let Some((family, _)) = found {
+            claimed += 1;
+            differences += differs("the original", size, Some((family, original(family, size))), found);
+        }
     }
-    println!("class_for_size: {} sizes compared", sizes.len());
-    println!("medium_class_for_size: {} sizes compared", sizes.len());
+    println!("size_class: {} sizes compared with the rule, {claimed} with the original", sizes.len());
     println!("{differences} differences");
     differences == 0
 }
 
-fn differs(name: &str, size: u64, original: u32, port: u32) -> u64 {
-    if original == port {
+fn differs(due: &str, size: u64, answer: Option<(Family, u32)>, port: Option<(Family, u32)>) -> u64 {
+    if answer == port {
         return 0;
     }
-    println!("{name}({size}): the original answers {original}, the port {port}");
+    println!("size_class({size}): {due} has {answer:?}, the port {port:?}");
     1
 }

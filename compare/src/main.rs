@@ -24,6 +24,7 @@ mod random;
 mod reference;
 mod run;
 mod shrink;
+mod sizes;
 mod speed;
 mod tally;
 #[cfg(test)]

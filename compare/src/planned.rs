@@ -1,6 +1,7 @@
-//! The total of a plan of takes, from document 02, A.1, over the classes of the original.
+//! The total of a plan of takes, from document 02, A.1 and A.6, over the classes of the original.
 
 use crate::oracle;
+use crate::sizes::size_class;
 use crate::words::{Family, MEDIUM_CLASSES, SMALL_BATCH, SMALL_CLASSES};
 
 pub const CLASSES: u32 = SMALL_CLASSES + MEDIUM_CLASSES;
@@ -13,15 +14,24 @@ pub enum Planned {
     Refused(u32),
 }
 
-pub fn planned(classes: &[u32], takes: &[u32]) -> Planned {
-    let lengths = !classes.is_empty() && classes.len() == takes.len() && classes.len() <= ENTRIES_MAX;
-    let numbers = classes.iter().all(|&class| class < CLASSES) && takes.iter().all(|&takes| takes <= TAKES_MAX);
-    if !lengths || !numbers {
+pub fn planned(sizes: &[u32], takes: &[u32]) -> Planned {
+    let lengths = !sizes.is_empty() && sizes.len() == takes.len() && sizes.len() <= ENTRIES_MAX;
+    let classes: Option<Vec<u32>> = sizes.iter().map(|&size| class_of(size)).collect();
+    let Some(classes) = classes.filter(|_| lengths && takes.iter().all(|&takes| takes <= TAKES_MAX)) else {
         return Planned::Refused(14);
-    }
+    };
     let named = |class| classes.iter().zip(takes).filter(move |&(&named, _)| named == class);
     let takes_of = |class| named(class).map(|(_, &takes)| u64::from(takes)).sum();
     Planned::Pages((0..CLASSES).map(|class| pages_for(class, takes_of(class))).sum())
+}
+
+/// The class of a size, 0 to 63 small, 64 to 75 medium; none if it is too large.
+pub fn class_of(size: u32) -> Option<u32> {
+    let (family, number) = size_class(u64::from(size))?;
+    Some(match family {
+        Family::Small => number,
+        Family::Medium => SMALL_CLASSES + number,
+    })
 }
 
 fn pages_for(class: u32, takes: u64) -> u64 {

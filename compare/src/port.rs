@@ -8,12 +8,11 @@ use crate::words::{Family, FIGURES, NO_PAGE};
 // The folder is the build script's.
 #[link(name = "vigbuso", kind = "static")]
 extern "C" {
-    fn vigbuso_class_for_size(size: u64) -> u32;
-    fn vigbuso_medium_class_for_size(size: u64) -> u32;
+    fn vigbuso_size_class(size: u64, class: *mut u32) -> u32;
     fn vigbuso_asker_wins(pages: u64, live: u64, moves: u64, wins: *mut u32) -> u32;
     fn vigbuso_class_table(a: u64, b: u64, top: u64, slots: u64, list: *mut u32, len: usize) -> u32;
     fn vigbuso_short_histories(pages: u64, length: u64, list: *mut u32, len: usize, written: *mut u64) -> u32;
-    fn vigbuso_plan(classes: *const u32, len: usize, takes: *const u32, takes_len: usize, total: *mut u64) -> u32;
+    fn vigbuso_plan(sizes: *const u32, len: usize, takes: *const u32, takes_len: usize, total: *mut u64) -> u32;
     fn vigbuso_open(book: *mut u32, words: usize, pages: u64) -> u32;
     fn vigbuso_commit(book: *mut u32, words: usize, host: u32, pages: u64, first: *mut u32, fresh: *mut u32) -> u32;
     fn vigbuso_grow_frontier(
@@ -80,14 +79,20 @@ extern "C" {
     ) -> u32;
 }
 
-pub fn class_for_size(size: u64) -> u32 {
-    // SAFETY: a number for a number.
-    unsafe { vigbuso_class_for_size(size) }
-}
-
-pub fn medium_class_for_size(size: u64) -> u32 {
-    // SAFETY: a number for a number.
-    unsafe { vigbuso_medium_class_for_size(size) }
+/// None for a size that is too large, which keeps the class.
+#[inline]
+pub fn size_class(size: u64) -> Option<(Family, u32)> {
+    let mut class = UNTOUCHED;
+    // SAFETY: the number is lent for the call.
+    match unsafe { vigbuso_size_class(size, &mut class) } {
+        0 => {
+            assert_eq!(class, UNTOUCHED, "{size} is too large, yet the class changed");
+            None
+        }
+        1 => Some((Family::Small, class)),
+        2 => Some((Family::Medium, class)),
+        kind => panic!("size_class({size}) returned {kind}"),
+    }
 }
 
 /// What is returned; the list's first slots are written.
@@ -109,10 +114,10 @@ pub fn short_histories(pages: u64, length: u64, list: &mut [u32], written: &mut 
 }
 
 /// A refusal keeps the total.
-pub fn plan(classes: &[u32], takes: &[u32]) -> Planned {
+pub fn plan(sizes: &[u32], takes: &[u32]) -> Planned {
     let mut total = UNTOUCHED_FIGURE;
     // SAFETY: both slices are lent for the call, to be read, and the out-parameter to be written.
-    let number = unsafe { vigbuso_plan(classes.as_ptr(), classes.len(), takes.as_ptr(), takes.len(), &mut total) };
+    let number = unsafe { vigbuso_plan(sizes.as_ptr(), sizes.len(), takes.as_ptr(), takes.len(), &mut total) };
     match number {
         0 => Planned::Pages(total),
         _ => {

@@ -14,6 +14,7 @@ mod memory;
 mod oracle;
 mod planned;
 mod reference;
+mod sizes;
 mod words;
 
 use std::cell::RefCell;
@@ -24,6 +25,7 @@ use std::sync::{Mutex, MutexGuard};
 use call::{Answer, Call, Lent};
 use planned::{planned, Planned};
 use reference::Reference;
+use sizes::{original, size_class};
 use words::{book_words, Family, FIGURES, MAX_PAGES, NO_PAGE};
 
 /// The original has one arena for the process.
@@ -76,24 +78,24 @@ unsafe fn list(words: *const u32, len: usize) -> Vec<u32> {
 }
 
 #[no_mangle]
-pub extern "C" fn vigbuso_class_for_size(size: u64) -> u32 {
-    oracle::class_for_size(size)
-}
-
-#[no_mangle]
-pub extern "C" fn vigbuso_medium_class_for_size(size: u64) -> u32 {
-    oracle::medium_class_for_size(size)
+pub unsafe extern "C" fn vigbuso_size_class(size: u64, class: *mut u32) -> u32 {
+    // Which of the original's two lookups answers is document 02's rule.
+    let Some((family, _)) = size_class(size) else {
+        return 0;
+    };
+    class.write(original(family, size));
+    family.kind()
 }
 
 #[no_mangle]
 pub unsafe extern "C" fn vigbuso_plan(
-    classes: *const u32,
-    classes_len: usize,
+    sizes: *const u32,
+    sizes_len: usize,
     takes: *const u32,
     takes_len: usize,
     total: *mut u64,
 ) -> u32 {
-    match planned(&list(classes, classes_len), &list(takes, takes_len)) {
+    match planned(&list(sizes, sizes_len), &list(takes, takes_len)) {
         Planned::Refused(number) => number,
         Planned::Pages(pages) => {
             total.write(pages);

@@ -11,6 +11,7 @@ use crate::random::Random;
 use crate::reference::Reference;
 use crate::run;
 use crate::shrink::shrink;
+use crate::sizes::size_class;
 use crate::words::{block_word, chunk_word, Family, HOST_ALL};
 
 /// The original has one arena for the process.
@@ -54,6 +55,11 @@ fn run_at(first: u32, fresh: bool) -> Answer {
 fn sizes_p1_to_p5() {
     assert_eq!([0, 16_384, 16_385].map(oracle::class_for_size), [0, 45, 63]);
     assert_eq!([18_432, 18_433, 65_472, 65_473].map(oracle::medium_class_for_size), [0, 1, 11, 11]);
+    // As document 02 restates them.
+    let small = |class| Some((Family::Small, class));
+    let medium = |class| Some((Family::Medium, class));
+    assert_eq!([0, 16_384, 16_385].map(size_class), [small(0), small(45), medium(0)]);
+    assert_eq!([18_432, 18_433, 65_472, 65_473].map(size_class), [medium(0), medium(1), medium(11), None]);
 }
 
 #[test]

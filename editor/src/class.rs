@@ -3,7 +3,7 @@
 use core::fmt;
 
 use crate::block::PAGE_GRANULES;
-use crate::{Block, Kind, GRANULE_BYTES, PAGE_BYTES};
+use crate::{ffi, Block, Kind, GRANULE_BYTES, PAGE_BYTES};
 
 /// The number of small classes.
 const SMALL: u32 = 64;
@@ -19,21 +19,6 @@ const BYTES: [u32; Class::COUNT] = [
     16_384, 16_384, 16_384, 16_384, 16_384, 16_384, 16_384, 16_384, 16_384, 16_384, 16_384, // medium from here on
     18_432, 20_736, 23_328, 26_256, 29_552, 33_248, 37_408, 42_096, 47_360, 53_280, 59_952, 65_472,
 ];
-
-/// The place of the class for each number of granules: the first whose blocks are not smaller. The library's lookups answer
-/// the same, which is tested for every size, but make their tables anew in each call.
-static FIRST_FIT: [u8; Class::MAX_BYTES / GRANULE_BYTES + 1] = {
-    let mut table = [0; Class::MAX_BYTES / GRANULE_BYTES + 1];
-    let (mut granules, mut class) = (0, 0);
-    while granules < table.len() {
-        while (BYTES[class as usize] as usize) < granules * GRANULE_BYTES {
-            class += 1;
-        }
-        table[granules] = class;
-        granules += 1;
-    }
-    table
-};
 
 /// Bytes before the first block of a page, and of a span.
 const PAGE_HEADER: usize = 48;
@@ -89,7 +74,7 @@ impl Class {
     #[must_use]
     #[inline]
     pub fn for_size(bytes: usize) -> Option<Class> {
-        FIRST_FIT.get(bytes.div_ceil(GRANULE_BYTES)).map(|&place| Class(place))
+        ffi::size_class(bytes as u64)
     }
 
     /// The small class with a number, 0 to 63.
@@ -276,16 +261,15 @@ impl fmt::Debug for Class {
 #[cfg(test)]
 mod tests {
     use super::*;
-    use crate::{ffi, Heap};
+    use crate::Heap;
     use std::collections::HashSet;
 
-    /// Of every size: the class is the library's, its blocks suffice, and those of the class before do not.
+    /// Of every size: the blocks of its class suffice, and those of the class before do not.
     #[test]
-    fn the_tables_are_the_librarys() {
+    fn the_block_sizes_are_the_librarys() {
         let mut before: Option<Class> = None;
         for bytes in 0..=Class::MAX_BYTES {
             let class = Class::for_size(bytes).expect("a size that is not too large");
-            assert_eq!(Some((class.kind(), class.number())), ffi::size_class(bytes as u64));
             if before.is_some_and(|before| before != class) {
                 assert_eq!(before.map(Class::bytes), Some(bytes - 1));
             }
@@ -295,7 +279,6 @@ mod tests {
         assert_eq!(before.map(Class::index), Some(Class::COUNT - 1));
         let too_large = [Class::MAX_BYTES + 1, usize::MAX];
         assert_eq!(too_large.map(Class::for_size), [None, None]);
-        assert_eq!(too_large.map(|bytes| ffi::size_class(bytes as u64)), [None, None]);
         assert!((45..64).all(|number| Class::small(number).map(Class::bytes) == Some(16_384)));
     }
 

@@ -26,17 +26,8 @@ use alloc::vec::Vec;
 use crate::{Block, Chunk, Class, Fate, Growth, Host, Kind, Refusal, Report, Run, Word};
 
 extern "C" {
-    #[cfg(test)]
-    fn vigbuso_class_for_size(size: u64) -> u32;
-    #[cfg(test)]
-    fn vigbuso_medium_class_for_size(size: u64) -> u32;
-    fn vigbuso_plan(
-        classes: *const u32,
-        classes_len: usize,
-        takes: *const u32,
-        takes_len: usize,
-        total: *mut u64,
-    ) -> u32;
+    fn vigbuso_size_class(size: u64, class: *mut u32) -> u32;
+    fn vigbuso_plan(sizes: *const u32, sizes_len: usize, takes: *const u32, takes_len: usize, total: *mut u64) -> u32;
     fn vigbuso_open(book: *mut u32, book_len: usize, pages: u64) -> u32;
     fn vigbuso_commit(book: *mut u32, book_len: usize, host: u32, pages: u64, first: *mut u32, fresh: *mut u32) -> u32;
     fn vigbuso_grow_frontier(
@@ -118,14 +109,14 @@ fn fate(number: u32) -> Fate {
     Fate::from_number(number).expect("a release answers one of document 01's fates")
 }
 
-/// A size's family and its class there; none if it is too large for both. The two lookups answer a class for every size:
-/// each is asked only where its answer's blocks are large enough. [`Class::for_size`] is held to this.
-#[cfg(test)]
-pub(crate) fn size_class(size: u64) -> Option<(Kind, u32)> {
-    // SAFETY: a number for a number.
-    match size {
-        0..=16_384 => Some((Kind::Small, unsafe { vigbuso_class_for_size(size) })),
-        16_385..=65_472 => Some((Kind::Medium, unsafe { vigbuso_medium_class_for_size(size) })),
+/// A size's class; none if it is too large. The answer is the kind that its blocks' words have, 0 for none.
+#[inline]
+pub(crate) fn size_class(size: u64) -> Option<Class> {
+    let mut number = 0;
+    // SAFETY: the out-parameter is a local.
+    match unsafe { vigbuso_size_class(size, &raw mut number) } {
+        1 => Class::small(number),
+        2 => Class::medium(number),
         _ => None,
     }
 }
@@ -147,10 +138,10 @@ pub(crate) fn zeroed(words: usize) -> Option<Vec<u32>> {
 }
 
 /// The pages of a plan.
-pub(crate) fn plan(classes: &[u32], takes: &[u32]) -> Result<u64, Refusal> {
+pub(crate) fn plan(sizes: &[u32], takes: &[u32]) -> Result<u64, Refusal> {
     let mut total = 0;
     // SAFETY: both slices are lent for the call, to be read, and the local to be written.
-    carried_out(unsafe { vigbuso_plan(classes.as_ptr(), classes.len(), takes.as_ptr(), takes.len(), &raw mut total) })?;
+    carried_out(unsafe { vigbuso_plan(sizes.as_ptr(), sizes.len(), takes.as_ptr(), takes.len(), &raw mut total) })?;
     Ok(total)
 }
 
@@ -307,18 +298,22 @@ mod tests {
     }
 
     #[test]
-    fn p1_to_p5_sizes() {
-        let small = |size| unsafe { vigbuso_class_for_size(size) };
-        let medium = |size| unsafe { vigbuso_medium_class_for_size(size) };
-        assert_eq!([0, 16_384, 16_385, u64::MAX].map(small), [0, 45, 63, 63]);
-        assert_eq!([18_432, 18_433, 65_472, 65_473, 16_384].map(medium), [0, 1, 11, 11, 11]);
+    fn a_size_that_is_too_large_leaves_the_class() {
+        let looked_up = |size| {
+            let mut class = 99;
+            (unsafe { vigbuso_size_class(size, &raw mut class) }, class)
+        };
+        assert_eq!([0, 16_384].map(looked_up), [(1, 0), (1, 45)]);
+        assert_eq!([16_385, 65_472].map(looked_up), [(2, 0), (2, 11)]);
+        assert_eq!([65_473, (1 << 32) + 16, u64::MAX].map(looked_up), [(0, 99); 3]);
     }
 
     #[test]
-    fn a_plan_has_lists_of_one_length_and_classes_that_are_there() {
+    fn a_plan_has_lists_of_one_length_and_sizes_that_are_not_too_large() {
         assert_eq!(plan(&[0], &[]), Err(Refusal::Plan));
         assert_eq!(plan(&[0, 1], &[1]), Err(Refusal::Plan));
-        assert_eq!([plan(&[75], &[1]), plan(&[76], &[1])], [Ok(8), Err(Refusal::Plan)]);
+        assert_eq!([plan(&[65_472], &[1]), plan(&[65_473], &[1])], [Ok(8), Err(Refusal::Plan)]);
+        assert_eq!(plan(&[u32::MAX], &[1]), Err(Refusal::Plan));
     }
 
     #[test]

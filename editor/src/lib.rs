@@ -32,7 +32,7 @@
 //! # Ok::<(), vigbuso::Refusal>(())
 //! ```
 //!
-//! Every call of the library is a method of [`Heap`], both size lookups are [`Class::for_size`]; [`plan`] works out, before a
+//! Every call of the library is a method of [`Heap`], the size lookup is [`Class::for_size`]; [`plan`] works out, before a
 //! large fill, how many pages it needs; [`short_histories`] lists all that can happen in a few direct calls. A call with bad arguments
 //! changes nothing and answers a [`Refusal`].
 //!

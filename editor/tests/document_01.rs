@@ -28,11 +28,12 @@ fn give(heap: &mut Heap, first: u64, pages: u64) {
     heap.release_run(Run { first, pages }).expect("the run is held");
 }
 
-/// What the lookups answer where `Class::for_size` does not ask them (P3, P5) is tested beside their declarations.
+/// As document 02 restates them (A.6).
 #[test]
 fn p1_to_p5_sizes() {
     assert_eq!([0, 16_384].map(Class::for_size), [0, 45].map(Class::small));
-    assert_eq!([18_432, 18_433, 65_472].map(Class::for_size), [0, 1, 11].map(Class::medium));
+    assert_eq!([16_385, 18_432, 18_433, 65_472].map(Class::for_size), [0, 0, 1, 11].map(Class::medium));
+    assert_eq!([65_473, (1 << 32) + 16, usize::MAX].map(Class::for_size), [None; 3]);
 }
 
 #[test]

@@ -22,23 +22,35 @@ enum { PAGES = 64, HOST = VIGBUSO_HOST_GRANTED };
 static const size_t words = VIGBUSO_BOOK_WORDS(PAGES);
 static uint32_t *book;
 
-static void lookups(void) {
-    IS(vigbuso_class_for_size(0), 0);
-    IS(vigbuso_class_for_size(16384), 45);
-    IS(vigbuso_class_for_size(UINT64_MAX), 63);
-    IS(vigbuso_medium_class_for_size(18433), 1);
-    IS(vigbuso_medium_class_for_size(65473), 11);
+/* A size is of this class; too large leaves the out-parameter. */
+static void sized(uint64_t size, uint32_t kind, uint32_t number) {
+    uint32_t found = 99;
+    IS(vigbuso_size_class(size, &found), kind);
+    IS(found, kind == VIGBUSO_NONE ? 99 : number);
 }
 
-/* Each class's blocks are large enough for the sizes that the lookups give it, and for no more. */
+static void lookups(void) {
+    sized(0, VIGBUSO_SMALL, 0);
+    sized(16384, VIGBUSO_SMALL, 45);
+    sized(16385, VIGBUSO_MEDIUM, 0);
+    sized(65472, VIGBUSO_MEDIUM, 11);
+    sized(65473, VIGBUSO_NONE, 0);
+    sized(((uint64_t)1 << 32) + 16, VIGBUSO_NONE, 0);
+    sized(UINT64_MAX, VIGBUSO_NONE, 0);
+}
+
+/* Each class's blocks are large enough for the sizes that the lookup gives it, and for no more. */
 static void block_bytes(void) {
-    for (uint32_t c = 0; c < VIGBUSO_SMALL_CLASSES; c++) {
-        IS(vigbuso_class_for_size(vigbuso_block_bytes(c)), c < 45 ? c : 45);
-        IS(vigbuso_class_for_size(vigbuso_block_bytes(c) + 1), c < 45 ? c + 1 : 63);
+    for (uint32_t c = 0; c < 45; c++) {
+        sized(vigbuso_block_bytes(c), VIGBUSO_SMALL, c);
+        sized(vigbuso_block_bytes(c) + 1, VIGBUSO_SMALL, c + 1);
+    }
+    for (uint32_t c = 45; c < VIGBUSO_SMALL_CLASSES; c++) {
+        IS(vigbuso_block_bytes(c), 16384);
     }
     for (uint32_t c = 0; c < VIGBUSO_MEDIUM_CLASSES; c++) {
-        IS(vigbuso_medium_class_for_size(vigbuso_medium_block_bytes(c)), c);
-        IS(vigbuso_medium_class_for_size(vigbuso_medium_block_bytes(c) + 1), c < 11 ? c + 1 : 11);
+        sized(vigbuso_medium_block_bytes(c), VIGBUSO_MEDIUM, c);
+        sized(vigbuso_medium_block_bytes(c) + 1, c < 11 ? VIGBUSO_MEDIUM : VIGBUSO_NONE, c + 1);
     }
     IS(vigbuso_block_bytes(VIGBUSO_SMALL_CLASSES), 0);
     IS(vigbuso_medium_block_bytes(VIGBUSO_MEDIUM_CLASSES), 0);
@@ -149,13 +161,13 @@ static void game(void) {
     IS(wins, 0);
 }
 
-/* Class 0 has 64 takes a page, medium class 0 a span of three pages a take. */
+/* Sizes up to 16 have 64 takes a page, 16,385 a span of three pages a take. */
 static void plan(void) {
-    const uint32_t classes[3] = {0, 64, 0}, takes[3] = {60, 2, 5};
+    const uint32_t sizes[3] = {0, 16385, 16}, takes[3] = {60, 2, 5};
     uint64_t total = 7;
-    IS(vigbuso_plan(classes, 3, takes, 2, &total), VIGBUSO_PLAN);
+    IS(vigbuso_plan(sizes, 3, takes, 2, &total), VIGBUSO_PLAN);
     IS(total, 7);
-    IS(vigbuso_plan(classes, 3, takes, 3, &total), 0);
+    IS(vigbuso_plan(sizes, 3, takes, 3, &total), 0);
     IS(total, 2 + 6);
 }
 

@@ -9,6 +9,8 @@ use crate::words::{chunk_word, page_of, Family};
 
 #[derive(Clone, Copy)]
 pub enum Scenario {
+    /// Lookups of sizes of a family.
+    Sizes { family: Family },
     /// Commits of 1 page and gives, with so many holes of 1 page; none: from the frontier.
     Remembered { holes: u32 },
     /// Commits of 2 pages, with so many holes of 1 page.
@@ -63,13 +65,16 @@ pub fn all() -> Vec<Scenario> {
     let chunks = |order| move |(pages, blocks)| Scenario::Chunks { class: small(10), pages, blocks, order };
     let in_order = [(1, 8), (8, 8), (8, 64), (32, 64), (128, 8), (512, 8), (8, 314)].map(chunks(Order::Pages));
     let mixed = [(8, 8), (32, 64), (128, 8), (1_000, 4)].map(chunks(Order::Mixed));
+    let sizes = [Family::Small, Family::Medium].map(|family| Scenario::Sizes { family });
     let arena_calls = remembered.into_iter().chain(no_fit);
     let list_calls = batches.into_iter().chain(single).chain(whole).chain(listed).chain(arena);
-    arena_calls.chain(list_calls).chain(in_order).chain(mixed).chain([Scenario::Fill]).collect()
+    arena_calls.chain(list_calls).chain(in_order).chain(mixed).chain(sizes).chain([Scenario::Fill]).collect()
 }
 
 /// Calls between two readings of the clock, where no scenario says otherwise.
 const BATCH: usize = 8;
+/// Lookups between two readings.
+const LOOKUPS: usize = 1_024;
 /// Times that calls which undo each other are repeated in a round; the first is not counted.
 const REPEATS: usize = 4;
 
@@ -81,6 +86,7 @@ impl Scenario {
         };
         let plain = |calls: &[String]| calls.iter().map(|call| Row { call: call.clone(), holes: None }).collect();
         match *self {
+            Scenario::Sizes { family } => plain(&[format!("class of a size, {}", family_name(family))]),
             Scenario::Remembered { holes: 0 } => with(0, &["commit, 1 page, from the frontier", "give, 1 page"]),
             Scenario::Remembered { holes } => with(holes, &["commit, 1 page, remembered", "give, 1 page"]),
             Scenario::NoFit { holes } => with(holes, &["commit, 2 pages, fits no hole"]),
@@ -117,6 +123,7 @@ impl Scenario {
     pub fn round<S: Side>(&self, side: &mut S, clock: Clock) -> Round {
         side.reopen(if let Scenario::Arena { pages, .. } = *self { pages } else { PAGES });
         match *self {
+            Scenario::Sizes { family } => sizes(side, clock, family),
             Scenario::Remembered { holes: 0 } => frontier(side, clock),
             Scenario::Remembered { holes } => remembered(side, clock, holes),
             Scenario::NoFit { holes } => no_fit(side, clock, holes),
@@ -138,8 +145,29 @@ fn name(Class(family, class): Class) -> String {
     }
 }
 
+fn family_name(family: Family) -> &'static str {
+    match family {
+        Family::Small => "small",
+        Family::Medium => "medium",
+    }
+}
+
 fn capacity(Class(family, class): Class) -> u32 {
     oracle::capacity(family, class)
+}
+
+/// Sizes all over the family's, in no order.
+fn sizes<S: Side>(side: &mut S, clock: Clock, family: Family) -> Round {
+    let (low, many) = match family {
+        Family::Small => (0, 16_385),
+        Family::Medium => (16_385, 49_088),
+    };
+    let sizes: Vec<u64> = (0..LOOKUPS as u64).map(|i| low + i * 7_919 % many).collect();
+    let mut answers = vec![0; LOOKUPS];
+    let ((), time) = clock.time(LOOKUPS, || {
+        answers.iter_mut().zip(&sizes).for_each(|(answer, &size)| *answer = side.class_of(family, size));
+    });
+    Round { times: vec![time], answers }
 }
 
 /// Holes of 1 page each.

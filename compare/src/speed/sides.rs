@@ -7,6 +7,7 @@
 use crate::memory::Reserved;
 use crate::oracle::{self, Chain, Chunks, Original};
 use crate::port;
+use crate::sizes::original;
 use crate::words::{book_words, Family, HOST_COMMIT, HOST_RESERVE, MAX_CHUNKS, NO_PAGE, SMALL_BATCH};
 
 pub const HOST: u32 = HOST_RESERVE | HOST_COMMIT;
@@ -30,6 +31,8 @@ pub trait Side {
 
     /// A heap on which nothing was asked yet, with an arena of so many pages.
     fn reopen(&mut self, pages: u32);
+    /// The class of a size of a family.
+    fn class_of(&self, family: Family, size: u64) -> u32;
     /// First page, or none.
     fn commit(&mut self, pages: u64) -> u32;
     fn give(&mut self, first: u32, pages: u64);
@@ -64,6 +67,11 @@ impl Side for OriginalSide {
 
     fn reopen(&mut self, pages: u32) {
         self.0.reopen(pages);
+    }
+
+    #[inline]
+    fn class_of(&self, family: Family, size: u64) -> u32 {
+        original(family, size)
     }
 
     #[inline]
@@ -167,6 +175,11 @@ impl Side for PortSide {
 
     fn reopen(&mut self, pages: u32) {
         self.refused = port::open(self.book(), u64::from(pages));
+    }
+
+    #[inline]
+    fn class_of(&self, _: Family, size: u64) -> u32 {
+        port::size_class(size).expect("not too large").1
     }
 
     #[inline]

@@ -3,17 +3,17 @@ use Prim.Native.Nat.{ℕ, zero, suc, _-_, _*_, _/_, _≤_, _<_, zero-le, suc-le-
 use mathlib.Core.Path.{_≡_, refl}
 use mathlib.Core.Bool.{Bool, true, false, cond}
 use mathlib.Core.List.{List, [], _∷_}
-use mathlib.Core.Logic.{inl, inr, by-cases}
+use mathlib.Core.Logic.{by-cases}
 use native.Mathlib.Nat.{le-div-iff-mul-le, div-lt-iff-lt-mul, le-of-suc-le-suc, not-suc-le-zero}
 use native.Mathlib.Decide.{decLe}
 use native.Mathlib.Omega.{arith}
 use lib.Dec.{leb}
 use lib.ListN.{length, getD}
-use borrow.Author.Tests.{leb-true, leb-false, le-leb, lt-ltb}
+use borrow.Author.Tests.{leb-true, leb-false}
 use Rattle.classes.specs.Sizes.{smallSizes, mediumSizes, maxSmallSize, maxMediumSize, pageBytes, mediumHeader, spanPages, spanCapacity}
-use Rattle.classes.specs.Lookup.{firstFit, classForSize, mediumClassForSize}
-use Rattle.classes.specs.Meaning.{FewestPages, FirstFit}
-use Rattle.classes.proofs.Rounding.{Medium, small-above, medium-outside}
+use Rattle.classes.specs.Lookup.{firstFit, sizeClass}
+use Rattle.classes.specs.Meaning.{FewestPages, FirstFit, Smallest}
+use Rattle.classes.proofs.Answers.{sized-small, sized-medium, sized-large}
 
 pub span-pages : (size : ℕ) → FewestPages size (spanPages size)
 span-pages size = record { enough = omega arith; fewest = λ fewer h. omega arith }
@@ -40,23 +40,27 @@ first-fit size [] k l h = absurd (not-suc-le-zero l)
 first-fit size (x ∷ xs) zero l h = found size x xs (leb size x) refl (λ e. absurd (omega (arith, leb-false size x e)))
 first-fit size (x ∷ xs) (suc k) l h = found size x xs (leb size x) refl (λ e. first-fit size xs k (le-of-suc-le-suc l) h)
 
-pub small-first-fit : (size : ℕ) → size ≤ maxSmallSize → FirstFit size smallSizes (classForSize size)
-unfolding classForSize smallSizes
-small-first-fit size h = rw (le-leb size maxSmallSize h) (first-fit size smallSizes 63 (omega arith) (omega arith))
-
-pub medium-first-fit : (size : ℕ) → Medium size → FirstFit size mediumSizes (mediumClassForSize size)
-unfolding mediumClassForSize mediumSizes
-medium-first-fit size h =
-    rw (lt-ltb maxSmallSize size (h .0), le-leb size maxMediumSize (h .1)) (first-fit size mediumSizes 11 (omega arith) (omega arith))
-
--- every answer is a class
-pub small-class : (size : ℕ) → classForSize size < 64
+pub small-first-fit : (size : ℕ) → size ≤ maxSmallSize → FirstFit size smallSizes (firstFit size smallSizes)
 unfolding smallSizes
-small-class size =
-    by-cases (decLe size maxSmallSize) (λ h. small-first-fit size h .within) (λ n. omega (arith, small-above size (omega arith)))
+small-first-fit size h = first-fit size smallSizes 63 (omega arith) (omega arith)
 
-pub medium-class : (size : ℕ) → mediumClassForSize size < 12
+pub medium-first-fit : (size : ℕ) → size ≤ maxMediumSize → FirstFit size mediumSizes (firstFit size mediumSizes)
 unfolding mediumSizes
-medium-class size =
-    by-cases (decLe size maxSmallSize) (λ h. omega (arith, medium-outside size (inl h)))
-    (λ n. by-cases (decLe size maxMediumSize) (λ h. medium-first-fit size (omega arith, h) .within) (λ m. omega (arith, medium-outside size (inr (omega arith)))))
+medium-first-fit size h = first-fit size mediumSizes 11 (omega arith) (omega arith)
+
+-- what first fit answers is a class
+pub small-class : (size : ℕ) → size ≤ maxSmallSize → firstFit size smallSizes < 64
+unfolding smallSizes
+small-class size h = small-first-fit size h .within
+
+pub medium-class : (size : ℕ) → size ≤ maxMediumSize → firstFit size mediumSizes < 12
+unfolding mediumSizes
+medium-class size h = medium-first-fit size h .within
+
+-- "answers small class, medium class, or too large": the smallest class that is large enough, for every size
+pub smallest-class : (size : ℕ) → Smallest size (sizeClass size)
+smallest-class size =
+    by-cases (decLe size maxSmallSize) (λ h. rw (sized-small size h) (h, small-first-fit size h))
+    (λ n. by-cases (decLe size maxMediumSize)
+    (λ h. rw (sized-medium size (omega arith) h) ((omega arith, h), medium-first-fit size h))
+    (λ m. rw (sized-large size (omega arith)) (omega arith)))

@@ -1,15 +1,14 @@
 -- Sizes of equally many granules have the same class: the lookup tables need an entry for every 16th size only.
-use Prim.Native.Nat.{ℕ, _+_, _-_, _/_, _%_, _≤_, _<_}
+use Prim.Native.Nat.{ℕ, _+_, _/_, _%_}
 use mathlib.Core.Path.{_≡_, refl}
 use mathlib.Core.Bool.{Bool, true, false}
 use mathlib.Core.List.{List, [], _∷_}
-use mathlib.Core.Logic.{_⊎_, inl, inr}
 use native.Mathlib.Omega.{arith}
 use lib.Dec.{leb, eqb}
-use borrow.Author.Tests.{leb-true, leb-false, le-leb, lt-leb, lt-ltb, le-ltb, eqb-true}
+use borrow.Author.Tests.{leb-true, leb-false, eqb-true}
 use Rattle.facts.proofs.Bools.{and-left, and-right}
-use Rattle.classes.specs.Sizes.{smallSizes, mediumSizes, maxSmallSize, maxMediumSize}
-use Rattle.classes.specs.Lookup.{firstFit, classForSize, mediumClassForSize}
+use Rattle.classes.specs.Sizes.{smallSizes, mediumSizes}
+use Rattle.classes.specs.Lookup.{firstFit}
 use Rattle.classes.proofs.Table.{every}
 
 -- granules of a size, rounded up
@@ -33,26 +32,10 @@ same-fit a b (x ∷ xs) e t =
     let w : x % 16 ≡ 0 = eqb-true (x % 16) 0 (and-left (whole x) (every whole xs) t) in
     rw (same-test a b x (leb a x) (leb b x) refl refl e w, same-fit a b xs e (and-right (whole x) (every whole xs) t)) refl
 
-pub small-rounded : (near size : ℕ) → near ≤ maxSmallSize → size ≤ maxSmallSize → granules near ≡ granules size → classForSize near ≡ classForSize size
-unfolding classForSize smallSizes
-small-rounded near size n h e = rw (le-leb near maxSmallSize n, le-leb size maxSmallSize h) (same-fit near size smallSizes e refl)
+pub small-rounded : (near size : ℕ) → granules near ≡ granules size → firstFit near smallSizes ≡ firstFit size smallSizes
+unfolding smallSizes
+small-rounded near size e = same-fit near size smallSizes e refl
 
--- a size between the small ones and the largest medium one
-abbrev pub Medium : ℕ → Type 0
-Medium size = (maxSmallSize < size) × (size ≤ maxMediumSize)
-
-pub medium-rounded : (near size : ℕ) → Medium near → Medium size → granules near ≡ granules size → mediumClassForSize near ≡ mediumClassForSize size
-unfolding mediumClassForSize mediumSizes
-medium-rounded near size n h e =
-    rw (lt-ltb maxSmallSize near (n .0), le-leb near maxMediumSize (n .1), lt-ltb maxSmallSize size (h .0), le-leb size maxMediumSize (h .1))
-    (same-fit near size mediumSizes e refl)
-
--- beyond the tables
-pub small-above : (size : ℕ) → maxSmallSize < size → classForSize size ≡ 63
-unfolding classForSize
-small-above size h = rw (lt-leb size maxSmallSize h)
-
-pub medium-outside : (size : ℕ) → (size ≤ maxSmallSize) ⊎ (maxMediumSize < size) → mediumClassForSize size ≡ 11
-unfolding mediumClassForSize
-medium-outside size (inl h) = rw (le-ltb maxSmallSize size h)
-medium-outside size (inr h) = rw (lt-ltb maxSmallSize size (omega arith), lt-leb size maxMediumSize h)
+pub medium-rounded : (near size : ℕ) → granules near ≡ granules size → firstFit near mediumSizes ≡ firstFit size mediumSizes
+unfolding mediumSizes
+medium-rounded near size e = same-fit near size mediumSizes e refl

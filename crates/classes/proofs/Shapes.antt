@@ -1,7 +1,6 @@
 -- Every class's shape is sound: one computed test over each of the two size tables.
 use Prim.Native.Nat.{ℕ, _+_, _-_, _*_, _≤_, _<_}
 use mathlib.Core.Path.{_≡_, refl}
-use mathlib.Core.List.{List}
 use mathlib.Core.Bool.{Bool, true, false, cond, _&&_}
 use lib.Dec.{leb, ltb}
 use borrow.Author.Tests.{leb-true}
@@ -11,7 +10,7 @@ use Rattle.classes.specs.declared.Shape.{Shape}
 use Rattle.classes.specs.Sizes.{smallSizes, mediumSizes, pageBytes}
 use Rattle.classes.specs.Shape.{smallShape, mediumShape, shapeOf}
 use Rattle.classes.specs.Sound.{Sound}
-use Rattle.classes.proofs.Table.{every, every-at}
+use Rattle.classes.proofs.Table.{every-at}
 
 abbrev within : ℕ → ℕ → ℕ → Bool
 within low n high = leb low n && leb n high
@@ -50,19 +49,13 @@ pub shape-sound : (c : ℕ) → Sound (shapeOf c)
 unfolding shapeOf
 shape-sound c = is-sound (shapeOf c) (true-cond sound (ltb c 64) _ _ (small-sound c) (medium-sound (c - 64)))
 
--- block sizes are positive, and at most a page
+-- medium block sizes are positive, and at most a page
 abbrev usable : ℕ → Bool
 usable size = within 1 size pageBytes
 
-usable-at : (sizes : List ℕ) (d c : ℕ) → every usable sizes ≡ true → usable d ≡ true → (0 < getD sizes c d) × (getD sizes c d ≤ pageBytes)
-usable-at sizes d c t e =
-    let u : usable (getD sizes c d) ≡ true = every-at usable sizes d c t e in
-    (leb-true 1 (getD sizes c d) (search and-left), leb-true (getD sizes c d) pageBytes (search and-right))
-
-pub small-usable : (c : ℕ) → (0 < getD smallSizes c 16384) × (getD smallSizes c 16384 ≤ pageBytes)
-unfolding smallSizes
-small-usable c = usable-at smallSizes 16384 c refl refl
-
 pub medium-usable : (c : ℕ) → (0 < getD mediumSizes c 65472) × (getD mediumSizes c 65472 ≤ pageBytes)
 unfolding mediumSizes
-medium-usable c = usable-at mediumSizes 65472 c refl refl
+medium-usable c =
+    let size = getD mediumSizes c 65472 in
+    let u : usable size ≡ true = every-at usable mediumSizes 65472 c refl refl in
+    (leb-true 1 size (search and-left), leb-true size pageBytes (search and-right))

@@ -1,13 +1,13 @@
 -- A rule of a table, proved at all of its entries by one test that antt computes, one entry after the other.
-use Prim.Native.Nat.{ℕ, zero, suc, _+_, _*_, _<_}
+use Prim.Native.Nat.{ℕ, zero, suc, _+_, _*_, _≤_, _<_}
 use mathlib.Core.Path.{_≡_, refl}
 use mathlib.Core.Bool.{Bool, true, _&&_}
 use mathlib.Core.List.{List, [], _∷_}
 use native.Mathlib.Nat.{add-zero, mul-zero, le-of-suc-le-suc, not-suc-le-zero}
 use native.Mathlib.Omega.{arith}
 use lib.Dec.{eqb}
-use lib.ListN.{length, getD}
-use borrow.Author.Tests.{eqb-true}
+use lib.ListN.{length, getD, drop}
+use borrow.Author.Tests.{eqb-true, eq-eqb}
 use Rattle.facts.proofs.Bools.{and-left, and-right}
 use Rattle.classes.specs.Lookup.{obeys}
 
@@ -36,3 +36,10 @@ pub getD-within : (xs : List ℕ) (d e k : ℕ) → k < length xs → getD xs k 
 getD-within [] d e k h = absurd (not-suc-le-zero h)
 getD-within (x ∷ xs) d e zero h = refl
 getD-within (x ∷ xs) d e (suc k) h = getD-within xs d e k (le-of-suc-le-suc h)
+
+-- a table whose entries from n on are all d reads d from there on
+pub tail-at : (xs : List ℕ) (n d k : ℕ) → n ≤ k → every (λ x. eqb x d) (drop n xs) ≡ true → getD xs k d ≡ d
+tail-at xs zero d k l t = eqb-true (getD xs k d) d (every-at (λ x. eqb x d) xs d k t (eq-eqb d d refl))
+tail-at [] (suc n) d k l t = refl
+tail-at (x ∷ xs) (suc n) d zero l t = absurd (not-suc-le-zero l)
+tail-at (x ∷ xs) (suc n) d (suc k) l t = tail-at xs n d k (le-of-suc-le-suc l) t

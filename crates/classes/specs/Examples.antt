@@ -1,27 +1,30 @@
--- Document 01's examples of the lookups, P1 to P5: which rule, the size, and the class that it must be.
+-- Examples of the lookup: document 01's P1 to P5 as document 02 restates them (A.6), and sizes beyond 32 bits.
 use Prim.Native.Nat.{ℕ}
 use mathlib.Core.List.{List, [], _∷_}
-use Rattle.classes.specs.Lookup.{classForSize, mediumClassForSize}
+use Rattle.classes.specs.declared.Sized.{Sized}
+use Rattle.classes.specs.declared.Sized.the-variants.{Small, Medium, TooLarge}
+use Rattle.classes.specs.Lookup.{sizeClass}
 
 pub record Example : Type 0 where
-  pub rule : ℕ → ℕ
   pub size : ℕ
-  pub class : ℕ
+  pub class : Sized
 
-abbrev pub example : (ℕ → ℕ) → ℕ → ℕ → Example
-example rule size class = record { rule = rule; size = size; class = class }
+abbrev pub example : ℕ → Sized → Example
+example size class = record { size = size; class = class }
 
 unfoldable pub examples : List Example
 examples =
     -- P1, P2, P3
-    example classForSize 0 0 ∷ example classForSize 16384 45 ∷ example classForSize 16385 63 ∷
+    example 0 (Small 0) ∷ example 16384 (Small 45) ∷ example 16385 (Medium 0) ∷
     -- P4
-    example mediumClassForSize 18432 0 ∷ example mediumClassForSize 18433 1 ∷
+    example 18432 (Medium 0) ∷ example 18433 (Medium 1) ∷
     -- P5
-    example mediumClassForSize 65472 11 ∷ example mediumClassForSize 65473 11 ∷ []
+    example 65472 (Medium 11) ∷ example 65473 TooLarge ∷
+    -- 2 to the 32nd plus 16, and the largest number of bytes
+    example 4294967312 TooLarge ∷ example 18446744073709551615 TooLarge ∷ []
 
-abbrev pub answer : Example → ℕ
-answer e = e .rule (e .size)
+abbrev pub answer : Example → Sized
+answer e = sizeClass (e .size)
 
-abbrev pub expected : Example → ℕ
+abbrev pub expected : Example → Sized
 expected e = e .class

@@ -1,5 +1,13 @@
-// The class of every 16th size from 0 to 16,384. `class_for_size` proves the rule at every entry.
-pub const CLASS_LUT: [u8; 1025] = [
+// The class of every 16th size from 0 to 16,384. The contract is the rule at every entry, tested by computing over the whole table.
+ghost use Rattle.classes.specs.Lookup.{SmallLut};
+
+pub fn small_classes() -> [u8; 1025]
+    ensures { λ r. ⌜ SmallLut r ⌝ }
+{
+    CLASS_LUT
+}
+
+const CLASS_LUT: [u8; 1025] = [
     0, // size 0
     0,
     1, // from 17

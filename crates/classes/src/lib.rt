@@ -1,21 +1,34 @@
 // Size classes: the block sizes, the lookups, and what a class's runs look like.
+mod by_class;
 mod class_lut;
+mod in_tables;
 mod lookup;
 mod medium_lut;
+mod near;
 mod runs;
 mod sizes;
 
-pub use lookup::class_for_size;
-pub use lookup::medium_class_for_size;
+pub use by_class::medium_size;
+pub use by_class::small_size;
+pub use class_lut::small_classes;
+pub use in_tables::class_in;
+pub use lookup::size_class;
+pub use medium_lut::medium_classes;
 pub use runs::shape_of;
 pub use sizes::CLASS_COUNT;
 pub use sizes::NUM_CLASSES;
 pub use sizes::NUM_MEDIUM;
-pub use sizes::capacity_for;
 pub use sizes::medium_capacity_for;
-pub use sizes::medium_size;
-pub use sizes::small_size;
+pub use sizes::medium_table;
+pub use sizes::small_table;
 pub use sizes::span_pages_for;
+
+// The class of a size (document 02, A.6).
+pub enum Sized {
+    Small(u32),
+    Medium(u32),
+    TooLarge,
+}
 
 // A class by its numbers: ids 0 to 63 are the small classes, 64 to 75 the medium ones.
 // Lengths are in granules of 16 bytes, 4,096 to a page.

@@ -1,55 +1,74 @@
-// The class of a size, by direct-mapped tables with an entry for every 16th size.
-// Each lookup proves its table's rule at every entry, by the test that `obeys` computes over the whole table.
+// The class of a size (document 02, A.6).
 ghost use mathlib.Core.Path.{_≡_};
-ghost use mathlib.Core.Bool.{true};
-ghost use Prim.Native.Nat.{_<_, _+_, _*_};
-ghost use lib.ListN.{length};
-ghost use Rattle.classes.specs.Lookup.{classForSize, mediumClassForSize, obeys};
-use super::class_lut::CLASS_LUT;
-use super::medium_lut::MEDIUM_LUT;
-use super::sizes::NUM_CLASSES;
-use super::sizes::NUM_MEDIUM;
-use super::sizes::medium_size;
-use super::sizes::small_size;
+ghost use Prim.Native.Nat.{_<_, _≤_};
+ghost use Rattle.classes.specs.Sizes.{smallSizes, mediumSizes, maxSmallSize, maxMediumSize};
+ghost use Rattle.classes.specs.Lookup.{firstFit, sizeClass};
+ghost use Rattle.classes.specs.Near.{Near};
+use super::Sized;
+use super::by_class::medium_size;
+use super::by_class::small_size;
+use super::near::by_128;
+use super::near::by_1024;
+use super::near::by_2048;
+use super::near::by_granules;
 
-// An entry of the small table: the class of this many granules.
-fn class_at(lut: &[u8], place: usize) -> u8
-    requires { ⌜ place < length (now lut) ⌝ }
-    requires { ⌜ obeys classForSize 0 (now lut) ≡ true ⌝ }
-    ensures { λ r. ⌜ r ≡ classForSize (16 * place) ⌝ }
+// A small class near a size above 1,024.
+fn near_small(size: u32) -> u32
+    requires { ⌜ 1024 < size ⌝ }
+    requires { ⌜ size ≤ maxSmallSize ⌝ }
+    ensures { λ r. ⌜ Near size r smallSizes ⌝ }
 {
-    lut[place]
+    if size <= 8192 {
+        return by_128((size - 1025) / 128);
+    }
+    by_1024((size - 8193) / 1024)
 }
 
-// An entry of the medium table, which starts past the small sizes.
-fn medium_class_at(lut: &[u8], place: usize) -> u8
-    requires { ⌜ place < length (now lut) ⌝ }
-    requires { ⌜ obeys mediumClassForSize 16385 (now lut) ≡ true ⌝ }
-    ensures { λ r. ⌜ r ≡ mediumClassForSize (16385 + 16 * place) ⌝ }
+fn near_medium(size: u32) -> u32
+    requires { ⌜ maxSmallSize < size ⌝ }
+    requires { ⌜ size ≤ maxMediumSize ⌝ }
+    ensures { λ r. ⌜ Near size r mediumSizes ⌝ }
 {
-    lut[place]
+    by_2048((size - 16385) / 2048)
 }
 
-// The first small class whose blocks hold a size; the last one where none does.
-pub fn class_for_size(size: u64) -> u32
-    ensures { λ r. ⌜ r ≡ classForSize size ⌝ }
+fn small_class(size: u32) -> u32
+    requires { ⌜ size ≤ maxSmallSize ⌝ }
+    ensures { λ r. ⌜ r ≡ firstFit size smallSizes ⌝ }
 {
-    let last = NUM_CLASSES - 1;
-    if size <= small_size(last) as u64 {
-        class_at(&CLASS_LUT, ((size + 15) / 16) as usize) as u32
+    if size <= 1024 {
+        return by_granules((size + 15) / 16);
+    }
+    let near = near_small(size);
+    if size <= small_size(near) {
+        near
     } else {
-        last
+        near + 1
     }
 }
 
-// The first medium class whose blocks hold a size; the last one for small sizes and where none does.
-pub fn medium_class_for_size(size: u64) -> u32
-    ensures { λ r. ⌜ r ≡ mediumClassForSize size ⌝ }
+fn medium_class(size: u32) -> u32
+    requires { ⌜ maxSmallSize < size ⌝ }
+    requires { ⌜ size ≤ maxMediumSize ⌝ }
+    ensures { λ r. ⌜ r ≡ firstFit size mediumSizes ⌝ }
 {
-    let last = NUM_MEDIUM - 1;
-    let small = small_size(NUM_CLASSES - 1) as u64;
-    if size <= small || size > medium_size(last) as u64 {
-        return last;
+    let near = near_medium(size);
+    if size <= medium_size(near) {
+        near
+    } else {
+        near + 1
     }
-    medium_class_at(&MEDIUM_LUT, ((size - small - 1) / 16) as usize) as u32
+}
+
+// The first class whose blocks hold a size, small or medium.
+pub fn size_class(size: u64) -> Sized
+    ensures { λ r. ⌜ r ≡ sizeClass size ⌝ }
+{
+    if size <= 16384 {
+        return Sized::Small(small_class(size as u32));
+    }
+    if size <= 65472 {
+        return Sized::Medium(medium_class(size as u32));
+    }
+    Sized::TooLarge
 }

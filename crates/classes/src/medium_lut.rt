@@ -1,5 +1,13 @@
-// The medium class of every 16th size from 16,385 to 65,473. `medium_class_for_size` proves the rule at every entry.
-pub const MEDIUM_LUT: [u8; 3069] = [
+// The medium class of every 16th size from 16,385 to 65,473. The contract is the rule at every entry, as in `small_classes`.
+ghost use Rattle.classes.specs.Lookup.{MediumLut};
+
+pub fn medium_classes() -> [u8; 3069]
+    ensures { λ r. ⌜ MediumLut r ⌝ }
+{
+    MEDIUM_LUT
+}
+
+const MEDIUM_LUT: [u8; 3069] = [
     0, // size 16,385
     0,
     0,

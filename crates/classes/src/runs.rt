@@ -1,23 +1,23 @@
 // The shape of a class, made from its block size.
 ghost use mathlib.Core.Path.{_≡_};
 ghost use Prim.Native.Nat.{_<_, _≤_};
-ghost use Rattle.classes.specs.Sizes.{pageBytes};
+ghost use Rattle.classes.specs.Sizes.{pageBytes, smallCapacity};
 ghost use Rattle.classes.specs.Shape.{smallShape, mediumShape, shapeOf};
 use super::Shape;
+use super::by_class::medium_size;
+use super::by_class::small_capacity;
+use super::by_class::small_size;
 use super::sizes::NUM_CLASSES;
 use super::sizes::PAGE_HEADER;
 use super::sizes::SPAN_HEADER;
-use super::sizes::capacity_for;
 use super::sizes::medium_capacity_for;
-use super::sizes::medium_size;
-use super::sizes::small_size;
 use super::sizes::span_pages_for;
 
 const GRANULE: u32 = 16;
 
 // At most 64 blocks a take, and 4 empty pages.
-fn small_shape(size: u32) -> Shape
-    requires { ⌜ 0 < size ⌝ }
+fn small_shape(size: u32, capacity: u32) -> Shape
+    requires { ⌜ capacity ≡ smallCapacity size ⌝ }
     ensures { λ r. ⌜ r ≡ smallShape size ⌝ }
 {
     Shape {
@@ -25,7 +25,7 @@ fn small_shape(size: u32) -> Shape
         block: size / GRANULE,
         header: PAGE_HEADER / GRANULE,
         pages: 1,
-        capacity: capacity_for(size),
+        capacity,
         batch: 64,
         empties: 4,
         emptypages: 4,
@@ -58,7 +58,7 @@ pub fn shape_of(id: u32) -> Shape
     ensures { λ r. ⌜ r ≡ shapeOf id ⌝ }
 {
     if id < NUM_CLASSES {
-        small_shape(small_size(id))
+        small_shape(small_size(id), small_capacity(id))
     } else {
         medium_shape(medium_size(id - NUM_CLASSES))
     }

@@ -1,8 +1,7 @@
 // The block sizes, in bytes: every other number of a class comes from these.
 ghost use mathlib.Core.Path.{_≡_};
 ghost use Prim.Native.Nat.{_<_, _≤_};
-ghost use lib.ListN.{getD};
-ghost use Rattle.classes.specs.Sizes.{smallSizes, mediumSizes, pageBytes, smallCapacity, spanPages, spanCapacity};
+ghost use Rattle.classes.specs.Sizes.{smallSizes, mediumSizes, pageBytes, spanPages, spanCapacity};
 
 const PAGE_SIZE: u32 = 65536;
 
@@ -102,34 +101,17 @@ const MEDIUM_CLASSES: [u32; 12] = [
     65472,
 ];
 
-// The block size of a small class; past the table, the last one.
-pub fn small_size(class: u32) -> u32
-    ensures { λ r. ⌜ r ≡ getD smallSizes class 16384 ⌝ }
+// The two tables whole. A read of a constant array builds it anew, so the code reads single entries by the `match`es of `by_class`.
+pub fn small_table() -> [u32; 64]
+    ensures { λ r. ⌜ r ≡ smallSizes ⌝ }
 {
-    if class < NUM_CLASSES {
-        CLASSES[class as usize]
-    } else {
-        CLASSES[63]
-    }
+    CLASSES
 }
 
-// The block size of a medium class; past the table, the last one.
-pub fn medium_size(class: u32) -> u32
-    ensures { λ r. ⌜ r ≡ getD mediumSizes class 65472 ⌝ }
+pub fn medium_table() -> [u32; 12]
+    ensures { λ r. ⌜ r ≡ mediumSizes ⌝ }
 {
-    if class < NUM_MEDIUM {
-        MEDIUM_CLASSES[class as usize]
-    } else {
-        MEDIUM_CLASSES[11]
-    }
-}
-
-// Blocks of a small page.
-pub fn capacity_for(size: u32) -> u32
-    requires { ⌜ 0 < size ⌝ }
-    ensures { λ r. ⌜ r ≡ smallCapacity size ⌝ }
-{
-    (PAGE_SIZE - PAGE_HEADER) / size
+    MEDIUM_CLASSES
 }
 
 // Pages of a span: the fewest that hold eight blocks after the header.

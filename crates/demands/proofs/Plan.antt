@@ -27,5 +27,5 @@ plan = record {
   plan-fits = fits;
   plan-one-more = λ c ks ts ms us t t′ u u′ e d m. rw (total-is ks ts t t′ e, total-is ms us u u′ d) (planned .one-more c ks ts ms us m);
   plan-order = λ xs ys ks ts j k v w t t′ u u′ h e d. total-is _ _ u u′ d ∙ sym (planned .swap xs ys ks ts j k v w h) ∙ sym (total-is _ _ t t′ e);
-  plan-split = λ xs ys ks ts k v w t t′ u u′ h e d. total-is _ _ u u′ d ∙ sym (planned .split xs ys ks ts k v w h) ∙ sym (total-is _ _ t t′ e);
+  plan-split = λ xs ys ks ts j k v w t t′ u u′ s h e d. total-is _ _ u u′ d ∙ sym (planned .split xs ys ks ts j k v w s h) ∙ sym (total-is _ _ t t′ e);
 }

@@ -15,8 +15,10 @@ use borrow.Author.Tests.{ltb-true, lt-leb, eqb-true}
 use Rattle.facts.specs.Lists.{every, any}
 use Rattle.facts.proofs.Bools.{by-cases, and-left, and-right}
 use Rattle.words.specs.Host.{digit}
-use Rattle.classes.specs.Lookup.{classForSize, mediumClassForSize}
-use Rattle.classes.proofs.Meaning.{small-class, medium-class}
+use Rattle.classes.specs.Sizes.{smallSizes, mediumSizes}
+use Rattle.classes.specs.Lookup.{firstFit}
+use Rattle.classes.proofs.Answers.{sized-small, sized-medium, sized-large}
+use Rattle.classes.proofs.Meaning.{small-first-fit, medium-first-fit, small-class, medium-class}
 use Rattle.fields.specs.Field.{arena, size, state, get}
 use Rattle.fields.specs.Ranges.{metaFault}
 use Rattle.model.specs.Arena.{contains, isReady}
@@ -128,12 +130,13 @@ plan-refuses ks ts r t t′ e = record { order = refl; number = e .code; kept = 
     kept : (r ≡ 0 → ⊥) → t′ ≡ t
     kept d = by-cases (badPlan ks ts) (λ b. e .total ∙ rw b) (λ b. absurd (d (e .code ∙ rw b)))
 
--- ---- the lookups and `contains` refuse nothing
-pub small-answers : SizeAnswers classForSize 64
-small-answers bytes r e = lt-leb 64 r (omega (arith, small-class bytes))
-
-pub medium-answers : SizeAnswers mediumClassForSize 12
-medium-answers bytes r e = lt-leb 12 r (omega (arith, medium-class bytes))
+-- ---- the lookup and `contains` refuse nothing
+pub size-answers : SizeAnswers
+size-answers bytes r c c′ e = record {
+  small = λ h. rw (e .kind, e .class, sized-small bytes h) (refl, small-first-fit bytes h, lt-leb 64 (firstFit bytes smallSizes) (small-class bytes h));
+  medium = λ l h. rw (e .kind, e .class, sized-medium bytes l h) (refl, medium-first-fit bytes h, lt-leb 12 (firstFit bytes mediumSizes) (medium-class bytes h));
+  large = λ l. rw (e .kind, e .class, sized-large bytes l) (refl, refl);
+}
 
 beyond-ready : (s : ℕ) → leb s 2 ≡ false → isReady (statusOf s) ≡ false
 beyond-ready zero e = refl
@@ -176,8 +179,7 @@ demand-1 = record {
   plan = plan-refuses;
   shortHistories = listing-refuses;
   contains = contains-answers;
-  classForSize = small-answers;
-  mediumClassForSize = medium-answers;
+  sizeClass = size-answers;
 }
 
 -- ---- "refused exactly when one of these papers' numbers applies to it"

@@ -7,18 +7,20 @@
 --     Demand1                    every exported function does so, by what its contract says of it
 -- b is the book, n the arena's length in it, c a class, sh its shape, h the host word, ws a list of blocks, gs of groups, fs the lent
 -- fates. Each condition says by itself when its number applies, also where an earlier number answers first.
-use Prim.Native.Nat.{ℕ, _+_, _≤_}
+use Prim.Native.Nat.{ℕ, _+_, _≤_, _<_}
 use mathlib.Core.Bool.{Bool, true, false, cond, not, _||_}
 use mathlib.Core.List.{List, [], _∷_}
 use mathlib.Core.Path.{_≡_}
 use lib.Dec.{eqb, ltb, leb}
 use lib.ListN.{length}
 use Rattle.facts.specs.Lists.{isNil, every, distinct}
-use Rattle.words.specs.Word.{chunkKind}
+use Rattle.words.specs.Word.{noneKind, smallKind, mediumKind, chunkKind}
 use Rattle.words.specs.Host.{badHost, digit}
 use Rattle.classes.specs.declared.Shape.{Shape}
 use Rattle.classes.specs.Shape.{shapeOf}
-use Rattle.classes.specs.Lookup.{classForSize, mediumClassForSize}
+use Rattle.classes.specs.Sizes.{smallSizes, mediumSizes, maxSmallSize, maxMediumSize}
+use Rattle.classes.specs.Meaning.{FirstFit}
+use Rattle.classes.specs.Lookup.{sizeClass}
 use Rattle.tables.specs.Table.{badRate, badTop, badSlots, classTable, TableEnds}
 use Rattle.game.specs.Game.{badGame, askerWins, GameEnds}
 use Rattle.fields.specs.Field.{arena, size, words, get}
@@ -38,6 +40,7 @@ use Rattle.vigbuso.specs.Direct as Direct
 use Rattle.vigbuso.specs.Direct.{openOn, commitOn, CommitEnds, growOn, GrowEnds, containsOn, reportOn, ReportEnds}
 use Rattle.vigbuso.specs.Blocks as Blocks
 use Rattle.vigbuso.specs.Blocks.{takeOn, TakeEnds, ReleaseEnds, chunksOn, ChunksEnds}
+use Rattle.vigbuso.specs.Sizes.{SizeEnds}
 use Rattle.demands.specs.Ranges.{stateKnown, inRange, strays}
 use Rattle.demands.specs.Reads.{recordReads, commitReads, giveReads, reportReads, takeReads, barren, releaseReads, chunksReads}
 
@@ -274,8 +277,7 @@ ListingRefuses =
     → ListingEnds (shortHistories n k l) r l′ w w′
     → Refuses (listingTable n k l) r ((l′ ≡ l) × (w′ ≡ w))
 
--- "Sizes and `contains` refuse nothing": a size has a class that number 4 does not refuse; `contains` is 1 or 0, yes or no, and no "on
--- a book that 1, 2 or 13 would refuse".
+-- "Sizes and `contains` refuse nothing": `contains` is 1 or 0, yes or no, and no "on a book that 1, 2 or 13 would refuse".
 pub record Contains (b : List ℕ) (r : ℕ) : Type 0 where
   pub plain : r ≤ 1
   pub no : (firstNumber (containsTable b) ≡ 0 → ⊥) → r ≡ 0
@@ -283,8 +285,15 @@ pub record Contains (b : List ℕ) (r : ℕ) : Type 0 where
 abbrev pub ContainsAnswers : Type 0
 ContainsAnswers = (b : List ℕ) (o k r : ℕ) → r ≡ digit (containsOn b o k) → Contains b r
 
-abbrev pub SizeAnswers : (ℕ → ℕ) → ℕ → Type 0
-SizeAnswers lookup many = (bytes r : ℕ) → r ≡ lookup bytes → noClass many r ≡ false
+-- Document 02, A.6: the lookup "answers small class, medium class, or too large". The class is the first whose blocks hold the size, and
+-- number 4 does not refuse it; a size that is too large leaves the out-parameter, c, as it was.
+pub record SizeAnswer (bytes r c c′ : ℕ) : Type 0 where
+  pub small : bytes ≤ maxSmallSize → (r ≡ smallKind) × FirstFit bytes smallSizes c′ × (noClass 64 c′ ≡ false)
+  pub medium : maxSmallSize < bytes → bytes ≤ maxMediumSize → (r ≡ mediumKind) × FirstFit bytes mediumSizes c′ × (noClass 12 c′ ≡ false)
+  pub large : maxMediumSize < bytes → (r ≡ noneKind) × (c′ ≡ c)
+
+abbrev pub SizeAnswers : Type 0
+SizeAnswers = (bytes r c c′ : ℕ) → SizeEnds (sizeClass bytes) r c c′ → SizeAnswer bytes r c c′
 
 -- ---- the demand, a field for each exported function
 pub record Demand1 : Type 0 where
@@ -303,5 +312,4 @@ pub record Demand1 : Type 0 where
   pub plan : PlanRefuses
   pub shortHistories : ListingRefuses
   pub contains : ContainsAnswers
-  pub classForSize : SizeAnswers classForSize 64
-  pub mediumClassForSize : SizeAnswers mediumClassForSize 12
+  pub sizeClass : SizeAnswers

@@ -7,6 +7,7 @@ use mathlib.Core.Bool.{Bool, true, false}
 use lib.ListN.{length, replicate}
 use Rattle.facts.specs.Lists.{below}
 use Rattle.words.specs.Word.{smallKind, mediumKind, blockWord, chunkWord}
+use Rattle.classes.specs.declared.Sized.{Sized}
 use Rattle.classes.specs.Sizes.{granuleBytes}
 use Rattle.classes.specs.Shape.{shapeOf}
 use Rattle.classes.specs.Examples as Lookups
@@ -23,7 +24,7 @@ use Rattle.model.specs.History.{answers, heapAfter}
 -- how many empty and cold ones its class then has; whether a given run is stored; the hole that is chosen; or a class's answer that
 -- needs no arena
 pub data Told : Type 0 where
-  lookup : (class : ℕ) → Told
+  lookup : (class : Sized) → Told
   history : (answers : List Answer) (holes : List Hole) → Told
   parked : (fate empty cold : ℕ) → Told
   stored : Bool → Told

@@ -1,5 +1,5 @@
 -- Every plan that is not refused can be carried out: one take after the other.
-use Prim.Native.Nat.{ℕ, zero, suc, _+_, _-_, _≤_}
+use Prim.Native.Nat.{ℕ, zero, suc, _+_, _-_, _<_}
 use mathlib.Core.Path.{_≡_, refl}
 use mathlib.Core.List.{List, [], _∷_}
 use mathlib.Core.Option.{some}
@@ -14,8 +14,10 @@ use Rattle.model.specs.Calls as Calls
 use Rattle.model.specs.Calls.{Call, names}
 use Rattle.model.specs.History.{callsOf}
 use Rattle.facts.proofs.Bools.{by-cases, and-left, and-right}
-use Rattle.plan.specs.Plan.{lastClass, badPlan}
+use Rattle.classes.specs.Sizes.{maxMediumSize}
+use Rattle.plan.specs.Plan.{classCount, classOf, badPlan}
 use Rattle.plan.specs.Fits.{Asks, Granted, small, medium, Carries, Carried}
+use Rattle.plan.proofs.ClassOf.{class-known}
 use Rattle.plan.proofs.FaultSteps.{fine}
 
 abbrev room : List ℕ
@@ -24,7 +26,7 @@ room = replicate 64 0
 abbrev taking : ℕ → Call
 taking k = cond (ltb k 64) (Calls.takeBlocks k 15 room) (Calls.mediumTakeBlocks (k - 64) 15 room)
 
-taking-granted : (k : ℕ) → k ≤ lastClass → Granted (taking k)
+taking-granted : (k : ℕ) → k < classCount → Granted (taking k)
 taking-granted k h =
     by-cases (ltb k 64)
     (λ e. rw e (small k 15 room (ltb-true k 64 e) (asks k)))
@@ -34,7 +36,7 @@ taking-granted k h =
     asks c = record { low = omega arith; reserves = refl; commits = refl; long = shape-sound c .limited }
 
 -- it names its class
-taking-names : (k : ℕ) → k ≤ lastClass → names (taking k) ≡ some (record { class = k; request = Calls.take 15 room })
+taking-names : (k : ℕ) → k < classCount → names (taking k) ≡ some (record { class = k; request = Calls.take 15 room })
 taking-names k h =
     by-cases (ltb k 64)
     (λ e. rw e (rw e))
@@ -45,11 +47,11 @@ abbrev many : ℕ → ℕ → List Call → List Call
 many k zero xs = xs
 many k (suc t) xs = taking k ∷ many k t xs
 
-many-granted : (k t : ℕ) → k ≤ lastClass → (xs : List Call) → All Granted xs → All Granted (many k t xs)
+many-granted : (k t : ℕ) → k < classCount → (xs : List Call) → All Granted xs → All Granted (many k t xs)
 many-granted k zero h xs g = g
 many-granted k (suc t) h xs g = (taking-granted k h, many-granted k t h xs g)
 
-many-count : (k t : ℕ) → k ≤ lastClass → (xs : List Call) (c : ℕ) → length (callsOf c (many k t xs)) ≡ cond (eqb k c) t 0 + length (callsOf c xs)
+many-count : (k t : ℕ) → k < classCount → (xs : List Call) (c : ℕ) → length (callsOf c (many k t xs)) ≡ cond (eqb k c) t 0 + length (callsOf c xs)
 many-count k zero h xs c = by-cases (eqb k c) (λ e. rw e (omega arith)) (λ e. rw e (omega arith))
 many-count k (suc t) h xs c =
     let ih = many-count k t h xs c in
@@ -61,23 +63,26 @@ many-count k (suc t) h xs c =
 abbrev all-of : List ℕ → List ℕ → List Call
 all-of [] ts = []
 all-of (k ∷ ks) [] = []
-all-of (k ∷ ks) (t ∷ ts) = many k t (all-of ks ts)
+all-of (k ∷ ks) (t ∷ ts) = many (classOf k) t (all-of ks ts)
 
-all-granted : (ks ts : List ℕ) → every (λ k. leb k lastClass) ks ≡ true → All Granted (all-of ks ts)
+first-known : (k : ℕ) (ks : List ℕ) → every (λ k. leb k maxMediumSize) (k ∷ ks) ≡ true → classOf k < classCount
+first-known k ks e = class-known k (leb-true k maxMediumSize (and-left (leb k maxMediumSize) (every (λ k. leb k maxMediumSize) ks) e))
+
+all-granted : (ks ts : List ℕ) → every (λ k. leb k maxMediumSize) ks ≡ true → All Granted (all-of ks ts)
 all-granted [] ts e = tt
 all-granted (k ∷ ks) [] e = tt
 all-granted (k ∷ ks) (t ∷ ts) e =
-    many-granted k t (leb-true k lastClass (and-left (leb k lastClass) (every (λ k. leb k lastClass) ks) e)) (all-of ks ts)
-    (all-granted ks ts (and-right (leb k lastClass) (every (λ k. leb k lastClass) ks) e))
+    many-granted (classOf k) t (first-known k ks e) (all-of ks ts)
+    (all-granted ks ts (and-right (leb k maxMediumSize) (every (λ k. leb k maxMediumSize) ks) e))
 
-all-carry : (ks ts : List ℕ) → every (λ k. leb k lastClass) ks ≡ true → Carries ks ts (all-of ks ts)
+all-carry : (ks ts : List ℕ) → every (λ k. leb k maxMediumSize) ks ≡ true → Carries ks ts (all-of ks ts)
 all-carry [] ts e c = refl
 all-carry (k ∷ ks) [] e c = refl
 all-carry (k ∷ ks) (t ∷ ts) e c =
     omega (
       arith,
-      many-count k t (leb-true k lastClass (and-left (leb k lastClass) (every (λ k. leb k lastClass) ks) e)) (all-of ks ts) c,
-      all-carry ks ts (and-right (leb k lastClass) (every (λ k. leb k lastClass) ks) e) c,
+      many-count (classOf k) t (first-known k ks e) (all-of ks ts) c,
+      all-carry ks ts (and-right (leb k maxMediumSize) (every (λ k. leb k maxMediumSize) ks) e) c,
     )
 
 pub carried : (ks ts : List ℕ) → badPlan ks ts ≡ false → Carried ks ts

@@ -12,7 +12,8 @@ use borrow.Author.Tests.{ltb-false, eqb-true, not-false, le-leb, lt-leb, lt-ltb,
 use Rattle.facts.specs.Lists.{every}
 use Rattle.facts.proofs.Bools.{and-left, and-right, or-left, or-right, nor-left, nor-right}
 use Rattle.facts.proofs.Lists.{drop-past}
-use Rattle.plan.specs.Plan.{lastClass, entriesMax, takesMax, badPlan}
+use Rattle.classes.specs.Sizes.{maxMediumSize}
+use Rattle.plan.specs.Plan.{entriesMax, takesMax, badPlan}
 use Rattle.plan.specs.Code.{Fine}
 
 -- ---- all_within: what is left of the list decides
@@ -38,7 +39,7 @@ module _ (limit : ℕ) (l : List ℕ) where
 -- ---- bad_plan
 module _ (ks ts : List ℕ) where
   abbrev known : Bool
-  known = every (λ k. leb k lastClass) ks
+  known = every (λ k. leb k maxMediumSize) ks
 
   abbrev small : Bool
   small = every (λ t. leb t takesMax) ts

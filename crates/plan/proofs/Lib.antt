@@ -1,5 +1,6 @@
 pub mod Rounding
 pub mod Takes
+pub mod ClassOf
 pub mod Draws
 pub mod PageSums
 pub mod HeapSteps

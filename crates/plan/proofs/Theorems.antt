@@ -16,7 +16,7 @@ use Rattle.model.specs.Calls.{Call, names}
 use Rattle.model.specs.Heap.{Heap, newHeap, step}
 use Rattle.model.specs.History.{eventsFrom, answers, callsOf}
 use Rattle.model.proofs.Update.{other-way}
-use Rattle.plan.specs.Plan.{pagesOf, takesOf, planTotal}
+use Rattle.plan.specs.Plan.{pagesOf, classOf, takesOf, planTotal}
 use Rattle.plan.specs.Fits.{Granted, Gives, Carries, OneMore, Planned}
 use Rattle.plan.proofs.Rounding.{Moves}
 use Rattle.plan.proofs.PageSums.{bump, bump-more, pages-up}
@@ -86,14 +86,14 @@ module _ (ks ts ks′ ts′ : List ℕ) (same : (c : ℕ) → takesOf ks ts c �
 swapped : (j k s t : ℕ) (ks ts : List ℕ) (c : ℕ) → takesOf (j ∷ k ∷ ks) (s ∷ t ∷ ts) c ≡ takesOf (k ∷ j ∷ ks) (t ∷ s ∷ ts) c
 swapped j k s t ks ts c = omega arith
 
-joined : (k s t : ℕ) (ks ts : List ℕ) (c : ℕ) → takesOf (k ∷ k ∷ ks) (s ∷ t ∷ ts) c ≡ takesOf (k ∷ ks) ((s + t) ∷ ts) c
-joined k s t ks ts c = by-cases (eqb k c) (λ b. rw b (omega arith)) (λ b. rw b (omega arith))
+joined : (j k s t : ℕ) → classOf j ≡ classOf k → (ks ts : List ℕ) (c : ℕ) → takesOf (j ∷ k ∷ ks) (s ∷ t ∷ ts) c ≡ takesOf (k ∷ ks) ((s + t) ∷ ts) c
+joined j k s t e ks ts c = rw e (by-cases (eqb (classOf k) c) (λ b. rw b (omega arith)) (λ b. rw b (omega arith)))
 
 pub planned : Planned
 planned = record {
   fits = plan-fits;
   one-more = plan-one-more;
   swap = λ xs ys ks ts j k s t e. total-behind _ _ _ _ (swapped j k s t ks ts) xs ys e;
-  split = λ xs ys ks ts k s t e. total-behind _ _ _ _ (joined k s t ks ts) xs ys e;
+  split = λ xs ys ks ts j k s t d e. total-behind _ _ _ _ (joined j k s t d ks ts) xs ys e;
   carried = carried;
 }

@@ -6,13 +6,14 @@ use mathlib.Core.Path.{_≡_}
 use lib.Dec.{eqb, leb}
 use lib.ListN.{length, getD}
 use Rattle.facts.specs.Lists.{every}
-use Rattle.plan.specs.Plan.{classCount, lastClass, entriesMax, takesMax, takesOf, planTotal, badPlan}
+use Rattle.classes.specs.Sizes.{maxMediumSize}
+use Rattle.plan.specs.Plan.{classCount, entriesMax, takesMax, takesOf, planTotal, badPlan}
 
 -- a plan that is not refused
 pub record Fine (ks ts : List ℕ) : Type 0 where
   pub same : length ks ≡ length ts
   pub few : length ks ≤ entriesMax
-  pub known : every (λ k. leb k lastClass) ks ≡ true
+  pub known : every (λ k. leb k maxMediumSize) ks ≡ true
   pub small : every (λ t. leb t takesMax) ts ≡ true
 
 -- the most takes of one class

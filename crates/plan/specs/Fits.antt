@@ -11,7 +11,7 @@ use Rattle.words.specs.Host.{hostMax, reservationGranted, commitGranted}
 use Rattle.classes.specs.Shape.{shapeOf}
 use Rattle.model.specs.Calls.{Call, Answer, takeBlocks, mediumTakeBlocks, blocksOf}
 use Rattle.model.specs.History.{answers, callsOf}
-use Rattle.plan.specs.Plan.{takesOf, planTotal, badPlan}
+use Rattle.plan.specs.Plan.{classOf, takesOf, planTotal, badPlan}
 
 -- "every host answer granted", and the lent list is long enough. A take discards nothing: bits 2 and 3 may be anything
 pub record Asks (c h : ℕ) (l : List ℕ) : Type 0 where
@@ -49,10 +49,10 @@ pub record Planned : Type 0 where
   -- "One more take moves the total by no more than one run of that class": by none, or by just one run
   pub one-more : (c : ℕ) (ks ts ks′ ts′ : List ℕ) → OneMore c ks ts ks′ ts′
       → (planTotal ks′ ts′ ≡ planTotal ks ts) ⊎ (planTotal ks′ ts′ ≡ planTotal ks ts + shapeOf c .pages)
-  -- two neighbouring entries change places, or an entry is split in two: the same total
+  -- two neighbouring entries change places, or an entry is split in two, of any sizes of its class: the same total
   pub swap : (xs ys ks ts : List ℕ) (j k s t : ℕ) → length xs ≡ length ys
       → planTotal (xs ++ (j ∷ k ∷ ks)) (ys ++ (s ∷ t ∷ ts)) ≡ planTotal (xs ++ (k ∷ j ∷ ks)) (ys ++ (t ∷ s ∷ ts))
-  pub split : (xs ys ks ts : List ℕ) (k s t : ℕ) → length xs ≡ length ys
-      → planTotal (xs ++ (k ∷ k ∷ ks)) (ys ++ (s ∷ t ∷ ts)) ≡ planTotal (xs ++ (k ∷ ks)) (ys ++ ((s + t) ∷ ts))
+  pub split : (xs ys ks ts : List ℕ) (j k s t : ℕ) → classOf j ≡ classOf k → length xs ≡ length ys
+      → planTotal (xs ++ (j ∷ k ∷ ks)) (ys ++ (s ∷ t ∷ ts)) ≡ planTotal (xs ++ (k ∷ ks)) (ys ++ ((s + t) ∷ ts))
   -- nothing here is said of no history: every plan that is not refused has one that carries it
   pub carried : (ks ts : List ℕ) → badPlan ks ts ≡ false → Carried ks ts

@@ -1,13 +1,25 @@
--- The pages that a plan of takes needs (document 02, A.1). A plan is two lists: classes, 0 to 63 small and 64 to 75 medium, and the takes
--- of each.
+-- The pages that a plan of takes needs (document 02, A.1 and A.6). A plan is two lists: sizes in bytes, and the takes of each.
 use Prim.Native.Nat.{ℕ, _+_, _-_, _*_, _/_}
 use mathlib.Core.List.{List, [], _∷_}
 use mathlib.Core.Bool.{Bool, cond, not, _&&_, _||_}
 use lib.Dec.{eqb, leb, ltb}
 use lib.ListN.{length}
 use Rattle.facts.specs.Lists.{total, below, every}
+use Rattle.classes.specs.declared.Sized.{Sized}
+use Rattle.classes.specs.declared.Sized.the-variants.{Small, Medium, TooLarge}
+use Rattle.classes.specs.Sizes.{maxMediumSize}
 use Rattle.classes.specs.Shape.{shapeOf}
 pub use Rattle.classes.specs.Shape.{classCount}
+use Rattle.classes.specs.Lookup.{sizeClass}
+
+abbrev pub idOf : Sized → ℕ
+idOf (Small class) = class
+idOf (Medium class) = 64 + class
+idOf TooLarge = classCount
+
+-- A.6: "The plan of A.1 now takes a size where it took a class"
+unfoldable pub classOf : ℕ → ℕ
+classOf size = idOf (sizeClass size)
 
 -- a division rounded up
 abbrev pub ceil : ℕ → ℕ → ℕ
@@ -25,7 +37,7 @@ pagesOf f = total (λ c. pagesFor c (f c)) (below classCount)
 abbrev pub takesOf : List ℕ → List ℕ → ℕ → ℕ
 takesOf [] ts c = 0
 takesOf (k ∷ ks) [] c = 0
-takesOf (k ∷ ks) (t ∷ ts) c = cond (eqb k c) t 0 + takesOf ks ts c
+takesOf (k ∷ ks) (t ∷ ts) c = cond (eqb (classOf k) c) t 0 + takesOf ks ts c
 
 -- "The answer is the total"
 unfoldable pub planTotal : List ℕ → List ℕ → ℕ
@@ -35,14 +47,12 @@ planTotal ks ts = pagesOf (takesOf ks ts)
 abbrev pub entriesMax : ℕ
 entriesMax = 4096
 
-abbrev pub lastClass : ℕ
-lastClass = 75
-
 abbrev pub takesMax : ℕ
 takesMax = 1000000
 
--- 14. "when the plan is empty, has lists of unequal length or above 4,096 entries, names a class above 75 or has a number above 1,000,000"
+-- 14. "when the plan is empty, has lists of unequal length or above 4,096 entries, names a class above 75 or has a number above 1,000,000";
+-- A.6: "14 then covers a size that is too large in place of a class above 75"
 unfoldable pub badPlan : List ℕ → List ℕ → Bool
 badPlan ks ts =
     eqb (length ks) 0 || (not (eqb (length ks) (length ts)) || (ltb entriesMax (length ks)
-    || not (every (λ k. leb k lastClass) ks && every (λ t. leb t takesMax) ts)))
+    || not (every (λ k. leb k maxMediumSize) ks && every (λ t. leb t takesMax) ts)))

@@ -6,7 +6,7 @@ ghost use Rattle.plan.specs.Plan.{badPlan};
 
 const ENTRIES_MAX: usize = 4_096;
 
-const LAST_CLASS: u32 = 75;
+const SIZE_MAX: u32 = 65_472;
 
 const TAKES_MAX: u32 = 1_000_000;
 
@@ -23,19 +23,19 @@ fn all_within(list: &[u32], limit: u32) -> bool
     true
 }
 
-pub fn bad_plan(classes: &[u32], takes: &[u32]) -> bool
-    ensures { λ r. ⌜ r ≡ badPlan (now (classes .entry)) (now (takes .entry)) ⌝ }
+pub fn bad_plan(sizes: &[u32], takes: &[u32]) -> bool
+    ensures { λ r. ⌜ r ≡ badPlan (now (sizes .entry)) (now (takes .entry)) ⌝ }
 {
-    if classes.len() == 0 {
+    if sizes.len() == 0 {
         return true;
     }
-    if classes.len() != takes.len() {
+    if sizes.len() != takes.len() {
         return true;
     }
-    if classes.len() > ENTRIES_MAX {
+    if sizes.len() > ENTRIES_MAX {
         return true;
     }
-    if all_within(classes, LAST_CLASS) {
+    if all_within(sizes, SIZE_MAX) {
         if all_within(takes, TAKES_MAX) {
             return false;
         }

@@ -3,3 +3,4 @@ mod DirectSteps
 mod TakeSteps
 mod ReleaseSteps
 mod ChunkSteps
+mod SizeSteps

@@ -1,3 +1,4 @@
 pub mod Faults
 pub mod Direct
 pub mod Blocks
+pub mod Sizes

@@ -1,17 +1,23 @@
-// The class of a size. Any number of bytes has one.
-ghost use mathlib.Core.Path.{_≡_};
-ghost use Rattle.classes.specs.Lookup.{classForSize, mediumClassForSize};
+// The class of a size. No number of bytes is refused.
+ghost use Rattle.classes.specs.Lookup.{sizeClass};
+ghost use Rattle.vigbuso.specs.Sizes.{SizeEnds};
+use classes::Sized;
+use words::Word;
 
+// Returns the kind of word that such blocks have, none for a size that is too large.
 #[no_mangle]
-pub extern "C" fn vigbuso_class_for_size(size: u64) -> u32
-    ensures { λ r. ⌜ r ≡ classForSize size ⌝ }
+pub extern "C" fn vigbuso_size_class(size: u64, class: &mut u32) -> u32
+    ensures { λ r. ⌜ SizeEnds (sizeClass size) r (now (class .entry)) (now (class .exit)) ⌝ }
 {
-    classes::class_for_size(size)
-}
-
-#[no_mangle]
-pub extern "C" fn vigbuso_medium_class_for_size(size: u64) -> u32
-    ensures { λ r. ⌜ r ≡ mediumClassForSize size ⌝ }
-{
-    classes::medium_class_for_size(size)
+    match classes::size_class(size) {
+        Sized::Small(c) => {
+            *class = c;
+            Word::SMALL
+        }
+        Sized::Medium(c) => {
+            *class = c;
+            Word::MEDIUM
+        }
+        Sized::TooLarge => Word::NONE,
+    }
 }

@@ -1,16 +1,8 @@
-// The class of a size: the takes and releases do not refuse it.
-ghost use mathlib.Core.Bool.{false};
-ghost use mathlib.Core.Path.{_≡_};
-ghost use Rattle.demands.specs.Refusals.{noClass};
+// The class of a size.
+ghost use Rattle.demands.specs.Refusals.{SizeAnswer};
 
-pub fn class_for_size(size: u64) -> u32
-    ensures { λ r. ⌜ noClass 64 r ≡ false ⌝ }
+pub fn size_class(size: u64, class: &mut u32) -> u32
+    ensures { λ r. ⌜ SizeAnswer size r (now (class .entry)) (now (class .exit)) ⌝ }
 {
-    vigbuso::lookup::vigbuso_class_for_size(size)
-}
-
-pub fn medium_class_for_size(size: u64) -> u32
-    ensures { λ r. ⌜ noClass 12 r ≡ false ⌝ }
-{
-    vigbuso::lookup::vigbuso_medium_class_for_size(size)
+    vigbuso::lookup::vigbuso_size_class(size, class)
 }

@@ -1,0 +1,13 @@
+-- The step that has the size tells a class near it.
+use native.Mathlib.Omega.{arith}
+use Rattle.classes.proofs.NearFit.{near-fit}
+use borrow.Author.Needs.{needs}
+use Rattle.classes.proofs.lookup.near_small.Statement.{statement}
+use Rattle.classes.proofs.lookup.near_small.Tie as tie
+
+pub near-small-spec : {M : Type 1} → statement M
+near-small-spec =
+    tie.close
+    (tie.spec
+    (λ c. search needs) (λ c κs. search needs) (λ c. near-fit _ _ _ _ _ (c .by-128 .ensures) (omega arith) (omega arith))
+    (λ c. search needs) (λ c κs. search needs) (λ c. near-fit _ _ _ _ _ (c .by-1024 .ensures) (omega arith) (omega arith)))

@@ -1,0 +1,11 @@
+use borrow.Author.Needs.{needs}
+use Rattle.plan.proofs.ClassOf.{small-is, medium-is, large-is, medium-fits}
+use Rattle.plan.proofs.sums.class_of.Statement.{statement}
+use Rattle.plan.proofs.sums.class_of.Tie as tie
+
+pub class-of-spec : {M : Type 1} → statement M
+class-of-spec =
+    tie.close
+    (tie.spec
+    (λ c κs. search needs) (λ c. search needs) (λ c. search needs) (λ c. search medium-fits) (λ c. search needs) (λ c. search needs)
+    (λ c. search small-is) (λ c. search medium-is) (λ c. search large-is))
