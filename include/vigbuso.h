@@ -8,7 +8,7 @@
  * VIGBUSO_BOOK_WORDS(pages). The heap keeps all that it knows there and nothing elsewhere. It never reads or writes the
  * arena's bytes, so they may stand anywhere.
  *
- * The two lookups and vigbuso_contains return their answer. Every other function of the archive returns 0 if it was carried out, otherwise
+ * vigbuso_size_class and vigbuso_contains return their answer. Every other function of the archive returns 0 if it was carried out, otherwise
  * the number of its refusal (enum vigbuso_refusal); the first that applies is returned. A refused call leaves the book, every
  * list and every out-parameter as they were.
  *
