@@ -17,14 +17,13 @@ use Rattle.model.specs.Heap.{Heap, isHeld, isDirect, idlePages, classCal
 use Rattle.model.specs.History.{Event, events, heapAfter, callsOf, answersOf, runsOf}
 use Rattle.model.specs.Entries.{Entry, Live, OutIn, AllOut, HasByte, firstByte, blockBytes, directAfter}
 use Rattle.model.specs.Ledger.{inHoles, above, runsWith, heldBy, abandonedFrom}
-use Rattle.model.specs.BestFit.{Commits, Remembers}
+use Rattle.model.specs.BestFit.{Commits}
 use Rattle.model.specs.Yields.{Listed, TakeYields}
 use Rattle.model.specs.Heap.{newHeap}
 
--- Demand 2: a commit on the heap after a history answers by best fit, or none with its reason; and the memory is what document 01 makes it
+-- Demand 2: a commit on the heap after a history answers by best fit, or none with its reason
 pub record BestFit (size : ℕ) (xs : List Call) : Type 0 where
   pub commits : (h n : ℕ) → Commits size h n (heapAfter size xs .arena) (Arenas.commit size h n (heapAfter size xs .arena) .run) (Arenas.commit size h n (heapAfter size xs .arena) .fresh)
-  pub remembers : Remembers (heapAfter size xs .arena .store)
 
 -- Demand 2: "Each source is tried only if the earlier gave no block", so a take is empty only if the arena was asked and gave none
 pub record Yielding (size : ℕ) (xs : List Call) : Type 0 where

@@ -7,6 +7,3 @@ pub const MAX_PAGES: u64 = 262_144;
 pub const HOLE_SLOTS: u32 = 4_096;
 
 pub const HOLE_PAGES_MAX: u32 = 65_536;
-
-// The longest run whose length has a memory.
-pub const REMEMBERED_MAX: u32 = 128;
