@@ -12,6 +12,7 @@ pub mod History
 pub mod Entries
 pub mod Ledger
 pub mod BestFit
+pub mod Order
 pub mod Yields
 pub mod Demands
 pub mod Examples
