@@ -35,7 +35,7 @@ use Rattle.arena.specs.Fair.{recordFair, holesFair, commitFair}
 use Rattle.arena.specs.Owners.{ownerCode, own}
 use Rattle.holes.specs.Plan.{indexCode, planAs, planOf}
 use Rattle.arena.specs.Calls.{Committed, advance, committed, commitFor, given, grownBy, grownBook}
-use Rattle.holes.specs.Act.{withState, withHoles, giveWords, giveRecord, drawWords, drawRecord, endNone, endRun, endGiven, settle, fromFrontier, commitDrawn, commitPlanned, planned, commitRead, commitActs, givenWith, giveActs, growWith, growActs}
+use Rattle.holes.specs.Act.{withState, withHoles, giveWords, giveRecord, drawWords, drawRecord, endNone, endRun, endGiven, settle, fromFrontier, holeDrawn, commitDrawn, commitPlanned, planned, commitRead, commitActs, givenWith, giveActs, growWith, growActs}
 use Rattle.holes.proofs.StoreLaws.{holes-kept, holes-set, holes-append, holes-removed, loaded-at, removed-length}
 use Rattle.arena.proofs.Frames.{loaded-length, isOwner, arena-changes, own-changes, own-twice}
 use Rattle.fields.proofs.Changes.{changes-none}
@@ -274,7 +274,7 @@ module _ (n : ℕ) (b : List ℕ) (hb : leb (words n) (length b) ≡ true) (few 
         (λ t. rw t (ends-none n b hb m w A₀ b _ stands lf fr))
 
     by-hole : (i : ℕ) → i < length HS → settled (drawFrom n m A₀ (some i)) ≡ commitDrawn n b (summary A₀) (suc i) m h w (get b (arena held))
-    unfolding settled drawFrom commitDrawn A₀ S
+    unfolding settled drawFrom commitDrawn holeDrawn A₀ S
     by-hole i l =
         let d : suc i - 1 ≡ i = omega arith in
         rw (ne-eqb (suc i) 0 (λ e. omega arith), d)

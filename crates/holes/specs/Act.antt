@@ -76,11 +76,12 @@ settle b a m q f h w d = cond (commitGranted h) (endRun b a m q f w d) (endGiven
 unfoldable pub fromFrontier : ℕ → List ℕ → Arena → ℕ → ℕ → ℕ → ℕ → Committed
 fromFrontier n b a m h w d = cond (leb (a .frontier + m) n) (settle b (advanced m a) m (a .frontier) true h w d) (endNone b a)
 
+unfoldable pub holeDrawn : List ℕ → Arena → ℕ → ℕ → ℕ → ℕ → ℕ → Committed
+holeDrawn b a i m h w d = settle (drawWords b a m i) (drawRecord b a m i) m (loadHole b i .first) false h w d
+
 -- the chosen hole has this code; 0 is none
 unfoldable pub commitDrawn : ℕ → List ℕ → Arena → ℕ → ℕ → ℕ → ℕ → ℕ → Committed
-commitDrawn n b a code m h w d =
-    let i = code - 1 in
-    cond (eqb code 0) (fromFrontier n b a m h w d) (settle (drawWords b a m i) (drawRecord b a m i) m (loadHole b i .first) false h w d)
+commitDrawn n b a code m h w d = cond (eqb code 0) (fromFrontier n b a m h w d) (holeDrawn b a (code - 1) m h w d)
 
 -- STATE: 0 asks for the reservation, 2 is disabled
 abbrev pub nextState : ℕ → ℕ → ℕ
