@@ -1,7 +1,7 @@
 -- The words that number 13 is about: for each kind of call the rows of Specs/Ranges that it reads, along the call's own way through the
 -- book. "Another book word that the call reads": those that numbers 1 and 10 to 12 judge stand there.
 --     recordReads    growth, a report, and within the next two
---     commitReads    a commit of m pages, a take's too
+--     commitReads    a commit, a take's too
 --     giveReads      a give of m pages, a release's too
 --     takeReads      a take, from its first source that has a page
 --     takeVisits     the listed pages that it comes to; yieldAll, barren: each of them yields a block, one does not
@@ -10,16 +10,15 @@
 use Prim.Native.Nat.{ℕ, zero, suc, _+_, _-_}
 use mathlib.Core.Bool.{Bool, cond, not, _&&_, _||_}
 use mathlib.Core.List.{List, [], _∷_, _++_}
-use lib.Dec.{eqb, leb}
+use lib.Dec.{eqb}
 use Rattle.facts.specs.Lists.{every, below}
 use Rattle.words.specs.Word.{countOf, pageOf}
 use Rattle.classes.specs.declared.Shape.{Shape}
 use Rattle.fields.specs.Field.{arena, class, page, commits, commitsHigh, reuses, reusesHigh, abandoned, abandonedHigh, holes, partial, empty, cold, free, carved, listed, get}
-use Rattle.model.specs.HoleStore.{rememberedMax}
 use Rattle.model.specs.Spot.{isArena}
 use Rattle.calls.specs.Release.{spotAt}
 use Rattle.calls.specs.Chunks.{pagesGiven}
-use Rattle.demands.specs.Ranges.{Link, partialOf, emptyOf, coldOf, nextOf, prevOf, linkField, Use, stateKnown, frontierFits, holesFew, holePagesFew, heldFits, heldGives, counted, memoryFits, holeSome, holeEnds, code, visited, emptyFew, emptyTaken, coldFew, coldTaken, ownerIs, firstIs, prevIs, listedYes, listedNo, freeFits, entryCarved, freeWith, listedFlag, carvedFits, virginFlag}
+use Rattle.demands.specs.Ranges.{Link, partialOf, emptyOf, coldOf, nextOf, prevOf, linkField, Use, stateKnown, frontierFits, holesFew, holePagesFew, heldFits, heldGives, counted, holeSome, holeEnds, code, visited, emptyFew, emptyTaken, coldFew, coldTaken, ownerIs, firstIs, prevIs, listedYes, listedNo, freeFits, entryCarved, freeWith, listedFlag, carvedFits, virginFlag}
 
 -- ---- the arena
 unfoldable pub countReads : List Use
@@ -33,8 +32,8 @@ unfoldable pub holeReads : ℕ → ℕ → List Use
 holeReads i zero = []
 holeReads i (suc k) = holeSome i ∷ holeEnds i ∷ holeReads (suc i) k
 
-unfoldable pub commitReads : List ℕ → ℕ → List Use
-commitReads b m = recordReads ++ (cond (leb m rememberedMax) (memoryFits m ∷ []) [] ++ holeReads 0 (get b (arena holes)))
+unfoldable pub commitReads : List ℕ → List Use
+commitReads b = recordReads ++ holeReads 0 (get b (arena holes))
 
 unfoldable pub giveReads : ℕ → List Use
 giveReads m = stateKnown ∷ frontierFits ∷ holesFew ∷ holePagesFew ∷ heldGives m ∷ countReads
@@ -97,7 +96,7 @@ takeReads b c sh =
     (code (emptyOf c)
     ∷ cond (not (eqb (get b (class cold c)) 0)) (parkReads b c sh (coldOf c) (coldTaken c))
     (code (coldOf c)
-    ∷ commitReads b (sh .pages))))
+    ∷ commitReads b)))
 
 unfoldable pub takeVisits : List ℕ → ℕ → Shape → List ℕ
 takeVisits b c sh =

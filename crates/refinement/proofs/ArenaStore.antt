@@ -1,7 +1,7 @@
 -- The arena's words: what was stored is loaded again.
 --     load-kept        a book with the same such words holds the same arena
 --     load-store       an arena that was stored is loaded again
-use Prim.Native.Nat.{ℕ, zero, suc, _+_, _≤_, _<_}
+use Prim.Native.Nat.{ℕ, zero, suc, _+_, _≤_}
 use native.Mathlib.Omega.{arith}
 use mathlib.Core.Bool.{true, false}
 use mathlib.Core.List.{List, [], _∷_}
