@@ -36,8 +36,8 @@ const USAGE: &str = "usage: compare COMMAND [--NAME VALUE ..]
   game         an asker against any placing
   histories    [--calls N] [--seed S] [--pages N,N..] [--scenario NAME]
                random histories on the original and on the port
-  record       --file F [--calls N] [--seed S] [--pages N,N..] [--scenario NAME] [--kinds all|arena]
-               random histories on the original, written down with its answers
+  record       --file F [--calls N] [--seed S] [--pages N,N..] [--scenario NAME] [--kinds all|arena] | --given G
+               random histories, or the calls of G, on the original, written down with its answers
   replay       --file F
                histories that were written down, on the port
   model-test   [--calls N] [--seed S] [--scenario NAME] [--longest STEPS] [--file F] [--repository FOLDER]

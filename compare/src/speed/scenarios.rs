@@ -5,7 +5,7 @@ use super::rounds::{Clock, Round};
 use super::sides::{Class, Side, PAGES};
 use crate::oracle;
 use crate::random::Random;
-use crate::words::{chunk_word, page_of, Family};
+use crate::words::{chunk_word, page_of, Family, NO_PAGE};
 
 #[derive(Clone, Copy)]
 pub enum Scenario {
@@ -82,7 +82,7 @@ impl Scenario {
         let plain = |calls: &[String]| calls.iter().map(|call| Row { call: call.clone(), holes: None }).collect();
         match *self {
             Scenario::Remembered { holes: 0 } => with(0, &["commit, 1 page, from the frontier", "give, 1 page"]),
-            Scenario::Remembered { holes } => with(holes, &["commit, 1 page, remembered", "give, 1 page"]),
+            Scenario::Remembered { holes } => with(holes, &["commit, 1 page", "give, 1 page"]),
             Scenario::NoFit { holes } => with(holes, &["commit, 2 pages, fits no hole"]),
             Scenario::Batches { class } => {
                 let (blocks, name) = (oracle::batch(class.0, class.1), name(class));
@@ -142,10 +142,15 @@ fn capacity(Class(family, class): Class) -> u32 {
     oracle::capacity(family, class)
 }
 
-/// Holes of 1 page each.
+/// Holes of 1 page each, of which no two touch.
 fn store_holes<S: Side>(side: &mut S, holes: u32) {
-    let pages: Vec<u32> = (0..holes).map(|_| side.commit(1)).collect();
-    pages.into_iter().for_each(|first| side.give(first, 1));
+    let pages: Vec<u32> = (0..2 * holes).map(|_| side.commit(1)).collect();
+    pages.into_iter().step_by(2).for_each(|first| side.give(first, 1));
+}
+
+/// Whether each commit answered a run. Which of several equal holes it is is not the same on both sides (document 02, A.8).
+fn answered(firsts: [u32; BATCH]) -> impl Iterator<Item = u32> {
+    firsts.into_iter().map(|first| u32::from(first != NO_PAGE))
 }
 
 fn time_commits<S: Side>(side: &mut S, clock: Clock, pages: u64) -> ([u32; BATCH], f64) {
@@ -178,7 +183,7 @@ fn remembered<S: Side>(side: &mut S, clock: Clock, holes: u32) -> Round {
     for repeat in 0..REPEATS {
         let (firsts, commit) = time_commits(side, clock, 1);
         let give = time_gives(side, clock, &firsts);
-        round.answers.extend(firsts);
+        round.answers.extend(answered(firsts));
         if repeat > 0 {
             round.times[0] += commit / (REPEATS - 1) as f64;
             round.times[1] += give / (REPEATS - 1) as f64;
