@@ -36,6 +36,7 @@ CHUNKS = "crates/model/specs/Chunks.antt"
 CLASS = "crates/model/specs/Class.antt"
 HEAP = "crates/model/specs/Heap.antt"
 HOLES = "crates/model/specs/HoleStore.antt"
+OURS = "compare/seams/arena.rs"
 PAGE = "crates/model/specs/Page.antt"
 RELEASE = "crates/model/specs/Release.antt"
 SPOT = "crates/model/specs/Spot.antt"
@@ -388,13 +389,23 @@ RULES = [
         model=[(HEAP, "held = k; idle = idlePages size a", "held = idlePages size a; idle = k")],
     ),
     Rule(
-        "a cut's remainder is remembered at its length's lowest index",
-        heap=[("arena.rs", "holes.exact[remainder] = i as u16;", "holes.refresh_exact(remainder);")],
-        model=[(HOLES, "(remember (x .pages - n) (some i) (", "(refresh (x .pages - n) hs (")],
+        "of equal holes the lowest index",
+        heap=[(OURS, "min_by_key(|&i| (self.entries[i].1, self.entries[i].0))", "min_by_key(|&i| self.entries[i].1)")],
+        model=[(HOLES, "&& leb (h .first) (g .first)", "")],
+    ),
+    Rule(
+        "of equal holes the highest page",
+        heap=[(OURS, "(self.entries[i].1, self.entries[i].0))", "(self.entries[i].1, std::cmp::Reverse(self.entries[i].0)))")],
+        model=[(HOLES, "leb (h .first) (g .first)", "leb (g .first) (h .first)")],
+    ),
+    Rule(
+        "the lowest page of all that suffice",
+        heap=[(OURS, "(self.entries[i].1, self.entries[i].0))", "self.entries[i].0)")],
+        model=[(HOLES, "ltb (h .pages) (g .pages) || eqb (h .pages) (g .pages) && leb (h .first) (g .first)", "leb (h .first) (g .first)")],
     ),
     Rule(
         "the holes behind a used-up one move up",
-        heap=[("arena.rs", "holes.entries[i] = holes.entries[last];", "holes.entries.copy_within(i + 1..last + 1, i);")],
+        heap=[(OURS, "holes.entries[i] = holes.entries[holes.len];", "let last = holes.len;\n            holes.entries.copy_within(i + 1..last + 1, i);")],
         model=[
             (
                 HOLES,
@@ -402,16 +413,6 @@ RULES = [
                 "removeAt i [] = []\nremoveAt zero (h ∷ hs) = hs\nremoveAt (suc i) (h ∷ hs) = h ∷ removeAt i hs",
             )
         ],
-    ),
-    Rule(
-        "lengths are remembered up to 127",
-        heap=[("arena.rs", "EXACT_BUCKET_MAX: usize = 128;", "EXACT_BUCKET_MAX: usize = 127;")],
-        model=[(LIMITS, "rememberedMax = 128", "rememberedMax = 127")],
-    ),
-    Rule(
-        "lengths are remembered up to 129",
-        heap=[("arena.rs", "EXACT_BUCKET_MAX: usize = 128;", "EXACT_BUCKET_MAX: usize = 129;")],
-        model=[(LIMITS, "rememberedMax = 128", "rememberedMax = 129")],
     ),
     Rule(
         "4,095 holes",
@@ -426,7 +427,6 @@ RULES = [
     # What a word may hold shows in no history: the table of ranges has it, and editor/tests/boundaries/ranges.rs.
     Rule("VIRGIN up to 7", model=[(RANGES, "(virginFlag p) = upTo 1", "(virginFlag p) = upTo 7")], crate="demands"),
     Rule("LISTED up to 9", model=[(RANGES, "(listedFlag p) = upTo 1", "(listedFlag p) = upTo 9")], crate="demands"),
-    Rule("MEMORY up to 5,000", model=[(RANGES, "(memoryFits n) = upTo holeSlots", "(memoryFits n) = upTo 5000")], crate="demands"),
 ]
 
 

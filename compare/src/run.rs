@@ -2,8 +2,8 @@
 //! the two agree.
 
 use crate::call::{Answer, Call, Due, Kind};
-use crate::oracle::rules::{self, Rules};
 use crate::memory::{Fence, Reserved};
+use crate::oracle::rules::{self, Rules};
 use crate::plan::Plan;
 use crate::port::{self, Room};
 use crate::reference::Reference;

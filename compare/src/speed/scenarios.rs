@@ -10,7 +10,7 @@ use crate::words::{chunk_word, page_of, Family, NO_PAGE};
 #[derive(Clone, Copy)]
 pub enum Scenario {
     /// Commits of 1 page and gives, with so many holes of 1 page; none: from the frontier.
-    Remembered { holes: u32 },
+    Equal { holes: u32 },
     /// Commits of 2 pages, with so many holes of 1 page.
     NoFit { holes: u32 },
     /// Takes that carve, releases of all that one gave, takes from the free list.
@@ -53,7 +53,7 @@ const ARENAS: [u32; 4] = [64, 1_024, 8_192, 65_536];
 pub fn all() -> Vec<Scenario> {
     let small = |class| Class(Family::Small, class);
     let medium = |class| Class(Family::Medium, class);
-    let remembered = HOLES.map(|holes| Scenario::Remembered { holes });
+    let equal = HOLES.map(|holes| Scenario::Equal { holes });
     let no_fit = HOLES[1..].iter().map(|&holes| Scenario::NoFit { holes });
     let batches = [small(0), small(3), small(10), medium(0)].map(|class| Scenario::Batches { class });
     let single = [0, 10].map(|class| Scenario::Single { class: small(class) });
@@ -63,7 +63,7 @@ pub fn all() -> Vec<Scenario> {
     let chunks = |order| move |(pages, blocks)| Scenario::Chunks { class: small(10), pages, blocks, order };
     let in_order = [(1, 8), (8, 8), (8, 64), (32, 64), (128, 8), (512, 8), (8, 314)].map(chunks(Order::Pages));
     let mixed = [(8, 8), (32, 64), (128, 8), (1_000, 4)].map(chunks(Order::Mixed));
-    let arena_calls = remembered.into_iter().chain(no_fit);
+    let arena_calls = equal.into_iter().chain(no_fit);
     let list_calls = batches.into_iter().chain(single).chain(whole).chain(listed).chain(arena);
     arena_calls.chain(list_calls).chain(in_order).chain(mixed).chain([Scenario::Fill]).collect()
 }
@@ -81,8 +81,8 @@ impl Scenario {
         };
         let plain = |calls: &[String]| calls.iter().map(|call| Row { call: call.clone(), holes: None }).collect();
         match *self {
-            Scenario::Remembered { holes: 0 } => with(0, &["commit, 1 page, from the frontier", "give, 1 page"]),
-            Scenario::Remembered { holes } => with(holes, &["commit, 1 page", "give, 1 page"]),
+            Scenario::Equal { holes: 0 } => with(0, &["commit, 1 page, from the frontier", "give, 1 page"]),
+            Scenario::Equal { holes } => with(holes, &["commit, 1 page", "give, 1 page"]),
             Scenario::NoFit { holes } => with(holes, &["commit, 2 pages, fits no hole"]),
             Scenario::Batches { class } => {
                 let (blocks, name) = (oracle::batch(class.0, class.1), name(class));
@@ -117,8 +117,8 @@ impl Scenario {
     pub fn round<S: Side>(&self, side: &mut S, clock: Clock) -> Round {
         side.reopen(if let Scenario::Arena { pages, .. } = *self { pages } else { PAGES });
         match *self {
-            Scenario::Remembered { holes: 0 } => frontier(side, clock),
-            Scenario::Remembered { holes } => remembered(side, clock, holes),
+            Scenario::Equal { holes: 0 } => frontier(side, clock),
+            Scenario::Equal { holes } => equal(side, clock, holes),
             Scenario::NoFit { holes } => no_fit(side, clock, holes),
             Scenario::Batches { class } => batches(side, clock, class),
             Scenario::Single { class } => single(side, clock, class),
@@ -177,7 +177,7 @@ fn frontier<S: Side>(side: &mut S, clock: Clock) -> Round {
 }
 
 /// A batch begins with half of it more holes than are named, and ends with as many less.
-fn remembered<S: Side>(side: &mut S, clock: Clock, holes: u32) -> Round {
+fn equal<S: Side>(side: &mut S, clock: Clock, holes: u32) -> Round {
     store_holes(side, holes + BATCH as u32 / 2);
     let mut round = Round { times: vec![0.0; 2], answers: Vec::new() };
     for repeat in 0..REPEATS {

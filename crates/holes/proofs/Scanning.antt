@@ -1,7 +1,7 @@
 -- A scan of the first `count` holes of a slice, the last one first: what a turn of `scan` uses.
 --     scan-start    before the first turn
 --     scan-step     the hole at j is weighed after those behind it
-use mathlib.Core.Path.{_≡_, refl, sym, ap, _∙_}
+use mathlib.Core.Path.{_≡_, sym, ap, _∙_}
 use Prim.Native.Nat.{ℕ, suc, _+_, _-_, _<_, _≤_}
 use native.Mathlib.Omega.{arith}
 use mathlib.Core.List.{List}

@@ -121,4 +121,3 @@ holes-removed n b hb k j l u =
 
 pub removed-length : (b : List ℕ) (k j : ℕ) → length (removeAt j (loadHoles b 0 (suc k))) ≡ k
 removed-length b k j = rw (loaded-front b 0 k) (set-length j (lastHole (loadHoles b 0 (suc k))) (loadHoles b 0 k) ∙ loaded-length b 0 k)
-

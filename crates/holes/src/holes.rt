@@ -84,7 +84,15 @@ fn fair_too(fair: bool, h: Hole, total: u32, frontier: u32) -> bool
 
 // The `count` holes that the words hold at the index `from` and on are stored, the others stay; the answer is whether each of those is in
 // its range, and so were others before.
-pub fn load_holes(meta: &[u32], holes: &mut [Hole], others: bool, from: u32, count: u32, total: u32, frontier: u32) -> bool
+pub fn load_holes(
+    meta: &[u32],
+    holes: &mut [Hole],
+    others: bool,
+    from: u32,
+    count: u32,
+    total: u32,
+    frontier: u32,
+) -> bool
     requires { ⌜ (count ≤ length (now holes)) × (from + count < 2 ^ 32) × (word (hole start (from + count)) ≤ length (now meta)) ⌝ }
     ensures { λ r. ⌜ (r ≡ (others && every (holeFair total frontier) (loadHoles (now (meta .entry)) from count))) × (take count (now (holes .exit)) ≡ loadHoles (now (meta .entry)) from count) × (drop count (now (holes .exit)) ≡ drop count (now (holes .entry))) ⌝ }
 {

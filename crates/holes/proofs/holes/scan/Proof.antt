@@ -1,7 +1,7 @@
 -- `holes::holes::scan` meets its contract: a walk of its MIR, by hand, with a loop. The loop's invariant is over a record `Turn`: how many holes are left, and that the best so far is the best
 -- of those from there on; the variant is what is left. The slice is Copy, so a turn hands `hole_at` a copy with the lifetime's token, which comes back.
-use Rattle.holes.proofs.Walk.{_≡_, refl, ap, _∙_, ℕ, _+_, _-_, _<_, _≤_, _^_, arith, Bool, true, false, List, [], _∷_, ltb, length, getD, URA, fullShare, Ty, named, imm, w32, w64, tyInt, tyBool, tyRef, Val, vbool, vint, SProp, ent, id⊢, Lft, Share, Fml, ftrue, fat, froom, fdies, flft, ltb-true, ltb-false, Memory, Routine, afterTurn, Heap, Env, WpFn, Tables, Atoms, Fun, givenOf, tables, tablesOf, Given, Item, Sq, runs, atRet, ‵, _⊛_, ⋆, _$_, _∵_, !, qed, by, move, rewrite, fsplit, fjoin, suffices, frame, done, whole, look, init, store, forget, stop, from, load, lit, of-opd, un, bin, and-then, no-more, first, blocks, stays, leaves-loop, exec, assigns, assigns-last, land, returns, enter, alloc1, alloc0, params1, pass1, pass0, free1, free0, again, fmOf, RattleType, owns, Is, pointee, mem, u32, RefT, now, sliceTy, ShrSlice, shr-slice-lawful, shr-slice-copy, owned, Args, Vals, onEntry, Meets, says, needs, arg, holds, asks, asks-lent, calls-plain, calls-lent, by-cases, Takens, Ends, ends, known, shown, number, aHole, aBest, byValue, lent, machine, Lent}
-use Rattle.holes.specs.Scan.{noHole, betterOf, bestOf}
+use Rattle.holes.proofs.Walk.{_≡_, refl, ap, _∙_, ℕ, _+_, _-_, _<_, _≤_, _^_, arith, Bool, true, false, List, [], _∷_, ltb, length, getD, URA, fullShare, Ty, named, imm, w32, w64, tyInt, tyBool, tyRef, Val, vbool, vint, SProp, ent, id⊢, Lft, Share, Fml, ftrue, fat, froom, fdies, flft, ltb-true, ltb-false, Memory, Routine, afterTurn, Heap, Env, WpFn, Tables, Atoms, Fun, givenOf, tables, tablesOf, Given, Item, Sq, runs, atRet, ‵, _⊛_, ⋆, _$_, _∵_, !, qed, by, move, rewrite, fsplit, fjoin, suffices, frame, done, look, init, store, forget, stop, from, load, lit, of-opd, un, bin, and-then, no-more, first, blocks, stays, leaves-loop, exec, assigns, assigns-last, land, returns, enter, alloc1, alloc0, params1, pass1, pass0, free1, free0, again, fmOf, RattleType, owns, Is, pointee, mem, u32, RefT, now, sliceTy, ShrSlice, shr-slice-lawful, shr-slice-copy, owned, Args, Vals, onEntry, Meets, says, needs, arg, holds, asks, asks-lent, calls-plain, calls-lent, by-cases, Takens, Ends, ends, known, shown, number, aHole, aBest, byValue, lent, machine, Lent}
+use Rattle.holes.specs.Scan.{noHole, betterOf}
 use Rattle.model.specs.declared.Hole.{Hole}
 use Rattle.holes.specs.declared.holes.Best.{Best}
 use Rattle.holes.proofs.Looping.{Nearer, OneTurn, loop-from}

@@ -1,6 +1,6 @@
 -- `holes::plans::plan` meets its contract: a walk of its MIR, by hand. The array is filled, laid out as a row of elements (`Laid.antt`), and lent as a `&mut [Hole]` for a lifetime that the walk makes and
 -- ends; what `plan_in` leaves in it is let go. The array's size is a number n in the walk, so that no proof writes its elements out.
-use Rattle.holes.proofs.Walk.{_≡_, refl, sym, subst, _∙_, ℕ, _*_, _<_, _≤_, _^_, List, [], _∷_, length, URA, fullShare, named, erased, imm, mut, w32, w64, tyInt, tyArray, tyRef, Val, vint, SProp, ent, id⊢, GName, Lft, Share, Fml, ftrue, fat, flft, flent, Memory, Routine, Heap, Env, WpFn, Tables, Atoms, Fun, givenOf, tables, tablesOf, Given, Item, ‵, raw, _⊛_, ⋆, some, later, _$_, _∵_, !, qed, by, move, drop, use1, use2, use3, split, join, pick, rewrite, fsplit, fjoin, feqI, feqL, suffices, frame, await, done, agg, look, init, forget, stop, from, load, lit, addr, and-then, no-more, first, assigns, land, returns, enter, alloc1, alloc0, params1, pass1, pass0, free1, free0, again, Arr, cells, arr-parts, lft-new, lft-end, fmOf, RattleType, owns, Is, Lawful, shows, pointee, mem, shares, Array, array-lawful, u32, row, whole-in, whole-out, Held, lends-slice, slice-back, RefT, now, sliceTy, sliceVal, ShrSlice, MutSlice, Room, shr-slice-lawful, shr-slice-copy, owned, peeks, onEntry, Bound, Meets, says, needs, arg, holds, asks-both, calls, Takens, Ends, ends, known, shown, number, aHole, aPlan, anArena, byValue, lent, lentAt, machine, Lent}
+use Rattle.holes.proofs.Walk.{_≡_, refl, sym, subst, _∙_, ℕ, _*_, _<_, _≤_, _^_, List, [], _∷_, length, URA, fullShare, named, erased, imm, mut, w32, w64, tyInt, tyArray, tyRef, Val, vint, SProp, ent, id⊢, GName, Lft, Share, Fml, ftrue, fat, flft, flent, Memory, Routine, Heap, Env, WpFn, Tables, Atoms, Fun, givenOf, tables, tablesOf, Given, Item, ‵, raw, _⊛_, ⋆, some, later, _$_, _∵_, !, qed, by, move, drop, use1, use2, use3, split, join, pick, rewrite, fsplit, fjoin, feqI, feqL, suffices, frame, await, done, agg, look, init, forget, stop, from, load, lit, addr, and-then, no-more, assigns, land, returns, enter, alloc1, alloc0, params1, pass1, pass0, free1, free0, Arr, cells, arr-parts, lft-new, lft-end, fmOf, RattleType, owns, Is, Lawful, shows, pointee, mem, shares, Array, array-lawful, u32, row, whole-in, whole-out, Held, lends-slice, slice-back, RefT, now, sliceTy, sliceVal, ShrSlice, MutSlice, Room, shr-slice-lawful, shr-slice-copy, owned, peeks, onEntry, Bound, Meets, says, needs, arg, holds, asks-both, calls, Takens, Ends, ends, known, shown, number, aHole, aPlan, anArena, byValue, lent, lentAt, machine, Lent}
 use types.Kit.{Go}
 use mir.Syntax.{Opd as Operand, Fn, local, valueLocal, memorySlot, place, copy, int, aggregate, repeat, addrOf, seq, assign, call, return}
 use denote.Struct.Laws as LL
