@@ -92,6 +92,7 @@ enum vigbuso_refusal {
     VIGBUSO_ARENA_LENGTH = 1,
     VIGBUSO_BOOK_TOO_SHORT = 2,
     VIGBUSO_PLAN = 14,
+    VIGBUSO_LISTING = 20,
     VIGBUSO_GAME = 21,
     VIGBUSO_GROWTH = 22,
     VIGBUSO_TOP = 23,
@@ -143,6 +144,8 @@ static inline const char *vigbuso_refusal_text(uint32_t number) {
     case 14:
         return "the plan is empty, has lists of unequal length or above 4,096 entries, names a class above 75 or has a number above "
                "1,000,000";
+    case 20:
+        return "the listing's arena isn't 1 to 3 pages, its length is above 4, or the lent list is shorter than the listing";
     case 21:
         return "the game's pages are not 1 to 6, its live limit not 1 to the pages, or its moves above 8";
     case 22:
@@ -312,6 +315,17 @@ uint32_t vigbuso_asker_wins(uint64_t pages, uint64_t live, uint64_t moves, uint3
  */
 uint32_t vigbuso_plan(const uint32_t *classes, size_t classes_len, const uint32_t *takes, size_t takes_len,
                       uint64_t *total);
+
+/*
+ * Every history of so many direct calls, 0 to 4, on an arena of so many pages, 1 to 3, all granted: commits of 1 page up to the
+ * arena's length, whether they succeed or not, and releases of one whole run still held. Each stands there once, commits before
+ * releases, smaller before larger, the run committed earlier before the later. No book is lent.
+ *   list     list_len words; a commit of p pages is written as p, the release of the run from the history's i-th call (from 1) as
+ *            3 + i, without a mark between histories. 792 are enough for every listing; those past it are kept
+ *   written  how many were written
+ * Returns 0, or 20.
+ */
+uint32_t vigbuso_short_histories(uint64_t pages, uint64_t length, uint32_t *list, size_t list_len, uint64_t *written);
 
 #ifdef __cplusplus
 }

@@ -10,10 +10,12 @@ mod generate;
 mod histories;
 mod history;
 mod ledger;
+mod listing;
 mod lookups;
 mod memory;
 mod model_test;
 mod oracle;
+mod places;
 mod plan;
 mod planned;
 mod port;
@@ -34,6 +36,7 @@ const USAGE: &str = "usage: compare COMMAND [--NAME VALUE ..]
   lookups      both size lookups
   tables       class tables from a growth rate
   game         an asker against any placing
+  listing      all short histories of the direct calls
   histories    [--calls N] [--seed S] [--pages N,N..] [--scenario NAME]
                random histories on the original and on the port
   record       --file F [--calls N] [--seed S] [--pages N,N..] [--scenario NAME] [--kinds all|arena] | --given G
@@ -46,6 +49,8 @@ const USAGE: &str = "usage: compare COMMAND [--NAME VALUE ..]
                calls with any arguments on damaged books
   fits         [--plans N] [--seed S]
                plans of takes, made in orders of chance on arenas of just their total and of a page less
+  places       [--pairs N] [--seed S]
+               neighbouring calls on two classes the other way round, books compared word for word
   speed        [--file F] [--seconds S]
                the port's time against the original's, for each scenario S seconds; the table is also written to F";
 
@@ -56,12 +61,14 @@ fn main() -> ExitCode {
         Some("lookups") => Ok(lookups::run()),
         Some("tables") => Ok(class_tables::run()),
         Some("game") => Ok(game::run()),
+        Some("listing") => Ok(listing::run()),
         Some("histories") => histories::histories(rest),
         Some("record") => histories::record(rest),
         Some("replay") => histories::replay(rest),
         Some("model-test") => model_test::run(rest),
         Some("damaged") => damaged::run(rest),
         Some("fits") => fits::run(rest),
+        Some("places") => places::run(rest),
         Some("speed") => speed::run(rest),
         _ => Err(USAGE.into()),
     };

@@ -12,6 +12,7 @@ extern "C" {
     fn vigbuso_medium_class_for_size(size: u64) -> u32;
     fn vigbuso_asker_wins(pages: u64, live: u64, moves: u64, wins: *mut u32) -> u32;
     fn vigbuso_class_table(a: u64, b: u64, top: u64, slots: u64, list: *mut u32, len: usize) -> u32;
+    fn vigbuso_short_histories(pages: u64, length: u64, list: *mut u32, len: usize, written: *mut u64) -> u32;
     fn vigbuso_plan(classes: *const u32, len: usize, takes: *const u32, takes_len: usize, total: *mut u64) -> u32;
     fn vigbuso_open(book: *mut u32, words: usize, pages: u64) -> u32;
     fn vigbuso_commit(book: *mut u32, words: usize, host: u32, pages: u64, first: *mut u32, fresh: *mut u32) -> u32;
@@ -99,6 +100,12 @@ pub fn class_table(a: u64, b: u64, top: u64, slots: u64, list: &mut [u32]) -> u3
 pub fn asker_wins(pages: u64, live: u64, moves: u64, wins: &mut u32) -> u32 {
     // SAFETY: the number is lent for the call.
     unsafe { vigbuso_asker_wins(pages, live, moves, wins) }
+}
+
+/// What is returned.
+pub fn short_histories(pages: u64, length: u64, list: &mut [u32], written: &mut u64) -> u32 {
+    // SAFETY: slice and number are lent for the call.
+    unsafe { vigbuso_short_histories(pages, length, list.as_mut_ptr(), list.len(), written) }
 }
 
 /// A refusal keeps the total.
@@ -342,6 +349,14 @@ fn contains(book: &[u32], offset: u64, length: u64) -> Answer {
     // SAFETY: the book is lent for the call, to be read.
     let answer = unsafe { vigbuso_contains(book.as_ptr(), book.len(), offset, length) };
     yes_or_no("contains", answer, Answer::Contains)
+}
+
+/// Commits, reuses, abandoned, pages held, idle pages, of a book on which a report is not refused.
+pub fn report_figures(book: &[u32]) -> [u64; 5] {
+    match report(book) {
+        Answer::Report(figures) => figures,
+        answer => panic!("a report answers {answer:?}"),
+    }
 }
 
 fn report(book: &[u32]) -> Answer {

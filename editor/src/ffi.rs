@@ -103,6 +103,7 @@ extern "C" {
     ) -> u32;
     fn vigbuso_class_table(a: u64, b: u64, top: u64, slots: u64, list: *mut u32, list_len: usize) -> u32;
     fn vigbuso_asker_wins(pages: u64, live: u64, moves: u64, wins: *mut u32) -> u32;
+    fn vigbuso_short_histories(pages: u64, length: u64, list: *mut u32, list_len: usize, written: *mut u64) -> u32;
 }
 
 /// Whether a call was carried out.
@@ -279,6 +280,14 @@ pub(crate) fn asker_wins(pages: u64, live: u64, moves: u64) -> Result<u32, Refus
     Ok(wins)
 }
 
+/// How many numbers were written into the list.
+pub(crate) fn short_histories(pages: u64, length: u64, list: &mut [u32]) -> Result<u64, Refusal> {
+    let mut written = 0;
+    // SAFETY: the slice and the local are lent for the call.
+    carried_out(unsafe { vigbuso_short_histories(pages, length, list.as_mut_ptr(), list.len(), &raw mut written) })?;
+    Ok(written)
+}
+
 /// The refusals that the types above rule out can be seen here only.
 #[cfg(test)]
 mod tests {
@@ -310,6 +319,15 @@ mod tests {
         assert_eq!(plan(&[0], &[]), Err(Refusal::Plan));
         assert_eq!(plan(&[0, 1], &[1]), Err(Refusal::Plan));
         assert_eq!([plan(&[75], &[1]), plan(&[76], &[1])], [Ok(8), Err(Refusal::Plan)]);
+    }
+
+    #[test]
+    fn a_listing_fits_its_list() {
+        let mut list = [9; 793];
+        assert_eq!(short_histories(3, 4, &mut list[..791]), Err(Refusal::Listing));
+        assert_eq!(list, [9; 793]);
+        assert_eq!(short_histories(3, 4, &mut list), Ok(792));
+        assert_eq!(list[788..], [3, 4, 3, 6, 9]);
     }
 
     #[test]

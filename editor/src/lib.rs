@@ -33,7 +33,7 @@
 //! ```
 //!
 //! Every call of the library is a method of [`Heap`], both size lookups are [`Class::for_size`]; [`plan`] works out, before a
-//! large fill, how many pages it needs. A call with bad arguments
+//! large fill, how many pages it needs; [`short_histories`] lists all that can happen in a few direct calls. A call with bad arguments
 //! changes nothing and answers a [`Refusal`].
 //!
 //! | arena | blocks |
@@ -45,7 +45,8 @@
 //! The code behind the methods is proved: what each call answers and leaves behind is a definition, and the library is
 //! built only if the code does just that. This crate is the part that is not proved: types over those calls, and [`Pool`] and
 //! [`Store`] on top. Document 01, which the comments cite, is the paper that states the heap's rules; `docs/CALLS.md` of the
-//! repository describes the C functions, `docs/DEMANDS.md` what is proved of them.
+//! repository describes the C functions, `docs/REORDER.md` which of them may change places, `docs/DEMANDS.md` what is proved of
+//! them.
 //!
 //! The crate needs no `std`, only `alloc`.
 #![no_std]
@@ -65,6 +66,7 @@ mod ffi;
 mod game;
 mod heap;
 mod host;
+mod listing;
 mod plan;
 mod pool;
 mod refusal;
@@ -83,6 +85,7 @@ pub use fate::Fate;
 pub use game::asker_wins;
 pub use heap::{book_words, Heap, MAX_PAGES};
 pub use host::Host;
+pub use listing::{short_histories, DirectCall, ShortHistories};
 pub use plan::plan;
 pub use pool::{Pool, PoolReport};
 pub use refusal::Refusal;

@@ -63,6 +63,7 @@ refusals! {
     12 NotHeld "the run handed to release or to growth isn't wholly held by the direct calls"
     13 BookWord "another book word that the call reads is out of its range, or a listed page yields no block"
     14 Plan "the plan is empty, has lists of unequal length or above 4,096 entries, names a class above 75 or has a number above 1,000,000"
+    20 Listing "the listing's arena isn't 1 to 3 pages, its length is above 4, or the lent list is shorter than the listing"
     21 Game "the game's pages are not 1 to 6, its live limit not 1 to the pages, or its moves above 8"
     22 Growth "the growth's a is not above b, b is 0, or either exceeds 1,000"
     23 Top "the top is below 16, not a multiple of 16 or above 65,472"

@@ -158,6 +158,19 @@ static void plan(void) {
     IS(total, 2 + 6);
 }
 
+static void short_histories(void) {
+    uint32_t list[5] = {7, 7, 7, 7, 7};
+    uint64_t written = 7;
+    IS(vigbuso_short_histories(4, 2, list, 5, &written), VIGBUSO_LISTING);
+    IS(vigbuso_short_histories(1, 2, list, 3, &written), VIGBUSO_LISTING);
+    IS(list[0], 7);
+    IS(written, 7);
+    IS(vigbuso_short_histories(1, 2, list, 5, &written), 0);
+    IS(written, 4);
+    IS(list[0] == 1 && list[1] == 1 && list[2] == 1 && list[3] == 4, 1);
+    IS(list[4], 7);
+}
+
 int main(void) {
     book = (uint32_t *)calloc(words, sizeof *book);
     if (book == NULL) {
@@ -175,6 +188,7 @@ int main(void) {
     class_table();
     game();
     plan();
+    short_histories();
     free(book);
     printf("%d differences\n", differences);
     return differences != 0;

@@ -7,9 +7,10 @@
 
 use super::rounds::{Clock, Round};
 use super::scenarios::time_takes;
-use super::sides::{Class, Side, PAGES};
+use super::sides::{Class, PortSide, Side, HOST, PAGES};
+use crate::call::{Call, Lent};
 use crate::random::Random;
-use crate::words::{chunk_word, page_of, Family};
+use crate::words::{chunk_word, page_of, Family, SMALL_BATCH};
 
 /// Takes and releases of a search.
 const TURNS: usize = 600;
@@ -31,6 +32,29 @@ enum Turn {
     Chunks(Class, Vec<u32>, Vec<u32>),
     Commit,
     Give(u32),
+}
+
+/// The calls of a search on a newly opened port, as they are made in turn.
+pub fn calls() -> Vec<Call> {
+    let mut side = PortSide::open();
+    side.reopen(PAGES);
+    rehearse(&mut side, Clock::calibrated()).0.into_iter().map(as_call).collect()
+}
+
+fn as_call(turn: Turn) -> Call {
+    let host = HOST;
+    match turn {
+        Turn::Take(Class(family, class)) => {
+            Call::Take { family, class, host, lent: Lent { len: SMALL_BATCH, fill: 0 } }
+        }
+        Turn::Release(Class(family, class), list) => Call::ReleaseBlocks { family, class, host, list },
+        Turn::Chunks(Class(_, class), list, chunks) => {
+            let lent = Lent { len: chunks.len(), fill: 0 };
+            Call::ReleaseChunks { class, host, list, chunks, lent }
+        }
+        Turn::Commit => Call::Commit { host, pages: 2 },
+        Turn::Give(first) => Call::Release { host, first: u64::from(first), pages: 2 },
+    }
 }
 
 pub fn round<S: Side>(side: &mut S, clock: Clock) -> Round {

@@ -13,6 +13,7 @@ mod table;
 use std::fs;
 use std::time::Duration;
 
+pub use self::fill::calls as fill_calls;
 use self::rounds::Clock;
 use self::sides::{OriginalSide, PortSide};
 use self::table::Table;

@@ -10,7 +10,7 @@ use crate::oracle::{self, Chain, Chunks, Original};
 use crate::port;
 use crate::words::{book_words, Family, HOST_COMMIT, HOST_RESERVE, MAX_CHUNKS, NO_PAGE, SMALL_BATCH};
 
-const HOST: u32 = HOST_RESERVE | HOST_COMMIT;
+pub const HOST: u32 = HOST_RESERVE | HOST_COMMIT;
 
 /// The arena's length where no scenario says otherwise.
 pub const PAGES: u32 = 8_192;

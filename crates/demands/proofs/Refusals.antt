@@ -29,9 +29,9 @@ use Rattle.take.specs.TakeAnswer as Takes
 use Rattle.release.specs.Act.{answerAs}
 use Rattle.vigbuso.specs.Direct.{firstOut, freshOut, grownOut, containsOn}
 use Rattle.vigbuso.specs.Blocks.{codeOut, countOut, virginOut, releaseCode, fateOut}
-use Rattle.demands.specs.Refusals.{Row, firstNumber, checkingOrder, inOrder, Refuses, OpenRefuses, CommitRefuses, GrowRefuses, GiveRefuses, ReportRefuses, TakeRefuses, ReleaseRefuses, ChunksRefuses, containsTable, ContainsAnswers, SizeAnswers, Demand1, TableRefuses, GameRefuses, PlanRefuses}
+use Rattle.demands.specs.Refusals.{Row, firstNumber, checkingOrder, inOrder, Refuses, OpenRefuses, CommitRefuses, GrowRefuses, GiveRefuses, ReportRefuses, TakeRefuses, ReleaseRefuses, ChunksRefuses, containsTable, ContainsAnswers, SizeAnswers, Demand1, TableRefuses, GameRefuses, PlanRefuses, ListingRefuses}
 use Rattle.demands.proofs.RefusalsLaws.{Ends, book-turn}
-use Rattle.demands.proofs.RefusalsCalls.{open-table, commit-table, grow-table, give-table, report-table, take-table, release-table, chunks-table, rate-table, game-table}
+use Rattle.demands.proofs.RefusalsCalls.{open-table, commit-table, grow-table, give-table, report-table, take-table, release-table, chunks-table, rate-table, game-table, listing-table}
 use Rattle.pages.proofs.Downs.{digit-le}
 
 -- ---- the answer's number is the definition's, and where it is one, the out-parameters stay as they were
@@ -119,6 +119,9 @@ table-refuses a b top slots l r l′ e = refuses _ _ _ _ (rate-table a b top slo
 pub game-refuses : GameRefuses
 game-refuses n limit k r w w′ e = refuses _ _ _ _ (game-table n limit k w) _ r refl (e .code) λ d s. e .wins ∙ s
 
+pub listing-refuses : ListingRefuses
+listing-refuses n k l r l′ w w′ e = refuses _ _ _ _ (listing-table n k l w) _ r refl (e .code) λ d s. (e .list ∙ s .0, e .written ∙ s .1)
+
 pub plan-refuses : PlanRefuses
 plan-refuses ks ts r t t′ e = record { order = refl; number = e .code; kept = λ d. kept d }
   where
@@ -171,6 +174,7 @@ demand-1 = record {
   classTable = table-refuses;
   askerWins = game-refuses;
   plan = plan-refuses;
+  shortHistories = listing-refuses;
   contains = contains-answers;
   classForSize = small-answers;
   mediumClassForSize = medium-answers;

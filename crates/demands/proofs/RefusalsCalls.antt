@@ -15,6 +15,7 @@ use Rattle.classes.specs.declared.Shape.{Shape}
 use Rattle.classes.specs.Shape.{shapeOf}
 use Rattle.tables.specs.Table.{badRate, badTop, badSlots, Tabled, classTable}
 use Rattle.game.specs.Game.{badGame, Played, askerWins, winsOut}
+use Rattle.listing.specs.Listing.{badListing, Listed, shortHistories, writtenOut}
 use Rattle.fields.specs.Field.{arena, class, page, size, frontier, partial, empty, cold, free, carved, get}
 use Rattle.fields.specs.Outcome.{Outcome}
 use Rattle.fields.specs.Outcome as Fields
@@ -39,7 +40,7 @@ use Rattle.vigbuso.specs.Direct as Direct
 use Rattle.vigbuso.specs.Direct.{openOn, commitOn, growOn, reportOn, reportCode, figuresOut}
 use Rattle.vigbuso.specs.Blocks as Blocks
 use Rattle.vigbuso.specs.Blocks.{takeOn, chunksOn}
-use Rattle.demands.specs.Refusals.{shortList, nothingListed, manyChunks, wrongKind, notOut, otherPage, chunksDiffer, notHeld, openTable, commitTable, growTable, giveTable, reportTable, takeTable, releaseTable, chunksTable, rateTable, gameTable}
+use Rattle.demands.specs.Refusals.{shortList, nothingListed, manyChunks, wrongKind, notOut, otherPage, chunksDiffer, notHeld, openTable, commitTable, growTable, giveTable, reportTable, takeTable, releaseTable, chunksTable, rateTable, gameTable, listingTable}
 use Rattle.demands.specs.Number13.{takeFair}
 use Rattle.demands.proofs.Ranges.{record-strays, commit-strays, give-strays, take-strays, release-strays, chunks-strays}
 use Rattle.demands.proofs.RefusalsLaws.{not-and, le-not-lt, Ends, ends, turn, unless, book-turn, chain, choose, before}
@@ -218,3 +219,8 @@ rate-table a b top slots l =
 pub game-table : (n limit k w : ℕ) → Ends {R = Played} (λ o. o .code) (λ o. winsOut o w ≡ w) (gameTable n limit k) (askerWins n limit k)
 unfolding askerWins
 game-table n limit k w = turn _ _ (badGame n limit k) 21 _ _ _ refl refl λ e. ends _ _ _ refl
+
+-- ---- the listing
+pub listing-table : (n k : ℕ) (l : List ℕ) (w : ℕ) → Ends {R = Listed} (λ o. o .code) (λ o. (o .list ≡ l) × (writtenOut o w ≡ w)) (listingTable n k l) (shortHistories n k l)
+unfolding shortHistories
+listing-table n k l w = turn _ _ (badListing n k (length l)) 20 _ _ _ refl (refl, refl) λ e. ends _ _ _ refl

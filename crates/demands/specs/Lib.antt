@@ -10,4 +10,7 @@ pub mod Number13
 pub mod Refusals
 pub mod ClassTables
 pub mod Game
+pub mod Listing
 pub mod Plan
+pub mod ChangePlaces
+pub mod Reorders

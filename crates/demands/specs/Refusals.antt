@@ -1,7 +1,7 @@
 -- Demand 1: document 01's table "Numbers for a refused call, in checking order", with document 02's numbers in it, for each exported
 -- function.
 --     badLength to notHeld       when each number applies, with document 01's sentence
---     openTable to planTable     for each function the numbers that it can answer, in checking order, and whether each applies
+--     openTable to listingTable  for each function the numbers that it can answer, in checking order, and whether each applies
 --     firstNumber                the first of them that applies, 0 if none does
 --     Refuses                    a call answered that number, and changed nothing where it is not 0
 --     Demand1                    every exported function does so, by what its contract says of it
@@ -29,6 +29,7 @@ use Rattle.model.specs.Release.{ofKind}
 use Rattle.model.specs.Chunks.{chunksMax}
 use Rattle.plan.specs.Plan.{badPlan}
 use Rattle.plan.specs.Code.{PlanEnds}
+use Rattle.listing.specs.Listing.{badListing, shortHistories, ListingEnds}
 use Rattle.arena.specs.Calls.{heldDirect}
 use Rattle.direct.specs.Answer.{Releases}
 use Rattle.calls.specs.Release.{startOf, outAt, firstOf}
@@ -92,7 +93,7 @@ notHeld n b q m = not (heldDirect n b q m)
 -- 13. "Another book word that the call reads is out of its range, or a listed page yields no block.": `strays` and `barren`, over the
 -- rows that the call reads of the one table, Specs/Ranges. That the tests of the code are just these is Specs/Number13.
 
--- Document 02's: 14 is `badPlan`; 21 is `badGame`; 22, 23 and 24 are `badRate`, `badTop` and `badSlots`.
+-- Document 02's: 14 is `badPlan`; 20 is `badListing`; 21 is `badGame`; 22, 23 and 24 are `badRate`, `badTop` and `badSlots`.
 
 -- ---- a table's rows are a number and whether it applies
 abbrev pub Row : Type 0
@@ -200,6 +201,10 @@ gameTable n limit k = (21, badGame n limit k) ∷ []
 abbrev pub planTable : List ℕ → List ℕ → List Row
 planTable ks ts = (14, badPlan ks ts) ∷ []
 
+-- vigbuso_short_histories
+abbrev pub listingTable : ℕ → ℕ → List ℕ → List Row
+listingTable n k l = (20, badListing n k (length l)) ∷ []
+
 -- ---- "Each returns its number and changes nothing."
 -- A call with these rows answered r; Same says that all that it was lent to write is as it was: book, list, out-parameters.
 pub record Refuses (rows : List Row) (r : ℕ) (Same : Type 0) : Type 0 where
@@ -263,6 +268,12 @@ GameRefuses = (n limit k r w w′ : ℕ) → GameEnds (askerWins n limit k) r w 
 abbrev pub PlanRefuses : Type 0
 PlanRefuses = (ks ts : List ℕ) (r t t′ : ℕ) → PlanEnds ks ts r t t′ → Refuses (planTable ks ts) r (t′ ≡ t)
 
+abbrev pub ListingRefuses : Type 0
+ListingRefuses =
+    (n k : ℕ) (l : List ℕ) (r : ℕ) (l′ : List ℕ) (w w′ : ℕ)
+    → ListingEnds (shortHistories n k l) r l′ w w′
+    → Refuses (listingTable n k l) r ((l′ ≡ l) × (w′ ≡ w))
+
 -- "Sizes and `contains` refuse nothing": a size has a class that number 4 does not refuse; `contains` is 1 or 0, yes or no, and no "on
 -- a book that 1, 2 or 13 would refuse".
 pub record Contains (b : List ℕ) (r : ℕ) : Type 0 where
@@ -290,6 +301,7 @@ pub record Demand1 : Type 0 where
   pub classTable : TableRefuses
   pub askerWins : GameRefuses
   pub plan : PlanRefuses
+  pub shortHistories : ListingRefuses
   pub contains : ContainsAnswers
   pub classForSize : SizeAnswers classForSize 64
   pub mediumClassForSize : SizeAnswers mediumClassForSize 12

@@ -34,6 +34,10 @@ classes-with n b H c s new others d hd =
       | no e ↦ rw (ne-eqb d c e) (others d hd e)
     ]
 
+-- a class whose state is known by another name
+pub state-as : {n : ℕ} {b : List ℕ} {H : Heap} {c : ℕ} {t : Class} → Represents n b H → ltb c 76 ≡ true → H .classes c ≡ t → StateRep n b c (shapeOf c) t
+state-as {n} {b} {H} {c} R hc e = subst (λ (t : Class). StateRep n b c (shapeOf c) t) e (R .classes c hc)
+
 module _ (n : ℕ) (b : List ℕ) (H : Heap) (R : Represents n b H) where
   pub setting-of : (c : ℕ) → ltb c 76 ≡ true → Setting n b c (shapeOf c)
   setting-of c hc = record { long = R .arena .long; row = hc; shape = shape-sound c }

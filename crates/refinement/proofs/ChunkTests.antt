@@ -50,13 +50,13 @@ module _ {n : ℕ} {b : List ℕ} {c : ℕ} {sh : Shape} (s : Setting n b c sh) 
 
   module _ (t : Class) (r : StateRep n b c sh t) where
     -- the site of a word that is out in the class
-    record SiteOf (w : ℕ) : Type 0 where
-      site : Site
-      is : locate (isOut sh w) t ≡ some site
-      found : Located (isOut sh w) t (some site)
-      start : startOf b w ≡ site .page .first
+    pub record SiteOf (w : ℕ) : Type 0 where
+      pub site : Site
+      pub is : locate (isOut sh w) t ≡ some site
+      pub found : Located (isOut sh w) t (some site)
+      pub start : startOf b w ≡ site .page .first
 
-    site-of : (w : ℕ) → ofKind (sh .kind) w ≡ true → outAt n b c sh w ≡ true → SiteOf w
+    pub site-of : (w : ℕ) → ofKind (sh .kind) w ≡ true → outAt n b c sh w ≡ true → SiteOf w
     unfolding outHere
     site-of w k o = go (locate (isOut sh w) t) refl (located (isOut sh w) t) (sym (out-here s hn t r w k) ∙ o)
       where

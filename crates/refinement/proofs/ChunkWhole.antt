@@ -125,14 +125,14 @@ module _ (n : ℕ) (hn : n ≤ maxPages) (b : List ℕ) (H : Heap) (R : Represen
         let t = Model.chunkFits (shapeOf c) (H .classes c) ws in
         rw (fair g (fitting g (and-left (t g) (every t gs) e)), all-fair gs (and-right (t g) (every t gs) e))
 
-    all-wait : (gs : List ℕ) → every (Model.chunkFits (shapeOf c) (H .classes c) ws) gs ≡ true → All (Waits (shapeOf c) ws b (H .classes c)) gs
+    pub all-wait : (gs : List ℕ) → every (Model.chunkFits (shapeOf c) (H .classes c) ws) gs ≡ true → All (Waits (shapeOf c) ws b (H .classes c)) gs
     all-wait [] e = tt
     all-wait (g ∷ gs) e =
         let t = Model.chunkFits (shapeOf c) (H .classes c) ws in
         (waits g (fitting g (and-left (t g) (every t gs) e)), all-wait gs (and-right (t g) (every t gs) e))
 
     module _ (h : ℕ) (gs : List ℕ) (fits : every (Model.chunkFits (shapeOf c) (H .classes c) ws) gs ≡ true) (apart : distinct (map pageOf gs) ≡ true) where
-      all-settled : ChunksRep n c (shapeOf c) b [] (settleChunks b c (shapeOf c) h ws gs) (Model.settleChunks (shapeOf c) h ws (H .classes c) gs)
+      pub all-settled : ChunksRep n c (shapeOf c) b [] (settleChunks b c (shapeOf c) h ws gs) (Model.settleChunks (shapeOf c) h ws (H .classes c) gs)
           (runsGiven b (shapeOf c) gs (length (H .classes c .empty)) (length (H .classes c .cold)))
       all-settled = chunks-rep hn (shape-limits c) (small-shape c hs) h ws once b s gs apart b (H .classes c) [] (changes-none (ofClass b c) b) (R .classes c hc) (all-wait gs fits)
 
@@ -143,7 +143,7 @@ module _ (n : ℕ) (hn : n ≤ maxPages) (b : List ℕ) (H : Heap) (R : Represen
           rw (r .store .number, length-firsts (reused (shapeOf c)) (H .classes c .empty), r .beside .number, length-firsts (thawed (shapeOf c)) (H .classes c .cold), w .number)
           (all-held n b H R ok c hc (settleChunks b c (shapeOf c) h ws gs .book) (w .only) (Model.settleChunks (shapeOf c) h ws (H .classes c) gs .class) (w .pages) (w .rep))
 
-      chunks-fair : chunksFair n b c (shapeOf c) gs ≡ true
+      pub chunks-fair : chunksFair n b c (shapeOf c) gs ≡ true
       unfolding chunksFair
       chunks-fair =
           rw (

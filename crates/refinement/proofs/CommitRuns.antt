@@ -31,7 +31,7 @@ module _ (n : ℕ) (b : List ℕ) (H : Heap) (rep : ArenaRep n b H) (r : Reached
   run-covers : (y : ℕ) → coversRun m (commit n h m (H .arena) .run) y ≡ covers m q y
   run-covers y = ap (λ o. coversRun m o y) answers
 
-  run-nobody : (y : ℕ) → inRun m q y ≡ true → H .holder y ≡ nobody
+  pub run-nobody : (y : ℕ) → inRun m q y ≡ true → H .holder y ≡ nobody
   run-nobody y e =
       let k : covers m q y ≡ 1 = rw e in
       idle-nobody n H r y (omega (arith, commit-law n h m (H .arena) .pages y, run-covers y))

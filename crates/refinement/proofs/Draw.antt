@@ -41,7 +41,7 @@ module _ {n : ℕ} {b : List ℕ} {c : ℕ} {sh : Shape} (s : Setting n b c sh) 
   latest-size : length (latest b sh q m) ≡ min (m - length xs) (sh .capacity - k) + min m (length xs)
   latest-size = rw (latest-is, length-append, length-downs, length-reverse, length-take)
 
-  latest-fit : every (fits sh) (latest b sh q m) ≡ true
+  pub latest-fit : every (fits sh) (latest b sh q m) ≡ true
   latest-fit =
       every-counts (sh .capacity) (latest b sh q m) (λ j z.
       omega (

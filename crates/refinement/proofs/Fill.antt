@@ -77,18 +77,18 @@ module _ (sh : Shape) where
 pub pred : (q : ℕ) → suc q - 1 ≡ q
 pred q = omega arith
 
-fill-none : (b : List ℕ) (c : ℕ) (sh : Shape) (k : ℕ) → fillFrom b c sh k 0 ≡ filledNone b
+pub fill-none : (b : List ℕ) (c : ℕ) (sh : Shape) (k : ℕ) → fillFrom b c sh k 0 ≡ filledNone b
 unfolding fillFrom
 fill-none b c sh zero = refl
 fill-none b c sh (suc k) = refl
 
-fill-empty : (b : List ℕ) (c : ℕ) (sh : Shape) (k m : ℕ) → get b (class partial c) ≡ 0 → fillFrom b c sh k m ≡ filledNone b
+pub fill-empty : (b : List ℕ) (c : ℕ) (sh : Shape) (k m : ℕ) → get b (class partial c) ≡ 0 → fillFrom b c sh k m ≡ filledNone b
 unfolding fillFrom
 fill-empty b c sh zero m e = refl
 fill-empty b c sh (suc k) m e = by-cases (eqb m 0) (λ u. rw u) (λ u. rw (u, e))
 
 -- one page's part of a filling, on the words and in the model
-abbrev stepFilled : List ℕ → ℕ → Shape → ℕ → ℕ → ℕ → Filled
+abbrev pub stepFilled : List ℕ → ℕ → Shape → ℕ → ℕ → ℕ → Filled
 stepFilled b c sh k m q =
     thenFilled (eqb (get b (page virgin q)) 1) (map (Page.wordOf sh q) (latest b sh q m))
     (fillFrom (unlistSpent (draw b sh q m) c sh q) c sh k (m - length (latest b sh q m)))
@@ -96,7 +96,7 @@ stepFilled b c sh k m q =
 abbrev stepModel : Shape → ℕ → Page → List Page → Model.Filled
 stepModel sh m p ps = after sh (p .virgin) (pop sh m p) (fillFromList sh (m - length (pop sh m p .blocks)) ps)
 
-fill-step : (b : List ℕ) (c : ℕ) (sh : Shape) (k m q : ℕ) → get b (class partial c) ≡ suc q → eqb m 0 ≡ false → fillFrom b c sh (suc k) m ≡ stepFilled b c sh k m q
+pub fill-step : (b : List ℕ) (c : ℕ) (sh : Shape) (k m q : ℕ) → get b (class partial c) ≡ suc q → eqb m 0 ≡ false → fillFrom b c sh (suc k) m ≡ stepFilled b c sh k m q
 unfolding fillFrom
 fill-step b c sh k m q e u = rw (u, e, ne-eqb (suc q) 0 (λ z. omega arith), pred q)
 

@@ -92,10 +92,10 @@ module _ (n : ℕ) (b : List ℕ) (H : Heap) (R : Represents n b H) (ok : Reache
   one : 1 ≤ shapeOf c .pages
   one = shape-sound c .paged
 
-  few : length (commit n h (shapeOf c .pages) (H .arena) .arena .store .holes) ≤ holeSlots
+  pub few : length (commit n h (shapeOf c .pages) (H .arena) .arena .store .holes) ≤ holeSlots
   few = tidy-commit n h pages one (H .arena) (ok .tidy) .slots
 
-  changes : Changes (isStep owned) b after
+  pub changes : Changes (isStep owned) b after
   changes = committed-changes b grant pages (suc c) few
 
   rep₁ : (cs : ℕ → Class) → ArenaRep n after (heapOf (grant .arena) (passTo (class c) (coversRun pages (grant .run)) (H .holder)) cs)
@@ -124,7 +124,7 @@ module _ (n : ℕ) (b : List ℕ) (H : Heap) (R : Represents n b H) (ok : Reache
     s₁ : Setting n after c (shapeOf c)
     s₁ = record { long = rep₁ (H .classes) .long; row = hc; shape = shape-sound c }
 
-    written : Changes (isNew q pages) after new
+    pub written : Changes (isNew q pages) after new
     written = new-changes s₁ q (isNew q pages) (new-lets q pages)
 
     pub new-setting : Setting n new c (shapeOf c)
@@ -149,7 +149,7 @@ module _ (n : ℕ) (b : List ℕ) (H : Heap) (R : Represents n b H) (ok : Reache
     outside y i = written .kept (page first y) refl (or-none (inRun pages q y) ∙ i) ∙ step-first owned b after changes y
 
     -- which runs are whole: the new one, and the others as before; none was there
-    same : (d x : ℕ) → (d ≡ c → x ≡ q → ⊥) → whole n new (shapeOf d) d x ≡ whole n b (shapeOf d) d x
+    pub same : (d x : ℕ) → (d ≡ c → x ≡ q → ⊥) → whole n new (shapeOf d) d x ≡ whole n b (shapeOf d) d x
     same d x ne = claim-others n b H (R .arena) ok h pages one q e c (H .classes) new (rep₂ (H .classes)) inside outside (shapeOf d) d x (shape-sound d .paged) ne
 
     whole-now : whole n new (shapeOf c) c q ≡ true

@@ -13,6 +13,7 @@ pub mod Basics
 pub mod Lists
 pub mod Frames
 pub mod Kept
+pub mod Neighbours
 pub mod Links
 pub mod Linked
 pub mod Moves
@@ -20,6 +21,7 @@ pub mod Blocks
 pub mod Draw
 pub mod Fill
 pub mod Plan
+pub mod Sources
 pub mod Take
 pub mod CommitRuns
 pub mod ArenaKeeps
@@ -41,3 +43,17 @@ pub mod ChunkTests
 pub mod Chunks
 pub mod ChunkWhole
 pub mod Whole
+pub mod Mix
+pub mod LocalPages
+pub mod LocalFill
+pub mod LocalTake
+pub mod LocalArena
+pub mod LocalGives
+pub mod LocalNew
+pub mod LocalBack
+pub mod LocalList
+pub mod LocalChunks
+pub mod Lengths
+pub mod Foot
+pub mod LocalReply
+pub mod ChangePlaces

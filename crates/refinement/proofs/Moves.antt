@@ -7,8 +7,7 @@ use Prim.Native.Nat.{ℕ, suc, _+_, _≤_, _<_}
 use native.Mathlib.Omega.{arith}
 use mathlib.Core.Bool.{true, cond}
 use mathlib.Core.List.{List, [], _∷_, _++_}
-use mathlib.Core.Logic.{inl, inr}
-use mathlib.Core.Path.{_≡_, refl, sym, ap, _∙_, subst}
+use mathlib.Core.Path.{_≡_, refl, sym, ap, _∙_}
 use lib.Dec.{eqb, ltb, leb}
 use lib.ListN.{length}
 use borrow.Author.Tests.{ne-eqb, eq-eqb}
@@ -30,9 +29,10 @@ use Rattle.refinement.specs.Chain.{In, Chain}
 use Rattle.refinement.specs.Represents.{PageRep, Parked, firsts, heads, ClassRep}
 use Rattle.refinement.proofs.ArenaStore.{long-kept}
 use Rattle.refinement.proofs.Basics.{Setting}
-use Rattle.refinement.proofs.Lists.{in-left, in-count, off, not-in, firsts-append, firsts-at, heads-at, all-along, first-page, last-page, part}
+use Rattle.refinement.proofs.Lists.{in-left, in-count, off, not-in, firsts-append, firsts-at, heads-at, all-along, last-page, part}
 use Rattle.refinement.proofs.Frames.{isData, ofClass, Only, data-owns, whole-kept, whole-owner, whole-in}
 use Rattle.refinement.proofs.Kept.{Body, Ties, rep-kept, rep-moved, parked-kept, stack-kept, chain-kept, class-now, listed-whole}
+use Rattle.refinement.proofs.Neighbours.{each-listed, each-head, each-beside}
 use Rattle.refinement.proofs.Links.{isLink, isStow, link-lets, class-lets, link-changes, unlink-changes, link-owns, link-body, link-listing, link-next, link-top, link-stored, stow-lets, class-lets-stow, stow-changes, unstow-changes, stow-owns, stow-body, stow-listing, stow-ties, stow-partial, stow-top, stow-stored}
 use Rattle.refinement.proofs.Linked.{chain-linked, chain-unlinked, stack-stowed, stack-unstowed}
 
@@ -96,6 +96,9 @@ module _ {n : ℕ} {sh : Shape} (sound : Sound sh) {c q : ℕ} {b b′ : List �
   parked-off zs e =
       all-along _ _ zs (λ p i r. let d = off q (firsts zs) e (p .first) i in
       parked-kept sound (o .body (p .first) d) (o .listing (p .first) d) (o .same (p .first) ∙ r .rep .holds .run) r)
+
+abbrev OwnedBy : List ℕ → ℕ → ℕ → Type 0
+OwnedBy b c x = get b (page owner x) ≡ suc c
 
 -- ---- a page gets other blocks
 pub data-body : (q : ℕ) {b b′ : List ℕ} → Changes (isData q) b b′ → (x : ℕ) → (x ≡ q → ⊥) → Body x b b′
@@ -302,35 +305,23 @@ module _ {n : ℕ} {b : List ℕ} {c : ℕ} {sh : Shape} (s : Setting n b c sh) 
       }
 
   -- ---- these moves change the class's words only
-  mine : (x : ℕ) {ps xs ys fs : List Page} → ClassRep n b c sh k ps xs ys fs → 1 ≤ heads x ps + heads x xs + heads x ys + heads x fs → get b (page owner x) ≡ suc c
-  mine x r h = whole-owner n b (s .shape) c x (listed-whole (s .shape) r x h)
+  mine : (x : ℕ) {ps xs ys fs : List Page} → ClassRep n b c sh k ps xs ys fs → 1 ≤ heads x ps + heads x xs + heads x ys + heads x fs → OwnedBy b c x
+  mine x r e = each-listed (s .shape) (OwnedBy b c) (whole-owner n b (s .shape) c) x r e
 
   pub unlink-only : (ss : List Page) (p : Page) (ts : List Page) {xs ys fs : List Page} → ClassRep n b c sh k (ss ++ p ∷ ts) xs ys fs → Only c b (unlink b c (p .first))
-  unlink-only ss p ts {xs} {ys} {fs} r =
+  unlink-only ss p ts r =
       let q = p .first in
-      let ch : Chain n b c (firsts ss ++ p .first ∷ firsts ts) = rw (firsts-append ss (p ∷ ts)) at (r .chain) in
-      let pa = part b 0 (get b (class partial c)) (firsts ss) q (firsts ts) 0 (ch .links) in
-      let own : (z : ℕ) → In z (firsts (ss ++ p ∷ ts)) → get b (page owner z) ≡ suc c = λ z i. mine z r (omega (arith, in-count z (firsts (ss ++ p ∷ ts)) i)) in
-      let has : (z : ℕ) → In z (firsts ss ++ p .first ∷ firsts ts) → get b (page owner z) ≡ suc c
-      = λ z i. own z (subst (λ (l : List ℕ). In z l) (sym (firsts-append ss (p ∷ ts))) i) in
+      let i = itself q in
+      let l = each-beside (s .shape) (OwnedBy b c) (whole-owner n b (s .shape) c) ss p ts r in
       unlink-changes (ofClass b c) b c q (s .row)
-      (class-lets b c q (get b (page next q)) (get b (page prev q))
-      (has q (in-mid (firsts ss) q (firsts ts) q (inl refl)))
-      (λ z e. has z (in-mid (firsts ss) q (firsts ts) z (inr (first-page b (suc q) (get b (page next q)) (firsts ts) z (pa .aft) e))))
-      (λ z e. has z (in-left z (firsts ss) (p .first ∷ firsts ts) (last-page (firsts ss) z (sym (pa .before) ∙ e)))))
-    where
-      in-mid : (us : List ℕ) (q : ℕ) (vs : List ℕ) (z : ℕ) → In z (q ∷ vs) → In z (us ++ q ∷ vs)
-      in-mid [] q vs z i = i
-      in-mid (u ∷ us) q vs z i = inr (in-mid us q vs z i)
+      (class-lets b c q (get b (page next q)) (get b (page prev q)) (mine q r (omega (arith, heads-at q ss p ts))) (l .0) (l .1))
 
   pub link-only : {p : Page} {ps xs ys fs : List Page} → ClassRep n b c sh k ps xs ys (p ∷ fs) → Only c b (link b c (p .first))
-  link-only {p} {ps} {xs} {ys} {fs} r =
+  link-only {p} r =
       let q = p .first in
       let i = itself q in
       link-changes (ofClass b c) b c q (s .row)
-      (class-lets b c q (get b (class partial c)) 0 (mine q r (omega arith))
-      (λ z e. mine z r (omega (arith, in-count z (firsts ps) (first-page b 0 (get b (class partial c)) (firsts ps) z (r .chain .links) e))))
-      (λ z e. absurd (omega arith)))
+      (class-lets b c q (get b (class partial c)) 0 (mine q r (omega arith)) (each-head (s .shape) (OwnedBy b c) (whole-owner n b (s .shape) c) r) (λ z e. absurd (omega arith)))
 
   pub unstow-only : {p : Page} {ps xs ys fs : List Page} → ClassRep n b c sh k ps (p ∷ xs) ys fs → Only c b (unstow b c k (p .first))
   unstow-only {p} r =

@@ -6,8 +6,8 @@ use Prim.Native.Nat.{ℕ, zero, suc, _+_, _≤_}
 use native.Mathlib.Omega.{arith}
 use mathlib.Core.Bool.{Bool, true, false, cond, _&&_}
 use mathlib.Core.List.{List, [], _∷_, _++_}
-use mathlib.Core.Logic.{inl, inr}
-use mathlib.Core.Path.{_≡_, refl, sym, _∙_, subst}
+use mathlib.Core.Logic.{inl}
+use mathlib.Core.Path.{_≡_, refl}
 use lib.Dec.{eqb, leb}
 use lib.ListN.{length}
 use borrow.Author.Tests.{le-leb}
@@ -24,12 +24,12 @@ use Rattle.arena.specs.Fair.{giveFair}
 use Rattle.model.specs.Spot.{isArena}
 use Rattle.pages.specs.Fair.{headerFair}
 use Rattle.calls.specs.Release.{pageFair, rowFair, spotAt, spotFair, releaseFair}
-use Rattle.refinement.specs.Chain.{In, Chain, Line}
+use Rattle.refinement.specs.Chain.{In, Line}
 use Rattle.refinement.specs.Represents.{firsts, heads, ClassRep, Represents}
 use Rattle.refinement.proofs.Basics.{Setting, digit-small}
-use Rattle.refinement.proofs.Lists.{in-left, in-right, first-page, last-page, firsts-append, part, in-count}
+use Rattle.refinement.proofs.Lists.{in-count}
 use Rattle.refinement.proofs.Frames.{whole-below}
-use Rattle.refinement.proofs.Kept.{listed-whole}
+use Rattle.refinement.proofs.Neighbours.{each-listed, each-head, each-beside}
 use Rattle.refinement.proofs.Draw.{free-length}
 use Rattle.refinement.proofs.ArenaReached.{Reached}
 use Rattle.refinement.proofs.ArenaFair.{loads-frontier}
@@ -48,14 +48,14 @@ line-page b h (x ∷ xs) z s e = inl (omega (arith, s .0))
 
 module _ {n : ℕ} {b : List ℕ} {c : ℕ} {sh : Shape} (s : Setting n b c sh) {ps xs ys fs : List Page} (r : ClassRep n b c sh Empty ps xs ys fs) where
   under : (z : ℕ) → 1 ≤ heads z ps + heads z xs + heads z ys + heads z fs → suc z ≤ get b (arena frontier)
-  under z h = whole-below n b (s .shape) c z (listed-whole (s .shape) r z h)
+  under z h = each-listed (s .shape) (λ z. suc z ≤ get b (arena frontier)) (whole-below n b (s .shape) c) z r h
 
   pub row-fair : rowFair b c ≡ true
   unfolding rowFair
   row-fair =
       let f = get b (arena frontier) in
       rw (
-        code-fair (get b (class partial c)) f (λ z e. under z (omega (arith, in-count z (firsts ps) (first-page b 0 (get b (class partial c)) (firsts ps) z (r .chain .links) e)))),
+        code-fair (get b (class partial c)) f (each-head (s .shape) (λ z. suc z ≤ get b (arena frontier)) (whole-below n b (s .shape) c) r),
         code-fair (get b (class empty c)) f (λ z e. under z (omega (arith, in-count z (firsts xs) (line-page b (get b (class empty c)) (firsts xs) z (r .store .line) e)))),
         le-leb (get b (class emptyCount c)) 256 (omega (arith, r .store .number, r .store .few)),
         code-fair (get b (class cold c)) f (λ z e. under z (omega (arith, in-count z (firsts ys) (line-page b (get b (class cold c)) (firsts ys) z (r .beside .line) e)))),
@@ -65,20 +65,11 @@ module _ {n : ℕ} {b : List ℕ} {c : ℕ} {sh : Shape} (s : Setting n b c sh) 
 -- the links of a page of the partial list
 module _ {n : ℕ} {b : List ℕ} {c : ℕ} {sh : Shape} (s : Setting n b c sh) (ss : List Page) (p : Page) (ts : List Page) {xs ys fs : List Page}
     (r : ClassRep n b c sh Empty (ss ++ p ∷ ts) xs ys fs) where
-  along : (z : ℕ) → In z (firsts ss ++ p .first ∷ firsts ts) → suc z ≤ get b (arena frontier)
-  along z i =
-      under s r z (omega (arith, in-count z (firsts (ss ++ p ∷ ts)) (subst (λ (l : List ℕ). In z l) (sym (firsts-append ss (p ∷ ts))) i)))
-
   links-fair : (leb (get b (page next (p .first))) (get b (arena frontier)) && leb (get b (page prev (p .first))) (get b (arena frontier))) ≡ true
   links-fair =
-      let q = p .first in
       let f = get b (arena frontier) in
-      let ch : Chain n b c (firsts ss ++ p .first ∷ firsts ts) = rw (firsts-append ss (p ∷ ts)) at (r .chain) in
-      let pa = part b 0 (get b (class partial c)) (firsts ss) q (firsts ts) 0 (ch .links) in
-      rw (
-        code-fair (get b (page next (p .first))) f (λ z e. along z (in-right z (firsts ss) (q ∷ firsts ts) (inr (first-page b (suc q) (get b (page next q)) (firsts ts) z (pa .aft) e)))),
-        code-fair (get b (page prev (p .first))) f (λ z e. along z (in-left z (firsts ss) (q ∷ firsts ts) (last-page (firsts ss) z (sym (pa .before) ∙ e)))),
-      )
+      let l = each-beside (s .shape) (λ z. suc z ≤ get b (arena frontier)) (whole-below n b (s .shape) c) ss p ts r in
+      rw (code-fair (get b (page next (p .first))) f (l .0), code-fair (get b (page prev (p .first))) f (l .1))
 
 module _ {n : ℕ} {b : List ℕ} {c : ℕ} {sh : Shape} (s : Setting n b c sh) {zs : List Page} where
   pub page-fair : {l : ℕ} {p : Page} {x : Site} (m : ℕ) → length (p .free) + m ≤ p .carved → Placed n b c sh zs l p x → pageFair b sh m (p .first) ≡ true

@@ -49,24 +49,24 @@ updated-twice f c x y = fun-ext (λ d. by-cases (eqb d c) (λ e. rw e) (λ e. rw
 module _ (n c : ℕ) (hc : ltb c 76 ≡ true) where
   -- a heap whose class c has a page that waits
   module _ (p : Page) (s : Class) (b : List ℕ) (H : Heap) (ok : Reached n H) (R : Represents n b H) (e : H .classes c ≡ waiting s (p ∷ [])) where
-    state : StateRep n b c (shapeOf c) (waiting s (p ∷ []))
+    pub state : StateRep n b c (shapeOf c) (waiting s (p ∷ []))
     state = subst (λ (t : Class). StateRep n b c (shapeOf c) t) e (R .classes c hc)
 
     held : (x : ℕ) → covers (shapeOf c .pages) (p .first) x ≤ isHeld (H .holder x)
     held = run-held n b H (R .arena) (shapeOf c) c (p .first) (state .fulls .0 .holds .run)
 
-    next : Heap
+    unfoldable pub next : Heap
     next = heapOf (give (shapeOf c .pages) (p .first) (H .arena)) (passTo nobody (covers (shapeOf c .pages) (p .first)) (H .holder)) (update (H .classes) c s)
 
-    next-reached : Reached n next
+    pub next-reached : Reached n next
     unfolding next
     next-reached = reached-give n H ok (p .first) (shapeOf c .pages) (shape-sound c .paged) held (update (H .classes) c s)
 
-    next-represents : Represents n (given b (p .first) (shapeOf c .pages)) next
+    pub next-represents : Represents n (given b (p .first) (shapeOf c .pages)) next
     unfolding next
     next-represents = give-represents n b H R ok c hc b (changes-none (ofClass b c) b) s p state
 
-    next-class : next .classes c ≡ s
+    pub next-class : next .classes c ≡ s
     unfolding next
     next-class = rw (eq-eqb c c refl)
 
@@ -108,18 +108,18 @@ module _ (n c : ℕ) (hc : ltb c 76 ≡ true) where
 -- ---- after a call changed words of class c only, which is left with the pages ps that go to the arena; qs are their runs
 module _ (n : ℕ) (b : List ℕ) (H : Heap) (R : Represents n b H) (ok : Reached n H) (c : ℕ) (hc : ltb c 76 ≡ true) (b′ : List ℕ) (only : Only c b b′) (s : Class) (ps : List Page)
     (rep : StateRep n b′ c (shapeOf c) (waiting s ps)) where
-  left : Heap
+  unfoldable pub left : Heap
   left = heapOf (H .arena) (H .holder) (update (H .classes) c (waiting s ps))
 
-  left-represents : Represents n b′ left
+  pub left-represents : Represents n b′ left
   unfolding left
   left-represents = represents-class n b H R ok b′ c (waiting s ps) only rep
 
-  left-reached : Reached n left
+  pub left-reached : Reached n left
   unfolding left
   left-reached = reached-classes n H ok (update (H .classes) c (waiting s ps))
 
-  left-class : left .classes c ≡ waiting s ps
+  pub left-class : left .classes c ≡ waiting s ps
   unfolding left
   left-class = rw (eq-eqb c c refl)
 

@@ -43,7 +43,7 @@ use Rattle.refinement.proofs.ReleaseGives.{all-given}
 
 module _ (n : ℕ) (hn : n ≤ maxPages) (b : List ℕ) (H : Heap) (R : Represents n b H) (ok : Reached n H) (c : ℕ) (hc : ltb c 76 ≡ true) (h : ℕ) where
   -- refused by both with one number and nothing changed, or settled by both
-  data ReleaseRep : Released → Ask → Type 0 where
+  pub data ReleaseRep : Released → Ask → Type 0 where
     denied : (k : ℕ) → eqb k 0 ≡ false → (k ≡ 13 → ⊥) → ReleaseRep (releasedNone b k) (refuse (H .classes c) k)
     did : (q : ℕ) {w : Released} {x : Settled} → SettledRep n b c (shapeOf c) [] 2 q w x
         → ReleaseRep (lastStep (shapeOf c) q w) (done (record { class = x .class; answer = fate (x .fate); gives = x .gives }))
@@ -100,7 +100,7 @@ module _ (n : ℕ) (hn : n ≤ maxPages) (b : List ℕ) (H : Heap) (R : Represen
       (and-left (outHere sh t w) (every (outHere sh t) ws) (sym same ∙ o))))
       (λ u. rw (← same, u) (denied 10 refl (λ z. omega arith)))
 
-  release-rep : (ws : List ℕ) → ReleaseRep (releaseBlocks n b c (shapeOf c) h ws) (releaseList (shapeOf c) h (H .classes c) ws)
+  pub release-rep : (ws : List ℕ) → ReleaseRep (releaseBlocks n b c (shapeOf c) h ws) (releaseList (shapeOf c) h (H .classes c) ws)
   unfolding releaseBlocks releaseList rest
   release-rep [] = denied 7 refl (λ z. omega arith)
   release-rep (w ∷ ws) =

@@ -194,6 +194,12 @@ module _ {n : ℕ} {b : List ℕ} {c : ℕ} {sh : Shape} (s : Setting n b c sh) 
         omega (arith, once (wordOf sh (p .first) j)))
         (λ u. omega (arith, leb-false 1 (count (wordOf sh (p .first) j) ws) u))
 
+    pub return-fit : every (fits sh) (map (indexOf sh (p .first)) ws) ≡ true
+    return-fit = back-fit s (r .holds) (map (indexOf sh (p .first)) ws) set-once
+
+    pub return-slots : get b (page free (p .first)) + length (map (indexOf sh (p .first)) ws) ≤ 4096
+    return-slots = room s (r .holds) (map (indexOf sh (p .first)) ws) set-once
+
     pub return-data : Changes (isData (p .first)) b (back b (p .first) (map (indexOf sh (p .first)) ws))
     return-data = back-data s (r .holds) (map (indexOf sh (p .first)) ws) set-once
 

@@ -1,13 +1,12 @@
 -- A take from the class's own pages: on a represented book 13 never answers, and answer and book are the model's.
-use Prim.Native.Nat.{ℕ, suc}
+use Prim.Native.Nat.{ℕ}
 use native.Mathlib.Omega.{arith}
 use mathlib.Core.Bool.{false}
 use mathlib.Core.List.{List, [], _∷_, map}
 use mathlib.Core.Path.{_≡_, refl}
 use lib.Dec.{ltb}
-use borrow.Author.Tests.{ne-eqb}
 use Rattle.classes.specs.declared.Shape.{Shape}
-use Rattle.fields.specs.Field.{arena, class, partial, frontier, get}
+use Rattle.fields.specs.Field.{arena, class, frontier, get}
 use Rattle.model.specs.Calls.{taken}
 use Rattle.model.specs.Page.{Page, reused}
 use Rattle.model.specs.Class as Model
@@ -15,13 +14,14 @@ use Rattle.model.specs.Class.{lists, Result, Ask, done, asks, fillFromList, ser
 use Rattle.pages.specs.declared.Park.{Park}
 use Rattle.pages.specs.declared.Park.the-variants.{Empty, Cold}
 use Rattle.pages.specs.Links.{other, unstow, wake}
-use Rattle.calls.specs.Take.{Took, Filled, took, fillFrom, fromPartial, fromPark, takeNew, takeBlocks}
+use Rattle.calls.specs.Take.{Took, Filled, took, fillFrom, takeNew, takeBlocks}
 use Rattle.refinement.specs.Represents.{ClassRep, StateRep}
 use Rattle.refinement.proofs.Basics.{Setting, setting-kept}
+use Rattle.refinement.proofs.Sources.{take-partial, take-empty, take-cold, take-none}
 use Rattle.refinement.proofs.Frames.{Only, only-trans}
 use Rattle.refinement.proofs.Moves.{swap, from-store, to-partial, unstow-only, link-only}
-use Rattle.refinement.proofs.Fill.{AllMore, pred, FillRep, fills}
-use Rattle.refinement.proofs.Plan.{walk-passes, parked-more, park-passes}
+use Rattle.refinement.proofs.Fill.{AllMore, FillRep, fills}
+use Rattle.refinement.proofs.Plan.{parked-more}
 
 -- a take that was done, against the model's
 pub record TookRep (n : ℕ) (b : List ℕ) (c : ℕ) (sh : Shape) (w : Took) (x : Result) : Type 0 where
@@ -43,13 +43,6 @@ module _ {n : ℕ} {b : List ℕ} {c : ℕ} {sh : Shape} (s : Setting n b c sh) 
   unfolding served
   filled-rep es cs fs w f r = record { code = refl; answer = rw (r .blocks, r .virgin); gives = refl; rep = r .rep; only = r .only }
 
-  from-partial-rep : (p : Page) (ps es : List Page) (cs : List Model.Cold) (fs : List Page) → AllMore sh (p ∷ ps) → StateRep n b c sh (lists (p ∷ ps) es cs fs)
-      → TookRep n b c sh (fromPartial n b c sh l) (served l (fillFromList sh (sh .batch) (p ∷ ps)) es cs fs)
-  unfolding fromPartial
-  from-partial-rep p ps es cs fs g r =
-      rw (walk-passes n b (s .shape) c (p ∷ ps) (sh .batch) (sh .batch) (get b (class partial c)) 0 (r .chain .links) (r .partials) g)
-      (filled-rep es cs fs _ _ (fills s (p ∷ ps) fs (sh .batch) (sh .batch) (omega arith) g r))
-
   -- the newest page of either store heads the partial list, and gives its blocks
   wakes : (k : Park) (p : Page) (xs ys fs : List Page) → ClassRep n b c sh k [] (p ∷ xs) ys fs
       → FillRep n b c sh k xs ys fs (fillFrom (wake b c k (p .first)) c sh (sh .batch) (sh .batch)) (fillFromList sh (sh .batch) (p ∷ []))
@@ -65,37 +58,17 @@ module _ {n : ℕ} {b : List ℕ} {c : ℕ} {sh : Shape} (s : Setting n b c sh) 
       let f = fills s₂ (p ∷ []) fs (sh .batch) (sh .batch) (omega arith) (parked-more n b (s .shape) c p (r .parked .0), tt) r₂ in
       record { rep = f .rep; blocks = f .blocks; virgin = f .virgin; only = only-trans c (only-trans c o₁ o₂) (f .only) }
 
-  from-park-is : (k : Park) (p : Page) (xs ys fs : List Page) → ClassRep n b c sh k [] (p ∷ xs) ys fs
-      → fromPark n b c sh k l ≡ took l (fillFrom (wake b c k (p .first)) c sh (sh .batch) (sh .batch))
-  unfolding fromPark
-  from-park-is k p xs ys fs r = rw (park-passes n b (s .shape) c k p xs (r .store) (r .parked), r .store .line .0, pred (p .first))
-
   swapped : (k : Park) (xs ys fs : List Page) (w : Filled) (f : Model.Filled) → FillRep n b c sh k xs ys fs w f → FillRep n b c sh (other k) ys xs fs w f
   swapped k xs ys fs w f r = record { rep = swap (r .rep); blocks = r .blocks; virgin = r .virgin; only = r .only }
 
   pub take-own : (h : ℕ) (ps es : List Page) (cs : List Model.Cold) (fs : List Page) → ltb n (get b (arena frontier)) ≡ false → AllMore sh ps
       → StateRep n b c sh (lists ps es cs fs) → TakeRep n b c sh h l (takeBlocks n b c sh h l) (takeFrom sh l ps es cs fs)
-  unfolding takeBlocks takeFrom
+  unfolding takeFrom
   take-own h (p ∷ ps) es cs fs low g r =
-      rw (low, r .chain .links .0, ne-eqb (suc (p .first)) 0 (λ z. omega arith)) (did (from-partial-rep p ps es cs fs g r))
+      rw (take-partial s low h l p ps es cs fs g r) (did (filled-rep es cs fs _ _ (fills s (p ∷ ps) fs (sh .batch) (sh .batch) (omega arith) g r)))
   take-own h [] (e ∷ es) cs fs low g r =
-      rw (
-        low,
-        r .chain .links,
-        r .store .line .0,
-        ne-eqb (suc (reused sh e .first)) 0 (λ z. omega arith),
-        from-park-is Empty (reused sh e) (map (reused sh) es) (map (thawed sh) cs) fs r,
-      )
-      (did (filled-rep es cs fs _ _ (wakes Empty (reused sh e) (map (reused sh) es) (map (thawed sh) cs) fs r)))
+      rw (take-empty s low h l e es cs fs r) (did (filled-rep es cs fs _ _ (wakes Empty (reused sh e) (map (reused sh) es) (map (thawed sh) cs) fs r)))
   take-own h [] [] (d ∷ cs) fs low g r =
-      let r′ = swap r in
-      rw (
-        low,
-        r .chain .links,
-        r .store .line,
-        r .beside .line .0,
-        ne-eqb (suc (thawed sh d .first)) 0 (λ z. omega arith),
-        from-park-is Cold (thawed sh d) (map (thawed sh) cs) [] fs r′,
-      )
-      (did (filled-rep [] cs fs _ _ (swapped Cold (map (thawed sh) cs) [] fs _ _ (wakes Cold (thawed sh d) (map (thawed sh) cs) [] fs r′))))
-  take-own h [] [] [] fs low g r = rw (low, r .chain .links, r .store .line, r .beside .line) (asked fs r)
+      rw (take-cold s low h l d cs fs r)
+      (did (filled-rep [] cs fs _ _ (swapped Cold (map (thawed sh) cs) [] fs _ _ (wakes Cold (thawed sh d) (map (thawed sh) cs) [] fs (swap r)))))
+  take-own h [] [] [] fs low g r = rw (take-none s low h l fs r) (asked fs r)

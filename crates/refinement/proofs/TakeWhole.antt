@@ -34,7 +34,7 @@ use Rattle.fields.proofs.Changes.{changes-none}
 use Rattle.pages.specs.declared.Park.the-variants.{Empty}
 use Rattle.pages.specs.Links.{link}
 use Rattle.pages.specs.Carve.{newRun}
-use Rattle.calls.specs.Take.{Took, tookNone, onRun, takeNew, takeCall}
+use Rattle.calls.specs.Take.{Took, tookNone, fillFrom, onRun, takeNew, takeCall}
 use Rattle.arena.specs.Calls.{committed}
 use Rattle.refinement.proofs.GiveClass.{arena-only}
 use Rattle.refinement.specs.Represents.{ClassRep, Represents}
@@ -42,11 +42,11 @@ use Rattle.refinement.specs.Classes.{takeReply}
 use Rattle.refinement.specs.Direct.{Agrees}
 use Rattle.refinement.proofs.ArenaReached.{Reached, heapOf, reached-after}
 use Rattle.refinement.proofs.CommitRep.{commit-for}
-use Rattle.refinement.proofs.Basics.{setting-kept}
+use Rattle.refinement.proofs.Basics.{Setting, setting-kept}
 use Rattle.refinement.proofs.Frames.{ofClass, Only, only-trans}
 use Rattle.refinement.proofs.Kept.{class-beside}
 use Rattle.refinement.proofs.Moves.{to-partial, link-only}
-use Rattle.refinement.proofs.Fill.{fills}
+use Rattle.refinement.proofs.Fill.{FillRep, fills}
 use Rattle.refinement.proofs.Take.{TookRep, TakeRep, did, asked, take-own}
 use Rattle.refinement.proofs.Pushes.{carve-first}
 use Rattle.refinement.proofs.Book.{setting-of, frontier-in, classes-with, represents-class}
@@ -86,24 +86,40 @@ module _ (n : ℕ) (b : List ℕ) (H : Heap) (R : Represents n b H) (ok : Reache
       };
     }
 
+    -- the new run heads the partial list, and gives its blocks
+    module _ (q : ℕ) (e : commit n h (shapeOf c .pages) (H .arena) .run ≡ some q) where
+      abbrev new : List ℕ
+      new = newRun after (shapeOf c) q
+
+      abbrev fresh : List Page
+      fresh = carve (shapeOf c) q true ∷ []
+
+      pub run-rep : ClassRep n (link new c q) c (shapeOf c) Empty fresh [] [] fs
+      run-rep =
+          subst (λ (x : ℕ). ClassRep n (link new c x) c (shapeOf c) Empty fresh [] [] fs) (carve-first (shapeOf c) q true)
+          (to-partial (new-setting n b H R ok c hc h q e) (class-joins n b H R ok c hc h q e z))
+
+      pub run-only : Only c new (link new c q)
+      run-only =
+          subst (λ (x : ℕ). Only c new (link new c x)) (carve-first (shapeOf c) q true)
+          (link-only (new-setting n b H R ok c hc h q e) (class-joins n b H R ok c hc h q e z))
+
+      pub run-setting : Setting n (link new c q) c (shapeOf c)
+      run-setting = setting-kept (link new c q) (run-only .long) (new-setting n b H R ok c hc h q e)
+
+      pub run-fills : FillRep n (link new c q) c (shapeOf c) Empty [] [] fs (fillFrom (link new c q) c (shapeOf c) (shapeOf c .batch) (shapeOf c .batch)) (fillFromList (shapeOf c) (shapeOf c .batch) fresh)
+      run-fills =
+          let sh = shapeOf c in
+          fills run-setting fresh fs (sh .batch) (sh .batch) (omega arith) (carve-more sh q (shape-sound c .blocks) (isMedium sh), tt) run-rep
+
     run-agrees : (q : ℕ) → commit n h (shapeOf c .pages) (H .arena) .run ≡ some q → Agrees (Represents n) (takeReply (onRun after c (shapeOf c) l (some q))) (outcome (some q))
     unfolding onRun Model.onRun finish served
     run-agrees q e =
         let sh = shapeOf c in
         let b₂ = newRun after sh q in
-        let b₃ = link b₂ c q in
-        let p = carve sh q true in
-        let s₂ = new-setting n b H R ok c hc h q e in
-        let r₂ = class-joins n b H R ok c hc h q e z in
-        let start : carve (shapeOf c) q true .first ≡ q = carve-first sh q true in
-        let r₃ : ClassRep n (link (newRun after (shapeOf c) q) c q) c (shapeOf c) Empty (carve (shapeOf c) q true ∷ []) [] [] fs
-        = subst (λ (x : ℕ). ClassRep n (link (newRun after (shapeOf c) q) c x) c (shapeOf c) Empty (carve (shapeOf c) q true ∷ []) [] [] fs) start (to-partial s₂ r₂) in
-        let o₃ : Only c (newRun after (shapeOf c) q) (link (newRun after (shapeOf c) q) c q)
-        = subst (λ (x : ℕ). Only c (newRun after (shapeOf c) q) (link (newRun after (shapeOf c) q) c x)) start (link-only s₂ r₂) in
-        let s₃ = setting-kept b₃ (o₃ .long) s₂ in
-        let f = fills s₃ (p ∷ []) fs (sh .batch) (sh .batch) (omega arith) (carve-more sh q (shape-sound c .blocks) (isMedium sh), tt) r₃ in
-        let only = only-trans c o₃ (f .only) in
-        let filled = fillFromList sh (sh .batch) (p ∷ []) in
+        let f = run-fills q e in
+        let only = only-trans c (run-only q e) (f .only) in
+        let filled = fillFromList sh (sh .batch) (fresh q e) in
         let s′ = lists (filled .partial) [] [] (filled .full ++ fs) in
         let cs = update (H .classes) c s′ in
         record {

@@ -4,3 +4,4 @@ pub mod Direct
 pub mod Classes
 pub mod Releases
 pub mod Run
+pub mod Foot

@@ -8,6 +8,7 @@ use Rattle.game.specs.Game.{askerWins, GameEnds}
 use Rattle.fields.specs.Outcome.{Did}
 use Rattle.model.specs.Calls as Calls
 use Rattle.plan.specs.Code.{PlanEnds}
+use Rattle.listing.specs.Listing.{shortHistories, ListingEnds}
 use Rattle.direct.specs.Answer.{Releases}
 use Rattle.vigbuso.specs.Direct as Direct
 use Rattle.vigbuso.specs.Direct.{openOn, commitOn, CommitEnds, growOn, GrowEnds, containsOn, reportOn, ReportEnds}
@@ -15,12 +16,14 @@ use Rattle.vigbuso.specs.Blocks as Blocks
 use Rattle.vigbuso.specs.Blocks.{takeOn, TakeEnds, ReleaseEnds, chunksOn, ChunksEnds}
 use Rattle.demands.specs.Contracts as Shows
 use Rattle.demands.proofs.Contracts.{shows-call}
-use Rattle.demands.proofs.Refusals.{open-refuses, commit-refuses, grow-refuses, give-refuses, report-refuses, take-refuses, release-refuses, chunks-refuses, contains-answers, table-refuses, game-refuses, plan-refuses}
+use Rattle.demands.proofs.Refusals.{open-refuses, commit-refuses, grow-refuses, give-refuses, report-refuses, take-refuses, release-refuses, chunks-refuses, contains-answers, table-refuses, game-refuses, plan-refuses, listing-refuses}
 use Rattle.demands.specs.ClassTables.{SmallTable}
 use Rattle.demands.proofs.ClassTables.{class-tables}
 use Rattle.demands.specs.Game.{ThreeYes}
 use Rattle.demands.proofs.Game.{game}
-use Rattle.witness.specs.Seen.{Opened, TakeSeen, ListSeen, ChunksSeen, CommitSeen, GrowSeen, GiveSeen, ContainsSeen, ReportSeen, TableSeen, GameSeen, PlanSeen}
+use Rattle.demands.specs.Listing.{OnePageTwoCalls}
+use Rattle.demands.proofs.Listing.{short-histories}
+use Rattle.witness.specs.Seen.{Opened, TakeSeen, ListSeen, ChunksSeen, CommitSeen, GrowSeen, GiveSeen, ContainsSeen, ReportSeen, TableSeen, GameSeen, PlanSeen, ListingSeen}
 use Rattle.demands.proofs.Plan.{fits}
 
 module _ (b : List ℕ) (r : ℕ) (b′ : List ℕ) where
@@ -79,3 +82,10 @@ module _ (r w w′ : ℕ) where
 
 pub plan-seen : (ks ts : List ℕ) (r t t′ : ℕ) → PlanEnds ks ts r t t′ → PlanSeen ks ts r t t′
 plan-seen ks ts r t t′ e = record { number = plan-refuses ks ts r t t′ e; fits = λ z. fits ks ts t t′ (record { code = sym z ∙ e .code; total = e .total }) }
+
+module _ (r : ℕ) (l l′ : List ℕ) (w w′ : ℕ) where
+  pub listing-seen : (n k : ℕ) → ListingEnds (shortHistories n k l) r l′ w w′ → ListingSeen n k r l l′ w w′
+  listing-seen n k e = record { number = listing-refuses n k l r l′ w w′ e; lists = short-histories .lists n k l r l′ w w′ e }
+
+  pub one-page-seen : ListingEnds (shortHistories 1 2 l) r l′ w w′ → OnePageTwoCalls r l l′ w′
+  one-page-seen e = short-histories .one-page l r l′ w w′ e

@@ -17,10 +17,11 @@ use Rattle.vigbuso.specs.Direct.{figuresIn}
 use Rattle.demands.specs.Call.{call}
 use Rattle.demands.specs.Run.{Opens, bookAfter}
 use Rattle.demands.specs.Contracts.{runSeen}
-use Rattle.demands.specs.Refusals.{Refuses, Contains, openTable, commitTable, growTable, giveTable, reportTable, takeTable, releaseTable, chunksTable, rateTable, gameTable, planTable}
+use Rattle.demands.specs.Refusals.{Refuses, Contains, openTable, commitTable, growTable, giveTable, reportTable, takeTable, releaseTable, chunksTable, rateTable, gameTable, planTable, listingTable}
 use Rattle.demands.specs.ClassTables.{ClassTable, Reaches}
 use Rattle.demands.specs.Game.{AskerWins}
 use Rattle.demands.specs.Plan.{Fits}
+use Rattle.demands.specs.Listing.{ShortHistories}
 
 -- Same: all that the call was lent to write is as it was
 abbrev pub Numbered : List ℕ → Call → ℕ → Type 0 → Type 0
@@ -86,3 +87,8 @@ pub record GameSeen (n limit k r w w′ : ℕ) : Type 0 where
 pub record PlanSeen (ks ts : List ℕ) (r t t′ : ℕ) : Type 0 where
   pub number : Refuses (planTable ks ts) r (t′ ≡ t)
   pub fits : r ≡ 0 → Fits ks ts t′
+
+-- ---- the listing
+pub record ListingSeen (n k r : ℕ) (l l′ : List ℕ) (w w′ : ℕ) : Type 0 where
+  pub number : Refuses (listingTable n k l) r ((l′ ≡ l) × (w′ ≡ w))
+  pub lists : r ≡ 0 → ShortHistories n k l l′ w′

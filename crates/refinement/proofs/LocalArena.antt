@@ -1,0 +1,136 @@
+-- The arena's steps keep to the arena's words and those of the pages that they pass on.
+use Prim.Native.Nat.{ℕ, zero, suc, _+_, _-_, _*_, _/_, _≤_, _<_}
+use native.Mathlib.Omega.{arith}
+use mathlib.Core.Bool.{Bool, true}
+use mathlib.Core.List.{List, [], _∷_}
+use mathlib.Core.Option.{Option, none, some}
+use mathlib.Core.Path.{_≡_, refl}
+use lib.ListN.{length}
+use Rattle.classes.specs.declared.Shape.{Shape}
+use Rattle.fields.specs.Field.{ArenaField, HoleField, arena, hole, page, out, size, state, frontier, holes, holePages, commits, commitsHigh, reuses, reusesHigh, abandoned, abandonedHigh, held, start, pages, owner, first, listed, arenaOff, word, get, put}
+use Rattle.fields.specs.Clear.{clearOut}
+use Rattle.model.specs.declared.Hole.{Hole}
+use Rattle.model.specs.Arena.{Arena, Given}
+use Rattle.model.specs.Arena as Model
+use Rattle.arena.specs.Load.{loadHoles, loadStore, loadArena}
+use Rattle.arena.specs.Store.{storeHoles, storeCounts, storeTop, storeArena}
+use Rattle.arena.specs.Owners.{own, ownFresh, ownRun}
+use Rattle.arena.specs.Calls.{advance, committed, given}
+use Rattle.pages.specs.Runs.{nameRun}
+use Rattle.pages.specs.Carve.{stocked, outWords, bareRun, newRun}
+use Rattle.pages.proofs.Frames.{stocked-le}
+use Rattle.refinement.proofs.Mix.{mix, PageIn, at-word, get-in, put-in, put-page, put-out}
+use Rattle.refinement.proofs.LocalPages.{carve-in}
+
+-- the record and the holes lie in S
+pub record ArenaIn (S : ℕ → Bool) : Type 0 where
+  pub low : (j : ℕ) → j < 160 → S j ≡ true
+  pub high : (j : ℕ) → j < 8192 → S (1024 + j) ≡ true
+
+-- the m pages from q on lie in S
+abbrev pub RunIn : (ℕ → Bool) → ℕ → ℕ → Type 0
+RunIn S q m = (x : ℕ) → q ≤ x → x < q + m → PageIn S x
+
+module _ {S : ℕ → Bool} (a : ArenaIn S) (d : List ℕ) where
+  in-arena : (k : ArenaField) → S (word (arena k)) ≡ true
+  in-arena k = a .low (arenaOff k) (off-lt k)
+    where
+      off-lt : (k : ArenaField) → arenaOff k < 160
+      off-lt ArenaField.size = omega arith
+      off-lt ArenaField.state = omega arith
+      off-lt ArenaField.frontier = omega arith
+      off-lt ArenaField.holes = omega arith
+      off-lt ArenaField.holePages = omega arith
+      off-lt ArenaField.commits = omega arith
+      off-lt ArenaField.commitsHigh = omega arith
+      off-lt ArenaField.reuses = omega arith
+      off-lt ArenaField.reusesHigh = omega arith
+      off-lt ArenaField.abandoned = omega arith
+      off-lt ArenaField.abandonedHigh = omega arith
+      off-lt ArenaField.held = omega arith
+
+  in-hole : (k : HoleField) (i : ℕ) → i < 4096 → S (word (hole k i)) ≡ true
+  in-hole HoleField.start i l = at-word S (omega arith) (a .high (2 * i) (omega arith))
+  in-hole HoleField.pages i l = at-word S (omega arith) (a .high (2 * i + 1) (omega arith))
+
+  pub get-arena : (b : List ℕ) (k : ArenaField) → get (mix S b d) (arena k) ≡ get b (arena k)
+  get-arena b k = get-in S b d (arena k) (in-arena k)
+
+  put-arena : (b : List ℕ) (k : ArenaField) (v : ℕ) → put (mix S b d) (arena k) v ≡ mix S (put b (arena k) v) d
+  put-arena b k v = put-in S b d (arena k) v (in-arena k)
+
+  put-hole : (k : HoleField) (i : ℕ) → i < 4096 → (b : List ℕ) (v : ℕ) → put (mix S b d) (hole k i) v ≡ mix S (put b (hole k i) v) d
+  put-hole k i l b v = put-in S b d (hole k i) v (in-hole k i l)
+
+  -- ---- the arena stored
+  holes-in : (hs : List Hole) (i : ℕ) → i + length hs ≤ 4096 → (b : List ℕ) → storeHoles (mix S b d) i hs ≡ mix S (storeHoles b i hs) d
+  unfolding storeHoles
+  holes-in [] i l b = refl
+  holes-in (x ∷ hs) i l b = rw (holes-in hs (suc i) (omega arith) b) (simp (put-hole start i (omega arith), put-hole pages i (omega arith)))
+
+  pub arena-in : (b : List ℕ) (g : Arena) → length (g .store .holes) ≤ 4096 → storeArena (mix S b d) g ≡ mix S (storeArena b g) d
+  unfolding storeArena storeCounts storeTop
+  arena-in b g l = rw (holes-in (g .store .holes) 0 (omega arith) b) (simp put-arena)
+
+  -- ---- the arena loaded
+  load-holes-in : (b : List ℕ) (k i : ℕ) → i + k ≤ 4096 → loadHoles (mix S b d) i k ≡ loadHoles b i k
+  unfolding loadHoles
+  load-holes-in b zero i l = refl
+  load-holes-in b (suc k) i l =
+      rw (get-in S b d (hole start i) (in-hole start i (omega arith)), get-in S b d (hole pages i) (in-hole pages i (omega arith)), load-holes-in b k (suc i) (omega arith))
+
+  pub load-in : (b : List ℕ) → get b (arena holes) ≤ 4096 → loadArena (mix S b d) ≡ loadArena b
+  unfolding loadArena loadStore
+  load-in b l = simp (get-arena, load-holes-in b (get b (arena holes)) 0 (omega arith))
+
+  -- ---- owners
+  pub own-in : (m q w : ℕ) → RunIn S q m → (b : List ℕ) → own (mix S b d) q m w ≡ mix S (own b q m w) d
+  unfolding own
+  own-in zero q w r b = refl
+  own-in (suc m) q w r b =
+      rw (put-page (r q (omega arith) (omega arith)) b d owner w) (own-in m (suc q) w (λ x l u. r x (omega arith) (omega arith)) (put b (page owner q) w))
+
+  own-run-in : (o : Option ℕ) (m w : ℕ) → ((q : ℕ) → o ≡ some q → RunIn S q m) → (b : List ℕ) → ownRun (mix S b d) o m w ≡ mix S (ownRun b o m w) d
+  own-run-in none m w r b = refl
+  own-run-in (some q) m w r b = own-in m q w (r q refl) b
+
+  pub committed-in : (b : List ℕ) (g : Given) (m w : ℕ) → length (g .arena .store .holes) ≤ 4096 → RunIn S (get b (arena frontier)) (g .arena .frontier - get b (arena frontier))
+      → ((q : ℕ) → g .run ≡ some q → RunIn S q m) → committed (mix S b d) g m w ≡ mix S (committed b g m w) d
+  unfolding committed advance
+  committed-in b g m w l f r =
+      rw (
+        get-arena b held,
+        get-arena b frontier,
+        arena-in b (g .arena) l,
+        own-in (g .arena .frontier - get b (arena frontier)) (get b (arena frontier)) 0 f (storeArena b (g .arena)),
+        own-run-in (g .run) m w r (ownFresh (storeArena b (g .arena)) (get b (arena frontier)) (g .arena .frontier)),
+      )
+      (put-arena _ held _)
+
+  pub given-in : (b : List ℕ) (q m : ℕ) → get b (arena holes) ≤ 4096 → length (Model.give m q (loadArena b) .store .holes) ≤ 4096 → RunIn S q m → given (mix S b d) q m ≡ mix S (given b q m) d
+  unfolding given
+  given-in b q m l k r =
+      rw (get-arena b held, load-in b l, arena-in b (Model.give m q (loadArena b)) k, own-in m q 0 r (storeArena b (Model.give m q (loadArena b)))) (put-arena _ held _)
+
+-- ---- a new run
+module _ {S : ℕ → Bool} (d : List ℕ) where
+  name-in : (m f x : ℕ) → RunIn S x m → (b : List ℕ) → nameRun (mix S b d) f x m ≡ mix S (nameRun b f x m) d
+  unfolding nameRun
+  name-in zero f x r b = refl
+  name-in (suc m) f x r b =
+      rw (put-page (r x (omega arith) (omega arith)) b d first f) (name-in m f (suc x) (λ y l u. r y (omega arith) (omega arith)) (put b (page first x) f))
+
+  clear-in : {q : ℕ} → PageIn S q → (k i : ℕ) → i + k ≤ 4096 → (b : List ℕ) → clearOut (mix S b d) q i k ≡ mix S (clearOut b q i k) d
+  unfolding clearOut
+  clear-in p zero i l b = refl
+  clear-in {q} p (suc k) i l b = rw (put-out p b d i 0 (omega arith)) (clear-in p k (i + 1) (omega arith) (put b (out q i) 0))
+
+  pub new-in : (b : List ℕ) (sh : Shape) (q : ℕ) → sh .capacity ≤ 4096 → 1 ≤ sh .pages → RunIn S q (sh .pages) → newRun (mix S b d) sh q ≡ mix S (newRun b sh q) d
+  unfolding newRun bareRun
+  new-in b sh q l one r =
+      let p : PageIn S q = r q (omega arith) (omega arith) in
+      let few : 0 + 32 * ((sh .capacity + 31) / 32) ≤ 4096 = omega arith in
+      let b₁ = nameRun b q q (sh .pages) in
+      let b₂ = clearOut b₁ q 0 (32 * outWords sh) in
+      rw (name-in (sh .pages) q q r b, clear-in p (32 * outWords sh) 0 few b₁, put-page p b₂ d listed 0)
+      (carve-in p (put b₂ (page listed q) 0) d sh true (stocked-le sh (stocked sh) refl l))

@@ -1,0 +1,137 @@
+-- Two books put together word by word, and what a step that keeps to some words makes of them. S says which words.
+--     mix S b d      the words of S from b, the others from d; a step F keeps to S where F (mix S b d) ≡ mix S (F b) d, which says at
+--                    once that it reads only words of S and writes only words of S
+--     get-in, put-in a read and a write of a field that lies in S
+--     PageIn, RowIn  all words of a page lie in S; all words of a class's row do
+--     swapped        two steps, one that keeps to S and one that keeps to the other words, may change places
+use Prim.Native.Nat.{ℕ, zero, suc, _+_, _*_, _/_, _<_}
+use native.Mathlib.Omega.{arith}
+use mathlib.Core.Bool.{Bool, true, false, cond, not}
+use mathlib.Core.List.{List, [], _∷_}
+use mathlib.Core.Path.{_≡_, refl, sym, ap, _∙_}
+use lib.ListN.{length, getD, set, drop}
+use Rattle.fields.specs.Field.{Field, ClassField, PageField, class, page, slot, out, partial, empty, emptyCount, cold, coldCount, owner, first, next, prev, free, carved, listed, virgin, tally, classOff, pageOff, part, place, read, word, get, put}
+
+unfoldable pub mix : (ℕ → Bool) → List ℕ → List ℕ → List ℕ
+mix S [] d = []
+mix S (x ∷ xs) d = cond (S 0) x (getD d 0 0) ∷ mix (λ i. S (suc i)) xs (drop 1 d)
+
+pub length-mix : (S : ℕ → Bool) (b d : List ℕ) → length (mix S b d) ≡ length b
+unfolding mix
+length-mix S [] d = refl
+length-mix S (x ∷ xs) d = ap suc (length-mix (λ i. S (suc i)) xs (drop 1 d))
+
+getD-mix : (S : ℕ → Bool) (b d : List ℕ) (i : ℕ) → S i ≡ true → getD (mix S b d) i 0 ≡ getD b i 0
+unfolding mix
+getD-mix S [] d i e = refl
+getD-mix S (x ∷ xs) d zero e = rw e
+getD-mix S (x ∷ xs) d (suc i) e = getD-mix (λ i. S (suc i)) xs (drop 1 d) i e
+
+set-mix : (S : ℕ → Bool) (b d : List ℕ) (i v : ℕ) → S i ≡ true → set (mix S b d) i v ≡ mix S (set b i v) d
+unfolding mix
+set-mix S [] d i v e = refl
+set-mix S (x ∷ xs) d zero v e = rw e
+set-mix S (x ∷ xs) d (suc i) v e = ap (λ (l : List ℕ). cond (S 0) x (getD d 0 0) ∷ l) (set-mix (λ i. S (suc i)) xs (drop 1 d) i v e)
+
+pub mix-same : (S : ℕ → Bool) (b : List ℕ) → mix S b b ≡ b
+unfolding mix
+mix-same S [] = refl
+mix-same S (x ∷ xs) = rw (mix-same (λ i. S (suc i)) xs) (ap (λ (y : ℕ). y ∷ xs) (both (S 0) x))
+  where
+    both : (t : Bool) (x : ℕ) → cond t x x ≡ x
+    both true x = refl
+    both false x = refl
+
+pub mix-turn : (S : ℕ → Bool) (b d : List ℕ) → length b ≡ length d → mix S b d ≡ mix (λ i. not (S i)) d b
+unfolding mix
+mix-turn S [] [] e = refl
+mix-turn S [] (y ∷ ys) e = absurd (omega arith)
+mix-turn S (x ∷ xs) [] e = absurd (omega arith)
+mix-turn S (x ∷ xs) (y ∷ ys) e = rw (mix-turn (λ i. S (suc i)) xs ys (omega arith)) (ap (λ (z : ℕ). z ∷ mix (λ i. not (S (suc i))) ys xs) (either (S 0) x y))
+  where
+    either : (t : Bool) (x y : ℕ) → cond t x y ≡ cond (not t) y x
+    either true x y = refl
+    either false x y = refl
+
+-- ---- fields
+module _ (S : ℕ → Bool) (b d : List ℕ) (f : Field) where
+  pub get-in : S (word f) ≡ true → get (mix S b d) f ≡ get b f
+  unfolding get
+  get-in e = ap (read (part f)) (getD-mix S b d (word f) e)
+
+  pub put-in : (v : ℕ) → S (word f) ≡ true → put (mix S b d) f v ≡ mix S (put b f v) d
+  unfolding put
+  put-in v e = ap (λ w. set (mix S b d) (word f) (place (part f) w v)) (getD-mix S b d (word f) e) ∙ set-mix S b d (word f) _ e
+
+pub record PageIn (S : ℕ → Bool) (q : ℕ) : Type 0 where
+  pub words : (j : ℕ) → j < 4112 → S (40000 + 4112 * q + j) ≡ true
+
+pub record RowIn (S : ℕ → Bool) (c : ℕ) : Type 0 where
+  pub words : (j : ℕ) → j < 8 → S (160 + 8 * c + j) ≡ true
+
+pub at-word : (S : ℕ → Bool) {i j : ℕ} → i ≡ j → S i ≡ true → S j ≡ true
+at-word S e h = rw (sym e) h
+
+module _ {S : ℕ → Bool} {q : ℕ} (p : PageIn S q) (b d : List ℕ) where
+  in-page : (k : PageField) → S (word (page k q)) ≡ true
+  in-page k = p .words (pageOff k) (off-lt k)
+    where
+      off-lt : (k : PageField) → pageOff k < 4112
+      off-lt PageField.owner = omega arith
+      off-lt PageField.first = omega arith
+      off-lt PageField.next = omega arith
+      off-lt PageField.prev = omega arith
+      off-lt PageField.free = omega arith
+      off-lt PageField.carved = omega arith
+      off-lt PageField.listed = omega arith
+      off-lt PageField.virgin = omega arith
+      off-lt PageField.tally = omega arith
+
+  in-slot : (i : ℕ) → i < 4096 → S (word (slot q i)) ≡ true
+  in-slot i h = at-word S (omega arith) (p .words (272 + i / 2) (omega arith))
+
+  in-out : (i : ℕ) → i < 4096 → S (word (out q i)) ≡ true
+  in-out i h = at-word S (omega arith) (p .words (16 + i / 32) (omega arith))
+
+  pub get-page : (k : PageField) → get (mix S b d) (page k q) ≡ get b (page k q)
+  get-page k = get-in S b d (page k q) (in-page k)
+
+  pub put-page : (k : PageField) (v : ℕ) → put (mix S b d) (page k q) v ≡ mix S (put b (page k q) v) d
+  put-page k v = put-in S b d (page k q) v (in-page k)
+
+  pub get-slot : (i : ℕ) → i < 4096 → get (mix S b d) (slot q i) ≡ get b (slot q i)
+  get-slot i h = get-in S b d (slot q i) (in-slot i h)
+
+  pub put-slot : (i v : ℕ) → i < 4096 → put (mix S b d) (slot q i) v ≡ mix S (put b (slot q i) v) d
+  put-slot i v h = put-in S b d (slot q i) v (in-slot i h)
+
+  pub put-out : (i v : ℕ) → i < 4096 → put (mix S b d) (out q i) v ≡ mix S (put b (out q i) v) d
+  put-out i v h = put-in S b d (out q i) v (in-out i h)
+
+module _ {S : ℕ → Bool} {c : ℕ} (r : RowIn S c) (b d : List ℕ) where
+  in-row : (k : ClassField) → S (word (class k c)) ≡ true
+  in-row k = r .words (classOff k) (off-lt k)
+    where
+      off-lt : (k : ClassField) → classOff k < 8
+      off-lt ClassField.partial = omega arith
+      off-lt ClassField.empty = omega arith
+      off-lt ClassField.emptyCount = omega arith
+      off-lt ClassField.cold = omega arith
+      off-lt ClassField.coldCount = omega arith
+
+  pub get-row : (k : ClassField) → get (mix S b d) (class k c) ≡ get b (class k c)
+  get-row k = get-in S b d (class k c) (in-row k)
+
+  pub put-row : (k : ClassField) (v : ℕ) → put (mix S b d) (class k c) v ≡ mix S (put b (class k c) v) d
+  put-row k v = put-in S b d (class k c) v (in-row k)
+
+-- ---- two steps
+pub swapped : (S : ℕ → Bool) (F G : List ℕ → List ℕ) (b : List ℕ) → length (F b) ≡ length b → length (G b) ≡ length b
+    → F (mix S b b) ≡ mix S (F b) b → (G b ≡ mix S b (G b) → F (mix S b (G b)) ≡ mix S (F b) (G b))
+    → G (mix (λ i. not (S i)) b b) ≡ mix (λ i. not (S i)) (G b) b → (F b ≡ mix (λ i. not (S i)) b (F b) → G (mix (λ i. not (S i)) b (F b)) ≡ mix (λ i. not (S i)) (G b) (F b))
+    → F (G b) ≡ G (F b)
+swapped S F G b hf hg f₀ f g₀ g =
+    let T : ℕ → Bool = λ i. not (S i) in
+    let u : G b ≡ mix S b (G b) = sym (ap G (mix-same T b)) ∙ g₀ ∙ sym (mix-turn S b (G b) (sym hg)) in
+    let v : F b ≡ mix (λ i. not (S i)) b (F b) = sym (ap F (mix-same S b)) ∙ f₀ ∙ mix-turn S (F b) b hf in
+    ap F u ∙ f u ∙ mix-turn S (F b) (G b) (hf ∙ sym hg) ∙ sym (g v) ∙ sym (ap G v)
