@@ -47,6 +47,8 @@ RANGES = "crates/demands/specs/Ranges.antt"
 # A class's limits are in its shape, by definition and in code.
 SHAPE = "crates/classes/specs/Shape.antt"
 SHAPE_CODE = "crates/classes/src/runs.rt"
+# The boundary tests that look into the book.
+BOOK_TESTS = ["ranges::", "holes::a_cut_hole_keeps_its_index", "holes::the_last_hole_takes_a_used_up_ones_place"]
 
 
 @dataclass
@@ -405,6 +407,7 @@ RULES = [
     ),
     Rule(
         "the holes behind a used-up one move up",
+        alike="the order of the holes shows in no answer (`orderless`); the row and the book's words hold it",
         heap=[(OURS, "holes.entries[i] = holes.entries[holes.len];", "let last = holes.len;\n            holes.entries.copy_within(i + 1..last + 1, i);")],
         model=[
             (
@@ -501,8 +504,9 @@ class Heaps:
     def boundaries(self):
         """The boundary tests that fail."""
         settings = dict(os.environ, LD_LIBRARY_PATH=str(self.library))
-        # The stand-in's book has no words but one.
-        answer = run([self.work / "boundaries", "--skip", "ranges::"], self.work, env=settings, timeout=600)
+        # The stand-in's book has no words but one, and these look at others.
+        skipped = [word for test in BOOK_TESTS for word in ("--skip", test)]
+        answer = run([self.work / "boundaries", *skipped], self.work, env=settings, timeout=600)
         failed = re.findall(r"^test (\S+) \.\.\. FAILED", answer.stdout, re.M)
         return failed if failed or answer.returncode == 0 else [f"status {answer.returncode}"]
 
