@@ -1,6 +1,6 @@
 //! The parts of the original's source that are replaced before it is compiled: what document 01 shims ("What the editor
-//! lends"), and what makes its answers visible. A part that a request replaces by a reference of our own is a row here, its
-//! text a file beside this one (`put: include_str!("FILE.rs")`).
+//! lends"), and what makes its answers visible. A part that a request of document 02 replaces by a reference of our own is
+//! renamed here, so that both are there, and the reference is the file beside this one that is added at the end.
 
 /// What stands in a file from `from` on, which is there once, through the next `to`. With `to` empty it is `from` itself.
 pub struct Part {
@@ -14,7 +14,7 @@ pub struct Part {
 /// The end of a function or block in a module's own column.
 const END: &str = "\n}\n";
 
-pub const PARTS: [Part; 10] = [
+pub const PARTS: [Part; 11] = [
     Part {
         file: "arena.rs",
         why: "the system's answers come from the host word",
@@ -28,6 +28,13 @@ pub const PARTS: [Part; 10] = [
         from: "static ARENA: Arena = Arena::new();\n",
         to: "",
         put: "static ARENA: crate::oracle::slot::Slot<Arena> = crate::oracle::slot::Slot::new();\n",
+    },
+    Part {
+        file: "arena.rs",
+        why: "document 02's choice of a hole stands beside the original's (A.8)",
+        from: "    fn holes_take(&self, pages: usize) -> *mut u8 {\n",
+        to: "",
+        put: "    fn original_take(&self, pages: usize) -> *mut u8 {\n",
     },
     Part {
         file: "sys/unix.rs",

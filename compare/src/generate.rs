@@ -187,7 +187,7 @@ fn direct(maker: &mut Maker) {
     }
 }
 
-/// Holes and runs whose lengths are around the last remembered one, 128.
+/// Holes and runs of many equal lengths, around the last one that the original remembers, 128.
 fn lengths(maker: &mut Maker) {
     maker.arena(3_000, 30_000);
     maker.reserve();

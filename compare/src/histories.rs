@@ -1,5 +1,5 @@
 //! Random histories: on the original and the port (`histories`), on the original alone (`record`), and stored ones on
-//! the port alone (`replay`).
+//! the port alone (`replay`). The original has document 02's parts in it (`oracle/rules.rs`): it is the judge.
 
 use std::fs;
 
@@ -12,7 +12,6 @@ use crate::plan::Plan;
 use crate::port::{self, Room};
 use crate::progress::Progress;
 use crate::random::Random;
-use crate::reference::Reference;
 use crate::run::{self, Book, Difference};
 use crate::shrink::shrink;
 use crate::tally::Tally;
@@ -54,18 +53,30 @@ pub fn histories(words: &[String]) -> Result<bool, String> {
     let mut book = Book::new();
     let mut tally = Tally::default();
     let mut progress = Progress::begin();
+    let mut plain = 0;
     let mut difference = None;
     while tally.calls() < calls && difference.is_none() {
         let plan = source.plan();
         tally.begin(plan.scenario);
+        let mut history = Vec::new();
         let found = run::compare(&plan, &mut book, |call, due, reference| {
             tally.count(call, due);
             tally.count_holes(reference);
+            history.push((call.clone(), due.clone()));
         });
+        let (compared, other) = run::compare_plain(plan.pages, &history);
+        plain += compared;
+        if let Some(other) = other {
+            println!("the original as it is differs before document 02 lets it:");
+            println!("{}", history::line(&other.call, &other.due));
+            println!("# {}", history::line(&other.call, &other.got));
+            return Ok(false);
+        }
         difference = found.map(|difference| (plan, difference));
         progress.show(tally.calls(), calls, "calls");
     }
     println!("{tally}");
+    println!("  {plain} calls compared with the original as it is, those before it first chooses another equal hole");
     println!("{:.1} s", progress.seconds());
     say_what_is_missing();
     match difference {
@@ -100,11 +111,14 @@ fn print_smallest(plan: &Plan, found: Difference, book: &mut Book) {
     println!("# {}", history::line(&last.call, &last.got));
 }
 
-/// Writes histories with the original's answers.
+/// Writes histories with the judge's answers, random ones or those whose calls stand in a file.
 pub fn record(words: &[String]) -> Result<bool, String> {
-    let arguments = Arguments::read(words, &["calls", "seed", "pages", "scenario", "kinds", "file"])?;
+    let arguments = Arguments::read(words, &["calls", "seed", "pages", "scenario", "kinds", "given", "file"])?;
     let calls: u64 = arguments.number("calls")?.unwrap_or(1_000);
     let file = arguments.text("file").ok_or("record needs --file")?;
+    if let Some(given) = arguments.text("given") {
+        return record_given(given, file);
+    }
     let asked: fn(Kind) -> bool = match arguments.text("kinds").unwrap_or("all") {
         "all" => |_| true,
         "arena" => is_arena,
@@ -112,7 +126,7 @@ pub fn record(words: &[String]) -> Result<bool, String> {
     };
     let mut source = Source::new(&arguments, asked)?;
     let mut tally = Tally::default();
-    let mut text = String::from("# Histories with the original's answers; compare/src/history.rs has the format.\n");
+    let mut text = String::from("# Histories with the judge's answers; compare/src/history.rs has the format.\n");
     while tally.calls() < calls {
         let plan = source.plan();
         tally.begin(plan.scenario);
@@ -125,31 +139,24 @@ pub fn record(words: &[String]) -> Result<bool, String> {
     Ok(true)
 }
 
-/// Writes the calls of a file back with the original's answers as they are now. What says nothing stays.
-pub fn restate(words: &[String]) -> Result<bool, String> {
-    let arguments = Arguments::read(words, &["file"])?;
-    let file = arguments.text("file").ok_or("restate needs --file")?;
-    let text = fs::read_to_string(file).map_err(|error| format!("{file}: {error}"))?;
-    let mut reference = None;
-    let mut restated = String::new();
-    for (at, line) in text.lines().enumerate() {
-        let bad = || format!("{file}, line {}: {line}", at + 1);
-        if let Some(pages) = line.strip_prefix("open ") {
-            drop(reference.take());
-            reference = Some(Reference::open(pages.parse().map_err(|_| bad())?));
-        }
-        if line.is_empty() || line.starts_with('#') || line.starts_with("open ") {
-            restated += line;
-        } else {
-            let call = history::asked(line).ok_or_else(bad)?;
-            let answer = reference.as_mut().ok_or_else(bad)?.answer(&call);
-            restated += &history::line(&call, &answer);
-        }
-        restated.push('\n');
+/// The calls of a file once more, with the answers that are due now; what is no call stays as it is.
+fn record_given(given: &str, file: &str) -> Result<bool, String> {
+    let old = fs::read_to_string(given).map_err(|error| format!("{given}: {error}"))?;
+    let mut due = history::parse(&old)?.into_iter().flat_map(|History { pages, calls }| {
+        let calls = calls.into_iter().map(|(call, _)| call).collect();
+        run::answered(pages, calls)
+    });
+    let (mut text, mut changed) = (String::new(), 0);
+    for line in old.lines() {
+        let call = !line.is_empty() && !line.starts_with('#') && !line.starts_with("open ");
+        let new = if call { due.next().map(|(call, answer)| history::line(&call, &answer)) } else { None };
+        let new = new.unwrap_or_else(|| line.into());
+        changed += u64::from(new != line);
+        text += &new;
+        text.push('\n');
     }
-    let changed = restated.lines().zip(text.lines()).filter(|(new, old)| new != old).count();
-    fs::write(file, restated).map_err(|error| format!("{file}: {error}"))?;
-    println!("{changed} lines changed");
+    fs::write(file, text).map_err(|error| format!("{file}: {error}"))?;
+    println!("{changed} answers are others than in {given}");
     Ok(true)
 }
 

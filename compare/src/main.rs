@@ -40,10 +40,8 @@ const USAGE: &str = "usage: compare COMMAND [--NAME VALUE ..]
   listing      all short histories of the direct calls
   histories    [--calls N] [--seed S] [--pages N,N..] [--scenario NAME]
                random histories on the original and on the port
-  record       --file F [--calls N] [--seed S] [--pages N,N..] [--scenario NAME] [--kinds all|arena]
-               random histories on the original, written down with its answers
-  restate      --file F
-               histories that were written down, with the original's answers as they are now
+  record       --file F [--calls N] [--seed S] [--pages N,N..] [--scenario NAME] [--kinds all|arena] | --given G
+               random histories, or the calls of G, on the original, written down with its answers
   replay       --file F
                histories that were written down, on the port
   model-test   [--calls N] [--seed S] [--scenario NAME] [--longest STEPS] [--file F] [--repository FOLDER]
@@ -67,7 +65,6 @@ fn main() -> ExitCode {
         Some("listing") => Ok(listing::run()),
         Some("histories") => histories::histories(rest),
         Some("record") => histories::record(rest),
-        Some("restate") => histories::restate(rest),
         Some("replay") => histories::replay(rest),
         Some("model-test") => model_test::run(rest),
         Some("damaged") => damaged::run(rest),

@@ -356,8 +356,8 @@ fn contains(book: &[u32], offset: u64, length: u64) -> Answer {
     yes_or_no("contains", answer, Answer::Contains)
 }
 
-/// Commits, reuses, abandoned, pages held, idle pages, of a book on which a report is not refused.
-pub fn report_figures(book: &[u32]) -> [u64; 5] {
+/// A report's figures, of a book on which it is not refused.
+pub fn report_figures(book: &[u32]) -> [u64; FIGURES] {
     match report(book) {
         Answer::Report(figures) => figures,
         answer => panic!("a report answers {answer:?}"),

@@ -1,7 +1,8 @@
-//! One history on the original: its answers, with the numbers of refused calls and the pages held from the ledger.
+//! One history on the original, with document 02's parts in it or without them: its answers, with the numbers of refused calls and the pages held from the ledger.
 
 use crate::call::{Answer, Call};
 use crate::ledger::Ledger;
+use crate::oracle::rules::Rules;
 use crate::oracle::Original;
 
 pub struct Reference {
@@ -10,8 +11,13 @@ pub struct Reference {
 }
 
 impl Reference {
+    /// By document 02's rules.
     pub fn open(pages: u32) -> Reference {
-        Reference { original: Original::open(pages), ledger: Ledger::new(pages) }
+        Reference::open_with(pages, Rules::Amended)
+    }
+
+    pub fn open_with(pages: u32, rules: Rules) -> Reference {
+        Reference { original: Original::open(pages, rules), ledger: Ledger::new(pages) }
     }
 
     /// Pages below the frontier.

@@ -1,7 +1,9 @@
-//! A plan run on the original and on the port, call by call.
+//! A plan run on the original and on the port, call by call; and again on the original as it is, as far as document 02 lets
+//! the two agree.
 
 use crate::call::{Answer, Call, Due, Kind};
 use crate::memory::{Fence, Reserved};
+use crate::oracle::rules::{self, Rules};
 use crate::plan::Plan;
 use crate::port::{self, Room};
 use crate::reference::Reference;
@@ -66,6 +68,30 @@ pub fn compare(plan: &Plan, book: &mut Book, mut seen: impl FnMut(&Call, &Answer
         seen(&call, &due, &reference);
     }
     None
+}
+
+/// Asks the original as it is the calls of a history, with the answers that are due, up to the first at which document 02's
+/// rule does something else. How many calls were compared, and the first that differs.
+pub fn compare_plain(pages: u32, calls: &[Due]) -> (u64, Option<Difference>) {
+    let mut reference = Reference::open_with(pages, Rules::Watched);
+    let mut compared = 0;
+    for (step, (call, due)) in calls.iter().enumerate() {
+        let got = reference.answer(call);
+        if rules::departed() {
+            break;
+        }
+        if got != *due {
+            return (compared, Some(Difference { step, call: call.clone(), due: due.clone(), got }));
+        }
+        compared += 1;
+    }
+    (compared, None)
+}
+
+/// The judge's answers to the calls of a history.
+pub fn answered(pages: u32, calls: Vec<Call>) -> Vec<Due> {
+    let mut reference = Reference::open(pages);
+    calls.into_iter().map(|call| (call.clone(), reference.answer(&call))).collect()
 }
 
 /// Runs a plan on the original alone, leaving out what is not asked.

@@ -2,10 +2,11 @@
 
 use std::sync::Mutex;
 
-use crate::call::{Answer, Call, Lent};
+use crate::call::{Answer, Call, Due, Lent};
 use crate::generate::{self, SCENARIOS};
 use crate::history::{self, History};
 use crate::oracle;
+use crate::oracle::rules::Rules;
 use crate::plan::{Intent, Place, Plan, Step};
 use crate::random::Random;
 use crate::reference::Reference;
@@ -18,8 +19,12 @@ use crate::words::{block_word, chunk_word, Family, HOST_ALL};
 static ORIGINAL: Mutex<()> = Mutex::new(());
 
 fn answers(calls: &[Call]) -> Vec<Answer> {
+    answers_with(calls, Rules::Amended)
+}
+
+fn answers_with(calls: &[Call], rules: Rules) -> Vec<Answer> {
     let _alone = ORIGINAL.lock().unwrap_or_else(|poisoned| poisoned.into_inner());
-    let mut reference = Reference::open(64);
+    let mut reference = Reference::open_with(64, rules);
     calls.iter().map(|call| reference.answer(call)).collect()
 }
 
@@ -96,9 +101,22 @@ fn runs_p11_and_p12() {
     let (grants, refuses) = (HOST_ALL, 13);
     let calls = [commit(grants, 10), give(0, 2), give(4, 2), give(8, 2)];
     let again = [commit(grants, 2), commit(grants, 2), commit(grants, 2)];
-    assert_eq!(answers(&[&calls[..], &again].concat())[4..], [run_at(8, false), run_at(0, false), run_at(4, false)]);
+    let p11 = [&calls[..], &again].concat();
+    assert_eq!(answers(&p11)[4..], [run_at(0, false), run_at(4, false), run_at(8, false)]);
+    assert_eq!(answers_with(&p11, Rules::Plain)[4..], [run_at(8, false), run_at(0, false), run_at(4, false)]);
     let calls = [commit(grants, 4), give(0, 4), commit(refuses, 2), commit(grants, 2), commit(grants, 2)];
     assert_eq!(answers(&calls)[2..], [Answer::NoRun, run_at(0, false), run_at(2, false)]);
+}
+
+/// The original as it is agrees up to its first choice of another equal hole, and no further is asked of it.
+#[test]
+fn the_original_departs_at_another_equal_hole() {
+    let calls = [commit(HOST_ALL, 10), give(0, 2), give(4, 2), commit(HOST_ALL, 3), commit(HOST_ALL, 2)];
+    let answers = answers(&calls);
+    let due: Vec<Due> = calls.into_iter().zip(answers).collect();
+    let _alone = ORIGINAL.lock().unwrap_or_else(|poisoned| poisoned.into_inner());
+    let (compared, difference) = run::compare_plain(64, &due);
+    assert!(compared == 4 && difference.is_none());
 }
 
 /// A history of every scenario, read back from its text.

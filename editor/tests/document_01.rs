@@ -83,7 +83,7 @@ fn p11_equal_holes() {
     for first in [0, 4, 8] {
         give(&mut heap, first, 2);
     }
-    assert_eq!([(); 3].map(|()| first_page(&mut heap, Host::ALL, 2)), [Some(8), Some(0), Some(4)]);
+    assert_eq!([(); 3].map(|()| first_page(&mut heap, Host::ALL, 2)), [Some(0), Some(4), Some(8)]);
 }
 
 #[test]
@@ -93,7 +93,7 @@ fn p12_a_hole_that_is_not_granted() {
     give(&mut heap, 0, 4);
     let without_commit = Host::from_bits(13).expect("four bits");
     assert_eq!(first_page(&mut heap, without_commit, 2), None);
-    // The holes are (2, 2) and (0, 2) now, the second remembered; nothing is held.
+    // The holes are (2, 2) and (0, 2) now; nothing is held.
     assert_eq!(heap.report().expect("a reached book").idle, 64);
     assert_eq!([(); 2].map(|()| first_page(&mut heap, Host::ALL, 2)), [Some(0), Some(2)]);
 }

@@ -94,7 +94,6 @@ pub fn module(own_crate: &str) -> String {
          use Prim.Native.Nat.{{ℕ, zero, suc, _+_, _-_, _*_, _%_}}\n\
          use mathlib.Core.Path.{{_≡_, refl}}\n\
          use mathlib.Core.List.{{List, [], _∷_, map}}\n\
-         use mathlib.Core.Option.{{Option, none, some}}\n\
          use mathlib.Core.Bool.{{Bool, true, false, cond, not, _&&_}}\n\
          use lib.Dec.{{eqb, ltb}}\n\
          use Rattle.{model}.specs.{calls_module}.{{{call_type}}}\n\

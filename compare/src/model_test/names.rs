@@ -66,7 +66,7 @@ combed frontier holes = record {
   arena = record {
     status = ready;
     frontier = frontier;
-    store = store (comb holes 1) holes (λ n. cond (eqb n 1) (some (holes - 1)) none);
+    store = store (comb holes 1) holes;
     commits = 1;
     reuses = 0;
     abandoned = 0;
@@ -75,8 +75,7 @@ combed frontier holes = record {
   classes = newHeap .classes;
 }
 ";
-/// What of two heaps is compared: `{}` stands for a heap, and the list of pages is `pages`. The memory is not: the
-/// answers of later commits show it.
+/// What of two heaps is compared: `{}` stands for a heap, and the list of pages is `pages`.
 pub const COMPARED: [&str; 8] = [
     "{} .arena .status",
     "{} .arena .frontier",

@@ -5,6 +5,7 @@
 
 mod fates;
 mod host;
+pub mod rules;
 mod slot;
 
 #[allow(warnings, clippy::all)]
@@ -16,6 +17,7 @@ use std::sync::atomic::{AtomicBool, Ordering};
 
 use crate::words::{block_word, chunk_count, chunk_page, granule_of, Family, GRANULE_BYTES, PAGE_BYTES, SMALL_BATCH};
 use original::{arena, classes, heap, page};
+use rules::Rules;
 
 // Document 01: debug assertions off.
 const _: () = assert!(!cfg!(debug_assertions));
@@ -89,8 +91,9 @@ pub struct Chunks {
 }
 
 impl Original {
-    pub fn open(pages: u32) -> Original {
+    pub fn open(pages: u32, rules: Rules) -> Original {
         assert!(!IN_USE.swap(true, Ordering::AcqRel), "one history of the original at a time");
+        rules::set(rules);
         arena::rebuild(pages as usize);
         Original {
             pages,

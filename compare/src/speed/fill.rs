@@ -64,7 +64,7 @@ pub fn round<S: Side>(side: &mut S, clock: Clock) -> Round {
     let number = turns.len();
     let ((), time) = clock.time(number, || turns.iter().for_each(|turn| take_turn(side, turn, &mut taken)));
     let mut told = answers;
-    told.extend(CLASSES.iter().flat_map(|&class| time_takes(side, clock, small(class), 1).0.concat()));
+    told.extend(CLASSES.iter().map(|&class| time_takes(side, clock, small(class), 1).0.concat().len() as u32));
     Round { times: vec![time], answers: told }
 }
 
@@ -84,7 +84,8 @@ fn take_turn<S: Side>(side: &mut S, turn: &Turn, taken: &mut S::Taken) {
     }
 }
 
-/// The search's calls, by the answers of a first run, and these answers.
+/// The search's calls, by the answers of a first run, and how many blocks each take answered: on which pages they are is not the
+/// same on both sides once a run came from one of several equal holes.
 fn rehearse<S: Side>(side: &mut S, clock: Clock) -> (Vec<Turn>, Vec<u32>) {
     let mut random = Random::new(1);
     let (mut turns, mut answers) = (Vec::new(), Vec::new());
@@ -98,7 +99,7 @@ fn rehearse<S: Side>(side: &mut S, clock: Clock) -> (Vec<Turn>, Vec<u32>) {
         if down {
             let class = small(random.pick(&CLASSES));
             let words = time_takes(side, clock, class, 1).0.concat();
-            answers.extend(&words);
+            answers.push(words.len() as u32);
             path.push((class, words));
             turns.push(Turn::Take(class));
         } else if let Some((class, words)) = path.pop() {

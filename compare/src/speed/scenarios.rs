@@ -5,14 +5,14 @@ use super::rounds::{Clock, Round};
 use super::sides::{Class, Side, PAGES};
 use crate::oracle;
 use crate::random::Random;
-use crate::words::{chunk_word, page_of, Family};
+use crate::words::{chunk_word, page_of, Family, NO_PAGE};
 
 #[derive(Clone, Copy)]
 pub enum Scenario {
     /// Lookups of sizes of a family.
     Sizes { family: Family },
     /// Commits of 1 page and gives, with so many holes of 1 page; none: from the frontier.
-    Remembered { holes: u32 },
+    Equal { holes: u32 },
     /// Commits of 2 pages, with so many holes of 1 page.
     NoFit { holes: u32 },
     /// Takes that carve, releases of all that one gave, takes from the free list.
@@ -55,7 +55,7 @@ const ARENAS: [u32; 4] = [64, 1_024, 8_192, 65_536];
 pub fn all() -> Vec<Scenario> {
     let small = |class| Class(Family::Small, class);
     let medium = |class| Class(Family::Medium, class);
-    let remembered = HOLES.map(|holes| Scenario::Remembered { holes });
+    let equal = HOLES.map(|holes| Scenario::Equal { holes });
     let no_fit = HOLES[1..].iter().map(|&holes| Scenario::NoFit { holes });
     let batches = [small(0), small(3), small(10), medium(0)].map(|class| Scenario::Batches { class });
     let single = [0, 10].map(|class| Scenario::Single { class: small(class) });
@@ -66,7 +66,7 @@ pub fn all() -> Vec<Scenario> {
     let in_order = [(1, 8), (8, 8), (8, 64), (32, 64), (128, 8), (512, 8), (8, 314)].map(chunks(Order::Pages));
     let mixed = [(8, 8), (32, 64), (128, 8), (1_000, 4)].map(chunks(Order::Mixed));
     let sizes = [Family::Small, Family::Medium].map(|family| Scenario::Sizes { family });
-    let arena_calls = remembered.into_iter().chain(no_fit);
+    let arena_calls = equal.into_iter().chain(no_fit);
     let list_calls = batches.into_iter().chain(single).chain(whole).chain(listed).chain(arena);
     arena_calls.chain(list_calls).chain(in_order).chain(mixed).chain(sizes).chain([Scenario::Fill]).collect()
 }
@@ -87,8 +87,8 @@ impl Scenario {
         let plain = |calls: &[String]| calls.iter().map(|call| Row { call: call.clone(), holes: None }).collect();
         match *self {
             Scenario::Sizes { family } => plain(&[format!("class of a size, {}", family_name(family))]),
-            Scenario::Remembered { holes: 0 } => with(0, &["commit, 1 page, from the frontier", "give, 1 page"]),
-            Scenario::Remembered { holes } => with(holes, &["commit, 1 page, remembered", "give, 1 page"]),
+            Scenario::Equal { holes: 0 } => with(0, &["commit, 1 page, from the frontier", "give, 1 page"]),
+            Scenario::Equal { holes } => with(holes, &["commit, 1 page", "give, 1 page"]),
             Scenario::NoFit { holes } => with(holes, &["commit, 2 pages, fits no hole"]),
             Scenario::Batches { class } => {
                 let (blocks, name) = (oracle::batch(class.0, class.1), name(class));
@@ -124,8 +124,8 @@ impl Scenario {
         side.reopen(if let Scenario::Arena { pages, .. } = *self { pages } else { PAGES });
         match *self {
             Scenario::Sizes { family } => sizes(side, clock, family),
-            Scenario::Remembered { holes: 0 } => frontier(side, clock),
-            Scenario::Remembered { holes } => remembered(side, clock, holes),
+            Scenario::Equal { holes: 0 } => frontier(side, clock),
+            Scenario::Equal { holes } => equal(side, clock, holes),
             Scenario::NoFit { holes } => no_fit(side, clock, holes),
             Scenario::Batches { class } => batches(side, clock, class),
             Scenario::Single { class } => single(side, clock, class),
@@ -170,10 +170,15 @@ fn sizes<S: Side>(side: &mut S, clock: Clock, family: Family) -> Round {
     Round { times: vec![time], answers }
 }
 
-/// Holes of 1 page each.
+/// Holes of 1 page each, of which no two touch.
 fn store_holes<S: Side>(side: &mut S, holes: u32) {
-    let pages: Vec<u32> = (0..holes).map(|_| side.commit(1)).collect();
-    pages.into_iter().for_each(|first| side.give(first, 1));
+    let pages: Vec<u32> = (0..2 * holes).map(|_| side.commit(1)).collect();
+    pages.into_iter().step_by(2).for_each(|first| side.give(first, 1));
+}
+
+/// Whether each commit answered a run. Which of several equal holes it is is not the same on both sides (document 02, A.8).
+fn answered(firsts: [u32; BATCH]) -> impl Iterator<Item = u32> {
+    firsts.into_iter().map(|first| u32::from(first != NO_PAGE))
 }
 
 fn time_commits<S: Side>(side: &mut S, clock: Clock, pages: u64) -> ([u32; BATCH], f64) {
@@ -200,13 +205,13 @@ fn frontier<S: Side>(side: &mut S, clock: Clock) -> Round {
 }
 
 /// A batch begins with half of it more holes than are named, and ends with as many less.
-fn remembered<S: Side>(side: &mut S, clock: Clock, holes: u32) -> Round {
+fn equal<S: Side>(side: &mut S, clock: Clock, holes: u32) -> Round {
     store_holes(side, holes + BATCH as u32 / 2);
     let mut round = Round { times: vec![0.0; 2], answers: Vec::new() };
     for repeat in 0..REPEATS {
         let (firsts, commit) = time_commits(side, clock, 1);
         let give = time_gives(side, clock, &firsts);
-        round.answers.extend(firsts);
+        round.answers.extend(answered(firsts));
         if repeat > 0 {
             round.times[0] += commit / (REPEATS - 1) as f64;
             round.times[1] += give / (REPEATS - 1) as f64;

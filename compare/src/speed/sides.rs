@@ -5,6 +5,7 @@
 //! discard overwrites the page's header, which would count against the original.
 
 use crate::memory::Reserved;
+use crate::oracle::rules::Rules;
 use crate::oracle::{self, Chain, Chunks, Original};
 use crate::port;
 use crate::sizes::original;
@@ -54,7 +55,7 @@ pub struct OriginalSide(Original);
 
 impl OriginalSide {
     pub fn open() -> OriginalSide {
-        let mut original = Original::open(MOST_PAGES);
+        let mut original = Original::open(MOST_PAGES, Rules::Plain);
         original.keep_fates(false);
         OriginalSide(original)
     }

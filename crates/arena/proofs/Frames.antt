@@ -8,14 +8,13 @@ use lib.Dec.{eqb, ltb, leb}
 use lib.ListN.{length}
 use borrow.Author.Tests.{lt-ltb, ne-eqb}
 use Rattle.words.specs.Limits.{holeSlots}
-use Rattle.fields.specs.Field.{Field, arena, memory, class, hole, page, out, slot, ArenaField, state, frontier, holes, holePages, commits, commitsHigh, reuses, reusesHigh, abandoned, abandonedHigh, start, pages, owner, arenaOff, pageOff, put, words}
+use Rattle.fields.specs.Field.{Field, arena, class, hole, page, out, slot, ArenaField, state, frontier, holes, holePages, commits, commitsHigh, reuses, reusesHigh, abandoned, abandonedHigh, start, pages, owner, arenaOff, pageOff, put, words}
 use Rattle.fields.proofs.Laws.{put-put-same, put-comm, length-put}
 use Rattle.fields.proofs.Changes.{Changes, changes-none, changes-put}
 use Rattle.model.specs.declared.Hole.{Hole}
-use Rattle.model.specs.HoleStore.{HoleStore, Memory}
 use Rattle.model.specs.Arena.{Arena}
 use Rattle.arena.specs.Load.{loadHoles}
-use Rattle.arena.specs.Store.{storeHoles, storeMemory, memoryWords, storeCounts, storeTop, storeStore, storeArena}
+use Rattle.arena.specs.Store.{storeHoles, storeCounts, storeTop, storeArena}
 use Rattle.arena.specs.Owners.{own}
 
 -- as many holes are loaded as are asked for
@@ -24,10 +23,9 @@ unfolding loadHoles
 loaded-length b i zero = refl
 loaded-length b i (suc k) = ap suc (loaded-length b (suc i) k)
 
--- the words that hold the arena: all of its record but the length and HELD, the memory, the holes
+-- the words that hold the arena: all of its record but the length and HELD, and the holes
 abbrev pub isStored : Field → Bool
 isStored (arena k) = ltb 0 (arenaOff k) && ltb (arenaOff k) 11
-isStored (memory m) = true
 isStored (class k c) = false
 isStored (hole k i) = true
 isStored (page k p) = false
@@ -42,11 +40,6 @@ module _ (b : List ℕ) where
       let o : ltb i holeSlots ≡ true = lt-ltb i holeSlots (omega arith) in
       changes-put isStored b _ (hole pages i) (h .pages) o refl (changes-put isStored b _ (hole start i) (h .first) o refl (holes-change (suc i) hs (omega arith)))
 
-  pub memory-changes : (x : List ℕ) (f : Memory) (m : ℕ) → m ≤ 129 → Changes isStored b x → Changes isStored b (storeMemory x f m)
-  unfolding storeMemory
-  memory-changes x f zero l k = k
-  memory-changes x f (suc m) l k = changes-put isStored b _ (memory m) _ (lt-ltb m 129 (omega arith)) refl (memory-changes x f m (omega arith) k)
-
   changed : (k : ArenaField) → isStored (arena k) ≡ true → (x : List ℕ) (v : ℕ) → Changes isStored b x → Changes isStored b (put x (arena k) v)
   changed k t x v h = changes-put isStored b x (arena k) v refl t h
 
@@ -56,18 +49,13 @@ module _ (b : List ℕ) where
       changed holePages refl _ _ (changed holes refl _ _ (changed frontier refl _ _ (changed state refl _ _
       (changed abandonedHigh refl _ _ (changed abandoned refl _ _ (changed reusesHigh refl _ _ (changed reuses refl _ _ (changed commitsHigh refl _ _ (changed commits refl _ _ h)))))))))
 
-  pub store-changes : (s : HoleStore) → length (s .holes) ≤ holeSlots → Changes isStored b (storeStore b s)
-  unfolding storeStore memoryWords
-  store-changes s l = memory-changes _ (s .memory) 129 (omega arith) (holes-change 0 (s .holes) (omega arith))
-
   pub arena-changes : (a : Arena) → length (a .store .holes) ≤ holeSlots → Changes isStored b (storeArena b a)
   unfolding storeArena
-  arena-changes a l = record-changes _ _ _ _ _ _ _ _ (store-changes (a .store) l)
+  arena-changes a l = record-changes _ _ _ _ _ _ _ _ (holes-change 0 (a .store .holes) (omega arith))
 
 -- ---- owners
 abbrev pub isOwner : Field → Bool
 isOwner (arena k) = false
-isOwner (memory m) = false
 isOwner (class k c) = false
 isOwner (hole k i) = false
 isOwner (page k p) = eqb (pageOff k) 0

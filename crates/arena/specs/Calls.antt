@@ -38,7 +38,7 @@ commitRefused b k = record { code = k; book = b; run = none; fresh = false }
 unfoldable pub commitFor : ℕ → List ℕ → ℕ → ℕ → ℕ → Committed
 commitFor n b h m w =
     let g = Model.commit n h m (loadArena b) in
-    cond (commitFair n b m) (record { code = 0; book = committed b g m w; run = g .run; fresh = g .fresh }) (commitRefused b 13)
+    cond (commitFair n b) (record { code = 0; book = committed b g m w; run = g .run; fresh = g .fresh }) (commitRefused b 13)
 
 -- m pages from q on go to the holes, or are abandoned, and are nobody's
 unfoldable pub given : List ℕ → ℕ → ℕ → List ℕ

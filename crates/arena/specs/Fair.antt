@@ -2,14 +2,14 @@
 -- length.
 use Prim.Native.Nat.{ℕ, _+_}
 use mathlib.Core.List.{List}
-use mathlib.Core.Bool.{Bool, true, cond, _&&_}
+use mathlib.Core.Bool.{Bool, _&&_}
 use lib.Dec.{leb}
 use Rattle.facts.specs.Lists.{every, below}
-use Rattle.fields.specs.Field.{arena, memory, class, state, frontier, holes, holePages, held, emptyCount, coldCount, get}
+use Rattle.fields.specs.Field.{arena, class, state, frontier, holes, holePages, held, emptyCount, coldCount, get}
 use Rattle.fields.specs.Ranges.{maxParked}
 use Rattle.classes.specs.Shape.{classCount}
 use Rattle.model.specs.declared.Hole.{Hole}
-use Rattle.model.specs.HoleStore.{holeSlots, holePagesMax, rememberedMax}
+use Rattle.model.specs.HoleStore.{holeSlots, holePagesMax}
 use Rattle.arena.specs.Load.{loadHoles}
 
 -- the record
@@ -28,13 +28,9 @@ holeFair total f h = leb 1 (h .pages) && (leb (h .pages) total && leb (h .first 
 unfoldable pub holesFair : List ℕ → Bool
 holesFair b = every (holeFair (get b (arena holePages)) (get b (arena frontier))) (loadHoles b 0 (get b (arena holes)))
 
--- the memory of a length
-abbrev pub memoryFair : List ℕ → ℕ → Bool
-memoryFair b m = cond (leb m rememberedMax) (leb (get b (memory m)) holeSlots) true
-
--- a commit of m pages reads all of these; a give of m pages the record alone
-unfoldable pub commitFair : ℕ → List ℕ → ℕ → Bool
-commitFair n b m = recordFair n b && (memoryFair b m && holesFair b)
+-- a commit reads both; a give of m pages the record alone
+unfoldable pub commitFair : ℕ → List ℕ → Bool
+commitFair n b = recordFair n b && holesFair b
 
 unfoldable pub giveFair : ℕ → List ℕ → ℕ → Bool
 giveFair n b m = recordFair n b && leb m (get b (arena held))

@@ -1,14 +1,11 @@
 -- The arena that the words hold. Any words hold one; number 13's tests (Fair) say which of them a step may use.
 use Prim.Native.Nat.{ℕ, zero, suc}
 use mathlib.Core.List.{List, [], _∷_}
-use mathlib.Core.Option.{Option, none, some}
-use mathlib.Core.Bool.{cond}
-use lib.Dec.{leb}
-use Rattle.fields.specs.Field.{arena, memory, hole, state, frontier, holes, holePages, commits, commitsHigh, reuses, reusesHigh, abandoned, abandonedHigh, start, pages, get}
+use Rattle.fields.specs.Field.{arena, hole, state, frontier, holes, holePages, commits, commitsHigh, reuses, reusesHigh, abandoned, abandonedHigh, start, pages, get}
 use Rattle.fields.specs.Wide.{getWide}
 use Rattle.model.specs.declared.Hole.{Hole}
 use Rattle.model.specs.HoleStore as Model
-use Rattle.model.specs.HoleStore.{HoleStore, rememberedMax}
+use Rattle.model.specs.HoleStore.{HoleStore}
 use Rattle.model.specs.Arena.{Arena, Status, unasked, ready, disabled}
 
 -- STATE: 0 unasked, 1 ready, 2 disabled
@@ -22,15 +19,6 @@ statusCode unasked = 0
 statusCode ready = 1
 statusCode disabled = 2
 
--- an index is stored with one added, 0 is none
-abbrev pub indexOf : ℕ → Option ℕ
-indexOf zero = none
-indexOf (suc i) = some i
-
-abbrev pub indexCode : Option ℕ → ℕ
-indexCode none = 0
-indexCode (some i) = suc i
-
 abbrev pub loadHole : List ℕ → ℕ → Hole
 loadHole b i = Model.hole (get b (hole start i)) (get b (hole pages i))
 
@@ -39,12 +27,8 @@ unfoldable pub loadHoles : List ℕ → ℕ → ℕ → List Hole
 loadHoles b i zero = []
 loadHoles b i (suc k) = loadHole b i ∷ loadHoles b (suc i) k
 
--- the remembered index of a length
-abbrev pub recall : List ℕ → ℕ → Option ℕ
-recall b n = cond (leb n rememberedMax) (indexOf (get b (memory n))) none
-
 unfoldable pub loadStore : List ℕ → HoleStore
-loadStore b = Model.store (loadHoles b 0 (get b (arena holes))) (get b (arena holePages)) (recall b)
+loadStore b = Model.store (loadHoles b 0 (get b (arena holes))) (get b (arena holePages))
 
 unfoldable pub loadArena : List ℕ → Arena
 loadArena b = record {

@@ -1,5 +1,5 @@
--- Opening: the arena's length, and 0 in the record, the memory and the class rows; the rest of the book stays as it was, whatever
--- it holds, so that the cost is the same for every arena length.
+-- Opening: the arena's length, and 0 in all other words up to the last class row's, those that no call reads included; the rest of the
+-- book stays as it was, whatever it holds, so that the cost is the same for every arena length.
 use Prim.Native.Nat.{ℕ, zero, suc}
 use mathlib.Core.List.{List}
 use lib.ListN.{set}

@@ -10,7 +10,7 @@ use Rattle.model.specs.Heap.{Heap, heldPages}
 use Rattle.arena.specs.Load.{loadArena, statusCode}
 use Rattle.arena.specs.Owners.{ownerCode}
 
--- the book is long enough for n pages, its record, holes and memory are those of the arena, and HELD counts the pages held. `state`
+-- the book is long enough for n pages, its record and holes are those of the arena, and HELD counts the pages held. `state`
 -- says more than `loads`: any number above 2 loads as disabled, and is out of its range.
 pub record ArenaRep (n : ℕ) (b : List ℕ) (H : Heap) : Type 0 where
   pub long : leb (words n) (length b) ≡ true

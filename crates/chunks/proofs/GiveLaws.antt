@@ -28,8 +28,8 @@ use Rattle.arena.specs.Store.{storeTop, storeCounts}
 use Rattle.arena.specs.Fair.{recordFair, giveFair}
 use Rattle.arena.specs.Owners.{own}
 use Rattle.arena.specs.Calls.{given}
-use Rattle.holes.specs.Act.{accepting, appendWords, giveWords, giveRecord, givenWith, giveActs}
-use Rattle.holes.proofs.StoreLaws.{hole-length, remember-length}
+use Rattle.holes.specs.Act.{accepting, giveWords, giveRecord, givenWith, giveActs}
+use Rattle.holes.proofs.StoreLaws.{hole-length}
 use Rattle.arena.proofs.Frames.{isStored, isOwner, record-changes, own-changes}
 use Rattle.holes.proofs.Acts.{FairRecord, fair-record, give-acts}
 use Rattle.runs.specs.Asks.{GiveIn}
@@ -59,10 +59,10 @@ stored-length : (x : List ℕ) (r : Arena) → length (storeRecord x r) ≡ leng
 stored-length x r = record-changes x x (r .commits) (r .reuses) (r .abandoned) (r .state) (r .frontier) (r .count) (r .total) (changes-none isStored x) .long
 
 words-length : (b : List ℕ) (a : Arena) (m q : ℕ) → length (giveWords b a m q) ≡ length b
-unfolding giveWords appendWords
+unfolding giveWords
 words-length b a m q =
     by-cases (accepting m a)
-    (λ e. rw e (remember-length _ m (a .count + 1) ∙ hole-length b (a .count) (Model.hole q m)))
+    (λ e. rw e (hole-length b (a .count) (Model.hole q m)))
     (λ e. rw e)
 
 -- ---- the record after a give
@@ -125,8 +125,8 @@ module _ (n : ℕ) (b : List ℕ) (q m : ℕ) (long : words n ≤ length b) (fai
   was = fair-record n b fair
 
   acts : given b q m ≡ put (own (storeRecord (giveWords b (recordOf b) m q) (giveRecord (recordOf b) m)) q m 0) (arena held) (get b (arena held) - m)
-  unfolding giveActs givenWith was hb
-  acts = give-acts n b hb was q m
+  unfolding giveActs givenWith
+  acts = give-acts n b was q m
 
   -- before the owners and HELD
   middle : List ℕ

@@ -100,11 +100,11 @@ firstPage : Calls.Answer → ℕ
 firstPage x = pageAt (getD (blocksOf x) 0 0)
 
 first-alone : firstPage (step 64 newHeap (takeOf 44) .answer) ≡ 0
-unfolding firstPage smallSizes smallShape shapeOf Holes.lowest Holes.leastFit Holes.stillHolds Holes.chooseIn Holes.cutFrom Arenas.drawFrom Arenas.draw Arenas.grant Arenas.commitReady Arenas.commitAs Arenas.commit Pages.wordOf Pages.carveAs Pages.hasMore Pages.carvedNow Pages.pop Classes.after Classes.fillFromList Classes.served Classes.onRun Classes.takeFrom Chunks.answer Heaps.newHeap Heaps.offer Heaps.finish Heaps.interact Heaps.classCall Heaps.step wayOf
+unfolding firstPage smallSizes smallShape shapeOf Holes.leastFit Holes.cutFrom Arenas.drawFrom Arenas.draw Arenas.grant Arenas.commitReady Arenas.commitAs Arenas.commit Pages.wordOf Pages.carveAs Pages.hasMore Pages.carvedNow Pages.pop Classes.after Classes.fillFromList Classes.served Classes.onRun Classes.takeFrom Chunks.answer Heaps.newHeap Heaps.offer Heaps.finish Heaps.interact Heaps.classCall Heaps.step wayOf
 first-alone = refl
 
 first-behind : firstPage (step 64 (heapAfter 64 (takeOf 45 ∷ [])) (takeOf 44) .answer) ≡ 1
-unfolding firstPage smallSizes smallShape shapeOf Holes.lowest Holes.leastFit Holes.stillHolds Holes.chooseIn Holes.cutFrom Arenas.drawFrom Arenas.draw Arenas.grant Arenas.commitReady Arenas.commitAs Arenas.commit Pages.wordOf Pages.carveAs Pages.hasMore Pages.carvedNow Pages.pop Classes.after Classes.fillFromList Classes.served Classes.onRun Classes.takeFrom Chunks.answer Heaps.newHeap Heaps.offer Heaps.finish Heaps.interact Heaps.classCall Heaps.step wayOf
+unfolding firstPage smallSizes smallShape shapeOf Holes.leastFit Holes.cutFrom Arenas.drawFrom Arenas.draw Arenas.grant Arenas.commitReady Arenas.commitAs Arenas.commit Pages.wordOf Pages.carveAs Pages.hasMore Pages.carvedNow Pages.pop Classes.after Classes.fillFromList Classes.served Classes.onRun Classes.takeFrom Chunks.answer Heaps.newHeap Heaps.offer Heaps.finish Heaps.interact Heaps.classCall Heaps.step wayOf
 first-behind = refl
 
 pub one-only : OneOnly

@@ -24,7 +24,7 @@ use Rattle.model.specs.Heap.{answerRun, badRun}
 use Rattle.model.specs.BestFit.{Commits, from-hole, from-frontier, unusable, ungranted, exhausted}
 use Rattle.model.proofs.BestFit.{commits}
 use Rattle.arena.specs.Load.{loadArena, loadStore}
-use Rattle.arena.specs.Fair.{holeFair, holesFair, recordFair, memoryFair, commitFair, reportFair}
+use Rattle.arena.specs.Fair.{holeFair, holesFair, recordFair, commitFair, reportFair}
 use Rattle.arena.specs.Calls.{commitCall, commitFor}
 use Rattle.take.specs.TakeAnswer.{answerOf}
 use Rattle.release.specs.Act.{answerAs}
@@ -79,14 +79,14 @@ every-at t i [] l e = absurd (omega arith)
 every-at t zero (h ∷ hs) l e = and-left (t h) _ e
 every-at t (suc i) (h ∷ hs) l e = every-at t i hs (omega arith) (and-right (t h) _ e)
 
-module _ (n : ℕ) (b : List ℕ) (m : ℕ) (fair : commitFair n b m ≡ true) where
+module _ (n : ℕ) (b : List ℕ) (fair : commitFair n b ≡ true) where
   low-frontier : get b (arena frontier) ≤ n
   unfolding commitFair recordFair
   low-frontier = leb-true (get b (arena frontier)) n (and-left _ _ (and-right (leb (get b (arena state)) 2) _ (and-left _ _ fair)))
 
   fair-holes : every (holeFair (get b (arena holePages)) (get b (arena frontier))) (loadArena b .store .holes) ≡ true
   unfolding commitFair holesFair loadArena loadStore
-  fair-holes = and-right (memoryFair b m) _ (and-right (recordFair n b) _ fair)
+  fair-holes = and-right (recordFair n b) _ fair
 
   hole-low : (i : ℕ) → i < length (loadArena b .store .holes) → holeAt i (loadArena b .store .holes) .first ≤ n
   hole-low i l =
@@ -95,7 +95,7 @@ module _ (n : ℕ) (b : List ℕ) (m : ℕ) (fair : commitFair n b m ≡ true) w
       let z : h .first + h .pages ≤ get b (arena frontier) = leb-true (h .first + h .pages) (get b (arena frontier)) (and-right (leb (h .pages) (get b (arena holePages))) _ (and-right (leb 1 (h .pages)) _ e)) in
       omega (arith, z, low-frontier)
 
-  run-low : {h : ℕ} {r : Option ℕ} {f : Bool} → Commits n h m (loadArena b) r f → (p : ℕ) → r ≡ some p → p ≤ n
+  run-low : {h m : ℕ} {r : Option ℕ} {f : Bool} → Commits n h m (loadArena b) r f → (p : ℕ) → r ≡ some p → p ≤ n
   run-low (from-hole i u g l w) p e = subst (λ (q : ℕ). q ≤ n) (some-is e) (hole-low i (l .inside))
   run-low (from-frontier u g s l) p e = let z : loadArena b .frontier ≡ p = some-is e in omega arith
   run-low (unusable u) p e = absurd (none-some e)
@@ -113,8 +113,8 @@ commit-low b h m p c e =
     by-cases (eqb (metaFault b) 0)
     (λ u. by-cases (badHost h) (λ v. absurd (none-some (rw (u, v) at e))) (λ v.
     by-cases (badRun m) (λ w. absurd (none-some (rw (u, v, w) at e))) (λ w.
-    by-cases (commitFair (get b (arena size)) b m)
-    (λ x. let z : p ≤ get b (arena size) = run-low (get b (arena size)) b m x (commits (get b (arena size)) h m (loadArena b)) p (rw (u, v, w, x) at e) in
+    by-cases (commitFair (get b (arena size)) b)
+    (λ x. let z : p ≤ get b (arena size) = run-low (get b (arena size)) b x (commits (get b (arena size)) h m (loadArena b)) p (rw (u, v, w, x) at e) in
     ne-eqb p noPage (λ y. omega (arith, y, z, sized b u)))
     (λ x. absurd (none-some (rw (u, v, w, x) at e))))))
     (λ u. absurd (none-some (rw (u, u) at e)))

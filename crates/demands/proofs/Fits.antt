@@ -27,7 +27,7 @@ use Rattle.model.specs.Release.{Site, onPage, releaseList}
 use Rattle.model.specs.Chunks.{releaseChunks, answer}
 use Rattle.model.specs.Heap.{badRun, runWith, asked, offer, finish, interact, classCall, commitCall, directCall, step}
 use Rattle.model.specs.History.{heapAfter}
-use Rattle.model.specs.BestFit.{Commits, Remembers, from-hole, from-frontier, unusable, ungranted, exhausted}
+use Rattle.model.specs.BestFit.{Commits, from-hole, from-frontier, unusable, ungranted, exhausted}
 use Rattle.model.specs.Yields.{TakeYields, refuses, yields, asks-first}
 use Rattle.model.proofs.Theorems.{best-fit, yielding, conserved}
 use Rattle.arena.specs.Load.{loadArena}
@@ -132,9 +132,6 @@ module _ (n h m : ℕ) (a : Arena) (fits : Commits n h m a (Arenas.commit n h m 
 module _ (n : ℕ) (b : List ℕ) (o : Opens n b) (xs : List Call) where
   loads : loadArena (bookAfter n b xs) ≡ heapAfter n xs .arena
   loads = run-represents n b o xs .arena .loads
-
-  pub memory-fits : Remembers (loadArena (bookAfter n b xs) .store)
-  memory-fits = rw loads (best-fit n xs .remembers)
 
   pub holes-counted : loadArena (bookAfter n b xs) .store .total ≡ total (λ x. x .pages) (loadArena (bookAfter n b xs) .store .holes)
   holes-counted = rw loads (conserved n xs .holeTotal)

@@ -15,10 +15,9 @@ use Rattle.classes.specs.declared.Shape.{Shape}
 use Rattle.classes.specs.Shape.{classCount}
 use Rattle.fields.specs.Field.{arena, class, hole, page, size, frontier, holes, holePages, held, pages, partial, empty, cold, free, carved, listed, get}
 use Rattle.fields.specs.Ranges.{maxParked}
-use Rattle.model.specs.HoleStore.{rememberedMax}
 use Rattle.model.specs.Spot.{isArena}
 use Rattle.arena.specs.Load.{loadHoles}
-use Rattle.arena.specs.Fair.{recordFair, holeFair, holesFair, memoryFair, commitFair, giveFair, countsFair, allCountsFair, reportFair}
+use Rattle.arena.specs.Fair.{recordFair, holeFair, holesFair, commitFair, giveFair, countsFair, allCountsFair, reportFair}
 use Rattle.pages.specs.Runs.{ofRun, whole}
 use Rattle.pages.specs.Stack.{tops, latest, hasMore}
 use Rattle.pages.proofs.Draws.{latest-length}
@@ -29,7 +28,7 @@ use Rattle.pages.specs.declared.Park.the-variants.{Empty, Cold}
 use Rattle.calls.specs.Take.{pageReady, sound, walk, parkFair}
 use Rattle.calls.specs.Release.{pageFair, rowFair, spotAt, spotFair, releaseFair}
 use Rattle.calls.specs.Chunks.{pagesGiven, chunksFair}
-use Rattle.demands.specs.Ranges.{Link, partialOf, emptyOf, coldOf, nextOf, prevOf, linkField, Use, stateKnown, frontierFits, holesFew, holePagesFew, heldFits, memoryFits, holeEnds, code, visited, emptyFew, emptyTaken, coldFew, coldTaken, ownerIs, firstIs, prevIs, listedFlag, listedYes, listedNo, freeFits, freeWith, carvedFits, virginFlag, inRange, fits, strays}
+use Rattle.demands.specs.Ranges.{Link, partialOf, emptyOf, coldOf, nextOf, prevOf, linkField, Use, stateKnown, frontierFits, holesFew, holePagesFew, heldFits, holeEnds, code, visited, emptyFew, emptyTaken, coldFew, coldTaken, ownerIs, firstIs, prevIs, listedFlag, listedYes, listedNo, freeFits, freeWith, carvedFits, virginFlag, inRange, fits, strays}
 use Rattle.demands.specs.Number13.{takeFair, Number13}
 use Rattle.demands.specs.Reads.{countReads, recordReads, holeReads, commitReads, giveReads, parkedReads, reportReads, runReads, entryReads, pageReads, walkReads, walkVisits, parkReads, takeReads, takeVisits, supply, yields, yieldAll, barren, backReads, rowReads, releaseReads, backsReads, chunksReads}
 use Rattle.demands.proofs.RefusalsLaws.{not-and}
@@ -68,13 +67,9 @@ module _ (b : List ℕ) where
   holes-ranges i zero = refl
   holes-ranges i (suc k) = rw (holes-ranges (suc i) k) (hole-as (leb 1 (get b (hole pages i))) (leb (get b (hole pages i)) (get b (arena holePages))) (inRange b (holeEnds i)) (fits b (holeReads (suc i) k)))
 
-  memory-ranges : (m : ℕ) → memoryFair b m ≡ fits b (cond (leb m rememberedMax) (memoryFits m ∷ []) [])
-  unfolding fits
-  memory-ranges m = by-cases (leb m rememberedMax) (λ e. rw (e, and-true (inRange b (memoryFits m)))) (λ e. rw e)
-
-  commit-ranges : (m : ℕ) → commitFair (get b (arena size)) b m ≡ fits b (commitReads b m)
+  commit-ranges : commitFair (get b (arena size)) b ≡ fits b (commitReads b)
   unfolding commitFair commitReads holesFair
-  commit-ranges m = rw (record-ranges, memory-ranges m, holes-ranges 0 (get b (arena holes)), fits-append, fits-append)
+  commit-ranges = rw (record-ranges, holes-ranges 0 (get b (arena holes)), fits-append)
 
   give-ranges : (m : ℕ) → giveFair (get b (arena size)) b m ≡ fits b (giveReads m)
   unfolding giveFair recordFair fits giveReads countReads
@@ -286,7 +281,7 @@ module _ (b : List ℕ) (c : ℕ) (sh : Shape) where
       (λ e. rw (e, use-more b c sh (code (emptyOf c)), none-fits (get b (class empty c)) f e)
       (by-cases (not (eqb (get b (class cold c)) 0))
       (λ e. rw (e, park-ranges b c sh n h Cold (coldOf c) (coldTaken c) refl refl))
-      (λ e. rw (e, use-more b c sh (code (coldOf c)), none-fits (get b (class cold c)) f e, commit-ranges b (sh .pages), and-true)))))))
+      (λ e. rw (e, use-more b c sh (code (coldOf c)), none-fits (get b (class cold c)) f e, commit-ranges b, and-true)))))))
 
   take-ranges : takeFair (get b (arena size)) b c sh ≡ (fits b (takeReads b c sh) && yieldAll b c sh)
   unfolding takeFair takeReads
@@ -310,9 +305,9 @@ module _ (b : List ℕ) where
   unfolding strays
   record-strays = ap not (record-ranges b)
 
-  pub commit-strays : (m : ℕ) → not (commitFair (get b (arena size)) b m) ≡ strays b (commitReads b m)
+  pub commit-strays : not (commitFair (get b (arena size)) b) ≡ strays b (commitReads b)
   unfolding strays
-  commit-strays m = ap not (commit-ranges b m)
+  commit-strays = ap not (commit-ranges b)
 
   pub give-strays : (m : ℕ) → not (giveFair (get b (arena size)) b m) ≡ strays b (giveReads m)
   unfolding strays

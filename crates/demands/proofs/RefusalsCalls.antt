@@ -54,11 +54,11 @@ open-table b n = book-turn _ _ _ (λ k. Fields.ends k b) _ (λ k. refl) (λ k. r
 pub commit-table : (b : List ℕ) (h m : ℕ) → Ends {R = Committed} (λ o. o .code) (λ o. o .book ≡ b) (commitTable b h m) (commitOn b h m)
 unfolding commitOn callFault metaFault commitCall commitFor
 commit-table b h m =
-    rw (← (commit-strays b m), chain (metaFault b) 3 (badHost h) (commitRefused b) _ refl)
+    rw (← (commit-strays b), chain (metaFault b) 3 (badHost h) (commitRefused b) _ refl)
     (book-turn _ _ _ (commitRefused b) _ (λ k. refl) (λ k. refl)
     (turn _ _ (badHost h) 3 _ _ _ refl refl λ e.
     turn _ _ (badRun m) 6 _ _ _ refl refl λ e.
-    unless _ _ (commitFair (get b (arena size)) b m) 13 _ _ _ refl refl λ e.
+    unless _ _ (commitFair (get b (arena size)) b) 13 _ _ _ refl refl λ e.
     ends _ _ _ refl)
     (get b (arena size))
     b)
@@ -117,10 +117,10 @@ module _ (n : ℕ) (b : List ℕ) (c : ℕ) (sh : Shape) (h : ℕ) (l : List ℕ
   run-code b′ none = refl
   run-code b′ (some q) = refl
 
-  new-row : takeRow (commitFair n b (sh .pages)) (takeNew n b c sh h l)
+  new-row : takeRow (commitFair n b) (takeNew n b c sh h l)
   unfolding takeNew commitFor
   new-row =
-      by-cases (commitFair n b (sh .pages))
+      by-cases (commitFair n b)
       (λ e. rw e (record { number = run-code _ _; kept = λ d. absurd (d (run-code _ _)) }))
       (λ e. rw e (record { number = refl; kept = λ d. (refl, refl) }))
 

@@ -4,7 +4,7 @@ use Prim.Native.Nat.{ℕ, zero, suc, _+_, _-_}
 use mathlib.Core.Bool.{Bool, true, false, cond, not, _&&_, _||_}
 use mathlib.Core.List.{List, [], _∷_, _++_}
 use mathlib.Core.Path.{_≡_, refl}
-use lib.Dec.{eqb, leb}
+use lib.Dec.{eqb}
 use Rattle.facts.specs.Lists.{every, All, below}
 use Rattle.facts.proofs.Bools.{by-cases}
 use Rattle.words.specs.Host.{digit}
@@ -12,10 +12,9 @@ use Rattle.words.specs.Word.{countOf, pageOf}
 use Rattle.classes.specs.declared.Shape.{Shape}
 use Rattle.classes.specs.Shape.{classCount}
 use Rattle.fields.specs.Field.{arena, class, page, size, frontier, holes, holePages, pages, partial, empty, emptyCount, cold, coldCount, free, carved, listed, get}
-use Rattle.model.specs.HoleStore.{rememberedMax}
 use Rattle.model.specs.Spot.{spotOf, isEmpty, isCold, isArena}
 use Rattle.arena.specs.Load.{loadHoles}
-use Rattle.arena.specs.Fair.{recordFair, holeFair, holesFair, memoryFair, commitFair, giveFair, countsFair, allCountsFair, reportFair}
+use Rattle.arena.specs.Fair.{recordFair, holeFair, holesFair, commitFair, giveFair, countsFair, allCountsFair, reportFair}
 use Rattle.pages.specs.Runs.{ofRun, whole}
 use Rattle.pages.specs.Stack.{tops, hasMore}
 use Rattle.pages.specs.Links.{top, stored}
@@ -25,7 +24,7 @@ use Rattle.pages.specs.declared.Park.the-variants.{Empty, Cold}
 use Rattle.calls.specs.Take.{pageReady, sound, walk, parkFair}
 use Rattle.calls.specs.Release.{pageFair, rowFair, spotAt, spotFair, releaseFair}
 use Rattle.calls.specs.Chunks.{runsGiven, pagesGiven, chunksFair}
-use Rattle.demands.specs.Ranges.{Link, partialOf, emptyOf, coldOf, nextOf, linkField, Use, memoryFits, emptyTaken, coldTaken, listedYes, listedNo, field}
+use Rattle.demands.specs.Ranges.{Link, partialOf, emptyOf, coldOf, nextOf, linkField, Use, emptyTaken, coldTaken, listedYes, listedNo, field}
 use Rattle.demands.specs.Reads.{countReads, recordReads, holeReads, commitReads, giveReads, parkedReads, reportReads, runReads, entryReads, pageReads, supply, walkReads, parkReads, takeReads, backReads, rowReads, releaseReads, backsReads, chunksReads}
 use Rattle.demands.specs.Number13.{takeFair, RowsDecide}
 use Rattle.demands.proofs.Ranges.{wanted}
@@ -70,9 +69,6 @@ module _ (b b′ : List ℕ) where
         let cs = parkedReads (below classCount) in
         rw (record-same (left recordReads cs h), parked-same (below classCount) (right recordReads cs h))
 
-    memory-same : (m : ℕ) → Same (cond (leb m rememberedMax) (memoryFits m ∷ []) []) → memoryFair b m ≡ memoryFair b′ m
-    memory-same m h = by-cases (leb m rememberedMax) (λ e. rw (e, (rw e at h) .0)) (λ e. rw e)
-
     holes-same : (total f i k : ℕ) → Same (holeReads i k) → every (holeFair total f) (loadHoles b i k) ≡ every (holeFair total f) (loadHoles b′ i k)
     unfolding loadHoles holeReads
     holes-same total f i zero h = refl
@@ -82,15 +78,13 @@ module _ (b b′ : List ℕ) where
     unfolding recordReads
     holes-words h = (h .1 .1 .0, h .1 .1 .1 .0, h .1 .0)
 
-    commit-same : (m : ℕ) → Same (commitReads b m) → commitFair n b m ≡ commitFair n b′ m
+    commit-same : Same (commitReads b) → commitFair n b ≡ commitFair n b′
     unfolding commitFair commitReads holesFair
-    commit-same m h =
-        let ms = cond (leb m rememberedMax) (memoryFits m ∷ []) [] in
+    commit-same h =
         let hs = holeReads 0 (get b (arena holes)) in
-        let r = left recordReads (ms ++ hs) h in
-        let t = right recordReads (ms ++ hs) h in
+        let r = left recordReads hs h in
         let w = holes-words r in
-        rw (record-same r, memory-same m (left ms hs t), holes-same (get b (arena holePages)) (get b (arena frontier)) 0 (get b (arena holes)) (right ms hs t), w .0, w .1, w .2)
+        rw (record-same r, holes-same (get b (arena holePages)) (get b (arena frontier)) 0 (get b (arena holes)) (right recordReads hs h), w .0, w .1, w .2)
 
     -- ---- a page that a take comes to
     run-same : (c q : ℕ) (ks : List ℕ) → Same (runReads c q ks) → every (ofRun b c q) ks ≡ every (ofRun b′ c q) ks
@@ -189,7 +183,7 @@ module _ (b b′ : List ℕ) where
           (λ e.
           let h = (rw e at h) .1 in
           let e′ : not (eqb (get b′ (class cold c)) 0) ≡ false = rw (h .0) at e in
-          rw (e, e′, commit-same (sh .pages) (h .1), low))))))
+          rw (e, e′, commit-same (h .1), low))))))
 
       -- ---- releases
       back-same : (m q : ℕ) → Same (backReads b sh m q) → pageFair b sh m q ≡ pageFair b′ sh m q
@@ -294,7 +288,7 @@ module _ (b b′ : List ℕ) where
       let n = get b′ (arena size) in
       record {
         known = λ h. rw (h .0) (record-same b b′ n (h .1));
-        commit = λ m h. rw (h .0) (commit-same b b′ n m (h .1));
+        commit = λ h. rw (h .0) (commit-same b b′ n (h .1));
         give = λ m h. rw (h .0) (give-same b b′ n m (h .1));
         report = λ h. rw (h .0) (report-same b b′ n (h .1));
         take = λ c sh h. rw (h .0) (take-same b b′ n (take-low c sh (h .1)) c sh (h .1));

@@ -28,7 +28,7 @@ use Rattle.demands.proofs.Contracts as Contracts
 use Rattle.demands.proofs.Histories as Histories
 use Rattle.demands.proofs.Told.{told-answers, told-disjoint, told-iso}
 use Rattle.demands.proofs.Sizes as Sizes
-use Rattle.demands.proofs.Fits.{commit-fits, run-fits, memory-fits, holes-counted, take-yields}
+use Rattle.demands.proofs.Fits.{commit-fits, run-fits, holes-counted, take-yields}
 use Rattle.demands.proofs.Returns.{word-returns, list-returns, not-out, not-together}
 use Rattle.demands.proofs.ChunkReturns.{chunks-return}
 use Rattle.demands.proofs.Held.{held-releases, unheld-refused, run-given, run-abandoned, held-grows, unheld-stays, growth-fits}
@@ -80,7 +80,6 @@ demand-2 n b o xs = record {
   arena = run-represents n b o xs .arena .loads;
   commits = commit-fits n b o xs;
   runs = run-fits n b o xs;
-  remembers = memory-fits n b o xs;
   takes = take-yields n b o xs;
   returns = word-returns n b o xs;
   returnsList = list-returns n b o xs;

@@ -21,7 +21,7 @@ use Rattle.model.specs.Release.{ofKind}
 use Rattle.model.specs.Heap.{badRun, answerRun, step}
 use Rattle.model.specs.History.{Event, answers, events, heapAfter, callsOf, answersOf, runsOf}
 use Rattle.model.specs.Entries.{Entry, Live, HasByte, blockBytes, OutIn, AllOut, directAfter}
-use Rattle.model.specs.BestFit.{Commits, Remembers}
+use Rattle.model.specs.BestFit.{Commits}
 use Rattle.model.specs.Demands.{Disjoint, IsoDisjoint}
 use Rattle.arena.specs.Load.{loadArena}
 use Rattle.refinement.specs.Run.{answersIn}
@@ -104,7 +104,6 @@ pub record Demand2 (n : ℕ) (b : List ℕ) (xs : List Call) : Type 0 where
   pub runs : (x : Call) (d : Named) → names x ≡ some d
       → RunFits n (hostOf (d .request)) (shapeOf (d .class) .pages) (loadArena (bookAfter n b xs)) (Asks (heapAfter n xs .classes (d .class)) (d .request) (next n b xs x .code))
       (step n (heapAfter n xs) x .run)
-  pub remembers : Remembers (loadArena (bookAfter n b xs) .store)
   -- a take that is not refused answers a block, or its class has no page at hand and the arena no run for it
   pub takes : (x : Call) (c h : ℕ) (l : List ℕ) → names x ≡ some (record { class = c; request = Calls.take h l }) → next n b xs x .code ≡ 0
       → (isNil (blocksOf (next n b xs x .answer)) ≡ false) ⊎ (Spent (heapAfter n xs .classes c) × Commits n h (shapeOf c .pages) (loadArena (bookAfter n b xs)) none false)

@@ -3,6 +3,7 @@ pub mod Run
 pub mod Contracts
 pub mod Returns
 pub mod Demands
+pub mod Order
 pub mod Ranges
 pub mod Reads
 pub mod Number13

@@ -26,12 +26,12 @@ takeFair n b c sh =
     && cond (not (eqb (get b (class partial c)) 0)) (walk n b c sh (sh .batch) (sh .batch) (get b (class partial c)) 0)
     (cond (not (eqb (get b (class empty c)) 0)) (parkFair n b c sh Empty)
     (cond (not (eqb (get b (class cold c)) 0)) (parkFair n b c sh Cold)
-    (commitFair n b (sh .pages))))
+    (commitFair n b)))
 
 pub record Number13 (b : List ℕ) : Type 0 where
   -- growth
   pub known : recordFair (get b (arena size)) b ≡ fits b recordReads
-  pub commit : (m : ℕ) → commitFair (get b (arena size)) b m ≡ fits b (commitReads b m)
+  pub commit : commitFair (get b (arena size)) b ≡ fits b (commitReads b)
   pub give : (m : ℕ) → giveFair (get b (arena size)) b m ≡ fits b (giveReads m)
   pub report : reportFair (get b (arena size)) b ≡ fits b reportReads
   pub take : (c : ℕ) (sh : Shape) → takeFair (get b (arena size)) b c sh ≡ (fits b (takeReads b c sh) && yieldAll b c sh)
@@ -46,7 +46,7 @@ Alike b b′ us = (get b (arena size) ≡ get b′ (arena size)) × All (λ u. g
 -- such books pass or fail a call's test alike, whatever their other words are
 pub record RowsDecide (b b′ : List ℕ) : Type 0 where
   pub known : Alike b b′ recordReads → recordFair (get b (arena size)) b ≡ recordFair (get b′ (arena size)) b′
-  pub commit : (m : ℕ) → Alike b b′ (commitReads b m) → commitFair (get b (arena size)) b m ≡ commitFair (get b′ (arena size)) b′ m
+  pub commit : Alike b b′ (commitReads b) → commitFair (get b (arena size)) b ≡ commitFair (get b′ (arena size)) b′
   pub give : (m : ℕ) → Alike b b′ (giveReads m) → giveFair (get b (arena size)) b m ≡ giveFair (get b′ (arena size)) b′ m
   pub report : Alike b b′ reportReads → reportFair (get b (arena size)) b ≡ reportFair (get b′ (arena size)) b′
   pub take : (c : ℕ) (sh : Shape) → Alike b b′ (takeReads b c sh) → takeFair (get b (arena size)) b c sh ≡ takeFair (get b′ (arena size)) b′ c sh

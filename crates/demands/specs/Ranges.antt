@@ -10,7 +10,7 @@ use Prim.Native.Nat.{ℕ, suc}
 use mathlib.Core.Bool.{Bool, not}
 use mathlib.Core.List.{List}
 use Rattle.facts.specs.Lists.{every}
-use Rattle.fields.specs.Field.{ArenaField, Field, arena, memory, class, hole, page, slot, size, state, frontier, holes, holePages, held, start, pages, partial, empty, emptyCount, cold, coldCount, owner, first, next, prev, free, carved, listed, virgin, get}
+use Rattle.fields.specs.Field.{ArenaField, Field, arena, class, hole, page, slot, size, state, frontier, holes, holePages, held, start, pages, partial, empty, emptyCount, cold, coldCount, owner, first, next, prev, free, carved, listed, virgin, get}
 use Rattle.fields.specs.Ranges.{maxParked, Range, anyValue, upTo, between, exactly, below, endsBy, runsTo, within}
 use Rattle.model.specs.HoleStore.{holeSlots, holePagesMax}
 
@@ -40,8 +40,7 @@ pub data Use : Type 0 where
   heldGives : ℕ → Use
   -- a half of one of its counts
   counted : ArenaField → Use
-  -- a commit of n pages: the memory of its length, and each hole i
-  memoryFits : ℕ → Use
+  -- a commit: each hole i
   holeSome : ℕ → Use
   holeEnds : ℕ → Use
   -- a code; and where a take comes to its page, which is the first of m
@@ -76,7 +75,6 @@ field holePagesFew = arena holePages
 field heldFits = arena held
 field (heldGives k) = arena held
 field (counted k) = arena k
-field (memoryFits n) = memory n
 field (holeSome i) = hole pages i
 field (holeEnds i) = hole start i
 field (code f) = linkField f
@@ -105,7 +103,6 @@ range b holePagesFew = upTo holePagesMax
 range b heldFits = upTo (get b (arena size))
 range b (heldGives k) = between k (get b (arena size))
 range b (counted k) = anyValue
-range b (memoryFits n) = upTo holeSlots
 range b (holeSome i) = between 1 (get b (arena holePages))
 range b (holeEnds i) = endsBy (get b (hole pages i)) (get b (arena frontier))
 range b (code f) = upTo (get b (arena frontier))

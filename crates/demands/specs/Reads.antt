@@ -2,7 +2,7 @@
 -- book. "Another book word that the call reads": those that numbers 1 and 10 to 12 judge stand there.
 --     recordReads    growth, and within the next three
 --     reportReads    a report
---     commitReads    a commit of m pages, a take's too
+--     commitReads    a commit, a take's too
 --     giveReads      a give of m pages, a release's too
 --     takeReads      a take, from its first source that has a page
 --     takeVisits     the listed pages that it comes to; yieldAll, barren: each of them yields a block, one does not
@@ -11,17 +11,16 @@
 use Prim.Native.Nat.{ℕ, zero, suc, _+_, _-_}
 use mathlib.Core.Bool.{Bool, cond, not, _&&_, _||_}
 use mathlib.Core.List.{List, [], _∷_, _++_}
-use lib.Dec.{eqb, leb}
+use lib.Dec.{eqb}
 use Rattle.facts.specs.Lists.{every, below}
 use Rattle.words.specs.Word.{countOf, pageOf}
 use Rattle.classes.specs.declared.Shape.{Shape}
 use Rattle.classes.specs.Shape.{classCount}
 use Rattle.fields.specs.Field.{arena, class, page, commits, commitsHigh, reuses, reusesHigh, abandoned, abandonedHigh, holes, partial, empty, cold, free, carved, listed, get}
-use Rattle.model.specs.HoleStore.{rememberedMax}
 use Rattle.model.specs.Spot.{isArena}
 use Rattle.calls.specs.Release.{spotAt}
 use Rattle.calls.specs.Chunks.{pagesGiven}
-use Rattle.demands.specs.Ranges.{Link, partialOf, emptyOf, coldOf, nextOf, prevOf, linkField, Use, stateKnown, frontierFits, holesFew, holePagesFew, heldFits, heldGives, counted, memoryFits, holeSome, holeEnds, code, visited, emptyFew, emptyTaken, coldFew, coldTaken, ownerIs, firstIs, prevIs, listedYes, listedNo, freeFits, entryCarved, freeWith, listedFlag, carvedFits, virginFlag}
+use Rattle.demands.specs.Ranges.{Link, partialOf, emptyOf, coldOf, nextOf, prevOf, linkField, Use, stateKnown, frontierFits, holesFew, holePagesFew, heldFits, heldGives, counted, holeSome, holeEnds, code, visited, emptyFew, emptyTaken, coldFew, coldTaken, ownerIs, firstIs, prevIs, listedYes, listedNo, freeFits, entryCarved, freeWith, listedFlag, carvedFits, virginFlag}
 
 -- ---- the arena
 unfoldable pub countReads : List Use
@@ -35,8 +34,8 @@ unfoldable pub holeReads : ℕ → ℕ → List Use
 holeReads i zero = []
 holeReads i (suc k) = holeSome i ∷ holeEnds i ∷ holeReads (suc i) k
 
-unfoldable pub commitReads : List ℕ → ℕ → List Use
-commitReads b m = recordReads ++ (cond (leb m rememberedMax) (memoryFits m ∷ []) [] ++ holeReads 0 (get b (arena holes)))
+unfoldable pub commitReads : List ℕ → List Use
+commitReads b = recordReads ++ holeReads 0 (get b (arena holes))
 
 unfoldable pub giveReads : ℕ → List Use
 giveReads m = stateKnown ∷ frontierFits ∷ holesFew ∷ holePagesFew ∷ heldGives m ∷ countReads
@@ -107,7 +106,7 @@ takeReads b c sh =
     (code (emptyOf c)
     ∷ cond (not (eqb (get b (class cold c)) 0)) (parkReads b c sh (coldOf c) (coldTaken c))
     (code (coldOf c)
-    ∷ commitReads b (sh .pages))))
+    ∷ commitReads b)))
 
 unfoldable pub takeVisits : List ℕ → ℕ → Shape → List ℕ
 takeVisits b c sh =

@@ -126,7 +126,7 @@ openTable b n = (1, badLength n) ∷ (2, tooShort n b) ∷ []
 abbrev pub commitTable : List ℕ → ℕ → ℕ → List Row
 commitTable b h m =
     let n = get b (arena size) in
-    (1, badLength n) ∷ (2, tooShort n b) ∷ (3, badHost h) ∷ (6, badRun m) ∷ (13, strays b (commitReads b m)) ∷ []
+    (1, badLength n) ∷ (2, tooShort n b) ∷ (3, badHost h) ∷ (6, badRun m) ∷ (13, strays b (commitReads b)) ∷ []
 
 -- vigbuso_grow_frontier
 abbrev pub growTable : List ℕ → ℕ → ℕ → ℕ → ℕ → List Row

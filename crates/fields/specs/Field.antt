@@ -1,12 +1,12 @@
 -- The book's fields by name, where each lies, and how one is read and written. The book is `meta`, or b: a list of words.
---     Field         a field: of the arena, the memory of a hole's length, of a class, of a hole, of a page, an entry of a page's stack, an out bit
+--     Field         a field: of the arena, of a class, of a hole, of a page, an entry of a page's stack, an out bit
 --     word, part    its word, and which bits of the word
 --     get, put      the field's value in a book, and the book with another value there
 --     same          whether two fields are one: it computes at constructors, so that fields of different names differ by `refl`
---     ok            a length, class, hole and block are within their rows; valid n: and the page is below n
+--     ok            a class, hole and block are within their rows; valid n: and the page is below n
 --     room          the value is one that the field can hold
 --     words         the words of a book
--- A page's words 144 to 271 are kept for marks, and have no field yet.
+-- A page's words 144 to 271 are kept for marks, and have no field yet. Words 12 to 159 have none.
 use Prim.Native.Nat.{ℕ, _+_, _-_, _*_, _/_, _%_, _^_, _<_}
 use mathlib.Core.Bool.{Bool, true, _&&_}
 use mathlib.Core.List.{List}
@@ -29,7 +29,6 @@ pub data PageField : Type 0 where
 
 pub data Field : Type 0 where
   arena : ArenaField → Field
-  memory : ℕ → Field
   class : ClassField → ℕ → Field
   hole : HoleField → ℕ → Field
   page : PageField → ℕ → Field
@@ -75,7 +74,6 @@ pageOff tally = 8
 
 abbrev pub word : Field → ℕ
 word (arena k) = arenaOff k
-word (memory n) = 16 + n
 word (class k c) = 160 + 8 * c + classOff k
 word (hole k i) = 1024 + 2 * i + holeOff k
 word (page k p) = 40000 + 4112 * p + pageOff k
@@ -89,7 +87,6 @@ pub data Part : Type 0 where
 
 abbrev pub part : Field → Part
 part (arena k) = whole
-part (memory n) = whole
 part (class k c) = whole
 part (hole k i) = whole
 part (page k p) = whole
@@ -117,10 +114,9 @@ unfoldable pub put : List ℕ → Field → ℕ → List ℕ
 put b f v = set b (word f) (place (part f) (getD b (word f) 0) v)
 
 -- ---- which field
--- a number for each constructor; the name's offset; the block; the page, or what else counts the rows
+-- a number for each constructor (1 is free); the name's offset; the block; the page, or what else counts the rows
 abbrev pub region : Field → ℕ
 region (arena k) = 0
-region (memory n) = 1
 region (class k c) = 2
 region (hole k i) = 3
 region (page k p) = 4
@@ -129,7 +125,6 @@ region (slot p i) = 6
 
 abbrev pub off : Field → ℕ
 off (arena k) = arenaOff k
-off (memory n) = 0
 off (class k c) = classOff k
 off (hole k i) = holeOff k
 off (page k p) = pageOff k
@@ -138,7 +133,6 @@ off (slot p i) = 0
 
 abbrev pub block : Field → ℕ
 block (arena k) = 0
-block (memory n) = 0
 block (class k c) = 0
 block (hole k i) = 0
 block (page k p) = 0
@@ -147,7 +141,6 @@ block (slot p i) = i
 
 abbrev pub row : Field → ℕ
 row (arena k) = 0
-row (memory n) = n
 row (class k c) = c
 row (hole k i) = i
 row (page k p) = p
@@ -160,7 +153,6 @@ same f g = eqb (region f) (region g) && (eqb (off f) (off g) && (eqb (block f) (
 -- ---- which fields there are, and what they hold
 abbrev pub ok : Field → Bool
 ok (arena k) = true
-ok (memory n) = ltb n 129
 ok (class k c) = ltb c 76
 ok (hole k i) = ltb i holeSlots
 ok (page k p) = true
@@ -169,7 +161,6 @@ ok (slot p i) = ltb i 4096
 
 abbrev pub valid : ℕ → Field → Bool
 valid n (arena k) = true
-valid n (memory m) = ltb m 129
 valid n (class k c) = ltb c 76
 valid n (hole k i) = ltb i holeSlots
 valid n (page k p) = ltb p n
@@ -178,7 +169,6 @@ valid n (slot p i) = ltb i 4096 && ltb p n
 
 abbrev pub room : Field → ℕ → Bool
 room (arena k) v = true
-room (memory n) v = true
 room (class k c) v = true
 room (hole k i) v = true
 room (page k p) v = true

@@ -1,7 +1,7 @@
-// The stored holes, and the memory of a hole for each length up to 128.
+// The stored holes.
 ghost use mathlib.Core.Path.{_≡_};
 ghost use Prim.Native.Nat.{_+_, _*_, _<_};
-ghost use Rattle.fields.specs.Field.{hole, memory, start, pages, Has, get, put};
+ghost use Rattle.fields.specs.Field.{hole, start, pages, Has, get, put};
 
 // Word k of hole i.
 fn hole_word(i: u32, k: usize) -> usize
@@ -37,19 +37,4 @@ pub fn set_pages(meta: &mut [u32], i: u32, v: u32)
     ensures { λ _. ⌜ now (meta .exit) ≡ put (now (meta .entry)) (hole pages i) v ⌝ }
 {
     meta[hole_word(i, 1)] = v;
-}
-
-// The memory of holes of n pages: an index and one, or 0.
-pub fn memory(meta: &[u32], n: u32) -> u32
-    requires { ⌜ Has (now meta) (memory n) ⌝ }
-    ensures { λ r. ⌜ r ≡ get (now (meta .entry)) (memory n) ⌝ }
-{
-    meta[16 + n as usize]
-}
-
-pub fn set_memory(meta: &mut [u32], n: u32, v: u32)
-    requires { ⌜ Has (now meta) (memory n) ⌝ }
-    ensures { λ _. ⌜ now (meta .exit) ≡ put (now (meta .entry)) (memory n) v ⌝ }
-{
-    meta[16 + n as usize] = v;
 }

@@ -1,11 +1,13 @@
--- Holes loaded one at a time, the first of them first: what a turn of `load_holes` uses.
---     load-step    the first i are loaded, so with hole i stored the first i + 1 are
---     fair-step    they are in their range so far, and so with hole i
---     rest-step    those from i on are as they were, so those from i + 1 on are, whatever is stored at i
+-- Holes loaded one at a time, the first of them first, and part by part, the last part first.
+--     load-step       i are loaded, so with the next one stored i + 1 are
+--     fair-step       they are in their range so far, and so with the next one
+--     rest-step       those from i on are as they were, so those from i + 1 on are, whatever is stored at i
+--     part-fair, part-best    with a part before the others: whether all are in their range, and the best of all
 use mathlib.Core.Path.{_≡_, refl, sym, ap, _∙_}
-use Prim.Native.Nat.{ℕ, zero, suc, _+_, _<_}
+use Prim.Native.Nat.{ℕ, zero, suc, _+_, _-_, _<_, _≤_}
 use native.Mathlib.Omega.{arith}
 use native.Mathlib.Numerals.{add-one}
+use native.Mathlib.Nat.{add-zero}
 use mathlib.Core.Bool.{Bool, true, false, _&&_, and-assoc}
 use mathlib.Core.List.{List, [], _∷_, _++_}
 use lib.ListN.{length, set, take, drop}
@@ -13,35 +15,68 @@ use lib.Seq.{take-suc-set, drop-set-lt, drop-drop}
 use Rattle.facts.specs.Lists.{every}
 use Rattle.model.specs.declared.Hole.{Hole}
 use Rattle.arena.specs.Load.{loadHole, loadHoles}
+use Rattle.holes.specs.declared.holes.Best.{Best}
+use Rattle.holes.specs.Scan.{bestOf}
 
 loads-last : (b : List ℕ) (i k : ℕ) → loadHoles b i k ++ (loadHole b (i + k) ∷ []) ≡ loadHoles b i (suc k)
 unfolding loadHoles
-loads-last b i zero =
-    let e : i + 0 ≡ i = omega arith in
-    ap (λ (j : ℕ). loadHole b j ∷ []) e
+loads-last b i zero = rw add-zero
 loads-last b i (suc k) =
     let e : i + suc k ≡ suc i + k = omega arith in
-    ap (λ (j : ℕ). loadHole b i ∷ (loadHoles b (suc i) k ++ (loadHole b j ∷ []))) e ∙ ap (λ (t : List Hole). loadHole b i ∷ t) (loads-last b (suc i) k)
+    rw e (ap (λ (t : List Hole). loadHole b i ∷ t) (loads-last b (suc i) k))
 
-loads-next : (b : List ℕ) (i : ℕ) → loadHoles b 0 i ++ (loadHole b i ∷ []) ≡ loadHoles b 0 (i + 1)
-loads-next b i =
-    let e : 0 + i ≡ i = omega arith in
-    ap (λ (j : ℕ). loadHoles b 0 i ++ (loadHole b j ∷ [])) (sym e) ∙ loads-last b 0 i ∙ ap (loadHoles b 0) (sym (add-one i))
+pub load-step : (b : List ℕ) (hs : List Hole) (from i : ℕ) → i < length hs → take i hs ≡ loadHoles b from i → take (i + 1) (set hs i (loadHole b (from + i))) ≡ loadHoles b from (i + 1)
+load-step b hs from i l e =
+    rw add-one (take-suc-set hs i (loadHole b (from + i)) l ∙ ap (λ (t : List Hole). t ++ (loadHole b (from + i) ∷ [])) e ∙ loads-last b from i)
 
-pub load-step : (b : List ℕ) (hs : List Hole) (i : ℕ) → i < length hs → take i hs ≡ loadHoles b 0 i → take (i + 1) (set hs i (loadHole b i)) ≡ loadHoles b 0 (i + 1)
-load-step b hs i l e =
-    ap (λ (n : ℕ). take n (set hs i (loadHole b i))) (add-one i) ∙ take-suc-set hs i (loadHole b i) l ∙ ap (λ (t : List Hole). t ++ (loadHole b i ∷ [])) e ∙ loads-next b i
+pub rest-step : (ys hs : List Hole) (i : ℕ) (h : Hole) → drop i hs ≡ drop i ys → drop (i + 1) (set hs i h) ≡ drop (i + 1) ys
+rest-step ys hs i h e = drop-set-lt (i + 1) hs i h (omega arith) ∙ sym (drop-drop 1 i hs) ∙ ap (drop 1) e ∙ drop-drop 1 i ys
 
+-- ---- in their range
 and-true : (t : Bool) → (t && true) ≡ t
 and-true true = refl
 and-true false = refl
 
-every-last : (p : Hole → Bool) (hs : List Hole) (h : Hole) → every p (hs ++ (h ∷ [])) ≡ (every p hs && p h)
-every-last p [] h = and-true (p h)
-every-last p (g ∷ hs) h = ap (λ (t : Bool). p g && t) (every-last p hs h) ∙ sym (and-assoc (p g) (every p hs) (p h))
+pub and-comm : (s t : Bool) → (s && t) ≡ (t && s)
+and-comm true t = sym (and-true t)
+and-comm false true = refl
+and-comm false false = refl
 
-pub fair-step : (p : Hole → Bool) (b : List ℕ) (i : ℕ) → (every p (loadHoles b 0 i) && p (loadHole b i)) ≡ every p (loadHoles b 0 (i + 1))
-fair-step p b i = sym (every-last p (loadHoles b 0 i) (loadHole b i)) ∙ ap (every p) (loads-next b i)
+module _ (p : Hole → Bool) (b : List ℕ) where
+  fair-part : (i m k : ℕ) → every p (loadHoles b i (m + k)) ≡ (every p (loadHoles b i m) && every p (loadHoles b (i + m) k))
+  unfolding loadHoles
+  fair-part i zero k = let e : 0 + k ≡ k = omega arith in rw (add-zero, e)
+  fair-part i (suc m) k =
+      let d : suc m + k ≡ suc (m + k) = omega arith in
+      let e : i + suc m ≡ suc i + m = omega arith in
+      rw (d, e, fair-part (suc i) m k) (sym (and-assoc (p (loadHole b i)) _ _))
 
-pub rest-step : (ys hs : List Hole) (i : ℕ) (h : Hole) → drop i hs ≡ drop i ys → drop (i + 1) (set hs i h) ≡ drop (i + 1) ys
-rest-step ys hs i h e = drop-set-lt (i + 1) hs i h (omega arith) ∙ sym (drop-drop 1 i hs) ∙ ap (drop 1) e ∙ drop-drop 1 i ys
+  one : (i : ℕ) → every p (loadHoles b i 1) ≡ p (loadHole b i)
+  unfolding loadHoles
+  one i = and-true (p (loadHole b i))
+
+  pub fair-step : (others : Bool) (from i : ℕ) → ((others && every p (loadHoles b from i)) && p (loadHole b (from + i))) ≡ (others && every p (loadHoles b from (i + 1)))
+  fair-step others from i = rw (fair-part from i 1, one (from + i)) (and-assoc others _ _)
+
+-- ---- the best
+best-part : (need : ℕ) (b : List ℕ) (i m k : ℕ) (x : Best) → bestOf need i (loadHoles b i (m + k)) x ≡ bestOf need i (loadHoles b i m) (bestOf need (i + m) (loadHoles b (i + m) k) x)
+unfolding loadHoles bestOf
+best-part need b i zero k x = let e : 0 + k ≡ k = omega arith in rw (add-zero, e)
+best-part need b i (suc m) k x =
+    let d : suc m + k ≡ suc (m + k) = omega arith in
+    let e : i + suc m ≡ suc i + m = omega arith in
+    rw (d, e, best-part need b (suc i) m k x)
+
+-- ---- the holes at `from` and on, before those at `left` and on
+module _ (b : List ℕ) (from left count : ℕ) (l : from ≤ left) (k : left ≤ count) where
+  pub part-fair : (p : Hole → Bool) → (every p (loadHoles b left (count - left)) && every p (loadHoles b from (left - from))) ≡ every p (loadHoles b from (count - from))
+  part-fair p =
+      let e : count - from ≡ (left - from) + (count - left) = omega arith in
+      let d : from + (left - from) ≡ left = omega arith in
+      rw (e, fair-part p b from (left - from) (count - left), d) (and-comm (every p (loadHoles b left (count - left))) _)
+
+  pub part-best : (need : ℕ) (x : Best) → bestOf need from (loadHoles b from (left - from)) (bestOf need left (loadHoles b left (count - left)) x) ≡ bestOf need from (loadHoles b from (count - from)) x
+  part-best need x =
+      let e : count - from ≡ (left - from) + (count - left) = omega arith in
+      let d : from + (left - from) ≡ left = omega arith in
+      rw (e, best-part need b from (left - from) (count - left) x, d)

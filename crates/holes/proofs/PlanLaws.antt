@@ -1,132 +1,109 @@
 -- What a plan on words in their ranges says.
 --     plan-fits      a chosen hole is stored, long enough, and within the hole pages and the frontier
 --     clamp-commit, clamp-grow    a run of more pages than any arena has may be counted as one page more than that
---     commit-long    a commit of more pages than any arena has goes like every other one: no hole, no memory, no room
-use Prim.Native.Nat.{ℕ, zero, suc, _+_, _≤_, _<_}
+--     commit-long    a commit of more pages than any arena has goes like every other one: no hole, no room
+use Prim.Native.Nat.{ℕ, zero, suc, _+_, _-_, _≤_, _<_}
 use native.Mathlib.Omega.{arith}
-use mathlib.Core.Bool.{Bool, true, false, cond, false≢true}
+use mathlib.Core.Bool.{Bool, true, cond}
 use mathlib.Core.List.{List, [], _∷_}
-use mathlib.Core.Option.{some}
-use mathlib.Core.Path.{_≡_, refl, sym, ap, _∙_, subst}
+use mathlib.Core.Option.{Option}
+use mathlib.Core.Path.{_≡_, refl, sym, ap, _∙_}
 use lib.Dec.{eqb, leb}
 use lib.ListN.{length}
 use borrow.Author.Tests.{leb-true, leb-false, lt-leb}
 use Rattle.facts.specs.Lists.{every}
 use Rattle.facts.proofs.Bools.{by-cases, and-left, and-right}
-use Rattle.words.specs.Limits.{rememberedMax}
 use Rattle.words.specs.Limits.{maxPages}
 use Rattle.fields.specs.Field.{arena, frontier, holes, holePages, held, get, words}
 use Rattle.model.specs.declared.Hole.{Hole}
-use Rattle.model.specs.HoleStore.{Memory, holeAt, Choice, chooseIn}
+use Rattle.model.specs.HoleStore.{holeAt, choose}
+use Rattle.model.specs.BestFit.{LeastAt}
+use Rattle.model.proofs.StoreLaws.{Chosen, at-hole, no-hole, chosen}
 use Rattle.holes.specs.declared.Arena.{Arena}
 use Rattle.holes.specs.declared.Plan.{Plan}
-use Rattle.arena.specs.Load.{loadHoles, recall}
+use Rattle.arena.specs.Load.{loadHole, loadHoles}
 use Rattle.holes.specs.Record.{recordOf}
-use Rattle.arena.specs.Fair.{recordFair, memoryFair, holeFair, holesFair}
-use Rattle.holes.specs.Plan.{noPlan, planAt}
+use Rattle.arena.specs.Fair.{recordFair, holeFair, holesFair}
+use Rattle.holes.specs.Plan.{indexCode}
 use Rattle.arena.specs.Calls.{commitRefused, commitFor}
-use Rattle.holes.specs.Act.{rememberWord, forgetWord, endNone, fromFrontier, commitDrawn, nextState, withState, commitPlanned, planned, commitRead, commitRecalled, commitActs, growWith, growActs, clamped}
+use Rattle.holes.specs.Act.{endNone, fromFrontier, commitDrawn, nextState, withState, commitPlanned, planned, commitRead, commitActs, growWith, growActs, clamped}
 use Rattle.arena.proofs.Frames.{loaded-length}
-use Rattle.holes.proofs.Choice.{Choosing, empty, recalled, exact, longer, short, choosing}
-use Rattle.holes.proofs.Acts.{planned-fair, planned-at, fair-record, commit-acts}
+use Rattle.holes.proofs.StoreLaws.{loaded-at}
+use Rattle.holes.proofs.Acts.{planned-is, fair-record, commit-acts}
 
 every-at : (t : Hole → Bool) (hs : List Hole) (i : ℕ) → every t hs ≡ true → i < length hs → t (holeAt i hs) ≡ true
 every-at t [] i e l = absurd (omega arith)
 every-at t (h ∷ hs) zero e l = and-left (t h) (every t hs) e
 every-at t (h ∷ hs) (suc i) e l = every-at t hs i (and-right (t h) (every t hs) e) (omega arith)
 
-pub record PlanFits (b : List ℕ) (m : ℕ) (p : Plan) : Type 0 where
-  pub stored : p .code ≤ get b (arena holes)
-  pub enough : m ≤ p .pages
-  pub within : p .pages ≤ get b (arena holePages)
-  pub ends : p .first + p .pages ≤ get b (arena frontier)
+-- hole i has m pages or more, and is within the hole pages and the frontier
+pub record HoleFits (b : List ℕ) (m i : ℕ) : Type 0 where
+  pub stored : i < get b (arena holes)
+  pub enough : m ≤ loadHole b i .pages
+  pub within : loadHole b i .pages ≤ get b (arena holePages)
+  pub ends : loadHole b i .first + loadHole b i .pages ≤ get b (arena frontier)
 
 module _ (b : List ℕ) (m : ℕ) (fair : holesFair b ≡ true) where
   HS : List Hole
   HS = loadHoles b 0 (get b (arena holes))
 
-  fits-at : (i : ℕ) → i < length HS → m ≤ holeAt i HS .pages → PlanFits b m (planAt HS m (some i))
-  unfolding planAt HS holesFair
-  fits-at i l u =
-      let z = every-at (holeFair (get b (arena holePages)) (get b (arena frontier))) HS i fair l in
-      let z₁ = and-right (leb 1 (holeAt i HS .pages)) _ z in
+  fits-at : (i : ℕ) → LeastAt m HS i → HoleFits b m i
+  unfolding HS holesFair
+  fits-at i l =
+      let here : i < get b (arena holes) = omega (arith, l .inside, loaded-length b 0 (get b (arena holes))) in
+      let e : 0 + i ≡ i = omega arith in
+      let x : holeAt i HS ≡ loadHole b i = loaded-at b 0 (get b (arena holes)) i here ∙ rw e in
+      let z = rw x at (every-at (holeFair (get b (arena holePages)) (get b (arena frontier))) HS i fair (l .inside)) in
+      let z₁ = and-right (leb 1 (loadHole b i .pages)) _ z in
       record {
-        stored = let y = loaded-length b 0 (get b (arena holes)) in omega arith;
-        enough = u;
+        stored = here;
+        enough = rw x at (l .enough);
         within = leb-true _ _ (and-left _ _ z₁);
-        ends = leb-true _ _ (and-right (leb (holeAt i HS .pages) (get b (arena holePages))) _ z₁);
+        ends = leb-true _ _ (and-right (leb (loadHole b i .pages) (get b (arena holePages))) _ z₁);
       }
 
-  fits-of : (c : Choice) (t : ℕ) (f : Memory) → Choosing m HS t f c → (planAt HS m (c .index) .code ≡ 0 → ⊥) → PlanFits b m (planAt HS m (c .index))
-  unfolding planAt noPlan
-  fits-of c t f (empty e) d = absurd (d refl)
-  fits-of c t f (recalled i l e) d = fits-at i l (omega arith)
-  fits-of c t f (exact i l e) d = fits-at i l (omega arith)
-  fits-of c t f (longer i l u e) d = fits-at i l (omega arith)
-  fits-of c t f (short l e) d = absurd (d refl)
-
-  fits-planned : (planned b m .code ≡ 0 → ⊥) → PlanFits b m (planned b m)
-  unfolding HS
-  fits-planned d =
-      subst (λ p. PlanFits b m p) (sym (planned-at b m fair))
-      (fits-of (chooseIn m HS (get b (arena holePages)) (recall b)) (get b (arena holePages)) (recall b) (choosing m HS (get b (arena holePages)) (recall b)) (λ e. d (ap (λ p. p .code) (planned-at b m fair) ∙ e)))
+  fits-of : (o : Option ℕ) → Chosen m HS o → (indexCode o ≡ 0 → ⊥) → HoleFits b m (indexCode o - 1)
+  fits-of o (no-hole e) d = absurd (d refl)
+  fits-of o (at-hole i l u) d = let e : suc i - 1 ≡ i = omega arith in rw e (fits-at i l)
 
   -- no hole has more pages than all holes together
-  none-of : (c : Choice) (t : ℕ) (f : Memory) → Choosing m HS t f c → get b (arena holePages) < m → planAt HS m (c .index) ≡ noPlan true
-  unfolding planAt
-  none-of c t f (empty e) l = refl
-  none-of c t f (recalled i k e) l = absurd (let z = fits-at i k (omega arith) in let y = z .enough in let x = z .within in omega arith)
-  none-of c t f (exact i k e) l = absurd (let z = fits-at i k (omega arith) in let y = z .enough in let x = z .within in omega arith)
-  none-of c t f (longer i k u e) l = absurd (let z = fits-at i k (omega arith) in let y = z .enough in let x = z .within in omega arith)
-  none-of c t f (short k e) l = refl
+  none-of : (o : Option ℕ) → Chosen m HS o → get b (arena holePages) < m → indexCode o ≡ 0
+  none-of o (no-hole e) l = refl
+  none-of o (at-hole i k u) l = absurd (let z = fits-at i k in omega (arith, z .enough, z .within))
 
-  none-planned : get b (arena holePages) < m → planned b m ≡ noPlan true
+  fits-chosen : (indexCode (choose m (loadHoles b 0 (get b (arena holes)))) ≡ 0 → ⊥) → HoleFits b m (indexCode (choose m (loadHoles b 0 (get b (arena holes)))) - 1)
   unfolding HS
-  none-planned l = planned-at b m fair ∙ none-of (chooseIn m HS (get b (arena holePages)) (recall b)) (get b (arena holePages)) (recall b) (choosing m HS (get b (arena holePages)) (recall b)) l
+  fits-chosen d = fits-of (choose m HS) (chosen m HS) d
 
-pub plan-fits : (b : List ℕ) (m : ℕ) (p : Plan) → p ≡ planned b m → p .fair ≡ true → (p .code ≡ 0 → ⊥) → PlanFits b m p
+  none-chosen : get b (arena holePages) < m → indexCode (choose m (loadHoles b 0 (get b (arena holes)))) ≡ 0
+  unfolding HS
+  none-chosen l = none-of (choose m HS) (chosen m HS) l
+
+pub plan-fits : (b : List ℕ) (m : ℕ) (p : Plan) → p ≡ planned b m → p .fair ≡ true → (p .code ≡ 0 → ⊥) → HoleFits b m (p .code - 1)
 plan-fits b m p e f d =
-    subst (λ z. PlanFits b m z) (sym e)
-    (fits-planned b m (sym (planned-fair b m) ∙ ap (λ z. z .fair) (sym e) ∙ f) (λ y. d (ap (λ z. z .code) e ∙ y)))
+    let is = e ∙ planned-is b m in
+    let fair : holesFair b ≡ true = sym (ap (λ z. z .fair) is) ∙ f in
+    let c : p .code ≡ indexCode (choose m (loadHoles b 0 (get b (arena holes)))) = ap (λ z. z .code) is ∙ rw fair in
+    rw c (fits-chosen b m fair (λ z. d (c ∙ z)))
 
 -- ---- a commit of more pages than any arena has
 module _ (n : ℕ) (b : List ℕ) (h w m : ℕ) (small : n ≤ maxPages) (large : maxPages + 1 ≤ m) where
-  no-room : (a : Arena) → fromFrontier n (forgetWord b a m) a m h w (get b (arena held)) ≡ endNone b a
-  unfolding fromFrontier forgetWord rememberWord
-  no-room a = rw (lt-leb (a .frontier + m) n (omega arith), lt-leb m rememberedMax (omega arith)) (same-of (eqb (a .count) 0))
-    where
-      same-of : (t : Bool) → endNone (cond t b b) a ≡ endNone b a
-      same-of true = refl
-      same-of false = refl
-
-  long-planned : (a : Arena) → commitPlanned n b a (noPlan true) m h w (get b (arena held)) ≡ endNone b (withState (nextState (a .state) h) a)
-  unfolding commitPlanned commitDrawn noPlan
+  long-planned : (a : Arena) → commitPlanned n b a 0 m h w (get b (arena held)) ≡ endNone b (withState (nextState (a .state) h) a)
+  unfolding commitPlanned commitDrawn fromFrontier
   long-planned a =
       by-cases (eqb (nextState (a .state) h) 2)
       (λ t. rw t)
-      (λ t. rw t (no-room (withState (nextState (a .state) h) a)))
-
-  fair-none : cond (noPlan true .fair) (commitPlanned n b (recordOf b) (noPlan true) m h w (get b (arena held))) (commitRefused b 13) ≡ endNone b (withState (nextState (recordOf b .state) h) (recordOf b))
-  unfolding noPlan
-  fair-none = long-planned (recordOf b)
-
-  long-fair : memoryFair b m ≡ true
-  long-fair = rw (lt-leb m rememberedMax (omega arith))
+      (λ t. rw (t, lt-leb (a .frontier + m) n (omega arith)))
 
   long-acts : commitActs n b h m w ≡ cond (recordFair n b) (cond (holesFair b) (endNone b (withState (nextState (recordOf b .state) h) (recordOf b))) (commitRefused b 13)) (commitRefused b 13)
-  unfolding commitActs commitRecalled commitRead
+  unfolding commitActs commitRead
   long-acts =
       by-cases (recordFair n b)
       (λ e. let k = fair-record n b e in
-      rw (e, long-fair)
-      (by-cases (holesFair b)
-      (λ v. rw v (ap (λ p. cond (p .fair) (commitPlanned n b (recordOf b) p m h w (get b (arena held))) (commitRefused b 13)) (none-planned b m v (let z = k .holePages in omega arith)) ∙ fair-none))
-      (λ v. rw v (unfair (planned b m .fair) (planned-fair b m ∙ v)))))
+      by-cases (holesFair b)
+      (λ v. rw (e, planned-is b m, v, none-chosen b m v (let z = k .holePages in omega arith)) (long-planned (recordOf b)))
+      (λ v. rw (e, planned-is b m, v)))
       (λ e. rw e)
-    where
-      unfair : (t : Bool) → t ≡ false → cond t (commitPlanned n b (recordOf b) (planned b m) m h w (get b (arena held))) (commitRefused b 13) ≡ commitRefused b 13
-      unfair true e = absurd (false≢true (sym e))
-      unfair false e = refl
 
 pub commit-long : (n : ℕ) (b : List ℕ) → leb (words n) (length b) ≡ true → n ≤ maxPages → (h w m : ℕ) → maxPages + 1 ≤ m → commitFor n b h m w ≡ commitFor n b h (maxPages + 1) w
 commit-long n b hb l h w m k =

@@ -1,6 +1,6 @@
--- What the code writes for a step of the arena: the few words that change, hole and memory words first, then the record, the owners
--- and HELD. That this is the model's step with the whole arena stored (Calls) is proved in proofs/Acts. a is the record as it is to
--- be written, m a run's pages, q its first page, p what the plan found.
+-- What the code writes for a step of the arena: the few words that change, the holes' first, then the record, the owners and
+-- HELD. That this is the model's step with the whole arena stored (Calls) is proved in proofs/Acts. a is the record as it is to be
+-- written, m a run's pages, q its first page.
 use Prim.Native.Nat.{ℕ, zero, suc, _+_, _-_}
 use mathlib.Core.List.{List}
 use mathlib.Core.Option.{none, some}
@@ -9,25 +9,18 @@ use mathlib.Core.Path.{_≡_}
 use lib.Dec.{eqb, leb, ltb}
 use Rattle.words.specs.Limits.{maxPages}
 use Rattle.words.specs.Host.{reservationGranted, commitGranted}
-use Rattle.fields.specs.Field.{arena, memory, frontier, held, get, put}
+use Rattle.fields.specs.Field.{arena, frontier, held, get, put}
 use Rattle.model.specs.HoleStore as Model
-use Rattle.model.specs.HoleStore.{holeSlots, holePagesMax, rememberedMax}
+use Rattle.model.specs.HoleStore.{holeSlots, holePagesMax}
 use Rattle.holes.specs.declared.Arena.{Arena}
 use Rattle.holes.specs.declared.Plan.{Plan}
-use Rattle.arena.specs.Load.{loadHoles}
+use Rattle.arena.specs.Load.{loadHole, loadHoles}
 use Rattle.arena.specs.Store.{storeHole}
 use Rattle.holes.specs.Record.{recordOf, storeRecord, advanced, counted, abandoning}
-use Rattle.arena.specs.Fair.{recordFair, memoryFair}
+use Rattle.arena.specs.Fair.{recordFair}
 use Rattle.arena.specs.Owners.{own}
 use Rattle.holes.specs.Plan.{planOf}
 use Rattle.arena.specs.Calls.{Committed, commitRefused}
-
--- a length's word, where it has one
-unfoldable pub rememberWord : List ℕ → ℕ → ℕ → List ℕ
-rememberWord b m code = cond (leb m rememberedMax) (put b (memory m) code) b
-
-unfoldable pub recallWord : List ℕ → ℕ → ℕ
-recallWord b m = cond (leb m rememberedMax) (get b (memory m)) 0
 
 -- ---- the record
 abbrev pub withState : ℕ → Arena → Arena
@@ -40,11 +33,8 @@ withHoles k t a = record { state = a .state; frontier = a .frontier; count = k; 
 abbrev pub accepting : ℕ → Arena → Bool
 accepting m a = ltb (a .count) holeSlots && leb (a .total + m) holePagesMax
 
-unfoldable pub appendWords : List ℕ → ℕ → ℕ → ℕ → List ℕ
-appendWords b i m q = rememberWord (storeHole b i (Model.hole q m)) m (i + 1)
-
 unfoldable pub giveWords : List ℕ → Arena → ℕ → ℕ → List ℕ
-giveWords b a m q = cond (accepting m a) (appendWords b (a .count) m q) b
+giveWords b a m q = cond (accepting m a) (storeHole b (a .count) (Model.hole q m)) b
 
 unfoldable pub giveRecord : Arena → ℕ → Arena
 giveRecord a m = cond (accepting m a) (withHoles (a .count + 1) (a .total + m) a) (abandoning a)
@@ -54,28 +44,18 @@ pub record Gives (b : List ℕ) (a : Arena) (m q : ℕ) (x : List ℕ) (r : Aren
   pub book : x ≡ giveWords b a m q
   pub top : r ≡ giveRecord a m
 
--- ---- a run from the chosen hole: its front is cut off, or the last hole comes into its place
-unfoldable pub cutWords : List ℕ → ℕ → Plan → List ℕ
-cutWords b m p =
-    rememberWord (rememberWord (rememberWord (storeHole b (p .code - 1) (Model.hole (p .first + m) (p .pages - m))) m 0) (p .pages) (p .lowest))
-    (p .pages - m) (p .code)
+-- ---- a run from hole i: its front is cut off, or the last hole comes into its place
+unfoldable pub drawWords : List ℕ → Arena → ℕ → ℕ → List ℕ
+drawWords b a m i =
+    let x = loadHole b i in
+    cond (ltb m (x .pages)) (storeHole b i (Model.hole (x .first + m) (x .pages - m))) (storeHole b i (loadHole b (a .count - 1)))
 
-unfoldable pub usedWords : List ℕ → ℕ → Plan → List ℕ
-usedWords b m p = rememberWord (storeHole b (p .code - 1) (Model.hole (p .lastfirst) (p .lastpages))) m (p .lowest)
+unfoldable pub drawRecord : List ℕ → Arena → ℕ → ℕ → Arena
+drawRecord b a m i = withHoles (cond (ltb m (loadHole b i .pages)) (a .count) (a .count - 1)) (a .total - m) a
 
-unfoldable pub drawWords : List ℕ → ℕ → Plan → List ℕ
-drawWords b m p = cond (ltb m (p .pages)) (cutWords b m p) (usedWords b m p)
-
-unfoldable pub drawRecord : Arena → ℕ → Plan → Arena
-drawRecord a m p = cond (ltb m (p .pages)) (withHoles (a .count) (a .total - m) a) (withHoles (a .count - 1) (a .total - m) a)
-
-pub record Draws (b : List ℕ) (a : Arena) (m : ℕ) (p : Plan) (x : List ℕ) (r : Arena) : Type 0 where
-  pub book : x ≡ drawWords b m p
-  pub top : r ≡ drawRecord a m p
-
--- no hole is long enough: none has just this length either
-unfoldable pub forgetWord : List ℕ → Arena → ℕ → List ℕ
-forgetWord b a m = cond (eqb (a .count) 0) b (rememberWord b m 0)
+pub record Draws (b : List ℕ) (a : Arena) (m i : ℕ) (x : List ℕ) (r : Arena) : Type 0 where
+  pub book : x ≡ drawWords b a m i
+  pub top : r ≡ drawRecord b a m i
 
 -- ---- the end of a commit: the record, the run's owner, and HELD; h is the host word, w the owner, d the pages held before
 unfoldable pub endNone : List ℕ → Arena → Committed
@@ -96,32 +76,31 @@ settle b a m q f h w d = cond (commitGranted h) (endRun b a m q f w d) (endGiven
 unfoldable pub fromFrontier : ℕ → List ℕ → Arena → ℕ → ℕ → ℕ → ℕ → Committed
 fromFrontier n b a m h w d = cond (leb (a .frontier + m) n) (settle b (advanced m a) m (a .frontier) true h w d) (endNone b a)
 
-unfoldable pub commitDrawn : ℕ → List ℕ → Arena → Plan → ℕ → ℕ → ℕ → ℕ → Committed
-commitDrawn n b a p m h w d =
-    cond (eqb (p .code) 0) (fromFrontier n (forgetWord b a m) a m h w d)
-    (settle (drawWords b m p) (drawRecord a m p) m (p .first) false h w d)
+unfoldable pub holeDrawn : List ℕ → Arena → ℕ → ℕ → ℕ → ℕ → ℕ → Committed
+holeDrawn b a i m h w d = settle (drawWords b a m i) (drawRecord b a m i) m (loadHole b i .first) false h w d
+
+-- the chosen hole has this code; 0 is none
+unfoldable pub commitDrawn : ℕ → List ℕ → Arena → ℕ → ℕ → ℕ → ℕ → ℕ → Committed
+commitDrawn n b a code m h w d = cond (eqb code 0) (fromFrontier n b a m h w d) (holeDrawn b a (code - 1) m h w d)
 
 -- STATE: 0 asks for the reservation, 2 is disabled
 abbrev pub nextState : ℕ → ℕ → ℕ
 nextState zero h = cond (reservationGranted h) 1 2
 nextState (suc s) h = suc s
 
-unfoldable pub commitPlanned : ℕ → List ℕ → Arena → Plan → ℕ → ℕ → ℕ → ℕ → Committed
-commitPlanned n b a p m h w d =
+unfoldable pub commitPlanned : ℕ → List ℕ → Arena → ℕ → ℕ → ℕ → ℕ → ℕ → Committed
+commitPlanned n b a code m h w d =
     let s = nextState (a .state) h in
-    cond (eqb s 2) (endNone b (withState s a)) (commitDrawn n b (withState s a) p m h w d)
+    cond (eqb s 2) (endNone b (withState s a)) (commitDrawn n b (withState s a) code m h w d)
 
 unfoldable pub planned : List ℕ → ℕ → Plan
-planned b m = planOf (loadHoles b 0 (recordOf b .count)) (recordOf b .total) (recordOf b .frontier) m (recallWord b m)
+planned b m = planOf (loadHoles b 0 (recordOf b .count)) (recordOf b .total) (recordOf b .frontier) m
 
 unfoldable pub commitRead : ℕ → List ℕ → ℕ → ℕ → ℕ → ℕ → Committed
-commitRead n b h m w d = cond (planned b m .fair) (commitPlanned n b (recordOf b) (planned b m) m h w d) (commitRefused b 13)
-
-unfoldable pub commitRecalled : ℕ → List ℕ → ℕ → ℕ → ℕ → ℕ → Committed
-commitRecalled n b h m w d = cond (memoryFair b m) (commitRead n b h m w d) (commitRefused b 13)
+commitRead n b h m w d = cond (planned b m .fair) (commitPlanned n b (recordOf b) (planned b m .code) m h w d) (commitRefused b 13)
 
 unfoldable pub commitActs : ℕ → List ℕ → ℕ → ℕ → ℕ → Committed
-commitActs n b h m w = cond (recordFair n b) (commitRecalled n b h m w (get b (arena held))) (commitRefused b 13)
+commitActs n b h m w = cond (recordFair n b) (commitRead n b h m w (get b (arena held))) (commitRefused b 13)
 
 -- ---- the other steps
 unfoldable pub givenWith : List ℕ → Arena → ℕ → ℕ → ℕ → List ℕ

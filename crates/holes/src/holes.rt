@@ -1,17 +1,15 @@
-// The hole store, lent as a slice of holes: read, stored to, and scanned for the least length that is enough.
+// The hole store, lent as a slice of holes: loaded, and scanned for the least length that is enough.
 use model::Hole;
 use std::num::wrapping_sub_u32;
 ghost use mathlib.Core.Path.{_≡_};
-ghost use Prim.Native.Nat.{_+_, _*_, _<_, _≤_, _^_};
+ghost use Prim.Native.Nat.{_+_, _<_, _≤_, _^_};
 ghost use mathlib.Core.Bool.{_&&_};
-ghost use lib.Dec.{leb, ltb};
-ghost use lib.ListN.{length, getD, set, take, drop};
+ghost use lib.ListN.{length, getD, take, drop};
 ghost use Rattle.facts.specs.Lists.{every};
-ghost use Rattle.model.specs.HoleStore.{leastFit};
 ghost use Rattle.fields.specs.Field.{hole, start, pages, word, Has};
 ghost use Rattle.arena.specs.Load.{loadHole, loadHoles};
 ghost use Rattle.arena.specs.Fair.{holeFair};
-ghost use Rattle.holes.specs.Scan.{noHole, key, betterOf, bestAt, bestOf};
+ghost use Rattle.holes.specs.Scan.{noHole, key, betterOf, bestOf};
 
 pub fn hole_at(holes: &[Hole], i: usize) -> Hole
     requires { ⌜ i < length (now holes) ⌝ }
@@ -20,85 +18,51 @@ pub fn hole_at(holes: &[Hole], i: usize) -> Hole
     holes[i]
 }
 
-pub fn put_hole(holes: &mut [Hole], i: usize, h: Hole)
-    requires { ⌜ i < length (now holes) ⌝ }
-    ensures { λ _. ⌜ now (holes .exit) ≡ set (now (holes .entry)) i h ⌝ }
-{
-    holes[i] = h;
-}
-
-// What a scan finds: the index and one, or 0 for none, and the length.
+// What a scan has found: the least key, and the code of its hole.
 pub struct Best {
+    pub key: u64,
     pub code: u32,
-    pub pages: u32,
 }
 
-// The key of the hole at `i`, of so many pages: in its upper half the pages beyond the need, which wrap where they are too few and so
-// come after all others, and in its lower half the index. The least key is the lowest index of the least length that is enough.
-fn key_of(need: u32, i: u32, pages: u32) -> u64
-    ensures { λ r. ⌜ r ≡ key need i pages ⌝ }
+// In its upper half the pages beyond the need, which wrap where they are too few and so come after all others, and in its lower half the
+// first page. The least key is the lowest page of the least length that is enough.
+fn key_of(need: u32, h: Hole) -> u64
+    ensures { λ r. ⌜ r ≡ key need h ⌝ }
 {
-    let over = wrapping_sub_u32(pages, need);
-    (over as u64) * 4_294_967_296 + (i as u64)
+    let over = wrapping_sub_u32(h.pages, need);
+    (over as u64) * 4_294_967_296 + (h.first as u64)
 }
 
-// The lesser key of that and of the best before.
-fn better(need: u32, i: u32, pages: u32, best: u64) -> u64
-    ensures { λ r. ⌜ r ≡ betterOf need i pages best ⌝ }
+// The hole at `i`, unless the best of those behind it has a lesser key.
+fn better(need: u32, i: u32, h: Hole, best: Best) -> Best
+    requires { ⌜ i + 1 < 2 ^ 32 ⌝ }
+    ensures { λ r. ⌜ r ≡ betterOf need i h best ⌝ }
 {
-    let key = key_of(need, i, pages);
-    if key < best { key } else { best }
-}
-
-// What the least key says; the greatest number is the key of none.
-fn best_at(need: u32, key: u64) -> Best
-    ensures { λ r. ⌜ r ≡ bestAt need key ⌝ }
-{
-    let pages = key / 4_294_967_296 + (need as u64);
-    if 4_294_967_296 <= pages {
-        return Best { code: 0, pages: 0 };
+    let key = key_of(need, h);
+    if best.key < key {
+        return best;
     }
-    if key == 18_446_744_073_709_551_615 {
-        return Best { code: 0, pages: 0 };
-    }
-    Best {
-        code: ((key + 1) % 4_294_967_296) as u32,
-        pages: pages as u32,
-    }
+    Best { key, code: i + 1 }
 }
 
-// The hole at `i` is read, and set against the best so far.
-fn weigh(holes: &[Hole], need: u32, i: u32, best: u64) -> u64
-    requires { ⌜ i < length (now holes) ⌝ }
-    ensures { λ r. ⌜ (r ≡ betterOf need i (getD (now (holes .entry)) i noHole .pages) best) × (getD (now (holes .entry)) i noHole .pages < 2 ^ 32) ⌝ }
+// The best of the first `count` holes, which stand at the index `from` and on, and of those behind them. The last one is looked at first.
+pub fn scan(holes: &[Hole], from: u32, count: u32, need: u32, behind: Best) -> Best
+    requires { ⌜ (count ≤ length (now holes)) × (from + count < 2 ^ 32) ⌝ }
+    ensures { λ r. ⌜ r ≡ bestOf need from (take count (now (holes .entry))) behind ⌝ }
 {
-    let h = hole_at(holes, i as usize);
-    better(need, i, h.pages, best)
-}
-
-// Whether the hole at `i` is to be weighed: none is once a hole has just the pages needed, which shows as a key below `i`.
-fn going(i: u32, count: u32, best: u64) -> bool
-    ensures { λ r. ⌜ r ≡ (ltb i count && leb i best) ⌝ }
-{
-    if i < count { (i as u64) <= best } else { false }
-}
-
-// The lowest index of the least length that is enough, of the first `count` holes.
-pub fn scan(holes: &[Hole], count: u32, need: u32) -> Best
-    requires { ⌜ count ≤ length (now holes) ⌝ }
-    ensures { λ r. ⌜ r ≡ bestOf (leastFit need (take count (now (holes .entry)))) ⌝ }
-{
-    let mut best: u64 = 18_446_744_073_709_551_615;
-    let mut i: u32 = 0;
-    while going(i, count, best) {
-        best = weigh(holes, need, i, best);
-        i += 1;
+    let mut best = behind;
+    let mut i = count;
+    while 0 < i {
+        let j = i - 1;
+        let h = hole_at(holes, j as usize);
+        best = better(need, from + j, h, best);
+        i = j;
     }
-    best_at(need, best)
+    best
 }
 
 // The hole that the words hold at `i`.
-fn hole_from(meta: &[u32], i: u32) -> Hole
+pub fn hole_from(meta: &[u32], i: u32) -> Hole
     requires { ⌜ Has (now meta) (hole pages i) ⌝ }
     ensures { λ r. ⌜ r ≡ loadHole (now (meta .entry)) i ⌝ }
 {
@@ -118,15 +82,24 @@ fn fair_too(fair: bool, h: Hole, total: u32, frontier: u32) -> bool
     fair & some & few & below
 }
 
-// The first `count` holes that the words hold are stored, the others stay; the answer is whether each of those is in its range.
-pub fn load_holes(meta: &[u32], holes: &mut [Hole], count: u32, total: u32, frontier: u32) -> bool
-    requires { ⌜ (count ≤ length (now holes)) × (word (hole start count) ≤ length (now meta)) ⌝ }
-    ensures { λ r. ⌜ (r ≡ every (holeFair total frontier) (loadHoles (now (meta .entry)) 0 count)) × (take count (now (holes .exit)) ≡ loadHoles (now (meta .entry)) 0 count) × (drop count (now (holes .exit)) ≡ drop count (now (holes .entry))) ⌝ }
+// The `count` holes that the words hold at the index `from` and on are stored, the others stay; the answer is whether each of those is in
+// its range, and so were others before.
+pub fn load_holes(
+    meta: &[u32],
+    holes: &mut [Hole],
+    others: bool,
+    from: u32,
+    count: u32,
+    total: u32,
+    frontier: u32,
+) -> bool
+    requires { ⌜ (count ≤ length (now holes)) × (from + count < 2 ^ 32) × (word (hole start (from + count)) ≤ length (now meta)) ⌝ }
+    ensures { λ r. ⌜ (r ≡ (others && every (holeFair total frontier) (loadHoles (now (meta .entry)) from count))) × (take count (now (holes .exit)) ≡ loadHoles (now (meta .entry)) from count) × (drop count (now (holes .exit)) ≡ drop count (now (holes .entry))) ⌝ }
 {
-    let mut fair = true;
+    let mut fair = others;
     let mut i: u32 = 0;
     while i < count {
-        let h = hole_from(meta, i);
+        let h = hole_from(meta, from + i);
         holes[i as usize] = h;
         fair = fair_too(fair, h, total, frontier);
         i += 1;

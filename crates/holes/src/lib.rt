@@ -20,11 +20,4 @@ pub struct Plan {
     pub fair: bool,
     // The chosen hole: its index and one, or 0 for none.
     pub code: u32,
-    pub first: u32,
-    pub pages: u32,
-    // The last hole, which replaces a used-up one.
-    pub lastfirst: u32,
-    pub lastpages: u32,
-    // The lowest index and one, or 0, of the chosen hole's length, once its front is cut off.
-    pub lowest: u32,
 }

@@ -1,6 +1,6 @@
 -- The arena keeps account of pages: what a commit, a growth or a give takes from the idle pages or adds to them.
 use Prim.Native.Nat.{ℕ, _+_, _≤_}
-use mathlib.Core.Path.{_≡_, refl, sym, ap, _∙_, subst}
+use mathlib.Core.Path.{_≡_, refl, ap, _∙_}
 use mathlib.Core.List.{List, [], _∷_}
 use mathlib.Core.Option.{Option, none, some}
 use mathlib.Core.Bool.{Bool, true, false, cond}
@@ -9,13 +9,12 @@ use borrow.Author.Tests.{leb-true, eqb-true}
 use Rattle.facts.proofs.Bools.{by-cases, and-left, and-right}
 use Rattle.model.specs.Cover.{covers, coversAll, coversRun}
 use Rattle.words.specs.Host.{reservationGranted, commitGranted}
-use Rattle.model.specs.HoleStore.{HoleStore, choose, accepts, append}
-use Rattle.model.specs.Arena.{Arena, Status, unasked, ready, disabled, withStatus, withFrontier, withStore, give, giveAll, Given, given, drawFrom, draw, grant, commitReady, commitAs, commit, canGrow, grow}
+use Rattle.model.specs.HoleStore.{accepts, append}
+use Rattle.model.specs.Arena.{Arena, Status, unasked, ready, disabled, withStatus, withFrontier, give, giveAll, Given, given, drawFrom, draw, grant, commitReady, commitAs, commit, canGrow, grow}
 use Rattle.model.specs.Ledger.{inHoles, above, abandons, allAbandon, grantAbandons, readyAbandons, commitAbandons, growAbandons}
-use Rattle.model.specs.BestFit.{LeastAt}
 use Rattle.model.proofs.Counts.{total-append}
 pub use Rattle.model.proofs.Runs.{covers-in, covers-before, covers-after, covers-le, above-at, above-not, above-cut}
-use Rattle.model.proofs.StoreLaws.{Chosen, at-hole, no-hole, chosen, choose-holes, holesWith, take-law}
+use Rattle.model.proofs.StoreLaws.{Chosen, at-hole, no-hole, chosen, take-law}
 
 -- how often page x is idle
 abbrev pub idle : ℕ → Arena → ℕ
@@ -58,23 +57,14 @@ module _ (size n : ℕ) (a : Arena) where
   drawn-none : Drawn size n a (given a none false)
   drawn-none = record { pages = λ x. omega arith; rises = omega arith; bound = λ b. b }
 
-  drawnFrom : (s : HoleStore) {o : Option ℕ} → Chosen n s o → s .holes ≡ a .store .holes → Drawn size n a (drawFrom size n a o)
+  drawnFrom : {o : Option ℕ} → Chosen n (a .store .holes) o → Drawn size n a (drawFrom size n a o)
   unfolding drawFrom
-  drawnFrom s (at-hole i k w) e =
-      let k′ = subst (λ hs. LeastAt n hs i) e k in
-      record { pages = λ x. omega (arith, take-law n i x (a .store) (k′ .inside) (k′ .enough)); rises = omega arith; bound = λ b. b }
-  drawnFrom s (no-hole k) e = search (drawn-cond, drawn-frontier, drawn-none, leb-true)
-
--- the same account from an arena with the same holes and frontier
-same-idle : (x : ℕ) (a b : Arena) → a .store .holes ≡ b .store .holes → a .frontier ≡ b .frontier → idle x a ≡ idle x b
-same-idle x a b e f = omega (arith, ap (holesWith x) e, ap (λ f. above f x) f)
+  drawnFrom (at-hole i k w) = record { pages = λ x. omega (arith, take-law n i x (a .store) (k .inside) (k .enough)); rises = omega arith; bound = λ b. b }
+  drawnFrom (no-hole k) = search (drawn-cond, drawn-frontier, drawn-none, leb-true)
 
 drawn : (size n : ℕ) (a : Arena) → Drawn size n a (draw size n a)
 unfolding draw
-drawn size n a =
-    let c = choose n (a .store) in
-    let d = drawnFrom size n (withStore (c .store) a) (a .store) (chosen n (a .store)) (sym (choose-holes n (a .store))) in
-    record { pages = λ x. d .pages x ∙ same-idle x (withStore (c .store) a) a (choose-holes n (a .store)) refl; rises = d .rises; bound = d .bound }
+drawn size n a = drawnFrom size n a (chosen n (a .store .holes))
 
 -- a commit: the run answered and what was abandoned leave the idle pages
 pub record CommitLaw (size n : ℕ) (a : Arena) (g : Given) (lost : ℕ → ℕ) : Type 0 where

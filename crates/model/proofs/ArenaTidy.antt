@@ -1,17 +1,15 @@
 -- Every step of the arena keeps its hole store tidy.
 use Prim.Native.Nat.{ℕ, _+_, _≤_}
-use mathlib.Core.Path.{_≡_, sym, subst}
 use mathlib.Core.List.{List, [], _∷_}
 use mathlib.Core.Option.{Option, none, some}
 use mathlib.Core.Bool.{Bool}
 use lib.Dec.{leb}
 use Rattle.facts.proofs.Bools.{by-cases}
 use Rattle.words.specs.Host.{reservationGranted, commitGranted}
-use Rattle.model.specs.HoleStore.{HoleStore, choose, accepts}
-use Rattle.model.specs.Arena.{Arena, Status, unasked, ready, disabled, newArena, withStatus, withFrontier, withStore, give, giveAll, drawFrom, draw, grant, commitReady, commitAs, commit, canGrow, grow}
-use Rattle.model.specs.BestFit.{LeastAt}
-use Rattle.model.proofs.StoreLaws.{Chosen, at-hole, no-hole, chosen, choose-holes}
-use Rattle.model.proofs.Remembers.{Tidy, tidy-empty, tidy-choose, tidy-take, tidy-append}
+use Rattle.model.specs.HoleStore.{accepts}
+use Rattle.model.specs.Arena.{Arena, Status, unasked, ready, disabled, newArena, withStatus, withFrontier, give, giveAll, drawFrom, draw, grant, commitReady, commitAs, commit, canGrow, grow}
+use Rattle.model.proofs.StoreLaws.{Chosen, at-hole, no-hole, chosen}
+use Rattle.model.proofs.Tidy.{Tidy, tidy-empty, tidy-take, tidy-append}
 
 pub tidy-new : Tidy (newArena .store)
 tidy-new = tidy-empty
@@ -27,15 +25,15 @@ module _ (n : ℕ) (one : 1 ≤ n) where
   tidy-give-all (q ∷ qs) a k = tidy-give-all qs (give n q a) (tidy-give q a k)
 
 -- drawing
-module _ (size n : ℕ) (a : Arena) where
-  tidy-from : (s c : HoleStore) {o : Option ℕ} → Chosen n s o → s .holes ≡ c .holes → Tidy c → Tidy (drawFrom size n (withStore c a) o .arena .store)
+module _ (size n : ℕ) (a : Arena) (k : Tidy (a .store)) where
+  tidy-from : {o : Option ℕ} → Chosen n (a .store .holes) o → Tidy (drawFrom size n a o .arena .store)
   unfolding drawFrom
-  tidy-from s c (at-hole i f w) e k = let g = subst (λ hs. LeastAt n hs i) e f in tidy-take n i c k (g .inside) (g .enough)
-  tidy-from s c (no-hole f) e k = by-cases (leb (a .frontier + n) size) (λ d. rw d k) (λ d. rw d k)
+  tidy-from (at-hole i f w) = tidy-take n i (a .store) k (f .inside) (f .enough)
+  tidy-from (no-hole f) = by-cases (leb (a .frontier + n) size) (λ d. rw d k) (λ d. rw d k)
 
-  pub tidy-draw : Tidy (a .store) → Tidy (draw size n a .arena .store)
+  tidy-draw : Tidy (draw size n a .arena .store)
   unfolding draw
-  tidy-draw k = tidy-from (a .store) (choose n (a .store) .store) (chosen n (a .store)) (sym (choose-holes n (a .store))) (tidy-choose n (a .store) k)
+  tidy-draw = tidy-from (chosen n (a .store .holes))
 
 -- committing and growing
 module _ (size h n : ℕ) (one : 1 ≤ n) where

@@ -1,39 +1,40 @@
 -- A commit answers by best fit, or none with its reason, on every arena.
 use Prim.Native.Nat.{ℕ, _+_, _≤_, _<_}
 use mathlib.Core.Path.{_≡_, refl, ap, _∙_}
+use mathlib.Core.List.{List}
 use mathlib.Core.Option.{Option, none, some}
 use mathlib.Core.Bool.{Bool, true, false}
 use lib.Dec.{leb}
 use borrow.Author.Tests.{leb-true, leb-false}
 use Rattle.facts.proofs.Bools.{by-cases}
 use Rattle.words.specs.Host.{reservationGranted, commitGranted}
-use Rattle.model.specs.HoleStore.{HoleStore, holeAt, choose}
-use Rattle.model.specs.Arena.{Arena, Status, unasked, ready, disabled, withStatus, withStore, drawFrom, draw, grant, commitReady, commitAs, commit}
+use Rattle.model.specs.declared.Hole.{Hole}
+use Rattle.model.specs.HoleStore.{holeAt}
+use Rattle.model.specs.Arena.{Arena, Status, unasked, ready, disabled, withStatus, drawFrom, draw, grant, commitReady, commitAs, commit}
 use Rattle.model.specs.BestFit.{LeastAt, Which, NoneFits, usable, Commits, from-hole, from-frontier, unusable, ungranted, exhausted}
-use Rattle.model.proofs.StoreLaws.{Chosen, at-hole, no-hole, chosen, choose-holes}
+use Rattle.model.proofs.StoreLaws.{Chosen, at-hole, no-hole, chosen}
 
 -- what is drawn from a store and a frontier, before the host is asked
-data Draws (size n : ℕ) (s : HoleStore) (f : ℕ) : Option ℕ → Bool → Type 0 where
-  draws-hole : (i : ℕ) → LeastAt n (s .holes) i → Which n s i → Draws size n s f (some (holeAt i (s .holes) .first)) false
-  draws-frontier : NoneFits n (s .holes) → f + n ≤ size → Draws size n s f (some f) true
-  draws-none : NoneFits n (s .holes) → size < f + n → Draws size n s f none false
+data Draws (size n : ℕ) (hs : List Hole) (f : ℕ) : Option ℕ → Bool → Type 0 where
+  draws-hole : (i : ℕ) → LeastAt n hs i → Which hs i → Draws size n hs f (some (holeAt i hs .first)) false
+  draws-frontier : NoneFits n hs → f + n ≤ size → Draws size n hs f (some f) true
+  draws-none : NoneFits n hs → size < f + n → Draws size n hs f none false
 
 module _ (size n : ℕ) (a : Arena) where
-  drawsFrom : (c : HoleStore) → c .holes ≡ a .store .holes → {o : Option ℕ} → Chosen n (a .store) o
-      → Draws size n (a .store) (a .frontier) (drawFrom size n (withStore c a) o .run) (drawFrom size n (withStore c a) o .fresh)
+  drawsFrom : {o : Option ℕ} → Chosen n (a .store .holes) o → Draws size n (a .store .holes) (a .frontier) (drawFrom size n a o .run) (drawFrom size n a o .fresh)
   unfolding drawFrom
-  drawsFrom c e (at-hole i k w) = rw e (draws-hole i k w)
-  drawsFrom c e (no-hole k) =
+  drawsFrom (at-hole i k w) = draws-hole i k w
+  drawsFrom (no-hole k) =
       by-cases (leb (a .frontier + n) size)
       (λ d. rw d (draws-frontier k (leb-true (a .frontier + n) size d)))
       (λ d. rw d (draws-none k (leb-false (a .frontier + n) size d)))
 
-  draws : Draws size n (a .store) (a .frontier) (draw size n a .run) (draw size n a .fresh)
+  draws : Draws size n (a .store .holes) (a .frontier) (draw size n a .run) (draw size n a .fresh)
   unfolding draw
-  draws = drawsFrom (choose n (a .store) .store) (choose-holes n (a .store)) (chosen n (a .store))
+  draws = drawsFrom (chosen n (a .store .holes))
 
 module _ (size h n : ℕ) (a : Arena) where
-  granted : (b : Arena) {o : Option ℕ} {f : Bool} → usable h (a .status) ≡ true → Draws size n (a .store) (a .frontier) o f
+  granted : (b : Arena) {o : Option ℕ} {f : Bool} → usable h (a .status) ≡ true → Draws size n (a .store .holes) (a .frontier) o f
       → Commits size h n a (grant h n b o f .run) (grant h n b o f .fresh)
   unfolding grant
   granted b u (draws-hole i k w) = by-cases (commitGranted h) (λ e. rw e (from-hole i u e k w)) (λ e. rw e (ungranted e))

@@ -1,4 +1,4 @@
--- Along every history the hole store is tidy: hence best fit, what is remembered, the total of the holes, and the figure of the arena's idle pages.
+-- Along every history the hole store is tidy: hence best fit, the total of the holes, and the figure of the arena's idle pages.
 use Prim.Native.Nat.{ℕ, _+_, _-_, _≤_}
 use mathlib.Core.Path.{_≡_, refl}
 use mathlib.Core.List.{List, [], _∷_}
@@ -24,7 +24,7 @@ use Rattle.model.specs.History.{heapFrom, heapAfter}
 use Rattle.model.specs.Demands.{BestFit}
 use Rattle.model.proofs.ArenaLaws.{idle}
 use Rattle.model.proofs.BestFit.{commits}
-use Rattle.model.proofs.Remembers.{Tidy, tidy-remembers}
+use Rattle.model.proofs.Tidy.{Tidy}
 use Rattle.model.proofs.ArenaTidy.{tidy-new, tidy-give, tidy-give-all, tidy-commit, tidy-grow}
 use Rattle.model.proofs.IdlePages.{HolesBelow, holes-below, idle-figure}
 use Rattle.model.proofs.HeapLaws.{kept}
@@ -141,7 +141,7 @@ module _ (size : ℕ) (xs : List Call) where
 
   -- demand 2's choice of a run
   pub best-fit : BestFit size xs
-  best-fit = record { commits = λ h n. commits size h n arena; remembers = tidy-remembers (arena .store) tidy-after }
+  best-fit = record { commits = λ h n. commits size h n arena }
 
   -- the report's figures
   pub hole-total : arena .store .total ≡ total (λ h. h .pages) (arena .store .holes)

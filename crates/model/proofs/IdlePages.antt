@@ -15,7 +15,7 @@ use Rattle.model.specs.Ledger.{inHoles, above}
 use Rattle.model.proofs.Runs.{covers-in, above-at}
 use Rattle.model.proofs.Sums.{zeros, total-plus, above-total, covers-total}
 use Rattle.model.proofs.HoleLists.{all-map}
-use Rattle.model.proofs.Remembers.{Tidy}
+use Rattle.model.proofs.Tidy.{Tidy}
 use Rattle.model.proofs.ArenaLaws.{idle, commit-law}
 
 -- a run with no page at or above the frontier ends there or below

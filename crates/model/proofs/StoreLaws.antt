@@ -1,29 +1,52 @@
 -- The hole store: a choice is the least hole that suffices, and taking keeps account of pages.
-use Prim.Native.Nat.{ℕ, zero, suc, _+_, _-_, _≤_, _<_}
-use mathlib.Core.Path.{_≡_, refl, _∙_}
+use Prim.Native.Nat.{ℕ, suc, _+_, _-_, _≤_, _<_}
+use mathlib.Core.Path.{_≡_, refl}
 use mathlib.Core.List.{List, [], _∷_}
 use mathlib.Core.Option.{Option, none, some}
-use mathlib.Core.Bool.{Bool, true, false, cond, _&&_, false≢true}
+use mathlib.Core.Bool.{Bool, true, false, cond, _&&_, true≢false}
 use native.Mathlib.Omega.{arith}
-use lib.Dec.{leb, ltb}
+use lib.Dec.{eqb, leb, ltb}
 use lib.ListN.{length}
-use borrow.Author.Tests.{leb-true, leb-false, le-leb, ltb-true, ltb-false, eqb-true}
+use borrow.Author.Tests.{leb-true, leb-false, le-leb, ltb-true, ltb-false, eqb-true, eq-eqb}
 use Rattle.facts.specs.Lists.{All, total}
 use Rattle.facts.proofs.Bools.{by-cases, and-left, and-right}
 use Rattle.model.specs.Cover.{covers}
 use Rattle.model.specs.declared.Hole.{Hole}
-use Rattle.model.specs.HoleStore.{HoleStore, Memory, store, hole, Fit, nearer, leastFit, indexOf, holeAt, rememberedMax, stillHolds, chooseIn, choose, cutFrom, takeAt}
-use Rattle.model.specs.BestFit.{LeastAt, Which, remembered, lowest, NoneFits}
+use Rattle.model.specs.HoleStore.{HoleStore, hole, goesBefore, Fit, fitAt, nearer, leastFit, indexOf, holeAt, choose, cutFrom, takeAt}
+use Rattle.model.specs.BestFit.{LeastAt, Which, NoneFits}
 use Rattle.model.proofs.Runs.{covers-cut}
-use Rattle.model.proofs.HoleLists.{all-map, all-of, set-total, remove-total}
+use Rattle.model.proofs.HoleLists.{all-map, set-total, remove-total}
 
--- the least length that suffices, at its lowest index; or none suffices
+-- the order of holes: shorter, or as long with a lower first page
+pub record Ahead (h g : Hole) : Type 0 where
+  pub shorter : h .pages ≤ g .pages
+  pub lower : g .pages ≡ h .pages → h .first ≤ g .first
+
+ahead : (h g : Hole) → goesBefore h g ≡ true → Ahead h g
+ahead h g e =
+    by-cases (ltb (h .pages) (g .pages))
+    (λ d. let l = ltb-true (h .pages) (g .pages) d in record { shorter = omega arith; lower = λ s. omega arith })
+    (λ d. let b = rw d at e in
+    let s = eqb-true (h .pages) (g .pages) (and-left (eqb (h .pages) (g .pages)) (leb (h .first) (g .first)) b) in
+    let f = leb-true (h .first) (g .first) (and-right (eqb (h .pages) (g .pages)) (leb (h .first) (g .first)) b) in
+    record { shorter = omega arith; lower = λ _. f })
+
+behind : (h g : Hole) → goesBefore h g ≡ false → Ahead g h
+behind h g e =
+    by-cases (ltb (h .pages) (g .pages))
+    (λ d. absurd (true≢false (rw d at e)))
+    (λ d. let l = ltb-false (h .pages) (g .pages) d in
+    record { shorter = l; lower = λ s. omega (arith, leb-false (h .first) (g .first) (rw (d, eq-eqb (h .pages) (g .pages) s) at e)) })
+
+-- the hole that goes before all others that suffice; or none suffices
+abbrev pub First : ℕ → Hole → Hole → Type 0
+First n f h = n ≤ h .pages → Ahead f h
+
 pub record IsLeast (n : ℕ) (hs : List Hole) (f : Fit) : Type 0 where
   pub inside : f .index < length hs
-  pub there : holeAt (f .index) hs .pages ≡ f .pages
-  pub enough : n ≤ f .pages
-  pub least : All (λ h. n ≤ h .pages → f .pages ≤ h .pages) hs
-  pub first : (j : ℕ) → j < f .index → holeAt j hs .pages ≡ f .pages → ⊥
+  pub there : holeAt (f .index) hs ≡ f .hole
+  pub enough : n ≤ f .hole .pages
+  pub first : All (First n (f .hole)) hs
 
 pub data Fits (n : ℕ) (hs : List Hole) : Option Fit → Type 0 where
   fits : (f : Fit) → IsLeast n hs f → Fits n hs (some f)
@@ -33,34 +56,39 @@ fits-cond : (n : ℕ) (hs : List Hole) (b : Bool) (x y : Option Fit) → (b ≡ 
 fits-cond n hs true x y p q = p refl
 fits-cond n hs false x y p q = q refl
 
--- one hole more: it is the least, or the fit stays, one place on
-module _ (n : ℕ) (h : Hole) (hs : List Hole) where
-  first-least : n ≤ h .pages → All (λ g. n ≤ g .pages → h .pages ≤ g .pages) hs → Fits n (h ∷ hs) (some (record { index = 0; pages = h .pages }))
-  first-least e k = fits (record { index = 0; pages = h .pages }) (record { inside = omega arith; there = refl; enough = e; least = (λ _. omega arith, k); first = λ j l _. omega arith })
+-- one hole more: it goes first, or the fit stays, one place on
+ahead-self : (h : Hole) → Ahead h h
+ahead-self h = record { shorter = omega arith; lower = λ _. omega arith }
 
-  alone-fits : NoneFits n hs → n ≤ h .pages → Fits n (h ∷ hs) (some (record { index = 0; pages = h .pages }))
-  alone-fits k e = first-least e (all-map (λ g. g .pages < n) (λ g. n ≤ g .pages → h .pages ≤ g .pages) (λ g p q. omega arith) hs k)
+ahead-trans : (h f g : Hole) → Ahead h f → Ahead f g → Ahead h g
+ahead-trans h f g a b = record { shorter = omega (arith, a .shorter, b .shorter); lower = λ e. omega (arith, a .lower (omega (arith, a .shorter, b .shorter)), b .lower (omega (arith, a .shorter, b .shorter))) }
+
+module _ (n : ℕ) (h : Hole) (hs : List Hole) where
+  goes-first : n ≤ h .pages → All (First n h) hs → Fits n (h ∷ hs) (some (fitAt 0 h))
+  goes-first e k = fits (fitAt 0 h) (record { inside = omega arith; there = refl; enough = e; first = (λ _. ahead-self h, k) })
+
+  alone-fits : NoneFits n hs → n ≤ h .pages → Fits n (h ∷ hs) (some (fitAt 0 h))
+  alone-fits k e = goes-first e (all-map (λ g. g .pages < n) (First n h) (λ g p q. absurd (omega arith)) hs k)
 
   still-none : NoneFits n hs → h .pages < n → Fits n (h ∷ hs) none
   still-none k e = none-fits (e, k)
 
   module _ (f : Fit) (k : IsLeast n hs f) where
-    closer-fits : n ≤ h .pages → h .pages ≤ f .pages → Fits n (h ∷ hs) (some (record { index = 0; pages = h .pages }))
-    closer-fits e l = first-least e (all-map (λ g. n ≤ g .pages → f .pages ≤ g .pages) (λ g. n ≤ g .pages → h .pages ≤ g .pages) (λ g p q. omega (arith, p q)) hs (k .least))
+    closer-fits : n ≤ h .pages → goesBefore h (f .hole) ≡ true → Fits n (h ∷ hs) (some (fitAt 0 h))
+    closer-fits e b = goes-first e (all-map (First n (f .hole)) (First n h) (λ g p q. ahead-trans h (f .hole) g (ahead h (f .hole) b) (p q)) hs (k .first))
 
-    stays-fit : (n ≤ h .pages → f .pages < h .pages) → Fits n (h ∷ hs) (some (record { index = suc (f .index); pages = f .pages }))
-    stays-fit longer = fits (record { index = suc (f .index); pages = f .pages }) (record { inside = omega (arith, k .inside); there = k .there; enough = k .enough; least = (λ e. omega (arith, longer e), k .least); first = before })
-      where
-        before : (j : ℕ) → j < suc (f .index) → holeAt j (h ∷ hs) .pages ≡ f .pages → ⊥
-        before zero l e = omega (arith, longer (omega (arith, k .enough)))
-        before (suc j) l e = k .first j (omega arith) e
+    stays-fit : First n (f .hole) h → Fits n (h ∷ hs) (some (fitAt (suc (f .index)) (f .hole)))
+    stays-fit b = fits (fitAt (suc (f .index)) (f .hole)) (record { inside = omega (arith, k .inside); there = k .there; enough = k .enough; first = (b, k .first) })
 
-  longer : (m : ℕ) → (leb n (h .pages) && leb (h .pages) m) ≡ false → n ≤ h .pages → m < h .pages
-  longer m e l = leb-false (h .pages) m (rw (le-leb n (h .pages) l) at e)
+  not-closer : (g : Hole) → (leb n (h .pages) && goesBefore h g) ≡ false → First n g h
+  not-closer g e l = behind h g (rw (le-leb n (h .pages) l) at e)
 
   nearer-fits : {o : Option Fit} → Fits n hs o → Fits n (h ∷ hs) (nearer n h o)
   nearer-fits (none-fits k) = search (fits-cond, alone-fits, still-none, leb-true, leb-false)
-  nearer-fits (fits f k) = search (fits-cond, closer-fits, stays-fit, longer, leb-true, and-left, and-right) depth 9
+  nearer-fits (fits f k) =
+      fits-cond n (h ∷ hs) (leb n (h .pages) && goesBefore h (f .hole)) _ _
+      (λ e. closer-fits f k (leb-true n (h .pages) (and-left (leb n (h .pages)) (goesBefore h (f .hole)) e)) (and-right (leb n (h .pages)) (goesBefore h (f .hole)) e))
+      (λ e. stays-fit f k (not-closer (f .hole) e))
 
 pub least-fits : (n : ℕ) (hs : List Hole) → Fits n hs (leastFit n hs)
 unfolding leastFit
@@ -68,54 +96,23 @@ least-fits n [] = none-fits tt
 least-fits n (h ∷ hs) = nearer-fits n h hs (least-fits n hs)
 
 -- the choice, with its reason
-pub data Chosen (n : ℕ) (s : HoleStore) : Option ℕ → Type 0 where
-  at-hole : (i : ℕ) → LeastAt n (s .holes) i → Which n s i → Chosen n s (some i)
-  no-hole : NoneFits n (s .holes) → Chosen n s none
+pub data Chosen (n : ℕ) (hs : List Hole) : Option ℕ → Type 0 where
+  at-hole : (i : ℕ) → LeastAt n hs i → Which hs i → Chosen n hs (some i)
+  no-hole : NoneFits n hs → Chosen n hs none
 
-module _ (n : ℕ) (hs : List Hole) (t : ℕ) (m : Memory) where
-  abbrev recall : Bool
-  recall = leb n rememberedMax && stillHolds n hs (m n)
+chosen-fit : (n : ℕ) (hs : List Hole) {o : Option Fit} → Fits n hs o → Chosen n hs (indexOf o)
+chosen-fit n hs (none-fits k) = no-hole k
+chosen-fit n hs (fits f k) =
+    at-hole (f .index)
+    (record {
+      inside = k .inside;
+      enough = rw (k .there) (k .enough);
+      least = rw (k .there) (all-map (First n (f .hole)) (λ h. n ≤ h .pages → f .hole .pages ≤ h .pages) (λ h p q. p q .shorter) hs (k .first));
+    })
+    (rw (k .there) (all-map (First n (f .hole)) (λ h. h .pages ≡ f .hole .pages → f .hole .first ≤ h .first) (λ h p e. p (omega (arith, k .enough)) .lower e) hs (k .first)))
 
-  from-fit : recall ≡ false → {o : Option Fit} → Fits n hs o → Chosen n (store hs t m) (indexOf o)
-  from-fit r (none-fits k) = no-hole k
-  from-fit r (fits f k) =
-      at-hole (f .index) (record {
-        inside = k .inside;
-        enough = omega (arith, k .enough, k .there);
-        least = all-map (λ h. n ≤ h .pages → f .pages ≤ h .pages) (λ h. n ≤ h .pages → holeAt (f .index) hs .pages ≤ h .pages) (λ h p q. omega (arith, p q, k .there)) hs (k .least);
-      }) (lowest r (λ j l e. k .first j l (e ∙ k .there)))
-
-  -- the remembered index, if it still holds the length, is as good as any
-  from-memory : recall ≡ true → (o : Option ℕ) → m n ≡ o → stillHolds n hs o ≡ true → Chosen n (store hs t m) o
-  unfolding stillHolds
-  from-memory r none q e = absurd (false≢true e)
-  from-memory r (some i) q e =
-      let same = eqb-true (holeAt i hs .pages) n (search and-right) in
-      at-hole i (record {
-        inside = ltb-true i (length hs) (search and-left);
-        enough = omega arith;
-        least = all-of (λ h. n ≤ h .pages → holeAt i hs .pages ≤ h .pages) (λ h p. omega arith) hs;
-      }) (remembered r q)
-
-chosenIn : (n : ℕ) (hs : List Hole) (t : ℕ) (m : Memory) → Chosen n (store hs t m) (chooseIn n hs t m .index)
-unfolding chooseIn
-chosenIn n [] t m = no-hole tt
-chosenIn n (h ∷ hs) t m =
-    by-cases (leb n rememberedMax && stillHolds n (h ∷ hs) (m n))
-    (λ e. rw e (from-memory n (h ∷ hs) t m e (m n) refl (and-right (leb n rememberedMax) (stillHolds n (h ∷ hs) (m n)) e)))
-    (λ e. rw e (from-fit n (h ∷ hs) t m e (least-fits n (h ∷ hs))))
-
-pub chosen : (n : ℕ) (s : HoleStore) → Chosen n s (choose n s .index)
-chosen n s = chosenIn n (s .holes) (s .total) (s .memory)
-
--- a choice moves no hole
-holesIn : (n : ℕ) (hs : List Hole) (t : ℕ) (m : Memory) → chooseIn n hs t m .store .holes ≡ hs
-unfolding chooseIn
-holesIn n [] t m = refl
-holesIn n (h ∷ hs) t m = by-cases (leb n rememberedMax && stillHolds n (h ∷ hs) (m n)) (λ e. rw e refl) (λ e. rw e refl)
-
-pub choose-holes : (n : ℕ) (s : HoleStore) → choose n s .store .holes ≡ s .holes
-choose-holes n s = holesIn n (s .holes) (s .total) (s .memory)
+pub chosen : (n : ℕ) (hs : List Hole) → Chosen n hs (choose n hs)
+chosen n hs = chosen-fit n hs (least-fits n hs)
 
 -- the pages of a store, at page x
 abbrev pub holesWith : ℕ → List Hole → ℕ

@@ -67,7 +67,7 @@ drawFrom size n a (some i) = given (withStore (takeAt n i (a .store)) a) (some (
 drawFrom size n a none = cond (leb (a .frontier + n) size) (given (withFrontier (a .frontier + n) a) (some (a .frontier)) true) (given a none false)
 
 unfoldable pub draw : ℕ → ℕ → Arena → Given
-draw size n a = let x = choose n (a .store) in drawFrom size n (withStore (x .store) a) (x .index)
+draw size n a = drawFrom size n a (choose n (a .store .holes))
 
 -- "If the commit is not granted the run is given to the holes and the answer is none, whether it came from hole or frontier."
 unfoldable pub grant : ℕ → ℕ → Arena → Option ℕ → Bool → Given

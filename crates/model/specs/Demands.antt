@@ -15,18 +15,24 @@ use Rattle.model.specs.Class.{Class, Ask, done}
 use Rattle.model.specs.Release.{outHere}
 use Rattle.model.specs.Chunks.{answer}
 use Rattle.model.specs.Heap.{Heap, isHeld, isDirect, classCall, step}
-use Rattle.model.specs.History.{Event, events, heapAfter, callsOf, answersOf, runsOf}
+use Rattle.model.specs.History.{Event, events, heapAfter, callsOf, answersOf, runsOf, eventsFrom, heapFrom}
 use Rattle.model.specs.Entries.{Entry, Live, OutIn, AllOut, HasByte, firstByte, blockBytes, directAfter}
 use Rattle.model.specs.Ledger.{inHoles, above, runsWith, heldBy, abandonedFrom}
 use Rattle.model.specs.Held.{gained, lost, parkedAt, idleAt}
-use Rattle.model.specs.BestFit.{Commits, Remembers}
+use Rattle.model.specs.BestFit.{Commits}
+use Rattle.model.specs.Order.{SameHeap}
 use Rattle.model.specs.Yields.{Listed, TakeYields}
 use Rattle.model.specs.Heap.{newHeap}
 
--- Demand 2: a commit on the heap after a history answers by best fit, or none with its reason; and the memory is what document 01 makes it
+-- Demand 2: a commit on the heap after a history answers by best fit, or none with its reason
 pub record BestFit (size : ℕ) (xs : List Call) : Type 0 where
   pub commits : (h n : ℕ) → Commits size h n (heapAfter size xs .arena) (Arenas.commit size h n (heapAfter size xs .arena) .run) (Arenas.commit size h n (heapAfter size xs .arena) .fresh)
-  pub remembers : Remembers (heapAfter size xs .arena .store)
+
+-- Document 02, A.8: where two histories lead to heaps that differ in the order of their holes alone, every further history is answered
+-- alike, with the same runs, and they go on differing in it alone
+pub record Orderless (size : ℕ) (xs ys : List Call) : Type 0 where
+  pub alike : SameHeap (heapAfter size xs) (heapAfter size ys) → (zs : List Call) → eventsFrom size (heapAfter size xs) zs ≡ eventsFrom size (heapAfter size ys) zs
+  pub stays : SameHeap (heapAfter size xs) (heapAfter size ys) → (zs : List Call) → SameHeap (heapFrom size (heapAfter size xs) zs) (heapFrom size (heapAfter size ys) zs)
 
 -- Demand 2: "Each source is tried only if the earlier gave no block", so a take is empty only if the arena was asked and gave none
 pub record Yielding (size : ℕ) (xs : List Call) : Type 0 where

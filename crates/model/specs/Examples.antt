@@ -1,8 +1,8 @@
--- Document 01's examples, and rules of its where one that is a little different would answer something else: one table. Histories are
+-- Document 01's examples, as document 02 has them, and rules of both where one that is a little different would answer something else: one table. Histories are
 -- on an arena of 64 pages. docs/RULES.md says which rule each row holds.
 use Prim.Native.Nat.{ℕ, zero, suc, _+_, _-_, _*_, _/_, _^_}
 use mathlib.Core.List.{List, [], _∷_, _++_, map}
-use mathlib.Core.Option.{Option, none, some}
+use mathlib.Core.Option.{none}
 use mathlib.Core.Bool.{Bool, true, false}
 use lib.ListN.{length, replicate}
 use Rattle.facts.specs.Lists.{below}
@@ -13,7 +13,7 @@ use Rattle.classes.specs.Shape.{shapeOf}
 use Rattle.classes.specs.Examples as Lookups
 use Rattle.model.specs.declared.Hole.{Hole}
 use Rattle.model.specs.Calls.{Call, takeBlocks, mediumTakeBlocks, releaseBlocks, mediumReleaseBlocks, releaseBinChunks, commit, growFrontier, release, contains, report, Answer, refused, taken, fate, fates, run, noRun, released, grown, contained, reported}
-use Rattle.model.specs.HoleStore.{hole, store, choose, accepts}
+use Rattle.model.specs.HoleStore.{hole, store, accepts}
 use Rattle.model.specs.Page.{Page, carveAs}
 use Rattle.model.specs.Class.{newClass, lists, Ask, serve, takeFrom}
 use Rattle.model.specs.Release.{Settled, park}
@@ -21,14 +21,12 @@ use Rattle.model.specs.Chunks.{releaseChunks}
 use Rattle.model.specs.History.{answers, heapAfter}
 
 -- what is told: the class of a size; of a history, each call's answer, and the holes stored after the last; an emptied run's fate, and
--- how many empty and cold ones its class then has; whether a given run is stored; the hole that is chosen; or a class's answer that
--- needs no arena
+-- how many empty and cold ones its class then has; whether a given run is stored; or a class's answer that needs no arena
 pub data Told : Type 0 where
   lookup : (class : Sized) → Told
   history : (answers : List Answer) (holes : List Hole) → Told
   parked : (fate empty cold : ℕ) → Told
   stored : Bool → Told
-  chosen : Option ℕ → Told
   answered : Answer → Told
 
 pub record Example : Type 0 where
@@ -53,11 +51,7 @@ onPark c e k t = record {
 
 -- n pages are given to a store of so many holes with so many pages
 unfoldable pub onGive : ℕ → ℕ → ℕ → Bool → Example
-onGive n holes pages b = record { found = stored (accepts n (store (replicate holes (hole 0 1)) pages (λ k. none))); expected = stored b }
-
--- which of two holes of n pages is chosen, where the second is remembered
-unfoldable pub onChoice : ℕ → ℕ → Example
-onChoice n i = record { found = chosen (choose n (store (hole 0 n ∷ hole n n ∷ []) (n + n) (λ k. some 1)) .index); expected = chosen (some i) }
+onGive n holes pages b = record { found = stored (accepts n (store (replicate holes (hole 0 1)) pages)); expected = stored b }
 
 unfoldable pub onClass : Ask → Answer → Example
 onClass q z = record { found = answered (serve q none .answer); expected = answered z }
@@ -135,18 +129,16 @@ rules =
     -- a cold one and a span of three; not the page with a block out
     ∷ onNewHeap (map (λ q. take45) (below 6) ++ map (λ q. give45 15 (threeOf (q * 4096))) (5 ∷ 4 ∷ 3 ∷ []) ++ releaseBinChunks 45 15 (threeOf 8192) (chunkWord 3 2 ∷ []) (9 ∷ []) ∷ give45 15 (threeOf 4096) ∷ give45 15 (smalls (2051 ∷ 1027 ∷ [])) ∷ mediumTakeBlocks 0 15 (lent 10) ∷ mediumReleaseBlocks 0 15 (mediums (rising 393280 18432 10)) ∷ report ∷ [])
     (map (λ q. taken45 (q * 4096) true) (0 ∷ 1 ∷ 2 ∷ 3 ∷ 4 ∷ 5 ∷ []) ++ fate 0 ∷ fate 0 ∷ fate 0 ∷ fates (4 ∷ []) ∷ fate 1 ∷ fate 0 ∷ taken 10 (mediums (rising 393280 18432 10)) true ∷ fate 0 ∷ reported (record { commits = 7; reuses = 0; abandoned = 0; held = 9; idle = 63; overlap = 8 }) ∷ []) []
-    -- "Both then set the memory of the length the hole had": two holes of 5 pages are left after one is cut
-    ∷ onNewHeap (commit 15 18 ∷ release 15 0 5 ∷ release 15 6 5 ∷ release 15 12 5 ∷ commit 15 3 ∷ commit 15 5 ∷ [])
-    (run 0 true ∷ released ∷ released ∷ released ∷ run 0 false ∷ run 6 false ∷ []) (hole 3 2 ∷ hole 12 5 ∷ [])
-    -- "so is a cut's remainder", at its own index
-    ∷ onNewHeap (commit 15 9 ∷ release 15 0 2 ∷ release 15 3 5 ∷ commit 15 3 ∷ commit 15 2 ∷ [])
-    (run 0 true ∷ released ∷ released ∷ run 3 false ∷ run 6 false ∷ []) (hole 0 2 ∷ [])
+    -- "Among holes of the least sufficient length the one with the lowest page is taken" (document 02, A.8): whichever was given last,
+    -- and not a longer one with a lower page
+    ∷ onNewHeap (commit 15 13 ∷ release 15 8 2 ∷ release 15 0 3 ∷ release 15 4 2 ∷ release 15 11 2 ∷ commit 15 2 ∷ commit 15 2 ∷ commit 15 1 ∷ [])
+    (run 0 true ∷ released ∷ released ∷ released ∷ released ∷ run 4 false ∷ run 8 false ∷ run 11 false ∷ []) (hole 12 1 ∷ hole 0 3 ∷ [])
+    -- "A longer hole is cut at its front and keeps its index."
+    ∷ onNewHeap (commit 15 9 ∷ release 15 0 5 ∷ release 15 6 2 ∷ commit 15 3 ∷ [])
+    (run 0 true ∷ released ∷ released ∷ run 0 false ∷ []) (hole 3 2 ∷ hole 6 2 ∷ [])
     -- "A used-up hole is replaced by the last one."
     ∷ onNewHeap (commit 15 8 ∷ release 15 0 1 ∷ release 15 2 1 ∷ release 15 4 1 ∷ release 15 6 1 ∷ commit 15 1 ∷ commit 15 1 ∷ [])
-    (run 0 true ∷ released ∷ released ∷ released ∷ released ∷ run 6 false ∷ run 0 false ∷ []) (hole 4 1 ∷ hole 2 1 ∷ [])
-    -- "remembers per length up to 128 an index"
-    ∷ onChoice 128 1
-    ∷ onChoice 129 0
+    (run 0 true ∷ released ∷ released ∷ released ∷ released ∷ run 0 false ∷ run 2 false ∷ []) (hole 6 1 ∷ hole 4 1 ∷ [])
     -- "if 4,096 holes are stored or the total would pass 65,536 pages"
     ∷ onGive 1 4095 4095 true
     ∷ onGive 1 4096 4096 false
@@ -210,9 +202,9 @@ examples =
     -- P10: "bytes 64, 18,496 and on by 18,432, ten blocks"
     ∷ onNewHeap (mediumTakeBlocks 0 15 (lent 10) ∷ [])
     (taken 10 (mediums (64 ∷ rising 18496 18432 9)) true ∷ []) []
-    -- P11: "holes (0,2), (4,2), (8,2) given in turn: three takes of 2 get pages 8, 0, 4"
+    -- P11: "holes (0,2), (4,2), (8,2) given in turn: three takes of 2 get pages", "now" (document 02, A.8) "gives 0, 4, 8"
     ∷ onNewHeap (commit 15 10 ∷ release 15 0 2 ∷ release 15 4 2 ∷ release 15 8 2 ∷ commit 15 2 ∷ commit 15 2 ∷ commit 15 2 ∷ [])
-    (run 0 true ∷ released ∷ released ∷ released ∷ run 8 false ∷ run 0 false ∷ run 4 false ∷ []) []
+    (run 0 true ∷ released ∷ released ∷ released ∷ run 0 false ∷ run 4 false ∷ run 8 false ∷ []) []
     -- P12: "hole (0,4), take 2 not granted: none, holes (2,2), (0,2)"
     ∷ onNewHeap (commit 15 4 ∷ release 15 0 4 ∷ commit 13 2 ∷ [])
     (run 0 true ∷ released ∷ noRun ∷ []) (hole 2 2 ∷ hole 0 2 ∷ [])

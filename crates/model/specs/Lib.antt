@@ -13,6 +13,7 @@ pub mod Entries
 pub mod Ledger
 pub mod Held
 pub mod BestFit
+pub mod Order
 pub mod Yields
 pub mod Demands
 pub mod Examples

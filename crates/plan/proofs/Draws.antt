@@ -7,7 +7,7 @@ use mathlib.Core.Bool.{Bool, true, false, true≢false}
 use lib.Dec.{leb}
 use borrow.Author.Tests.{leb-true, leb-false}
 use Rattle.words.specs.Host.{reservationGranted, commitGranted}
-use Rattle.model.specs.HoleStore.{chooseIn}
+use Rattle.model.specs.HoleStore.{leastFit}
 use Rattle.model.specs.Arena.{Arena, Status, unasked, ready, disabled, Given, withStatus, drawFrom, draw, grant, commitReady, commitAs, commit}
 use Rattle.facts.proofs.Bools.{by-cases}
 
@@ -27,7 +27,7 @@ pub data Draws (n m : ℕ) (a : Arena) : Given → Type 0 where
 
 module _ (n h m : ℕ) (r : reservationGranted h ≡ true) (c : commitGranted h ≡ true) where
   ready-draws : (a : Arena) → a .store .holes ≡ [] → a .status ≡ ready → Draws n m a (commitReady n h m a)
-  unfolding commitReady draw drawFrom grant chooseIn
+  unfolding commitReady draw drawFrom grant leastFit
   ready-draws a e s =
       by-cases (leb (a .frontier + m) n)
       (λ b. let u : usable (a .status) ≡ true = rw s in

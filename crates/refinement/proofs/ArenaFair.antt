@@ -1,26 +1,24 @@
 -- Number 13's tests for the arena's steps pass on a book that stands for a reached heap.
---     record-passes, memory-passes, holes-passes    the record, the memory of a length, the holes
---     commit-passes                                 all that a commit tests
---     give-passes                                   all that a give of held pages tests
-use Prim.Native.Nat.{ℕ, zero, suc, _+_, _≤_, _<_}
+--     record-passes, holes-passes    the record, the holes
+--     commit-passes                  all that a commit tests
+--     give-passes                    all that a give of held pages tests
+use Prim.Native.Nat.{ℕ, _+_, _≤_}
 use native.Mathlib.Omega.{arith}
 use mathlib.Core.Bool.{true}
 use mathlib.Core.List.{List, [], _∷_}
-use mathlib.Core.Option.{Option, some}
 use mathlib.Core.Path.{_≡_, refl, sym, ap, _∙_}
 use lib.Dec.{leb}
 use lib.ListN.{length}
-use borrow.Author.Tests.{le-leb, leb-true}
+use borrow.Author.Tests.{le-leb}
 use Rattle.facts.specs.Lists.{every, All, total}
-use Rattle.facts.proofs.Bools.{by-cases}
-use Rattle.fields.specs.Field.{arena, memory, state, frontier, holes, holePages, held, get}
-use Rattle.words.specs.Limits.{holeSlots, holePagesMax, rememberedMax}
+use Rattle.fields.specs.Field.{arena, state, frontier, holes, holePages, held, get}
+use Rattle.words.specs.Limits.{holeSlots, holePagesMax}
 use Rattle.model.specs.declared.Hole.{Hole}
 use Rattle.model.specs.Arena.{Arena, Status, unasked, ready, disabled}
 use Rattle.model.specs.Heap.{Heap, heldPages}
 use Rattle.model.proofs.IdlePages.{HolesBelow}
-use Rattle.arena.specs.Load.{statusCode, indexOf, recall, loadHoles, loadStore, loadArena}
-use Rattle.arena.specs.Fair.{holeFair, recordFair, holesFair, memoryFair, commitFair, giveFair}
+use Rattle.arena.specs.Load.{statusCode, loadHoles, loadStore, loadArena}
+use Rattle.arena.specs.Fair.{holeFair, recordFair, holesFair, commitFair, giveFair}
 use Rattle.arena.specs.Represents.{ArenaRep}
 use Rattle.arena.proofs.Frames.{loaded-length}
 use Rattle.refinement.proofs.ArenaReached.{Reached, reached-holes, held-le}
@@ -42,20 +40,11 @@ module _ (b : List ℕ) (a : Arena) (loads : loadArena b ≡ a) where
   pub loads-number : get b (arena holes) ≡ length (a .store .holes)
   loads-number = sym (loaded-length b 0 (get b (arena holes))) ∙ ap length loads-holes
 
-  pub loads-memory : (m : ℕ) → recall b m ≡ a .store .memory m
-  unfolding loadArena loadStore
-  loads-memory m = ap (λ x. x .store .memory m) loads
-
 -- ---- the tests
 status-range : (s : Status) → leb (statusCode s) 2 ≡ true
 status-range unasked = refl
 status-range ready = refl
 status-range disabled = refl
-
--- the code of an index below the limit
-code-range : (v : ℕ) (o : Option ℕ) → indexOf v ≡ o → ((i : ℕ) → o ≡ some i → i < holeSlots) → leb v holeSlots ≡ true
-code-range zero o e k = le-leb 0 holeSlots (omega arith)
-code-range (suc i) o e k = le-leb (suc i) holeSlots (omega (arith, k i (sym e)))
 
 -- a hole has at most the total's pages
 holes-range : (t f : ℕ) (hs : List Hole) → All (λ h. 1 ≤ h .pages) hs → HolesBelow f hs → total (λ h. h .pages) hs ≤ t → every (holeFair t f) hs ≡ true
@@ -84,21 +73,15 @@ module _ (n : ℕ) (b : List ℕ) (H : Heap) (rep : ArenaRep n b H) (r : Reached
         le-leb (heldPages n H) n (held-le n H r),
       )
 
-  pub memory-passes : (m : ℕ) → memoryFair b m ≡ true
-  memory-passes m =
-      by-cases (leb m rememberedMax)
-      (λ e. rw e (code-range (get b (memory m)) (H .arena .store .memory m) (rw e at (loads-memory b (H .arena) (rep .loads) m)) (r .tidy .memory m (leb-true m 128 e) .slot)))
-      (λ e. rw e)
-
   pub holes-passes : holesFair b ≡ true
   unfolding holesFair
   holes-passes =
       rw (loads-total b (H .arena) (rep .loads), loads-frontier b (H .arena) (rep .loads), loads-holes b (H .arena) (rep .loads))
       (holes-range (H .arena .store .total) (H .arena .frontier) (H .arena .store .holes) (r .tidy .each) (reached-holes n H r) (omega (arith, r .tidy .sum)))
 
-  pub commit-passes : (m : ℕ) → commitFair n b m ≡ true
+  pub commit-passes : commitFair n b ≡ true
   unfolding commitFair
-  commit-passes m = rw (record-passes, memory-passes m, holes-passes)
+  commit-passes = rw (record-passes, holes-passes)
 
   pub give-passes : (m : ℕ) → m ≤ heldPages n H → giveFair n b m ≡ true
   unfolding giveFair

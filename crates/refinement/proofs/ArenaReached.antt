@@ -18,7 +18,7 @@ use Rattle.model.specs.Class.{Class}
 use Rattle.model.specs.Heap.{Heap, Holder, nobody, direct, class, isHeld, passTo, heldPages, step}
 use Rattle.model.specs.History.{heapFrom, heapAfter}
 use Rattle.model.proofs.Runs.{above-at}
-use Rattle.model.proofs.Remembers.{Tidy}
+use Rattle.model.proofs.Tidy.{Tidy}
 use Rattle.model.proofs.ArenaTidy.{tidy-commit, tidy-grow, tidy-give}
 use Rattle.model.proofs.ArenaLaws.{idle, commit-law, grow-law, grow-bound, give-law, give-frontier}
 use Rattle.model.proofs.IdlePages.{HolesBelow, holes-below}

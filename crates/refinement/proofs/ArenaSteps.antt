@@ -12,13 +12,13 @@ use borrow.Author.Tests.{ltb-true, ltb-false, le-leb, lt-ltb, lt-leb}
 use Rattle.facts.proofs.Bools.{by-cases}
 use Rattle.model.specs.Cover.{inRun, covers}
 use Rattle.words.specs.Limits.{holeSlots}
-use Rattle.fields.specs.Field.{Field, arena, memory, class, hole, page, out, slot, owner, size, state, held, holes, pageOff, get, put, ok, words}
+use Rattle.fields.specs.Field.{Field, arena, class, hole, page, out, slot, owner, size, state, held, holes, pageOff, get, put, ok, words}
 use Rattle.fields.proofs.Laws.{get-put-same, get-put-other, length-put}
 use Rattle.fields.proofs.Changes.{differ}
 use Rattle.model.specs.Arena.{Arena}
 use Rattle.model.specs.Heap.{Heap, Holder, nobody, passTo, heldPages}
 use Rattle.model.specs.Class.{Class}
-use Rattle.model.proofs.Remembers.{Tidy}
+use Rattle.model.proofs.Tidy.{Tidy}
 use Rattle.arena.specs.Load.{statusCode, loadArena}
 use Rattle.arena.specs.Store.{storeArena}
 use Rattle.arena.specs.Owners.{ownerCode, own}
@@ -51,7 +51,6 @@ rep-classes n b H cs r = stands-rep n b (H .arena) (H .holder) (heldPages n H) c
 -- the words that the arena's part reads: what keeps them keeps it
 abbrev pub isArenas : Field → Bool
 isArenas (arena k) = true
-isArenas (memory m) = true
 isArenas (class k c) = false
 isArenas (hole k i) = true
 isArenas (page k p) = eqb (pageOff k) 0
@@ -60,7 +59,6 @@ isArenas (slot p i) = false
 
 stored-arenas : (g : Field) → isStored g ≡ true → isArenas g ≡ true
 stored-arenas (arena k) e = refl
-stored-arenas (memory m) e = refl
 stored-arenas (class k c) e = e
 stored-arenas (hole k i) e = refl
 stored-arenas (page k p) e = absurd (false≢true e)
@@ -81,7 +79,6 @@ rep-kept n b b′ H few long k r = record {
 
 owner-apart : (t : ℕ → Bool) (g : Field) → isStored g ≡ true → isOwner t g ≡ false
 owner-apart t (arena k) e = refl
-owner-apart t (memory m) e = refl
 owner-apart t (class k c) e = refl
 owner-apart t (hole k i) e = refl
 owner-apart t (page k p) e = absurd (false≢true e)
@@ -96,7 +93,7 @@ module _ (n : ℕ) (b : List ℕ) (a : Arena) (w : ℕ → Holder) (f k : ℕ) (
       record {
         long = long-kept n b (storeArena b a′) (h .long) (s .long);
         length = h .kept (arena size) refl refl ∙ s .length;
-        loads = load-store n b a′ (s .long) t;
+        loads = load-store n b a′ (s .long) (t .slots);
         state = store-written n b a′ (s .long) (t .slots) .status;
         held = h .kept (arena held) refl refl ∙ s .held;
         owners = λ x l. h .kept (page owner x) refl refl ∙ s .owners x l;

@@ -1,28 +1,24 @@
 -- The arena's words: what was stored is loaded again.
 --     load-kept        a book with the same such words holds the same arena
 --     load-store       an arena that was stored is loaded again
-use Prim.Native.Nat.{ℕ, zero, suc, _+_, _≤_, _<_}
+use Prim.Native.Nat.{ℕ, zero, suc, _+_, _≤_}
 use native.Mathlib.Omega.{arith}
 use mathlib.Core.Bool.{true, false}
 use mathlib.Core.List.{List, [], _∷_}
-use mathlib.Core.Option.{Option, none, some}
-use mathlib.Core.Path.{_≡_, refl, sym, ap, _∙_, subst, fun-ext}
+use mathlib.Core.Path.{_≡_, refl, ap, _∙_}
 use lib.Dec.{eqb, ltb, leb}
 use lib.ListN.{length}
-use borrow.Author.Tests.{lt-ltb, ltb-true, ne-eqb, eqb-true, eqb-false, leb-true, leb-false}
-use Rattle.facts.proofs.Bools.{by-cases, and-no}
+use borrow.Author.Tests.{lt-ltb, ne-eqb}
+use Rattle.facts.proofs.Bools.{and-no}
 use Rattle.words.specs.Limits.{holeSlots}
-use Rattle.fields.specs.Field.{Field, arena, memory, hole, HoleField, start, pages, state, frontier, holes, holePages, commits, commitsHigh, reuses, reusesHigh, abandoned, abandonedHigh, holeOff, get, put, ok, words}
+use Rattle.fields.specs.Field.{Field, arena, hole, HoleField, start, pages, state, frontier, holes, holePages, commits, commitsHigh, reuses, reusesHigh, abandoned, abandonedHigh, holeOff, get, put, ok, words}
 use Rattle.fields.specs.Wide.{getWide}
 use Rattle.fields.proofs.Laws.{get-put-same, get-put-other, length-put}
-use Rattle.fields.proofs.Changes.{changes-none}
 use Rattle.model.specs.declared.Hole.{Hole}
-use Rattle.model.specs.HoleStore.{HoleStore, Memory}
 use Rattle.model.specs.Arena.{Arena, Status, unasked, ready, disabled}
-use Rattle.model.proofs.Remembers.{Tidy}
-use Rattle.arena.proofs.Frames.{isStored, holes-change, memory-changes, store-changes}
-use Rattle.arena.specs.Load.{statusOf, statusCode, indexOf, indexCode, loadHole, loadHoles, recall, loadStore, loadArena}
-use Rattle.arena.specs.Store.{storeHole, storeHoles, storeMemory, memoryWords, storeCounts, storeTop, storeStore, storeArena}
+use Rattle.arena.proofs.Frames.{isStored, holes-change}
+use Rattle.arena.specs.Load.{statusOf, statusCode, loadHole, loadHoles, loadStore, loadArena}
+use Rattle.arena.specs.Store.{storeHole, storeHoles, storeCounts, storeTop, storeArena}
 
 pub long-kept : (n : ℕ) (b b′ : List ℕ) → length b′ ≡ length b → leb (words n) (length b) ≡ true → leb (words n) (length b′) ≡ true
 long-kept n b b′ e h = rw e h
@@ -33,10 +29,6 @@ status-of unasked = refl
 status-of ready = refl
 status-of disabled = refl
 
-index-of : (o : Option ℕ) → indexOf (indexCode o) ≡ o
-index-of none = refl
-index-of (some i) = refl
-
 -- the words are those of an arena: then they load it
 pub record Written (b : List ℕ) (a : Arena) : Type 0 where
   pub status : get b (arena state) ≡ statusCode (a .status)
@@ -44,21 +36,14 @@ pub record Written (b : List ℕ) (a : Arena) : Type 0 where
   pub number : get b (arena holes) ≡ length (a .store .holes)
   pub total : get b (arena holePages) ≡ a .store .total
   pub holes : loadHoles b 0 (length (a .store .holes)) ≡ a .store .holes
-  pub memory : (m : ℕ) → ltb m 129 ≡ true → get b (memory m) ≡ indexCode (a .store .memory m)
   pub commits : getWide b commits commitsHigh ≡ a .commits
   pub reuses : getWide b reuses reusesHigh ≡ a .reuses
   pub abandoned : getWide b abandoned abandonedHigh ≡ a .abandoned
 
-below-129 : (m : ℕ) → leb m 128 ≡ true → ltb m 129 ≡ true
-below-129 m e = lt-ltb m 129 (let z = leb-true m 128 e in omega arith)
-
-pub load-written : (b : List ℕ) (a : Arena) → Tidy (a .store) → Written b a → loadArena b ≡ a
+pub load-written : (b : List ℕ) (a : Arena) → Written b a → loadArena b ≡ a
 unfolding loadArena loadStore
-load-written b a t w =
-    let recalls : recall b ≡ a .store .memory = fun-ext (λ m. by-cases (leb m 128)
-    (λ e. rw (e, w .memory m (below-129 m e)) (index-of (a .store .memory m)))
-    (λ e. rw e (sym (t .beyond m (leb-false m 128 e))))) in
-    rw (w .status, status-of (a .status), w .frontier, w .number, w .holes, w .total, recalls, w .commits, w .reuses, w .abandoned) refl
+load-written b a w =
+    rw (w .status, status-of (a .status), w .frontier, w .number, w .holes, w .total, w .commits, w .reuses, w .abandoned) refl
 
 -- ---- a book whose arena's words are as they were
 holes-same : (b b′ : List ℕ) (i k : ℕ) → i + k ≤ 4096 → ((f : HoleField) (j : ℕ) → ltb j 4096 ≡ true → i ≤ j → get b′ (hole f j) ≡ get b (hole f j))
@@ -72,14 +57,12 @@ holes-same b b′ i (suc k) l h =
 pub load-kept : (b b′ : List ℕ) → get b (arena holes) ≤ 4096 → ((g : Field) → ok g ≡ true → isStored g ≡ true → get b′ g ≡ get b g) → loadArena b′ ≡ loadArena b
 unfolding loadArena loadStore
 load-kept b b′ l h =
-    let recalls : recall b′ ≡ recall b = fun-ext (λ m. by-cases (leb m 128) (λ e. rw (e, h (memory m) (below-129 m e) refl)) (λ e. rw e)) in
     rw (
       h (arena state) refl refl,
       h (arena frontier) refl refl,
       h (arena holes) refl refl,
       holes-same b b′ 0 (get b (arena holes)) (omega arith) (λ f j o u. h (hole f j) o refl),
       h (arena holePages) refl refl,
-      recalls,
       h (arena commits) refl refl,
       h (arena commitsHigh) refl refl,
       h (arena reuses) refl refl,
@@ -115,36 +98,6 @@ module _ (n : ℕ) where
       (ap (λ l. h ∷ l) (holes-same c (storeHole c i h) (suc i) (length hs) (omega arith) (λ f j v u. hole-other c i j f h o v (ne-eqb i j (λ e. omega arith)))
       ∙ holes-there b (suc i) hs hb (omega arith)))
 
-  memory-there : (b : List ℕ) (f : Memory) (m : ℕ) → leb (words n) (length b) ≡ true → m ≤ 129 → (j : ℕ) → j < m → get (storeMemory b f m) (memory j) ≡ indexCode (f j)
-  unfolding storeMemory
-  memory-there b f zero hb l j h = absurd (omega arith)
-  memory-there b f (suc m) hb l j h =
-      let c = storeMemory b f m in
-      let o : ltb m 129 ≡ true = lt-ltb m 129 (omega arith) in
-      let hc = long-kept n b c (memory-changes b b f m (omega arith) (changes-none isStored b) .long) hb in
-      by-cases (eqb m j)
-      (λ e. let z = eqb-true m j e in
-      subst (λ x. get (put c (memory m) (indexCode (f m))) (memory x) ≡ indexCode (f x)) z (get-put-same n c (memory m) (indexCode (f m)) hc o refl))
-      (λ e. let z : m ≡ j → ⊥ = eqb-false m j e in
-      get-put-other c (memory m) (memory j) (indexCode (f m)) o (lt-ltb j 129 (omega arith)) e ∙ memory-there b f m hb (omega arith) j (omega (arith, z)))
-
-  memory-holes : (b : List ℕ) (f : Memory) (m : ℕ) → m ≤ 129 → (k : HoleField) (j : ℕ) → ltb j 4096 ≡ true → get (storeMemory b f m) (hole k j) ≡ get b (hole k j)
-  unfolding storeMemory
-  memory-holes b f zero l k j o = refl
-  memory-holes b f (suc m) l k j o =
-      get-put-other (storeMemory b f m) (memory m) (hole k j) (indexCode (f m)) (lt-ltb m 129 (omega arith)) o refl ∙ memory-holes b f m (omega arith) k j o
-
-  store-there : (b : List ℕ) (s : HoleStore) → leb (words n) (length b) ≡ true → length (s .holes) ≤ holeSlots
-      → (loadHoles (storeStore b s) 0 (length (s .holes)) ≡ s .holes) × ((m : ℕ) → ltb m 129 ≡ true → get (storeStore b s) (memory m) ≡ indexCode (s .memory m))
-  unfolding storeStore memoryWords
-  store-there b s hb l =
-      let c = storeHoles b 0 (s .holes) in
-      let hc = long-kept n b c (holes-change b 0 (s .holes) (omega arith) .long) hb in (
-        holes-same c (storeMemory c (s .memory) 129) 0 (length (s .holes)) (omega arith) (λ f j o u. memory-holes c (s .memory) 129 (omega arith) f j o)
-            ∙ holes-there b 0 (s .holes) hb (omega arith),
-        λ m o. memory-there c (s .memory) 129 hc (omega arith) m (ltb-true m 129 o),
-      )
-
   -- the record over any book
   record Top (x y : List ℕ) (s f k t c r a : ℕ) : Type 0 where
     state : get y (arena state) ≡ s
@@ -152,7 +105,6 @@ module _ (n : ℕ) where
     number : get y (arena holes) ≡ k
     total : get y (arena holePages) ≡ t
     holes : (f : HoleField) (j : ℕ) → ltb j 4096 ≡ true → get y (hole f j) ≡ get x (hole f j)
-    memory : (m : ℕ) → ltb m 129 ≡ true → get y (memory m) ≡ get x (memory m)
     commits : getWide y commits commitsHigh ≡ c
     reuses : getWide y reuses reusesHigh ≡ r
     abandoned : getWide y abandoned abandonedHigh ≡ a
@@ -165,7 +117,6 @@ module _ (n : ℕ) where
     number = simp (get-put-other, get-put-same n, length-put, hx);
     total = simp (get-put-same n, length-put, hx);
     holes = λ f j o. simp get-put-other;
-    memory = λ m o. simp get-put-other;
     commits = simp (get-put-other, get-put-same n, length-put, hx) (omega arith);
     reuses = simp (get-put-other, get-put-same n, length-put, hx) (omega arith);
     abandoned = simp (get-put-other, get-put-same n, length-put, hx) (omega arith);
@@ -174,22 +125,20 @@ module _ (n : ℕ) where
   pub store-written : (b : List ℕ) (a : Arena) → leb (words n) (length b) ≡ true → length (a .store .holes) ≤ holeSlots → Written (storeArena b a) a
   unfolding storeArena
   store-written b a hb l =
-      let x = storeStore b (a .store) in
-      let s = store-there b (a .store) hb l in
-      let hx = long-kept n b x (store-changes b (a .store) l .long) hb in
+      let x = storeHoles b 0 (a .store .holes) in
+      let hx = long-kept n b x (holes-change b 0 (a .store .holes) (omega arith) .long) hb in
       let t = top-there x hx (statusCode (a .status)) (a .frontier) (length (a .store .holes)) (a .store .total) (a .commits) (a .reuses) (a .abandoned) in
       record {
         status = t .state;
         frontier = t .frontier;
         number = t .number;
         total = t .total;
-        holes = holes-same x _ 0 (length (a .store .holes)) (omega arith) (λ f j o u. t .holes f j o) ∙ s .0;
-        memory = λ m o. t .memory m o ∙ s .1 m o;
+        holes = holes-same x _ 0 (length (a .store .holes)) (omega arith) (λ f j o u. t .holes f j o) ∙ holes-there b 0 (a .store .holes) hb (omega arith);
         commits = t .commits;
         reuses = t .reuses;
         abandoned = t .abandoned;
       }
 
-  -- an arena with a tidy store, in a book that is long enough
-  pub load-store : (b : List ℕ) (a : Arena) → leb (words n) (length b) ≡ true → Tidy (a .store) → loadArena (storeArena b a) ≡ a
-  load-store b a hb t = load-written (storeArena b a) a t (store-written b a hb (t .slots))
+  -- an arena with no more holes than there are slots, in a book that is long enough
+  pub load-store : (b : List ℕ) (a : Arena) → leb (words n) (length b) ≡ true → length (a .store .holes) ≤ holeSlots → loadArena (storeArena b a) ≡ a
+  load-store b a hb l = load-written (storeArena b a) a (store-written b a hb l)

@@ -15,7 +15,7 @@ use Rattle.model.specs.Arena.{Arena, commit, grow}
 use Rattle.model.specs.Ledger.{above}
 use Rattle.model.specs.Class.{Class}
 use Rattle.model.specs.Heap.{Heap, Holder, direct, isHeld, passTo, heldPages}
-use Rattle.model.proofs.Remembers.{Tidy}
+use Rattle.model.proofs.Tidy.{Tidy}
 use Rattle.model.proofs.ArenaTidy.{tidy-commit, tidy-grow}
 use Rattle.model.proofs.ArenaLaws.{commit-law, grow-law, grow-rises, grow-bound}
 use Rattle.model.proofs.IdlePages.{run-below, commit-below}
@@ -60,7 +60,7 @@ module _ (n : ℕ) (b : List ℕ) (H : Heap) (rep : ArenaRep n b H) (r : Reached
     pub commit-for : (w : ℕ) → commitFor n b h m w
         ≡ (let g = commit n h m (H .arena) in record { code = 0; book = committed b g m w; run = g .run; fresh = g .fresh })
     unfolding commitFor
-    commit-for w = rw (commit-passes n b H rep r m, rep .loads)
+    commit-for w = rw (commit-passes n b H rep r, rep .loads)
 
     module _ (one : 1 ≤ m) (who : Holder) (holds : isHeld who ≡ 1) (cs : ℕ → Class) where
       pub commit-rep : ArenaRep n (committed b (commit n h m (H .arena)) m (ownerCode who))

@@ -17,7 +17,7 @@ use Rattle.classes.specs.declared.Shape.{Shape}
 use Rattle.classes.specs.Shape.{shapeOf}
 use Rattle.classes.proofs.Shapes.{shape-sound}
 use Rattle.fields.specs.Field as Field
-use Rattle.fields.specs.Field.{Field, arena, memory, hole, page, slot, out, first, next, prev, free, carved, listed, virgin, pageOff, get}
+use Rattle.fields.specs.Field.{Field, arena, hole, page, slot, out, first, next, prev, free, carved, listed, virgin, pageOff, get}
 use Rattle.fields.proofs.Changes.{Changes}
 use Rattle.model.specs.Page.{Page, carve}
 use Rattle.model.specs.Arena.{commit, Given}
@@ -49,7 +49,6 @@ use Rattle.refinement.proofs.NewRun.{LetsNew, new-changes, new-names, n
 -- the words of page q but OWNER, and FIRST of the run's pages
 abbrev isNew : ℕ → ℕ → Field → Bool
 isNew q m (arena k) = false
-isNew q m (memory x) = false
 isNew q m (Field.class k c) = false
 isNew q m (hole k i) = false
 isNew q m (page k p) = (eqb (pageOff k) 1 && inRun m q p) || (ltb 1 (pageOff k) && eqb p q)

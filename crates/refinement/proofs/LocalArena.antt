@@ -4,20 +4,16 @@ use native.Mathlib.Omega.{arith}
 use mathlib.Core.Bool.{Bool, true}
 use mathlib.Core.List.{List, [], _∷_}
 use mathlib.Core.Option.{Option, none, some}
-use mathlib.Core.Path.{_≡_, refl, fun-ext}
-use lib.Dec.{leb}
+use mathlib.Core.Path.{_≡_, refl}
 use lib.ListN.{length}
-use borrow.Author.Tests.{leb-true}
 use Rattle.classes.specs.declared.Shape.{Shape}
-use Rattle.fields.specs.Field.{ArenaField, HoleField, arena, memory, hole, page, out, size, state, frontier, holes, holePages, commits, commitsHigh, reuses, reusesHigh, abandoned, abandonedHigh, held, start, pages, owner, first, listed, arenaOff, word, get, put}
+use Rattle.fields.specs.Field.{ArenaField, HoleField, arena, hole, page, out, size, state, frontier, holes, holePages, commits, commitsHigh, reuses, reusesHigh, abandoned, abandonedHigh, held, start, pages, owner, first, listed, arenaOff, word, get, put}
 use Rattle.fields.specs.Clear.{clearOut}
 use Rattle.model.specs.declared.Hole.{Hole}
-use Rattle.model.specs.HoleStore.{Memory, rememberedMax}
 use Rattle.model.specs.Arena.{Arena, Given}
 use Rattle.model.specs.Arena as Model
-use Rattle.facts.proofs.Bools.{by-cases}
-use Rattle.arena.specs.Load.{loadHoles, loadStore, loadArena, recall}
-use Rattle.arena.specs.Store.{storeHoles, storeMemory, memoryWords, storeCounts, storeTop, storeStore, storeArena}
+use Rattle.arena.specs.Load.{loadHoles, loadStore, loadArena}
+use Rattle.arena.specs.Store.{storeHoles, storeCounts, storeTop, storeArena}
 use Rattle.arena.specs.Owners.{own, ownFresh, ownRun}
 use Rattle.arena.specs.Calls.{advance, committed, given}
 use Rattle.pages.specs.Runs.{nameRun}
@@ -26,7 +22,7 @@ use Rattle.pages.proofs.Frames.{stocked-le}
 use Rattle.refinement.proofs.Mix.{mix, PageIn, at-word, get-in, put-in, put-page, put-out}
 use Rattle.refinement.proofs.LocalPages.{carve-in}
 
--- the record, the memory and the holes lie in S
+-- the record and the holes lie in S
 pub record ArenaIn (S : ℕ → Bool) : Type 0 where
   pub low : (j : ℕ) → j < 160 → S j ≡ true
   pub high : (j : ℕ) → j < 8192 → S (1024 + j) ≡ true
@@ -66,24 +62,15 @@ module _ {S : ℕ → Bool} (a : ArenaIn S) (d : List ℕ) where
   put-hole : (k : HoleField) (i : ℕ) → i < 4096 → (b : List ℕ) (v : ℕ) → put (mix S b d) (hole k i) v ≡ mix S (put b (hole k i) v) d
   put-hole k i l b v = put-in S b d (hole k i) v (in-hole k i l)
 
-  put-memory : (m : ℕ) → m < 129 → (b : List ℕ) (v : ℕ) → put (mix S b d) (memory m) v ≡ mix S (put b (memory m) v) d
-  put-memory m l b v = put-in S b d (memory m) v (a .low (16 + m) (omega arith))
-
   -- ---- the arena stored
   holes-in : (hs : List Hole) (i : ℕ) → i + length hs ≤ 4096 → (b : List ℕ) → storeHoles (mix S b d) i hs ≡ mix S (storeHoles b i hs) d
   unfolding storeHoles
   holes-in [] i l b = refl
   holes-in (x ∷ hs) i l b = rw (holes-in hs (suc i) (omega arith) b) (simp (put-hole start i (omega arith), put-hole pages i (omega arith)))
 
-  memory-in : (m : Memory) (k : ℕ) → k ≤ 129 → (b : List ℕ) → storeMemory (mix S b d) m k ≡ mix S (storeMemory b m k) d
-  unfolding storeMemory
-  memory-in m zero l b = refl
-  memory-in m (suc k) l b = rw (memory-in m k (omega arith) b) (put-memory k (omega arith) _ _)
-
   pub arena-in : (b : List ℕ) (g : Arena) → length (g .store .holes) ≤ 4096 → storeArena (mix S b d) g ≡ mix S (storeArena b g) d
-  unfolding storeArena storeStore storeCounts storeTop memoryWords
-  arena-in b g l =
-      rw (holes-in (g .store .holes) 0 (omega arith) b, memory-in (g .store .memory) 129 (omega arith) (storeHoles b 0 (g .store .holes))) (simp put-arena)
+  unfolding storeArena storeCounts storeTop
+  arena-in b g l = rw (holes-in (g .store .holes) 0 (omega arith) b) (simp put-arena)
 
   -- ---- the arena loaded
   load-holes-in : (b : List ℕ) (k i : ℕ) → i + k ≤ 4096 → loadHoles (mix S b d) i k ≡ loadHoles b i k
@@ -92,15 +79,9 @@ module _ {S : ℕ → Bool} (a : ArenaIn S) (d : List ℕ) where
   load-holes-in b (suc k) i l =
       rw (get-in S b d (hole start i) (in-hole start i (omega arith)), get-in S b d (hole pages i) (in-hole pages i (omega arith)), load-holes-in b k (suc i) (omega arith))
 
-  recall-in : (b : List ℕ) → recall (mix S b d) ≡ recall b
-  recall-in b =
-      fun-ext (λ m. by-cases (leb m rememberedMax)
-      (λ e. let l = leb-true m rememberedMax e in rw (e, get-in S b d (memory m) (a .low (16 + m) (omega arith))))
-      (λ e. rw e))
-
   pub load-in : (b : List ℕ) → get b (arena holes) ≤ 4096 → loadArena (mix S b d) ≡ loadArena b
   unfolding loadArena loadStore
-  load-in b l = rw (recall-in b) (simp (get-arena, load-holes-in b (get b (arena holes)) 0 (omega arith)))
+  load-in b l = simp (get-arena, load-holes-in b (get b (arena holes)) 0 (omega arith))
 
   -- ---- owners
   pub own-in : (m q w : ℕ) → RunIn S q m → (b : List ℕ) → own (mix S b d) q m w ≡ mix S (own b q m w) d

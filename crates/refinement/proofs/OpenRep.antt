@@ -15,12 +15,11 @@ use Rattle.facts.specs.Lists.{total, below}
 use Rattle.facts.proofs.Bools.{by-cases, and-no}
 use Rattle.classes.specs.Shape.{shapeOf}
 use Rattle.classes.proofs.Shapes.{shape-sound}
-use Rattle.fields.specs.Field.{Field, arena, memory, class, ClassField, partial, empty, emptyCount, cold, coldCount, size, state, frontier, holes, holePages, commits, commitsHigh, reuses, reusesHigh, abandoned, abandonedHigh, held, classOff, word, part, read, get, same, ok, words}
+use Rattle.fields.specs.Field.{Field, arena, class, ClassField, partial, empty, emptyCount, cold, coldCount, size, state, frontier, holes, holePages, commits, commitsHigh, reuses, reusesHigh, abandoned, abandonedHigh, held, classOff, word, part, read, get, same, ok, words}
 use Rattle.fields.proofs.Laws.{get-put-same, get-put-other, length-put}
 use Rattle.model.specs.Arena.{newArena}
 use Rattle.model.specs.Class.{newClass}
 use Rattle.model.specs.Heap.{newHeap}
-use Rattle.model.proofs.ArenaTidy.{tidy-new}
 use Rattle.pages.specs.Runs as Runs
 use Rattle.arena.specs.Load.{loadHoles}
 use Rattle.arena.specs.Open.{cleared, headWords, opened}
@@ -72,13 +71,12 @@ module _ (n : ℕ) (b : List ℕ) (long : leb (words n) (length b) ≡ true) whe
   opened-rep = record {
     long = opened-long;
     length = opened-size;
-    loads = load-written (opened n b) newArena tidy-new (record {
+    loads = load-written (opened n b) newArena (record {
       status = opened-zero (arena state) refl refl (omega arith);
       frontier = opened-zero (arena frontier) refl refl (omega arith);
       number = opened-zero (arena holes) refl refl (omega arith);
       total = opened-zero (arena holePages) refl refl (omega arith);
       holes = refl;
-      memory = λ m o. opened-zero (memory m) o refl (omega (arith, ltb-true m 129 o));
       commits = rw (opened-zero (arena commits) refl refl (omega arith), opened-zero (arena commitsHigh) refl refl (omega arith));
       reuses = rw (opened-zero (arena reuses) refl refl (omega arith), opened-zero (arena reusesHigh) refl refl (omega arith));
       abandoned = rw (opened-zero (arena abandoned) refl refl (omega arith), opened-zero (arena abandonedHigh) refl refl (omega arith));

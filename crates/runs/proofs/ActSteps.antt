@@ -11,56 +11,64 @@ use Rattle.facts.proofs.Bools.{by-cases}
 use Rattle.words.specs.Host.{reservationGranted, commitGranted}
 use Rattle.fields.specs.Field.{arena, held, put}
 use Rattle.holes.specs.declared.Arena.{Arena}
-use Rattle.holes.specs.declared.Plan.{Plan}
+use Rattle.model.specs.declared.Hole.{Hole}
+use Rattle.model.specs.HoleStore.{hole}
 use Rattle.runs.specs.declared.Request.{Request}
 use Rattle.runs.specs.declared.Commit.{Commit}
 use Rattle.runs.specs.declared.Commit.the-variants.{Run, Nothing}
 use Rattle.holes.specs.Record.{storeRecord, advanced, counted}
 use Rattle.arena.specs.Owners.{own}
-use Rattle.holes.specs.Act.{rememberWord, withState, withHoles, Gives, cutWords, usedWords, drawWords, drawRecord, Draws, forgetWord, endNone, endRun, endGiven, settle, fromFrontier, commitDrawn, nextState, commitPlanned}
+use Rattle.arena.specs.Load.{loadHole}
+use Rattle.arena.specs.Store.{storeHole}
+use Rattle.holes.specs.Act.{withState, withHoles, Gives, drawWords, drawRecord, Draws, endNone, endRun, endGiven, settle, fromFrontier, holeDrawn, commitDrawn, nextState, commitPlanned}
 use Rattle.runs.specs.Asks.{RecordIn, HoleIn, PlanIn, RequestIn, RunIn}
 use Rattle.runs.specs.Answer.{Answers}
-use Rattle.holes.proofs.StoreLaws.{hole-length, remember-length}
+use Rattle.holes.proofs.StoreLaws.{hole-length}
 
--- ---- a run from the chosen hole
-module _ (b : List ℕ) (a : Arena) (m : ℕ) (p : Plan) where
-  pub draws-cut : (x : List ℕ) (r : Arena) → m < p .pages → x ≡ cutWords b m p → r ≡ withHoles (a .count) (a .total - m) a → Draws b a m p x r
+-- ---- a run from a hole, which is g
+module _ (b : List ℕ) (a : Arena) (m i : ℕ) (g : Hole) (here : g ≡ loadHole b i) where
+  same : g .pages ≡ loadHole b i .pages
+  same = ap (λ y. y .pages) here
+
+  pub hole-in : HoleIn a i (loadHole b i) m → HoleIn a i g m
+  hole-in k = subst (λ z. HoleIn a i z m) (sym here) k
+
+  pub draws-cut : (x : List ℕ) (r : Arena) → m < g .pages → x ≡ storeHole b i (hole (g .first + m) (g .pages - m)) → r ≡ withHoles (a .count) (a .total - m) a → Draws b a m i x r
   unfolding drawWords drawRecord
-  draws-cut x r l e f = let z = lt-ltb m (p .pages) l in record { book = rw z e; top = rw z f }
+  draws-cut x r l e f =
+      let z = lt-ltb m (loadHole b i .pages) (omega (arith, same)) in
+      record { book = rw z (e ∙ ap (λ (y : Hole). storeHole b i (hole (y .first + m) (y .pages - m))) here); top = rw z f }
 
-  pub draws-used : (x : List ℕ) (r : Arena) → p .pages ≤ m → x ≡ usedWords b m p → r ≡ withHoles (a .count - 1) (a .total - m) a → Draws b a m p x r
+  pub draws-used : (last : Hole) (x : List ℕ) (r : Arena) → g .pages ≤ m → last ≡ loadHole b (a .count - 1) → x ≡ storeHole b i (hole (last .first) (last .pages)) → r ≡ withHoles (a .count - 1) (a .total - m) a → Draws b a m i x r
   unfolding drawWords drawRecord
-  draws-used x r l e f = let z = le-ltb m (p .pages) l in record { book = rw z e; top = rw z f }
+  draws-used last x r l u e f =
+      let z = le-ltb m (loadHole b i .pages) (omega (arith, same)) in
+      record { book = rw z (e ∙ ap (storeHole b i) u); top = rw z f }
 
-  draw-length : length (drawWords b m p) ≡ length b
-  unfolding drawWords cutWords usedWords
-  draw-length = by-cases (ltb m (p .pages)) (λ t. rw t (simp (remember-length, hole-length))) (λ t. rw t (simp (remember-length, hole-length)))
+  draw-length : length (drawWords b a m i) ≡ length b
+  unfolding drawWords
+  draw-length = by-cases (ltb m (loadHole b i .pages)) (λ t. rw t (hole-length b i _)) (λ t. rw t (hole-length b i _))
 
-  draw-total : drawRecord a m p .total ≡ a .total - m
+  pub hole-run : (x : List ℕ) (r : Arena) (q : Request) → Draws b a m i x r → q .pages ≡ m → RequestIn b q → RecordIn (q .size) a → HoleIn a i (loadHole b i) m → RunIn x r (g .first) q
   unfolding drawRecord
-  draw-total = by-cases (ltb m (p .pages)) (λ t. rw t) (λ t. rw t)
-
-  pub hole-run : (x : List ℕ) (r : Arena) (q : Request) → Draws b a m p x r → q .pages ≡ m → RequestIn b q → RecordIn (q .size) a → HoleIn a p m → RunIn x r (p .first) q
   hole-run x r q d e rq ra rh =
       let l : length x ≡ length b = ap length (d .book) ∙ draw-length in
-      let t : r .total ≡ a .total - m = ap (λ z. z .total) (d .top) ∙ draw-total in
-      let h₁ = rh .enough in
-      let h₂ = rh .ends in
+      let t : r .total ≡ a .total - m = ap (λ z. z .total) (d .top) in
+      let k = hole-in rh in
+      let h₁ = k .enough in
+      let h₂ = k .ends in
       let h₃ = ra .moved in
       let h₄ = rq .long in
       let h₅ = rq .small in
       let h₆ = ra .short in
       record { long = omega arith; near = omega arith; short = omega arith; owned = rq .owned }
 
+  pub from-drawn : (h w d : ℕ) (s : Commit) (x y : List ℕ) (r : Arena) → Draws b a m i x r → Answers s y (settle x r m (g .first) false h w d) → Answers s y (holeDrawn b a i m h w d)
+  unfolding holeDrawn
+  from-drawn h w d s x y r e k =
+      subst (λ (q : ℕ). Answers s y (settle (drawWords b a m i) (drawRecord b a m i) m q false h w d)) (ap (λ z. z .first) here) (rw (e .book, e .top) at k)
+
 -- ---- no hole
-pub forgets : (b x : List ℕ) (a : Arena) (m : ℕ) → (a .count ≡ 0 → ⊥) → x ≡ rememberWord b m 0 → x ≡ forgetWord b a m
-unfolding forgetWord
-forgets b x a m d e = rw (ne-eqb (a .count) 0 d) e
-
-pub forgets-not : (b : List ℕ) (a : Arena) (m : ℕ) → a .count ≡ 0 → b ≡ forgetWord b a m
-unfolding forgetWord
-forgets-not b a m e = rw (eq-eqb (a .count) 0 e)
-
 pub frontier-run : (b : List ℕ) (a r : Arena) (q : Request) → RequestIn b q → RecordIn (q .size) a → r ≡ advanced (q .pages) a → r .frontier ≤ q .size → RunIn b r (a .frontier) q
 frontier-run b a r q rq ra e l =
     let t : r .total ≡ a .total = ap (λ z. z .total) e in
@@ -112,25 +120,21 @@ module _ (n : ℕ) (b : List ℕ) (a : Arena) (m h w d : ℕ) where
       let u : r .frontier ≡ a .frontier + m = ap (λ z. z .frontier) e in
       rw (le-leb (a .frontier + m) n (omega arith)) (subst (λ z. Answers s x (settle b z m (a .frontier) true h w d)) e k)
 
-  module _ (p : Plan) where
-    pub from-drawn : (s : Commit) (x y : List ℕ) (r : Arena) → Draws b a m p x r → Answers s y (settle x r m (p .first) false h w d)
-        → Answers s y (settle (drawWords b m p) (drawRecord a m p) m (p .first) false h w d)
-    from-drawn s x y r e k = rw (e .book, e .top) at k
-
-    pub none-drawn : (s : Commit) (x y : List ℕ) → p .code ≡ 0 → x ≡ forgetWord b a m → Answers s y (fromFrontier n x a m h w d) → Answers s y (commitDrawn n b a p m h w d)
+  module _ (c : ℕ) where
+    pub none-drawn : (s : Commit) (y : List ℕ) → c ≡ 0 → Answers s y (fromFrontier n b a m h w d) → Answers s y (commitDrawn n b a c m h w d)
     unfolding commitDrawn
-    none-drawn s x y e f k = rw (eq-eqb (p .code) 0 e) (rw f at k)
+    none-drawn s y e k = rw (eq-eqb c 0 e) k
 
-    pub hole-drawn : (s : Commit) (y : List ℕ) → (p .code ≡ 0 → ⊥) → Answers s y (settle (drawWords b m p) (drawRecord a m p) m (p .first) false h w d) → Answers s y (commitDrawn n b a p m h w d)
+    pub hole-drawn : (s : Commit) (y : List ℕ) → (c ≡ 0 → ⊥) → Answers s y (holeDrawn b a (c - 1) m h w d) → Answers s y (commitDrawn n b a c m h w d)
     unfolding commitDrawn
-    hole-drawn s y e k = rw (ne-eqb (p .code) 0 e) k
+    hole-drawn s y e k = rw (ne-eqb c 0 e) k
 
-    pub planned-off : (s : ℕ) (x : List ℕ) (r : Arena) → s ≡ nextState (a .state) h → r ≡ withState s a → s ≡ 2 → x ≡ storeRecord b r → Answers Nothing x (commitPlanned n b a p m h w d)
+    pub planned-off : (s : ℕ) (x : List ℕ) (r : Arena) → s ≡ nextState (a .state) h → r ≡ withState s a → s ≡ 2 → x ≡ storeRecord b r → Answers Nothing x (commitPlanned n b a c m h w d)
     unfolding commitPlanned endNone
     planned-off s x r e f t o =
         rw (← e, eq-eqb s 2 t) (record { answer = refl; book = o ∙ ap (storeRecord b) f })
 
-    pub planned-on : (s : ℕ) (y : Commit) (x : List ℕ) (r : Arena) → s ≡ nextState (a .state) h → r ≡ withState s a → (s ≡ 2 → ⊥) → Answers y x (commitDrawn n b r p m h w d) → Answers y x (commitPlanned n b a p m h w d)
+    pub planned-on : (s : ℕ) (y : Commit) (x : List ℕ) (r : Arena) → s ≡ nextState (a .state) h → r ≡ withState s a → (s ≡ 2 → ⊥) → Answers y x (commitDrawn n b r c m h w d) → Answers y x (commitPlanned n b a c m h w d)
     unfolding commitPlanned
     planned-on s y x r e f t k = rw (← e, ne-eqb s 2 t) (rw f at k)
 
@@ -149,8 +153,8 @@ state-off s h k t e f g v = rw (e, ← f, ← g, v)
 pub record-with : (n s : ℕ) (a r : Arena) → r ≡ withState s a → RecordIn n a → RecordIn n r
 record-with n s a r e k = subst (λ z. RecordIn n z) (sym e) (record { moved = k .moved; few = k .few; short = k .short })
 
-pub plan-with : (s m : ℕ) (a r : Arena) (p : Plan) → r ≡ withState s a → PlanIn a p m → PlanIn r p m
-plan-with s m a r p e k d = let z = k d in subst (λ y. HoleIn y p m) (sym e) (record { chosen = z .chosen; stored = z .stored; enough = z .enough; within = z .within; ends = z .ends })
+pub plan-with : (b : List ℕ) (s m c : ℕ) (a r : Arena) → r ≡ withState s a → PlanIn b a c m → PlanIn b r c m
+plan-with b s m c a r e k d = let z = k d in subst (λ y. HoleIn y (c - 1) (loadHole b (c - 1)) m) (sym e) (record { stored = z .stored; enough = z .enough; within = z .within; ends = z .ends })
 
-pub plan-hole : (m : ℕ) (a : Arena) (p : Plan) → PlanIn a p m → (p .code ≡ 0 → ⊥) → HoleIn a p m
-plan-hole m a p k d = k d
+pub plan-hole : (b : List ℕ) (m c : ℕ) (a : Arena) → PlanIn b a c m → (c ≡ 0 → ⊥) → HoleIn a (c - 1) (loadHole b (c - 1)) m
+plan-hole b m c a k d = k d

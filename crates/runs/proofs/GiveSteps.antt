@@ -49,7 +49,7 @@ loaded-in b n a d q m k e f =
 pub given-is : (b x : List ℕ) (n : ℕ) (a : Arena) (d q m : ℕ) → GiveIn b n q m → a ≡ recordOf b → d ≡ get b (arena held) → x ≡ givenWith b a d q m → x ≡ given b q m
 unfolding giveFair giveActs
 given-is b x n a d q m k e f g =
-    g ∙ ap (λ y. givenWith b y d q m) e ∙ ap (λ y. givenWith b (recordOf b) y q m) f ∙ sym (give-acts n b (le-leb _ _ (k .long)) (fair-record n b (and-left _ _ (k .fair))) q m)
+    g ∙ ap (λ y. givenWith b y d q m) e ∙ ap (λ y. givenWith b (recordOf b) y q m) f ∙ sym (give-acts n b (fair-record n b (and-left _ _ (k .fair))) q m)
 
 -- ---- the pages of a run, the last one first
 pub record Looking (b : List ℕ) (q m left : ℕ) : Type 0 where

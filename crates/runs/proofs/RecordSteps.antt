@@ -9,14 +9,16 @@ use lib.Dec.{leb}
 use lib.ListN.{length}
 use borrow.Author.Tests.{lt-ltb, le-ltb, le-leb, lt-leb}
 use Rattle.facts.proofs.Bools.{and-no}
-use Rattle.words.specs.Limits.{holeSlots, holePagesMax, rememberedMax}
-use Rattle.fields.specs.Field.{arena, memory, page, owner, state, frontier, holes, holePages, held, get, put}
+use Rattle.words.specs.Limits.{holeSlots, holePagesMax}
+use Rattle.fields.specs.Field.{arena, page, owner, state, frontier, holes, holePages, held, get, put}
 use Rattle.fields.proofs.Laws.{length-put}
 use Rattle.holes.specs.declared.Arena.{Arena}
 use Rattle.holes.specs.Record.{abandoning}
 use Rattle.arena.specs.Fair.{recordFair}
 use Rattle.arena.specs.Owners.{own}
-use Rattle.holes.specs.Act.{rememberWord, recallWord, withHoles, appendWords, giveWords, giveRecord, Gives}
+use Rattle.arena.specs.Store.{storeHole}
+use Rattle.model.specs.HoleStore.{hole}
+use Rattle.holes.specs.Act.{withHoles, giveWords, giveRecord, Gives}
 
 -- ---- the record's test: one failing word is enough
 module _ (n : ℕ) (b : List ℕ) where
@@ -41,23 +43,6 @@ module _ (n : ℕ) (b : List ℕ) where
   unfolding recordFair
   all-fair s f k t d e₁ l₁ e₂ l₂ e₃ l₃ e₄ l₄ e₅ =
       rw (← e₁, ← e₂, ← e₃, ← e₄, ← e₅, le-leb s 2 l₁, le-leb f n l₂, le-leb k holeSlots l₃, le-leb t holePagesMax l₄)
-
--- ---- a length's memory
-pub recalls-not : (b : List ℕ) (m : ℕ) → rememberedMax < m → 0 ≡ recallWord b m
-unfolding recallWord
-recalls-not b m l = rw (lt-leb m rememberedMax l)
-
-pub recalls : (b : List ℕ) (m r : ℕ) → m ≤ rememberedMax → r ≡ get b (memory m) → r ≡ recallWord b m
-unfolding recallWord
-recalls b m r l e = rw (le-leb m rememberedMax l) e
-
-pub remembers : (b x : List ℕ) (m c : ℕ) → m ≤ rememberedMax → x ≡ put b (memory m) c → x ≡ rememberWord b m c
-unfolding rememberWord
-remembers b x m c l e = rw (le-leb m rememberedMax l) e
-
-pub remembers-not : (b : List ℕ) (m c : ℕ) → rememberedMax < m → b ≡ rememberWord b m c
-unfolding rememberWord
-remembers-not b m c l = rw (lt-leb m rememberedMax l)
 
 -- ---- owners: what is left to write comes to what was asked
 pub record Owning (b₀ : List ℕ) (first pages w : ℕ) (b : List ℕ) (p left : ℕ) : Type 0 where
@@ -101,7 +86,7 @@ module _ (b : List ℕ) (a : Arena) (m q : ℕ) where
   unfolding giveWords giveRecord
   gives-over r l e = let z = lt-leb (a .total + m) holePagesMax l in record { book = simp (z, and-no); top = simp (z, and-no) e }
 
-  pub gives : (x : List ℕ) (r : Arena) → a .count < holeSlots → a .total + m ≤ holePagesMax → x ≡ appendWords b (a .count) m q → r ≡ withHoles (a .count + 1) (a .total + m) a
+  pub gives : (x : List ℕ) (r : Arena) → a .count < holeSlots → a .total + m ≤ holePagesMax → x ≡ storeHole b (a .count) (hole q m) → r ≡ withHoles (a .count + 1) (a .total + m) a
       → Gives b a m q x r
   unfolding giveWords giveRecord
   gives x r l u e f = let z = lt-ltb (a .count) holeSlots l in let y = le-leb (a .total + m) holePagesMax u in record { book = rw (z, y) e; top = rw (z, y) f }

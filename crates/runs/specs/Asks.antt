@@ -1,14 +1,15 @@
 -- What the steps of a commit ask of the book, the record and the plan.
-use Prim.Native.Nat.{ℕ, _+_, _≤_}
+use Prim.Native.Nat.{ℕ, _+_, _-_, _≤_, _<_}
 use mathlib.Core.List.{List}
 use mathlib.Core.Bool.{true}
 use mathlib.Core.Path.{_≡_}
 use lib.ListN.{length}
 use Rattle.words.specs.Limits.{maxPages, holeSlots, holePagesMax}
 use Rattle.fields.specs.Field.{words}
+use Rattle.model.specs.declared.Hole.{Hole}
 use Rattle.holes.specs.declared.Arena.{Arena}
-use Rattle.holes.specs.declared.Plan.{Plan}
 use Rattle.runs.specs.declared.Request.{Request}
+use Rattle.arena.specs.Load.{loadHole}
 use Rattle.arena.specs.Fair.{giveFair}
 
 -- a record in its ranges, in an arena of n pages
@@ -17,17 +18,16 @@ pub record RecordIn (n : ℕ) (a : Arena) : Type 0 where
   pub few : a .count ≤ holeSlots
   pub short : a .total ≤ holePagesMax
 
--- a hole was chosen: it is stored, long enough, and within the hole pages; its end is a number of 32 bits
-pub record HoleIn (a : Arena) (p : Plan) (m : ℕ) : Type 0 where
-  pub chosen : 1 ≤ p .code
-  pub stored : p .code ≤ a .count
-  pub enough : m ≤ p .pages
-  pub within : p .pages ≤ a .total
-  pub ends : p .first + p .pages ≤ a .frontier
+-- hole i, which is x, has m pages or more, and is within the hole pages; its end is a number of 32 bits
+pub record HoleIn (a : Arena) (i : ℕ) (x : Hole) (m : ℕ) : Type 0 where
+  pub stored : i < a .count
+  pub enough : m ≤ x .pages
+  pub within : x .pages ≤ a .total
+  pub ends : x .first + x .pages ≤ a .frontier
 
--- a plan's hole, where it chose one
-abbrev pub PlanIn : Arena → Plan → ℕ → Type 0
-PlanIn a p m = (p .code ≡ 0 → ⊥) → HoleIn a p m
+-- the hole with this code, where it is one
+abbrev pub PlanIn : List ℕ → Arena → ℕ → ℕ → Type 0
+PlanIn b a code m = (code ≡ 0 → ⊥) → HoleIn a (code - 1) (loadHole b (code - 1)) m
 
 -- a request on a book that is long enough
 pub record RequestIn (b : List ℕ) (q : Request) : Type 0 where

@@ -5,58 +5,31 @@ use super::give;
 use super::owners;
 use super::store;
 use holes::Arena;
-use holes::Plan;
+use holes::holes::hole_from;
 use holes::record;
+use model::Hole;
 use words::Host;
-ghost use mathlib.Core.Bool.{false};
 ghost use mathlib.Core.Path.{_≡_};
-ghost use Prim.Native.Nat.{_+_, _≤_, _<_};
+ghost use Prim.Native.Nat.{_≤_};
 ghost use lib.ListN.{length};
-ghost use Rattle.words.specs.Limits.{maxPages, holeSlots};
-ghost use Rattle.holes.specs.Act.{cutWords, usedWords, drawWords, drawRecord, Draws, forgetWord, endRun, endGiven, settle, fromFrontier, commitDrawn, nextState, commitPlanned};
+ghost use Rattle.words.specs.Limits.{maxPages};
+ghost use Rattle.arena.specs.Load.{loadHole};
+ghost use Rattle.holes.specs.Act.{Draws, endRun, endGiven, settle, fromFrontier, holeDrawn, commitDrawn, nextState, commitPlanned};
 ghost use Rattle.runs.specs.Asks.{RecordIn, HoleIn, PlanIn, RequestIn, RunIn};
 ghost use Rattle.runs.specs.Answer.{Answers};
 
-// The front of the chosen hole is cut off.
-fn cut(meta: &mut [u32], a: Arena, p: Plan, pages: u32)
-    requires { ⌜ (40000 ≤ length (now meta)) × (a .count ≤ holeSlots) × (a .frontier ≤ maxPages) × HoleIn a p pages ⌝ }
-    ensures { λ _. ⌜ now (meta .exit) ≡ cutWords (now (meta .entry)) pages p ⌝ }
+// The front of hole `i`, which is `x`, is cut off, or the last hole comes into its place; the record afterwards is answered.
+fn draw(meta: &mut [u32], a: Arena, i: u32, x: Hole, pages: u32) -> Arena
+    requires { ⌜ (40000 ≤ length (now meta)) × RecordIn maxPages a × HoleIn a i x pages × (x ≡ loadHole (now meta) i) ⌝ }
+    ensures { λ r. ⌜ Draws (now (meta .entry)) a pages i (now (meta .exit)) r ⌝ }
 {
-    store::store_hole(meta, p.code - 1, p.first + pages, p.pages - pages);
-    store::remember(meta, pages, 0);
-    store::remember(meta, p.pages, p.lowest);
-    store::remember(meta, p.pages - pages, p.code);
-}
-
-// The last hole comes into the place of a used-up one.
-fn used(meta: &mut [u32], a: Arena, p: Plan, pages: u32)
-    requires { ⌜ (40000 ≤ length (now meta)) × (a .count ≤ holeSlots) × HoleIn a p pages ⌝ }
-    ensures { λ _. ⌜ now (meta .exit) ≡ usedWords (now (meta .entry)) pages p ⌝ }
-{
-    store::store_hole(meta, p.code - 1, p.lastfirst, p.lastpages);
-    store::remember(meta, pages, p.lowest);
-}
-
-// The chosen hole gives the pages; the record afterwards is answered.
-fn draw(meta: &mut [u32], a: Arena, p: Plan, pages: u32) -> Arena
-    requires { ⌜ (40000 ≤ length (now meta)) × RecordIn maxPages a × HoleIn a p pages ⌝ }
-    ensures { λ r. ⌜ Draws (now (meta .entry)) a pages p (now (meta .exit)) r ⌝ }
-{
-    if pages < p.pages {
-        cut(meta, a, p, pages);
+    if pages < x.pages {
+        store::store_hole(meta, i, x.first + pages, x.pages - pages);
         return give::with_holes(a, a.count, a.total - pages);
     }
-    used(meta, a, p, pages);
+    let last = hole_from(meta, a.count - 1);
+    store::store_hole(meta, i, last.first, last.pages);
     give::with_holes(a, a.count - 1, a.total - pages)
-}
-
-fn forget(meta: &mut [u32], a: Arena, pages: u32)
-    requires { ⌜ 40000 ≤ length (now meta) ⌝ }
-    ensures { λ _. ⌜ now (meta .exit) ≡ forgetWord (now (meta .entry)) a pages ⌝ }
-{
-    if a.count != 0 {
-        store::remember(meta, pages, 0);
-    }
 }
 
 // The run is the owner's, and counts as held.
@@ -105,23 +78,23 @@ pub fn from_frontier(meta: &mut [u32], a: Arena, q: Request) -> Commit
     settle(meta, b, a.frontier, true, q)
 }
 
-fn from_hole(meta: &mut [u32], a: Arena, p: Plan, q: Request) -> Commit
-    requires { ⌜ RequestIn (now meta) q × RecordIn (q .size) a × HoleIn a p (q .pages) ⌝ }
-    ensures { λ r. ⌜ Answers r (now (meta .exit)) (settle (drawWords (now (meta .entry)) (q .pages) p) (drawRecord a (q .pages) p) (q .pages) (p .first) false (q .host) (q .owner) (q .held)) ⌝ }
+fn from_hole(meta: &mut [u32], a: Arena, i: u32, q: Request) -> Commit
+    requires { ⌜ RequestIn (now meta) q × RecordIn (q .size) a × HoleIn a i (loadHole (now meta) i) (q .pages) ⌝ }
+    ensures { λ r. ⌜ Answers r (now (meta .exit)) (holeDrawn (now (meta .entry)) a i (q .pages) (q .host) (q .owner) (q .held)) ⌝ }
 {
-    let b = draw(meta, a, p, q.pages);
-    settle(meta, b, p.first, false, q)
+    let x = hole_from(meta, i);
+    let b = draw(meta, a, i, x, q.pages);
+    settle(meta, b, x.first, false, q)
 }
 
-fn commit_drawn(meta: &mut [u32], a: Arena, p: Plan, q: Request) -> Commit
-    requires { ⌜ RequestIn (now meta) q × RecordIn (q .size) a × PlanIn a p (q .pages) ⌝ }
-    ensures { λ r. ⌜ Answers r (now (meta .exit)) (commitDrawn (q .size) (now (meta .entry)) a p (q .pages) (q .host) (q .owner) (q .held)) ⌝ }
+fn commit_drawn(meta: &mut [u32], a: Arena, code: u32, q: Request) -> Commit
+    requires { ⌜ RequestIn (now meta) q × RecordIn (q .size) a × PlanIn (now meta) a code (q .pages) ⌝ }
+    ensures { λ r. ⌜ Answers r (now (meta .exit)) (commitDrawn (q .size) (now (meta .entry)) a code (q .pages) (q .host) (q .owner) (q .held)) ⌝ }
 {
-    if p.code == 0 {
-        forget(meta, a, q.pages);
+    if code == 0 {
         return from_frontier(meta, a, q);
     }
-    from_hole(meta, a, p, q)
+    from_hole(meta, a, code - 1, q)
 }
 
 // The first commit asks for the reservation.
@@ -137,9 +110,10 @@ fn next_state(state: u32, host: u32) -> u32
     2
 }
 
-pub fn commit_planned(meta: &mut [u32], a: Arena, p: Plan, q: Request) -> Commit
-    requires { ⌜ RequestIn (now meta) q × RecordIn (q .size) a × PlanIn a p (q .pages) ⌝ }
-    ensures { λ r. ⌜ Answers r (now (meta .exit)) (commitPlanned (q .size) (now (meta .entry)) a p (q .pages) (q .host) (q .owner) (q .held)) ⌝ }
+// The chosen hole has this code; 0 is none.
+pub fn commit_planned(meta: &mut [u32], a: Arena, code: u32, q: Request) -> Commit
+    requires { ⌜ RequestIn (now meta) q × RecordIn (q .size) a × PlanIn (now meta) a code (q .pages) ⌝ }
+    ensures { λ r. ⌜ Answers r (now (meta .exit)) (commitPlanned (q .size) (now (meta .entry)) a code (q .pages) (q .host) (q .owner) (q .held)) ⌝ }
 {
     let s = next_state(a.state, q.host);
     let b = give::with_state(a, s);
@@ -147,5 +121,5 @@ pub fn commit_planned(meta: &mut [u32], a: Arena, p: Plan, q: Request) -> Commit
         store::store_record(meta, b);
         return Commit::Nothing;
     }
-    commit_drawn(meta, b, p, q)
+    commit_drawn(meta, b, code, q)
 }

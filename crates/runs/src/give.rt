@@ -9,10 +9,9 @@ use words::limits::HOLE_SLOTS;
 ghost use mathlib.Core.Path.{_≡_};
 ghost use Prim.Native.Nat.{_+_, _≤_, _<_, _^_};
 ghost use lib.ListN.{length};
-ghost use Rattle.words.specs.Limits.{holeSlots};
 ghost use Rattle.arena.specs.Fair.{giveFair};
 ghost use Rattle.arena.specs.Calls.{given};
-ghost use Rattle.holes.specs.Act.{withHoles, withState, appendWords, Gives, givenWith};
+ghost use Rattle.holes.specs.Act.{withHoles, withState, Gives, givenWith};
 ghost use Rattle.runs.specs.Asks.{GiveIn, LoadedIn};
 
 pub fn with_holes(a: Arena, count: u32, total: u32) -> Arena
@@ -43,15 +42,7 @@ pub fn with_state(a: Arena, state: u32) -> Arena
     }
 }
 
-fn append(meta: &mut [u32], i: u32, first: u32, pages: u32)
-    requires { ⌜ (40000 ≤ length (now meta)) × (i < holeSlots) ⌝ }
-    ensures { λ _. ⌜ now (meta .exit) ≡ appendWords (now (meta .entry)) i pages first ⌝ }
-{
-    store::store_hole(meta, i, first, pages);
-    store::remember(meta, pages, i + 1);
-}
-
-// The hole and its memory are written; the record afterwards is answered.
+// The hole is written; the record afterwards is answered.
 pub fn give_run(meta: &mut [u32], a: Arena, first: u32, pages: u32) -> Arena
     requires { ⌜ (40000 ≤ length (now meta)) × (a .total + pages < 2 ^ 32) ⌝ }
     ensures { λ r. ⌜ Gives (now (meta .entry)) a pages first (now (meta .exit)) r ⌝ }
@@ -62,7 +53,7 @@ pub fn give_run(meta: &mut [u32], a: Arena, first: u32, pages: u32) -> Arena
     if HOLE_PAGES_MAX < a.total + pages {
         return record::abandoning(a);
     }
-    append(meta, a.count, first, pages);
+    store::store_hole(meta, a.count, first, pages);
     with_holes(a, a.count + 1, a.total + pages)
 }
 

@@ -6,15 +6,16 @@ pub mod load;
 pub mod owners;
 mod store;
 
+use holes::Arena;
 use holes::plans;
-use words::limits::HOLE_SLOTS;
 ghost use mathlib.Core.Path.{_≡_};
 ghost use mathlib.Core.Bool.{true};
 ghost use Prim.Native.Nat.{_+_, _≤_};
 ghost use Rattle.words.specs.Limits.{maxPages};
 ghost use Rattle.arena.specs.Fair.{recordFair};
 ghost use Rattle.arena.specs.Calls.{commitFor};
-ghost use Rattle.holes.specs.Act.{recallWord, commitRead, commitRecalled};
+ghost use Rattle.holes.specs.Record.{recordOf};
+ghost use Rattle.holes.specs.Act.{commitRead};
 ghost use Rattle.runs.specs.Asks.{BookIn, RequestIn};
 ghost use Rattle.runs.specs.Answer.{Answers};
 
@@ -34,27 +35,28 @@ pub enum Commit {
     Nothing,
 }
 
-fn commit_read(meta: &mut [u32], code: u32, q: Request) -> Commit
-    requires { ⌜ RequestIn (now meta) q × (recordFair (q .size) (now meta) ≡ true) × (code ≡ recallWord (now meta) (q .pages)) ⌝ }
+// Some holes are stored.
+fn commit_among(meta: &mut [u32], a: Arena, q: Request) -> Commit
+    requires { ⌜ RequestIn (now meta) q × (recordFair (q .size) (now meta) ≡ true) × (a ≡ recordOf (now meta)) ⌝ }
     ensures { λ r. ⌜ Answers r (now (meta .exit)) (commitRead (q .size) (now (meta .entry)) (q .host) (q .pages) (q .owner) (q .held)) ⌝ }
 {
-    let a = load::load_record(meta);
-    let p = plans::plan(meta, a, q.pages, code);
+    let p = plans::plan(meta, a, q.pages);
     if p.fair {
-        return act::commit_planned(meta, a, p, q);
+        return act::commit_planned(meta, a, p.code, q);
     }
     Commit::Refused(13)
 }
 
-fn commit_recalled(meta: &mut [u32], q: Request) -> Commit
+// With no hole stored none is read.
+fn commit_read(meta: &mut [u32], q: Request) -> Commit
     requires { ⌜ RequestIn (now meta) q × (recordFair (q .size) (now meta) ≡ true) ⌝ }
-    ensures { λ r. ⌜ Answers r (now (meta .exit)) (commitRecalled (q .size) (now (meta .entry)) (q .host) (q .pages) (q .owner) (q .held)) ⌝ }
+    ensures { λ r. ⌜ Answers r (now (meta .exit)) (commitRead (q .size) (now (meta .entry)) (q .host) (q .pages) (q .owner) (q .held)) ⌝ }
 {
-    let code = load::recall(meta, q.pages);
-    if HOLE_SLOTS < code {
-        return Commit::Refused(13);
+    let a = load::load_record(meta);
+    if a.count == 0 {
+        return act::commit_planned(meta, a, 0, q);
     }
-    commit_read(meta, code, q)
+    commit_among(meta, a, q)
 }
 
 // A run of more pages than any arena has is asked for by one page more than that.
@@ -70,7 +72,7 @@ pub fn commit_for(meta: &mut [u32], size: u32, host: u32, pages: u32, owner: u32
             owner,
             held: fields::arena::held(meta),
         };
-        return commit_recalled(meta, q);
+        return commit_read(meta, q);
     }
     Commit::Refused(13)
 }

@@ -2,13 +2,11 @@
 use holes::Arena;
 use words::limits::HOLE_PAGES_MAX;
 use words::limits::HOLE_SLOTS;
-use words::limits::REMEMBERED_MAX;
 ghost use mathlib.Core.Path.{_≡_};
 ghost use Prim.Native.Nat.{_≤_};
 ghost use lib.ListN.{length};
 ghost use Rattle.holes.specs.Record.{recordOf};
 ghost use Rattle.arena.specs.Fair.{recordFair};
-ghost use Rattle.holes.specs.Act.{recallWord};
 
 pub fn load_record(meta: &[u32]) -> Arena
     requires { ⌜ 40000 ≤ length (now meta) ⌝ }
@@ -43,15 +41,4 @@ pub fn record_fair(meta: &[u32], size: u32) -> bool
         return false;
     }
     fields::arena::held(meta) <= size
-}
-
-// The memory of a length, 0 where it has none.
-pub fn recall(meta: &[u32], pages: u32) -> u32
-    requires { ⌜ 40000 ≤ length (now meta) ⌝ }
-    ensures { λ r. ⌜ r ≡ recallWord (now (meta .entry)) pages ⌝ }
-{
-    if REMEMBERED_MAX < pages {
-        return 0;
-    }
-    fields::hole::memory(meta, pages)
 }

@@ -1,6 +1,5 @@
-// The record, a hole, and the memory of a length, written to the words.
+// The record and a hole, written to the words.
 use holes::Arena;
-use words::limits::REMEMBERED_MAX;
 ghost use mathlib.Core.Path.{_≡_};
 ghost use Prim.Native.Nat.{_≤_, _<_};
 ghost use lib.ListN.{length};
@@ -8,7 +7,6 @@ ghost use Rattle.words.specs.Limits.{holeSlots};
 ghost use Rattle.model.specs.HoleStore.{hole};
 ghost use Rattle.arena.specs.Store.{storeHole, storeCounts, storeTop};
 ghost use Rattle.holes.specs.Record.{storeRecord};
-ghost use Rattle.holes.specs.Act.{rememberWord};
 
 fn store_counts(meta: &mut [u32], a: Arena)
     requires { ⌜ 40000 ≤ length (now meta) ⌝ }
@@ -43,14 +41,4 @@ pub fn store_hole(meta: &mut [u32], i: u32, first: u32, pages: u32)
 {
     fields::hole::set_start(meta, i, first);
     fields::hole::set_pages(meta, i, pages);
-}
-
-// Longer runs have no memory.
-pub fn remember(meta: &mut [u32], pages: u32, code: u32)
-    requires { ⌜ 40000 ≤ length (now meta) ⌝ }
-    ensures { λ _. ⌜ now (meta .exit) ≡ rememberWord (now (meta .entry)) pages code ⌝ }
-{
-    if pages <= REMEMBERED_MAX {
-        fields::hole::set_memory(meta, pages, code);
-    }
 }

@@ -14,19 +14,18 @@ use lib.ListN.{length}
 use borrow.Author.Tests.{lt-ltb, leb-true, eqb-false, ne-eqb}
 use Rattle.facts.proofs.Bools.{by-cases}
 use Rattle.words.specs.Host.{commitGranted}
-use Rattle.fields.specs.Field.{arena, memory, class, hole, page, frontier, held, partial, owner, start, pages, get, put, words}
+use Rattle.fields.specs.Field.{arena, class, hole, page, frontier, held, partial, owner, start, pages, get, put, words}
 use Rattle.fields.proofs.Laws.{get-put-same, get-put-other, length-put}
 use Rattle.fields.proofs.Changes.{Changes, changes-none, changes-put}
-use Rattle.model.specs.HoleStore as Model
 use Rattle.model.specs.declared.Hole.{Hole}
 use Rattle.holes.specs.declared.Arena.{Arena}
-use Rattle.holes.specs.declared.Plan.{Plan}
+use Rattle.arena.specs.Load.{loadHole}
 use Rattle.arena.specs.Store.{storeHole, storeCounts, storeTop}
 use Rattle.holes.specs.Record.{recordOf, storeRecord, advanced, counted}
-use Rattle.arena.specs.Fair.{recordFair, memoryFair}
+use Rattle.arena.specs.Fair.{recordFair}
 use Rattle.arena.specs.Owners.{own}
 use Rattle.arena.specs.Calls.{Committed, commitRefused, commitFor}
-use Rattle.holes.specs.Act.{rememberWord, withState, cutWords, usedWords, drawWords, drawRecord, forgetWord, endNone, endRun, endGiven, settle, fromFrontier, commitDrawn, nextState, commitPlanned, planned, commitRead, commitRecalled, commitActs}
+use Rattle.holes.specs.Act.{withState, drawWords, drawRecord, endNone, endRun, endGiven, settle, fromFrontier, holeDrawn, commitDrawn, nextState, commitPlanned, planned, commitRead, commitActs}
 use Rattle.arena.proofs.Frames.{isStored, isOwner, record-changes, own-changes}
 use Rattle.holes.proofs.Acts.{FairRecord, fair-record, commit-acts}
 use Rattle.holes.proofs.PlanLaws.{plan-fits}
@@ -103,68 +102,50 @@ module _ (n : ℕ) (b : List ℕ) (hb : leb (words n) (length b) ≡ true) (m w 
         (λ t. rw t (λ p e. subst (λ z. Granted n b (put (own (storeRecord x (counted f r)) q m w) (arena held) (d + m)) m z w) (same-run q p e) (run-granted x r f d q ch l u)))
         (λ t. rw t (no-run (endGiven x r m q f) refl))
 
-    remember-changes : (x : List ℕ) (k v : ℕ) → Changes isStored b x → Changes isStored b (rememberWord x k v)
-    unfolding rememberWord
-    remember-changes x k v ch = by-cases (leb k 128) (λ t. rw t (changes-put isStored b x (memory k) v (lt-ltb k 129 (omega (arith, leb-true k 128 t))) refl ch)) (λ t. rw t ch)
-
-    hole-changes : (x : List ℕ) (i : ℕ) (y : Hole) → i < 4096 → Changes isStored b x → Changes isStored b (storeHole x i y)
-    hole-changes x i y l ch =
+    draw-changes : (a : Arena) (i : ℕ) → i < 4096 → Changes isStored b (drawWords b a m i)
+    unfolding drawWords
+    draw-changes a i l =
         let o : ltb i 4096 ≡ true = lt-ltb i 4096 l in
-        changes-put isStored b _ (hole pages i) (y .pages) o refl (changes-put isStored b x (hole start i) (y .first) o refl ch)
+        let holed : (y : Hole) → Changes isStored b (storeHole b i y) = λ y. changes-put isStored b _ (hole pages i) (y .pages) o refl (changes-put isStored b b (hole start i) (y .first) o refl (changes-none isStored b)) in
+        by-cases (ltb m (loadHole b i .pages)) (λ t. rw t (holed _)) (λ t. rw t (holed _))
 
-    draw-changes : (p : Plan) → p .code - 1 < 4096 → Changes isStored b (drawWords b m p)
-    unfolding drawWords cutWords usedWords
-    draw-changes p l =
-        by-cases (ltb m (p .pages))
-        (λ t. rw t (remember-changes _ (p .pages - m) (p .code) (remember-changes _ (p .pages) (p .lowest) (remember-changes _ m 0 (hole-changes b (p .code - 1) (Model.hole (p .first + m) (p .pages - m)) l (changes-none isStored b))))))
-        (λ t. rw t (remember-changes _ m (p .lowest) (hole-changes b (p .code - 1) (Model.hole (p .lastfirst) (p .lastpages)) l (changes-none isStored b))))
-
-    forget-changes : (a : Arena) → Changes isStored b (forgetWord b a m)
-    unfolding forgetWord
-    forget-changes a = by-cases (eqb (a .count) 0) (λ t. rw t (changes-none isStored b)) (λ t. rw t (remember-changes b m 0 (changes-none isStored b)))
-
-    frontier-granted : (x : List ℕ) (a : Arena) → Changes isStored b x → Grants (fromFrontier n x a m h w d)
+    frontier-granted : (a : Arena) → Grants (fromFrontier n b a m h w d)
     unfolding fromFrontier endNone
-    frontier-granted x a ch =
+    frontier-granted a =
         by-cases (leb (a .frontier + m) n)
-        (λ t. rw t (settle-granted x (advanced m a) (a .frontier) true ch (omega arith) (leb-true (a .frontier + m) n t)))
-        (λ t. rw t (no-run (endNone x a) refl))
+        (λ t. rw t (settle-granted b (advanced m a) (a .frontier) true (changes-none isStored b) (omega arith) (leb-true (a .frontier + m) n t)))
+        (λ t. rw t (no-run (endNone b a) refl))
 
-    drawn-frontier : (a : Arena) (p : Plan) → drawRecord a m p .frontier ≡ a .frontier
-    unfolding drawRecord
-    drawn-frontier a p = by-cases (ltb m (p .pages)) (λ t. rw t) (λ t. rw t)
+    -- the hole with this code, where it is one, is stored and ends below the frontier
+    abbrev Fits : Arena → ℕ → Type 0
+    Fits a c = (c ≡ 0 → ⊥) → (c ≤ 4096) × (loadHole b (c - 1) .first + m ≤ a .frontier)
 
-    drawn-granted : (a : Arena) (p : Plan) → a .frontier ≤ n → ((p .code ≡ 0 → ⊥) → (p .code ≤ 4096) × (p .first + m ≤ a .frontier)) → Grants (commitDrawn n b a p m h w d)
-    unfolding commitDrawn
-    drawn-granted a p u fits =
-        by-cases (eqb (p .code) 0)
-        (λ t. rw t (frontier-granted (forgetWord b a m) a (forget-changes a)))
+    drawn-granted : (a : Arena) (c : ℕ) → a .frontier ≤ n → Fits a c → Grants (commitDrawn n b a c m h w d)
+    unfolding commitDrawn holeDrawn drawRecord
+    drawn-granted a c u fits =
+        by-cases (eqb c 0)
+        (λ t. rw t (frontier-granted a))
         (λ t.
-        let k = fits (eqb-false (p .code) 0 t) in
-        let e = drawn-frontier a p in
-        rw t (settle-granted (drawWords b m p) (drawRecord a m p) (p .first) false (draw-changes p (omega (arith, k .0))) (rw e (k .1)) (rw e u)))
+        let k = fits (eqb-false c 0 t) in
+        rw t (settle-granted (drawWords b a m (c - 1)) (drawRecord b a m (c - 1)) (loadHole b (c - 1) .first) false (draw-changes a (c - 1) (omega (arith, k .0))) (k .1) u))
 
-    planned-granted : (a : Arena) (p : Plan) → a .frontier ≤ n → ((p .code ≡ 0 → ⊥) → (p .code ≤ 4096) × (p .first + m ≤ a .frontier)) → Grants (commitPlanned n b a p m h w d)
+    planned-granted : (a : Arena) (c : ℕ) → a .frontier ≤ n → Fits a c → Grants (commitPlanned n b a c m h w d)
     unfolding commitPlanned endNone
-    planned-granted a p u fits =
+    planned-granted a c u fits =
         by-cases (eqb (nextState (a .state) h) 2)
         (λ t. rw t (no-run (endNone b (withState (nextState (a .state) h) a)) refl))
-        (λ t. rw t (drawn-granted (withState (nextState (a .state) h) a) p u fits))
+        (λ t. rw t (drawn-granted (withState (nextState (a .state) h) a) c u fits))
 
     read-granted : FairRecord n b → Grants (commitRead n b h m w d)
     unfolding commitRead
     read-granted k =
-        either (planned b m .fair) (commitPlanned n b (recordOf b) (planned b m) m h w d) (commitRefused b 13)
-        (λ t. planned-granted (recordOf b) (planned b m) (k .frontier) (λ z. let f = plan-fits b m (planned b m) refl t z in (omega (arith, f .stored, k .holes), omega (arith, f .enough, f .ends))))
+        either (planned b m .fair) (commitPlanned n b (recordOf b) (planned b m .code) m h w d) (commitRefused b 13)
+        (λ t. planned-granted (recordOf b) (planned b m .code) (k .frontier) (λ z. let f = plan-fits b m (planned b m) refl t z in (omega (arith, f .stored, k .holes), omega (arith, f .enough, f .ends))))
         (no-run (commitRefused b 13) refl)
-
-    recalled-granted : FairRecord n b → Grants (commitRecalled n b h m w d)
-    unfolding commitRecalled
-    recalled-granted k = by-cases (memoryFair b m) (λ t. rw t (read-granted k)) (λ t. rw t (no-run (commitRefused b 13) refl))
 
   acts-granted : (h : ℕ) → Grants (commitActs n b h m w)
   unfolding commitActs
-  acts-granted h = by-cases (recordFair n b) (λ t. rw t (recalled-granted h (get b (arena held)) (fair-record n b t))) (λ t. rw t (no-run (commitRefused b 13) refl))
+  acts-granted h = by-cases (recordFair n b) (λ t. rw t (read-granted h (get b (arena held)) (fair-record n b t))) (λ t. rw t (no-run (commitRefused b 13) refl))
 
   pub commit-granted : (h q : ℕ) → commitFor n b h m w .run ≡ some q → Granted n b (commitFor n b h m w .book) m q w
   commit-granted h q e =

@@ -194,7 +194,7 @@ module _ (n : ℕ) (b : List ℕ) (c : ℕ) (sh : Shape) (h : ℕ) (l : List ℕ
 
   refused-keeps : (commits .code ≡ 0 → ⊥) → commits .book ≡ b
   unfolding commitFor
-  refused-keeps d = go (commitFair n b (sh .pages)) d
+  refused-keeps d = go (commitFair n b) d
     where
       go : (t : Bool) → (cond t (record { code = 0; book = committed b (Model.commit n h (sh .pages) (loadArena b)) (sh .pages) (suc c); run = Model.commit n h (sh .pages) (loadArena b) .run; fresh = Model.commit n h (sh .pages) (loadArena b) .fresh }) (commitRefused b 13) .code ≡ 0 → ⊥)
           → cond t (record { code = 0; book = committed b (Model.commit n h (sh .pages) (loadArena b)) (sh .pages) (suc c); run = Model.commit n h (sh .pages) (loadArena b) .run; fresh = Model.commit n h (sh .pages) (loadArena b) .fresh }) (commitRefused b 13) .book ≡ b

@@ -5,15 +5,12 @@ use Prim.Native.Nat.{ℕ}
 abbrev pub maxPages : ℕ
 maxPages = 262144
 
--- "4,096 holes", "65,536 pages in all", a memory for each length "up to 128"
+-- "4,096 holes", "65,536 pages in all"
 abbrev pub holeSlots : ℕ
 holeSlots = 4096
 
 abbrev pub holePagesMax : ℕ
 holePagesMax = 65536
-
-abbrev pub rememberedMax : ℕ
-rememberedMax = 128
 
 -- the largest limit of a store, empty or cold, over all classes
 abbrev pub maxParked : ℕ

@@ -8,8 +8,5 @@ pub const HOLE_SLOTS: u32 = 4_096;
 
 pub const HOLE_PAGES_MAX: u32 = 65_536;
 
-// The longest run whose length has a memory.
-pub const REMEMBERED_MAX: u32 = 128;
-
 // No store, empty or cold, has more runs.
 pub const MAX_PARKED: u32 = 256;

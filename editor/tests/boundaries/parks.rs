@@ -42,8 +42,8 @@ fn four_empty_pages_then_256_cold_then_the_arena() {
     for page in (4..260).rev() {
         assert_eq!(comes_back(&mut heap, Family::Small, 45), (page, true, true));
     }
-    // Then the arena's, here from the hole given last.
-    assert_eq!(comes_back(&mut heap, Family::Small, 45), (261, true, true));
+    // Then the arena's, here from the hole with the lowest page.
+    assert_eq!(comes_back(&mut heap, Family::Small, 45), (260, true, true));
     assert_eq!(heap.report(), [263, 1, 0, 261, 39, 0]);
 }
 

@@ -86,9 +86,7 @@ fn every_classs_counts_in_a_report() {
 }
 
 #[test]
-fn memory_and_holes_in_a_commit() {
-    up_to(16 + 3, 4_096, commit(3));
-    up_to(16 + 128, 4_096, commit(128));
+fn holes_in_a_commit() {
     // Hole 0: two pages, which end at the frontier, 5.
     with(1_025, 0, true, commit(1));
     up_to(1_025, 2, commit(1));
@@ -96,7 +94,7 @@ fn memory_and_holes_in_a_commit() {
 }
 
 #[test]
-fn memory_in_a_take() {
+fn holes_in_a_take() {
     // No partial page, so that the take comes to the arena, for one page.
     let asks = |heap: &mut Heap| {
         heap.book[PARTIAL] = 0;
@@ -104,10 +102,19 @@ fn memory_in_a_take() {
     };
     let mut heap = scene();
     assert_eq!(asks(&mut heap), Ok((vec![10_243, 9_219, 8_195], true)));
-    for (value, number) in [(4_096, None), (4_097, Some(13)), (5_000, Some(13))] {
+    for (value, number) in [(2, None), (3, Some(13)), (0, Some(13))] {
         let mut heap = scene();
-        heap.book[16 + 1] = value;
+        heap.book[1_025] = value;
         assert_eq!(asks(&mut heap).err(), number);
+    }
+}
+
+#[test]
+fn words_that_no_call_reads() {
+    for word in [12, 16, 16 + 3, 16 + 128, 159] {
+        with(word, u32::MAX, false, commit(3));
+        with(word, u32::MAX, false, take);
+        with(word, u32::MAX, false, report);
     }
 }
 

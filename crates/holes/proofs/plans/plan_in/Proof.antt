@@ -1,16 +1,19 @@
--- `holes::plans::plan_in` meets its contract: a walk of its MIR, by hand. The slice of holes is lent on to `load_holes`, as a `&[Hole]` to `pick`, and to `cut_at`, each time for a
--- lifetime that the walk makes and ends. What is left in it is of no matter.
+-- `holes::plans::plan_in` meets its contract: a walk of its MIR, by hand, with a loop. A turn lends the slice of holes on to `load_holes`, and as a `&[Hole]` to `scan`, each time for a
+-- lifetime that the walk makes and ends. The loop's invariant is that the holes from `left` on are in their range and that the best so far is theirs; the variant is what is left.
 use Rattle.facts.specs.Lists.{every}
-use Rattle.holes.proofs.Walk.{_≡_, refl, sym, ap, subst, _∙_, ℕ, _-_, _<_, _≤_, _^_, arith, Bool, List, [], _∷_, length, set, take, URA, fullShare, named, erased, imm, mut, w32, tyRef, Val, vbool, vint, SProp, ent, id⊢, GName, Lft, Share, Fml, ftrue, fat, flft, fobs, fbor, Memory, Routine, Heap, WpFn, Tables, Atoms, Fun, givenOf, tables, tablesOf, Given, ‵, raw, _⊛_, ⋆, _$_, _∵_, !, qed, by, move, drop, use1, use2, split, join, rewrite, fsplit, fjoin, feqL, suffices, frame, done, whole, sub, look-in, agg, look, init, forget, stop, hop, fld, from, load, addr, and-then, no-more, assigns, land, returns, enter, alloc1, alloc0, params1, pass1, pass0, free1, free0, fmOf, RattleType, owns, Is, pointee, pureI, u32, Held, RefT, now, sliceTy, sliceVal, ShrSlice, MutSlice, Room, heres, codedHoleys, at-slice, shr-slice-lawful, shr-slice-copy, owned, Args, Vals, onEntry, Meets, says, needs, arg, holds, asks, asks-new, asks-both, calls, calls-plain, Takens, Ends, ends, known, shown, number, truth, aBest, aPlan, anArena, byValue, lent, lentMut, lentAt, machine, Lent}
-use lib.ListN.{drop as keep-from}
+use Rattle.holes.proofs.Walk.{_≡_, refl, sym, ap, subst, _∙_, ℕ, _+_, _-_, _<_, _≤_, _^_, arith, Bool, true, false, _&&_, List, [], _∷_, ltb, length, take, URA, fullShare, Ty, named, erased, imm, mut, w32, tyInt, tyBool, tyRef, Val, vbool, vint, SProp, ent, id⊢, GName, Lft, Share, Fml, ftrue, fat, froom, fdies, flft, fobs, fbor, ltb-true, ltb-false, Memory, Routine, afterTurn, Heap, Env, WpFn, Tables, Atoms, Fun, givenOf, tables, tablesOf, Given, Item, Sq, runs, atRet, ‵, raw, _⊛_, ⋆, _$_, _∵_, !, qed, by, move, drop, use1, use2, split, join, rewrite, fsplit, fjoin, feqL, suffices, frame, done, whole, sub, look-in, agg, look, init, store, forget, stop, hop, fld, from, load, lit, neg-lit, true-lit, of-opd, bin, addr, and-then, no-more, first, blocks, stays, leaves-loop, exec, assigns, assigns-last, land, returns, enter, alloc1, alloc0, params1, pass1, pass0, free1, free0, again, fmOf, RattleType, owns, Is, pointee, mem, pureI, u32, Held, RefT, now, sliceTy, sliceVal, ShrSlice, MutSlice, Room, heres, codedHoleys, at-slice, shr-slice-lawful, shr-slice-copy, owned, Args, Vals, onEntry, Meets, says, needs, arg, holds, asks, asks-new, asks-both, calls, calls-plain, by-cases, Takens, Ends, ends, known, shown, number, truth, aBest, aPlan, anArena, byValue, lent, lentMut, lentAt, machine, Lent}
+use lib.Dec.{lit<}
 use denote.Struct.Laws as LL
-use Rattle.fields.specs.Field.{hole, start, word}
+use Rattle.fields.specs.Field.{hole, start, word as wordAt}
+use Rattle.model.specs.HoleStore.{holeSlots}
 use Rattle.arena.specs.Load.{loadHoles}
 use Rattle.arena.specs.Fair.{holeFair}
-use Rattle.holes.specs.Plan.{planOf}
-use Rattle.holes.specs.Scan.{pickedOf, plannedOf, cutOf, cutBest}
+use Rattle.holes.specs.Plan.{planAs, planOf}
+use Rattle.holes.specs.Scan.{noBest, bestOf, codeAt}
 use Rattle.holes.proofs.Lending.{lend-mut, back-mut, lend-shr, back-shr}
-use Rattle.holes.proofs.Planning.{plan-is, picked-within}
+use Rattle.holes.proofs.Looping.{Nearer, OneTurn, loop-from}
+use Rattle.holes.proofs.Loading.{part-fair, part-best}
+use Rattle.holes.proofs.Least.{plan-is}
 use Rattle.model.specs.declared.Hole.{Hole}
 use Rattle.holes.specs.declared.holes.Best.{Best}
 use Rattle.holes.specs.declared.Plan.{Plan}
@@ -18,139 +21,249 @@ use Rattle.holes.specs.declared.Arena.{Arena}
 use Rattle.model.proofs.Hole as T
 use Rattle.holes.proofs.Plan as P
 use Rattle.holes.proofs.Arena as S
+use Rattle.holes.proofs.holes.Best as B
 use Rattle.holes.proofs.holes.load_holes
-use Rattle.holes.proofs.plans.pick
-use Rattle.holes.proofs.plans.cut_at
-use Rattle.holes.proofs.plans.planned
+use Rattle.holes.proofs.holes.scan
+use Rattle.holes.proofs.plans.part
+use Rattle.holes.proofs.plans.found
 use Rattle.holes.proofs.plans.plan_in as f
+use Rattle.holes.proofs.plans.plan_in.Code.Mir as body
 
 abbrev R : RattleType
 R = T.the-row
 
 abbrev taken : Takens (f.signature .params) (f.ended .kept)
-taken = (lent 0 tt u32, (lentMut 1 tt R, (byValue anArena, (byValue (number w32), (byValue (number w32), tt)))))
+taken = (lent 0 tt u32, (lentMut 1 tt R, (byValue anArena, (byValue (number w32), tt))))
+
+-- the types of the locals, as MIR has them
+abbrev int : Ty
+int = tyInt w32
+
+abbrev words : Ty
+words = sliceTy (tyRef (named 0) imm (pointee (u32 .written)))
+
+abbrev slice : Ty
+slice = sliceTy (tyRef (named 1) mut (pointee (R .written)))
+
+abbrev mutRef : Ty
+mutRef = tyRef erased mut (pointee (R .written))
+
+abbrev shrRef : Ty
+shrRef = tyRef erased imm (pointee (R .written))
 
 -- what the function requires
 abbrev Ready : List ℕ → List Hole → Arena → Type 0
-Ready meta hs a = (0 < length hs) × (a .count ≤ length hs) × (word (hole start (a .count)) ≤ length meta)
+Ready meta hs a = (32 ≤ length hs) × (a .count ≤ holeSlots) × (40000 ≤ length meta)
+
+none-is : Is B.the-row noBest (aBest .low noBest ∷ [])
+none-is = LL.owes B.the-type B.Laws.the-laws noBest ((refl, lit< tt), ((refl, lit< tt), tt))
 
 module _ {M : Type 1} (𝓤 : URA M) (H : Heap 𝓤) (A : Atoms 𝓤) (W : Given 𝓤 H A) (at-mem : Memory → SProp 𝓤) (run : Routine → Fun 𝓤) (𝓣 : Tables 𝓤 H)
+    (known-part : Meets 𝓤 H A part.signature (𝓣 .C part.Symbol.name) (part.spec 𝓤 H A at-mem run))
     (known-load-holes : Meets 𝓤 H A load_holes.signature (𝓣 .C load_holes.Symbol.name) (load_holes.spec 𝓤 H A at-mem run))
-    (known-pick : Meets 𝓤 H A pick.signature (𝓣 .C pick.Symbol.name) (pick.spec 𝓤 H A at-mem run))
-    (known-cut-at : Meets 𝓤 H A cut_at.signature (𝓣 .C cut_at.Symbol.name) (cut_at.spec 𝓤 H A at-mem run))
-    (known-planned : Meets 𝓤 H A planned.signature (𝓣 .C planned.Symbol.name) (planned.spec 𝓤 H A at-mem run))
-    (κ κ′ : Lft) (q q′ : Share) (m : RefT (List ℕ)) (b o : ℕ) (γ : GName) (ys : List Hole) (a : Arena) (pages code : ℕ) (gn : Room R (length ys)) (a-is : Is S.the-row a (anArena .low a ∷ [])) (pages-fits : pages < 2 ^ 32) (code-fits : code < 2 ^ 32)
+    (known-scan : Meets 𝓤 H A scan.signature (𝓣 .C scan.Symbol.name) (scan.spec 𝓤 H A at-mem run))
+    (known-found : Meets 𝓤 H A found.signature (𝓣 .C found.Symbol.name) (found.spec 𝓤 H A at-mem run))
+    (κ κ′ : Lft) (q q′ : Share) (m : RefT (List ℕ)) (b o : ℕ) (γ : GName) (ys : List Hole) (a : Arena) (pages : ℕ) (gn : Room R (length ys)) (a-is : Is S.the-row a (anArena .low a ∷ [])) (pages-fits : pages < 2 ^ 32)
     (pre : Ready (now m) ys a) where
   abbrev x : Args f.signature (κ, (κ′, tt))
-  x = (m, (lentAt b o γ ys, (a, (pages, (code, tt)))))
+  x = (m, (lentAt b o γ ys, (a, (pages, tt))))
+
+  abbrev v : Val
+  v = sliceVal (b, o) (length ys)
 
   abbrev at : Vals f.signature (κ, (κ′, tt))
-  at = (machine m ∷ [], (sliceVal (b, o) (length ys) ∷ [], (anArena .low a ∷ [], (vint w32 pages ∷ [], (vint w32 code ∷ [], tt)))))
+  at = (machine m ∷ [], (v ∷ [], (anArena .low a ∷ [], (vint w32 pages ∷ [], tt))))
 
   abbrev Post : Val → SProp 𝓤
   Post = Ends 𝓤 H A f.ended taken (f.clauses 𝓤 H A at-mem run) (((κ, (κ′, tt)), (q, (q′, tt)), tt, x, at), tt)
 
   abbrev Rest : Fml
-  Rest = owns (S.the-row ∷ u32 ∷ u32 ∷ []) (a, (pages, (code, tt))) (anArena .low a ∷ [], (vint w32 pages ∷ [], (vint w32 code ∷ [], tt)))
+  Rest = owns (S.the-row ∷ u32 ∷ []) (a, (pages, tt)) (anArena .low a ∷ [], (vint w32 pages ∷ [], tt))
 
   frontier-fits : a .frontier < 2 ^ 32
   frontier-fits = LL.owed S.the-type S.Laws.the-laws a _ a-is .1 .0 .1
 
-  count-fits : a .count < 2 ^ 32
-  count-fits = LL.owed S.the-type S.Laws.the-laws a _ a-is .1 .1 .0 .1
-
   total-fits : a .total < 2 ^ 32
   total-fits = LL.owed S.the-type S.Laws.the-laws a _ a-is .1 .1 .1 .0 .1
 
-  abbrev Loaded : List Hole → Bool → Type 0
-  Loaded zs r = (r ≡ every (holeFair (a .total) (a .frontier)) (loadHoles (now m) 0 (a .count))) × (take (a .count) zs ≡ loadHoles (now m) 0 (a .count)) × (keep-from (a .count) zs ≡ keep-from (a .count) ys)
+  count-fits : a .count < 2 ^ 32
+  count-fits = omega (arith, pre .1)
 
-  abbrev Picked : List Hole → Bool → Plan → Type 0
-  Picked zs fair p = p ≡ pickedOf zs fair (a .count) pages code
+  abbrev ok : Hole → Bool
+  ok = holeFair (a .total) (a .frontier)
 
-  abbrev Cut : List Hole → Plan → List Hole → Best → Type 0
-  Cut zs p ends r = (r ≡ cutBest zs p (a .count) pages) × (ends ≡ set zs (p .code - 1) (cutOf p pages))
+  -- the holes that the words hold at the index i and on
+  abbrev HS : ℕ → List Hole
+  HS i = loadHoles (now m) i (a .count - i)
 
-  code-within : (zs : List Hole) (fair : Bool) (p : Plan) → length zs ≡ length ys → Picked zs fair p → (p .code - 1 < length zs) × (a .count ≤ length zs)
-  code-within zs fair p long e =
-      let one : 0 < length zs = omega (arith, long, pre .0) in
-      let all : a .count ≤ length zs = omega (arith, long, pre .1) in
-      (subst (λ (t : Plan). t .code - 1 < length zs) (sym e) (picked-within zs fair (a .count) pages code one all), all)
+  -- what is known where the loop's test is reached
+  record Turn : Type 0 where
+    n : ℕ
+    hs : List Hole
+    fair : Bool
+    best : Best
+    is : Is B.the-row best (aBest .low best ∷ [])
+    len : length hs ≡ length ys
+    up-to : n ≤ a .count
+    so-far : fair ≡ every ok (HS n)
+    same : best ≡ bestOf pages n (HS n) noBest
 
-  plan-of : (zs : List Hole) (fair : Bool) (p : Plan) (best : Best) (r : Plan) → length zs ≡ length ys → (fair ≡ every (holeFair (a .total) (a .frontier)) (loadHoles (now m) 0 (a .count))) → take (a .count) zs ≡ loadHoles (now m) 0 (a .count)
-      → Picked zs fair p → best ≡ cutBest zs p (a .count) pages → r ≡ plannedOf p best → r ≡ planOf (loadHoles (now m) 0 (a .count)) (a .total) (a .frontier) pages code
-  plan-of zs fair p best r long e₁ e₂ e₃ e₄ e₅ =
-      e₅ ∙ ap (plannedOf p) e₄ ∙ ap (λ (t : Plan). plannedOf t (cutBest zs t (a .count) pages)) e₃ ∙ plan-is (now m) zs (a .count) (a .total) (a .frontier) pages code fair (omega (arith, long, pre .1)) e₁ e₂
+  abbrev left : Turn → ℕ
+  left t = t .n
 
-  exits : (zs : List Hole) (r : Plan) → length zs ≡ length ys → Is P.the-row r (aPlan .low r ∷ []) → r ≡ planOf (loadHoles (now m) 0 (a .count)) (a .total) (a .frontier) pages code
+  -- what `load_holes` and `scan` say of the part at p and on
+  abbrev Loaded : Turn → ℕ → List Hole → Bool → Type 0
+  Loaded t p zs r = r ≡ (t .fair && every ok (loadHoles (now m) p (t .n - p)))
+
+  abbrev Filled : Turn → ℕ → List Hole → Type 0
+  Filled t p zs = take (t .n - p) zs ≡ loadHoles (now m) p (t .n - p)
+
+  abbrev next : (t : Turn) (p : ℕ) (zs : List Hole) (y : Bool) (r : Best) → Is B.the-row r (aBest .low r ∷ []) → length zs ≡ length ys → p ≤ t .n → Loaded t p zs y → Filled t p zs
+      → r ≡ bestOf pages p (take (t .n - p) zs) (t .best) → Turn
+  next t p zs y r is long l e₁ e₂ e₃ = record {
+    n = p;
+    hs = zs;
+    fair = y;
+    best = r;
+    is = is;
+    len = long;
+    up-to = omega (arith, t .up-to);
+    so-far = e₁ ∙ ap (λ (z : Bool). z && every ok (loadHoles (now m) p (t .n - p))) (t .so-far) ∙ part-fair (now m) p (t .n) (a .count) l (t .up-to) ok;
+    same = e₃ ∙ ap (λ (z : List Hole). bestOf pages p z (t .best)) e₂ ∙ ap (bestOf pages p (loadHoles (now m) p (t .n - p))) (t .same) ∙ part-best (now m) p (t .n) (a .count) l (t .up-to) pages noBest;
+  }
+
+  plan-of : (t : Turn) (r : Plan) → t .n ≤ 0 → r ≡ planAs (t .fair) (codeAt pages (t .best)) → r ≡ planOf (loadHoles (now m) 0 (a .count)) (a .total) (a .frontier) pages
+  plan-of t r l e =
+      let z : t .n ≡ 0 = omega arith in
+      let d : a .count - 0 ≡ a .count = omega arith in
+      let so : t .fair ≡ every ok (loadHoles (now m) 0 (a .count)) = t .so-far ∙ ap (λ (i : ℕ). every ok (HS i)) z ∙ ap (λ (k : ℕ). every ok (loadHoles (now m) 0 k)) d in
+      let such : t .best ≡ bestOf pages 0 (loadHoles (now m) 0 (a .count)) noBest = t .same ∙ ap (λ (i : ℕ). bestOf pages i (HS i) noBest) z ∙ ap (λ (k : ℕ). bestOf pages 0 (loadHoles (now m) 0 k) noBest) d in
+      e ∙ ap (λ (z : Bool). planAs z (codeAt pages (t .best))) so ∙ ap (λ (z : Best). planAs (every ok (loadHoles (now m) 0 (a .count))) (codeAt pages z)) such ∙ plan-is pages pages-fits (a .total) (a .frontier) frontier-fits (loadHoles (now m) 0 (a .count))
+
+  exits : (zs : List Hole) (r : Plan) → length zs ≡ length ys → Is P.the-row r (aPlan .low r ∷ []) → r ≡ planOf (loadHoles (now m) 0 (a .count)) (a .total) (a .frontier) pages
       → ent 𝓤 (⋆ 𝓤 H A (‵ (fobs γ (codedHoleys R .code (heres R zs))) ∷ ‵ (fbor κ′ (Held R (length zs) b o γ)) ∷ ‵ (flft κ′ q′) ∷ ‵ (Lent κ u32 m) ∷ (‵ (flft κ q) ⊛ ‵ ftrue) ∷ ‵ Rest ∷ [])) (Post (aPlan .low r))
   exits zs r long is e =
       qed W (‵ (fobs γ (codedHoleys R .code (heres R zs))) ∷ ‵ (fbor κ′ (Held R (length zs) b o γ)) ∷ ‵ (flft κ′ q′) ∷ ‵ (Lent κ u32 m) ∷ (‵ (flft κ q) ⊛ ‵ ftrue) ∷ ‵ Rest ∷ []) ∵
-      suffices ! _ (ends 𝓤 H A f.ended taken (f.clauses 𝓤 H A at-mem run) W (((κ, (κ′, tt)), (q, (q′, tt)), tt, x, at), tt) (aPlan .low r) r (tt, (zs, (tt, (tt, (tt, tt))))) (tt, (long, (tt, (tt, (tt, tt)))))) $ says ! e $
+      suffices ! _ (ends 𝓤 H A f.ended taken (f.clauses 𝓤 H A at-mem run) W (((κ, (κ′, tt)), (q, (q′, tt)), tt, x, at), tt) (aPlan .low r) r (tt, (zs, (tt, (tt, tt)))) (tt, (long, (tt, (tt, tt))))) $ says ! e $
       move ! (4 ∷ []) $ split ! $ move ! (4 ∷ 1 ∷ []) $ join ! $ move ! (1 ∷ 0 ∷ []) $ join ! $ frame ! $
       fjoin ! $ pureI ! (at-slice R (lentAt b o γ zs) (at .1 .0)) (tt, (tt, tt)) (ap (λ (n : ℕ). sliceVal (b, o) n ∷ []) (sym long), subst (Room R) (sym long) gn) $ fjoin ! $ move ! (0 ∷ 2 ∷ []) $ fjoin ! $ move ! (1 ∷ 0 ∷ []) $ fjoin ! $ frame ! $
       owned ! P.the-row (Is P.the-row) (aPlan .makes 𝓤 H A W) r _ is $ done !
 
-  walk : Is (ShrSlice (named 0) κ u32) m (machine m ∷ []) → ent 𝓤 (onEntry 𝓤 H A f.signature (κ, (κ′, tt)) (q, (q′, tt)) x at) (WpFn 𝓤 H (𝓣 .C) (𝓣 .Λ) f.Code.function (machine m ∷ sliceVal (b, o) (length ys) ∷ anArena .low a ∷ vint w32 pages ∷ vint w32 code ∷ []) Post)
+  module _ (l₀ l₁ l₂ l₃ l₄ l₅ l₆ l₇ l₈ l₉ l₁₀ l₁₁ l₁₂ l₁₃ l₁₄ : ℕ) where
+    abbrev En : Env 𝓤 H
+    En = (P.Laws.mir, l₀) ∷ (words, l₁) ∷ (slice, l₂) ∷ (S.Laws.mir, l₃) ∷ (int, l₄) ∷ (tyBool, l₅) ∷ (B.Laws.mir, l₆) ∷ (int, l₇) ∷ (int, l₈) ∷ (int, l₉) ∷ (tyBool, l₁₀) ∷ (mutRef, l₁₁) ∷ (sliceTy mutRef, l₁₂) ∷ (shrRef, l₁₃) ∷ (sliceTy shrRef, l₁₄) ∷ []
+
+    -- the whole context where the loop's test is reached
+    abbrev Ctx : ℕ → List Hole → Bool → Best → List (Item 𝓤)
+    Ctx n hs fair w = ‵ (fobs γ (codedHoleys R .code (heres R hs))) ∷ ‵ (fbor κ′ (Held R (length hs) b o γ)) ∷ ‵ (flft κ′ q′) ∷ ‵ (Lent κ u32 m) ∷ (‵ (flft κ q) ⊛ ‵ ftrue) ∷ ‵ Rest
+        ∷ ‵ (froom (sliceTy shrRef) l₁₄ 0) ∷ ‵ (fdies (sliceTy shrRef) l₁₄) ∷ ‵ (froom shrRef l₁₃ 0) ∷ ‵ (fdies shrRef l₁₃) ∷ ‵ (froom (sliceTy mutRef) l₁₂ 0) ∷ ‵ (fdies (sliceTy mutRef) l₁₂) ∷ ‵ (froom mutRef l₁₁ 0) ∷ ‵ (fdies mutRef l₁₁)
+        ∷ ‵ (froom tyBool l₁₀ 0) ∷ ‵ (fdies tyBool l₁₀) ∷ ‵ (froom int l₉ 0) ∷ ‵ (fdies int l₉) ∷ ‵ (froom int l₈ 0) ∷ ‵ (fdies int l₈) ∷ ‵ (fat fullShare int l₇ 0 (vint w32 n)) ∷ ‵ (fdies int l₇)
+        ∷ ‵ (fat fullShare B.Laws.mir l₆ 0 (aBest .low w)) ∷ ‵ (fdies B.Laws.mir l₆) ∷ ‵ (fat fullShare tyBool l₅ 0 (vbool fair)) ∷ ‵ (fdies tyBool l₅) ∷ ‵ (fat fullShare int l₄ 0 (vint w32 pages)) ∷ ‵ (fdies int l₄)
+        ∷ ‵ (fat fullShare S.Laws.mir l₃ 0 (anArena .low a)) ∷ ‵ (fdies S.Laws.mir l₃) ∷ ‵ (fat fullShare slice l₂ 0 v) ∷ ‵ (fdies slice l₂) ∷ ‵ (fat fullShare words l₁ 0 (machine m)) ∷ ‵ (fdies words l₁) ∷ ‵ (froom P.Laws.mir l₀ 0) ∷ ‵ (fdies P.Laws.mir l₀) ∷ []
+
+    abbrev I : Turn → List (Item 𝓤)
+    I t = Ctx (t .n) (t .hs) (t .fair) (t .best)
+
+    abbrev Turned : Turn → Type 1
+    Turned = OneTurn W 𝓣 En body.turn-1 body.t-5 Post left I
+
+    -- a turn that looks at a part
+    more : (t : Turn) → ltb 0 (t .n) ≡ true → Turned t
+    unfolding afterTurn
+    more t test =
+        let l : 0 < t .n = ltb-true _ _ test in
+        let n-fits : t .n < 2 ^ 32 = omega (arith, t .up-to, count-fits) in
+        assigns ! (bin ! (lit ! tt) (load ! (from ! (stop !)) (look ! 20 refl)) tt) (from ! (stop !)) (init ! 14 refl (tt, tt)) $
+        rewrite ! 14 (λ (y : Bool). ‵ (fat fullShare tyBool l₁₀ 0 (vbool y))) test refl $ stays ! (load ! (from ! (stop !)) (look ! 14 refl)) $
+        calls-plain ! (fmOf 𝓤 H (W .laws) 𝓣) part.ended (part.clauses 𝓤 H A at-mem run) known-part ((tt, tt, tt, (t .n, tt), (vint w32 (t .n) ∷ [], tt)), tt) (asks W (arg W (number w32) (t .n) (refl, n-fits) ∷ []) (id⊢ 𝓤 _))
+        (number w32) (λ r. r ≡ t .n - 32) (λ r ws. id⊢ 𝓤 _) (and-then ! (load ! (from ! (stop !)) (look ! 21 refl)) (no-more !)) (λ p p-is e₀.
+        let below : p < t .n = omega arith in
+        let under : p ≤ t .n = omega arith in
+        let k-fits : t .n - p < 2 ^ 32 = omega arith in
+        let held : (t .n - p ≤ length (t .hs)) × (p + (t .n - p) < 2 ^ 32) × (wordAt (hole start (p + (t .n - p))) ≤ length (now m)) = (omega (arith, t .len, pre .0), omega arith, omega (arith, t .up-to, pre .1, pre .2)) in
+        land ! (from ! (stop !)) (init ! 18 refl (tt, record { fits = p-is .1 })) $
+        assigns ! (bin ! (load ! (from ! (stop !)) (look ! 20 refl)) (load ! (from ! (stop !)) (look ! 18 refl)) under) (from ! (stop !)) (init ! 16 refl (tt, record { fits = k-fits })) $
+        -- [obs; the borrow; its token; what the words own; their token; the rest; _14; …; …; _0; …]: the slice of holes is made anew, and lent on to `load_holes`
+        assigns ! (addr ! (from ! (fld ! refl (hop ! (look-in ! 30 (sub ! 0 refl (whole !))) (stop !))))) (from ! (stop !)) (init ! 12 refl (tt, tt)) $
+        assigns ! (agg ! (and-then ! (load ! (from ! (stop !)) (look ! 12 refl)) (and-then ! (load ! (from ! (fld ! refl (stop !))) (look-in ! 30 (sub ! 1 refl (whole !)))) (no-more !)))) (from ! (stop !)) (init ! 10 refl (tt, (tt, (record { fits = gn .0 }, tt)))) $
+        rewrite ! 10 (λ (k : ℕ). ‵ (fat fullShare (sliceTy mutRef) l₁₂ 0 (sliceVal (b, o) k))) (sym (t .len)) refl $
+        move ! (3 ∷ []) $ use1 W (‵ (Lent κ u32 m) ⊛ ‵ (Lent κ u32 m)) (shr-slice-copy 𝓤 H A W (named 0) κ u32 .twice m (machine m ∷ [])) $ split ! $ move ! (2 ∷ 3 ∷ 4 ∷ []) $
+        lend-mut ! tt R (named 1) (t .hs) b o (subst (Room R) (sym (t .len)) gn) (λ ν γ′.
+        move ! (7 ∷ 8 ∷ []) $ join ! $ move ! (1 ∷ 2 ∷ []) $ join ! $
+        use2 W (raw _) (asks-both W (arg W truth (t .fair) refl ∷ arg W (number w32) p p-is ∷ arg W (number w32) (t .n - p) (refl, k-fits) ∷ arg W (number w32) (a .total) (refl, total-fits) ∷ arg W (number w32) (a .frontier) (refl, frontier-fits) ∷ []) (holds W held)
+        (Lent κ u32 m) κ q (MutSlice (named 1) (ν ∷ []) R .own (lentAt b o γ′ (t .hs)) (sliceVal (b, o) (length (t .hs)) ∷ [])) (ν ∷ []) fullShare) $
+        -- [what the call asks; the lender's part; the open borrow; obs; auth; what the words own; the rest; _14; …; _13; …; …; _1; …; _0; …]
+        calls ! (fmOf 𝓤 H (W .laws) 𝓣) load_holes.ended (load_holes.clauses 𝓤 H A at-mem run) known-load-holes (((κ, (ν ∷ [], tt)), (q, (fullShare, tt)), tt, (m, (lentAt b o γ′ (t .hs), (t .fair, (p, (t .n - p, (a .total, (a .frontier, tt))))))), (machine m ∷ [], (sliceVal (b, o) (length (t .hs)) ∷ [], (vbool (t .fair) ∷ [], (vint w32 p ∷ [], (vint w32 (t .n - p) ∷ [], (vint w32 (a .total) ∷ [], (vint w32 (a .frontier) ∷ [], tt)))))))), tt)
+        truth (λ r ws. Loaded t p (ws .1 .0) r × Filled t p (ws .1 .0) × _) (λ r ws. id⊢ 𝓤 _) (and-then ! (load ! (from ! (stop !)) (look ! 33 refl)) (and-then ! (load ! (from ! (stop !)) (look ! 11 refl)) (and-then ! (load ! (from ! (stop !)) (look ! 25 refl)) (and-then ! (load ! (from ! (stop !)) (look ! 19 refl)) (and-then ! (load ! (from ! (stop !)) (look ! 17 refl)) (and-then ! (load ! (from ! (fld ! refl (stop !))) (look-in ! 29 (sub ! 3 refl (whole !)))) (and-then ! (load ! (from ! (fld ! refl (stop !))) (look-in ! 29 (sub ! 1 refl (whole !)))) (no-more !)))))))) (λ fair ws fair-is e₁.
+        move ! (1 ∷ []) $ fsplit ! $ move ! (1 ∷ []) $ fsplit ! $ fsplit ! $ move ! (1 ∷ []) $ feqL ! (λ long. move ! (3 ∷ []) $
+        -- [the tokens; what says the last list; true; true; the lender's part; the open borrow; obs; auth; what the words own; the rest; _14; …; _13; …; …; _1; …; _0; …]
+        land ! (from ! (stop !)) (store ! 28 refl (tt, tt)) $
+        split ! $ move ! (1 ∷ []) $ split ! $ move ! (2 ∷ 1 ∷ []) $ join ! $ move ! (1 ∷ 5 ∷ 2 ∷ 6 ∷ 7 ∷ 8 ∷ []) $ back-mut ! tt R (t .hs) (ws .1 .0) long b o $
+        move ! (4 ∷ []) $ drop ! $ move ! (4 ∷ []) $ drop ! $ move ! (0 ∷ 1 ∷ 2 ∷ 4 ∷ 3 ∷ 5 ∷ []) $
+        -- [obs; the borrow; its token; what the words own; their token; the rest; _14; …]: it is made anew, and lent on to `scan`
+        assigns ! (addr ! (from ! (fld ! refl (hop ! (look-in ! 30 (sub ! 0 refl (whole !))) (stop !))))) (from ! (stop !)) (init ! 8 refl (tt, tt)) $
+        assigns ! (agg ! (and-then ! (load ! (from ! (stop !)) (look ! 8 refl)) (and-then ! (load ! (from ! (fld ! refl (stop !))) (look-in ! 30 (sub ! 1 refl (whole !)))) (no-more !)))) (from ! (stop !)) (init ! 6 refl (tt, (tt, (record { fits = gn .0 }, tt)))) $
+        let long′ : length (ws .1 .0) ≡ length ys = long ∙ t .len in
+        let held′ : (t .n - p ≤ length (ws .1 .0)) × (p + (t .n - p) < 2 ^ 32) = (omega (arith, long′, pre .0), omega arith) in
+        rewrite ! 6 (λ (k : ℕ). ‵ (fat fullShare (sliceTy shrRef) l₁₄ 0 (sliceVal (b, o) k))) (sym long′) refl $
+        lend-shr ! tt R (named 0) (ws .1 .0) b o (subst (Room R) (sym long′) gn) (λ ν₂ γ₂.
+        use2 W (raw _) (asks-new W (arg W (number w32) p p-is ∷ arg W (number w32) (t .n - p) (refl, k-fits) ∷ arg W (number w32) pages (refl, pages-fits) ∷ arg W aBest (t .best) (t .is) ∷ []) (holds W held′) (ShrSlice (named 0) (ν₂ ∷ []) R .own (lentAt b o γ₂ (ws .1 .0)) (sliceVal (b, o) (length (ws .1 .0)) ∷ [])) (ν₂ ∷ []) fullShare) $
+        calls ! (fmOf 𝓤 H (W .laws) 𝓣) scan.ended (scan.clauses 𝓤 H A at-mem run) known-scan (((ν₂ ∷ [], tt), (fullShare, tt), tt, (lentAt b o γ₂ (ws .1 .0), (p, (t .n - p, (pages, (t .best, tt))))), (sliceVal (b, o) (length (ws .1 .0)) ∷ [], (vint w32 p ∷ [], (vint w32 (t .n - p) ∷ [], (vint w32 pages ∷ [], (aBest .low (t .best) ∷ [], tt)))))), tt)
+        aBest (λ r ws₂. r ≡ bestOf pages p (take (t .n - p) (ws .1 .0)) (t .best)) (λ r ws. id⊢ 𝓤 _)
+        (and-then ! (load ! (from ! (stop !)) (look ! 8 refl)) (and-then ! (load ! (from ! (stop !)) (look ! 20 refl)) (and-then ! (load ! (from ! (stop !)) (look ! 18 refl)) (and-then ! (load ! (from ! (stop !)) (look ! 28 refl)) (and-then ! (load ! (from ! (stop !)) (look ! 24 refl)) (no-more !)))))) (λ r ws₂ is e₂.
+        move ! (1 ∷ []) $ drop ! $
+        land ! (from ! (stop !)) (store ! 24 refl (aBest .lawful 𝓤 H A W .typed r _ is .0)) $ split ! $
+        move ! (0 ∷ 2 ∷ 3 ∷ 4 ∷ 5 ∷ []) $ back-shr ! tt R (ws .1 .0) b o $ move ! (3 ∷ []) $ drop ! $
+        assigns-last ! (of-opd ! (load ! (from ! (stop !)) (look ! 18 refl))) (from ! (stop !)) (store ! 20 refl (tt, record { fits = p-is .1 })) $
+        forget ! 6 refl $ forget ! 8 refl $ forget ! 10 refl $ forget ! 12 refl $ forget ! 14 refl $ forget ! 16 refl $ forget ! 18 refl $
+        again ! (Nearer left) I t (next t p (ws .1 .0) fair r is long′ under (e₁ .0) (e₁ .1) e₂) below))))))
+
+    -- the turn that leaves the loop, and the rest of the body
+    leaves : (t : Turn) → ltb 0 (t .n) ≡ false → Turned t
+    unfolding afterTurn
+    leaves t test =
+        assigns ! (bin ! (lit ! tt) (load ! (from ! (stop !)) (look ! 20 refl)) tt) (from ! (stop !)) (init ! 14 refl (tt, tt)) $
+        rewrite ! 14 (λ (y : Bool). ‵ (fat fullShare tyBool l₁₀ 0 (vbool y))) test refl $
+        leaves-loop ! (load ! (from ! (stop !)) (look ! 14 refl)) $ exec ! (𝓣 .C) (𝓣 .Λ) En body.t-5 (atRet En Post) $
+        calls-plain ! (fmOf 𝓤 H (W .laws) 𝓣) found.ended (found.clauses 𝓤 H A at-mem run) known-found ((tt, tt, tt, (t .fair, (pages, (t .best, tt))), (vbool (t .fair) ∷ [], (vint w32 pages ∷ [], (aBest .low (t .best) ∷ [], tt)))), tt)
+        (asks W (arg W truth (t .fair) refl ∷ arg W (number w32) pages (refl, pages-fits) ∷ arg W aBest (t .best) (t .is) ∷ []) (id⊢ 𝓤 _))
+        aPlan (λ r. r ≡ planAs (t .fair) (codeAt pages (t .best))) (λ r ws. id⊢ 𝓤 _) (and-then ! (load ! (from ! (stop !)) (look ! 25 refl)) (and-then ! (load ! (from ! (stop !)) (look ! 27 refl)) (and-then ! (load ! (from ! (stop !)) (look ! 23 refl)) (no-more !)))) (λ r is e.
+        land ! (from ! (stop !)) (init ! 34 refl (aPlan .lawful 𝓤 H A W .typed r _ is .0)) $
+        returns ! (look ! 34 refl) $ forget ! 14 refl $ forget ! 20 refl $ forget ! 22 refl $ forget ! 24 refl $ forget ! 26 refl $ forget ! 28 refl $ forget ! 30 refl $ forget ! 32 refl $ forget ! 34 refl $
+        move ! (34 ∷ 35 ∷ []) $ free1 ! $ move ! (32 ∷ 33 ∷ []) $ free1 ! $ move ! (30 ∷ 31 ∷ []) $ free1 ! $ move ! (28 ∷ 29 ∷ []) $ free1 ! $ move ! (26 ∷ 27 ∷ []) $ free1 ! $ move ! (24 ∷ 25 ∷ []) $ free1 ! $ move ! (22 ∷ 23 ∷ []) $ free1 ! $ move ! (20 ∷ 21 ∷ []) $ free1 ! $
+        move ! (18 ∷ 19 ∷ []) $ free1 ! $ move ! (16 ∷ 17 ∷ []) $ free1 ! $ move ! (14 ∷ 15 ∷ []) $ free1 ! $ move ! (12 ∷ 13 ∷ []) $ free1 ! $ move ! (10 ∷ 11 ∷ []) $ free1 ! $ move ! (8 ∷ 9 ∷ []) $ free1 ! $ move ! (6 ∷ 7 ∷ []) $ free1 ! $ free0 ! $
+        by ! (exits (t .hs) r (t .len) is (plan-of t r (ltb-false _ _ test) e)))
+
+    turns : (t : Turn) → Turned t
+    turns t = by-cases (ltb 0 (t .n)) (more t) (leaves t)
+
+    goes-on : Sq W (Ctx (a .count) ys true noBest) (runs (𝓣 .C) (𝓣 .Λ) En body.t-4 (atRet En Post))
+    unfolding loadHoles bestOf
+    goes-on =
+        let z : a .count - a .count ≡ 0 = omega arith in
+        first ! $ blocks ! $ loop-from W 𝓣 En body.turn-1 body.t-5 Post left I turns (record { n = a .count; hs = ys; fair = true; best = noBest; is = none-is; len = refl; up-to = omega arith; so-far = rw z refl; same = rw z refl })
+
+  walk : Is (ShrSlice (named 0) κ u32) m (machine m ∷ []) → ent 𝓤 (onEntry 𝓤 H A f.signature (κ, (κ′, tt)) (q, (q′, tt)) x at) (WpFn 𝓤 H (𝓣 .C) (𝓣 .Λ) f.Code.function (machine m ∷ v ∷ anArena .low a ∷ vint w32 pages ∷ []) Post)
   walk shared =
-      qed W ((‵ (flft κ q) ⊛ ‵ (flft κ′ q′) ⊛ ‵ ftrue) ∷ ‵ (owns (ShrSlice (named 0) κ u32 ∷ MutSlice (named 1) κ′ R ∷ S.the-row ∷ u32 ∷ u32 ∷ []) x at) ∷ []) ∵ enter ! (𝓣 .C) (𝓣 .Λ) f.Code.function (machine m ∷ sliceVal (b, o) (length ys) ∷ anArena .low a ∷ vint w32 pages ∷ vint w32 code ∷ []) _ $
+      qed W ((‵ (flft κ q) ⊛ ‵ (flft κ′ q′) ⊛ ‵ ftrue) ∷ ‵ (owns (ShrSlice (named 0) κ u32 ∷ MutSlice (named 1) κ′ R ∷ S.the-row ∷ u32 ∷ []) x at) ∷ []) ∵ enter ! (𝓣 .C) (𝓣 .Λ) f.Code.function (machine m ∷ v ∷ anArena .low a ∷ vint w32 pages ∷ []) _ $
       alloc1 ! (λ l₀. alloc1 ! (λ l₁. alloc1 ! (λ l₂. alloc1 ! (λ l₃. alloc1 ! (λ l₄. alloc1 ! (λ l₅. alloc1 ! (λ l₆. alloc1 ! (λ l₇. alloc1 ! (λ l₈. alloc1 ! (λ l₉. alloc1 ! (λ l₁₀. alloc1 ! (λ l₁₁. alloc1 ! (λ l₁₂. alloc1 ! (λ l₁₃. alloc1 ! (λ l₁₄. alloc0 ! $ params1 ! $
       pass1 ! (init ! 26 refl (shr-slice-lawful 𝓤 H A W (named 0) κ u32 .typed m (machine m ∷ []) shared .0)) $ pass1 ! (init ! 24 refl (tt, (tt, (record { fits = gn .0 }, tt)))) $ pass1 ! (init ! 22 refl (anArena .lawful 𝓤 H A W .typed a _ a-is .0)) $
-      pass1 ! (init ! 20 refl (tt, record { fits = pages-fits })) $ pass1 ! (init ! 18 refl (tt, record { fits = code-fits })) $ pass0 ! $
+      pass1 ! (init ! 20 refl (tt, record { fits = pages-fits })) $ pass0 ! $
+      assigns ! (of-opd ! (true-lit !)) (from ! (stop !)) (init ! 18 refl (tt, tt)) $
+      assigns ! (agg ! (and-then ! (neg-lit ! tt) (and-then ! (lit ! tt) (no-more !)))) (from ! (stop !)) (init ! 16 refl (aBest .lawful 𝓤 H A W .typed noBest _ none-is .0)) $
+      assigns ! (of-opd ! (load ! (from ! (fld ! refl (stop !))) (look-in ! 22 (sub ! 2 refl (whole !))))) (from ! (stop !)) (init ! 14 refl (tt, record { fits = count-fits })) $
       -- what the slices own and the tokens are taken apart
       move ! (31 ∷ []) $ fsplit ! $ move ! (1 ∷ []) $ fsplit ! $ fsplit ! $ drop ! $ fsplit ! $ move ! (34 ∷ []) $ split ! $ move ! (1 ∷ []) $ split ! $ move ! (2 ∷ 1 ∷ []) $ join ! $ move ! (2 ∷ 3 ∷ 1 ∷ 5 ∷ 0 ∷ 4 ∷ []) $
-      -- [obs; the borrow; its token; what the words own; their token; the rest; _14; …; …; _0; …]: the slice of holes is made anew, and lent on to `load_holes`
-      assigns ! (addr ! (from ! (fld ! refl (hop ! (look-in ! 30 (sub ! 0 refl (whole !))) (stop !))))) (from ! (stop !)) (init ! 16 refl (tt, tt)) $
-      assigns ! (agg ! (and-then ! (load ! (from ! (stop !)) (look ! 16 refl)) (and-then ! (load ! (from ! (fld ! refl (stop !))) (look-in ! 30 (sub ! 1 refl (whole !)))) (no-more !)))) (from ! (stop !)) (init ! 14 refl (tt, (tt, (record { fits = gn .0 }, tt)))) $
-      move ! (3 ∷ []) $ use1 W (‵ (Lent κ u32 m) ⊛ ‵ (Lent κ u32 m)) (shr-slice-copy 𝓤 H A W (named 0) κ u32 .twice m (machine m ∷ [])) $ split ! $ move ! (2 ∷ 3 ∷ 4 ∷ []) $
-      lend-mut ! tt R (named 1) ys b o gn (λ ν γ′.
-      move ! (7 ∷ 8 ∷ []) $ join ! $ move ! (1 ∷ 2 ∷ []) $ join ! $
-      use2 W (raw _) (asks-both W (arg W (number w32) (a .count) (refl, count-fits) ∷ arg W (number w32) (a .total) (refl, total-fits) ∷ arg W (number w32) (a .frontier) (refl, frontier-fits) ∷ []) (holds W (pre .1, pre .2)) (Lent κ u32 m) κ q (MutSlice (named 1) (ν ∷ []) R .own (lentAt b o γ′ ys) (sliceVal (b, o) (length ys) ∷ [])) (ν ∷ []) fullShare) $
-      -- [what the call asks; the lender's part; the open borrow; obs; auth; what the words own; the rest; _14; …; _13; …; …; _1; …; _0; …]
-      calls ! (fmOf 𝓤 H (W .laws) 𝓣) load_holes.ended (load_holes.clauses 𝓤 H A at-mem run) known-load-holes (((κ, (ν ∷ [], tt)), (q, (fullShare, tt)), tt, (m, (lentAt b o γ′ ys, (a .count, (a .total, (a .frontier, tt))))), (machine m ∷ [], (sliceVal (b, o) (length ys) ∷ [], (vint w32 (a .count) ∷ [], (vint w32 (a .total) ∷ [], (vint w32 (a .frontier) ∷ [], tt)))))), tt)
-      truth (λ r ws. Loaded (ws .1 .0) r) (λ r ws. id⊢ 𝓤 _) (and-then ! (load ! (from ! (stop !)) (look ! 33 refl)) (and-then ! (load ! (from ! (stop !)) (look ! 15 refl)) (and-then ! (load ! (from ! (fld ! refl (stop !))) (look-in ! 29 (sub ! 2 refl (whole !)))) (and-then ! (load ! (from ! (fld ! refl (stop !))) (look-in ! 29 (sub ! 3 refl (whole !)))) (and-then ! (load ! (from ! (fld ! refl (stop !))) (look-in ! 29 (sub ! 1 refl (whole !)))) (no-more !)))))) (λ fair ws fair-is e₁.
-      move ! (1 ∷ []) $ fsplit ! $ move ! (1 ∷ []) $ fsplit ! $ fsplit ! $ move ! (1 ∷ []) $ feqL ! (λ long. move ! (3 ∷ []) $
-      -- [the tokens; what says the last list; true; true; the lender's part; the open borrow; obs; auth; what the words own; the rest; _14; …; _13; …; …; _1; …; _0; …]
-      land ! (from ! (stop !)) (init ! 26 refl (tt, tt)) $
-      split ! $ move ! (1 ∷ []) $ split ! $ move ! (2 ∷ 1 ∷ []) $ join ! $ move ! (1 ∷ 5 ∷ 2 ∷ 6 ∷ 7 ∷ 8 ∷ []) $ back-mut ! tt R ys (ws .1 .0) long b o $
-      move ! (4 ∷ []) $ drop ! $ move ! (4 ∷ []) $ drop ! $ move ! (0 ∷ 1 ∷ 2 ∷ 4 ∷ 3 ∷ 5 ∷ []) $
-      -- [obs; the borrow; its token; what the words own; their token; the rest; _14; …]: it is made anew, and lent on to `pick`
-      assigns ! (addr ! (from ! (fld ! refl (hop ! (look-in ! 30 (sub ! 0 refl (whole !))) (stop !))))) (from ! (stop !)) (init ! 12 refl (tt, tt)) $
-      assigns ! (agg ! (and-then ! (load ! (from ! (stop !)) (look ! 12 refl)) (and-then ! (load ! (from ! (fld ! refl (stop !))) (look-in ! 30 (sub ! 1 refl (whole !)))) (no-more !)))) (from ! (stop !)) (init ! 10 refl (tt, (tt, (record { fits = gn .0 }, tt)))) $
-      rewrite ! 10 (λ (k : ℕ). ‵ (fat fullShare (sliceTy (tyRef erased imm (pointee (R .written)))) l₁₂ 0 (sliceVal (b, o) k))) (sym long) refl $
-      lend-shr ! tt R (named 0) (ws .1 .0) b o (subst (Room R) (sym long) gn) (λ ν₂ γ₂.
-      use2 W (raw _) (asks-new W (arg W truth fair refl ∷ arg W (number w32) (a .count) (refl, count-fits) ∷ arg W (number w32) pages (refl, pages-fits) ∷ arg W (number w32) code (refl, code-fits) ∷ []) (holds W (subst (λ (k : ℕ). (0 < k) × (a .count ≤ k)) (sym long) (pre .0, pre .1))) (ShrSlice (named 0) (ν₂ ∷ []) R .own (lentAt b o γ₂ (ws .1 .0)) (sliceVal (b, o) (length (ws .1 .0)) ∷ [])) (ν₂ ∷ []) fullShare) $
-      calls ! (fmOf 𝓤 H (W .laws) 𝓣) pick.ended (pick.clauses 𝓤 H A at-mem run) known-pick (((ν₂ ∷ [], tt), (fullShare, tt), tt, (lentAt b o γ₂ (ws .1 .0), (fair, (a .count, (pages, (code, tt))))), (sliceVal (b, o) (length (ws .1 .0)) ∷ [], (vbool fair ∷ [], (vint w32 (a .count) ∷ [], (vint w32 pages ∷ [], (vint w32 code ∷ [], tt)))))), tt) aPlan (λ r ws₂. Picked (ws .1 .0) fair r) (λ r ws. id⊢ 𝓤 _)
-      (and-then ! (load ! (from ! (stop !)) (look ! 12 refl)) (and-then ! (load ! (from ! (stop !)) (look ! 24 refl)) (and-then ! (load ! (from ! (fld ! refl (stop !))) (look-in ! 30 (sub ! 2 refl (whole !)))) (and-then ! (load ! (from ! (stop !)) (look ! 28 refl)) (and-then ! (load ! (from ! (stop !)) (look ! 26 refl)) (no-more !)))))) (λ p ws₂ p-is e₂.
-      move ! (1 ∷ []) $ drop ! $
-      land ! (from ! (stop !)) (init ! 22 refl (aPlan .lawful 𝓤 H A W .typed p _ p-is .0)) $ split ! $
-      move ! (0 ∷ 2 ∷ 3 ∷ 4 ∷ 5 ∷ []) $ back-shr ! tt R (ws .1 .0) b o $ move ! (3 ∷ []) $ drop ! $
-      -- the same context: it is made anew, and lent on to `cut_at`
-      assigns ! (addr ! (from ! (fld ! refl (hop ! (look-in ! 30 (sub ! 0 refl (whole !))) (stop !))))) (from ! (stop !)) (init ! 8 refl (tt, tt)) $
-      assigns ! (agg ! (and-then ! (load ! (from ! (stop !)) (look ! 8 refl)) (and-then ! (load ! (from ! (fld ! refl (stop !))) (look-in ! 30 (sub ! 1 refl (whole !)))) (no-more !)))) (from ! (stop !)) (init ! 6 refl (tt, (tt, (record { fits = gn .0 }, tt)))) $
-      rewrite ! 6 (λ (k : ℕ). ‵ (fat fullShare (sliceTy (tyRef erased mut (pointee (R .written)))) l₁₄ 0 (sliceVal (b, o) k))) (sym long) refl $
-      lend-mut ! tt R (named 0) (ws .1 .0) b o (subst (Room R) (sym long) gn) (λ ν₃ γ₃.
-      use2 W (raw _) (asks-new W (arg W aPlan p p-is ∷ arg W (number w32) (a .count) (refl, count-fits) ∷ arg W (number w32) pages (refl, pages-fits) ∷ []) (holds W (code-within (ws .1 .0) fair p long e₂)) (MutSlice (named 0) (ν₃ ∷ []) R .own (lentAt b o γ₃ (ws .1 .0)) (sliceVal (b, o) (length (ws .1 .0)) ∷ [])) (ν₃ ∷ []) fullShare) $
-      calls ! (fmOf 𝓤 H (W .laws) 𝓣) cut_at.ended (cut_at.clauses 𝓤 H A at-mem run) known-cut-at (((ν₃ ∷ [], tt), (fullShare, tt), tt, (lentAt b o γ₃ (ws .1 .0), (p, (a .count, (pages, tt)))), (sliceVal (b, o) (length (ws .1 .0)) ∷ [], (aPlan .low p ∷ [], (vint w32 (a .count) ∷ [], (vint w32 pages ∷ [], tt))))), tt) aBest (λ r ws₃. Cut (ws .1 .0) p (ws₃ .0) r) (λ r ws. id⊢ 𝓤 _)
-      (and-then ! (load ! (from ! (stop !)) (look ! 8 refl)) (and-then ! (load ! (from ! (stop !)) (look ! 22 refl)) (and-then ! (load ! (from ! (fld ! refl (stop !))) (look-in ! 30 (sub ! 2 refl (whole !)))) (and-then ! (load ! (from ! (stop !)) (look ! 28 refl)) (no-more !))))) (λ best ws₃ best-is e₃.
-      move ! (1 ∷ []) $ fsplit ! $ fsplit ! $ move ! (1 ∷ []) $ feqL ! (λ long′. move ! (2 ∷ []) $
-      land ! (from ! (stop !)) (init ! 22 refl (aBest .lawful 𝓤 H A W .typed best _ best-is .0)) $ split ! $
-      move ! (0 ∷ 4 ∷ 2 ∷ 5 ∷ 6 ∷ 7 ∷ []) $ back-mut ! tt R (ws .1 .0) (ws₃ .0) long′ b o $ move ! (3 ∷ []) $ drop ! $ move ! (3 ∷ []) $ drop ! $
-      calls-plain ! (fmOf 𝓤 H (W .laws) 𝓣) planned.ended (planned.clauses 𝓤 H A at-mem run) known-planned ((tt, tt, tt, (p, (best, tt)), (aPlan .low p ∷ [], (aBest .low best ∷ [], tt))), tt) (asks W (arg W aPlan p p-is ∷ arg W aBest best best-is ∷ []) (id⊢ 𝓤 _))
-      aPlan (λ r. r ≡ plannedOf p best) (λ r ws. id⊢ 𝓤 _) (and-then ! (load ! (from ! (stop !)) (look ! 21 refl)) (and-then ! (load ! (from ! (stop !)) (look ! 19 refl)) (no-more !))) (λ r is e₄.
-      land ! (from ! (stop !)) (init ! 34 refl (aPlan .lawful 𝓤 H A W .typed r _ is .0)) $
-      returns ! (look ! 34 refl) $ forget ! 6 refl $ forget ! 8 refl $ forget ! 10 refl $ forget ! 12 refl $ forget ! 14 refl $ forget ! 16 refl $ forget ! 18 refl $ forget ! 20 refl $ forget ! 22 refl $ forget ! 24 refl $ forget ! 26 refl $ forget ! 28 refl $ forget ! 30 refl $ forget ! 32 refl $ forget ! 34 refl $
-      move ! (34 ∷ 35 ∷ []) $ free1 ! $ move ! (32 ∷ 33 ∷ []) $ free1 ! $ move ! (30 ∷ 31 ∷ []) $ free1 ! $ move ! (28 ∷ 29 ∷ []) $ free1 ! $ move ! (26 ∷ 27 ∷ []) $ free1 ! $ move ! (24 ∷ 25 ∷ []) $ free1 ! $ move ! (22 ∷ 23 ∷ []) $ free1 ! $ move ! (20 ∷ 21 ∷ []) $ free1 ! $ move ! (18 ∷ 19 ∷ []) $ free1 ! $ move ! (16 ∷ 17 ∷ []) $ free1 ! $ move ! (14 ∷ 15 ∷ []) $ free1 ! $ move ! (12 ∷ 13 ∷ []) $ free1 ! $ move ! (10 ∷ 11 ∷ []) $ free1 ! $ move ! (8 ∷ 9 ∷ []) $ free1 ! $ move ! (6 ∷ 7 ∷ []) $ free1 ! $ free0 ! $
-      by ! (exits (ws₃ .0) r (long′ ∙ long) is (plan-of (ws .1 .0) fair p best r long (e₁ .0) (e₁ .1) e₂ (e₃ .0) e₄))))))))))))))))))))))))))
+      goes-on l₀ l₁ l₂ l₃ l₄ l₅ l₆ l₇ l₈ l₉ l₁₀ l₁₁ l₁₂ l₁₃ l₁₄)))))))))))))))
 
 pub plan-in-spec : {M : Type 1} → f.Statement.statement M
 unfolding f.Code.routine
 plan-in-spec 𝓤 H 𝓜 𝓖 𝓡 =
     shown 𝓤 H 𝓜 𝓖 𝓡 f.Code.env f.ended taken (f.clauses 𝓤 H (𝓖 .A) (𝓜 .mem) (𝓡 .run)) f.Key.name f.Code.function (f.Code.unfolded 𝓤 H 𝓜 𝓡) (λ κs qs bounds a g are. needs 𝓤 (Ready (now (a .0)) (now (a .1 .0)) (a .1 .1 .0)) _ (λ pre.
     walk 𝓤 H (𝓖 .A) (givenOf 𝓤 H 𝓜 𝓖) (𝓜 .mem) (𝓡 .run) (tablesOf 𝓤 H 𝓜 (tables 𝓤 H 𝓜 𝓡 f.Code.env))
+    (known 𝓤 H 𝓜 𝓖 𝓡 f.Code.env part.Symbol.name part.Symbol.routine f.Code.calls-holes·plans·part _ (part.Met.met 𝓤 H 𝓜 𝓖 𝓡))
     (known 𝓤 H 𝓜 𝓖 𝓡 f.Code.env load_holes.Symbol.name load_holes.Symbol.routine f.Code.calls-holes·holes·load-holes _ (load_holes.Met.met 𝓤 H 𝓜 𝓖 𝓡))
-    (known 𝓤 H 𝓜 𝓖 𝓡 f.Code.env pick.Symbol.name pick.Symbol.routine f.Code.calls-holes·plans·pick _ (pick.Met.met 𝓤 H 𝓜 𝓖 𝓡))
-    (known 𝓤 H 𝓜 𝓖 𝓡 f.Code.env cut_at.Symbol.name cut_at.Symbol.routine f.Code.calls-holes·plans·cut-at _ (cut_at.Met.met 𝓤 H 𝓜 𝓖 𝓡))
-    (known 𝓤 H 𝓜 𝓖 𝓡 f.Code.env planned.Symbol.name planned.Symbol.routine f.Code.calls-holes·plans·planned _ (planned.Met.met 𝓤 H 𝓜 𝓖 𝓡))
-    (κs .0) (κs .1 .0) (qs .0) (qs .1 .0) (a .0) (a .1 .0 .ptr .0) (a .1 .0 .ptr .1) (a .1 .0 .name) (a .1 .0 .now) (a .1 .1 .0) (a .1 .1 .1 .0) (a .1 .1 .1 .1 .0)
-    (are .1 .0 .0 .1) (are .1 .1 .0) (are .1 .1 .1 .0 .1) (are .1 .1 .1 .1 .0 .1) pre (are .0)))
+    (known 𝓤 H 𝓜 𝓖 𝓡 f.Code.env scan.Symbol.name scan.Symbol.routine f.Code.calls-holes·holes·scan _ (scan.Met.met 𝓤 H 𝓜 𝓖 𝓡))
+    (known 𝓤 H 𝓜 𝓖 𝓡 f.Code.env found.Symbol.name found.Symbol.routine f.Code.calls-holes·plans·found _ (found.Met.met 𝓤 H 𝓜 𝓖 𝓡))
+    (κs .0) (κs .1 .0) (qs .0) (qs .1 .0) (a .0) (a .1 .0 .ptr .0) (a .1 .0 .ptr .1) (a .1 .0 .name) (a .1 .0 .now) (a .1 .1 .0) (a .1 .1 .1 .0)
+    (are .1 .0 .0 .1) (are .1 .1 .0) (are .1 .1 .1 .0 .1) pre (are .0)))

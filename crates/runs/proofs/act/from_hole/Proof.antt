@@ -1,7 +1,10 @@
 use borrow.Author.Needs.{needs}
 use Rattle.runs.proofs.act.from_hole.Statement.{statement}
 use Rattle.runs.proofs.act.from_hole.Tie as tie
-use Rattle.runs.proofs.ActSteps.{hole-run, from-drawn}
+use Rattle.runs.proofs.ActSteps.{hole-in, hole-run, from-drawn}
 
 pub from-hole-spec : {M : Type 1} → statement M
-from-hole-spec = tie.close (tie.spec (λ c κs. search needs) (λ c κs. search hole-run) (λ c. search needs) (λ c. search from-drawn))
+from-hole-spec =
+    tie.close
+    (tie.spec
+    (λ c κs. search needs) (λ c κs. (search needs, search needs, search hole-in, search needs)) (λ c κs. search hole-run) (λ c. search needs) (λ c. search from-drawn))

@@ -1,0 +1,47 @@
+-- The order of the holes shows in no answer (document 02, A.8), as statements.
+use Prim.Native.Nat.{ℕ}
+use mathlib.Core.List.{List}
+use mathlib.Core.Bool.{Bool, cond, _&&_}
+use mathlib.Core.Path.{_≡_}
+use lib.Dec.{eqb}
+use Rattle.facts.specs.Lists.{total}
+use Rattle.model.specs.declared.Hole.{Hole}
+use Rattle.model.specs.Arena.{Arena, Given, Grown}
+use Rattle.model.specs.Heap.{Heap, Outcome}
+
+-- how often the hole of n pages from q on stands in a list; in two lists each hole stands equally often: the one is the other in some order
+abbrev pub isHole : ℕ → ℕ → Hole → Bool
+isHole q n h = eqb (h .first) q && eqb (h .pages) n
+
+abbrev pub SameHoles : List Hole → List Hole → Type 0
+SameHoles hs gs = (q n : ℕ) → total (λ h. cond (isHole q n h) 1 0) hs ≡ total (λ h. cond (isHole q n h) 1 0) gs
+
+-- two arenas, two heaps that differ in the order of their holes alone
+pub record SameArena (a b : Arena) : Type 0 where
+  pub status : a .status ≡ b .status
+  pub frontier : a .frontier ≡ b .frontier
+  pub holes : SameHoles (a .store .holes) (b .store .holes)
+  pub total : a .store .total ≡ b .store .total
+  pub commits : a .commits ≡ b .commits
+  pub reuses : a .reuses ≡ b .reuses
+  pub abandoned : a .abandoned ≡ b .abandoned
+
+pub record SameHeap (H K : Heap) : Type 0 where
+  pub arena : SameArena (H .arena) (K .arena)
+  pub holder : H .holder ≡ K .holder
+  pub classes : H .classes ≡ K .classes
+
+-- two commits, two growths, two calls that are answered alike, and differ afterwards in the order of holes alone
+pub record SameGiven (g d : Given) : Type 0 where
+  pub run : g .run ≡ d .run
+  pub fresh : g .fresh ≡ d .fresh
+  pub arena : SameArena (g .arena) (d .arena)
+
+pub record SameGrown (g d : Grown) : Type 0 where
+  pub grew : g .grew ≡ d .grew
+  pub arena : SameArena (g .arena) (d .arena)
+
+pub record SameOutcome (o p : Outcome) : Type 0 where
+  pub heap : SameHeap (o .heap) (p .heap)
+  pub answer : o .answer ≡ p .answer
+  pub run : o .run ≡ p .run
