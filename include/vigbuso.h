@@ -10,7 +10,7 @@
  *
  * vigbuso_size_class and vigbuso_contains return their answer. Every other function of the archive returns 0 if it was carried out, otherwise
  * the number of its refusal (enum vigbuso_refusal); the first that applies is returned. A refused call leaves the book, every
- * list and every out-parameter as they were.
+ * list and every out-parameter as they were; only a trace that stopped (16) leaves what its earlier words did.
  *
  * Any number, any list and any book is accepted. What a call is lent must not overlap, and nobody else may write it
  * during the call. No function keeps a pointer, allocates or blocks.
@@ -95,6 +95,7 @@ enum vigbuso_refusal {
     VIGBUSO_ARENA_LENGTH = 1,
     VIGBUSO_BOOK_TOO_SHORT = 2,
     VIGBUSO_PLAN = 14,
+    VIGBUSO_STOPPED = 16,
     VIGBUSO_LISTING = 20,
     VIGBUSO_GAME = 21,
     VIGBUSO_GROWTH = 22,
@@ -147,6 +148,9 @@ static inline const char *vigbuso_refusal_text(uint32_t number) {
     case 14:
         return "the plan is empty, has lists of unequal length or above 4,096 entries, names a size above 65,472 or has a number "
                "above 1,000,000";
+    case 16:
+        return "a word of the trace has kind 3, is a report with other bits set, names a class above 75 or a place not out, or a lent "
+               "list is full";
     case 20:
         return "the listing's arena isn't 1 to 3 pages, its length is above 4, or the lent list is shorter than the listing";
     case 21:
@@ -286,6 +290,27 @@ uint32_t vigbuso_medium_release_blocks(uint32_t *book, size_t book_len, uint32_t
 uint32_t vigbuso_release_bin_chunks(uint32_t *book, size_t book_len, uint32_t size_class, uint32_t host,
                                     const uint32_t *list, size_t list_len, const uint32_t *chunks, size_t chunks_len,
                                     uint32_t *fates, size_t fates_len);
+
+/*
+ * Opens the heap as vigbuso_open does and carries a trace out on it, with everything granted (VIGBUSO_HOST_ALL). A word of the
+ * trace has its kind in the top two bits: 0 a take from the class in the low 30 bits, small ones 0 to 63, medium ones 64 to 75;
+ * 1 the release of the block with that place in the order of handing out, from 0; 2 a report. Within one take the listed order
+ * counts; a take that the arena cannot serve hands out nothing.
+ *   book     book_len words, written
+ *   trace    trace_len words, read
+ *   blocks   blocks_len words; the words of the blocks handed out are written, in order, the others kept
+ *   figures  figures_len numbers; at each report five are written: blocks out, their bytes, pages held, idle pages, and the
+ *            highest bytes out so far; the others kept
+ *   done     3 numbers: words carried out, blocks written, figures written; for 16 too, kept for 1 and 2
+ * Returns 0, or 1, 2; or 16, where the trace stopped before a word, and the book and the lists have what the earlier words did.
+ */
+uint32_t vigbuso_trace(uint32_t *book, size_t book_len, uint64_t pages, const uint32_t *trace, size_t trace_len,
+                       uint32_t *blocks, size_t blocks_len, uint64_t *figures, size_t figures_len, uint64_t *done);
+
+/* The words of a trace. */
+#define VIGBUSO_TRACE_TAKE(size_class) ((uint32_t)(size_class))
+#define VIGBUSO_TRACE_RELEASE(place) (((uint32_t)1 << 30) | (uint32_t)(place))
+#define VIGBUSO_TRACE_REPORT ((uint32_t)2 << 30)
 
 /*
  * A class table from a growth rate: so many sizes in bytes, from 16 on. Each size times a is divided by b, rounded up, then up to

@@ -29,6 +29,7 @@ mod speed;
 mod tally;
 #[cfg(test)]
 mod tests;
+mod traces;
 mod words;
 
 use std::process::ExitCode;
@@ -52,6 +53,8 @@ const USAGE: &str = "usage: compare COMMAND [--NAME VALUE ..]
                plans of takes, made in orders of chance on arenas of just their total and of a page less
   places       [--pairs N] [--seed S]
                neighbouring calls on two classes the other way round, books compared word for word
+  traces       [--traces N] [--seed S]
+               random traces on the port, against their calls one by one on the original and on the port
   speed        [--file F] [--seconds S]
                the port's time against the original's, for each scenario S seconds; the table is also written to F";
 
@@ -70,6 +73,7 @@ fn main() -> ExitCode {
         Some("damaged") => damaged::run(rest),
         Some("fits") => fits::run(rest),
         Some("places") => places::run(rest),
+        Some("traces") => traces::run(rest),
         Some("speed") => speed::run(rest),
         _ => Err(USAGE.into()),
     };

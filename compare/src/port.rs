@@ -26,6 +26,18 @@ extern "C" {
     ) -> u32;
     fn vigbuso_release(book: *mut u32, words: usize, host: u32, first: u64, pages: u64) -> u32;
     fn vigbuso_contains(book: *const u32, words: usize, offset: u64, length: u64) -> u32;
+    fn vigbuso_trace(
+        book: *mut u32,
+        words: usize,
+        pages: u64,
+        trace: *const u32,
+        trace_len: usize,
+        blocks: *mut u32,
+        blocks_len: usize,
+        figures: *mut u64,
+        figures_len: usize,
+        done: *mut u64,
+    ) -> u32;
     fn vigbuso_report(book: *const u32, words: usize, figures: *mut u64) -> u32;
     fn vigbuso_take_blocks(
         book: *mut u32,
@@ -131,6 +143,32 @@ pub fn plan(sizes: &[u32], takes: &[u32]) -> Planned {
 pub fn open(book: &mut [u32], pages: u64) -> u32 {
     // SAFETY: the slice is lent for the call.
     unsafe { vigbuso_open(book.as_mut_ptr(), book.len(), pages) }
+}
+
+/// What is returned; blocks, figures and the three counts are written.
+pub fn trace(
+    book: &mut [u32],
+    pages: u64,
+    trace: &[u32],
+    blocks: &mut [u32],
+    figures: &mut [u64],
+    done: &mut [u64; 3],
+) -> u32 {
+    // SAFETY: slices and counts are lent for the call, the trace to be read.
+    unsafe {
+        vigbuso_trace(
+            book.as_mut_ptr(),
+            book.len(),
+            pages,
+            trace.as_ptr(),
+            trace.len(),
+            blocks.as_mut_ptr(),
+            blocks.len(),
+            figures.as_mut_ptr(),
+            figures.len(),
+            done.as_mut_ptr(),
+        )
+    }
 }
 
 /// The most entries of a lent list.
@@ -364,10 +402,16 @@ pub fn report_figures(book: &[u32]) -> [u64; FIGURES] {
     }
 }
 
+/// What is returned.
+#[inline]
+pub fn plain_report(book: &[u32], figures: &mut [u64; FIGURES]) -> u32 {
+    // SAFETY: the book is lent for the call, to be read, and the figures to be written.
+    unsafe { vigbuso_report(book.as_ptr(), book.len(), figures.as_mut_ptr()) }
+}
+
 fn report(book: &[u32]) -> Answer {
     let mut figures = [UNTOUCHED_FIGURE; FIGURES];
-    // SAFETY: the book is lent for the call, to be read, and the figures to be written.
-    match unsafe { vigbuso_report(book.as_ptr(), book.len(), figures.as_mut_ptr()) } {
+    match plain_report(book, &mut figures) {
         0 => Answer::Report(figures),
         number => refusal(number, figures == [UNTOUCHED_FIGURE; FIGURES]),
     }

@@ -60,6 +60,11 @@ fn draw(arguments: &Arguments, done: &Done) -> Outcome<()> {
     if let Some(file) = &arguments.plot {
         write(file, &plot::svg(&done.history, arguments.pages))?;
     }
+    if let (Some(file), Some(trace)) = (&arguments.trace, &done.trace) {
+        let bytes: Vec<u8> = trace.words().iter().flat_map(|word| word.to_le_bytes()).collect();
+        std::fs::write(file, bytes).map_err(|error| format!("{file}: {error}"))?;
+        println!("trace: {file}, {} words", trace.words().len());
+    }
     Ok(())
 }
 

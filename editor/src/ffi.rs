@@ -4,7 +4,7 @@
 //! # What the caller owes
 //!
 //! 1. A pointer with a length is a slice that may be read, or read and written where the pointer is `*mut`, for that
-//!    many elements during the call. `figures` is five elements.
+//!    many elements during the call. A report's `figures` is five elements, a trace's `done` three.
 //! 2. What is lent to one call does not overlap, and nobody else writes it during the call.
 //! 3. The functions are declared as docs/CALLS.md has them.
 //!
@@ -15,15 +15,16 @@
 //! # What the library owes
 //!
 //! Proved, for every number, every list and every book: a call reads and writes only what it is lent, and within the
-//! lengths given; it returns; it answers 0 or one of document 01's numbers; refused, it leaves everything lent as it was.
+//! lengths given; it returns; it answers 0 or one of the papers' numbers; refused, it leaves everything lent as it was, but for
+//! number 16, a trace that stopped.
 //! It keeps no pointer and has no state but the book. So no call here has a condition on its arguments' values. What it
-//! writes into a list is what its contract says: a take writes words of blocks, which are not 0, and a release by chunks
-//! writes fates.
+//! writes into a list is what its contract says: a take and a trace write words of blocks, which are not 0, and a release by
+//! chunks writes fates.
 
 use alloc::alloc::{alloc_zeroed, Layout};
 use alloc::vec::Vec;
 
-use crate::{Block, Chunk, Class, Fate, Growth, Host, Kind, Refusal, Report, Run, Word};
+use crate::{Block, Chunk, Class, Fate, Figures, Growth, Host, Kind, Refusal, Report, Run, Word};
 
 extern "C" {
     fn vigbuso_size_class(size: u64, class: *mut u32) -> u32;
@@ -91,6 +92,18 @@ extern "C" {
         chunks_len: usize,
         fates: *mut u32,
         fates_len: usize,
+    ) -> u32;
+    fn vigbuso_trace(
+        book: *mut u32,
+        book_len: usize,
+        pages: u64,
+        trace: *const u32,
+        trace_len: usize,
+        blocks: *mut Word,
+        blocks_len: usize,
+        figures: *mut u64,
+        figures_len: usize,
+        done: *mut u64,
     ) -> u32;
     fn vigbuso_class_table(a: u64, b: u64, top: u64, slots: u64, list: *mut u32, list_len: usize) -> u32;
     fn vigbuso_asker_wins(pages: u64, live: u64, moves: u64, wins: *mut u32) -> u32;
@@ -257,6 +270,36 @@ pub(crate) fn release_chunks(
     })
 }
 
+/// A trace on a new heap, and how many words it carried out, how many blocks and numbers it wrote: none where the opening was
+/// refused.
+#[allow(clippy::cast_possible_truncation)] // no count exceeds the length of a slice
+pub(crate) fn trace(
+    book: &mut [u32],
+    pages: u64,
+    words: &[u32],
+    blocks: &mut [Block],
+    figures: &mut [Figures],
+) -> (Result<(), Refusal>, [usize; 3]) {
+    let mut done = [0; 3];
+    // SAFETY: the four slices are lent for the call, the words to be read, and the local of three to be written. A `Block` is a
+    // `Word`, and the words that are left in the list are those of blocks; `Figures` are five `u64` one after the other.
+    let number = unsafe {
+        vigbuso_trace(
+            book.as_mut_ptr(),
+            book.len(),
+            pages,
+            words.as_ptr(),
+            words.len(),
+            blocks.as_mut_ptr().cast::<Word>(),
+            blocks.len(),
+            figures.as_mut_ptr().cast::<u64>(),
+            figures.len() * Figures::NUMBERS,
+            done.as_mut_ptr(),
+        )
+    };
+    (carried_out(number), done.map(|count: u64| count as usize))
+}
+
 /// Writes a class table into the first slots of the list.
 pub(crate) fn class_table(growth: Growth, top: u64, slots: u64, list: &mut [u32]) -> Result<(), Refusal> {
     // SAFETY: the slice is lent for the call.
@@ -386,6 +429,32 @@ mod tests {
         let mut fates = [Fate::Cold; 3];
         assert_eq!(release_chunks(&mut book, small(0), Host::ALL, &list, &chunks, &mut fates), Ok(()));
         assert_eq!(fates, [Fate::KeptRetired, Fate::Cold, Fate::Cold]);
+    }
+
+    /// A report wants five places; fewer are left alone.
+    #[test]
+    fn figures_want_five_places_each() {
+        let (mut book, words) = (vec![0; WORDS], [2 << 30; 2]);
+        for (places, reports) in [(0, 0), (4, 0), (5, 1), (9, 1), (10, 2), (14, 2)] {
+            let (mut figures, mut done) = (vec![7; places], [7; 3]);
+            let number = unsafe {
+                vigbuso_trace(
+                    book.as_mut_ptr(),
+                    WORDS,
+                    1,
+                    words.as_ptr(),
+                    2,
+                    [].as_mut_ptr(),
+                    0,
+                    figures.as_mut_ptr(),
+                    places,
+                    done.as_mut_ptr(),
+                )
+            };
+            assert_eq!((number, done), ([16, 16, 0][reports], [reports as u64, 0, 5 * reports as u64]), "{places}");
+            let expected = [0, 0, 0, 1, 0].into_iter().cycle().take(5 * reports).chain(vec![7; places - 5 * reports]);
+            assert_eq!(figures, expected.collect::<Vec<u64>>(), "{places}");
+        }
     }
 
     #[test]

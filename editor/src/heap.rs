@@ -96,7 +96,7 @@ impl Heap {
 }
 
 /// Words of a heap's own book. None has to be there for a length that is refused.
-fn own_words(pages: u64) -> usize {
+pub(crate) fn own_words(pages: u64) -> usize {
     if pages <= MAX_PAGES {
         book_words(pages)
     } else {
@@ -123,7 +123,12 @@ impl<B: AsRef<[u32]> + AsMut<[u32]>> Heap<B> {
     /// [`Refusal::ArenaLength`], [`BookTooShort`](Refusal::BookTooShort).
     pub fn on(mut book: B, pages: u64) -> Result<Heap<B>, Refusal> {
         ffi::open(book.as_mut(), pages)?;
-        Ok(Heap { book, pages, host: Host::GRANTED })
+        Ok(Heap::opened(book, pages))
+    }
+
+    /// A heap whose book was opened for so many pages.
+    pub(crate) fn opened(book: B, pages: u64) -> Heap<B> {
+        Heap { book, pages, host: Host::GRANTED }
     }
 
     /// Goes on with a book as an earlier heap left it, which may have been stored meanwhile. Its length and its arena's record
@@ -147,7 +152,7 @@ impl<B: AsRef<[u32]> + AsMut<[u32]>> Heap<B> {
     pub fn resume(book: B) -> Result<Heap<B>, Refusal> {
         ffi::report(book.as_ref())?;
         let pages = book.as_ref().first().copied().map_or(0, u64::from);
-        Ok(Heap { book, pages, host: Host::GRANTED })
+        Ok(Heap::opened(book, pages))
     }
 
     /// Opens the heap anew on the same book: every block and every run that was out is forgotten. The host word is kept.

@@ -33,8 +33,9 @@
 //! ```
 //!
 //! Every call of the library is a method of [`Heap`], the size lookup is [`Class::for_size`]; [`plan`] works out, before a
-//! large fill, how many pages it needs; [`short_histories`] lists all that can happen in a few direct calls. A call with bad arguments
-//! changes nothing and answers a [`Refusal`].
+//! large fill, how many pages it needs, and [`Heap::from_trace`], after one, what figures its [`Trace`] comes to;
+//! [`short_histories`] lists all that can happen in a few direct calls. A call with bad arguments changes nothing and answers a
+//! [`Refusal`]; only a trace that [stopped](Refusal::Stopped) leaves what it had done.
 //!
 //! | arena | blocks |
 //! |---|---|
@@ -76,6 +77,7 @@ mod run;
 mod store;
 mod table;
 mod taken;
+mod trace;
 
 pub use block::{Block, Kind, Word};
 pub use chunk::Chunk;
@@ -94,6 +96,7 @@ pub use run::{Committed, Run};
 pub use store::{Record, Store};
 pub use table::{class_table, Growth};
 pub use taken::{Taken, BATCH};
+pub use trace::{Done, Figures, Say, Trace, TraceError, Traced};
 
 /// Bytes of a page.
 ///

@@ -6,7 +6,8 @@ use core::fmt;
 /// The numbers, their names and their meanings: a line of this table is all that a number needs.
 macro_rules! refusals {
     ($($number:literal $name:ident $meaning:literal)*) => {
-        /// The number of a refused call, as documents 01 and 02 list them. A refused call changes nothing.
+        /// The number of a refused call, as documents 01 and 02 list them. A refused call changes nothing, but for a trace that
+        /// [stopped](Refusal::Stopped) at a word, which leaves what the earlier words did.
         ///
         /// [`Heap`](crate::Heap) itself rules some of them out: a [`Host`](crate::Host) has no more than four bits (3), a
         /// [`Class`](crate::Class) is there (4), and a take's list has room for a batch (5). A heap that was opened by
@@ -63,6 +64,7 @@ refusals! {
     12 NotHeld "the run handed to release or to growth isn't wholly held by the direct calls"
     13 BookWord "another book word that the call reads is out of its range, or a listed page yields no block"
     14 Plan "the plan is empty, has lists of unequal length or above 4,096 entries, names a size above 65,472 or has a number above 1,000,000"
+    16 Stopped "a word of the trace has kind 3, is a report with other bits set, names a class above 75 or a place not out, or a lent list is full"
     20 Listing "the listing's arena isn't 1 to 3 pages, its length is above 4, or the lent list is shorter than the listing"
     21 Game "the game's pages are not 1 to 6, its live limit not 1 to the pages, or its moves above 8"
     22 Growth "the growth's a is not above b, b is 0, or either exceeds 1,000"

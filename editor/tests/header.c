@@ -137,6 +137,30 @@ static void chunks(void) {
     IS(fates[1], 7);
 }
 
+/* A take, a release and a report; then a place that is not out. On a book of its own: a trace opens it. */
+static void trace(void) {
+    const uint32_t says[4] = {VIGBUSO_TRACE_TAKE(45), VIGBUSO_TRACE_RELEASE(1), VIGBUSO_TRACE_REPORT, VIGBUSO_TRACE_RELEASE(1)};
+    uint32_t blocks[4] = {7, 7, 7, 7};
+    uint64_t figures[6] = {7, 7, 7, 7, 7, 7}, done[3] = {7, 7, 7};
+    IS(vigbuso_trace(book, words, 0, says, 4, blocks, 4, figures, 6, done), VIGBUSO_ARENA_LENGTH);
+    IS(vigbuso_trace(book, words, PAGES + 1, says, 4, blocks, 4, figures, 6, done), VIGBUSO_BOOK_TOO_SHORT);
+    IS(done[0], 7);
+    IS(vigbuso_trace(book, words, PAGES, says, 4, blocks, 4, figures, 6, done), VIGBUSO_STOPPED);
+    IS(done[0], 3);
+    IS(done[1], 3);
+    IS(done[2], 5);
+    IS(VIGBUSO_BYTE_OFFSET(blocks[0]), 2051 * 16);
+    IS(blocks[3], 7);
+    IS(figures[0], 2);
+    IS(figures[1], 2 * 16384);
+    IS(figures[2], 1);
+    IS(figures[3], PAGES - 1);
+    IS(figures[4], 3 * 16384);
+    IS(figures[5], 7);
+    IS(vigbuso_trace(book, words, PAGES, says, 3, blocks, 4, figures, 6, done), 0);
+    IS(done[0], 3);
+}
+
 static void class_table(void) {
     uint32_t list[66];
     list[64] = list[65] = 7;
@@ -198,6 +222,7 @@ int main(void) {
     runs();
     report();
     chunks();
+    trace();
     class_table();
     game();
     plan();

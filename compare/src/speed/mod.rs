@@ -9,6 +9,7 @@ mod rounds;
 mod scenarios;
 mod sides;
 mod table;
+mod trace;
 
 use std::fs;
 use std::time::Duration;
@@ -35,7 +36,11 @@ pub fn run(words: &[String]) -> Result<bool, String> {
             }
         }
     }
-    let text = table.markdown();
+    let Some(traced) = trace::line(clock) else {
+        println!("a trace: other blocks or figures than its calls one by one");
+        return Ok(false);
+    };
+    let text = table.markdown() + &traced;
     print!("{text}");
     if let Some(file) = arguments.text("file") {
         fs::write(file, text).map_err(|error| format!("{file}: {error}"))?;

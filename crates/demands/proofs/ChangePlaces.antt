@@ -34,7 +34,7 @@ use Rattle.demands.specs.Call.{call}
 use Rattle.demands.specs.Run.{Opens, run, bookAfter, next}
 use Rattle.demands.specs.ChangePlaces.{usesArena, reaches, ChangePlaces, takeOf, OneOnly}
 use Rattle.demands.proofs.Calls.{room}
-use Rattle.demands.proofs.Histories.{run-represents, run-calls, next-is, next-agrees}
+use Rattle.demands.proofs.Histories.{run-represents, run-calls, next-is, next-agrees, book-split}
 
 -- ---- a call that does not reach the arena is at home
 home-of : (q : Ask) → usesArena q ≡ false → StaysHome q
@@ -50,10 +50,6 @@ unfolding wayOf
 at-home n xs x p e r = by-cases (badHost (hostIn x)) inl (λ g. inr (home-of _ (rw (g, e) at r)))
 
 -- ---- the book after more calls
-pub book-split : (b : List ℕ) (xs ys : List Call) → bookFrom call b (xs ++ ys) ≡ bookFrom call (bookFrom call b xs) ys
-book-split b [] ys = refl
-book-split b (x ∷ xs) ys = book-split (call b x .book) xs ys
-
 module _ (n : ℕ) (b : List ℕ) (o : Opens n b) (xs : List Call) where
   after : (ys : List Call) → bookAfter n b (xs ++ ys) ≡ bookFrom call (bookAfter n b xs) ys
   after ys = book-split (openOn b n .book) xs ys

@@ -2,7 +2,7 @@
 -- class refuses it.
 --     host-of                      a call of a class brings its request's host word
 --     next-host                    one that is not refused passed number 3
---     next-step, next-answer       one that passed it goes to its class, whose answer is the reply's
+--     next-step, next-answer       one that passed it goes to its class, whose answer is the reply's; `next-class`, on the words
 --     next-unrefused, next-zero    and then it is refused exactly if the class refuses it
 use Prim.Native.Nat.{ℕ, _+_}
 use native.Mathlib.Omega.{arith}
@@ -72,7 +72,7 @@ module _ (n : ℕ) (b : List ℕ) (o : Opens n b) (xs : List Call) (x : Call) (d
     pub next-answer : next n b xs x .answer ≡ classCall n (heapAfter n xs) (d .class) (d .request) .answer
     next-answer = next-agrees n b o xs x .answer ∙ ap (λ (y : Outcome). y .answer) next-step
 
-    next-class : next n b xs x ≡ classReply n (bookAfter n b xs) (d .class) (d .request)
+    pub next-class : next n b xs x ≡ classReply n (bookAfter n b xs) (d .class) (d .request)
     unfolding callReply wayOf
     next-class = rw (next-is n b o xs x, host-of x d e, good, e)
 

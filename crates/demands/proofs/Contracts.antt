@@ -1,6 +1,6 @@
 -- What a caller sees of the exported functions is the reply of `call`, and of `run` (specs/Contracts).
 --     shows-call    of one function
---     trace-run     of calls in turn, from an opening
+--     in-turn-run   of calls in turn, from an opening
 use Prim.Native.Nat.{ℕ, zero, suc, _+_, _≤_, _<_}
 use native.Mathlib.Omega.{arith}
 use mathlib.Core.Bool.{Bool, true, false}
@@ -38,7 +38,7 @@ use Rattle.refinement.specs.Direct.{Reply, reply}
 use Rattle.refinement.specs.Run.{repliesFrom}
 use Rattle.demands.specs.Call.{call}
 use Rattle.demands.specs.Run.{Opens, run}
-use Rattle.demands.specs.Contracts.{runSeen, Shows, take-blocks, medium-take-blocks, release-blocks, medium-release-blocks, release-bin-chunks, commit, grow-frontier, release, contains, report, Trace, ends, calls}
+use Rattle.demands.specs.Contracts.{runSeen, Shows, take-blocks, medium-take-blocks, release-blocks, medium-release-blocks, release-bin-chunks, commit, grow-frontier, release, contains, report, InTurn, ends, calls}
 use Rattle.demands.proofs.Calls.{room-of}
 use Rattle.refinement.proofs.Basics.{digit-eqb}
 
@@ -140,9 +140,9 @@ shows-call (release h q m r b′ e) = rw (e .code, e .book)
 shows-call (contains o k r e) = rw (e, digit-eqb)
 shows-call {b} (report r fs fs′ e) = report-says b fs fs′ r e
 
-trace-replies : {b : List ℕ} {xs : List Call} {ws : List Reply} → Trace b xs ws → ws ≡ repliesFrom call b xs
-trace-replies (ends b) = refl
-trace-replies (calls b x w xs ws s t) = ap₂ _∷_ (shows-call s) (trace-replies t ∙ ap (λ (v : Reply). repliesFrom call (v .book) xs) (shows-call s))
+in-turn-replies : {b : List ℕ} {xs : List Call} {ws : List Reply} → InTurn b xs ws → ws ≡ repliesFrom call b xs
+in-turn-replies (ends b) = refl
+in-turn-replies (calls b x w xs ws s t) = ap₂ _∷_ (shows-call s) (in-turn-replies t ∙ ap (λ (v : Reply). repliesFrom call (v .book) xs) (shows-call s))
 
-pub trace-run : (n : ℕ) (b b′ : List ℕ) (xs : List Call) (ws : List Reply) → Did 0 b′ (openOn b n) → Trace b′ xs ws → Opens n b × (ws ≡ run n b xs)
-trace-run n b b′ xs ws d t = (sym (d .answer), trace-replies t ∙ ap (λ (m : List ℕ). repliesFrom call m xs) (d .book))
+pub in-turn-run : (n : ℕ) (b b′ : List ℕ) (xs : List Call) (ws : List Reply) → Did 0 b′ (openOn b n) → InTurn b′ xs ws → Opens n b × (ws ≡ run n b xs)
+in-turn-run n b b′ xs ws d t = (sym (d .answer), in-turn-replies t ∙ ap (λ (m : List ℕ). repliesFrom call m xs) (d .book))

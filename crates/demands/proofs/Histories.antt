@@ -85,5 +85,10 @@ replies-split : (b : List ℕ) (xs : List Call) (x : Call) (ys : List Call) → 
 replies-split b [] x ys = refl
 replies-split b (y ∷ xs) x ys = ap (λ (rs : List Reply). call b y ∷ rs) (replies-split (call b y .book) xs x ys)
 
+-- and the book after more calls
+pub book-split : (b : List ℕ) (xs ys : List Call) → bookFrom call b (xs ++ ys) ≡ bookFrom call (bookFrom call b xs) ys
+book-split b [] ys = refl
+book-split b (x ∷ xs) ys = book-split (call b x .book) xs ys
+
 pub run-calls : (n : ℕ) (b : List ℕ) (xs : List Call) (x : Call) (ys : List Call) → run n b (xs ++ x ∷ ys) ≡ run n b xs ++ (next n b xs x ∷ repliesFrom call (next n b xs x .book) ys)
 run-calls n b = replies-split (openOn b n .book)

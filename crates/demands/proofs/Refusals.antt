@@ -33,6 +33,7 @@ use Rattle.vigbuso.specs.Direct.{firstOut, freshOut, grownOut, containsOn}
 use Rattle.vigbuso.specs.Blocks.{codeOut, countOut, virginOut, releaseCode, fateOut}
 use Rattle.demands.specs.Refusals.{Row, firstNumber, checkingOrder, inOrder, Refuses, OpenRefuses, CommitRefuses, GrowRefuses, GiveRefuses, ReportRefuses, TakeRefuses, ReleaseRefuses, ChunksRefuses, containsTable, ContainsAnswers, SizeAnswers, Demand1, TableRefuses, GameRefuses, PlanRefuses, ListingRefuses}
 use Rattle.demands.proofs.RefusalsLaws.{Ends, book-turn}
+use Rattle.demands.proofs.TraceRefusals.{trace-refuses}
 use Rattle.demands.proofs.RefusalsCalls.{open-table, commit-table, grow-table, give-table, report-table, take-table, release-table, chunks-table, rate-table, game-table, listing-table}
 use Rattle.pages.proofs.Downs.{digit-le}
 
@@ -178,6 +179,7 @@ demand-1 = record {
   askerWins = game-refuses;
   plan = plan-refuses;
   shortHistories = listing-refuses;
+  trace = trace-refuses;
   contains = contains-answers;
   sizeClass = size-answers;
 }

@@ -16,11 +16,10 @@ use Rattle.classes.specs.Shape.{shapeOf}
 use Rattle.tables.specs.Table.{badRate, badTop, badSlots, Tabled, classTable}
 use Rattle.game.specs.Game.{badGame, Played, askerWins, winsOut}
 use Rattle.listing.specs.Listing.{badListing, Listed, shortHistories, writtenOut}
-use Rattle.fields.specs.Field.{arena, class, page, size, frontier, partial, empty, cold, free, carved, get}
+use Rattle.fields.specs.Field.{arena, class, size, frontier, partial, empty, cold, get}
 use Rattle.fields.specs.Outcome.{Outcome}
 use Rattle.fields.specs.Outcome as Fields
 use Rattle.fields.specs.Ranges.{metaFault}
-use Rattle.model.specs.declared.Spot.{Spot}
 use Rattle.model.specs.Heap.{badRun, badGrowth}
 use Rattle.model.specs.Release.{ofKind}
 use Rattle.arena.specs.Fair.{recordFair, commitFair, giveFair, reportFair}
@@ -28,10 +27,10 @@ use Rattle.arena.specs.Calls as Arena
 use Rattle.arena.specs.Calls.{Committed, commitRefused, commitFor, commitCall, Done, doneRefused, growCall}
 use Rattle.pages.specs.declared.Park.{Park}
 use Rattle.pages.specs.declared.Park.the-variants.{Empty, Cold}
-use Rattle.pages.specs.Stack.{back, indexOf}
+use Rattle.pages.specs.Stack.{indexOf}
 use Rattle.calls.specs.Take.{Took, tookNone, walk, parkFair, fromPartial, fromPark, onRun, takeNew, takeBlocks, takeCall}
 use Rattle.calls.specs.Release as Back
-use Rattle.calls.specs.Release.{releasedNone, startOf, outAt, firstOf, unlisted, spotAt, giveBackAt, parkAs, parkAt, lastStep, releaseFair, releaseBlocks}
+use Rattle.calls.specs.Release.{releasedNone, startOf, outAt, firstOf, giveBackAt, lastStep, releaseFair, releaseBlocks}
 use Rattle.calls.specs.Chunks.{ChunksReleased, chunksNone, chunksFair, releaseChunks}
 use Rattle.direct.specs.declared.Report.{Report}
 use Rattle.direct.specs.Answer.{reportOf}
@@ -40,6 +39,7 @@ use Rattle.vigbuso.specs.Direct as Direct
 use Rattle.vigbuso.specs.Direct.{openOn, commitOn, growOn, reportOn, reportCode, figuresOut}
 use Rattle.vigbuso.specs.Blocks as Blocks
 use Rattle.vigbuso.specs.Blocks.{takeOn, chunksOn}
+use Rattle.trace.proofs.Refused.{give-zero}
 use Rattle.demands.specs.Refusals.{shortList, nothingListed, manyChunks, wrongKind, notOut, otherPage, chunksDiffer, notHeld, openTable, commitTable, growTable, giveTable, reportTable, takeTable, releaseTable, chunksTable, rateTable, gameTable, listingTable}
 use Rattle.demands.specs.Number13.{takeFair}
 use Rattle.demands.proofs.Ranges.{record-strays, commit-strays, give-strays, report-strays, take-strays, release-strays, chunks-strays}
@@ -148,15 +148,6 @@ take-table low many b c h l =
     b)
 
 -- ---- releases by list
-park-code : (b : List ℕ) (c : ℕ) (sh : Shape) (h q : ℕ) (s : Spot) → parkAs b c sh h q s .code ≡ 0
-park-code b c sh h q s = refl
-
-back-code : (b : List ℕ) (c : ℕ) (sh : Shape) (h q : ℕ) (is : List ℕ) → giveBackAt b c sh h q is .code ≡ 0
-unfolding giveBackAt parkAt
-back-code b c sh h q is =
-    let d = back b q is in
-    by-cases (eqb (get d (page carved q)) (get d (page free q))) (λ e. rw e (park-code (unlisted d c q) c sh h q (spotAt d c sh))) (λ e. rw e)
-
 last-code : (sh : Shape) (q : ℕ) (r : Back.Released) → lastStep sh q r .code ≡ r .code
 last-code sh q r = same (eqb (r .fate) 2)
   where
@@ -181,7 +172,7 @@ release-table low many b c h ws =
     turn _ _ (notOut n b (low + c) sh ws) 10 _ _ _ refl refl λ e.
     turn _ _ (otherPage b ws) 11 _ _ _ refl refl λ e.
     turn _ _ (not (releaseFair n b (low + c) sh (length ws) q)) 13 _ _ _ refl refl λ e.
-    ends _ _ _ (last-code sh q (giveBackAt b (low + c) sh h q is) ∙ back-code b (low + c) sh h q is)))
+    ends _ _ _ (last-code sh q (giveBackAt b (low + c) sh h q is) ∙ give-zero b (low + c) sh h q is)))
     n
     b)
 

@@ -15,7 +15,8 @@ use Rattle.demands.specs.Call.{call}
 use Rattle.demands.specs.Run.{Opens, bookAfter, next, answered, told}
 use Rattle.demands.specs.ChangePlaces.{Swapped}
 use Rattle.demands.specs.Reorders.{Reorders, same, exchange, Reordered}
-use Rattle.demands.proofs.ChangePlaces.{book-split, change-places}
+use Rattle.demands.proofs.Histories.{book-split}
+use Rattle.demands.proofs.ChangePlaces.{change-places}
 
 -- ---- what is told of calls in turn from a book
 abbrev toldFrom : List ℕ → List Call → List Event

@@ -2,14 +2,14 @@
 use Prim.Native.Nat.{ℕ, _≤_}
 use mathlib.Core.List.{List, _∷_, _++_}
 use mathlib.Core.Logic.{_↔_}
-use mathlib.Core.Path.{_≡_}
+use mathlib.Core.Path.{_≡_, sym, subst}
 use Rattle.facts.specs.Lists.{All}
 use Rattle.fields.specs.Ranges.{maxPages}
 use Rattle.fields.specs.Outcome.{Did}
 use Rattle.model.specs.declared.Hole.{Hole}
 use Rattle.model.specs.Calls.{Call, Answer}
 use Rattle.model.specs.Heap.{Heap}
-use Rattle.model.specs.History.{answers, events, heapAfter, answersOf, runsOf}
+use Rattle.model.specs.History.{answers, events, heapAfter, callsOf, answersOf, runsOf}
 use Rattle.model.specs.Entries.{Entry}
 use Rattle.model.specs.Examples.{history, onNewHeap}
 use Rattle.model.proofs.Theorems as Model
@@ -21,8 +21,9 @@ use Rattle.refinement.specs.Direct.{Reply}
 use Rattle.refinement.specs.Run.{callReply, repliesFrom, answersIn}
 use Rattle.demands.specs.Call.{call}
 use Rattle.demands.specs.Run.{Opens, Room, run, bookAfter, next, told}
-use Rattle.demands.specs.Contracts.{Shows, Trace}
-use Rattle.demands.specs.Demands.{Demand2, Demand3, TableBytes}
+use Rattle.demands.specs.Contracts.{Shows, InTurn}
+use Rattle.demands.specs.Start.{Start, pages, lent, Starts, calls, replies}
+use Rattle.demands.specs.Demands.{Demand2At, Demand2, Demand3, TableBytes}
 use Rattle.demands.proofs.Calls as Calls
 use Rattle.demands.proofs.Contracts as Contracts
 use Rattle.demands.proofs.Histories as Histories
@@ -33,13 +34,14 @@ use Rattle.demands.proofs.Returns.{word-returns, list-returns, not-out,
 use Rattle.demands.proofs.ChunkReturns.{chunks-return}
 use Rattle.demands.proofs.Held.{held-releases, unheld-refused, run-given, run-abandoned, held-grows, unheld-stays, growth-fits}
 use Rattle.demands.proofs.Unused.{commit-unused, growth-unused, class-unused}
+use Rattle.demands.proofs.Starts.{as-opening, told-is}
 
 -- what a caller sees of an exported function, by its contract, is the reply of `call`; of calls in turn from an opening, that of `run`
 pub shows-call : {b : List ℕ} {x : Call} {w : Reply} → Shows b x w → w ≡ call b x
 shows-call = Contracts.shows-call
 
-pub trace-run : (n : ℕ) (b b′ : List ℕ) (xs : List Call) (ws : List Reply) → Did 0 b′ (openOn b n) → Trace b′ xs ws → Opens n b × (ws ≡ run n b xs)
-trace-run = Contracts.trace-run
+pub in-turn-run : (n : ℕ) (b b′ : List ℕ) (xs : List Call) (ws : List Reply) → Did 0 b′ (openOn b n) → InTurn b′ xs ws → Opens n b × (ws ≡ run n b xs)
+in-turn-run = Contracts.in-turn-run
 
 -- an opening is refused by numbers 1 and 2 alone: every book that is long enough can be opened, whatever it holds
 pub opens-exactly : (n : ℕ) (b : List ℕ) → Opens n b ↔ Room n b
@@ -74,8 +76,9 @@ pub examples-run : (b : List ℕ) → Opens 64 b → (xs : List Call) (zs : List
 unfolding onNewHeap
 examples-run b o xs zs hs = rw (run-answers 64 b o xs, run-represents 64 b o xs .arena .loads)
 
-pub demand-2 : (n : ℕ) (b : List ℕ) → Opens n b → (xs : List Call) → Demand2 n b xs
-demand-2 n b o xs = record {
+-- after an opening
+at-opening : (n : ℕ) (b : List ℕ) → Opens n b → (xs : List Call) → Demand2At n (bookAfter n b xs) xs (run n b xs)
+at-opening n b o xs = record {
   rules = run-answers n b o xs;
   arena = run-represents n b o xs .arena .loads;
   commits = commit-fits n b o xs;
@@ -100,6 +103,14 @@ demand-2 n b o xs = record {
   apart = told-iso n b o xs (Model.iso-disjoint n (Calls.room n b o .few-pages) xs);
 }
 
+-- after a trace it is the same, with what the trace did in front
+pub demand-2 : (s : Start) → Starts s → (xs : List Call) → Demand2 s xs
+demand-2 s o xs =
+    let e = as-opening s o xs in
+    let ys = calls s xs in
+    subst (λ (d : List ℕ). Demand2At (pages s) d ys (replies s xs)) (sym (e .book))
+    (subst (λ (rs : List Reply). Demand2At (pages s) (bookAfter (pages s) (lent s) ys) ys rs) (sym (e .answers)) (at-opening (pages s) (lent s) o ys))
+
 -- the bytes of an entry, of `disjoint`, `apart` and `Unused`, are its class's size in document 01's tables
 pub block-bytes : (e : Entry) → TableBytes e
 block-bytes = Sizes.block-bytes
@@ -110,8 +121,16 @@ both : (n₁ n₂ : ℕ) (b₁ b₂ : List ℕ) → Opens n₁ b₁ → Opens n�
     → (answersOf c (told n₁ b₁ xs) ≡ answersOf c (told n₂ b₂ ys)) ↔ (runsOf c (events n₁ xs) ≡ runsOf c (events n₂ ys))
 both n₁ n₂ b₁ b₂ o₁ o₂ c xs ys f = rw (told-answers n₁ b₁ o₁ c xs, told-answers n₂ b₂ o₂ c ys) f
 
+-- after an opening
+alone-at : (n₁ n₂ : ℕ) (b₁ b₂ : List ℕ) → Opens n₁ b₁ → Opens n₂ b₂ → (c : ℕ) (xs ys : List Call) → callsOf c xs ≡ callsOf c ys
+    → (answersOf c (told n₁ b₁ xs) ≡ answersOf c (told n₂ b₂ ys)) ↔ (runsOf c (events n₁ xs) ≡ runsOf c (events n₂ ys))
+alone-at n₁ n₂ b₁ b₂ o₁ o₂ c xs ys e = both n₁ n₂ b₁ b₂ o₁ o₂ c xs ys (Alone.alone n₁ n₂ c xs ys e)
+
 pub demand-3 : Demand3
 demand-3 = record {
-  alone = λ n₁ n₂ b₁ b₂ o₁ o₂ c xs ys e. both n₁ n₂ b₁ b₂ o₁ o₂ c xs ys (Alone.alone n₁ n₂ c xs ys e);
-  disjoint = λ n b o xs. told-disjoint n b o xs (Model.demand-3 n (Calls.room n b o .few-pages) .disjoint xs);
+  alone = λ s₁ s₂ o₁ o₂ c xs ys e.
+      rw (told-is s₁ o₁ xs, told-is s₂ o₂ ys) (alone-at (pages s₁) (pages s₂) (lent s₁) (lent s₂) o₁ o₂ c (calls s₁ xs) (calls s₂ ys) e);
+  disjoint = λ s o xs.
+      let n = pages s in
+      rw (told-is s o xs) (told-disjoint n (lent s) o (calls s xs) (Model.demand-3 n (Calls.room n (lent s) o .few-pages) .disjoint (calls s xs)));
 }

@@ -1,6 +1,6 @@
 -- What a caller sees of the exported functions, by their contracts alone (crates/vigbuso/src): on any book, any numbers and any list.
 --     Shows    a call of the exported function of that name, on the book b, returns and leaves what the reply says
---     Trace    calls in turn, each on the book as the last one left it, and what is seen of them
+--     InTurn   calls in turn, each on the book as the last one left it, and what is seen of them
 -- r is what the function returns; a name with ′ is what a lent slice or an out-parameter holds afterwards.
 use Prim.Native.Nat.{ℕ}
 use mathlib.Core.Bool.{cond}
@@ -40,6 +40,6 @@ pub data Shows (b : List ℕ) : Call → Reply → Type 0 where
   contains : (o k r : ℕ) → r ≡ digit (containsOn b o k) → Shows b (Calls.contains o k) (reply 0 (contained (eqb r 1)) b)
   report : (r : ℕ) (fs fs′ : List ℕ) → ReportEnds (reportOn b) r fs fs′ → Shows b Calls.report (reply r (reported (figuresIn fs′)) b)
 
-pub data Trace : List ℕ → List Call → List Reply → Type 0 where
-  ends : (b : List ℕ) → Trace b [] []
-  calls : (b : List ℕ) (x : Call) (w : Reply) (xs : List Call) (ws : List Reply) → Shows b x w → Trace (w .book) xs ws → Trace b (x ∷ xs) (w ∷ ws)
+pub data InTurn : List ℕ → List Call → List Reply → Type 0 where
+  ends : (b : List ℕ) → InTurn b [] []
+  calls : (b : List ℕ) (x : Call) (w : Reply) (xs : List Call) (ws : List Reply) → Shows b x w → InTurn (w .book) xs ws → InTurn b (x ∷ xs) (w ∷ ws)

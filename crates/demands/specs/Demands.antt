@@ -1,4 +1,4 @@
--- Demands 2 and 3, as statements about every history of calls on the words, from an opening on any book. proofs/Theorems proves them.
+-- Demands 2 and 3, as statements about every history of calls on the words, from an opening or a trace on any book. proofs/Theorems proves them.
 use Prim.Native.Nat.{ℕ, _+_, _-_, _/_, _≤_, _<_}
 use mathlib.Core.Bool.{Bool, true, false}
 use mathlib.Core.List.{List, [], _∷_, _++_}
@@ -24,19 +24,22 @@ use Rattle.model.specs.Entries.{Entry, Live, HasByte, blockBytes, OutIn, AllOut
 use Rattle.model.specs.BestFit.{Commits}
 use Rattle.model.specs.Demands.{Disjoint, IsoDisjoint}
 use Rattle.arena.specs.Load.{loadArena}
+use Rattle.refinement.specs.Direct.{Reply}
 use Rattle.refinement.specs.Run.{answersIn}
-use Rattle.demands.specs.Run.{Opens, run, bookAfter, next, told}
+use Rattle.demands.specs.Call.{call}
+use Rattle.demands.specs.Run.{answered}
+use Rattle.demands.specs.Start.{Start, pages, Starts, calls, bookAfter, replies, told}
 use Rattle.demands.specs.Returns.{OneRun, ListOut, ChunksOut}
 
 -- ---- Demand 3, "one claim about whole histories, not one for each call"
 pub record Demand3 : Type 0 where
-  -- two books, two histories, on arenas of whatever lengths, a class whose calls are equal: its answers are equal exactly when what the arena
-  -- gave it is, "worked from the opening over the arguments of all calls" (`events` sees no book)
-  pub alone : (n₁ n₂ : ℕ) (b₁ b₂ : List ℕ) → Opens n₁ b₁ → Opens n₂ b₂ → (c : ℕ) (xs ys : List Call) → callsOf c xs ≡ callsOf c ys
-      → (answersOf c (told n₁ b₁ xs) ≡ answersOf c (told n₂ b₂ ys)) ↔ (runsOf c (events n₁ xs) ≡ runsOf c (events n₂ ys))
+  -- two starts, on books and arenas of whatever lengths, two histories, a class whose calls are equal: its answers are equal exactly when what
+  -- the arena gave it is, "worked from the opening over the arguments of all calls" (`events` sees no book)
+  pub alone : (s₁ s₂ : Start) → Starts s₁ → Starts s₂ → (c : ℕ) (xs ys : List Call) → callsOf c (calls s₁ xs) ≡ callsOf c (calls s₂ ys)
+      → (answersOf c (told s₁ xs) ≡ answersOf c (told s₂ ys)) ↔ (runsOf c (events (pages s₁) (calls s₁ xs)) ≡ runsOf c (events (pages s₂) (calls s₂ ys)))
   -- after every history, entries not yet released share a byte exactly when they are the same entry, and none has a byte of a page held
   -- by the direct calls
-  pub disjoint : (n : ℕ) (b : List ℕ) → Opens n b → (xs : List Call) → Disjoint (told n b xs)
+  pub disjoint : (s : Start) → Starts s → (xs : List Call) → Disjoint (told s xs)
 
 -- ---- Demand 2
 -- a commit answered by best fit: a hole of the least sufficient length, fresh pages only if no hole suffices, none with its reason
@@ -95,63 +98,68 @@ pub record Unused (n : ℕ) (vs : List Event) (q m : ℕ) : Type 0 where
   pub offDirect : (k : ℕ) → k < m → directAfter vs (q + k) ≡ false
   pub offBlocks : (e : Entry) → Live 0 vs e → (b : ℕ) → HasByte e b → inRun m q (b / pageBytes) ≡ false
 
--- after the history xs; the arena, holes and all, is what the words of the book say it is
-pub record Demand2 (n : ℕ) (b : List ℕ) (xs : List Call) : Type 0 where
+-- after the calls xs since an opening of n pages, answered rs, which left the book b; the arena, holes and all, is what the words of the book
+-- say it is
+pub record Demand2At (n : ℕ) (b : List ℕ) (xs : List Call) (rs : List Reply) : Type 0 where
   -- each call answers what document 01's rules say, and the arena that the words hold is the one that they lead to
-  pub rules : answersIn (run n b xs) ≡ answers n xs
-  pub arena : loadArena (bookAfter n b xs) ≡ heapAfter n xs .arena
-  pub commits : (h m : ℕ) → h ≤ hostMax → badRun m ≡ false → CommitFits n h m (loadArena (bookAfter n b xs)) (next n b xs (Calls.commit h m) .answer)
+  pub rules : answersIn rs ≡ answers n xs
+  pub arena : loadArena b ≡ heapAfter n xs .arena
+  pub commits : (h m : ℕ) → h ≤ hostMax → badRun m ≡ false → CommitFits n h m (loadArena b) (call b (Calls.commit h m) .answer)
   pub runs : (x : Call) (d : Named) → names x ≡ some d
-      → RunFits n (hostOf (d .request)) (shapeOf (d .class) .pages) (loadArena (bookAfter n b xs)) (Asks (heapAfter n xs .classes (d .class)) (d .request) (next n b xs x .code))
+      → RunFits n (hostOf (d .request)) (shapeOf (d .class) .pages) (loadArena b) (Asks (heapAfter n xs .classes (d .class)) (d .request) (call b x .code))
       (step n (heapAfter n xs) x .run)
   -- a take that is not refused answers a block, or its class has no page at hand and the arena no run for it
-  pub takes : (x : Call) (c h : ℕ) (l : List ℕ) → names x ≡ some (record { class = c; request = Calls.take h l }) → next n b xs x .code ≡ 0
-      → (isNil (blocksOf (next n b xs x .answer)) ≡ false) ⊎ (Spent (heapAfter n xs .classes c) × Commits n h (shapeOf c .pages) (loadArena (bookAfter n b xs)) none false)
+  pub takes : (x : Call) (c h : ℕ) (l : List ℕ) → names x ≡ some (record { class = c; request = Calls.take h l }) → call b x .code ≡ 0
+      → (isNil (blocksOf (call b x .answer)) ≡ false) ⊎ (Spent (heapAfter n xs .classes c) × Commits n h (shapeOf c .pages) (loadArena b) none false)
   -- number 10 by the history: a release of one block is not refused exactly if the block is out in the class, which is that an entry of
   -- the class not yet released has its word
   pub returns : (c w : ℕ) (x : Call) (h : ℕ) → h ≤ hostMax → names x ≡ some (record { class = c; request = Calls.giveBack h (w ∷ []) })
-      → (next n b xs x .code ≡ 0) ↔ OutIn (told n b xs) c w
+      → (call b x .code ≡ 0) ↔ OutIn (answered xs rs) c w
   -- so is a list exactly if numbers 3 and 7 to 11 do not apply, by the history and by its words; so are groups
   pub returnsList : (c : ℕ) (x : Call) (h : ℕ) (ws : List ℕ) → names x ≡ some (record { class = c; request = Calls.giveBack h ws })
-      → (next n b xs x .code ≡ 0) ↔ ListOut (told n b xs) c h ws
+      → (call b x .code ≡ 0) ↔ ListOut (answered xs rs) c h ws
   pub returnsChunks : (c h : ℕ) (ws gs fs : List ℕ) → c < 64
-      → (next n b xs (Calls.releaseBinChunks c h ws gs fs) .code ≡ 0) ↔ ChunksOut (told n b xs) c h ws gs fs
+      → (call b (Calls.releaseBinChunks c h ws gs fs) .code ≡ 0) ↔ ChunksOut (answered xs rs) c h ws gs fs
   -- a list of the class's kind is refused as 10 if its blocks are not all out, each once; if they are, as 11 if they do not stand on one run
   pub notOut : (c : ℕ) (x : Call) (h : ℕ) (ws : List ℕ) → h ≤ hostMax → names x ≡ some (record { class = c; request = Calls.giveBack h ws })
-      → isNil ws ≡ false → every (ofKind (shapeOf c .kind)) ws ≡ true → (AllOut (told n b xs) c ws → ⊥) → next n b xs x .answer ≡ Calls.refused 10
+      → isNil ws ≡ false → every (ofKind (shapeOf c .kind)) ws ≡ true → (AllOut (answered xs rs) c ws → ⊥) → call b x .answer ≡ Calls.refused 10
   pub notTogether : (c : ℕ) (x : Call) (h : ℕ) (ws : List ℕ) → h ≤ hostMax → names x ≡ some (record { class = c; request = Calls.giveBack h ws })
-      → isNil ws ≡ false → every (ofKind (shapeOf c .kind)) ws ≡ true → AllOut (told n b xs) c ws → (OneRun (shapeOf c) ws → ⊥)
-      → next n b xs x .answer ≡ Calls.refused 11
+      → isNil ws ≡ false → every (ofKind (shapeOf c .kind)) ws ≡ true → AllOut (answered xs rs) c ws → (OneRun (shapeOf c) ws → ⊥)
+      → call b x .answer ≡ Calls.refused 11
   -- a run can be released directly exactly if each of its pages is held by the direct calls
   pub releases : (h q m : ℕ) → h ≤ hostMax → badRun m ≡ false
-      → (next n b xs (Calls.release h q m) .code ≡ 0) ↔ ((k : ℕ) → k < m → directAfter (told n b xs) (q + k) ≡ true)
+      → (call b (Calls.release h q m) .code ≡ 0) ↔ ((k : ℕ) → k < m → directAfter (answered xs rs) (q + k) ≡ true)
   -- else it is refused as 12
-  pub unheld : (h q m : ℕ) → h ≤ hostMax → badRun m ≡ false → (k : ℕ) → k < m → directAfter (told n b xs) (q + k) ≡ false
-      → next n b xs (Calls.release h q m) .answer ≡ Calls.refused 12
+  pub unheld : (h q m : ℕ) → h ≤ hostMax → badRun m ≡ false → (k : ℕ) → k < m → directAfter (answered xs rs) (q + k) ≡ false
+      → call b (Calls.release h q m) .answer ≡ Calls.refused 12
   -- the total that a give looks at is the pages of all holes
-  pub holeTotal : loadArena (bookAfter n b xs) .store .total ≡ total (λ x. x .pages) (loadArena (bookAfter n b xs) .store .holes)
+  pub holeTotal : loadArena b .store .total ≡ total (λ x. x .pages) (loadArena b .store .holes)
   -- a run released directly is stored behind the other holes where the store has room for it
-  pub gives : (h q m : ℕ) → next n b xs (Calls.release h q m) .code ≡ 0
-      → length (loadArena (bookAfter n b xs) .store .holes) < holeSlots → loadArena (bookAfter n b xs) .store .total + m ≤ holePagesMax
-      → loadArena (next n b xs (Calls.release h q m) .book) .store .holes ≡ loadArena (bookAfter n b xs) .store .holes ++ hole q m ∷ []
+  pub gives : (h q m : ℕ) → call b (Calls.release h q m) .code ≡ 0
+      → length (loadArena b .store .holes) < holeSlots → loadArena b .store .total + m ≤ holePagesMax
+      → loadArena (call b (Calls.release h q m) .book) .store .holes ≡ loadArena b .store .holes ++ hole q m ∷ []
   -- where it has none the run is abandoned, and counted
-  pub abandons : (h q m : ℕ) → next n b xs (Calls.release h q m) .code ≡ 0
-      → (holeSlots ≤ length (loadArena (bookAfter n b xs) .store .holes)) ⊎ (holePagesMax < loadArena (bookAfter n b xs) .store .total + m)
-      → Abandoned (loadArena (bookAfter n b xs)) (loadArena (next n b xs (Calls.release h q m) .book))
+  pub abandons : (h q m : ℕ) → call b (Calls.release h q m) .code ≡ 0
+      → (holeSlots ≤ length (loadArena b .store .holes)) ⊎ (holePagesMax < loadArena b .store .total + m)
+      → Abandoned (loadArena b) (loadArena (call b (Calls.release h q m) .book))
   -- so with a growth, and one that is not refused is answered by `Grows`
   pub grows : (h q old new : ℕ) → h ≤ hostMax → badRun old ≡ false → badRun new ≡ false → old < new
-      → (next n b xs (Calls.growFrontier h q old new) .code ≡ 0) ↔ ((k : ℕ) → k < old → directAfter (told n b xs) (q + k) ≡ true)
-  pub unheldGrowth : (h q old new : ℕ) → h ≤ hostMax → badRun old ≡ false → badRun new ≡ false → old < new → (k : ℕ) → k < old → directAfter (told n b xs) (q + k) ≡ false
-      → next n b xs (Calls.growFrontier h q old new) .answer ≡ Calls.refused 12
+      → (call b (Calls.growFrontier h q old new) .code ≡ 0) ↔ ((k : ℕ) → k < old → directAfter (answered xs rs) (q + k) ≡ true)
+  pub unheldGrowth : (h q old new : ℕ) → h ≤ hostMax → badRun old ≡ false → badRun new ≡ false → old < new → (k : ℕ) → k < old → directAfter (answered xs rs) (q + k) ≡ false
+      → call b (Calls.growFrontier h q old new) .answer ≡ Calls.refused 12
   pub growths : (h q old new : ℕ) → h ≤ hostMax → badRun old ≡ false → badRun new ≡ false → old < new
-      → next n b xs (Calls.growFrontier h q old new) .code ≡ 0
-      → GrowFits n h (q + old) (new - old) (loadArena (bookAfter n b xs)) (next n b xs (Calls.growFrontier h q old new) .answer)
+      → call b (Calls.growFrontier h q old new) .code ≡ 0
+      → GrowFits n h (q + old) (new - old) (loadArena b) (call b (Calls.growFrontier h q old new) .answer)
   -- what is given out lies in the arena and was nobody's: the run that a direct commit answers, the pages that a growth adds, the run that a class gets
-  pub newRuns : (h m q : ℕ) (fresh : Bool) → next n b xs (Calls.commit h m) .answer ≡ Calls.run q fresh → Unused n (told n b xs) q m
-  pub newPages : (h q old new : ℕ) → next n b xs (Calls.growFrontier h q old new) .answer ≡ Calls.grown true → Unused n (told n b xs) (q + old) (new - old)
-  pub newOfClass : (x : Call) (d : Named) (r : Hole) → names x ≡ some d → step n (heapAfter n xs) x .run ≡ some r → Unused n (told n b xs) (r .first) (r .pages)
+  pub newRuns : (h m q : ℕ) (fresh : Bool) → call b (Calls.commit h m) .answer ≡ Calls.run q fresh → Unused n (answered xs rs) q m
+  pub newPages : (h q old new : ℕ) → call b (Calls.growFrontier h q old new) .answer ≡ Calls.grown true → Unused n (answered xs rs) (q + old) (new - old)
+  pub newOfClass : (x : Call) (d : Named) (r : Hole) → names x ≡ some d → step n (heapAfter n xs) x .run ≡ some r → Unused n (answered xs rs) (r .first) (r .pages)
   -- blocks not yet released lie in the arena and have no byte in common
-  pub apart : IsoDisjoint n (told n b xs)
+  pub apart : IsoDisjoint n (answered xs rs)
+
+-- after the calls xs since a start, which is an opening or a trace
+abbrev pub Demand2 : Start → List Call → Type 0
+Demand2 s xs = Demand2At (pages s) (bookAfter s xs) (calls s xs) (replies s xs)
 
 -- an entry's bytes, which `HasByte` counts in granules, are its class's size in document 01's tables
 pub record TableBytes (e : Entry) : Type 0 where

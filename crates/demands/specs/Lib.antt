@@ -1,5 +1,7 @@
 pub mod Call
 pub mod Run
+pub mod Trace
+pub mod Start
 pub mod Contracts
 pub mod Returns
 pub mod Demands

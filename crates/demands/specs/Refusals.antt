@@ -1,7 +1,7 @@
 -- Demand 1: document 01's table "Numbers for a refused call, in checking order", with document 02's numbers in it, for each exported
 -- function.
 --     badLength to notHeld       when each number applies, with document 01's sentence
---     openTable to listingTable  for each function the numbers that it can answer, in checking order, and whether each applies
+--     openTable to traceTable    for each function the numbers that it can answer, in checking order, and whether each applies
 --     firstNumber                the first of them that applies, 0 if none does
 --     Refuses                    a call answered that number, and changed nothing where it is not 0
 --     Demand1                    every exported function does so, by what its contract says of it
@@ -36,6 +36,9 @@ use Rattle.arena.specs.Calls.{heldDirect}
 use Rattle.direct.specs.Answer.{Releases}
 use Rattle.calls.specs.Release.{startOf, outAt, firstOf}
 use Rattle.calls.specs.Chunks.{chunksMatch}
+use Rattle.trace.specs.Trace.{carried}
+use Rattle.trace.specs.Words.{roomOf, traceOn}
+use Rattle.vigbuso.specs.Trace.{TraceEnds}
 use Rattle.vigbuso.specs.Direct as Direct
 use Rattle.vigbuso.specs.Direct.{openOn, commitOn, CommitEnds, growOn, GrowEnds, containsOn, reportOn, ReportEnds}
 use Rattle.vigbuso.specs.Blocks as Blocks
@@ -96,7 +99,11 @@ notHeld n b q m = not (heldDirect n b q m)
 -- 13. "Another book word that the call reads is out of its range, or a listed page yields no block.": `strays` and `barren`, over the
 -- rows that the call reads of the one table, Specs/Ranges. That the tests of the code are just these is Specs/Number13.
 
--- Document 02's: 14 is `badPlan`; 20 is `badListing`; 21 is `badGame`; 22, 23 and 24 are `badRate`, `badTop` and `badSlots`.
+-- 16 (document 02, A.7): there is a word that stops the trace; Specs/Trace, `Reason`, says which words do
+abbrev pub stopped : ℕ → List ℕ → List ℕ → List ℕ → Bool
+stopped n ws bl fl = ltb (carried n (roomOf bl fl) ws) (length ws)
+
+-- Document 02's others: 14 is `badPlan`; 20 is `badListing`; 21 is `badGame`; 22, 23 and 24 are `badRate`, `badTop` and `badSlots`.
 
 -- ---- a table's rows are a number and whether it applies
 abbrev pub Row : Type 0
@@ -208,6 +215,10 @@ planTable ks ts = (14, badPlan ks ts) ∷ []
 abbrev pub listingTable : ℕ → ℕ → List ℕ → List Row
 listingTable n k l = (20, badListing n k (length l)) ∷ []
 
+-- vigbuso_trace
+abbrev pub traceTable : List ℕ → ℕ → List ℕ → List ℕ → List ℕ → List Row
+traceTable b n ws bl fl = (1, badLength n) ∷ (2, tooShort n b) ∷ (16, stopped n ws bl fl) ∷ []
+
 -- ---- "Each returns its number and changes nothing."
 -- A call with these rows answered r; Same says that all that it was lent to write is as it was: book, list, out-parameters.
 pub record Refuses (rows : List Row) (r : ℕ) (Same : Type 0) : Type 0 where
@@ -277,6 +288,13 @@ ListingRefuses =
     → ListingEnds (shortHistories n k l) r l′ w w′
     → Refuses (listingTable n k l) r ((l′ ≡ l) × (w′ ≡ w))
 
+-- "16 is the one refusal that may leave something changed"
+abbrev pub TraceRefuses : Type 0
+TraceRefuses =
+    (b : List ℕ) (n : ℕ) (ws bl fl dn : List ℕ) (r : ℕ) (b′ bl′ fl′ dn′ : List ℕ)
+    → TraceEnds (traceOn b n ws bl fl dn) r b′ bl′ fl′ dn′
+    → Refuses (traceTable b n ws bl fl) r ((r ≡ 16 → ⊥) → (b′ ≡ b) × (bl′ ≡ bl) × (fl′ ≡ fl) × (dn′ ≡ dn))
+
 -- "Sizes and `contains` refuse nothing": `contains` is 1 or 0, yes or no, and no "on a book that 1, 2 or 13 would refuse".
 pub record Contains (b : List ℕ) (r : ℕ) : Type 0 where
   pub plain : r ≤ 1
@@ -311,5 +329,6 @@ pub record Demand1 : Type 0 where
   pub askerWins : GameRefuses
   pub plan : PlanRefuses
   pub shortHistories : ListingRefuses
+  pub trace : TraceRefuses
   pub contains : ContainsAnswers
   pub sizeClass : SizeAnswers

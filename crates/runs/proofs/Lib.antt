@@ -2,3 +2,4 @@ mod RecordSteps
 mod ActSteps
 mod GiveSteps
 pub mod CommitSteps
+pub mod WouldSteps

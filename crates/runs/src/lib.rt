@@ -5,6 +5,7 @@ pub mod growth;
 pub mod load;
 pub mod owners;
 mod store;
+pub mod would;
 
 use holes::Arena;
 use holes::plans;

@@ -10,3 +10,4 @@ pub mod TakeParked
 pub mod TakeGranted
 pub mod TakeNew
 pub mod TakeSteps
+pub mod CountSteps

@@ -28,7 +28,7 @@ use Rattle.pages.proofs.NewRun.{new-names, bare-long, bare-listed}
 use Rattle.take.proofs.TakePages.{Fair}
 
 -- ---- what carving leaves
-stocked-le : (sh : Shape) → stocked sh ≤ sh .capacity
+pub stocked-le : (sh : Shape) → stocked sh ≤ sh .capacity
 stocked-le sh = by-cases (isMedium sh) (λ e. rw e (omega arith)) (λ e. rw e (omega arith))
 
 module _ (n : ℕ) (b : List ℕ) (hb : leb (words n) (length b) ≡ true) (sh : Shape) (few : sh .capacity ≤ 4096) (q : ℕ) (hq : ltb q n ≡ true) (v : Bool) where
@@ -131,10 +131,16 @@ module _ (n : ℕ) (b : List ℕ) (hb : leb (words n) (length b) ≡ true) (c : 
   unfolding hasMore
   new-more = rw (new-is, carve-free n bare bare-there sh (sd .few) q hq true, carve-carved n bare bare-there sh (sd .few) q hq true) (gives (isMedium sh))
 
+  pub new-free : get (newRun b sh q) (page free q) ≡ stocked sh
+  new-free = rw new-is (carve-free n bare bare-there sh (sd .few) q hq true)
+
+  pub new-carved : get (newRun b sh q) (page carved q) ≡ stocked sh
+  new-carved = rw new-is (carve-carved n bare bare-there sh (sd .few) q hq true)
+
   pub new-fair : (m : ℕ) → Fair n (newRun b sh q) c sh 0 m q
   new-fair m =
-      let fr = ap (λ z. get z (page free q)) new-is ∙ carve-free n bare bare-there sh (sd .few) q hq true in
-      let ca = ap (λ z. get z (page carved q)) new-is ∙ carve-carved n bare bare-there sh (sd .few) q hq true in
+      let fr = new-free in
+      let ca = new-carved in
       let vi = ap (λ z. get z (page virgin q)) new-is ∙ carve-virgin n bare bare-there sh (sd .few) q hq true in
       record {
         run = new-whole;

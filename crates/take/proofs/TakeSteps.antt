@@ -137,7 +137,7 @@ module _ (b : List ℕ) (c : ℕ) (sh : Shape) (l : List ℕ) (q : ℕ) where
     linked-walks : walksFrom n (link (newRun b sh q) c q) c sh ≡ true
     linked-walks = alone-walks n (newRun b sh q) long₁ c hc q (lt-ltb q n in-arena) alone sh (a .asks .shape .few) 0 (sh .batch) fair wants under₁ (sh .batch) (a .asks .shape .gives)
 
-    linked-planned : foreseen (fills (link (newRun b sh q) c q) c sh) ≡ record { count = length (latest (newRun b sh q) sh q (sh .batch)); virgin = true }
+    pub linked-planned : foreseen (fills (link (newRun b sh q) c q) c sh) ≡ record { count = length (latest (newRun b sh q) sh q (sh .batch)); virgin = true }
     linked-planned =
         let w = linked-asks in
         fill-planned n c hc sh (a .asks .shape) (sh .batch) (sh .batch) (link (newRun b sh q) c q) (le-leb (words n) (length (link (newRun b sh q) c q)) (w .long)) (w .bound) linked-walks

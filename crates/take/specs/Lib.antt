@@ -1,2 +1,3 @@
 pub mod TakePlan
 pub mod TakeAnswer
+pub mod TakeCount

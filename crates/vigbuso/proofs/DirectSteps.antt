@@ -63,7 +63,7 @@ module _ (b : List ℕ) (n r : ℕ) (e : r ≡ lengthFault n (length b)) where
   open-refused d = rw (← e, ne-eqb r 0 d) (record { answer = refl; book = refl })
 
   module _ (z : r ≡ 0) where
-    sides : (within (between 1 maxPages) n ≡ true) × (leb (words n) (length b) ≡ true)
+    pub sides : (within (between 1 maxPages) n ≡ true) × (leb (words n) (length b) ≡ true)
     sides = both _ _ r e z
 
     pub open-fits : Fits w32 n

@@ -4,3 +4,4 @@ mod TakeSteps
 mod ReleaseSteps
 mod ChunkSteps
 mod SizeSteps
+mod TraceSteps

@@ -2,3 +2,4 @@ pub mod Faults
 pub mod Direct
 pub mod Blocks
 pub mod Sizes
+pub mod Trace

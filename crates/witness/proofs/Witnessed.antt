@@ -10,6 +10,8 @@ use Rattle.model.specs.Calls as Calls
 use Rattle.plan.specs.Code.{PlanEnds}
 use Rattle.listing.specs.Listing.{shortHistories, ListingEnds}
 use Rattle.direct.specs.Answer.{Releases}
+use Rattle.trace.specs.Words.{traceOn}
+use Rattle.vigbuso.specs.Trace.{TraceEnds}
 use Rattle.vigbuso.specs.Direct as Direct
 use Rattle.vigbuso.specs.Direct.{openOn, commitOn, CommitEnds, growOn, GrowEnds, containsOn, reportOn, ReportEnds}
 use Rattle.vigbuso.specs.Blocks as Blocks
@@ -23,9 +25,11 @@ use Rattle.demands.specs.Game.{ThreeYes}
 use Rattle.demands.proofs.Game.{game}
 use Rattle.demands.specs.Listing.{OnePageTwoCalls}
 use Rattle.demands.proofs.Listing.{short-histories}
-use Rattle.witness.specs.Seen.{Opened, TakeSeen, ListSeen, ChunksSeen, CommitSeen, GrowSeen, GiveSeen, ContainsSeen, ReportSeen, TableSeen, GameSeen, PlanSeen, ListingSeen}
+use Rattle.witness.specs.Seen.{Opened, TakeSeen, ListSeen, ChunksSeen, CommitSeen, GrowSeen, GiveSeen, ContainsSeen, ReportSeen, TableSeen, GameSeen, PlanSeen, ListingSeen, TraceSeen}
 use Rattle.demands.proofs.Plan.{fits}
 use Rattle.demands.proofs.Idle.{idle}
+use Rattle.demands.proofs.Trace.{trace}
+use Rattle.demands.proofs.TraceRefusals.{trace-refuses}
 
 module _ (b : List ℕ) (r : ℕ) (b′ : List ℕ) where
   pub open-seen : (n : ℕ) → Did r b′ (openOn b n) → Opened n r b b′
@@ -93,3 +97,12 @@ module _ (r : ℕ) (l l′ : List ℕ) (w w′ : ℕ) where
 
   pub one-page-seen : ListingEnds (shortHistories 1 2 l) r l′ w w′ → OnePageTwoCalls r l l′ w′
   one-page-seen e = short-histories .one-page l r l′ w w′ e
+
+module _ (n : ℕ) (b ws bl fl dn : List ℕ) (r : ℕ) (b′ bl′ fl′ dn′ : List ℕ) where
+  pub trace-seen : TraceEnds (traceOn b n ws bl fl dn) r b′ bl′ fl′ dn′ → TraceSeen n b ws bl fl dn r b′ bl′ fl′ dn′
+  trace-seen e = record {
+    number = trace-refuses b n ws bl fl dn r b′ bl′ fl′ dn′ e;
+    starts = trace .starts n b ws bl fl dn r b′ bl′ fl′ dn′ e;
+    book = e .book;
+    did = trace .traces n b ws bl fl dn r b′ bl′ fl′ dn′ e;
+  }

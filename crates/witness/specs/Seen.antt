@@ -7,7 +7,7 @@
 -- r is what the function returns; a name with ′ is what a lent slice or an out-parameter holds afterwards.
 use Prim.Native.Nat.{ℕ}
 use mathlib.Core.List.{List, []}
-use mathlib.Core.Logic.{_↔_}
+use mathlib.Core.Logic.{_⊎_, _↔_}
 use mathlib.Core.Path.{_≡_}
 use lib.Dec.{eqb}
 use Rattle.model.specs.Calls as Calls
@@ -17,11 +17,13 @@ use Rattle.vigbuso.specs.Direct.{figuresIn}
 use Rattle.demands.specs.Call.{call}
 use Rattle.demands.specs.Run.{Opens, bookAfter}
 use Rattle.demands.specs.Contracts.{runSeen}
-use Rattle.demands.specs.Refusals.{Refuses, Contains, openTable, commitTable, growTable, giveTable, reportTable, takeTable, releaseTable, chunksTable, rateTable, gameTable, planTable, listingTable}
+use Rattle.demands.specs.Refusals.{Refuses, Contains, openTable, commitTable, growTable, giveTable, reportTable, takeTable, releaseTable, chunksTable, rateTable, gameTable, planTable, listingTable, traceTable}
 use Rattle.demands.specs.ClassTables.{ClassTable, Reaches}
 use Rattle.demands.specs.Game.{AskerWins}
 use Rattle.demands.specs.Plan.{Fits}
 use Rattle.demands.specs.Idle.{Idle}
+use Rattle.demands.specs.Trace.{Traces}
+use Rattle.demands.specs.Start.{trace, Starts, begun}
 use Rattle.demands.specs.Listing.{ShortHistories}
 
 -- Same: all that the call was lent to write is as it was
@@ -95,3 +97,10 @@ pub record PlanSeen (ks ts : List ℕ) (r t t′ : ℕ) : Type 0 where
 pub record ListingSeen (n k r : ℕ) (l l′ : List ℕ) (w w′ : ℕ) : Type 0 where
   pub number : Refuses (listingTable n k l) r ((l′ ≡ l) × (w′ ≡ w))
   pub lists : r ≡ 0 → ShortHistories n k l l′ w′
+
+-- ---- a trace: its number, the book that it starts a history with, and, where 1 and 2 do not apply, all that it did
+pub record TraceSeen (n : ℕ) (b ws bl fl dn : List ℕ) (r : ℕ) (b′ bl′ fl′ dn′ : List ℕ) : Type 0 where
+  pub number : Refuses (traceTable b n ws bl fl) r ((r ≡ 16 → ⊥) → (b′ ≡ b) × (bl′ ≡ bl) × (fl′ ≡ fl) × (dn′ ≡ dn))
+  pub starts : ((r ≡ 0) ⊎ (r ≡ 16)) ↔ Starts (trace n b ws bl fl dn)
+  pub book : b′ ≡ begun (trace n b ws bl fl dn)
+  pub did : Starts (trace n b ws bl fl dn) → Traces n b ws bl fl r b′ bl′ fl′ dn′

@@ -2,6 +2,7 @@
 
 pub const USAGE: &str = "\
 usage: fill [--grid FILE] [--words FILE] [--pages N] [--turns N] [--draw] [--svg FILE] [--plot FILE]
+            [--trace FILE]
 
   --grid FILE   the grid: a row a line, a dot for a letter and # for a block, spaces between (9 x 9 by default)
   --words FILE  the words: one a line, with a score after it or not (a list of 3 to 15 letters by default)
@@ -10,6 +11,7 @@ usage: fill [--grid FILE] [--words FILE] [--pages N] [--turns N] [--draw] [--svg
   --draw        print the arena's pages by holder
   --svg FILE    draw them as a picture
   --plot FILE   draw pages held and blocks out over the search
+  --trace FILE  write its takes and releases of blocks as a trace, for the example `figures`
 ";
 
 #[derive(Debug, PartialEq, Eq)]
@@ -18,6 +20,7 @@ pub struct Arguments {
     pub draw: bool,
     pub svg: Option<String>,
     pub plot: Option<String>,
+    pub trace: Option<String>,
     pub grid: Option<String>,
     pub words: Option<String>,
     pub pages: usize,
@@ -26,7 +29,8 @@ pub struct Arguments {
 
 impl Default for Arguments {
     fn default() -> Arguments {
-        Arguments { help: false, draw: false, svg: None, plot: None, grid: None, words: None, pages: 32, turns: 20_000 }
+        let (svg, plot, trace, grid, words) = (None, None, None, None, None);
+        Arguments { help: false, draw: false, svg, plot, trace, grid, words, pages: 32, turns: 20_000 }
     }
 }
 
@@ -40,6 +44,7 @@ impl Arguments {
                 "--draw" => found.draw = true,
                 "--svg" => found.svg = Some(next()?),
                 "--plot" => found.plot = Some(next()?),
+                "--trace" => found.trace = Some(next()?),
                 "--grid" => found.grid = Some(next()?),
                 "--words" => found.words = Some(next()?),
                 "--pages" => found.pages = number(&word, &next()?)?,

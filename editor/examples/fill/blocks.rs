@@ -1,9 +1,10 @@
 //! The heap's blocks one by one, and runs of pages: all that the example uses of the crate.
 
-use vigbuso::{AllocError, Kind, Pool};
+use vigbuso::{AllocError, Kind, Pool, Trace};
 
 pub use vigbuso::{Block, Class, Report, Run, PAGE_BYTES};
 
+use super::recorder::Recorder;
 use super::Outcome;
 
 /// What a legend says of a class.
@@ -12,55 +13,82 @@ pub fn name(class: Class) -> String {
     format!("{family} {}: {} bytes", class.number(), class.bytes())
 }
 
-pub struct Blocks(Pool);
+pub struct Blocks {
+    pool: Pool,
+    recorder: Option<Recorder>,
+}
 
 impl Blocks {
     pub fn open(pages: usize) -> Outcome<Blocks> {
-        Ok(Blocks(Pool::open(pages as u64)?))
+        Ok(Blocks { pool: Pool::open(pages as u64)?, recorder: None })
+    }
+
+    /// From now on a trace is written.
+    pub fn record(&mut self, pages: usize) -> Outcome<()> {
+        self.recorder = Some(Recorder::open(pages)?);
+        Ok(())
+    }
+
+    pub fn trace(&self) -> Option<&Trace> {
+        self.recorder.as_ref().map(Recorder::trace)
+    }
+
+    /// A report in the trace.
+    pub fn note(&mut self) {
+        if let Some(recorder) = &mut self.recorder {
+            recorder.report();
+        }
     }
 
     /// A block for a record of so many bytes; none if the arena has no page left for its class.
     pub fn alloc(&mut self, bytes: usize) -> Outcome<Option<Block>> {
-        match self.0.alloc(bytes) {
-            Err(AllocError::Full) => Ok(None),
-            other => Ok(Some(other?)),
+        let block = match self.pool.alloc(bytes) {
+            Err(AllocError::Full) => return Ok(None),
+            other => other?,
+        };
+        if let (Some(recorder), Some(class)) = (&mut self.recorder, Class::for_size(bytes)) {
+            recorder.alloc(class, block)?;
         }
+        Ok(Some(block))
     }
 
     /// Takes a block back.
     pub fn free(&mut self, block: Block) -> Outcome<()> {
-        Ok(self.0.free(block)?)
+        if let Some(recorder) = &mut self.recorder {
+            recorder.free(block)?;
+        }
+        Ok(self.pool.free(block)?)
     }
 
     pub fn class_of(&self, block: Block) -> Option<Class> {
-        self.0.class_of(block)
+        self.pool.class_of(block)
     }
 
     /// Hands all stocks back to the heap. That no release is refused shows that just these blocks are out.
     pub fn flush(&mut self) -> Outcome<()> {
-        Ok(self.0.flush()?)
+        Ok(self.pool.flush()?)
     }
 
     /// A run of pages; none if the arena has no such run left.
     pub fn commit(&mut self, pages: usize) -> Outcome<Option<Run>> {
-        Ok(self.0.heap_mut().commit(pages as u64)?.map(|answer| answer.run))
+        Ok(self.pool.heap_mut().commit(pages as u64)?.map(|answer| answer.run))
     }
 
     /// The run with one page more, if it can grow where it is.
     pub fn grow(&mut self, run: Run) -> Outcome<Option<Run>> {
-        Ok(self.0.heap_mut().grow_frontier(run, run.pages + 1)?)
+        Ok(self.pool.heap_mut().grow_frontier(run, run.pages + 1)?)
     }
 
     pub fn release_run(&mut self, run: Run) -> Outcome<()> {
-        Ok(self.0.heap_mut().release_run(run)?)
+        Ok(self.pool.heap_mut().release_run(run)?)
     }
 
     /// Blocks that no record stands in and that are out nevertheless.
     pub fn stock(&self) -> impl Iterator<Item = Block> + '_ {
-        self.0.stock()
+        self.pool.stock()
     }
 
     pub fn report(&self) -> Outcome<Report> {
-        Ok(self.0.report()?.arena)
+        Ok(self.pool.report()?.arena)
     }
 }

@@ -9,6 +9,9 @@ use super::Outcome;
 /// Bytes of a sample.
 const SAMPLE: usize = 16;
 
+/// The trace has a report each time so many turns have passed.
+const REPORTED: u32 = 100;
+
 /// Pages that the history grows to.
 const MOST: u64 = 4;
 
@@ -43,6 +46,9 @@ impl History {
             let pages_held = store.report()?.held as u32;
             let sample = Sample { turn, standing: standing as u32, pages_held, blocks_out: store.tally().out as u32 };
             self.push(store, sample)?;
+        }
+        if turn % REPORTED == 0 {
+            store.note();
         }
         Ok(())
     }

@@ -2,6 +2,8 @@
 
 use std::fs;
 
+use vigbuso::Trace;
+
 use super::arguments::Arguments;
 use super::blocks::Report;
 use super::grid::Grid;
@@ -21,6 +23,8 @@ pub struct Job {
     pub words: Words,
     pub pages: usize,
     pub turns: usize,
+    /// Whether a trace of the blocks is written.
+    pub traced: bool,
 }
 
 /// What a search came to. Its records were read back and released by then.
@@ -35,6 +39,7 @@ pub struct Done {
     /// As they were when the search came to its end.
     pub pages: Pages,
     pub history: Vec<Sample>,
+    pub trace: Option<Trace>,
 }
 
 impl Job {
@@ -48,12 +53,15 @@ impl Job {
         if let Some(slot) = grid.slots().iter().find(|slot| words.of_length(slot.len()).is_empty()) {
             return Err(format!("the grid wants a word of {} letters, and the list has none", slot.len()).into());
         }
-        Ok(Job { grid, words, pages: arguments.pages, turns: arguments.turns })
+        Ok(Job { grid, words, pages: arguments.pages, turns: arguments.turns, traced: arguments.trace.is_some() })
     }
 
     /// Searches, reads back what was kept, and gives everything back. That this is not refused shows that just this was out.
     pub fn run(&self, watch: &mut dyn FnMut(&Progress)) -> Outcome<Done> {
         let mut store = Store::open(self.pages)?;
+        if self.traced {
+            store.record(self.pages)?;
+        }
         let search = Search::new(&self.grid, &self.words, &mut store)?;
         let mut search = search.ok_or_else(|| format!("too few pages to begin with: {}", self.pages))?;
         let (stop, pages) = search.run(&mut store, self.turns, watch)?;
@@ -67,8 +75,11 @@ impl Job {
             tally: store.tally().clone(),
             report: store.report()?,
             pages,
+            trace: None,
         };
         search.release(&mut store)?;
+        store.note();
+        let done = Done { trace: store.trace().cloned(), ..done };
         store.close()?;
         Ok(done)
     }

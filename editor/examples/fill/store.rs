@@ -4,6 +4,8 @@ use std::cell::Cell;
 use std::collections::{HashMap, HashSet};
 use std::ops::Range;
 
+use vigbuso::Trace;
+
 use super::blocks::{Block, Blocks, Class, Report, Run, PAGE_BYTES};
 use super::pages::{Holder, Pages};
 use super::Outcome;
@@ -86,6 +88,20 @@ impl Store {
             tally: Tally::default(),
             reads: Cell::new(0),
         })
+    }
+
+    /// From now on a trace of the blocks is written.
+    pub fn record(&mut self, pages: usize) -> Outcome<()> {
+        self.blocks.record(pages)
+    }
+
+    /// A report in the trace, if one is written.
+    pub fn note(&mut self) {
+        self.blocks.note();
+    }
+
+    pub fn trace(&self) -> Option<&Trace> {
+        self.blocks.trace()
     }
 
     /// Writes a record; none if the arena has no room for it.

@@ -1,0 +1,62 @@
+-- A history starts from an opening or from a trace (document 02, A.7: "in a history the trace, stopped or not, counts as an opening with the
+-- takes and releases it did").
+--     Start        where a history starts
+--     begun        the book that the start left
+--     did          the takes and releases that it did: none for an opening
+--     AsOpening    after a start all is as after an opening with these in front
+use Prim.Native.Nat.{ℕ}
+use mathlib.Core.List.{List, [], _++_}
+use mathlib.Core.Path.{_≡_}
+use Rattle.model.specs.Calls.{Call}
+use Rattle.model.specs.History.{Event}
+use Rattle.vigbuso.specs.Direct.{openOn}
+use Rattle.refinement.specs.Direct.{Reply}
+use Rattle.refinement.specs.Run.{repliesFrom, bookFrom}
+use Rattle.trace.specs.Words.{traceOn}
+use Rattle.demands.specs.Call.{call}
+use Rattle.demands.specs.Run as Opening
+use Rattle.demands.specs.Run.{Opens, answered}
+use Rattle.demands.specs.Trace.{didCalls}
+
+pub data Start : Type 0 where
+  opening : (n : ℕ) (b : List ℕ) → Start
+  trace : (n : ℕ) (b ws bl fl dn : List ℕ) → Start
+
+abbrev pub pages : Start → ℕ
+pages (opening n b) = n
+pages (trace n b ws bl fl dn) = n
+
+abbrev pub lent : Start → List ℕ
+lent (opening n b) = b
+lent (trace n b ws bl fl dn) = b
+
+abbrev pub begun : Start → List ℕ
+begun (opening n b) = openOn b n .book
+begun (trace n b ws bl fl dn) = traceOn b n ws bl fl dn .book
+
+abbrev pub did : Start → List Call
+did (opening n b) = []
+did (trace n b ws bl fl dn) = didCalls n ws bl fl
+
+-- not refused by 1 or 2; a trace that stops at 16 is a start
+abbrev pub Starts : Start → Type 0
+Starts s = Opens (pages s) (lent s)
+
+-- the history with what the start did in front
+abbrev pub calls : Start → List Call → List Call
+calls s xs = did s ++ xs
+
+-- the book after the calls xs, and what was answered since the opening: to what the start did, then to these
+abbrev pub bookAfter : Start → List Call → List ℕ
+bookAfter s xs = bookFrom call (begun s) xs
+
+abbrev pub replies : Start → List Call → List Reply
+replies s xs = Opening.run (pages s) (lent s) (did s) ++ repliesFrom call (begun s) xs
+
+abbrev pub told : Start → List Call → List Event
+told s xs = answered (calls s xs) (replies s xs)
+
+-- after a start, the book and each reply are those after an opening with the start's calls in front
+pub record AsOpening (s : Start) (xs : List Call) : Type 0 where
+  pub book : bookAfter s xs ≡ Opening.bookAfter (pages s) (lent s) (calls s xs)
+  pub answers : replies s xs ≡ Opening.run (pages s) (lent s) (calls s xs)

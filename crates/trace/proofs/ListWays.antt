@@ -1,0 +1,31 @@
+-- Lists that are written from a place on.
+use Prim.Native.Nat.{ℕ, zero, suc, _+_, _<_}
+use native.Mathlib.Omega.{arith}
+use mathlib.Core.List.{List, [], _∷_, _++_, map}
+use mathlib.Core.Path.{_≡_, refl, ap}
+use lib.ListN.{length, getD, set, take, drop}
+use lib.Seq.{paste, paste-suc}
+use Rattle.trace.specs.Words.{straight}
+use Rattle.trace.specs.Asks.{straightened}
+
+-- one more is copied
+pub pasted-more : (d s to : List ℕ) (at i : ℕ) → at + i < length d → i < length s → to ≡ paste d at s i → set to (at + i) (getD s i 0) ≡ paste d at s (i + 1)
+pasted-more d s to at i hd hs e =
+    let f : i + 1 ≡ suc i = omega arith in
+    rw (e, f) (paste-suc d at s i 0 hd hs)
+
+-- one more is changed
+front-more : (f : ℕ → ℕ) (l : List ℕ) (i : ℕ) → i < length l → set (map f (take i l) ++ drop i l) i (f (getD (map f (take i l) ++ drop i l) i 0)) ≡ map f (take (suc i) l) ++ drop (suc i) l
+front-more f [] i h = absurd (omega arith)
+front-more f (x ∷ l) zero h = refl
+front-more f (x ∷ l) (suc i) h = ap (λ (r : List ℕ). f x ∷ r) (front-more f l i (omega arith))
+
+pub straight-more : (l to : List ℕ) (i v : ℕ) → i < length l → to ≡ straightened l i → v ≡ straight (getD to i 0) → set to i v ≡ straightened l (i + 1)
+unfolding straightened
+straight-more l to i v h e s =
+    let f : i + 1 ≡ suc i = omega arith in
+    rw (s, e, f) (front-more straight l i h)
+
+pub straight-start : (l : List ℕ) → l ≡ straightened l 0
+unfolding straightened
+straight-start l = refl

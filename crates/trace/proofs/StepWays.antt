@@ -1,0 +1,124 @@
+-- The ways out of a word's code.
+use Prim.Native.Nat.{ℕ, zero, suc, _+_, _-_, _*_, _≤_, _<_}
+use native.Mathlib.Omega.{arith}
+use mathlib.Core.Bool.{Bool, true, false, not, _||_, false≢true}
+use mathlib.Core.List.{List, [], _∷_}
+use mathlib.Core.Path.{_≡_, refl, sym, ap, _∙_}
+use lib.Dec.{eqb}
+use lib.ListN as ListN
+use lib.ListN.{length, getD, set, length-set, List·getD-eq-default}
+use lib.Seq.{getD-take, drop-set-lt}
+use borrow.Author.Tests.{ne-eqb, eqb-true, lt-ltb, le-ltb, not-true, not-false}
+use Rattle.facts.proofs.Bools.{by-cases}
+use Rattle.words.specs.Word.{kindOf}
+use Rattle.classes.specs.declared.Shape.{Shape}
+use Rattle.classes.specs.Shape.{shapeOf}
+use Rattle.release.specs.declared.Released.{Released}
+use Rattle.release.specs.declared.Released.the-variants.{Refused, Fate}
+use Rattle.release.specs.Act.{Answered, answerAs}
+use Rattle.trace.specs.declared.steps.Tally.{Tally}
+use Rattle.trace.specs.declared.steps.Step.the-variants.{Stops, Goes}
+use Rattle.trace.specs.Trace as Trace
+use Rattle.trace.specs.Trace.{max}
+use Rattle.trace.specs.Words.{isBlock, turned, straight, sizeOf, backNow, classAt}
+use Rattle.trace.specs.Steps.{lent, CarriedBlocks}
+use Rattle.trace.proofs.Refused.{back-keeps}
+
+module _ (w k : ℕ) (e : k ≡ kindOf w) where
+  pub block-one : k ≡ 1 → true ≡ isBlock w
+  block-one z = rw (← e, z)
+
+  pub block-two : (k ≡ 1 → ⊥) → eqb k 2 ≡ isBlock w
+  block-two z = rw (← e, ne-eqb k 1 z)
+
+  pub turn-one : k ≡ 1 → w - 1073741824 ≡ turned w
+  turn-one z = rw (← e, z)
+
+  pub turn-two : (k ≡ 1 → ⊥) → w + 1073741824 ≡ turned w
+  turn-two z = rw (← e, ne-eqb k 1 z)
+
+  pub straight-none : k ≡ 0 → w + 1073741824 ≡ straight w
+  straight-none z = rw (← e, z)
+
+  pub straight-three : (k ≡ 0 → ⊥) → k ≡ 3 → w - 1073741824 ≡ straight w
+  straight-three y z = rw (← e, z)
+
+  pub straight-else : (k ≡ 0 → ⊥) → (k ≡ 3 → ⊥) → w ≡ straight w
+  straight-else y z = rw (← e, ne-eqb k 0 y, ne-eqb k 3 z)
+
+  pub kind-two : isBlock w ≡ true → (k ≡ 1 → ⊥) → kindOf w ≡ 2
+  kind-two h z = by-cases (eqb (kindOf w) 2) (λ u. eqb-true (kindOf w) 2 u) (λ u. absurd (false≢true (rw (← e, ne-eqb k 1 z) at (rw u at h))))
+
+  pub turn-fits : isBlock w ≡ true → (k ≡ 1 → ⊥) → w + 1073741824 < 4294967296
+  turn-fits h z = omega (arith, kind-two h z)
+
+pub block-yes : (w : ℕ) (r : Bool) → r ≡ isBlock w → not r ≡ false → isBlock w ≡ true
+block-yes w r e y = sym e ∙ not-false r y
+
+pub more-right : (a b : ℕ) → a < b → b ≡ max a b
+more-right a b h = rw (lt-ltb a b h)
+
+pub more-left : (a b : ℕ) → b ≤ a → a ≡ max a b
+more-left a b h = rw (le-ltb a b h)
+
+pub size-is : (c : ℕ) (sh : Shape) → sh ≡ shapeOf c → sh .block * 16 ≡ sizeOf c
+size-is c sh e = rw e
+
+-- ---- the word of a place
+pub or-true : (t : Bool) → (t || true) ≡ true
+or-true true = refl
+or-true false = refl
+
+told-fate : (k f m : ℕ) → answerAs k f ≡ Refused m → k ≡ 0 → ⊥
+told-fate zero f m e y = let z : _≡_ {A = ℕ} 0 1 = cc in omega arith
+told-fate (suc k) f m e y = omega arith
+
+told-refused : (k f m : ℕ) → answerAs k f ≡ Fate m → k ≡ 0
+told-refused zero f m e = refl
+told-refused (suc k) f m e = cc
+
+length-take-le : (k : ℕ) (l : List ℕ) → length (ListN.take k l) ≤ k
+length-take-le zero l = omega arith
+length-take-le (suc k) [] = omega arith
+length-take-le (suc k) (x ∷ l) = let ih = length-take-le k l in omega arith
+
+take-set : (k : ℕ) (l : List ℕ) (i v : ℕ) → i < k → ListN.take k (set l i v) ≡ set (ListN.take k l) i v
+take-set zero l i v h = absurd (omega arith)
+take-set (suc k) [] i v h = refl
+take-set (suc k) (x ∷ l) zero v h = refl
+take-set (suc k) (x ∷ l) (suc i) v h = ap (λ (s : List ℕ). x ∷ s) (take-set k l i v (omega arith))
+
+module _ (n : ℕ) (b bl : List ℕ) (t : Tally) (p : ℕ) where
+  within : p < t .at → getD (ListN.take (t .at) bl) p 0 ≡ getD bl p 0
+  within h = rw getD-take
+
+  pub back-past : t .at ≤ p → CarriedBlocks Stops n (Trace.back p) b bl t b bl
+  back-past h fl =
+      let l : length (ListN.take (t .at) bl) ≤ p = omega (arith, length-take-le (t .at) bl) in
+      record { reason = rw (List·getD-eq-default (ListN.take (t .at) bl) 0 l); same = refl }
+
+  pub back-gone : (r : Bool) → p < t .at → r ≡ isBlock (getD bl p 0) → not r ≡ true → CarriedBlocks Stops n (Trace.back p) b bl t b bl
+  back-gone r h e z fl = record { reason = rw (within h, ← e, not-true r z); same = refl }
+
+  module _ (b′ : List ℕ) (o : Released) (a : Answered o b′ (backNow n b (getD bl p 0))) where
+    pub back-refused : (k : ℕ) → p < t .at → o ≡ Refused k → CarriedBlocks Stops n (Trace.back p) b bl t b′ bl
+    back-refused k h e fl =
+        let z : backNow n b (getD bl p 0) .code ≡ 0 → ⊥ = λ y. told-fate (backNow n b (getD bl p 0) .code) (backNow n b (getD bl p 0) .fate) k (sym (a .answer) ∙ e) y in
+        record { reason = rw (within h, ne-eqb (backNow n b (getD bl p 0) .code) 0 z) (or-true (not (isBlock (getD bl p 0)))); same = ap (λ (d : List ℕ). lent d bl fl) (a .left ∙ back-keeps n b (getD bl p 0) z) }
+
+    pub back-went : (r : Bool) (f v cl size : ℕ) (t′ : Tally) → p < t .at → r ≡ isBlock (getD bl p 0) → not r ≡ false → o ≡ Fate f → v ≡ turned (getD bl p 0) → cl ≡ classAt n b (getD bl p 0) → size ≡ sizeOf cl
+        → t′ ≡ record { at = t .at; told = t .told; out = t .out - 1; bytes = t .bytes - size; highest = max (t .highest) (t .bytes - size) }
+        → CarriedBlocks (Goes t′) n (Trace.back p) b bl t b′ (set bl p v)
+    back-went r f v cl size t′ h e y i j q g s fl =
+        let z : backNow n b (getD bl p 0) .code ≡ 0 = told-refused (backNow n b (getD bl p 0) .code) (backNow n b (getD bl p 0) .fate) f (sym (a .answer) ∙ i) in
+        let k : isBlock (getD bl p 0) ≡ true = sym e ∙ not-false r y in
+        rw s (record {
+          free = rw (within h, k, z);
+          goes = rw (within h, j, g, q, a .left, take-set (t .at) bl p (turned (getD bl p 0)) h);
+          blocks = drop-set-lt (t .at) bl p v h;
+          figures = refl;
+          further = (omega arith, omega arith);
+          handed = λ l. rw (length-set bl p v) l;
+          fewer = λ o. omega arith;
+          written = λ o. o;
+        })

@@ -1,0 +1,44 @@
+-- The ways out of the calls that a trace's words stand for.
+use Prim.Native.Nat.{ℕ, _-_, _≤_, _<_}
+use native.Mathlib.Omega.{arith}
+use mathlib.Core.List.{List, [], _∷_}
+use mathlib.Core.Path.{_≡_, refl}
+use borrow.Author.Tests.{lt-ltb, le-ltb, le-leb, lt-leb}
+use Rattle.classes.specs.declared.Shape.{Shape}
+use Rattle.classes.specs.Shape.{shapeOf}
+use Rattle.classes.proofs.Shapes.{shape-sound}
+use Rattle.fields.specs.Field.{page, owner, get}
+use Rattle.pages.specs.Stack.{pageAt}
+use Rattle.calls.specs.Release.{releaseBlocks}
+use Rattle.release.specs.declared.Released.{Released}
+use Rattle.release.specs.declared.Released.the-variants.{Refused}
+use Rattle.release.specs.Asks.{ClassAsks}
+use Rattle.release.specs.Act.{Answered}
+use Rattle.trace.specs.Words.{ownerAt, backNow}
+use Rattle.trace.specs.Asks.{BookAsks}
+
+-- ---- a block's page
+pub owner-in : (n : ℕ) (b : List ℕ) (w p r : ℕ) → p ≡ pageAt w → p < n → r ≡ get b (page owner p) → r ≡ ownerAt n b w
+unfolding ownerAt
+owner-in n b w p r e h f = rw (← e, lt-ltb p n h) f
+
+pub owner-off : (n : ℕ) (b : List ℕ) (w p : ℕ) → p ≡ pageAt w → n ≤ p → 0 ≡ ownerAt n b w
+unfolding ownerAt
+owner-off n b w p e h = rw (← e, le-ltb p n h)
+
+-- ---- a release
+module _ (n : ℕ) (b : List ℕ) (w k : ℕ) (e : k ≡ ownerAt n b w) where
+  pub back-none : k ≡ 0 → Answered (Refused 10) b (backNow n b w)
+  unfolding backNow
+  back-none z = rw (← e, z) (record { answer = refl; left = refl })
+
+  pub back-high : (k ≡ 0 → ⊥) → 76 < k → Answered (Refused 10) b (backNow n b w)
+  unfolding backNow
+  back-high z h = rw (← e, le-leb 1 k (omega (arith, z)), lt-leb k 76 h) (record { answer = refl; left = refl })
+
+  pub back-asks : (k ≡ 0 → ⊥) → k ≤ 76 → BookAsks n b → (sh : Shape) → sh ≡ shapeOf (k - 1) → ClassAsks n b (k - 1) sh
+  back-asks z h a sh f = record { known = omega (arith, z); sound = rw f (shape-sound (k - 1)); few = a .few; long = a .long }
+
+  pub back-done : (k ≡ 0 → ⊥) → k ≤ 76 → (sh : Shape) → sh ≡ shapeOf (k - 1) → (r : Released) (b′ : List ℕ) → Answered r b′ (releaseBlocks n b (k - 1) sh 15 (w ∷ [])) → Answered r b′ (backNow n b w)
+  unfolding backNow
+  back-done z h sh f r b′ a = rw (← e, le-leb 1 k (omega (arith, z)), le-leb k 76 h) (rw f at a)

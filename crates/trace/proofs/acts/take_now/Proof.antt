@@ -1,0 +1,57 @@
+use Rattle.trace.proofs.TakeWays.{now-room, now-listed, now-refused, now-took}
+use borrow.Author.Needs.{needs}
+use Rattle.trace.proofs.acts.take_now.Statement.{statement}
+use Rattle.trace.proofs.acts.take_now.Tie as tie
+
+slice-aggregate-take-call : tie.Need-slice-aggregate-take-call
+slice-aggregate-take-call c = search needs
+
+take-call-requires : tie.Need-take-call-requires
+take-call-requires c κs = search needs
+
+enum-known-k : tie.Need-enum-known-k
+enum-known-k c = search needs
+
+enum-known-m : tie.Need-enum-known-m
+enum-known-m c = search needs
+
+slice-aggregate-lay-blocks : tie.Need-slice-aggregate-lay-blocks
+slice-aggregate-lay-blocks c = search needs
+
+cast-lay-blocks : tie.Need-cast-lay-blocks
+cast-lay-blocks c = search needs
+
+lay-blocks-requires : tie.Need-lay-blocks-requires
+lay-blocks-requires c κs = (search now-room, search now-listed)
+
+same-length : tie.Need-same-length
+same-length c = search needs
+
+returns : tie.Need-returns
+returns c = search now-refused
+
+same-length-2 : tie.Need-same-length-2
+same-length-2 c = search needs
+
+same-length-3 : tie.Need-same-length-3
+same-length-3 c = search needs
+
+returns-2 : tie.Need-returns-2
+returns-2 c = search now-took
+
+pub take-now-spec : {M : Type 1} → statement M
+take-now-spec =
+    tie.close
+    (tie.spec
+    slice-aggregate-take-call
+    take-call-requires
+    enum-known-k
+    enum-known-m
+    slice-aggregate-lay-blocks
+    cast-lay-blocks
+    lay-blocks-requires
+    same-length
+    returns
+    same-length-2
+    same-length-3
+    returns-2)

@@ -1,0 +1,82 @@
+// The calls that a trace's words stand for.
+ghost use mathlib.Core.Path.{_≡_};
+ghost use lib.Dec.{leb};
+ghost use Rattle.take.specs.TakePlan.{CallAsks};
+ghost use Rattle.release.specs.Act.{Answered};
+ghost use Rattle.trace.specs.Words.{ownerAt, classAt, takeNow, backNow};
+ghost use Rattle.trace.specs.Asks.{BookAsks, TakesAt};
+ghost use Prim.Native.Nat.{_+_, _≤_};
+ghost use lib.ListN.{length};
+use crate::lists::lay_blocks;
+use release::Released;
+use take::call::Take;
+
+// "Host answers are all granted and zeroing".
+pub const HOST: u32 = 15;
+
+// OWNER of the block's page: its class and 1. No book is read beyond its pages.
+fn owner_at(meta: &[u32], n: u32, w: u32) -> u32
+    requires { ⌜ BookAsks n (now meta) ⌝ }
+    ensures { λ r. ⌜ r ≡ ownerAt n (now (meta .entry)) w ⌝ }
+{
+    let p = pages::page_at(w);
+    if p < n {
+        return fields::page::owner(meta, p);
+    }
+    0
+}
+
+// The class that the block was taken from.
+pub fn class_at(meta: &[u32], n: u32, w: u32) -> u32
+    requires { ⌜ BookAsks n (now meta) ⌝ }
+    ensures { λ r. ⌜ r ≡ classAt n (now (meta .entry)) w ⌝ }
+{
+    let k = owner_at(meta, n, w);
+    if k == 0 {
+        return 0;
+    }
+    k - 1
+}
+
+// The release of one block, in the class that its page is of.
+pub fn back_now(meta: &mut [u32], n: u32, w: u32) -> Released
+    requires { ⌜ BookAsks n (now meta) ⌝ }
+    ensures { λ r. ⌜ Answered r (now (meta .exit)) (backNow n (now (meta .entry)) w) ⌝ }
+{
+    let k = owner_at(meta, n, w);
+    if k == 0 {
+        return Released::Refused(10);
+    }
+    if 76 < k {
+        return Released::Refused(10);
+    }
+    let list = [w];
+    release::release_blocks(meta, n, k - 1, classes::shape_of(k - 1), HOST, &list)
+}
+
+// Is there room for the blocks of a take: for 64 there always is; else they are counted first.
+pub fn has_room(meta: &[u32], n: u32, c: u32, room: usize) -> bool
+    requires { ⌜ CallAsks n (now meta) c ⌝ }
+    ensures { λ r. ⌜ r ≡ leb (takeNow n (now (meta .entry)) c .count) room ⌝ }
+{
+    if 64 <= room {
+        return true;
+    }
+    take::count::take_count(meta, n, c) as usize <= room
+}
+
+// A take whose blocks come to the list from place `at` on.
+pub fn take_now(meta: &mut [u32], n: u32, c: u32, blocks: &mut [u32], at: usize) -> Take
+    requires { ⌜ CallAsks n (now meta) c ⌝ }
+    requires { ⌜ at + takeNow n (now meta) c .count ≤ length (now blocks) ⌝ }
+    ensures { λ r. ⌜ TakesAt r (now (meta .exit)) (now (blocks .exit)) (takeNow n (now (meta .entry)) c) (now (blocks .entry)) at ⌝ }
+{
+    let mut list = [0; 64];
+    match take::call::take_call(meta, n, c, HOST, &mut list) {
+        Take::Refused(k) => Take::Refused(k),
+        Take::Took(m, v) => {
+            lay_blocks(blocks, at, &list, m as usize);
+            Take::Took(m, v)
+        }
+    }
+}

@@ -1,0 +1,67 @@
+// A trace's words in turn, up to the first that stops it.
+ghost use Rattle.trace.specs.Steps.{lent};
+ghost use Rattle.trace.specs.Course.{Coursed, Ran};
+ghost use Rattle.trace.specs.Asks.{BookAsks};
+use crate::lists::straighten;
+use crate::steps::Step;
+use crate::steps::Tally;
+use crate::steps::word;
+
+// How many words were carried out, and what they came to.
+pub struct Course {
+    pub carried: usize,
+    pub tally: Tally,
+}
+
+pub fn carry_out(
+    meta: &mut [u32],
+    n: u32,
+    trace: &[u32],
+    blocks: &mut [u32],
+    figures: &mut [u64],
+) -> Course
+    requires { ⌜ BookAsks n (now meta) ⌝ }
+    ensures { λ r. ⌜ Coursed r n (lent (now (meta .entry)) (now (blocks .entry)) (now (figures .entry))) (lent (now (meta .exit)) (now (blocks .exit)) (now (figures .exit))) (now (trace .entry)) ⌝ }
+{
+    let mut t = Tally {
+        at: 0,
+        told: 0,
+        out: 0,
+        bytes: 0,
+        highest: 0,
+    };
+    let mut i = 0;
+    while i < trace.len() {
+        match word(meta, n, trace[i], blocks, figures, t) {
+            Step::Stops => return Course {
+                carried: i,
+                tally: t,
+            },
+            Step::Goes(u) => {
+                t = u;
+                i += 1;
+            }
+        }
+    }
+    Course {
+        carried: i,
+        tally: t,
+    }
+}
+
+// A whole trace: it opens the book, goes on word by word, and leaves the blocks as they were handed out.
+pub fn run(
+    meta: &mut [u32],
+    n: u32,
+    trace: &[u32],
+    blocks: &mut [u32],
+    figures: &mut [u64],
+) -> Course
+    requires { ⌜ BookAsks n (now meta) ⌝ }
+    ensures { λ r. ⌜ Ran r n (lent (now (meta .entry)) (now (blocks .entry)) (now (figures .entry))) (lent (now (meta .exit)) (now (blocks .exit)) (now (figures .exit))) (now (trace .entry)) ⌝ }
+{
+    direct::open::open(meta, n);
+    let course = carry_out(meta, n, trace, blocks, figures);
+    straighten(blocks, course.tally.at);
+    course
+}

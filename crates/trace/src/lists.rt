@@ -1,0 +1,87 @@
+// What a word writes to the lent lists.
+ghost use mathlib.Core.Path.{_≡_};
+ghost use mathlib.Core.Bool.{true};
+ghost use Prim.Native.Nat.{_+_, _≤_};
+ghost use lib.ListN.{length};
+ghost use lib.Seq.{paste};
+ghost use Rattle.words.specs.Word.{kindOf};
+ghost use Rattle.trace.specs.Words.{isBlock, turned, straight};
+ghost use Rattle.trace.specs.Asks.{straightened};
+use words::Word;
+
+fn kind_of(w: u32) -> u32
+    ensures { λ r. ⌜ r ≡ kindOf w ⌝ }
+{
+    Word::of(w).kind()
+}
+
+pub fn is_block(w: u32) -> bool
+    ensures { λ r. ⌜ r ≡ isBlock w ⌝ }
+{
+    let kind = kind_of(w);
+    if kind == 1 {
+        return true;
+    }
+    kind == 2
+}
+
+// The word of a released block: its kind goes from 1 to 0, from 2 to 3.
+pub fn turn(w: u32) -> u32
+    requires { ⌜ isBlock w ≡ true ⌝ }
+    ensures { λ r. ⌜ r ≡ turned w ⌝ }
+{
+    if kind_of(w) == 1 {
+        return w - 1_073_741_824;
+    }
+    w + 1_073_741_824
+}
+
+// The first m words of one list come to another, from place `at` on.
+pub fn lay_blocks(to: &mut [u32], at: usize, from: &[u32], m: usize)
+    requires { ⌜ (at + m ≤ length (now to)) × (m ≤ length (now from)) ⌝ }
+    ensures { λ _. ⌜ now (to .exit) ≡ paste (now (to .entry)) at (now (from .entry)) m ⌝ }
+{
+    let mut i = 0;
+    while i < m {
+        to[at + i] = from[i];
+        i += 1;
+    }
+}
+
+// The same for figures.
+pub fn lay_figures(to: &mut [u64], at: usize, from: &[u64])
+    requires { ⌜ at + length (now from) ≤ length (now to) ⌝ }
+    ensures { λ _. ⌜ now (to .exit) ≡ paste (now (to .entry)) at (now (from .entry)) (length (now (from .entry))) ⌝ }
+{
+    let mut i = 0;
+    while i < from.len() {
+        to[at + i] = from[i];
+        i += 1;
+    }
+}
+
+// The word of a block as it was handed out: a released one's kind is turned back.
+fn straight(w: u32) -> u32
+    ensures { λ r. ⌜ r ≡ straight w ⌝ }
+{
+    let kind = kind_of(w);
+    if kind == 0 {
+        return w + 1_073_741_824;
+    }
+    if kind == 3 {
+        return w - 1_073_741_824;
+    }
+    w
+}
+
+// The first m words.
+pub fn straighten(blocks: &mut [u32], m: usize)
+    requires { ⌜ m ≤ length (now blocks) ⌝ }
+    ensures { λ _. ⌜ now (blocks .exit) ≡ straightened (now (blocks .entry)) m ⌝ }
+{
+    let mut i = 0;
+    while i < m {
+        blocks[i] = straight(blocks[i]);
+        i += 1;
+    }
+}
