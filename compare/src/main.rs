@@ -53,7 +53,9 @@ const USAGE: &str = "usage: compare COMMAND [--NAME VALUE ..]
   places       [--pairs N] [--seed S]
                neighbouring calls on two classes the other way round, books compared word for word
   speed        [--file F] [--seconds S]
-               the port's time against the original's, for each scenario S seconds; the table is also written to F";
+               the port's time against the original's, for each scenario S seconds; the table is also written to F
+  count        [--file F]
+               instructions of each call, the port's against the original's, by valgrind; the table is also written to F";
 
 fn main() -> ExitCode {
     let words: Vec<String> = std::env::args().skip(1).collect();
@@ -70,7 +72,8 @@ fn main() -> ExitCode {
         Some("damaged") => damaged::run(rest),
         Some("fits") => fits::run(rest),
         Some("places") => places::run(rest),
-        Some("speed") => speed::run(rest),
+        Some("speed") => speed::time(rest),
+        Some("count") => speed::count(rest),
         _ => Err(USAGE.into()),
     };
     match result {
