@@ -78,6 +78,8 @@ pub fn watch(command: &str, words: &[String]) -> Result<bool, String> {
     valgrind.args(["--quiet", "--tool=callgrind", "--collect-atstart=no"]);
     valgrind.args(COUNTED.map(|name| format!("--toggle-collect={name}")));
     valgrind.arg(format!("--callgrind-out-file={}", dumps.display()));
+    // Valgrind would count each byte that a `rep stosb` of glibc's memset clears.
+    valgrind.env("GLIBC_TUNABLES", "glibc.cpu.hwcaps=-ERMS");
     let status = valgrind.arg(program).arg(command).args(words).arg("--worker").arg(&dumps).status();
     fs::remove_dir_all(&folder).map_err(|error| told(&error))?;
     match status {
