@@ -84,7 +84,7 @@ pub fn watch(command: &str, words: &[String]) -> Result<bool, String> {
     fs::remove_dir_all(&folder).map_err(|error| told(&error))?;
     match status {
         Ok(status) => Ok(status.success()),
-        Err(error) if error.kind() == ErrorKind::NotFound => Err("valgrind is not installed, which counts".into()),
+        Err(error) if error.kind() == ErrorKind::NotFound => Err("count needs valgrind, which is not installed".into()),
         Err(error) => Err(told(&error)),
     }
 }
