@@ -67,7 +67,7 @@ fn request(number: u64) {
     }
 }
 
-/// Runs this program's command under callgrind, with `--worker` and the dumps' name behind. Whether it succeeded.
+/// Runs this program's command under callgrind, with `--worker` and the dumps' name behind. Whether it saw no difference.
 pub fn watch(command: &str, words: &[String]) -> Result<bool, String> {
     let told = |error: &dyn Display| format!("valgrind: {error}");
     let program = std::env::current_exe().map_err(|error| told(&error))?;
@@ -83,7 +83,11 @@ pub fn watch(command: &str, words: &[String]) -> Result<bool, String> {
     let status = valgrind.arg(program).arg(command).args(words).arg("--worker").arg(&dumps).status();
     fs::remove_dir_all(&folder).map_err(|error| told(&error))?;
     match status {
-        Ok(status) => Ok(status.success()),
+        Ok(status) => match status.code() {
+            Some(0) => Ok(true),
+            Some(1) => Ok(false),
+            _ => Err(told(&status)),
+        },
         Err(error) if error.kind() == ErrorKind::NotFound => Err("count needs valgrind, which is not installed".into()),
         Err(error) => Err(told(&error)),
     }
