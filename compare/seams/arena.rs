@@ -35,10 +35,18 @@ impl HoleStore {
 }
 
 impl Arena {
+    #[inline]
     fn holes_take(&self, pages: usize) -> *mut u8 {
         if rules::is(Rules::Plain) {
             return self.original_take(pages);
         }
+        self.amended_take(pages)
+    }
+
+    /// Not made part of its caller, where it would count against the original as it is.
+    #[cold]
+    #[inline(never)]
+    fn amended_take(&self, pages: usize) -> *mut u8 {
         let mut holes = self.holes.lock();
         let chosen = holes.chosen(pages);
         let base = |off: usize| (self.start.load(Ordering::Relaxed) + off) as *mut u8;

@@ -56,7 +56,9 @@ const USAGE: &str = "usage: compare COMMAND [--NAME VALUE ..]
   traces       [--traces N] [--seed S]
                random traces on the port, against their calls one by one on the original and on the port
   speed        [--file F] [--seconds S]
-               the port's time against the original's, for each scenario S seconds; the table is also written to F";
+               the port's time against the original's, for each scenario S seconds; the table is also written to F
+  count        [--file F]
+               instructions of each call, the port's against the original's, by valgrind; the table is also written to F";
 
 fn main() -> ExitCode {
     let words: Vec<String> = std::env::args().skip(1).collect();
@@ -74,7 +76,8 @@ fn main() -> ExitCode {
         Some("fits") => fits::run(rest),
         Some("places") => places::run(rest),
         Some("traces") => traces::run(rest),
-        Some("speed") => speed::run(rest),
+        Some("speed") => speed::time(rest),
+        Some("count") => speed::count(rest),
         _ => Err(USAGE.into()),
     };
     match result {

@@ -120,7 +120,9 @@ impl Walk {
 
 /// Granted commits since the opening.
 fn commits(book: &[u32]) -> u64 {
-    port::report_figures(book)[0]
+    let (number, [commits, ..]) = port::plain_report(book);
+    assert_eq!(number, 0, "a report is refused");
+    commits
 }
 
 /// A take reaches the arena if it finds no page at home: then it answers a block of a run that was committed for it, or none.

@@ -394,25 +394,18 @@ fn contains(book: &[u32], offset: u64, length: u64) -> Answer {
     yes_or_no("contains", answer, Answer::Contains)
 }
 
-/// A report's figures, of a book on which it is not refused.
-pub fn report_figures(book: &[u32]) -> [u64; FIGURES] {
-    match report(book) {
-        Answer::Report(figures) => figures,
-        answer => panic!("a report answers {answer:?}"),
-    }
-}
-
-/// What is returned.
+/// What is returned, and the figures: commits, reuses, abandoned, pages held, idle pages, pages that are both.
 #[inline]
-pub fn plain_report(book: &[u32], figures: &mut [u64; FIGURES]) -> u32 {
+pub fn plain_report(book: &[u32]) -> (u32, [u64; FIGURES]) {
+    let mut figures = [UNTOUCHED_FIGURE; FIGURES];
     // SAFETY: the book is lent for the call, to be read, and the figures to be written.
-    unsafe { vigbuso_report(book.as_ptr(), book.len(), figures.as_mut_ptr()) }
+    let number = unsafe { vigbuso_report(book.as_ptr(), book.len(), figures.as_mut_ptr()) };
+    (number, figures)
 }
 
 fn report(book: &[u32]) -> Answer {
-    let mut figures = [UNTOUCHED_FIGURE; FIGURES];
-    match plain_report(book, &mut figures) {
-        0 => Answer::Report(figures),
-        number => refusal(number, figures == [UNTOUCHED_FIGURE; FIGURES]),
+    match plain_report(book) {
+        (0, figures) => Answer::Report(figures),
+        (number, figures) => refusal(number, figures == [UNTOUCHED_FIGURE; FIGURES]),
     }
 }

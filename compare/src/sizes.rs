@@ -1,6 +1,6 @@
 //! The class of a size, from document 02, A.6, over the block sizes of the original: the first that is large enough.
 
-use crate::oracle;
+use crate::oracle::{self, asked};
 use crate::words::Family;
 
 /// The largest size that has a class.
@@ -14,11 +14,11 @@ pub fn size_class(size: u64) -> Option<(Family, u32)> {
     })
 }
 
-/// The original's lookup for a family. It is called like the port's and not made part of its caller, for the sake of `speed`.
-#[inline(never)]
+/// The original's lookup for a family.
+#[inline]
 pub fn original(family: Family, size: u64) -> u32 {
     match family {
-        Family::Small => oracle::class_for_size(size),
-        Family::Medium => oracle::medium_class_for_size(size),
+        Family::Small => asked::class_for_size(size),
+        Family::Medium => asked::medium_class_for_size(size),
     }
 }

@@ -5,7 +5,7 @@ use std::sync::Mutex;
 use crate::call::{Answer, Call, Due, Lent};
 use crate::generate::{self, SCENARIOS};
 use crate::history::{self, History};
-use crate::oracle;
+use crate::oracle::asked;
 use crate::oracle::rules::Rules;
 use crate::plan::{Intent, Place, Plan, Step};
 use crate::random::Random;
@@ -58,8 +58,8 @@ fn run_at(first: u32, fresh: bool) -> Answer {
 
 #[test]
 fn sizes_p1_to_p5() {
-    assert_eq!([0, 16_384, 16_385].map(oracle::class_for_size), [0, 45, 63]);
-    assert_eq!([18_432, 18_433, 65_472, 65_473].map(oracle::medium_class_for_size), [0, 1, 11, 11]);
+    assert_eq!([0, 16_384, 16_385].map(asked::class_for_size), [0, 45, 63]);
+    assert_eq!([18_432, 18_433, 65_472, 65_473].map(asked::medium_class_for_size), [0, 1, 11, 11]);
     // As document 02 restates them.
     let small = |class| Some((Family::Small, class));
     let medium = |class| Some((Family::Medium, class));

@@ -2,8 +2,8 @@
 //!
 //! All arenas share one reservation of address space, whose pages the kernel fills when they are first touched.
 
-use std::cell::Cell;
 use std::ffi::c_void;
+use std::sync::atomic::{AtomicU32, Ordering};
 use std::sync::OnceLock;
 
 use crate::memory;
@@ -14,17 +14,18 @@ const HEADER_BYTES: usize = 64;
 
 const MAP_FAILED: *mut c_void = usize::MAX as *mut c_void;
 
-thread_local! {
-    static HOST: Cell<u32> = const { Cell::new(0) };
-}
+/// There is one heap of the original at a time, which is asked by one thread.
+static HOST: AtomicU32 = AtomicU32::new(0);
 
 /// The host word of the call that follows.
+#[inline]
 pub(crate) fn set(host: u32) {
-    HOST.with(|word| word.set(host));
+    HOST.store(host, Ordering::Relaxed);
 }
 
+#[inline]
 fn grants(bit: u32) -> bool {
-    HOST.with(|word| word.get() & bit != 0)
+    HOST.load(Ordering::Relaxed) & bit != 0
 }
 
 /// First byte of the address space that stands for every arena.

@@ -3,6 +3,7 @@
 //!
 //! It is asked only what its own callers would ask; what document 01 refuses is never passed on.
 
+pub mod asked;
 mod fates;
 mod host;
 pub mod rules;
@@ -21,14 +22,6 @@ use rules::Rules;
 
 // Document 01: debug assertions off.
 const _: () = assert!(!cfg!(debug_assertions));
-
-pub fn class_for_size(size: u64) -> u32 {
-    classes::class_for_size(size as usize) as u32
-}
-
-pub fn medium_class_for_size(size: u64) -> u32 {
-    classes::medium_class_for_size(size as usize) as u32
-}
 
 /// Bytes of a block.
 pub fn block_bytes(family: Family, class: u32) -> usize {
@@ -130,8 +123,8 @@ impl Original {
         // SAFETY: the class is the family's; every page of the heap lies in the region.
         unsafe {
             match family {
-                Family::Small => self.small.take_blocks(class as usize),
-                Family::Medium => self.medium.take_blocks(class as usize),
+                Family::Small => asked::take(&self.small, class),
+                Family::Medium => asked::take_medium(&self.medium, class),
             }
         }
     }
@@ -153,12 +146,11 @@ impl Original {
     #[inline]
     pub fn release_chain(&mut self, family: Family, class: u32, host: u32, chain: &Chain) {
         host::set(host);
-        let Chain { run, head, tail, count } = *chain;
         // SAFETY: the blocks are out of this one run and are linked from head to tail.
         unsafe {
             match family {
-                Family::Small => self.small.release_blocks_with_tail(run.cast(), head, tail, count as u16),
-                Family::Medium => self.medium.release_blocks(class as usize, run.cast(), head, tail, count as u32),
+                Family::Small => asked::release(&self.small, chain),
+                Family::Medium => asked::release_medium(&self.medium, class, chain),
             }
         }
     }
@@ -178,14 +170,15 @@ impl Original {
     pub fn release_chunks(&mut self, class: u32, host: u32, made: &mut Chunks) {
         host::set(host);
         // SAFETY: the blocks are out of this class, and the chunks name each of their pages once with its blocks' number.
-        unsafe { self.small.release_bin_chunks(class as usize, made.head, made.len, &mut made.chunks) };
+        unsafe { asked::release_chunks(&self.small, class, made) };
     }
 
     /// First page and fresh, or none.
+    #[inline]
     pub fn commit(&mut self, host: u32, pages: u64) -> Option<(u32, bool)> {
         host::set(host);
         // SAFETY: at least one page; the bytes of the run are never touched by the comparison.
-        let (base, fresh) = unsafe { arena::commit(pages as usize) };
+        let (base, fresh) = unsafe { asked::commit(pages) };
         (!base.is_null()).then(|| (page_number(base), fresh))
     }
 
@@ -195,10 +188,11 @@ impl Original {
         unsafe { arena::grow_frontier(address(first as usize * PAGE_BYTES), old as usize, new as usize) }
     }
 
+    #[inline]
     pub fn release(&mut self, host: u32, first: u64, pages: u64) {
         host::set(host);
         // SAFETY: the run is held by the direct calls.
-        unsafe { arena::release(address(first as usize * PAGE_BYTES), pages as usize) }
+        unsafe { asked::give(address(first as usize * PAGE_BYTES), pages) }
     }
 
     pub fn contains(&self, offset: u64, length: u64) -> bool {
@@ -206,8 +200,9 @@ impl Original {
     }
 
     /// Commits, reuses, abandoned.
+    #[inline]
     pub fn counts(&self) -> [u64; 3] {
-        let (commits, reuses, abandoned) = arena::stats();
+        let (commits, reuses, abandoned) = asked::stats();
         [commits, reuses, abandoned]
     }
 
@@ -268,13 +263,15 @@ fn run_address(family: Family, word: u32) -> *mut u8 {
 
 /// Links the blocks of a release list, all out of one page or span.
 pub fn chain(family: Family, list: &[u32]) -> Chain {
-    let (head, tail) = link(list);
+    // SAFETY: the blocks are out.
+    let (head, tail) = unsafe { asked::link(list) };
     Chain { run: run_address(family, list[0]), head, tail, count: list.len() }
 }
 
 /// Links the blocks of a group release, and makes a chunk of each group.
 pub fn make_chunks(list: &[u32], chunks: &[u32]) -> Chunks {
-    let (head, _) = link(list);
+    // SAFETY: the blocks are out.
+    let (head, _) = unsafe { asked::link(list) };
     let made = |&chunk: &u32| heap::PageReleaseChunk {
         page: address(chunk_page(chunk) as usize * PAGE_BYTES).cast(),
         head: std::ptr::null_mut(),
@@ -282,18 +279,6 @@ pub fn make_chunks(list: &[u32], chunks: &[u32]) -> Chunks {
         n: chunk_count(chunk) as u16,
     };
     Chunks { head, len: list.len() as u32, chunks: chunks.iter().map(made).collect() }
-}
-
-/// Links the blocks in the list's order, and answers the first and the last.
-fn link(list: &[u32]) -> (*mut u8, *mut u8) {
-    let mut next = std::ptr::null_mut();
-    for &word in list.iter().rev() {
-        let block = block_address(word);
-        // SAFETY: the blocks are out, so their bytes are the comparison's; they are aligned to 16.
-        unsafe { block.cast::<*mut u8>().write(next) };
-        next = block;
-    }
-    (next, block_address(list[list.len() - 1]))
 }
 
 pub fn words_of_chain(family: Family, chain: *mut u8, count: u32) -> Vec<u32> {

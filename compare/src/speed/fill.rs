@@ -1,12 +1,13 @@
 //! A workload like a fill of a grid: a search goes down, takes blocks for the scores of each square, and gives them back
 //! when it turns, the latest first; now and then it holds a run of pages for a while.
 //!
-//! The search is rehearsed once on the side itself, so that every list stands ready when the clock starts. What an
+//! The search is rehearsed once on the side itself, so that every list stands ready when the measuring starts. What an
 //! application does with its blocks is left out. A block that was used has lost its link, so the original makes each
-//! chain anew within the time.
+//! chain anew within what is measured.
 
-use super::rounds::{Clock, Round};
-use super::scenarios::time_takes;
+use super::meter::Meter;
+use super::rounds::Round;
+use super::scenarios::measure_takes;
 use super::sides::{Class, PortSide, Side, HOST, PAGES};
 use crate::call::{Call, Lent};
 use crate::random::Random;
@@ -38,7 +39,7 @@ enum Turn {
 pub fn calls() -> Vec<Call> {
     let mut side = PortSide::open();
     side.reopen(PAGES);
-    rehearse(&mut side, Clock::calibrated()).0.into_iter().map(as_call).collect()
+    rehearse(&mut side, &Meter::calibrated_clock()).0.into_iter().map(as_call).collect()
 }
 
 fn as_call(turn: Turn) -> Call {
@@ -57,15 +58,15 @@ fn as_call(turn: Turn) -> Call {
     }
 }
 
-pub fn round<S: Side>(side: &mut S, clock: Clock) -> Round {
-    let (turns, answers) = rehearse(side, clock);
+pub fn round<S: Side>(side: &mut S, meter: &Meter) -> Round {
+    let (turns, answers) = rehearse(side, meter);
     side.reopen(PAGES);
     let mut taken = S::Taken::default();
     let number = turns.len();
-    let ((), time) = clock.time(number, || turns.iter().for_each(|turn| take_turn(side, turn, &mut taken)));
+    let ((), cost) = meter.measure(number, || turns.iter().for_each(|turn| take_turn(side, turn, &mut taken)));
     let mut told = answers;
-    told.extend(CLASSES.iter().map(|&class| time_takes(side, clock, small(class), 1).0.concat().len() as u32));
-    Round { times: vec![time], answers: told }
+    told.extend(CLASSES.iter().map(|&class| measure_takes(side, meter, small(class), 1).0.concat().len() as u32));
+    Round { costs: vec![cost], answers: told }
 }
 
 fn small(class: u32) -> Class {
@@ -86,7 +87,7 @@ fn take_turn<S: Side>(side: &mut S, turn: &Turn, taken: &mut S::Taken) {
 
 /// The search's calls, by the answers of a first run, and how many blocks each take answered: on which pages they are is not the
 /// same on both sides once a run came from one of several equal holes.
-fn rehearse<S: Side>(side: &mut S, clock: Clock) -> (Vec<Turn>, Vec<u32>) {
+fn rehearse<S: Side>(side: &mut S, meter: &Meter) -> (Vec<Turn>, Vec<u32>) {
     let mut random = Random::new(1);
     let (mut turns, mut answers) = (Vec::new(), Vec::new());
     let (mut path, mut runs): (Vec<(Class, Vec<u32>)>, Vec<u32>) = (Vec::new(), Vec::new());
@@ -98,7 +99,7 @@ fn rehearse<S: Side>(side: &mut S, clock: Clock) -> (Vec<Turn>, Vec<u32>) {
         let down = path.is_empty() || path.len() < DEEPEST && random.chance(11, 20);
         if down {
             let class = small(random.pick(&CLASSES));
-            let words = time_takes(side, clock, class, 1).0.concat();
+            let words = measure_takes(side, meter, class, 1).0.concat();
             answers.push(words.len() as u32);
             path.push((class, words));
             turns.push(Turn::Take(class));

@@ -1,10 +1,12 @@
-//! The port's time against the original's: the same calls on both in one run, in rounds that alternate.
+//! The port's cost against the original's, in time and in instructions: the same calls on both in one run.
 //!
 //! A scenario (`scenarios.rs`) has one or more rows of the table. A round opens both heaps anew, brings them to the
-//! scenario's state and times a batch of calls for each row; both must answer the same. Of a row's rounds the lower
-//! quartile counts.
+//! scenario's state and measures a batch of calls for each row; both must answer the same. Times are of many rounds that
+//! alternate, of which the lower quartile counts. Instructions are the same in each round, so that one is enough.
 
+mod counter;
 mod fill;
+mod meter;
 mod rounds;
 mod scenarios;
 mod sides;
@@ -14,36 +16,63 @@ mod trace;
 use std::fs;
 use std::time::Duration;
 
+use self::counter::Counter;
 pub use self::fill::calls as fill_calls;
-use self::rounds::Clock;
+use self::meter::Meter;
+use self::scenarios::Scenario;
 use self::sides::{OriginalSide, PortSide};
-use self::table::Table;
+use self::table::{Counts, Times};
 use crate::arguments::Arguments;
 
-pub fn run(words: &[String]) -> Result<bool, String> {
+pub fn time(words: &[String]) -> Result<bool, String> {
     let arguments = Arguments::read(words, &["file", "seconds"])?;
     let seconds: f64 = arguments.number("seconds")?.unwrap_or(1.0);
     let budget = Duration::try_from_secs_f64(seconds).map_err(|error| format!("--seconds {seconds}: {error}"))?;
-    let clock = Clock::calibrated();
-    let (mut original, mut port) = (OriginalSide::open(), PortSide::open());
-    let mut table = Table::new(clock);
-    for scenario in &scenarios::all() {
-        match rounds::measure(scenario, &mut original, &mut port, budget, clock) {
-            Ok(measured) => table.add(scenario, measured),
-            Err(difference) => {
-                println!("{}: {difference}", scenario.rows()[0].call);
-                return Ok(false);
-            }
-        }
+    let clock = Meter::calibrated_clock();
+    let mut times = Times::new(&clock);
+    let same = for_each(|scenario, original, port| {
+        times.add(scenario, rounds::measure(scenario, original, port, budget, &clock)?);
+        Ok(())
+    });
+    if !same {
+        return Ok(false);
     }
-    let Some(traced) = trace::line(clock) else {
+    let Some(traced) = trace::line(&clock) else {
         println!("a trace: other blocks or figures than its calls one by one");
         return Ok(false);
     };
-    let text = table.markdown() + &traced;
-    print!("{text}");
+    told(&(times.markdown() + &traced), &arguments)
+}
+
+pub fn count(words: &[String]) -> Result<bool, String> {
+    let arguments = Arguments::read(words, &["file", "worker"])?;
+    let Some(dumps) = arguments.text("worker") else { return counter::watch("count", words) };
+    let counter = Meter::Counter(Counter::new(dumps));
+    let mut counts = Counts::default();
+    let same = for_each(|scenario, original, port| {
+        counts.add(scenario, rounds::on_both(scenario, original, port, &counter, 0)?);
+        Ok(())
+    });
+    Ok(same && told(&counts.markdown(), &arguments)?)
+}
+
+/// Whether both sides answer the same in every scenario.
+fn for_each(mut measure: impl FnMut(&Scenario, &mut OriginalSide, &mut PortSide) -> Result<(), String>) -> bool {
+    let (mut original, mut port) = (OriginalSide::open(), PortSide::open());
+    for scenario in &scenarios::all() {
+        if let Err(difference) = measure(scenario, &mut original, &mut port) {
+            println!("{}: {difference}", scenario.rows()[0].call);
+            return false;
+        }
+    }
+    true
+}
+
+/// Prints the table, and writes it to the file that is named, if one is.
+fn told(table: &str, arguments: &Arguments) -> Result<bool, String> {
+    print!("{table}");
     if let Some(file) = arguments.text("file") {
-        fs::write(file, text).map_err(|error| format!("{file}: {error}"))?;
+        fs::write(file, table).map_err(|error| format!("{file}: {error}"))?;
     }
     Ok(true)
 }

@@ -1,38 +1,15 @@
 //! Rounds that alternate between the two sides, and what is told of them.
 
-use std::hint::black_box;
 use std::time::{Duration, Instant};
 
+use super::meter::Meter;
 use super::scenarios::Scenario;
 use super::sides::Side;
 
-/// What reading the clock twice costs, taken off every measured batch.
-#[derive(Clone, Copy)]
-pub struct Clock {
-    pub cost: f64,
-}
-
-impl Clock {
-    pub fn calibrated() -> Clock {
-        let clock = Clock { cost: 0.0 };
-        let empty: Vec<f64> = (0..20_000).map(|_| clock.time(1, || ()).1).collect();
-        Clock { cost: Quartiles::of(empty).lower }
-    }
-
-    /// What the work answers, and its nanoseconds for each of so many calls.
-    #[inline]
-    pub fn time<T>(&self, calls: usize, work: impl FnOnce() -> T) -> (T, f64) {
-        let began = Instant::now();
-        let answer = black_box(work());
-        let nanoseconds = began.elapsed().as_nanos() as f64;
-        (answer, (nanoseconds - self.cost).max(0.0) / calls as f64)
-    }
-}
-
-/// Of one round: the nanoseconds of a call for each row, and the answers, which must be the same on both sides.
+/// Of one round: what a call costs for each row, and the answers, which must be the same on both sides.
 #[derive(Default)]
 pub struct Round {
-    pub times: Vec<f64>,
+    pub costs: Vec<f64>,
     pub answers: Vec<u32>,
 }
 
@@ -66,32 +43,19 @@ pub fn measure(
     original: &mut impl Side,
     port: &mut impl Side,
     budget: Duration,
-    clock: Clock,
+    clock: &Meter,
 ) -> Result<Vec<Measured>, String> {
     let rows = scenario.rows().len();
     let mut times = vec![(Vec::new(), Vec::new()); rows];
     let began = Instant::now();
     let mut rounds = 0;
     while rounds < FIRST_ROUNDS + LEAST_ROUNDS || began.elapsed() < budget {
-        // Neither side always comes first.
-        let (of_original, of_port) = if rounds % 2 == 0 {
-            let of_original = scenario.round(original, clock);
-            (of_original, scenario.round(port, clock))
-        } else {
-            let of_port = scenario.round(port, clock);
-            (scenario.round(original, clock), of_port)
-        };
-        if !port.is_sound() {
-            return Err("the port refuses a call".into());
-        }
-        if of_original.answers != of_port.answers {
-            return Err(difference(&of_original.answers, &of_port.answers));
-        }
+        let both = on_both(scenario, original, port, clock, rounds)?;
         rounds += 1;
         if rounds > FIRST_ROUNDS {
-            for (row, both) in times.iter_mut().enumerate() {
-                both.0.push(of_original.times[row]);
-                both.1.push(of_port.times[row]);
+            for (row, of_row) in times.iter_mut().enumerate() {
+                of_row.0.push(both.0[row]);
+                of_row.1.push(both.1[row]);
             }
         }
     }
@@ -101,6 +65,31 @@ pub fn measure(
         rounds: rounds - FIRST_ROUNDS,
     };
     Ok(times.into_iter().map(measured).collect())
+}
+
+/// What a call costs for each row in a round on the original and on the port, which must answer the same. Neither side
+/// always comes first.
+pub fn on_both(
+    scenario: &Scenario,
+    original: &mut impl Side,
+    port: &mut impl Side,
+    meter: &Meter,
+    turn: usize,
+) -> Result<(Vec<f64>, Vec<f64>), String> {
+    let (of_original, of_port) = if turn % 2 == 0 {
+        let of_original = scenario.round(original, meter);
+        (of_original, scenario.round(port, meter))
+    } else {
+        let of_port = scenario.round(port, meter);
+        (scenario.round(original, meter), of_port)
+    };
+    if !port.is_sound() {
+        return Err("the port refuses a call".into());
+    }
+    if of_original.answers != of_port.answers {
+        return Err(difference(&of_original.answers, &of_port.answers));
+    }
+    Ok((of_original.costs, of_port.costs))
 }
 
 fn difference(original: &[u32], port: &[u32]) -> String {

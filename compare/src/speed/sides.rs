@@ -1,6 +1,6 @@
 //! The two heaps behind one set of plain calls, so that a scenario is written once.
 //!
-//! What a caller of the original has at hand before it calls, a chain that is linked, is made before the clock starts,
+//! What a caller of the original has at hand before it calls, a chain that is linked, is made before the measuring starts,
 //! but for `release_list`. The host word grants reservation and commit and no discard: the comparison's stand-in for a
 //! discard overwrites the page's header, which would count against the original.
 
@@ -47,6 +47,8 @@ pub trait Side {
     fn release_chunks(&mut self, class: Class, chunks: &mut Self::Chunks);
     /// A group release with the making of the chain, where it needs one.
     fn release_with_chunks(&mut self, class: Class, words: &[u32], chunks: &[u32]);
+    /// Commits, reuses, abandoned.
+    fn report(&mut self) -> [u32; 3];
     /// Whether no call was refused since the opening.
     fn is_sound(&self) -> bool;
 }
@@ -121,6 +123,11 @@ impl Side for OriginalSide {
     #[inline]
     fn release_with_chunks(&mut self, class: Class, words: &[u32], chunks: &[u32]) {
         self.release_chunks(class, &mut oracle::make_chunks(words, chunks));
+    }
+
+    #[inline]
+    fn report(&mut self) -> [u32; 3] {
+        self.0.counts().map(|count| count as u32)
     }
 
     fn is_sound(&self) -> bool {
@@ -235,6 +242,13 @@ impl Side for PortSide {
     fn release_with_chunks(&mut self, Class(_, class): Class, words: &[u32], chunks: &[u32]) {
         let book = self.book.words_mut();
         self.refused |= port::plain_release_chunks(book, [class, HOST], words, chunks, &mut self.fates);
+    }
+
+    #[inline]
+    fn report(&mut self) -> [u32; 3] {
+        let (number, [commits, reuses, abandoned, ..]) = port::plain_report(self.book());
+        self.refused |= number;
+        [commits, reuses, abandoned].map(|count| count as u32)
     }
 
     fn is_sound(&self) -> bool {

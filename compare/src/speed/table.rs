@@ -1,12 +1,13 @@
-//! The table of a run, as Markdown.
+//! The tables of a run, as Markdown.
 
 use std::fs;
 
-use super::rounds::{Clock, Measured};
+use super::meter::Meter;
+use super::rounds::Measured;
 use super::scenarios::{Row, Scenario};
 
-pub struct Table {
-    clock: Clock,
+pub struct Times<'a> {
+    clock: &'a Meter,
     load: String,
     lines: Vec<(Row, Measured)>,
 }
@@ -14,9 +15,9 @@ pub struct Table {
 /// Holes up to which a commit is compared by its ratio, beyond by the nanoseconds of a hole.
 const FEW_HOLES: u32 = 10;
 
-impl Table {
-    pub fn new(clock: Clock) -> Table {
-        Table { clock, load: load(), lines: Vec::new() }
+impl Times<'_> {
+    pub fn new(clock: &Meter) -> Times<'_> {
+        Times { clock, load: load(), lines: Vec::new() }
     }
 
     pub fn add(&mut self, scenario: &Scenario, measured: Vec<Measured>) {
@@ -27,17 +28,12 @@ impl Table {
         let mut text = String::from(
             "| call | holes | original ns | port ns | ratio | port ns per hole beyond 10 |\n|---|---|---|---|---|---|\n",
         );
-        for line in &self.lines {
-            text += &self.line(line);
+        for (row, measured) in &self.lines {
+            let port = measured.port.lower;
+            let each = self.per_hole(row, port).map_or(String::new(), |each| format!("{each:.2}"));
+            text += &format!("{} {each} |\n", line(row, measured.original.lower, port, 1));
         }
         text + &self.noise()
-    }
-
-    fn line(&self, (row, measured): &(Row, Measured)) -> String {
-        let (original, port) = (measured.original.lower, measured.port.lower);
-        let holes = row.holes.map_or(String::new(), |holes| holes.to_string());
-        let each = self.per_hole(row, port).map_or(String::new(), |each| format!("{each:.2}"));
-        format!("| {} | {holes} | {original:.1} | {port:.1} | {:.2} | {each} |\n", row.call, port / original)
     }
 
     /// What each hole beyond ten adds, by the same call's row with ten.
@@ -64,7 +60,7 @@ impl Table {
              The clock's own {:.0} ns are taken off each batch. Load average {} at the start, {} at the end.\n",
             rounds.clone().min().unwrap_or(0),
             rounds.max().unwrap_or(0),
-            self.clock.cost,
+            self.clock.own(),
             self.load,
             load()
         )
@@ -75,4 +71,28 @@ impl Table {
 fn load() -> String {
     let text = fs::read_to_string("/proc/loadavg").unwrap_or_default();
     text.split(' ').next().unwrap_or("").to_string()
+}
+
+/// Instructions.
+#[derive(Default)]
+pub struct Counts {
+    lines: String,
+}
+
+impl Counts {
+    pub fn add(&mut self, scenario: &Scenario, (original, port): (Vec<f64>, Vec<f64>)) {
+        for (at, row) in scenario.rows().iter().enumerate() {
+            self.lines += &format!("{}\n", line(row, original[at], port[at], 0));
+        }
+    }
+
+    pub fn markdown(&self) -> String {
+        format!("| call | holes | original | port | ratio |\n|---|---|---|---|---|\n{}", self.lines)
+    }
+}
+
+/// The columns that both tables have, with so many digits.
+fn line(row: &Row, original: f64, port: f64, digits: usize) -> String {
+    let holes = row.holes.map_or(String::new(), |holes| holes.to_string());
+    format!("| {} | {holes} | {original:.digits$} | {port:.digits$} | {:.2} |", row.call, port / original)
 }

@@ -1,7 +1,8 @@
 //! A long trace in one call, against the same takes, releases and reports one by one through the exported functions. The
 //! original has no trace.
 
-use super::rounds::{Clock, Quartiles};
+use super::meter::Meter;
+use super::rounds::Quartiles;
 use crate::oracle;
 use crate::planned::family;
 use crate::port;
@@ -60,7 +61,7 @@ fn in_one(book: &mut [u32], words: &[u32], came: &mut Came) {
 /// A caller keeps the blocks and their classes, as the lists do; so it keeps the counts of a report.
 fn one_by_one(book: &mut [u32], words: &[u32], classes: &[u32], came: &mut Came) {
     assert_eq!(port::open(book, u64::from(PAGES)), 0);
-    let (mut list, mut report) = ([0; SMALL_BATCH], [0; 6]);
+    let mut list = [0; SMALL_BATCH];
     let (mut handed, mut told, mut out, mut bytes, mut highest) = (0, 0, 0, 0, 0);
     let sizes: Vec<u64> =
         (0..76).map(family).map(|(family, class)| oracle::block_bytes(family, class) as u64).collect();
@@ -87,7 +88,8 @@ fn one_by_one(book: &mut [u32], words: &[u32], classes: &[u32], came: &mut Came)
                 bytes -= sizes[classes[number] as usize];
             }
             _ => {
-                assert_eq!(port::plain_report(book, &mut report), 0);
+                let (refused, report) = port::plain_report(book);
+                assert_eq!(refused, 0);
                 came.figures[told..told + FIGURES].copy_from_slice(&[out, bytes, report[3], report[4], highest]);
                 told += FIGURES;
             }
@@ -96,14 +98,14 @@ fn one_by_one(book: &mut [u32], words: &[u32], classes: &[u32], came: &mut Came)
 }
 
 /// A line below the table; none where the two differ.
-pub fn line(clock: Clock) -> Option<String> {
+pub fn line(clock: &Meter) -> Option<String> {
     let (words, classes) = trace();
     let empty = || Came { blocks: vec![0; classes.len()], figures: vec![0; WORDS / REPORTED * FIGURES] };
     let (mut book, mut traced, mut called) = (vec![0; book_words(PAGES)], empty(), empty());
     let mut times = [Vec::new(), Vec::new()];
     for _ in 0..ROUNDS {
-        times[0].push(clock.time(WORDS, || in_one(&mut book, &words, &mut traced)).1);
-        times[1].push(clock.time(WORDS, || one_by_one(&mut book, &words, &classes, &mut called)).1);
+        times[0].push(clock.measure(WORDS, || in_one(&mut book, &words, &mut traced)).1);
+        times[1].push(clock.measure(WORDS, || one_by_one(&mut book, &words, &classes, &mut called)).1);
     }
     let [trace, calls] = times.map(|times| Quartiles::of(times).lower);
     let same = traced == called;
