@@ -40,6 +40,7 @@ OURS = "compare/seams/arena.rs"
 PAGE = "crates/model/specs/Page.antt"
 RELEASE = "crates/model/specs/Release.antt"
 SPOT = "crates/model/specs/Spot.antt"
+LEDGER = "compare/src/ledger.rs"
 LIMITS = "crates/words/specs/Limits.antt"
 HOST = "crates/words/specs/Host.antt"
 HOST_CODE = "crates/words/src/host_bits.rt"
@@ -454,6 +455,18 @@ RULES = [
         "a total of just 65,536 pages is abandoned",
         heap=[("arena.rs", "holes.bytes + bytes <= HOLE_CAP_BYTES", "holes.bytes + bytes < HOLE_CAP_BYTES")],
         model=[(HOLES, "leb (s .total + n) holePagesMax", "ltb (s .total + n) holePagesMax")],
+    ),
+    Rule(
+        "a repeat is 10",
+        heap=[(LEDGER, "return Some(15);", "return Some(10);")],
+    ),
+    Rule(
+        "a block that is not out comes before a repeat",
+        heap=[(LEDGER, "if self.count_out(id, &twice) > 0 {", "if self.count_out(id, &twice) > 0 && words.iter().all(|&word| self.count_out(id, &[word]) == 1) {")],
+    ),
+    Rule(
+        "a repeat of a block that is not out is 15",
+        heap=[(LEDGER, "if self.count_out(id, &twice) > 0 {", "if !twice.is_empty() {")],
     ),
     # What a word may hold shows in no history: the table of ranges has it, and editor/tests/boundaries/ranges.rs.
     Rule("VIRGIN up to 7", model=[(RANGES, "(virginFlag p) = upTo 1", "(virginFlag p) = upTo 7")], crate="demands"),

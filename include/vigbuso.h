@@ -108,6 +108,7 @@ enum vigbuso_refusal {
     VIGBUSO_EMPTY_LIST = 7,
     VIGBUSO_CHUNKS = 8,
     VIGBUSO_WRONG_KIND = 9,
+    VIGBUSO_REPEATED = 15,
     VIGBUSO_NOT_OUT = 10,
     VIGBUSO_OTHER_PAGE = 11,
     VIGBUSO_NOT_HELD = 12,
@@ -137,7 +138,7 @@ static inline const char *vigbuso_refusal_text(uint32_t number) {
     case 9:
         return "a word has the wrong kind";
     case 10:
-        return "a block is not out in this class, or stands twice";
+        return "a block is not out in this class";
     case 11:
         return "a block is on another page or span than the first; for chunks, a page twice, a count 0 or not the list's, "
                "a page missing";
@@ -148,6 +149,8 @@ static inline const char *vigbuso_refusal_text(uint32_t number) {
     case 14:
         return "the plan is empty, has lists of unequal length or above 4,096 entries, names a size above 65,472 or has a number "
                "above 1,000,000";
+    case 15:
+        return "a block that is out in this class stands twice in the list";
     case 16:
         return "a word of the trace has kind 3, is a report with other bits set, names a class above 75 or a place not out, or a lent "
                "list is full";
@@ -264,7 +267,7 @@ uint32_t vigbuso_medium_take_blocks(uint32_t *book, size_t book_len, uint32_t si
  *   book   book_len words, written
  *   list   list_len block words, read; 1 at least
  *   fate   the page's: VIGBUSO_KEPT, VIGBUSO_COLD or VIGBUSO_TO_ARENA
- * Returns 0, or 1, 2, 3, 4, 7, 9, 10, 11, 13.
+ * Returns 0, or 1, 2, 3, 4, 7, 9, 15, 10, 11, 13.
  */
 uint32_t vigbuso_release_blocks(uint32_t *book, size_t book_len, uint32_t size_class, uint32_t host, const uint32_t *list,
                                 size_t list_len, uint32_t *fate);
@@ -274,7 +277,7 @@ uint32_t vigbuso_release_blocks(uint32_t *book, size_t book_len, uint32_t size_c
  *   book   book_len words, written
  *   list   list_len block words, read; 1 at least
  *   fate   the span's: VIGBUSO_KEPT, for cold too, or VIGBUSO_TO_ARENA
- * Returns 0, or 1, 2, 3, 4, 7, 9, 10, 11, 13.
+ * Returns 0, or 1, 2, 3, 4, 7, 9, 15, 10, 11, 13.
  */
 uint32_t vigbuso_medium_release_blocks(uint32_t *book, size_t book_len, uint32_t size_class, uint32_t host,
                                        const uint32_t *list, size_t list_len, uint32_t *fate);
@@ -285,7 +288,7 @@ uint32_t vigbuso_medium_release_blocks(uint32_t *book, size_t book_len, uint32_t
  *   list    list_len block words, read; 1 at least
  *   chunks  chunks_len chunk words, read; 1 to 2,056
  *   fates   fates_len words, chunks_len at least; the first chunks_len are written, in the chunks' order, the others kept
- * Returns 0, or 1, 2, 3, 4, 7, 8, 9, 10, 11, 13.
+ * Returns 0, or 1, 2, 3, 4, 7, 8, 9, 15, 10, 11, 13.
  */
 uint32_t vigbuso_release_bin_chunks(uint32_t *book, size_t book_len, uint32_t size_class, uint32_t host,
                                     const uint32_t *list, size_t list_len, const uint32_t *chunks, size_t chunks_len,

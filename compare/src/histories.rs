@@ -91,7 +91,9 @@ pub fn histories(words: &[String]) -> Result<bool, String> {
 }
 
 fn say_what_is_missing() {
-    println!("not the original's, compared with the tool's own reading: refusals 3 to 12, the report's pages held");
+    println!(
+        "not the original's, compared with the tool's own reading: refusals 3 to 12 and 15, the report's pages held"
+    );
     println!("not compared here: refusals 1, 2 and 13, the book's words, counts that pass 2^64");
 }
 

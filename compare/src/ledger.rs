@@ -210,25 +210,31 @@ impl Ledger {
             .or_else(|| list.iter().any(|&word| first(word) != first(list[0])).then_some(11))
     }
 
-    /// Numbers 9 and 10, over the whole list.
+    /// Numbers 9, 15 and 10, each over the whole list.
     fn block_refusal(&self, family: Family, class: u32, list: &[u32]) -> Option<u32> {
         if list.iter().any(|&word| kind_of(word) != family.kind()) {
             return Some(9);
         }
         let id = class_id(family, class);
-        let words = sorted(list);
-        let twice = words.windows(2).any(|pair| pair[0] == pair[1]);
-        let held = |word: &u32| self.owner.get(page_of(*word) as usize) == Some(&(id as u8 + 1));
-        if twice || !words.iter().all(held) {
-            return Some(10);
+        let mut words = sorted(list);
+        let twice: Vec<u32> = words.windows(2).filter(|pair| pair[0] == pair[1]).map(|pair| pair[0]).collect();
+        if self.count_out(id, &twice) > 0 {
+            return Some(15);
         }
-        let mut runs: Vec<u32> = words.iter().map(|&word| self.run[page_of(word) as usize]).collect();
+        words.dedup();
+        (self.count_out(id, &words) != words.len()).then_some(10)
+    }
+
+    /// How many of these words, which are sorted, are blocks out in a class.
+    fn count_out(&self, id: usize, words: &[u32]) -> usize {
+        let held = |word: &&u32| self.owner.get(page_of(**word) as usize) == Some(&(id as u8 + 1));
+        let mut runs: Vec<u32> = words.iter().filter(held).map(|&word| self.run[page_of(word) as usize]).collect();
         runs.dedup();
         let listed = |first: &u32| {
             let out = self.out[id].get(self.place[*first as usize] as usize);
             out.map_or(0, |out| out.words.iter().filter(|word| words.binary_search(word).is_ok()).count())
         };
-        (runs.iter().map(listed).sum::<usize>() != words.len()).then_some(10)
+        runs.iter().map(listed).sum()
     }
 
     fn chunk_refusal(&self, class: u32, list: &[u32], chunks: &[u32], room: usize) -> Option<u32> {

@@ -47,7 +47,7 @@ const USAGE: &str = "usage: compare COMMAND [--NAME VALUE ..]
                histories that were written down, on the port
   model-test   [--calls N] [--seed S] [--scenario NAME] [--longest STEPS] [--file F] [--repository FOLDER]
                histories with the original's answers, computed by the checker on the model
-  damaged      [--calls N] [--seed S] [--only HISTORY]
+  damaged      [--calls N] [--seed S] [--kinds all|blocks] [--only HISTORY]
                calls with any arguments on damaged books
   fits         [--plans N] [--seed S]
                plans of takes, made in orders of chance on arenas of just their total and of a page less

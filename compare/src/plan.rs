@@ -256,23 +256,21 @@ fn wrong_run(random: &mut Random, ledger: &Ledger, host: u32) -> Call {
     Call::Release { host, first, pages }
 }
 
-/// Blocks that are out, with one spoilt or one more.
+/// Blocks that are out, with one that is wrong or one more among them, or two, so that a list can have faults of two numbers.
 fn wrong_list(random: &mut Random, ledger: &Ledger, family: Family, class: u32) -> Vec<u32> {
     let runs = if class < family.classes() { ledger.out(family, class) } else { &[] };
     let mut words = pick_run(random, runs).map_or_else(Vec::new, |run| blocks(random, run, Portion::Some));
     let any = || block_word(family, 0);
-    let another = match random.below(6) {
-        0 => return words,
-        1 => random.word() as u32,
-        2 => block_word(family, random.below(u64::from(ledger.pages() * PAGE_GRANULES)) as u32),
-        3 => words.first().copied().unwrap_or_else(any),
-        4 => words.first().map_or_else(any, |word| word ^ 1 << random.below(32)),
-        _ => pick_run(random, runs).map_or_else(any, |run| random.pick(&run.words)),
-    };
-    words.push(another);
-    let at = random.index(words.len());
-    let last = words.len() - 1;
-    words.swap(at, last);
+    for _ in 0..random.weighted(&[(1, 0), (4, 1), (2, 2)]) {
+        let another = match random.below(5) {
+            0 => random.word() as u32,
+            1 => block_word(family, random.below(u64::from(ledger.pages() * PAGE_GRANULES)) as u32),
+            2 => words.first().copied().unwrap_or_else(any),
+            3 => words.first().map_or_else(any, |word| word ^ 1 << random.below(32)),
+            _ => pick_run(random, runs).map_or_else(any, |run| random.pick(&run.words)),
+        };
+        words.insert(random.index(words.len() + 1), another);
+    }
     words
 }
 

@@ -238,11 +238,13 @@ fn only_read(answer: Answer, lists: &[(&[u32], &Vec<u32>)]) -> Answer {
 const UNTOUCHED: u32 = 0xDEAD_BEEF;
 const UNTOUCHED_FIGURE: u64 = 0xDEAD_BEEF_DEAD_BEEF;
 
-/// A refusal: its number is one of document 01's, and nothing that was lent has changed.
+/// A refusal: its number is one of the papers' for calls of a history, and nothing that was lent has changed.
 fn refusal(number: u32, unchanged: bool) -> Answer {
     match (number, unchanged) {
-        (1..=13, true) => Answer::Refused(number),
-        (1..=13, false) => Answer::Broken(format!("refused as {number}, yet a lent list or an out-parameter changed")),
+        (1..=13 | 15, true) => Answer::Refused(number),
+        (1..=13 | 15, false) => {
+            Answer::Broken(format!("refused as {number}, yet a lent list or an out-parameter changed"))
+        }
         _ => Answer::Broken(format!("returned {number}")),
     }
 }

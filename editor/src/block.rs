@@ -50,6 +50,7 @@ pub enum Kind {
 ///   `NotOut`, or as [`WrongKind`](crate::Refusal::WrongKind) if it is of the other family, unless the same block of this
 ///   heap happens to be out.
 /// - A block that is out in another class is `NotOut` in this one.
+/// - A block that is out and stands twice in one list is refused as [`Repeated`](crate::Refusal::Repeated).
 ///
 /// No such block makes a call read or write anything but the book. A [`Pool`](crate::Pool) refuses stale and foreign blocks
 /// at once in debug builds, the stale ones also after the heap has them back.

@@ -52,8 +52,8 @@ impl ReleaseError {
         self.refusal
     }
 
-    /// The first block of the list that the refusal is about, after its place, counted from 0. None where the refusal is about
-    /// no block, and for a medium list in a very large arena, where finding it would cost too much.
+    /// The first block of the list that the refusal is about, after its place, counted from 0; of one that stands twice, the place
+    /// where it does so. None where the refusal is about no block.
     ///
     /// ```
     /// # use vigbuso::{Class, Heap};

@@ -276,7 +276,7 @@ impl<B: AsRef<[u32]> + AsMut<[u32]>> Heap<B> {
     ///
     /// # Errors
     ///
-    /// [`Refusal::EmptyList`], [`WrongKind`](Refusal::WrongKind), [`NotOut`](Refusal::NotOut),
+    /// [`Refusal::EmptyList`], [`WrongKind`](Refusal::WrongKind), [`Repeated`](Refusal::Repeated), [`NotOut`](Refusal::NotOut),
     /// [`OtherPage`](Refusal::OtherPage), with the first block to blame.
     pub fn release(&mut self, class: Class, blocks: &[Block]) -> Result<Fate, ReleaseError> {
         self.release_with(self.host, class, blocks)

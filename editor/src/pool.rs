@@ -166,8 +166,8 @@ impl<B: AsRef<[u32]> + AsMut<[u32]>> Pool<B> {
     /// # Errors
     ///
     /// [`Refusal::NotOut`] for a block of a page where the pool has had none, in debug builds for every block that it has
-    /// not out, and for a stale block that is found when some of the stock goes back to the heap. A block that is refused is in
-    /// no stock afterwards.
+    /// not out, and for a stale block that is found when some of the stock goes back to the heap; or [`Refusal::Repeated`] then, for
+    /// one that was freed twice. A block that is refused is in no stock afterwards.
     #[inline]
     pub fn free(&mut self, block: Block) -> Result<(), ReleaseError> {
         let class = self.class_of(block).filter(|_| self.out.remove(block));
@@ -243,7 +243,7 @@ impl<B: AsRef<[u32]> + AsMut<[u32]>> Pool<B> {
     ///
     /// # Errors
     ///
-    /// The first refusal, of a block that was freed and not out. All others are back nevertheless.
+    /// The first refusal, of a block that was freed and not out, or freed twice. All others are back nevertheless.
     pub fn flush(&mut self) -> Result<(), ReleaseError> {
         let mut outcome = Ok(());
         for class in Class::all() {

@@ -10,9 +10,6 @@ const BY_LIST: usize = 8;
 /// Chunks of one call. A call may have many more ([`Chunk::MOST`]), but gains nothing by it.
 const CHUNKS: usize = 64;
 
-/// The longest book that is copied to find a block.
-const COPIED_WORDS: usize = 1 << 24;
-
 impl<B: AsRef<[u32]> + AsMut<[u32]>> Heap<B> {
     /// Releases blocks of one class, small or medium, wherever they are. The list is sorted and goes back page by page, several
     /// pages in one call where they have few blocks each. An empty list is fine.
@@ -34,8 +31,8 @@ impl<B: AsRef<[u32]> + AsMut<[u32]>> Heap<B> {
     ///
     /// # Errors
     ///
-    /// [`Refusal::WrongKind`], [`NotOut`](Refusal::NotOut), with the first block to blame and its place in the sorted list. Blocks
-    /// before it may be back already: [`ReleaseError::released`] tells how many.
+    /// [`Refusal::WrongKind`], [`Repeated`](Refusal::Repeated), [`NotOut`](Refusal::NotOut), with the first block to blame and its
+    /// place in the sorted list. Blocks before it may be back already: [`ReleaseError::released`] tells how many.
     pub fn release_all(&mut self, class: Class, blocks: &mut [Block]) -> Result<(), ReleaseError> {
         self.release_all_with(self.host, class, blocks)
     }
@@ -104,8 +101,8 @@ impl<B: AsRef<[u32]> + AsMut<[u32]>> Heap<B> {
         let run = |block: &Block| class.first_page(*block);
         let place = match refusal {
             Refusal::WrongKind => blocks.iter().position(|block| block.kind() != class.kind()),
-            Refusal::NotOut if blocks.len() == 1 => Some(0),
-            Refusal::NotOut => self.first_not_out(class, blocks),
+            Refusal::Repeated => self.first_repeated(class, blocks),
+            Refusal::NotOut => blocks.iter().position(|&block| !self.is_out(class, block)),
             Refusal::OtherPage => blocks.iter().position(|block| run(block) != run(&blocks[0])),
             _ => None,
         };
@@ -129,47 +126,17 @@ impl<B: AsRef<[u32]> + AsMut<[u32]>> Heap<B> {
         ReleaseError::new(refusal, place.map(|place| (place, blocks[place])))
     }
 
-    /// The first block of a list that is not out, or that stands in it for the second time.
-    fn first_not_out(&mut self, class: Class, blocks: &[Block]) -> Option<usize> {
-        match class.kind() {
-            Kind::Small => self.first_small_not_out(class, blocks),
-            Kind::Medium => self.first_medium_not_out(class, blocks),
-        }
+    /// The first place at which a block that is out stands for the second time.
+    fn first_repeated(&mut self, class: Class, blocks: &[Block]) -> Option<usize> {
+        let mut places: Vec<usize> = (0..blocks.len()).collect();
+        places.sort_unstable_by_key(|&place| (blocks[place], place));
+        let again = places.windows(2).filter(|pair| blocks[pair[0]] == blocks[pair[1]]).map(|pair| pair[1]);
+        again.filter(|&place| self.is_out(class, blocks[place])).min()
     }
 
-    /// A chunk of no block is always refused, but only after the blocks are tested: so the calls here change nothing, and tell
-    /// whether the first blocks of the list are out.
-    fn first_small_not_out(&mut self, class: Class, blocks: &[Block]) -> Option<usize> {
-        let (book, host) = (self.book.as_mut(), self.host);
-        let mut not_out = |len: usize| {
-            let (chunks, fates) = (&[Chunk::FILLER], &mut [Fate::Kept]);
-            ffi::release_chunks(book, class, host, &blocks[..len], chunks, fates) == Err(Refusal::NotOut)
-        };
-        let (mut out, mut len) = (0, blocks.len());
-        if !not_out(len) {
-            return None;
-        }
-        while len - out > 1 {
-            let middle = out + (len - out) / 2;
-            if not_out(middle) {
-                len = middle;
-            } else {
-                out = middle;
-            }
-        }
-        Some(out)
-    }
-
-    /// There is no such call for a medium class: its blocks are released one by one on a copy of the book.
-    fn first_medium_not_out(&self, class: Class, blocks: &[Block]) -> Option<usize> {
-        let book = self.book.as_ref();
-        if book.len() > COPIED_WORDS {
-            return None;
-        }
-        let mut copy = Vec::new();
-        copy.try_reserve_exact(book.len()).ok()?;
-        copy.extend_from_slice(book);
-        blocks.iter().position(|block| ffi::release(&mut copy, class, self.host, &[*block]) == Err(Refusal::NotOut))
+    /// A list with one block twice is always refused, so this call changes nothing; the number tells whether the block is out.
+    fn is_out(&mut self, class: Class, block: Block) -> bool {
+        ffi::release(self.book.as_mut(), class, self.host, &[block, block]) == Err(Refusal::Repeated)
     }
 }
 

@@ -89,6 +89,8 @@ static void small_blocks(void) {
     IS(vigbuso_release_blocks(book, words, 0, HOST, list, 3, &fate), 0);
     IS(fate, VIGBUSO_KEPT);
     IS(vigbuso_release_blocks(book, words, 0, HOST, list, 3, &fate), VIGBUSO_NOT_OUT);
+    list[0] = list[4];
+    IS(vigbuso_release_blocks(book, words, 0, HOST, list, 5, &fate), VIGBUSO_REPEATED);
     IS(vigbuso_release_blocks(book, words, VIGBUSO_SMALL_CLASSES, HOST, list, 3, &fate), VIGBUSO_CLASS);
 }
 

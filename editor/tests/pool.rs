@@ -82,11 +82,24 @@ fn stale_blocks_are_refused_at_once() {
     assert_eq!(pool.report().expect("an opened book").used, 0);
 }
 
-/// What the pool cannot see at once the heap refuses: here blocks that went back behind the pool's back. In the last arena it is
-/// not told which block is refused.
+/// In other builds the heap finds it, among the blocks that go back together.
+#[test]
+#[cfg(not(debug_assertions))]
+fn blocks_freed_twice_are_refused_by_a_flush() {
+    let mut pool = Pool::open(64).expect("64 pages");
+    let [one, two] = [100, 100].map(|bytes| pool.alloc(bytes).expect("there is room"));
+    for block in [one, two, one] {
+        pool.free(block).expect("it goes to the stock");
+    }
+    let error = pool.flush().expect_err("one was freed twice");
+    assert_eq!((error.refusal(), error.block().map(|(_, block)| block)), (Refusal::Repeated, Some(one)));
+    pool.flush().expect("nothing is left");
+}
+
+/// What the pool cannot see at once the heap refuses: here blocks that went back behind the pool's back.
 #[test]
 fn stale_blocks_are_dropped_by_a_flush() {
-    for (pages, bytes) in [(64, 1_000), (512, 20_000), (4_200, 20_000)] {
+    for (pages, bytes) in [(64, 1_000), (512, 20_000)] {
         let mut pool = Pool::open(pages).expect("a length");
         let blocks: Vec<Block> = (0..300).map(|_| pool.alloc(bytes).expect("there is room")).collect();
         let class = pool.class_of(blocks[0]).expect("the pool's");

@@ -71,7 +71,6 @@ fn lists() {
     blames(Refusal::WrongKind, 0, |s| s.heap.release(medium(0), &s.blocks));
     blames(Refusal::WrongKind, 2, |s| s.heap.release(small(0), &[s.blocks[0], s.others[0], s.span[0], s.span[1]]));
     blames(Refusal::NotOut, 0, |s| s.heap.release(small(0), &s.others));
-    blames(Refusal::NotOut, 2, |s| s.heap.release(small(0), &[s.blocks[0], s.blocks[1], s.blocks[0]]));
     blames(Refusal::NotOut, 0, |s| s.heap.release(small(0), &[Block::small(1 << 29).unwrap()]));
 }
 
@@ -96,7 +95,47 @@ fn the_first_block_that_is_not_out() {
         assert_eq!(error.block(), Some((stale, s.span[stale])));
         assert_eq!(s.heap, before);
     }
-    blames(Refusal::NotOut, 3, |s| s.heap.release(medium(0), &[s.span[2], s.span[0], s.span[1], s.span[2]]));
+}
+
+/// A block that stands twice is told from one that is not out, wherever the two stand, by list and by chunks.
+#[test]
+fn a_block_that_stands_twice() {
+    blames(Refusal::Repeated, 2, |s| s.heap.release(small(0), &[s.blocks[0], s.blocks[1], s.blocks[0]]));
+    blames(Refusal::Repeated, 3, |s| s.heap.release(medium(0), &[s.span[2], s.span[0], s.span[1], s.span[2]]));
+    blames(Refusal::NotOut, 0, |s| s.heap.release(small(0), &[s.others[0], s.others[0]]));
+    blames(Refusal::WrongKind, 2, |s| s.heap.release(small(0), &[s.blocks[0], s.blocks[0], s.span[0]]));
+    // Three times, and another one twice before: the first place counts.
+    blames(Refusal::Repeated, 2, |s| {
+        let [a, b] = [s.blocks[4], s.blocks[1]];
+        s.heap.release(small(0), &[a, b, b, a, a])
+    });
+    // A foreign block twice, then one of the list.
+    blames(Refusal::Repeated, 3, |s| {
+        let [foreign, block] = [s.others[0], s.blocks[0]];
+        s.heap.release(small(0), &[foreign, foreign, block, block])
+    });
+}
+
+#[test]
+fn a_block_that_stands_twice_and_one_that_is_not_out() {
+    for (order, place) in [([0, 0, 1], 1), ([0, 1, 0], 2), ([1, 0, 0], 2)] {
+        blames(Refusal::Repeated, place, |s| {
+            s.heap.release(small(0), &order.map(|which| [s.blocks[0], s.others[0]][which]))
+        });
+        blames(Refusal::Repeated, place, |s| {
+            let list = order.map(|which| [s.blocks[0], s.others[0]][which]);
+            s.heap.release_chunks(small(0), &list, &Chunk::of(&list))
+        });
+        blames(Refusal::Repeated, place, |s| {
+            let foreign = Block::medium(s.span[0].granule() + 1).expect("30 bits");
+            s.heap.release(medium(0), &order.map(|which| [s.span[0], foreign][which]))
+        });
+    }
+    let told = [Refusal::Repeated, Refusal::NotOut].map(Refusal::meaning);
+    assert_eq!(
+        told,
+        ["a block that is out in this class stands twice in the list", "a block is not out in this class"]
+    );
 }
 
 #[test]
@@ -176,7 +215,7 @@ fn a_heap_keeps_its_host_word() {
 
 #[test]
 fn every_number_prints_its_meaning() {
-    for number in (1..=14).chain([16]).chain(20..=24) {
+    for number in (1..=16).chain(20..=24) {
         let refusal = Refusal::from_number(number).expect("documents 01 and 02 have it");
         assert_eq!(refusal.number(), number);
         let error: Box<dyn Error> = Box::new(refusal);

@@ -12,6 +12,7 @@ const KEPT: usize = 600;
 
 pub struct Pool {
     pages: u32,
+    kinds: &'static [Kind],
     classes: Vec<(Family, u32)>,
     /// Blocks that were taken, with their class.
     words: VecDeque<(Family, u32, u32)>,
@@ -19,14 +20,14 @@ pub struct Pool {
 }
 
 impl Pool {
-    pub fn new(random: &mut Random, pages: u32) -> Pool {
+    pub fn new(random: &mut Random, pages: u32, kinds: &'static [Kind]) -> Pool {
         let classes = (0..random.between(1, 3)).map(|_| match random.below(3) {
             0 => (Family::Medium, random.below(12) as u32),
             1 => (Family::Small, random.below(64) as u32),
             _ => (Family::Small, random.between(40, 46) as u32),
         });
         let classes = classes.collect();
-        Pool { pages, classes, words: VecDeque::new(), runs: VecDeque::new() }
+        Pool { pages, kinds, classes, words: VecDeque::new(), runs: VecDeque::new() }
     }
 
     pub fn pages(&self) -> u32 {
@@ -58,8 +59,7 @@ impl Pool {
             1 => random.below(80) as u32,
             _ => class,
         };
-        let kind = random.pick(&Kind::ALL);
-        match kind {
+        match random.pick(self.kinds) {
             Kind::TakeBlocks | Kind::MediumTakeBlocks => {
                 Call::Take { family, class, host, lent: list(random, family, class) }
             }
@@ -125,7 +125,7 @@ impl Pool {
                 list
             }
         };
-        if random.chance(1, 6) {
+        for _ in 0..random.weighted(&[(10, 0), (1, 1), (1, 2)]) {
             let wrong = match random.below(4) {
                 0 => random.word() as u32,
                 1 => block_word(family, random.below(u64::from(self.pages) * 4_096) as u32),

@@ -31,10 +31,13 @@ impl Damage {
         self.sound.is_some()
     }
 
-    /// Overwrites one word or a few; says how many.
+    /// Overwrites one word, a few or a stretch; says how many.
     pub fn spoil(&mut self, random: &mut Random, twins: &mut Twins) -> u64 {
         if self.sound.is_none() {
             self.sound = Some(twins.words().to_vec());
+        }
+        if random.chance(1, 10) {
+            return self.spoil_stretch(random, twins);
         }
         let number = random.weighted(&[(6, 1), (2, 2), (1, 8)]);
         for _ in 0..number {
@@ -43,6 +46,14 @@ impl Damage {
             twins.put(at, word);
         }
         number
+    }
+
+    /// Many words one after the other, all with anything.
+    fn spoil_stretch(&self, random: &mut Random, twins: &mut Twins) -> u64 {
+        let first = self.place(random, twins.len());
+        let words = first..(first + random.index(300)).min(twins.len());
+        words.clone().for_each(|at| twins.put(at, random.word() as u32));
+        words.len() as u64
     }
 
     pub fn mend(&mut self, twins: &mut Twins) {

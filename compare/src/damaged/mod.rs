@@ -16,7 +16,7 @@ use self::arguments::Pool;
 use self::book::Twins;
 use self::damage::Damage;
 use crate::arguments::Arguments;
-use crate::call::{Answer, Call};
+use crate::call::{Answer, Call, Kind};
 use crate::history;
 use crate::random::Random;
 use crate::tally::Tally;
@@ -24,22 +24,31 @@ use crate::words::{book_words, HOST_ALL, MAX_PAGES};
 
 /// Calls of one history.
 const CALLS: u64 = 400;
+/// What `--kinds` asks for: every call, or those of blocks, most of them releases.
+const ALL: &str = "all";
+const BLOCKS: &str = "blocks";
+const BLOCK_KINDS: [Kind; 4] = [Kind::TakeBlocks, Kind::ReleaseBlocks, Kind::ReleaseBinChunks, Kind::ReleaseBinChunks];
 /// The line that begins a history, for the process that watches.
 const MARK: char = '@';
 
 pub fn run(words: &[String]) -> Result<bool, String> {
-    let arguments = Arguments::read(words, &["calls", "seed", "only", "worker"])?;
+    let arguments = Arguments::read(words, &["calls", "seed", "kinds", "only", "worker"])?;
     let calls: u64 = arguments.number("calls")?.unwrap_or(200_000);
     let seed: u64 = arguments.number("seed")?.unwrap_or(1);
     let only: Option<u64> = arguments.number("only")?;
+    let kinds: &'static [Kind] = match arguments.text("kinds").unwrap_or(ALL) {
+        ALL => &Kind::ALL,
+        BLOCKS => &BLOCK_KINDS,
+        other => return Err(format!("--kinds is {ALL} or {BLOCKS}, not {other}")),
+    };
     match arguments.text("worker") {
-        Some(_) => Ok(work(calls, seed, only)),
-        None => watch::run(calls, seed, only),
+        Some(_) => Ok(work(calls, seed, kinds, only)),
+        None => watch::run(calls, seed, arguments.text("kinds").unwrap_or(ALL), only),
     }
 }
 
 /// The histories of a seed, or one of them with every call told before it is made.
-fn work(calls: u64, seed: u64, only: Option<u64>) -> bool {
+fn work(calls: u64, seed: u64, kinds: &'static [Kind], only: Option<u64>) -> bool {
     let mut tally = Tally::default();
     let mut counts = Counts::default();
     let (first, last) = only.map_or((0, calls.div_ceil(CALLS)), |one| (one, one + 1));
@@ -47,9 +56,9 @@ fn work(calls: u64, seed: u64, only: Option<u64>) -> bool {
         println!("{MARK}{number}");
         let _ = std::io::stdout().flush();
         let mut random = Random::new(seed ^ number.wrapping_mul(0xD1B5_4A32_D192_ED03));
-        if let Err(fault) = History::new(&mut random).run(&mut tally, &mut counts, only.is_some()) {
+        if let Err(fault) = History::new(&mut random, kinds).run(&mut tally, &mut counts, only.is_some()) {
             println!("history {number}: {fault}");
-            println!("seen again by: damaged --seed {seed} --only {number}");
+            println!("seen again by: damaged --seed {seed} --only {number}, with the same --kinds");
             return false;
         }
     }
@@ -77,12 +86,12 @@ struct History<'a> {
 }
 
 impl History<'_> {
-    fn new(random: &mut Random) -> History<'_> {
+    fn new<'a>(random: &'a mut Random, kinds: &'static [Kind]) -> History<'a> {
         let pages = random.weighted(&[(1, 3), (6, 12), (6, 24), (2, 60)]).min(1 + random.below(80)) as u32;
         let spare = random.weighted(&[(4, 0), (1, 1), (1, 1000)]);
         let content = random.pick(&[0, u32::MAX, 1, random.clone().word() as u32]);
         let twins = Twins::new(book_words(pages) + spare, content);
-        let pool = Pool::new(random, pages);
+        let pool = Pool::new(random, pages, kinds);
         History { random, twins, pool, damage: Damage::default() }
     }
 

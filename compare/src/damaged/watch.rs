@@ -12,10 +12,10 @@ use crate::progress::Progress;
 const PATIENCE: Duration = Duration::from_secs(120);
 
 /// Runs the worker and tells where it died, if it does.
-pub fn run(calls: u64, seed: u64, only: Option<u64>) -> Result<bool, String> {
+pub fn run(calls: u64, seed: u64, kinds: &str, only: Option<u64>) -> Result<bool, String> {
     let mut progress = Progress::begin();
     let mut last = 0;
-    let ended = work(calls, seed, only, |line| match line.strip_prefix(MARK) {
+    let ended = work(calls, seed, kinds, only, |line| match line.strip_prefix(MARK) {
         Some(number) => {
             last = number.parse().unwrap_or(last);
             progress.show(last * CALLS, calls, "calls");
@@ -26,9 +26,9 @@ pub fn run(calls: u64, seed: u64, only: Option<u64>) -> Result<bool, String> {
         println!("history {last}: a call {}", ended.how);
         println!("its calls, the last of which is that one:");
         if only.is_none() {
-            let _ = work(calls, seed, Some(last), |line| println!("{line}"));
+            let _ = work(calls, seed, kinds, Some(last), |line| println!("{line}"));
         }
-        println!("seen again by: damaged --seed {seed} --only {last}");
+        println!("seen again by: damaged --seed {seed} --kinds {kinds} --only {last}");
     }
     println!("{:.1} s", progress.seconds());
     Ok(ended.good)
@@ -41,10 +41,11 @@ struct Ended {
     how: String,
 }
 
-fn work(calls: u64, seed: u64, only: Option<u64>, mut told: impl FnMut(&str)) -> Result<Ended, String> {
+fn work(calls: u64, seed: u64, kinds: &str, only: Option<u64>, mut told: impl FnMut(&str)) -> Result<Ended, String> {
     let program = std::env::current_exe().map_err(|error| error.to_string())?;
     let mut command = Command::new(program);
-    command.args(["damaged", "--worker", "1", "--calls", &calls.to_string(), "--seed", &seed.to_string()]);
+    command.args(["damaged", "--worker", "1", "--kinds", kinds]);
+    command.args(["--calls", &calls.to_string(), "--seed", &seed.to_string()]);
     if let Some(one) = only {
         command.args(["--only", &one.to_string()]);
     }

@@ -60,7 +60,7 @@ pub fn run(words: &[String]) -> Result<bool, String> {
     let computed = cases.iter().enumerate().filter(|(at, _)| !verdict.too_long.contains(at));
     println!("{}", counted(computed.map(|(_, case)| case)));
     println!("{:.0} s for the checker", progress.seconds());
-    println!("not the original's, but the tool's own reading: refusals 3 to 12, the report's pages held");
+    println!("not the original's, but the tool's own reading: refusals 3 to 12 and 15, the report's pages held");
     let lost: usize = verdict.too_long.iter().map(|&at| cases[at].history.calls.len()).sum();
     println!("not computed, for the checker's limit of steps: {} histories of {lost} calls", verdict.too_long.len());
     match &verdict.refused {

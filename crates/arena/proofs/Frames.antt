@@ -8,7 +8,7 @@ use lib.Dec.{eqb, ltb, leb}
 use lib.ListN.{length}
 use borrow.Author.Tests.{lt-ltb, ne-eqb}
 use Rattle.words.specs.Limits.{holeSlots}
-use Rattle.fields.specs.Field.{Field, arena, class, hole, page, out, slot, ArenaField, state, frontier, holes, holePages, commits, commitsHigh, reuses, reusesHigh, abandoned, abandonedHigh, start, pages, owner, arenaOff, pageOff, put, words}
+use Rattle.fields.specs.Field.{Field, arena, mark, class, hole, page, out, slot, ArenaField, state, frontier, holes, holePages, commits, commitsHigh, reuses, reusesHigh, abandoned, abandonedHigh, start, pages, owner, arenaOff, pageOff, put, words}
 use Rattle.fields.proofs.Laws.{put-put-same, put-comm, length-put}
 use Rattle.fields.proofs.Changes.{Changes, changes-none, changes-put}
 use Rattle.model.specs.declared.Hole.{Hole}
@@ -26,6 +26,7 @@ loaded-length b i (suc k) = ap suc (loaded-length b (suc i) k)
 -- the words that hold the arena: all of its record but the length and HELD, and the holes
 abbrev pub isStored : Field → Bool
 isStored (arena k) = ltb 0 (arenaOff k) && ltb (arenaOff k) 11
+isStored (mark p j) = false
 isStored (class k c) = false
 isStored (hole k i) = true
 isStored (page k p) = false
@@ -56,6 +57,7 @@ module _ (b : List ℕ) where
 -- ---- owners
 abbrev pub isOwner : Field → Bool
 isOwner (arena k) = false
+isOwner (mark p j) = false
 isOwner (class k c) = false
 isOwner (hole k i) = false
 isOwner (page k p) = eqb (pageOff k) 0

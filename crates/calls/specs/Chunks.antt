@@ -1,5 +1,5 @@
--- A group release on the words (`release_bin_chunks`; a group is a chunk): the tests of numbers 7 to 11 and 13 in their order, each
--- over both lists, then the chunks in order, then the runs that go to the arena. ws is the list, gs the chunks, fs the lent fates.
+-- A group release on the words (`release_bin_chunks`; a group is a chunk): the tests of numbers 7 to 9, then `outFault` (13 for a mark, 15,
+-- 10), 11 and 13 in their order, each over both lists, then the chunks in order, then the runs that go to the arena. ws is the list, gs the chunks, fs the lent fates.
 use Prim.Native.Nat.{ℕ, _+_, _*_}
 use mathlib.Core.Bool.{Bool, true, cond, not, _&&_, _||_}
 use mathlib.Core.List.{List, [], _∷_, _++_, map}
@@ -18,7 +18,8 @@ use Rattle.words.specs.Host.{digit}
 use Rattle.pages.specs.declared.Park.the-variants.{Empty, Cold}
 use Rattle.pages.specs.Links.{stored}
 use Rattle.pages.specs.Stack.{back, indexOf}
-use Rattle.calls.specs.Release.{startOf, outAt, pageFair, rowFair, Released, placed}
+use Rattle.calls.specs.Out.{startOf, OutTest, outFault}
+use Rattle.calls.specs.Release.{pageFair, rowFair, Released, placed}
 
 -- a chunk's blocks: those of the list on its page, in the list's order
 unfoldable pub blocksOn : List ℕ → List ℕ → ℕ → List ℕ
@@ -86,13 +87,17 @@ pub record ChunksReleased : Type 0 where
 abbrev pub chunksNone : List ℕ → List ℕ → ℕ → ChunksReleased
 chunksNone b fs k = record { code = k; book = b; fates = fs }
 
-unfoldable pub releaseChunks : ℕ → List ℕ → ℕ → Shape → ℕ → List ℕ → List ℕ → List ℕ → ChunksReleased
-releaseChunks n b c sh h ws gs fs =
+-- by a test of its blocks
+abbrev pub releaseChunksBy : OutTest → ℕ → List ℕ → ℕ → Shape → ℕ → List ℕ → List ℕ → List ℕ → ChunksReleased
+releaseChunksBy fault n b c sh h ws gs fs =
     cond (isNil ws || isNil gs) (chunksNone b fs 7)
     (cond (ltb chunksMax (length gs) || ltb (length fs) (length gs)) (chunksNone b fs 8)
     (cond (not (every (ofKind (sh .kind)) ws && every (ofKind chunkKind) gs)) (chunksNone b fs 9)
-    (cond (not (every (outAt n b c sh) ws && distinct ws)) (chunksNone b fs 10)
+    (cond (not (eqb (fault n b c sh ws) 0)) (chunksNone b fs (fault n b c sh ws))
     (cond (not (chunksMatch b ws gs)) (chunksNone b fs 11)
     (cond (not (chunksFair n b c sh gs)) (chunksNone b fs 13)
     (let s = settleChunks b c sh h ws gs in
     record { code = 0; book = giveRuns (s .book) (sh .pages) (s .gives); fates = s .fates ++ drop (length gs) fs }))))))
+
+unfoldable pub releaseChunks : ℕ → List ℕ → ℕ → Shape → ℕ → List ℕ → List ℕ → List ℕ → ChunksReleased
+releaseChunks n b c sh h ws gs fs = releaseChunksBy outFault n b c sh h ws gs fs

@@ -1,3 +1,4 @@
 pub mod Take
+pub mod Out
 pub mod Release
 pub mod Chunks

@@ -1,20 +1,17 @@
--- A release by list on the words: the tests of numbers 7, 9, 10, 11, 13 in their order, each over the whole list, then the act.
--- n is the arena's length, c the class's id, sh its shape, ws the list.
---     startOf    the first page of the run that has the word's granule, as the book says
---     outIn      the word is a block of the run at q, and its out bit is set
---     outAt      the word is a block out in the class
+-- A release by list on the words: the tests of numbers 7, 9, then `outFault` (13 for a mark, 15, 10), 11, 13 in their order, each over the
+-- whole list, then the act. n is the arena's length, c the class's id, sh its shape, ws the list.
 --     pageFair   number 13 on a page to which m blocks come back; rowFair, on the class's row
 --     spotAt     where a page with no block out goes
 --     placed     what becomes of a page whose blocks are back
 use Prim.Native.Nat.{ℕ, _+_}
 use mathlib.Core.Bool.{Bool, true, false, cond, not, _&&_}
 use mathlib.Core.List.{List, [], _∷_, map}
-use lib.Dec.{eqb, ltb, leb}
+use lib.Dec.{eqb, leb}
 use lib.ListN.{length}
-use Rattle.facts.specs.Lists.{isNil, every, distinct}
+use Rattle.facts.specs.Lists.{isNil, every}
 use Rattle.words.specs.Host.{discardZeroed}
 use Rattle.classes.specs.declared.Shape.{Shape}
-use Rattle.fields.specs.Field.{arena, class, page, out, frontier, partial, first, free, carved, listed, get, put}
+use Rattle.fields.specs.Field.{arena, class, page, frontier, partial, free, carved, listed, get, put}
 use Rattle.model.specs.declared.Spot.{Spot}
 use Rattle.model.specs.declared.Spot.the-variants.{ToEmpty, ToCold, ToArena}
 use Rattle.model.specs.Page.{isMedium}
@@ -22,30 +19,12 @@ use Rattle.model.specs.Spot.{spotOf, isArena, keptFate, arenaFate, fateOf, reti
 use Rattle.model.specs.Release.{ofKind}
 use Rattle.arena.specs.Fair.{giveFair}
 use Rattle.arena.specs.Calls as Arena
-use Rattle.pages.specs.Runs.{whole}
-use Rattle.pages.specs.Stack.{back, pageAt, indexOf, isBlock}
+use Rattle.pages.specs.Stack.{back, indexOf}
 use Rattle.pages.specs.Links.{link, unlink, stow, stored}
 use Rattle.pages.specs.Fair.{headerFair, linksFair, storeFair}
 use Rattle.pages.specs.declared.Park.the-variants.{Empty, Cold}
 use Rattle.pages.specs.Carve.{carveAnew}
-
--- ---- a word's block
-unfoldable pub startOf : List ℕ → ℕ → ℕ
-startOf b w = get b (page first (pageAt w))
-
-unfoldable pub outIn : List ℕ → Shape → ℕ → ℕ → Bool
-outIn b sh q w = isBlock sh q w && eqb (get b (out q (indexOf sh q w))) 1
-
-unfoldable pub inRunOf : ℕ → List ℕ → Shape → ℕ → ℕ → Bool
-inRunOf n b sh c w =
-    ltb (pageAt w) n
-    && (ltb (pageAt w) (get b (arena frontier))
-    && (leb (startOf b w) (pageAt w)
-    && (ltb (pageAt w) (startOf b w + sh .pages)
-    && whole n b sh c (startOf b w))))
-
-unfoldable pub outAt : ℕ → List ℕ → ℕ → Shape → ℕ → Bool
-outAt n b c sh w = inRunOf n b sh c w && outIn b sh (startOf b w) w
+use Rattle.calls.specs.Out.{startOf, OutTest, outFault}
 
 -- ---- number 13: the words that the act reads; a page's links only where it is listed
 unfoldable pub pageFair : List ℕ → Shape → ℕ → ℕ → Bool
@@ -128,13 +107,16 @@ abbrev pub firstOf : List ℕ → ℕ
 firstOf [] = 0
 firstOf (w ∷ ws) = w
 
--- `release_blocks_with_tail` from number 7 on
-unfoldable pub releaseBlocks : ℕ → List ℕ → ℕ → Shape → ℕ → List ℕ → Released
-releaseBlocks n b c sh h ws =
+-- `release_blocks_with_tail` from number 7 on, by a test of its blocks
+abbrev pub releaseBy : OutTest → ℕ → List ℕ → ℕ → Shape → ℕ → List ℕ → Released
+releaseBy fault n b c sh h ws =
     let q = startOf b (firstOf ws) in
     cond (isNil ws) (releasedNone b 7)
     (cond (not (every (ofKind (sh .kind)) ws)) (releasedNone b 9)
-    (cond (not (every (outAt n b c sh) ws && distinct ws)) (releasedNone b 10)
+    (cond (not (eqb (fault n b c sh ws) 0)) (releasedNone b (fault n b c sh ws))
     (cond (not (every (λ w. eqb (startOf b w) q) ws)) (releasedNone b 11)
     (cond (not (releaseFair n b c sh (length ws) q)) (releasedNone b 13)
     (lastStep sh q (giveBackAt b c sh h q (map (indexOf sh q) ws)))))))
+
+unfoldable pub releaseBlocks : ℕ → List ℕ → ℕ → Shape → ℕ → List ℕ → Released
+releaseBlocks n b c sh h ws = releaseBy outFault n b c sh h ws

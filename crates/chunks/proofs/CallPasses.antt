@@ -1,4 +1,4 @@
--- The passes of a group release, once its listed blocks are struck.
+-- The passes of a group release, once its listed blocks are taken.
 --     match-asks, fair-asks, settle-asks    what each pass asks follows from the tests before it
 --     mismatch, unfair, settled             the ways out of the passes
 use Prim.Native.Nat.{ℕ, _+_, _≤_, _<_}
@@ -11,26 +11,31 @@ use lib.ListN.{length, drop, length-append}
 use borrow.Author.Tests.{lt-ltb, leb-true, le-leb, eq-eqb, eqb-true, eqb-false, ne-eqb}
 use Rattle.facts.specs.Lists.{every, All}
 use Rattle.facts.proofs.Bools.{by-cases, and-left, and-right}
+use Rattle.facts.proofs.Lists.{every-same}
 use Rattle.words.specs.Word.{countOf, pageOf}
 use Rattle.classes.specs.declared.Shape.{Shape}
-use Rattle.fields.specs.Field.{Field, arena, class, page, slot, region, off, frontier, state, holes, holePages, held, partial, empty, emptyCount, cold, coldCount, next, prev, free, carved, listed, get, words}
+use Rattle.fields.specs.Field.{Field, arena, class, page, slot, out, region, off, frontier, state, holes, holePages, held, partial, empty, emptyCount, cold, coldCount, next, prev, free, carved, listed, get, put, words}
 use Rattle.fields.proofs.Changes.{Changes, changes-none, changes-put}
 use Rattle.arena.specs.Fair.{recordFair, giveFair}
-use Rattle.pages.specs.Stack.{pageAt}
+use Rattle.pages.specs.Stack.{indexOf, pageAt}
+use Rattle.calls.specs.Out.{inRunOf, outAt}
 use Rattle.calls.specs.Release.{pageFair, rowFair}
 use Rattle.calls.specs.Chunks.{chunkFits, chunksMatch, returnsAll, runsGiven, pagesGiven, chunksFair, giveRuns}
 use Rattle.pages.specs.Fair.{linksFair}
+use Rattle.release.proofs.Bits.{isBit, in-run-kept}
 use Rattle.release.proofs.FairSteps.{links-fair}
+use Rattle.release.proofs.OutLaws.{run-of-out, index-of-out, page-of-out}
 use Rattle.tally.specs.Match.{MatchAsks, Matched}
-use Rattle.chunks.specs.Pass.{pushOne, pushAll, givesIn}
+use Rattle.chunks.specs.Pass.{cleared, pushOne, pushAll, givesIn}
 use Rattle.chunks.specs.PushAsks.{wordsOn, PushAllAsks}
 use Rattle.chunks.specs.FairAsks.{ChunksFairAsks}
 use Rattle.chunks.specs.PlaceAsks.{placeFair, PlaceAsks, Placed}
 use Rattle.chunks.specs.GiveAsks.{givesFair, GiveChunksAsks}
-use Rattle.chunks.specs.CallAsks.{allPlaced, settledTo, passes, StruckAsks, SettleAsks, ChunksAnswered}
+use Rattle.chunks.specs.CallAsks.{allPlaced, settledTo, passes, hasBit, PassAsks, TakenAsks, BitsAsks, SettleAsks, ChunksAnswered}
 use Rattle.chunks.proofs.PushLaws.{push-free, on-here, on-more}
+use Rattle.chunks.proofs.Gather.{page-start}
 use Rattle.chunks.proofs.GatherGives.{idle, ofClass, gives-count, gives-in, fates-length, all-changes}
-use Rattle.chunks.proofs.CallTests.{fair-pages, words-on, fits-count, fits-lands, match-apart, match-fits, chunks-below, slots-left, page-there}
+use Rattle.chunks.proofs.CallTests.{match-kept, chunks-fair-kept, fair-pages, words-on, fits-count, fits-lands, match-apart, match-fits, chunks-below, slots-left, page-there}
 
 -- ---- the blocks back on their stacks: of the words that are tested, only FREE is another
 abbrev stacked : Field → Bool
@@ -60,7 +65,7 @@ every-both t u v k (g ∷ gs) e f =
     rw (k g (and-left (t g) (every t gs) e) (and-left (u g) (every u gs) f)) (every-both t u v k gs (and-right (t g) (every t gs) e) (and-right (u g) (every u gs) f))
 
 -- ---- what the passes ask
-module _ (n : ℕ) (b : List ℕ) (c : ℕ) (sh : Shape) (ws gs fs : List ℕ) (a : StruckAsks n b c sh ws gs fs) where
+module _ (n : ℕ) (b : List ℕ) (c : ℕ) (sh : Shape) (ws gs fs : List ℕ) (a : TakenAsks n b c sh ws gs fs) where
   pub match-asks : MatchAsks n b ws gs
   match-asks = record { few = a .call .class .few; long = a .call .class .long; chunks = a .chunks; pages = words-on n b c sh (a .call .single) ws (a .runs) }
 
@@ -188,7 +193,58 @@ module _ (n : ℕ) (b : List ℕ) (c : ℕ) (sh : Shape) (ws gs fs : List ℕ) (
       pub settle-asks : SettleAsks n b c sh h ws gs fs
       settle-asks = record { pushing = pushing; placing = placing; giving = giving }
 
-  -- ---- the ways out of the passes
+-- ---- the blocks taken
+module _ (b : List ℕ) (sh : Shape) where
+  pub cleared-changes : (n : ℕ) (ws : List ℕ) (d : List ℕ) → every (hasBit n sh) ws ≡ true → Changes isBit b d → Changes isBit b (cleared d sh ws)
+  unfolding cleared hasBit
+  cleared-changes n [] d e h = h
+  cleared-changes n (w ∷ ws) d e h =
+      let u = and-left (ltb (pageAt w) n && ltb (indexOf sh (pageAt w) w) 4096) _ e in
+      cleared-changes n ws (put d (out (pageAt w) (indexOf sh (pageAt w) w)) 0) (and-right (ltb (pageAt w) n && ltb (indexOf sh (pageAt w) w) 4096) _ e)
+      (changes-put isBit b d (out (pageAt w) (indexOf sh (pageAt w) w)) 0 (and-right (ltb (pageAt w) n) _ u) refl h)
+
+-- ---- the ways out of the passes
+module _ (n : ℕ) (b : List ℕ) (c : ℕ) (sh : Shape) (ws gs fs : List ℕ) (a : PassAsks n b c sh ws gs fs) where
+  in-runs : (vs : List ℕ) → every (outAt n b c sh) vs ≡ true → every (inRunOf n b sh c) vs ≡ true
+  in-runs [] o = refl
+  in-runs (v ∷ vs) o =
+      let t = outAt n b c sh in
+      rw (run-of-out n c sh (a .call .class .sound) b v (and-left (t v) (every t vs) o)) (in-runs vs (and-right (t v) (every t vs) o))
+
+  has-bits : (vs : List ℕ) → every (outAt n b c sh) vs ≡ true → every (hasBit n sh) vs ≡ true
+  unfolding hasBit
+  has-bits [] o = refl
+  has-bits (v ∷ vs) o =
+      let t = outAt n b c sh in
+      let s = a .call .class .sound in
+      let u = and-left (t v) (every t vs) o in
+      let i : indexOf sh (pageAt v) v < 4096 = rw (page-start n c sh s (a .call .single) b v u) at (index-of-out n c sh s b v u) in
+      rw (lt-ltb (pageAt v) n (page-of-out n c sh s b v u), lt-ltb (indexOf sh (pageAt v) v) 4096 i) (has-bits vs (and-right (t v) (every t vs) o))
+
+  bits : every (hasBit n sh) ws ≡ true
+  bits = has-bits ws (a .out)
+
+  changes : Changes isBit b (cleared b sh ws)
+  changes = cleared-changes b sh n ws b bits (changes-none isBit b)
+
+  as-before : TakenAsks n b c sh ws gs fs
+  as-before = record { call = a .call; runs = in-runs ws (a .out); chunks = a .chunks; fates = a .fates }
+
+  taken-asks : TakenAsks n (cleared b sh ws) c sh ws gs fs
+  taken-asks = record {
+    call = record {
+      class = record { known = a .call .class .known; sound = a .call .class .sound; few = a .call .class .few; long = omega (arith, changes .long, a .call .class .long) };
+      single = a .call .single;
+      limits = a .call .limits;
+    };
+    runs = every-same (inRunOf n (cleared b sh ws) sh c) (inRunOf n b sh c) ws (in-run-kept b (cleared b sh ws) changes n sh c) ∙ in-runs ws (a .out);
+    chunks = a .chunks;
+    fates = a .fates;
+  }
+
+  pub match-first : MatchAsks n b ws gs
+  match-first = match-asks n b c sh ws gs fs as-before
+
   module _ (h : ℕ) (t : Bool) (b′ : List ℕ) (k : Matched t b′ b ws gs) where
     pub mismatch : t ≡ false → ChunksAnswered 11 b′ fs (passes n b c sh h ws gs fs)
     unfolding passes
@@ -199,7 +255,7 @@ module _ (n : ℕ) (b : List ℕ) (c : ℕ) (sh : Shape) (ws gs fs : List ℕ) (
       matches = sym (k .answer) ∙ e
 
       pub fair-next : ChunksFairAsks n b′ c sh gs
-      fair-next = rw (k .left) (fair-asks matches)
+      fair-next = rw (k .left) (fair-asks n b c sh ws gs fs as-before matches)
 
       module _ (u : Bool) (j : u ≡ chunksFair n b′ c sh gs) where
         fairs : chunksFair n b c sh gs ≡ u
@@ -209,12 +265,22 @@ module _ (n : ℕ) (b : List ℕ) (c : ℕ) (sh : Shape) (ws gs fs : List ℕ) (
         unfolding passes
         unfair x = rw (matches, fairs ∙ x) (record { answer = refl; left = k .left; fates = refl })
 
-        pub settle-next : u ≡ true → SettleAsks n b′ c sh h ws gs fs
-        settle-next x = rw (k .left) (settle-asks matches (fairs ∙ x) h)
+        module _ (x : u ≡ true) where
+          pub clear-next : BitsAsks n b′ sh ws
+          clear-next = rw (k .left) (record { sound = a .call .class .sound; few = a .call .class .few; long = a .call .class .long; bits = bits })
 
-        pub settled : (b″ fs″ : List ℕ) → u ≡ true → ChunksAnswered 0 b″ fs″ (settledTo (allPlaced b′ c sh h ws gs) sh gs fs) → ChunksAnswered 0 b″ fs″ (passes n b c sh h ws gs fs)
-        unfolding passes
-        settled b″ fs″ x p = rw (matches, fairs ∙ x) (rw (k .left) at p)
+          module _ (d : List ℕ) (l : d ≡ cleared b′ sh ws) where
+            cleared-is : d ≡ cleared b sh ws
+            cleared-is = l ∙ rw (k .left)
+
+            pub settle-next : SettleAsks n d c sh h ws gs fs
+            settle-next =
+                rw cleared-is (settle-asks n (cleared b sh ws) c sh ws gs fs taken-asks (match-kept b (cleared b sh ws) changes ws gs ∙ matches)
+                (chunks-fair-kept b (cleared b sh ws) changes c (lt-ltb c 76 (a .call .class .known)) n sh gs ∙ fairs ∙ x) h)
+
+            pub settled : (b″ fs″ : List ℕ) → ChunksAnswered 0 b″ fs″ (settledTo (allPlaced d c sh h ws gs) sh gs fs) → ChunksAnswered 0 b″ fs″ (passes n b c sh h ws gs fs)
+            unfolding passes
+            settled b″ fs″ p = rw (matches, fairs ∙ x) (rw cleared-is at p)
 
 -- ---- one pass after the other
 module _ (n : ℕ) (b : List ℕ) (c : ℕ) (sh : Shape) (h : ℕ) (ws gs fs : List ℕ) (a : SettleAsks n b c sh h ws gs fs) (b₁ : List ℕ) (e : b₁ ≡ pushAll b sh ws) where

@@ -1,4 +1,4 @@
--- Numbers 11 and 13 of a group release on the struck book: no test reads an out bit. And what the tests tell of the pages.
+-- Numbers 11 and 13 of a group release once the blocks are taken: no test reads an out bit. And what the tests tell of the pages.
 --     match-kept, chunks-fair-kept    the tests are those of the book before
 --     lands                           the first page of a word's run, and of a chunk's, is the page itself, below the frontier
 --     chunks-land                     number 11 passed: the chunks' pages are pages of listed words
@@ -22,16 +22,16 @@ use Rattle.arena.specs.Fair.{recordFair, giveFair}
 use Rattle.pages.specs.Runs.{whole}
 use Rattle.pages.specs.Stack.{pageAt}
 use Rattle.pages.specs.Fair.{headerFair}
-use Rattle.calls.specs.Release.{startOf, inRunOf, pageFair, rowFair}
+use Rattle.calls.specs.Out.{startOf, inRunOf}
+use Rattle.calls.specs.Release.{pageFair, rowFair}
 use Rattle.calls.specs.Chunks.{blocksOn, chunkFits, chunksMatch, returnsAll, runsGiven, pagesGiven, chunksFair}
-use Rattle.pages.proofs.Marks.{isMark}
-use Rattle.release.proofs.Bits.{start-kept}
+use Rattle.release.proofs.Bits.{isBit, start-kept}
 use Rattle.release.proofs.FairSteps.{page-room, page-carved}
 use Rattle.tally.specs.Match.{onPage}
 use Rattle.chunks.specs.PushAsks.{wordsOn}
 
 -- ---- the tests read no out bit
-module _ (b b′ : List ℕ) (h : Changes isMark b b′) where
+module _ (b b′ : List ℕ) (h : Changes isBit b b′) where
   blocks-kept : (ws : List ℕ) (q : ℕ) → blocksOn b′ ws q ≡ blocksOn b ws q
   unfolding blocksOn
   blocks-kept [] q = refl

@@ -1,10 +1,9 @@
--- A group release in passes ends as the definition says (calls, specs/Chunks): the struck blocks back on their stacks, then the pages
+-- A group release in passes ends as the definition says (calls, specs/Chunks): the blocks back on their stacks, then the pages
 -- placed in the chunks' order, is the chunks settled one after the other. Of a class whose runs are one page.
 --     page-start     a word that is out is on the page that its run begins at
---     strikes        all struck: their out bits are 0
 --     settle-as      settling, with each page's stack height and blocks as they were before the first chunk
 --     placed-as      the passes come to the same
---     gathered       the passes on the struck book settle the chunks
+--     gathered       the passes settle the chunks
 use Prim.Native.Nat.{ℕ, _+_, _≤_, _<_}
 use native.Mathlib.Omega.{arith}
 use mathlib.Core.Bool.{Bool, true, false, not, _&&_, true≢false}
@@ -19,21 +18,21 @@ use Rattle.facts.proofs.Lists.{every-same}
 use Rattle.words.specs.Word.{countOf, pageOf}
 use Rattle.classes.specs.declared.Shape.{Shape}
 use Rattle.classes.specs.Sound.{Sound}
-use Rattle.fields.specs.Field.{arena, page, slot, out, frontier, first, free, virgin, get, put, words}
+use Rattle.fields.specs.Field.{arena, page, slot, out, frontier, first, free, virgin, get, words}
 use Rattle.fields.proofs.Laws.{put-comm}
 use Rattle.fields.proofs.Changes.{Changes, changes-trans}
 use Rattle.pages.specs.Runs.{whole}
 use Rattle.pages.specs.Stack.{marks, push, pushed, back, indexOf, pageAt}
 use Rattle.pages.proofs.Downs.{small}
 use Rattle.pages.proofs.Frames.{back-free}
-use Rattle.calls.specs.Release.{startOf, inRunOf, outAt, pageFair}
+use Rattle.calls.specs.Out.{startOf, inRunOf, outAt}
+use Rattle.calls.specs.Release.{pageFair}
 use Rattle.calls.specs.Chunks.{blocksOn, chunkFits, chunksMatch, chunkBackAt, givesOf, Settled, settleChunks}
-use Rattle.release.specs.Strike.{bitOf, struckCount, struck}
-use Rattle.release.proofs.StrikeLaws.{run-of-out, index-of-out, page-of-out}
+use Rattle.release.proofs.OutLaws.{run-of-out, index-of-out, page-of-out}
 use Rattle.release.proofs.FairSteps.{page-room, page-carved}
-use Rattle.chunks.specs.Pass.{pushAll, placeAt, placeAll}
+use Rattle.chunks.specs.Pass.{cleared, pushAll, placeAt, placeAll}
 use Rattle.chunks.proofs.GatherPlace.{stirs, onBook, place-past, place-changes}
-use Rattle.chunks.proofs.GatherPush.{cleared, laid, laidAll, blocksOf, Fits, laid-changes, onPages, pushes}
+use Rattle.chunks.proofs.GatherPush.{laid, laidAll, blocksOf, Fits, laid-changes, onPages, pushes}
 
 -- ---- the words that are out
 module _ (n c : ℕ) (sh : Shape) (s : Sound sh) (one : sh .pages ≡ 1) where
@@ -45,16 +44,6 @@ module _ (n c : ℕ) (sh : Shape) (s : Sound sh) (one : sh .pages ≡ 1) where
       let l = leb-true (startOf b w) p (and-left (leb (startOf b w) p) _ r) in
       let m = ltb-true p (startOf b w + sh .pages) (and-left (ltb p (startOf b w + sh .pages)) (whole n b sh c (startOf b w)) (and-right (leb (startOf b w) p) _ r)) in
       omega arith
-
-  pub strikes : (b : List ℕ) (ws : List ℕ) → struckCount n b c sh ws ≡ length ws → struck n b c sh ws ≡ cleared b sh ws
-  unfolding struckCount struck cleared
-  strikes b [] l = refl
-  strikes b (w ∷ ws) l = by (outAt n b c sh w) refl (strikes (put b (bitOf b sh w) 0) ws)
-    where
-      by : (t : Bool) → outAt n b c sh w ≡ t → (struckCount n (put b (bitOf b sh w) 0) c sh ws ≡ length ws → struck n (put b (bitOf b sh w) 0) c sh ws ≡ cleared (put b (bitOf b sh w) 0) sh ws)
-          → struck n b c sh (w ∷ ws) ≡ cleared b sh (w ∷ ws)
-      by true o z = rw o (z (omega (arith, rw o at l)) ∙ rw (page-start b w o))
-      by false o z = absurd (omega (arith, rw o at l))
 
   -- each on its page, within the book, with a chunk
   pub all-start : (b : List ℕ) (ws : List ℕ) → every (outAt n b c sh) ws ≡ true → every (λ w. eqb (startOf b w) (pageAt w)) ws ≡ true
@@ -208,10 +197,10 @@ module _ (n : ℕ) (b : List ℕ) (c : ℕ) (sh : Shape) (ws : List ℕ) (s : So
   all-free [] = tt
   all-free (q ∷ qs) = (refl, all-free qs)
 
-  pub gathered : (h : ℕ) (gs : List ℕ) → ltb c 76 ≡ true → struckCount n b c sh ws ≡ length ws → chunksMatch b ws gs ≡ true → every (λ g. pageFair b sh (countOf g) (pageOf g)) gs ≡ true
-      → placeAll (pushAll (struck n b c sh ws) sh ws) c sh h gs ≡ settleChunks b c sh h ws gs
+  pub gathered : (h : ℕ) (gs : List ℕ) → ltb c 76 ≡ true → chunksMatch b ws gs ≡ true → every (λ g. pageFair b sh (countOf g) (pageOf g)) gs ≡ true
+      → placeAll (pushAll (cleared b sh ws) sh ws) c sh h gs ≡ settleChunks b c sh h ws gs
   unfolding chunksMatch
-  gathered h gs hc k m f =
+  gathered h gs hc m f =
       let qs = map pageOf gs in
       let fits = every (chunkFits b ws) gs in
       let chunked = every (λ w. elem (startOf b w) qs) ws in
@@ -219,6 +208,6 @@ module _ (n : ℕ) (b : List ℕ) (c : ℕ) (sh : Shape) (ws : List ℕ) (s : So
       let o = all-on-pages n c sh s one b qs ws outs (and-right fits chunked (and-right (distinct qs) (fits && chunked) m)) in
       let a = chunks-fit qs gs o (and-left fits chunked (and-right (distinct qs) (fits && chunked) m)) f in
       let height : ℕ → ℕ = λ q. get b (page free q) in
-      ap (λ d. placeAll d c sh h gs) (ap (λ d. pushAll d sh ws) (strikes n c sh s one b ws k) ∙ pushes sh n height qs u ws o a b hb (λ q. refl))
+      ap (λ d. placeAll d c sh h gs) (pushes sh n height qs u ws o a b hb (λ q. refl))
       ∙ placed-as c sh h hc (s .few) height (blocksOf sh ws) gs u a b
       ∙ sym (settle-as c sh h hc (s .few) height ws gs u a b (all-start n c sh s one b ws outs) (all-free qs))

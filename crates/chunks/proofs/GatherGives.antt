@@ -17,7 +17,7 @@ use Rattle.facts.proofs.Bools.{by-cases, and-left, and-right}
 use Rattle.words.specs.Word.{pageOf}
 use Rattle.classes.specs.declared.Shape.{Shape}
 use Rattle.classes.specs.Sound.{Sound}
-use Rattle.fields.specs.Field.{Field, arena, class, hole, page, out, slot, region, off, emptyCount, coldCount, next, free, carved, virgin, get, put, words}
+use Rattle.fields.specs.Field.{Field, arena, mark, class, hole, page, out, slot, region, off, emptyCount, coldCount, next, free, carved, virgin, get, put, words}
 use Rattle.fields.proofs.Laws.{get-put-same, get-put-other, length-put}
 use Rattle.fields.proofs.Changes.{Changes, changes-none, changes-trans, changes-mono}
 use Rattle.model.specs.Page.{isMedium}
@@ -170,6 +170,7 @@ module _ (c : ℕ) (hc : ltb c 76 ≡ true) (sh : Shape) (s : Sound sh) (h : ℕ
 
   stirs-class : (q : ℕ) (f : Field) → stirs q f ≡ true → ofClass f ≡ true
   stirs-class q (arena k) e = e
+  stirs-class q (mark p j) e = e
   stirs-class q (class k d) e = refl
   stirs-class q (hole k i) e = e
   stirs-class q (page k p) e = refl

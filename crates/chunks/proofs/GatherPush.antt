@@ -1,5 +1,4 @@
--- The struck blocks go back on their pages' stacks in any order of pages: word by word, or page by page.
---     cleared       the listed blocks' out bits set to 0
+-- The listed blocks go back on their pages' stacks in any order of pages: word by word, or page by page.
 --     laid          blocks come back to page q, whose stack has m: `back` (pages, specs/Stack) but for VIRGIN
 --     laidAll       to several pages; h has their stacks' heights, f each one's blocks
 --     blocksOf      a page's blocks of the list
@@ -22,12 +21,8 @@ use Rattle.pages.specs.Stack.{marks, push, indexOf, pageAt}
 use Rattle.pages.proofs.Downs.{small}
 use Rattle.pages.proofs.Marks.{isMark, length-marks, marks-changes}
 use Rattle.pages.proofs.Pushes.{length-push, push-changes}
-use Rattle.chunks.specs.Pass.{pushOne, pushAll}
+use Rattle.chunks.specs.Pass.{cleared, pushOne, pushAll}
 use Rattle.chunks.proofs.GatherPlace.{aside, stirs, stirs-own, own, past-put, past-push, past-marks}
-
-unfoldable pub cleared : List ℕ → Shape → List ℕ → List ℕ
-cleared b sh [] = b
-cleared b sh (w ∷ ws) = cleared (put b (out (pageAt w) (indexOf sh (pageAt w) w)) 0) sh ws
 
 unfoldable pub laid : List ℕ → ℕ → ℕ → List ℕ → List ℕ
 laid b q m is = put (push (marks b q 0 is) q m is) (page free q) (m + length is)

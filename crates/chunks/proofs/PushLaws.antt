@@ -1,8 +1,9 @@
--- Blocks pushed one after another, the list's last first.
+-- Blocks taken, and pushed one after another, the list's last first.
 --     push-length     the book's length stays
 --     push-free       FREE of a page grows by the words on it
 use Prim.Native.Nat.{ℕ, zero, suc, _+_, _-_, _≤_, _<_}
 use native.Mathlib.Omega.{arith}
+use native.Mathlib.Numerals.{add-one}
 use mir.Val.{Fits}
 use mir.Syntax.{w32}
 use mathlib.Core.Bool.{true, false}
@@ -11,13 +12,16 @@ use mathlib.Core.Path.{_≡_, refl, sym, ap, _∙_}
 use lib.Dec.{eqb, ltb}
 use lib.ListN.{length, getD, drop}
 use lib.Seq.{drop-cons, drop-length}
-use borrow.Author.Tests.{lt-ltb, le-leb, eqb-true, eq-eqb}
-use Rattle.facts.proofs.Bools.{by-cases}
+use borrow.Author.Tests.{lt-ltb, ltb-true, le-leb, eqb-true, eq-eqb}
+use Rattle.facts.proofs.Bools.{by-cases, and-left, and-right}
+use Rattle.facts.proofs.Lists.{drop-past, every-get}
 use Rattle.classes.specs.declared.Shape.{Shape}
-use Rattle.fields.specs.Field.{page, slot, free, words, get, put, Has}
+use Rattle.fields.specs.Field.{page, slot, out, free, words, get, put, Has}
 use Rattle.fields.proofs.Laws.{get-put-same, get-put-other, length-put}
+use Rattle.pages.specs.Asks.{IndexAsks}
 use Rattle.pages.specs.Stack.{indexOf, pageAt}
-use Rattle.chunks.specs.Pass.{pushOne, pushAll}
+use Rattle.chunks.specs.CallAsks.{hasBit, BitsAsks}
+use Rattle.chunks.specs.Pass.{cleared, pushOne, pushAll}
 use Rattle.chunks.specs.PushAsks.{wordsOn, PushOneAsks, PushAllAsks}
 
 -- ---- one block
@@ -151,3 +155,56 @@ module _ (b₀ : List ℕ) (sh : Shape) (ws : List ℕ) where
 
   pub pushing-done : (b : List ℕ) (i : ℕ) → i ≡ 0 → Pushing b i → b ≡ pushAll b₀ sh ws
   pushing-done b i h v = rw h at (v .laid)
+
+-- ---- the blocks taken
+module _ (n : ℕ) (b : List ℕ) (sh : Shape) (w q : ℕ) (a : BitsAsks n b sh (w ∷ [])) (e : q ≡ pageAt w) where
+  word-bit : hasBit n sh w ≡ true
+  word-bit = and-left (hasBit n sh w) true (a .bits)
+
+  page-low : pageAt w < n
+  unfolding hasBit
+  page-low = ltb-true (pageAt w) n (and-left (ltb (pageAt w) n) _ word-bit)
+
+  pub take-index : IndexAsks sh q
+  take-index = record { sound = a .sound; below = omega (arith, page-low, a .few) }
+
+  module _ (k : ℕ) (f : k ≡ indexOf sh q w) where
+    index-low : indexOf sh (pageAt w) w < 4096
+    unfolding hasBit
+    index-low = ltb-true (indexOf sh (pageAt w) w) 4096 (and-right (ltb (pageAt w) n) _ word-bit)
+
+    pub take-there : Has b (out q k)
+    take-there =
+        let z : k ≡ indexOf sh (pageAt w) w = f ∙ ap (λ p. indexOf sh p w) e in
+        omega (arith, index-low, page-low, a .long)
+
+    pub take-done : (b′ : List ℕ) → b′ ≡ put b (out q k) 0 → b′ ≡ put b (out (pageAt w) (indexOf sh (pageAt w) w)) 0
+    take-done b′ l = l ∙ rw (f, e)
+
+module _ (n : ℕ) (b₀ : List ℕ) (sh : Shape) (ws : List ℕ) where
+  -- those before place i are out no longer
+  pub record Clearing (b : List ℕ) (i : ℕ) : Type 0 where
+    pub within : i ≤ length ws
+    pub long : length b ≡ length b₀
+    pub rest : cleared b sh (drop i ws) ≡ cleared b₀ sh ws
+
+  pub clearing-none : Clearing b₀ 0
+  clearing-none = record { within = omega arith; long = refl; rest = refl }
+
+  module _ (b : List ℕ) (i : ℕ) (v : Clearing b i) (l : i < length ws) where
+    pub clearing-asks : BitsAsks n b₀ sh ws → BitsAsks n b sh (getD ws i 0 ∷ [])
+    clearing-asks a = record { sound = a .sound; few = a .few; long = rw (v .long) (a .long); bits = rw (every-get (hasBit n sh) ws i (a .bits) l) }
+
+    pub clearing-more : (b′ : List ℕ) → b′ ≡ put b (out (pageAt (getD ws i 0)) (indexOf sh (pageAt (getD ws i 0)) (getD ws i 0))) 0 → Clearing b′ (i + 1)
+    unfolding cleared
+    clearing-more b′ e =
+        let w = getD ws i 0 in
+        record {
+          within = omega arith;
+          long = ap length e ∙ length-put b (out (pageAt w) (indexOf sh (pageAt w) w)) 0 ∙ v .long;
+          rest = rw (add-one i, e) (rw (drop-cons ws i 0 l) at (v .rest));
+        }
+
+  pub clearing-done : (b : List ℕ) (i : ℕ) → Clearing b i → length ws ≤ i → b ≡ cleared b₀ sh ws
+  unfolding cleared
+  clearing-done b i v l = rw (drop-past ws i l) at (v .rest)

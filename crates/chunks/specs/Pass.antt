@@ -1,6 +1,7 @@
--- The act of a group release in passes over the list and the chunks, on a book whose listed blocks are struck (release, specs/Strike).
+-- The act of a group release in passes over the list and the chunks.
 -- It ends as `settleChunks` (calls, specs/Chunks) says, which goes chunk by chunk. A small class's run is one page, so that a block's
 -- page is the one that has its granule.
+--     cleared      the listed blocks are out no longer
 --     pushAll      the listed blocks back on their pages' stacks, the list's last first
 --     placeAt      where a chunk's page goes, once its blocks are back
 --     placeAll     the chunks in order
@@ -10,10 +11,14 @@ use mathlib.Core.Bool.{true}
 use mathlib.Core.List.{List, [], _∷_, _++_}
 use Rattle.words.specs.Word.{pageOf}
 use Rattle.classes.specs.declared.Shape.{Shape}
-use Rattle.fields.specs.Field.{page, slot, free, virgin, get, put}
+use Rattle.fields.specs.Field.{page, slot, out, free, virgin, get, put}
 use Rattle.pages.specs.Stack.{indexOf, pageAt}
 use Rattle.calls.specs.Release.{Released, placed}
 use Rattle.calls.specs.Chunks.{givesOf, Settled}
+
+unfoldable pub cleared : List ℕ → Shape → List ℕ → List ℕ
+cleared b sh [] = b
+cleared b sh (w ∷ ws) = cleared (put b (out (pageAt w) (indexOf sh (pageAt w) w)) 0) sh ws
 
 -- block i on the stack of page q
 unfoldable pub pushOne : List ℕ → ℕ → ℕ → List ℕ

@@ -1,19 +1,19 @@
 // A group release: the numbers in their order, each over both lists, and then the passes. A refusal leaves every word as it was.
 ghost use Rattle.calls.specs.Chunks.{releaseChunks};
-ghost use Rattle.chunks.specs.CallAsks.{allPlaced, settledTo, passes, CallAsks, StrikeAsks, StruckAsks, SettleAsks, ChunksAnswered};
+ghost use Rattle.chunks.specs.CallAsks.{allPlaced, settledTo, passes, CallAsks, ListedAsks, PassAsks, SettleAsks, ChunksAnswered};
 use super::fair::chunks_fair;
 use super::gives::give_chunks;
 use super::place::place_chunks;
 use super::push::push_blocks;
+use super::push::take_blocks;
 use classes::Shape;
 use release::all_of_kind;
-use release::strike::strike;
-use release::strike::unstrike;
+use release::out_fault;
 use tally::MAX_CHUNKS;
 use tally::chunks_match;
 use words::Word;
 
-// The struck blocks back on their stacks, their pages placed, and the runs that leave the class to the arena.
+// The blocks back on their stacks, their pages placed, and the runs that leave the class to the arena.
 fn settle_chunks(
     meta: &mut [u32],
     n: u32,
@@ -32,7 +32,7 @@ fn settle_chunks(
     give_chunks(meta, n, shape, chunks, fates);
 }
 
-// Numbers 11 and 13, and the passes; a refusal leaves the listed blocks struck.
+// Numbers 11 and 13, and the passes.
 fn pass_chunks(
     meta: &mut [u32],
     n: u32,
@@ -43,11 +43,12 @@ fn pass_chunks(
     chunks: &[u32],
     fates: &mut [u32],
 ) -> u32
-    requires { ⌜ StruckAsks n (now meta) c shape (now list) (now chunks) (now fates) ⌝ }
+    requires { ⌜ PassAsks n (now meta) c shape (now list) (now chunks) (now fates) ⌝ }
     ensures { λ r. ⌜ ChunksAnswered r (now (meta .exit)) (now (fates .exit)) (passes n (now (meta .entry)) c shape host (now (list .entry)) (now (chunks .entry)) (now (fates .entry))) ⌝ }
 {
     if chunks_match(meta, n, list, chunks) {
         if chunks_fair(meta, n, c, shape, chunks) {
+            take_blocks(meta, n, shape, list);
             settle_chunks(meta, n, c, shape, host, list, chunks, fates);
             return 0;
         }
@@ -56,8 +57,8 @@ fn pass_chunks(
     11
 }
 
-// Number 10, and those after it.
-fn strike_chunks(
+// Numbers 13 for a mark, 15 and 10, and those after them.
+fn test_chunks(
     meta: &mut [u32],
     n: u32,
     c: u32,
@@ -67,20 +68,14 @@ fn strike_chunks(
     chunks: &[u32],
     fates: &mut [u32],
 ) -> u32
-    requires { ⌜ StrikeAsks n (now meta) c shape (now list) (now chunks) (now fates) ⌝ }
+    requires { ⌜ ListedAsks n (now meta) c shape (now list) (now chunks) (now fates) ⌝ }
     ensures { λ r. ⌜ ChunksAnswered r (now (meta .exit)) (now (fates .exit)) (releaseChunks n (now (meta .entry)) c shape host (now (list .entry)) (now (chunks .entry)) (now (fates .entry))) ⌝ }
 {
-    let count = strike(meta, n, c, shape, list, 0);
-    if count != list.len() {
-        unstrike(meta, shape, list, count);
-        return 10;
+    let fault = out_fault(meta, n, c, shape, list);
+    if fault != 0 {
+        return fault;
     }
-    let code = pass_chunks(meta, n, c, shape, host, list, chunks, fates);
-    if code == 0 {
-        return code;
-    }
-    unstrike(meta, shape, list, count);
-    code
+    pass_chunks(meta, n, c, shape, host, list, chunks, fates)
 }
 
 // Numbers 7, 8 and 9, and those after them.
@@ -111,7 +106,7 @@ pub fn release_chunks(
     }
     if all_of_kind(list, shape.kind) {
         if all_of_kind(chunks, Word::CHUNK) {
-            return strike_chunks(meta, n, c, shape, host, list, chunks, fates);
+            return test_chunks(meta, n, c, shape, host, list, chunks, fates);
         }
         return 9;
     }

@@ -1,13 +1,38 @@
-// The listed blocks, which are struck, back on their pages' stacks.
+// The listed blocks, back on their pages' stacks: first they are out no longer.
 ghost use mathlib.Core.Path.{_≡_};
+ghost use mathlib.Core.List.{[], _∷_};
+ghost use Rattle.fields.specs.Field.{out, put};
 ghost use Rattle.pages.specs.Stack.{indexOf, pageAt};
 ghost use Rattle.stack.specs.Inverse.{inverse};
-ghost use Rattle.chunks.specs.Pass.{pushOne, pushAll};
+ghost use Rattle.chunks.specs.Pass.{cleared, pushOne, pushAll};
 ghost use Rattle.chunks.specs.PushAsks.{PushOneAsks, PushAllAsks};
+ghost use Rattle.chunks.specs.CallAsks.{BitsAsks};
 use classes::Shape;
 use pages::page_at;
 use stack::index_by;
 use stack::inverse_of;
+
+// A word's block is out no longer.
+fn take_block(meta: &mut [u32], n: u32, shape: Shape, inv: u64, w: u32)
+    requires { ⌜ BitsAsks n (now meta) shape (w ∷ []) ⌝ }
+    requires { ⌜ inv ≡ inverse (shape .block) ⌝ }
+    ensures { λ _. ⌜ now (meta .exit) ≡ put (now (meta .entry)) (out (pageAt w) (indexOf shape (pageAt w) w)) 0 ⌝ }
+{
+    let q = page_at(w);
+    fields::out::set_bit(meta, q, index_by(shape, inv, q, w), 0);
+}
+
+pub fn take_blocks(meta: &mut [u32], n: u32, shape: Shape, list: &[u32])
+    requires { ⌜ BitsAsks n (now meta) shape (now list) ⌝ }
+    ensures { λ _. ⌜ now (meta .exit) ≡ cleared (now (meta .entry)) shape (now (list .entry)) ⌝ }
+{
+    let inv = inverse_of(shape.block);
+    let mut i = 0;
+    while i < list.len() {
+        take_block(meta, n, shape, inv, list[i]);
+        i += 1;
+    }
+}
 
 fn push_block(meta: &mut [u32], shape: Shape, inv: u64, w: u32)
     requires { ⌜ PushOneAsks (now meta) shape w ⌝ }

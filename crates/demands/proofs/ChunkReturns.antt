@@ -24,20 +24,22 @@ use Rattle.model.specs.Calls as Calls
 use Rattle.model.specs.Calls.{Call, Named, names, isRefused}
 use Rattle.model.specs.Page.{isOut}
 use Rattle.model.specs.Class.{Class, serve}
-use Rattle.model.specs.Release.{Site, locate, ofKind, outHere}
+use Rattle.model.specs.Release.{Site, locate, ofKind, outHere, repeats}
 use Rattle.model.specs.Chunks.{chunksMax, startsAt, blocksOn, fitsOn, chunkFits, chunkedOn, chunked, releaseChunks, answer}
 use Rattle.model.specs.Heap.{offer, finish, interact, classCall}
 use Rattle.model.specs.History.{heapAfter}
+use Rattle.model.specs.Entries.{AllOut}
 use Rattle.model.proofs.Counts.{elem-count, every-count}
 use Rattle.model.proofs.Pages.{outOf, is-out}
 use Rattle.model.proofs.Sites.{Once, GoodClass, SiteLaw, SiteLaws, Tells, outFrom, locate-law, locate-tells}
 use Rattle.pages.specs.Stack.{pageAt}
+use Rattle.refinement.proofs.OutTests.{once-here}
 use Rattle.demands.specs.Run.{Opens, next, told}
-use Rattle.demands.specs.Returns.{ChunksOut, countFits}
+use Rattle.demands.specs.Returns.{Twice, Plain, ChunksOut, countFits}
 use Rattle.demands.proofs.Calls.{room}
-use Rattle.demands.proofs.Codes.{next-host, next-unrefused, next-zero}
+use Rattle.demands.proofs.Codes.{next-host, next-answer, next-unrefused, next-zero}
 use Rattle.demands.proofs.Places.{out-block, page-of, Lies, lies, same-page, good-class, once-class, low-site}
-use Rattle.demands.proofs.Returns.{elem-first, elem-later, passed, all-out, out-all}
+use Rattle.demands.proofs.Returns.{elem-first, elem-later, passed, single-here, all-out, out-all, twice-repeats, no-twice, not-all}
 
 -- ---- lists
 every-is : (t u : ℕ → Bool) (ws : List ℕ) → ((w : ℕ) → elem w ws ≡ true → t w ≡ u w) → every t ws ≡ every u ws
@@ -125,10 +127,11 @@ module _ (sh : Shape) (s : Class) (h : ℕ) (ws gs fs : List ℕ) (g : Option �
       let p7 = passed s 7 (isNil ws || isNil gs) _ g u in
       let p8 = passed s 8 (ltb chunksMax (length gs) || ltb (length fs) (length gs)) _ g (p7 .1) in
       let p9 = passed s 9 (not (every (ofKind (sh .kind)) ws && every (ofKind chunkKind) gs)) _ g (p8 .1) in
-      let p10 = passed s 10 (not (every (outHere sh s) ws && distinct ws)) _ g (p9 .1) in
+      let p15 = passed s 15 (repeats sh s ws) _ g (p9 .1) in
+      let p10 = passed s 10 (not (every (outHere sh s) ws)) _ g (p15 .1) in
       let p11 = passed s 11 (not (distinct (map pageOf gs) && (every (chunkFits sh s ws) gs && every (chunked sh s gs) ws))) _ g (p10 .1) in
       let t9 = not-false (every (ofKind (sh .kind)) ws && every (ofKind chunkKind) gs) (p9 .0) in
-      let t10 = not-false (every (outHere sh s) ws && distinct ws) (p10 .0) in
+      let t10 = not-false (every (outHere sh s) ws) (p10 .0) in
       let t11 = not-false (distinct (map pageOf gs) && (every (chunkFits sh s ws) gs && every (chunked sh s gs) ws)) (p11 .0) in
       let u11 = and-right (distinct (map pageOf gs)) (every (chunkFits sh s ws) gs && every (chunked sh s gs) ws) t11 in
       record {
@@ -138,8 +141,8 @@ module _ (sh : Shape) (s : Class) (h : ℕ) (ws gs fs : List ℕ) (g : Option �
         room = nor-right (ltb chunksMax (length gs)) (ltb (length fs) (length gs)) (p8 .0);
         kinds = and-left (every (ofKind (sh .kind)) ws) (every (ofKind chunkKind) gs) t9;
         groupKinds = and-right (every (ofKind (sh .kind)) ws) (every (ofKind chunkKind) gs) t9;
-        out = and-left (every (outHere sh s) ws) (distinct ws) t10;
-        single = and-right (every (outHere sh s) ws) (distinct ws) t10;
+        out = t10;
+        single = once-here sh s ws (p15 .0) t10;
         pages = and-left (distinct (map pageOf gs)) (every (chunkFits sh s ws) gs && every (chunked sh s gs) ws) t11;
         counts = and-left (every (chunkFits sh s ws) gs) (every (chunked sh s gs) ws) u11;
         present = and-right (every (chunkFits sh s ws) gs) (every (chunked sh s gs) ws) u11;
@@ -148,7 +151,18 @@ module _ (sh : Shape) (s : Class) (h : ℕ) (ws gs fs : List ℕ) (g : Option �
   tests-chunks : Tests → isRefused (serve (answer sh s (Calls.giveChunks h ws gs fs)) g .answer) ≡ false
   unfolding answer releaseChunks
   tests-chunks t =
-      rw (t .listed, t .grouped, t .few, t .room, t .kinds, t .groupKinds, t .out, t .single, t .pages, t .counts, t .present)
+      rw (t .listed, t .grouped, t .few, t .room, t .kinds, t .groupKinds, single-here sh s ws (t .out) (t .single), t .out, t .pages, t .counts, t .present)
+
+  -- the lists pass all tests before 15, and fail that of 15, or that of 10
+  module _ (listed : isNil ws ≡ false) (grouped : isNil gs ≡ false) (few : ltb chunksMax (length gs) ≡ false) (room : ltb (length fs) (length gs) ≡ false)
+      (kinds : every (ofKind (sh .kind)) ws ≡ true) (groupKinds : every (ofKind chunkKind) gs ≡ true) where
+    refused-fifteen : repeats sh s ws ≡ true → serve (answer sh s (Calls.giveChunks h ws gs fs)) g .answer ≡ Calls.refused 15
+    unfolding answer releaseChunks
+    refused-fifteen t = rw (listed, grouped, few, room, kinds, groupKinds, t)
+
+    refused-ten : repeats sh s ws ≡ false → every (outHere sh s) ws ≡ false → serve (answer sh s (Calls.giveChunks h ws gs fs)) g .answer ≡ Calls.refused 10
+    unfolding answer releaseChunks
+    refused-ten u t = rw (listed, grouped, few, room, kinds, groupKinds, u, t)
 
 -- ---- on the words
 small-paged : (c : ℕ) → c < 64 → shapeOf c .pages ≡ 1
@@ -192,13 +206,15 @@ module _ (n : ℕ) (b : List ℕ) (o : Opens n b) (xs : List Call) (c h : ℕ) (
 
   tests-out : badHost h ≡ false → Tests (shapeOf c) class h ws gs fs gives → ChunksOut (told n b xs) c h ws gs fs
   tests-out host t = record {
-    host = ltb-false hostMax h host;
-    listed = t .listed;
-    grouped = t .grouped;
-    few = ltb-false chunksMax (length gs) (t .few);
-    room = ltb-false (length fs) (length gs) (t .room);
-    kinds = t .kinds;
-    groupKinds = t .groupKinds;
+    plain = record {
+      host = ltb-false hostMax h host;
+      listed = t .listed;
+      grouped = t .grouped;
+      few = ltb-false chunksMax (length gs) (t .few);
+      room = ltb-false (length fs) (length gs) (t .room);
+      kinds = t .kinds;
+      groupKinds = t .groupKinds;
+    };
     out = all-out n b o xs c ws (t .out) (t .single);
     pages = t .pages;
     counts = sym (counts-told (t .out)) ∙ t .counts;
@@ -209,12 +225,12 @@ module _ (n : ℕ) (b : List ℕ) (o : Opens n b) (xs : List Call) (c h : ℕ) (
   out-tests p =
       let out = out-all n b o xs c ws (p .out) in
       record {
-        listed = p .listed;
-        grouped = p .grouped;
-        few = le-ltb chunksMax (length gs) (p .few);
-        room = le-ltb (length fs) (length gs) (p .room);
-        kinds = p .kinds;
-        groupKinds = p .groupKinds;
+        listed = p .plain .listed;
+        grouped = p .plain .grouped;
+        few = le-ltb chunksMax (length gs) (p .plain .few);
+        room = le-ltb (length fs) (length gs) (p .plain .room);
+        kinds = p .plain .kinds;
+        groupKinds = p .plain .groupKinds;
         out = out;
         single = p .out .once;
         pages = p .pages;
@@ -225,9 +241,34 @@ module _ (n : ℕ) (b : List ℕ) (o : Opens n b) (xs : List Call) (c h : ℕ) (
   pub chunks-return-of : (next n b xs x .code ≡ 0) ↔ ChunksOut (told n b xs) c h ws gs fs
   chunks-return-of = (
     λ z. let host = next-host n b o xs x named names-it z in tests-out host (passes host z),
-    λ p. returned (le-ltb hostMax h (p .host)) (out-tests p),
+    λ p. returned (le-ltb hostMax h (p .plain .host)) (out-tests p),
   )
+
+  module _ (p : Plain c h ws gs fs) where
+    abbrev class-answer : next n b xs x .answer ≡ classCall n (heapAfter n xs) c (Calls.giveChunks h ws gs fs) .answer
+    class-answer = next-answer n b o xs x named names-it (le-ltb hostMax h (p .host))
+
+    pub repeated-of : Twice (told n b xs) c ws → next n b xs x .answer ≡ Calls.refused 15
+    unfolding classCall interact finish
+    repeated-of t =
+        class-answer
+        ∙ refused-fifteen (shapeOf c) class h ws gs fs gives (p .listed) (p .grouped) (le-ltb chunksMax (length gs) (p .few)) (le-ltb (length fs) (length gs) (p .room)) (p .kinds) (p .groupKinds) (twice-repeats n b o xs c ws t)
+
+    pub not-out-of : (Twice (told n b xs) c ws → ⊥) → (AllOut (told n b xs) c ws → ⊥) → next n b xs x .answer ≡ Calls.refused 10
+    unfolding classCall interact finish
+    not-out-of t r =
+        let u = no-twice n b o xs c ws t in
+        class-answer
+        ∙ refused-ten (shapeOf c) class h ws gs fs gives (p .listed) (p .grouped) (le-ltb chunksMax (length gs) (p .few)) (le-ltb (length fs) (length gs) (p .room)) (p .kinds) (p .groupKinds) u (not-all n b o xs c ws u r)
 
 pub chunks-return : (n : ℕ) (b : List ℕ) → Opens n b → (xs : List Call) (c h : ℕ) (ws gs fs : List ℕ) → c < 64
     → (next n b xs (Calls.releaseBinChunks c h ws gs fs) .code ≡ 0) ↔ ChunksOut (told n b xs) c h ws gs fs
 chunks-return n b o xs c h ws gs fs l = chunks-return-of n b o xs c h ws gs fs l
+
+pub chunks-repeated : (n : ℕ) (b : List ℕ) → Opens n b → (xs : List Call) (c h : ℕ) (ws gs fs : List ℕ) → c < 64 → Plain c h ws gs fs → Twice (told n b xs) c ws
+    → next n b xs (Calls.releaseBinChunks c h ws gs fs) .answer ≡ Calls.refused 15
+chunks-repeated n b o xs c h ws gs fs l = repeated-of n b o xs c h ws gs fs l
+
+pub chunks-not-out : (n : ℕ) (b : List ℕ) → Opens n b → (xs : List Call) (c h : ℕ) (ws gs fs : List ℕ) → c < 64 → Plain c h ws gs fs → (Twice (told n b xs) c ws → ⊥) → (AllOut (told n b xs) c ws → ⊥)
+    → next n b xs (Calls.releaseBinChunks c h ws gs fs) .answer ≡ Calls.refused 10
+chunks-not-out n b o xs c h ws gs fs l = not-out-of n b o xs c h ws gs fs l

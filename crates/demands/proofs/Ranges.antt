@@ -1,9 +1,9 @@
 -- Number 13's tests are the table of Specs/Ranges over the rows that the call reads. n is the arena's length, LENGTH of the book.
-use Prim.Native.Nat.{ℕ, zero, suc, _+_, _-_, _≤_, min}
+use Prim.Native.Nat.{ℕ, zero, suc, _+_, _-_, _/_, _≤_, min}
 use native.Mathlib.Omega.{arith}
 use native.Mathlib.Nat.{add-zero}
 use mathlib.Core.Bool.{Bool, true, false, cond, not, _&&_, _||_, and-true, and-false, and-assoc, and-comm}
-use mathlib.Core.List.{List, [], _∷_, _++_}
+use mathlib.Core.List.{List, [], _∷_, _++_, map}
 use mathlib.Core.Path.{_≡_, refl, sym, ap, _∙_}
 use lib.Dec.{eqb, ltb, leb}
 use lib.ListN.{length}
@@ -19,18 +19,19 @@ use Rattle.model.specs.Spot.{isArena}
 use Rattle.arena.specs.Load.{loadHoles}
 use Rattle.arena.specs.Fair.{recordFair, holeFair, holesFair, commitFair, giveFair, countsFair, allCountsFair, reportFair}
 use Rattle.pages.specs.Runs.{ofRun, whole}
-use Rattle.pages.specs.Stack.{tops, latest, hasMore}
+use Rattle.pages.specs.Stack.{tops, latest, hasMore, indexOf}
 use Rattle.pages.proofs.Draws.{latest-length}
 use Rattle.pages.specs.Links.{top, stored}
 use Rattle.pages.specs.Fair.{headerFair, linksFair}
 use Rattle.pages.specs.declared.Park.{Park}
 use Rattle.pages.specs.declared.Park.the-variants.{Empty, Cold}
 use Rattle.calls.specs.Take.{pageReady, sound, walk, parkFair}
+use Rattle.calls.specs.Out.{startOf, outs, clean, unmarked}
 use Rattle.calls.specs.Release.{pageFair, rowFair, spotAt, spotFair, releaseFair}
 use Rattle.calls.specs.Chunks.{pagesGiven, chunksFair}
-use Rattle.demands.specs.Ranges.{Link, partialOf, emptyOf, coldOf, nextOf, prevOf, linkField, Use, stateKnown, frontierFits, holesFew, holePagesFew, heldFits, holeEnds, code, visited, emptyFew, emptyTaken, coldFew, coldTaken, ownerIs, firstIs, prevIs, listedFlag, listedYes, listedNo, freeFits, freeWith, carvedFits, virginFlag, inRange, fits, strays}
+use Rattle.demands.specs.Ranges.{Link, partialOf, emptyOf, coldOf, nextOf, prevOf, linkField, Use, stateKnown, frontierFits, holesFew, holePagesFew, heldFits, holeEnds, code, visited, emptyFew, emptyTaken, coldFew, coldTaken, ownerIs, firstIs, prevIs, listedFlag, listedYes, listedNo, freeFits, markClear, freeWith, carvedFits, virginFlag, inRange, fits, strays}
 use Rattle.demands.specs.Number13.{takeFair, Number13}
-use Rattle.demands.specs.Reads.{countReads, recordReads, holeReads, commitReads, giveReads, parkedReads, reportReads, runReads, entryReads, pageReads, walkReads, walkVisits, parkReads, takeReads, takeVisits, supply, yields, yieldAll, barren, backReads, rowReads, releaseReads, backsReads, chunksReads}
+use Rattle.demands.specs.Reads.{countReads, recordReads, holeReads, commitReads, giveReads, parkedReads, reportReads, runReads, entryReads, pageReads, walkReads, walkVisits, parkReads, takeReads, takeVisits, supply, yields, yieldAll, barren, markReads, backReads, rowReads, releaseReads, backsReads, chunksReads}
 use Rattle.demands.proofs.RefusalsLaws.{not-and}
 
 -- ---- conjunctions
@@ -84,6 +85,17 @@ module _ (b : List ℕ) where
   report-ranges : reportFair (get b (arena size)) b ≡ fits b reportReads
   unfolding reportFair allCountsFair reportReads
   report-ranges = rw (record-ranges, parked-ranges (below classCount), fits-append)
+
+-- ---- marks
+module _ (b : List ℕ) (c : ℕ) (sh : Shape) where
+  mark-ranges : (ws : List ℕ) → every (clean b sh) ws ≡ fits b (map (λ w. markClear (startOf b w) (indexOf sh (startOf b w) w / 32)) ws)
+  unfolding fits
+  mark-ranges [] = refl
+  mark-ranges (w ∷ ws) = ap (λ (t : Bool). clean b sh w && t) (mark-ranges ws)
+
+  marks-ranges : (ws : List ℕ) → unmarked (get b (arena size)) b c sh ws ≡ fits b (markReads b c sh ws)
+  unfolding unmarked markReads
+  marks-ranges ws = mark-ranges (outs (get b (arena size)) b c sh ws)
 
 -- ---- releases
 back-as : (c f i l k : Bool) → ((c && (f && i)) && (l && k)) ≡ (c && (f && (l && (i && k))))
@@ -295,6 +307,7 @@ number-13 b = record {
   give = give-ranges b;
   report = report-ranges b;
   take = take-ranges b;
+  marks = marks-ranges b;
   release = release-ranges b;
   chunks = chunks-ranges b;
 }
@@ -321,6 +334,10 @@ module _ (b : List ℕ) where
     pub take-strays : not (takeFair (get b (arena size)) b c sh) ≡ (strays b (takeReads b c sh) || barren b c sh)
     unfolding strays barren
     take-strays = ap not (take-ranges b c sh) ∙ not-and (fits b (takeReads b c sh)) (yieldAll b c sh)
+
+    pub marks-strays : (ws : List ℕ) → not (unmarked (get b (arena size)) b c sh ws) ≡ strays b (markReads b c sh ws)
+    unfolding strays
+    marks-strays ws = ap not (marks-ranges b c sh ws)
 
     pub release-strays : (m q : ℕ) → not (releaseFair (get b (arena size)) b c sh m q) ≡ strays b (releaseReads b c sh m q)
     unfolding strays

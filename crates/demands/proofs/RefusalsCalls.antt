@@ -7,7 +7,7 @@ use mathlib.Core.Option.{Option, none, some}
 use mathlib.Core.Path.{_≡_, refl, _∙_}
 use lib.Dec.{eqb, ltb, leb}
 use lib.ListN.{length}
-use Rattle.facts.specs.Lists.{isNil, every, distinct}
+use Rattle.facts.specs.Lists.{isNil, every}
 use Rattle.facts.proofs.Bools.{by-cases}
 use Rattle.words.specs.Host.{badHost}
 use Rattle.words.specs.Word.{chunkKind}
@@ -30,7 +30,8 @@ use Rattle.pages.specs.declared.Park.the-variants.{Empty, Cold}
 use Rattle.pages.specs.Stack.{indexOf}
 use Rattle.calls.specs.Take.{Took, tookNone, walk, parkFair, fromPartial, fromPark, onRun, takeNew, takeBlocks, takeCall}
 use Rattle.calls.specs.Release as Back
-use Rattle.calls.specs.Release.{releasedNone, startOf, outAt, firstOf, giveBackAt, lastStep, releaseFair, releaseBlocks}
+use Rattle.calls.specs.Out.{startOf, outAt, unmarked, repeats, outFault}
+use Rattle.calls.specs.Release.{releasedNone, firstOf, giveBackAt, lastStep, releaseFair, releaseBlocks}
 use Rattle.calls.specs.Chunks.{ChunksReleased, chunksNone, chunksFair, releaseChunks}
 use Rattle.direct.specs.declared.Report.{Report}
 use Rattle.direct.specs.Answer.{reportOf}
@@ -40,10 +41,10 @@ use Rattle.vigbuso.specs.Direct.{openOn, commitOn, growOn, reportOn, reportCode
 use Rattle.vigbuso.specs.Blocks as Blocks
 use Rattle.vigbuso.specs.Blocks.{takeOn, chunksOn}
 use Rattle.trace.proofs.Refused.{give-zero}
-use Rattle.demands.specs.Refusals.{shortList, nothingListed, manyChunks, wrongKind, notOut, otherPage, chunksDiffer, notHeld, openTable, commitTable, growTable, giveTable, reportTable, takeTable, releaseTable, chunksTable, rateTable, gameTable, listingTable}
+use Rattle.demands.specs.Refusals.{shortList, nothingListed, manyChunks, wrongKind, otherPage, chunksDiffer, notHeld, openTable, commitTable, growTable, giveTable, reportTable, takeTable, releaseTable, chunksTable, rateTable, gameTable, listingTable}
 use Rattle.demands.specs.Number13.{takeFair}
-use Rattle.demands.proofs.Ranges.{record-strays, commit-strays, give-strays, report-strays, take-strays, release-strays, chunks-strays}
-use Rattle.demands.proofs.RefusalsLaws.{not-and, le-not-lt, Ends, ends, turn, unless, book-turn, chain, choose, before}
+use Rattle.demands.proofs.Ranges.{record-strays, commit-strays, give-strays, report-strays, take-strays, marks-strays, release-strays, chunks-strays}
+use Rattle.demands.proofs.RefusalsLaws.{not-and, le-not-lt, Ends, ends, turn, unless, out-turn, book-turn, chain, choose, before}
 
 -- ---- opening
 pub open-table : (b : List ℕ) (n : ℕ) → Ends {R = Outcome} (λ o. o .code) (λ o. o .book ≡ b) (openTable b n) (openOn b n)
@@ -156,21 +157,20 @@ last-code sh q r = same (eqb (r .fate) 2)
     same false = refl
 
 pub release-table : (low many : ℕ) (b : List ℕ) (c h : ℕ) (ws : List ℕ) → Ends {R = Back.Released} (λ o. o .code) (λ o. o .book ≡ b) (releaseTable low many b c h ws) (Blocks.releaseOn low many b c h ws)
-unfolding Blocks.releaseOn classFault callFault metaFault releaseBlocks
+unfolding Blocks.releaseOn classFault callFault metaFault releaseBlocks outFault
 release-table low many b c h ws =
     let n = get b (arena size) in
     let sh = shapeOf (low + c) in
     let q = startOf b (firstOf ws) in
     let is = map (indexOf sh q) ws in
-    rw (← (release-strays b (low + c) sh (length ws) q), chain (callFault b h) 4 (leb many c) (releasedNone b) _ refl, chain (metaFault b) 3 (badHost h) (releasedNone b) _ refl)
+    rw (← (release-strays b (low + c) sh (length ws) q), ← (marks-strays b (low + c) sh ws), chain (callFault b h) 4 (leb many c) (releasedNone b) _ refl, chain (metaFault b) 3 (badHost h) (releasedNone b) _ refl)
     (book-turn _ _ _ (releasedNone b) _ (λ k. refl) (λ k. refl)
     (turn _ _ (badHost h) 3 _ _ _ refl refl λ e.
     turn _ _ (leb many c) 4 _ _ _ refl refl λ e.
-    rw (not-and (every (outAt n b (low + c) sh) ws) (distinct ws))
-    (turn _ _ (isNil ws) 7 _ _ _ refl refl λ e.
+    turn _ _ (isNil ws) 7 _ _ _ refl refl λ e.
     turn _ _ (wrongKind (sh .kind) ws) 9 _ _ _ refl refl λ e.
-    turn _ _ (notOut n b (low + c) sh ws) 10 _ _ _ refl refl λ e.
-    turn _ _ (otherPage b ws) 11 _ _ _ refl refl λ e.
+    out-turn _ _ (unmarked n b (low + c) sh ws) (repeats n b (low + c) sh ws) (every (outAt n b (low + c) sh) ws) _ (releasedNone b) _ (λ k. refl) (λ k. refl)
+    (turn _ _ (otherPage b ws) 11 _ _ _ refl refl λ e.
     turn _ _ (not (releaseFair n b (low + c) sh (length ws) q)) 13 _ _ _ refl refl λ e.
     ends _ _ _ (last-code sh q (giveBackAt b (low + c) sh h q is) ∙ give-zero b (low + c) sh h q is)))
     n
@@ -178,22 +178,22 @@ release-table low many b c h ws =
 
 -- ---- group releases
 pub chunks-table : (b : List ℕ) (c h : ℕ) (ws gs fs : List ℕ) → Ends {R = ChunksReleased} (λ o. o .code) (λ o. (o .book ≡ b) × (o .fates ≡ fs)) (chunksTable b c h ws gs fs) (chunksOn b c h ws gs fs)
-unfolding chunksOn classFault callFault metaFault releaseChunks
+unfolding chunksOn classFault callFault metaFault releaseChunks outFault
 chunks-table b c h ws gs fs =
     let n = get b (arena size) in
     let sh = shapeOf c in
-    rw (← (chunks-strays b c sh gs), chain (callFault b h) 4 (leb 64 c) (chunksNone b fs) _ refl, chain (metaFault b) 3 (badHost h) (chunksNone b fs) _ refl)
+    rw (← (chunks-strays b c sh gs), ← (marks-strays b c sh ws), chain (callFault b h) 4 (leb 64 c) (chunksNone b fs) _ refl, chain (metaFault b) 3 (badHost h) (chunksNone b fs) _ refl)
     (book-turn _ _ _ (chunksNone b fs) _ (λ k. refl) (λ k. (refl, refl))
     (turn _ _ (badHost h) 3 _ _ _ refl (refl, refl) λ e.
     turn _ _ (leb 64 c) 4 _ _ _ refl (refl, refl) λ e.
-    rw (not-and (every (ofKind (sh .kind)) ws) (every (ofKind chunkKind) gs), not-and (every (outAt n b c sh) ws) (distinct ws))
+    rw (not-and (every (ofKind (sh .kind)) ws) (every (ofKind chunkKind) gs))
     (turn _ _ (nothingListed ws gs) 7 _ _ _ refl (refl, refl) λ e.
     turn _ _ (manyChunks gs fs) 8 _ _ _ refl (refl, refl) λ e.
     turn _ _ (wrongKind (sh .kind) ws || wrongKind chunkKind gs) 9 _ _ _ refl (refl, refl) λ e.
-    turn _ _ (notOut n b c sh ws) 10 _ _ _ refl (refl, refl) λ e.
-    turn _ _ (chunksDiffer b ws gs) 11 _ _ _ refl (refl, refl) λ e.
+    out-turn _ _ (unmarked n b c sh ws) (repeats n b c sh ws) (every (outAt n b c sh) ws) _ (chunksNone b fs) _ (λ k. refl) (λ k. (refl, refl))
+    (turn _ _ (chunksDiffer b ws gs) 11 _ _ _ refl (refl, refl) λ e.
     turn _ _ (not (chunksFair n b c sh gs)) 13 _ _ _ refl (refl, refl) λ e.
-    ends _ _ _ refl))
+    ends _ _ _ refl)))
     n
     b)
 

@@ -47,6 +47,14 @@ module _ {R : Type 0} (code : R → ℕ) (Same : R → Type 0) where
   unless true k rows x o e s f = let g = f refl in record { number = g .number; kept = g .kept }
   unless false k rows x o e s f = record { number = e; kept = λ d. s }
 
+  -- the test of a release's blocks: 13 for a mark, 15, 10
+  pub out-turn : (u r o : Bool) (rows : List Row) (x : ℕ → R) (y : R) → ((k : ℕ) → code (x k) ≡ k) → ((k : ℕ) → Same (x k)) → Ends code Same rows y
+      → (let k : ℕ = cond (not u) 13 (cond r 15 (cond (not o) 10 0)) in Ends code Same ((13, not u) ∷ (15, r) ∷ (10, not o) ∷ rows) (cond (not (eqb k 0)) (x k) y))
+  out-turn false r o rows x y e s f = record { number = e 13; kept = λ d. s 13 }
+  out-turn true true o rows x y e s f = record { number = e 15; kept = λ d. s 15 }
+  out-turn true false false rows x y e s f = record { number = e 10; kept = λ d. s 10 }
+  out-turn true false true rows x y e s f = record { number = f .number; kept = f .kept }
+
   -- numbers 1 and 2
   module _ (rows : List Row) (x : ℕ → R) (o : R) (e : (k : ℕ) → code (x k) ≡ k) (s : (k : ℕ) → Same (x k)) (f : Ends code Same rows o) where
     fault : (i j : Bool) → Ends code Same ((1, i) ∷ (2, j) ∷ rows) (cond (eqb (cond (not i) (cond (not j) 0 2) 1) 0) o (x (cond (not i) (cond (not j) 0 2) 1)))

@@ -1,19 +1,20 @@
 -- A release by list is refused exactly as the history and the list's words tell.
 --     list-returns                it is not refused exactly if the list is `ListOut`
---     not-out, not-together       a list with a block that is not out is refused as 10, one of blocks of several runs as 11
+--     repeated, not-out, not-together    a list with a block out that stands twice is refused as 15, else one with a block that is not out as 10, one of
+--                                        blocks of several runs as 11
 --     word-returns                so a block alone is released exactly if it is out, which is that it is an entry's not yet released
 use Prim.Native.Nat.{ℕ, _+_, _*_, _^_, _≤_, _<_}
 use native.Mathlib.Omega.{arith}
 use native.Mathlib.Nat.{mul-le-mul-right}
-use mathlib.Core.Bool.{Bool, true, false, cond, not, _&&_, false≢true}
+use mathlib.Core.Bool.{Bool, true, false, cond, not, false≢true, true≢false}
 use mathlib.Core.List.{List, [], _∷_}
 use mathlib.Core.Logic.{_↔_}
 use mathlib.Core.Option.{Option, none, some}
 use mathlib.Core.Path.{_≡_, refl, sym, _∙_}
 use lib.Dec.{eqb}
-use borrow.Author.Tests.{eq-eqb, eqb-true, not-false, ltb-false, le-ltb}
-use Rattle.facts.specs.Lists.{isNil, every, isSome, elem, distinct}
-use Rattle.facts.proofs.Bools.{by-cases, and-left, and-right}
+use borrow.Author.Tests.{eq-eqb, eqb-true, not-true, not-false, ltb-false, le-ltb}
+use Rattle.facts.specs.Lists.{isNil, filter, every, isSome, elem, distinct, count}
+use Rattle.facts.proofs.Bools.{by-cases, and-left}
 use Rattle.words.specs.Host.{hostMax, badHost}
 use Rattle.words.specs.Word.{kindBits}
 use Rattle.words.proofs.RoundTrip.{kind-block}
@@ -26,16 +27,17 @@ use Rattle.model.specs.Calls as Calls
 use Rattle.model.specs.Calls.{Call, names, isRefused}
 use Rattle.model.specs.Page.{wordOf, pageGranules, isOut}
 use Rattle.model.specs.Class.{Class, Ask, serve, refuse}
-use Rattle.model.specs.Release.{Site, locate, ofKind, outHere, onPage, siteOfFirst, releaseList}
+use Rattle.model.specs.Release.{Site, locate, ofKind, outHere, repeats, onPage, siteOfFirst, releaseList}
 use Rattle.model.specs.Chunks.{answer}
 use Rattle.model.specs.Heap.{offer, finish, interact, classCall}
 use Rattle.model.specs.History.{heapAfter}
 use Rattle.model.specs.Entries.{OutIn, AllOut}
-use Rattle.model.proofs.Counts.{elem-count, every-count}
+use Rattle.model.proofs.Counts.{elem-count, every-count, filter-le, filter-passes, filter-keeps, filter-all, distinct-count}
 use Rattle.model.proofs.Sites.{Once, GoodClass, SiteLaws, Tells, locate-law, locate-tells}
 use Rattle.model.proofs.Theorems.{outs}
+use Rattle.refinement.proofs.OutTests.{once-here}
 use Rattle.demands.specs.Run.{Opens, next, told}
-use Rattle.demands.specs.Returns.{BlockOf, OneRun, ListOut}
+use Rattle.demands.specs.Returns.{Twice, BlockOf, OneRun, ListOut}
 use Rattle.demands.proofs.Calls.{room}
 use Rattle.demands.proofs.Told.{told-out, out-told}
 use Rattle.demands.proofs.Codes.{next-host, next-answer, next-unrefused, next-zero}
@@ -55,6 +57,19 @@ elem-only w v m = by-cases (eqb v w) (λ e. eqb-true v w e) (λ e. absurd (false
 pub every-elem : (t : ℕ → Bool) (ws : List ℕ) → ((w : ℕ) → elem w ws ≡ true → t w ≡ true) → every t ws ≡ true
 every-elem t [] f = refl
 every-elem t (w ∷ ws) f = rw (f w (elem-first w ws), every-elem t ws (λ v m. f v (elem-later w v ws m)))
+
+-- a list in which a word stands twice
+pub not-distinct : (s : List ℕ) → distinct s ≡ false → (w : ℕ) × (2 ≤ count w s)
+not-distinct [] e = absurd (true≢false e)
+not-distinct (x ∷ s) e =
+    by-cases (elem x s)
+    (λ m. (x, rw (eq-eqb x x refl) (omega (arith, elem-count x s m))))
+    (λ m. let r = not-distinct s (rw m at e) in (r .0, omega (arith, r .1)))
+
+-- what the model's tests of numbers 15 and 10 leave, and the other way
+pub single-here : (sh : Shape) (s : Class) (ws : List ℕ) → every (outHere sh s) ws ≡ true → distinct ws ≡ true → repeats sh s ws ≡ false
+unfolding repeats
+single-here sh s ws o d = rw (filter-all (outHere sh s) ws o, d)
 
 -- ---- tests in turn: a request that is not refused passed each
 pub passed : (s : Class) (k : ℕ) (b : Bool) (q : Ask) (g : Option ℕ) → isRefused (serve (cond b (refuse s k) q) g .answer) ≡ false → (b ≡ false) × (isRefused (serve q g .answer) ≡ false)
@@ -108,25 +123,30 @@ module _ (sh : Shape) (ok : Sound sh) (s : Class) (good : GoodClass sh s) (once 
   list-tests ws u =
       let p7 = passed s 7 (isNil ws) _ g u in
       let p9 = passed s 9 (not (every (ofKind (sh .kind)) ws)) _ g (p7 .1) in
-      let p10 = passed s 10 (not (every (outHere sh s) ws && distinct ws)) _ g (p9 .1) in
-      let t = not-false (every (outHere sh s) ws && distinct ws) (p10 .0) in
+      let p15 = passed s 15 (repeats sh s ws) _ g (p9 .1) in
+      let p10 = passed s 10 (not (every (outHere sh s) ws)) _ g (p15 .1) in
+      let out = not-false (every (outHere sh s) ws) (p10 .0) in
       record {
         listed = p7 .0;
         kinds = not-false (every (ofKind (sh .kind)) ws) (p9 .0);
-        out = and-left (every (outHere sh s) ws) (distinct ws) t;
-        single = and-right (every (outHere sh s) ws) (distinct ws) t;
+        out = out;
+        single = once-here sh s ws (p15 .0) out;
         together = page-together ws (siteOfFirst sh s ws) (first-laws ws) (p10 .1);
       }
 
   tests-list : (ws : List ℕ) → Tests ws → isRefused (serve (answer sh s (Calls.giveBack h ws)) g .answer) ≡ false
   unfolding answer releaseList
-  tests-list ws t = rw (t .listed, t .kinds, t .out, t .single) (first-unrefused ws (t .listed) (t .out) (t .together))
+  tests-list ws t = rw (t .listed, t .kinds, single-here sh s ws (t .out) (t .single), t .out) (first-unrefused ws (t .listed) (t .out) (t .together))
 
-  -- one that fails the test of 10, or passes it and fails that of 11
-  refused-ten : (ws : List ℕ) → isNil ws ≡ false → every (ofKind (sh .kind)) ws ≡ true → (every (outHere sh s) ws && distinct ws) ≡ false
+  -- one that fails the test of 15, or of 10, or passes both and fails that of 11
+  refused-fifteen : (ws : List ℕ) → isNil ws ≡ false → every (ofKind (sh .kind)) ws ≡ true → repeats sh s ws ≡ true → serve (answer sh s (Calls.giveBack h ws)) g .answer ≡ Calls.refused 15
+  unfolding answer releaseList
+  refused-fifteen ws listed kinds t = rw (listed, kinds, t)
+
+  refused-ten : (ws : List ℕ) → isNil ws ≡ false → every (ofKind (sh .kind)) ws ≡ true → repeats sh s ws ≡ false → every (outHere sh s) ws ≡ false
       → serve (answer sh s (Calls.giveBack h ws)) g .answer ≡ Calls.refused 10
   unfolding answer releaseList
-  refused-ten ws listed kinds t = rw (listed, kinds, t)
+  refused-ten ws listed kinds u t = rw (listed, kinds, u, t)
 
   page-eleven : (ws : List ℕ) (o : Option Site) → SiteLaws sh s o → isSome o ≡ true → (OneRun sh ws → ⊥) → serve (onPage sh h s ws o) g .answer ≡ Calls.refused 11
   unfolding onPage
@@ -143,7 +163,7 @@ module _ (sh : Shape) (ok : Sound sh) (s : Class) (good : GoodClass sh s) (once 
       → serve (answer sh s (Calls.giveBack h ws)) g .answer ≡ Calls.refused 11
   unfolding answer releaseList
   refused-eleven ws listed kinds out single r =
-      rw (listed, kinds, out, single) (page-eleven ws (siteOfFirst sh s ws) (first-laws ws) (first-found ws listed out) r)
+      rw (listed, kinds, single-here sh s ws out single, out) (page-eleven ws (siteOfFirst sh s ws) (first-laws ws) (first-found ws listed out) r)
 
 -- ---- the heap after a history
 word-kind : (sh : Shape) (ok : Sound sh) (q i : ℕ) → q + sh .pages ≤ maxPages → i < sh .capacity → ofKind (sh .kind) (wordOf sh q i) ≡ true
@@ -182,6 +202,34 @@ module _ (n : ℕ) (b : List ℕ) (o : Opens n b) (xs : List Call) where
   pub out-all : (c : ℕ) (ws : List ℕ) → AllOut (told n b xs) c ws → every (outHere (shapeOf c) (heapAfter n xs .classes c)) ws ≡ true
   out-all c ws p = every-elem (outHere (shapeOf c) (heapAfter n xs .classes c)) ws (λ w m. out-here c w (p .out w m))
 
+  -- number 15's test, by the history
+  pub twice-repeats : (c : ℕ) (ws : List ℕ) → Twice (told n b xs) c ws → repeats (shapeOf c) (heapAfter n xs .classes c) ws ≡ true
+  unfolding repeats
+  twice-repeats c ws p =
+      let t = outHere (shapeOf c) (heapAfter n xs .classes c) in
+      let e = filter-keeps t (p .word) ws (out-here c (p .word) (p .out)) in
+      by-cases (distinct (filter t ws)) (λ u. absurd (omega (arith, p .times, e, distinct-count (p .word) (filter t ws) u))) (λ u. rw u)
+
+  pub repeats-twice : (c : ℕ) (ws : List ℕ) → repeats (shapeOf c) (heapAfter n xs .classes c) ws ≡ true → Twice (told n b xs) c ws
+  unfolding repeats
+  repeats-twice c ws e =
+      let t = outHere (shapeOf c) (heapAfter n xs .classes c) in
+      let r = not-distinct (filter t ws) (not-true (distinct (filter t ws)) e) in
+      let w = r .0 in
+      record {
+        word = w;
+        out = out-told n b o xs c w (outs n xs .out c w .0 (filter-passes t w ws (omega (arith, r .1))));
+        times = omega (arith, r .1, filter-le t w ws);
+      }
+
+  -- a list that 15 does not refuse, and whose blocks are not all out
+  pub not-all : (c : ℕ) (ws : List ℕ) → repeats (shapeOf c) (heapAfter n xs .classes c) ws ≡ false → (AllOut (told n b xs) c ws → ⊥) → every (outHere (shapeOf c) (heapAfter n xs .classes c)) ws ≡ false
+  not-all c ws u r =
+      by-cases (every (outHere (shapeOf c) (heapAfter n xs .classes c)) ws) (λ t. absurd (r (all-out c ws t (once-here (shapeOf c) (heapAfter n xs .classes c) ws u t)))) (λ t. t)
+
+  pub no-twice : (c : ℕ) (ws : List ℕ) → (Twice (told n b xs) c ws → ⊥) → repeats (shapeOf c) (heapAfter n xs .classes c) ws ≡ false
+  no-twice c ws r = by-cases (repeats (shapeOf c) (heapAfter n xs .classes c) ws) (λ t. absurd (r (repeats-twice c ws t))) (λ t. t)
+
   module _ (c : ℕ) (x : Call) (h : ℕ) (ws : List ℕ) (d : names x ≡ some (record { class = c; request = Calls.giveBack h ws })) where
     abbrev gives : Option ℕ
     gives = offer n h (heapAfter n xs .arena) (answer (shapeOf c) (heapAfter n xs .classes c) (Calls.giveBack h ws)) .run
@@ -211,14 +259,18 @@ module _ (n : ℕ) (b : List ℕ) (o : Opens n b) (xs : List Call) where
     class-answer = next-answer n b o xs x _ d (le-ltb hostMax h low)
 
     module _ (listed : isNil ws ≡ false) (kinds : every (ofKind (shapeOf c .kind)) ws ≡ true) where
-      pub not-out : (AllOut (told n b xs) c ws → ⊥) → next n b xs x .answer ≡ Calls.refused 10
+      pub repeated : Twice (told n b xs) c ws → next n b xs x .answer ≡ Calls.refused 15
       unfolding classCall interact finish
-      not-out r =
-          let s = heapAfter n xs .classes c in
-          let out = every (outHere (shapeOf c) s) ws in
-          let t : (out && distinct ws) ≡ false = by-cases (out && distinct ws) (λ t. absurd (r (all-out c ws (and-left out (distinct ws) t) (and-right out (distinct ws) t)))) (λ t. t) in
+      repeated p =
           class-answer
-          ∙ refused-ten (shapeOf c) (shape-sound c) s (good-class n small xs c) (once-class n small xs c) (one-first c) h (gives c x h ws d) ws listed kinds t
+          ∙ refused-fifteen (shapeOf c) (shape-sound c) (heapAfter n xs .classes c) (good-class n small xs c) (once-class n small xs c) (one-first c) h (gives c x h ws d) ws listed kinds (twice-repeats c ws p)
+
+      pub not-out : (Twice (told n b xs) c ws → ⊥) → (AllOut (told n b xs) c ws → ⊥) → next n b xs x .answer ≡ Calls.refused 10
+      unfolding classCall interact finish
+      not-out p r =
+          let u = no-twice c ws p in
+          class-answer
+          ∙ refused-ten (shapeOf c) (shape-sound c) (heapAfter n xs .classes c) (good-class n small xs c) (once-class n small xs c) (one-first c) h (gives c x h ws d) ws listed kinds u (not-all c ws u r)
 
       pub not-together : AllOut (told n b xs) c ws → (OneRun (shapeOf c) ws → ⊥) → next n b xs x .answer ≡ Calls.refused 11
       unfolding classCall interact finish

@@ -1,9 +1,9 @@
 -- Number 13's tests look at no word but those of the rows that Specs/Reads lists, and LENGTH: two books that have the same words there
 -- pass or fail alike.
-use Prim.Native.Nat.{ℕ, zero, suc, _+_, _-_}
+use Prim.Native.Nat.{ℕ, zero, suc, _+_, _-_, _/_}
 use mathlib.Core.Bool.{Bool, true, false, cond, not, _&&_, _||_}
-use mathlib.Core.List.{List, [], _∷_, _++_}
-use mathlib.Core.Path.{_≡_, refl}
+use mathlib.Core.List.{List, [], _∷_, _++_, map}
+use mathlib.Core.Path.{_≡_, refl, sym, ap, _∙_}
 use lib.Dec.{eqb}
 use Rattle.facts.specs.Lists.{every, All, below}
 use Rattle.facts.proofs.Bools.{by-cases}
@@ -16,18 +16,19 @@ use Rattle.model.specs.Spot.{spotOf, isEmpty, isCold, isArena}
 use Rattle.arena.specs.Load.{loadHoles}
 use Rattle.arena.specs.Fair.{recordFair, holeFair, holesFair, commitFair, giveFair, countsFair, allCountsFair, reportFair}
 use Rattle.pages.specs.Runs.{ofRun, whole}
-use Rattle.pages.specs.Stack.{tops, hasMore}
+use Rattle.pages.specs.Stack.{tops, hasMore, indexOf}
 use Rattle.pages.specs.Links.{top, stored}
 use Rattle.pages.specs.Fair.{headerFair}
 use Rattle.pages.specs.declared.Park.{Park}
 use Rattle.pages.specs.declared.Park.the-variants.{Empty, Cold}
 use Rattle.calls.specs.Take.{pageReady, sound, walk, parkFair}
+use Rattle.calls.specs.Out.{startOf, outs}
 use Rattle.calls.specs.Release.{pageFair, rowFair, spotAt, spotFair, releaseFair}
 use Rattle.calls.specs.Chunks.{runsGiven, pagesGiven, chunksFair}
-use Rattle.demands.specs.Ranges.{Link, partialOf, emptyOf, coldOf, nextOf, linkField, Use, emptyTaken, coldTaken, listedYes, listedNo, field}
-use Rattle.demands.specs.Reads.{countReads, recordReads, holeReads, commitReads, giveReads, parkedReads, reportReads, runReads, entryReads, pageReads, supply, walkReads, parkReads, takeReads, backReads, rowReads, releaseReads, backsReads, chunksReads}
+use Rattle.demands.specs.Ranges.{Link, partialOf, emptyOf, coldOf, nextOf, linkField, Use, emptyTaken, coldTaken, listedYes, listedNo, markClear, field, fits}
+use Rattle.demands.specs.Reads.{countReads, recordReads, holeReads, commitReads, giveReads, parkedReads, reportReads, runReads, entryReads, pageReads, supply, walkReads, parkReads, takeReads, markReads, backReads, rowReads, releaseReads, backsReads, chunksReads}
 use Rattle.demands.specs.Number13.{takeFair, RowsDecide}
-use Rattle.demands.proofs.Ranges.{wanted}
+use Rattle.demands.proofs.Ranges.{wanted, number-13}
 
 all-l : {A : Type 0} (P : A → Type 0) (s t : List A) → All P (s ++ t) → All P s
 all-l P [] t h = tt
@@ -47,6 +48,16 @@ module _ (b b′ : List ℕ) where
 
   right : (us vs : List Use) → Same (us ++ vs) → Same vs
   right us vs h = all-r (λ u. get b (field u) ≡ get b′ (field u)) us vs h
+
+  -- ---- marks
+  mark-rows : (p j : ℕ → ℕ) (ws : List ℕ) → Same (map (λ w. markClear (p w) (j w)) ws) → fits b (map (λ w. markClear (p w) (j w)) ws) ≡ fits b′ (map (λ w. markClear (p w) (j w)) ws)
+  unfolding fits
+  mark-rows p j [] h = refl
+  mark-rows p j (w ∷ ws) h = rw (h .0, mark-rows p j ws (h .1))
+
+  mark-same : (c : ℕ) (sh : Shape) (ws : List ℕ) → Same (markReads b c sh ws) → fits b (markReads b c sh ws) ≡ fits b′ (markReads b c sh ws)
+  unfolding markReads
+  mark-same c sh ws h = mark-rows (startOf b) (λ w. indexOf sh (startOf b w) w / 32) (outs (get b (arena size)) b c sh ws) h
 
   module _ (n : ℕ) where
     -- ---- the arena
@@ -292,6 +303,7 @@ module _ (b b′ : List ℕ) where
         give = λ m h. rw (h .0) (give-same b b′ n m (h .1));
         report = λ h. rw (h .0) (report-same b b′ n (h .1));
         take = λ c sh h. rw (h .0) (take-same b b′ n (take-low c sh (h .1)) c sh (h .1));
+        marks = λ c sh ws e h. number-13 b .marks c sh ws ∙ mark-same b b′ c sh ws (h .1) ∙ ap (fits b′) e ∙ sym (number-13 b′ .marks c sh ws);
         release = λ c sh m q h. rw (h .0) (release-same b b′ n (release-low c sh m q (h .1)) c sh m q (h .1));
         chunks = λ c sh gs h. rw (h .0) (chunks-same b b′ n (chunks-low c sh gs (h .1)) c sh gs (h .1));
       }

@@ -30,8 +30,8 @@ use Rattle.demands.proofs.Histories as Histories
 use Rattle.demands.proofs.Told.{told-answers, told-disjoint, told-iso}
 use Rattle.demands.proofs.Sizes as Sizes
 use Rattle.demands.proofs.Fits.{commit-fits, run-fits, holes-counted, take-yields}
-use Rattle.demands.proofs.Returns.{word-returns, list-returns, not-out, not-together}
-use Rattle.demands.proofs.ChunkReturns.{chunks-return}
+use Rattle.demands.proofs.Returns.{word-returns, list-returns, repeated, not-out, not-together}
+use Rattle.demands.proofs.ChunkReturns.{chunks-return, chunks-repeated, chunks-not-out}
 use Rattle.demands.proofs.Held.{held-releases, unheld-refused, run-given, run-abandoned, held-grows, unheld-stays, growth-fits}
 use Rattle.demands.proofs.Unused.{commit-unused, growth-unused, class-unused}
 use Rattle.demands.proofs.Starts.{as-opening, told-is}
@@ -87,8 +87,11 @@ at-opening n b o xs = record {
   returns = word-returns n b o xs;
   returnsList = list-returns n b o xs;
   returnsChunks = chunks-return n b o xs;
+  repeated = repeated n b o xs;
   notOut = not-out n b o xs;
   notTogether = not-together n b o xs;
+  repeatedChunks = chunks-repeated n b o xs;
+  notOutChunks = chunks-not-out n b o xs;
   releases = held-releases n b o xs;
   unheld = unheld-refused n b o xs;
   holeTotal = holes-counted n b o xs;

@@ -29,7 +29,7 @@ use Rattle.refinement.specs.Run.{answersIn}
 use Rattle.demands.specs.Call.{call}
 use Rattle.demands.specs.Run.{answered}
 use Rattle.demands.specs.Start.{Start, pages, Starts, calls, bookAfter, replies, told}
-use Rattle.demands.specs.Returns.{OneRun, ListOut, ChunksOut}
+use Rattle.demands.specs.Returns.{Twice, OneRun, ListOut, Plain, ChunksOut}
 
 -- ---- Demand 3, "one claim about whole histories, not one for each call"
 pub record Demand3 : Type 0 where
@@ -115,17 +115,25 @@ pub record Demand2At (n : ℕ) (b : List ℕ) (xs : List Call) (rs : List Reply)
   -- the class not yet released has its word
   pub returns : (c w : ℕ) (x : Call) (h : ℕ) → h ≤ hostMax → names x ≡ some (record { class = c; request = Calls.giveBack h (w ∷ []) })
       → (call b x .code ≡ 0) ↔ OutIn (answered xs rs) c w
-  -- so is a list exactly if numbers 3 and 7 to 11 do not apply, by the history and by its words; so are groups
+  -- so is a list exactly if numbers 3, 7 to 11 and 15 do not apply, by the history and by its words; so are groups
   pub returnsList : (c : ℕ) (x : Call) (h : ℕ) (ws : List ℕ) → names x ≡ some (record { class = c; request = Calls.giveBack h ws })
       → (call b x .code ≡ 0) ↔ ListOut (answered xs rs) c h ws
   pub returnsChunks : (c h : ℕ) (ws gs fs : List ℕ) → c < 64
       → (call b (Calls.releaseBinChunks c h ws gs fs) .code ≡ 0) ↔ ChunksOut (answered xs rs) c h ws gs fs
-  -- a list of the class's kind is refused as 10 if its blocks are not all out, each once; if they are, as 11 if they do not stand on one run
+  -- a list of the class's kind is refused as 15 if a block out in the class stands twice in it (document 02, A.2), whatever else it holds; else as
+  -- 10 if its blocks are not all out; if they are, as 11 if they do not stand on one run
+  pub repeated : (c : ℕ) (x : Call) (h : ℕ) (ws : List ℕ) → h ≤ hostMax → names x ≡ some (record { class = c; request = Calls.giveBack h ws })
+      → isNil ws ≡ false → every (ofKind (shapeOf c .kind)) ws ≡ true → Twice (answered xs rs) c ws → call b x .answer ≡ Calls.refused 15
   pub notOut : (c : ℕ) (x : Call) (h : ℕ) (ws : List ℕ) → h ≤ hostMax → names x ≡ some (record { class = c; request = Calls.giveBack h ws })
-      → isNil ws ≡ false → every (ofKind (shapeOf c .kind)) ws ≡ true → (AllOut (answered xs rs) c ws → ⊥) → call b x .answer ≡ Calls.refused 10
+      → isNil ws ≡ false → every (ofKind (shapeOf c .kind)) ws ≡ true → (Twice (answered xs rs) c ws → ⊥) → (AllOut (answered xs rs) c ws → ⊥) → call b x .answer ≡ Calls.refused 10
   pub notTogether : (c : ℕ) (x : Call) (h : ℕ) (ws : List ℕ) → h ≤ hostMax → names x ≡ some (record { class = c; request = Calls.giveBack h ws })
       → isNil ws ≡ false → every (ofKind (shapeOf c .kind)) ws ≡ true → AllOut (answered xs rs) c ws → (OneRun (shapeOf c) ws → ⊥)
       → call b x .answer ≡ Calls.refused 11
+  -- so with groups
+  pub repeatedChunks : (c h : ℕ) (ws gs fs : List ℕ) → c < 64 → Plain c h ws gs fs → Twice (answered xs rs) c ws
+      → call b (Calls.releaseBinChunks c h ws gs fs) .answer ≡ Calls.refused 15
+  pub notOutChunks : (c h : ℕ) (ws gs fs : List ℕ) → c < 64 → Plain c h ws gs fs → (Twice (answered xs rs) c ws → ⊥) → (AllOut (answered xs rs) c ws → ⊥)
+      → call b (Calls.releaseBinChunks c h ws gs fs) .answer ≡ Calls.refused 10
   -- a run can be released directly exactly if each of its pages is held by the direct calls
   pub releases : (h q m : ℕ) → h ≤ hostMax → badRun m ≡ false
       → (call b (Calls.release h q m) .code ≡ 0) ↔ ((k : ℕ) → k < m → directAfter (answered xs rs) (q + k) ≡ true)

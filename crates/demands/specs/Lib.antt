@@ -17,3 +17,4 @@ pub mod Plan
 pub mod Idle
 pub mod ChangePlaces
 pub mod Reorders
+pub mod Repeats

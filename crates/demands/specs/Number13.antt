@@ -15,10 +15,11 @@ use Rattle.fields.specs.Field.{arena, class, size, frontier, partial, empty, co
 use Rattle.arena.specs.Fair.{recordFair, commitFair, giveFair, reportFair}
 use Rattle.pages.specs.declared.Park.the-variants.{Empty, Cold}
 use Rattle.calls.specs.Take.{walk, parkFair}
+use Rattle.calls.specs.Out.{unmarked}
 use Rattle.calls.specs.Release.{releaseFair}
 use Rattle.calls.specs.Chunks.{chunksFair}
 use Rattle.demands.specs.Ranges.{Use, field, fits}
-use Rattle.demands.specs.Reads.{recordReads, commitReads, giveReads, reportReads, takeReads, yieldAll, releaseReads, chunksReads}
+use Rattle.demands.specs.Reads.{recordReads, commitReads, giveReads, reportReads, takeReads, yieldAll, markReads, releaseReads, chunksReads}
 
 unfoldable pub takeFair : ℕ → List ℕ → ℕ → Shape → Bool
 takeFair n b c sh =
@@ -35,6 +36,8 @@ pub record Number13 (b : List ℕ) : Type 0 where
   pub give : (m : ℕ) → giveFair (get b (arena size)) b m ≡ fits b (giveReads m)
   pub report : reportFair (get b (arena size)) b ≡ fits b reportReads
   pub take : (c : ℕ) (sh : Shape) → takeFair (get b (arena size)) b c sh ≡ (fits b (takeReads b c sh) && yieldAll b c sh)
+  -- before number 15, then with the other words
+  pub marks : (c : ℕ) (sh : Shape) (ws : List ℕ) → unmarked (get b (arena size)) b c sh ws ≡ fits b (markReads b c sh ws)
   pub release : (c : ℕ) (sh : Shape) (m q : ℕ) → releaseFair (get b (arena size)) b c sh m q ≡ fits b (releaseReads b c sh m q)
   pub chunks : (c : ℕ) (sh : Shape) (gs : List ℕ) → chunksFair (get b (arena size)) b c sh gs ≡ fits b (chunksReads b c sh gs)
 
@@ -50,6 +53,11 @@ pub record RowsDecide (b b′ : List ℕ) : Type 0 where
   pub give : (m : ℕ) → Alike b b′ (giveReads m) → giveFair (get b (arena size)) b m ≡ giveFair (get b′ (arena size)) b′ m
   pub report : Alike b b′ reportReads → reportFair (get b (arena size)) b ≡ reportFair (get b′ (arena size)) b′
   pub take : (c : ℕ) (sh : Shape) → Alike b b′ (takeReads b c sh) → takeFair (get b (arena size)) b c sh ≡ takeFair (get b′ (arena size)) b′ c sh
+  -- where the same blocks are out in both, as numbers 15 and 10 see them
+  pub marks : (c : ℕ) (sh : Shape) (ws : List ℕ)
+      → markReads b c sh ws ≡ markReads b′ c sh ws
+      → Alike b b′ (markReads b c sh ws)
+      → unmarked (get b (arena size)) b c sh ws ≡ unmarked (get b′ (arena size)) b′ c sh ws
   pub release : (c : ℕ) (sh : Shape) (m q : ℕ)
       → Alike b b′ (releaseReads b c sh m q)
       → releaseFair (get b (arena size)) b c sh m q ≡ releaseFair (get b′ (arena size)) b′ c sh m q

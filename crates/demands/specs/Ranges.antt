@@ -5,12 +5,13 @@
 --     range          its range in that use; every bound that is no argument of the row is read from the book
 --     inRange        the word is in it
 --     fits, strays   every listed word is in its range; one is not
--- No row is of LENGTH, which is number 1's, nor of a word as it is compared for numbers 10 to 12.
+-- No row is of LENGTH, which is number 1's, nor of a word as it is compared for numbers 10 to 12 and 15. MARK is tested before 15, the other
+-- rows last.
 use Prim.Native.Nat.{ℕ, suc}
 use mathlib.Core.Bool.{Bool, not}
 use mathlib.Core.List.{List}
 use Rattle.facts.specs.Lists.{every}
-use Rattle.fields.specs.Field.{ArenaField, Field, arena, class, hole, page, slot, size, state, frontier, holes, holePages, held, start, pages, partial, empty, emptyCount, cold, coldCount, owner, first, next, prev, free, carved, listed, virgin, get}
+use Rattle.fields.specs.Field.{ArenaField, Field, arena, mark, class, hole, page, slot, size, state, frontier, holes, holePages, held, start, pages, partial, empty, emptyCount, cold, coldCount, owner, first, next, prev, free, carved, listed, virgin, get}
 use Rattle.fields.specs.Ranges.{maxParked, Range, anyValue, upTo, between, exactly, below, endsBy, runsTo, within}
 use Rattle.model.specs.HoleStore.{holeSlots, holePagesMax}
 
@@ -60,6 +61,8 @@ pub data Use : Type 0 where
   freeFits : ℕ → Use
   -- entry i of page p's stack, which a take pops
   entryCarved : ℕ → ℕ → Use
+  -- word j of page p's marks, which has the mark of a listed block that is out (document 02, A.3)
+  markClear : ℕ → ℕ → Use
   -- a page p that m blocks come back to
   freeWith : ℕ → ℕ → Use
   listedFlag : ℕ → Use
@@ -90,6 +93,7 @@ field (listedYes p) = page listed p
 field (listedNo p) = page listed p
 field (freeFits p) = page free p
 field (entryCarved p i) = slot p i
+field (markClear p j) = mark p j
 field (freeWith p m) = page free p
 field (listedFlag p) = page listed p
 field (carvedFits p capacity) = page carved p
@@ -118,6 +122,7 @@ range b (listedYes p) = exactly 1
 range b (listedNo p) = exactly 0
 range b (freeFits p) = upTo (get b (page carved p))
 range b (entryCarved p i) = below (get b (page carved p))
+range b (markClear p j) = exactly 0
 range b (freeWith p m) = endsBy m (get b (page carved p))
 range b (listedFlag p) = upTo 1
 range b (carvedFits p capacity) = upTo capacity

@@ -1,26 +1,29 @@
 -- The words that number 13 is about: for each kind of call the rows of Specs/Ranges that it reads, along the call's own way through the
--- book. "Another book word that the call reads": those that numbers 1 and 10 to 12 judge stand there.
+-- book. "Another book word that the call reads": those that numbers 1, 10 to 12 and 15 judge stand there.
 --     recordReads    growth, and within the next three
 --     reportReads    a report
 --     commitReads    a commit, a take's too
 --     giveReads      a give of m pages, a release's too
 --     takeReads      a take, from its first source that has a page
 --     takeVisits     the listed pages that it comes to; yieldAll, barren: each of them yields a block, one does not
+--     markReads      a release by list or by chunks, before number 15: the words of marks of its blocks that are out in the class
 --     releaseReads   a release by list of m blocks to page q
 --     chunksReads    a release of the chunks gs
-use Prim.Native.Nat.{ℕ, zero, suc, _+_, _-_}
+use Prim.Native.Nat.{ℕ, zero, suc, _+_, _-_, _/_}
 use mathlib.Core.Bool.{Bool, cond, not, _&&_, _||_}
-use mathlib.Core.List.{List, [], _∷_, _++_}
+use mathlib.Core.List.{List, [], _∷_, _++_, map}
 use lib.Dec.{eqb}
 use Rattle.facts.specs.Lists.{every, below}
 use Rattle.words.specs.Word.{countOf, pageOf}
 use Rattle.classes.specs.declared.Shape.{Shape}
 use Rattle.classes.specs.Shape.{classCount}
-use Rattle.fields.specs.Field.{arena, class, page, commits, commitsHigh, reuses, reusesHigh, abandoned, abandonedHigh, holes, partial, empty, cold, free, carved, listed, get}
+use Rattle.fields.specs.Field.{arena, class, page, size, commits, commitsHigh, reuses, reusesHigh, abandoned, abandonedHigh, holes, partial, empty, cold, free, carved, listed, get}
 use Rattle.model.specs.Spot.{isArena}
+use Rattle.pages.specs.Stack.{indexOf}
+use Rattle.calls.specs.Out.{startOf, outs}
 use Rattle.calls.specs.Release.{spotAt}
 use Rattle.calls.specs.Chunks.{pagesGiven}
-use Rattle.demands.specs.Ranges.{Link, partialOf, emptyOf, coldOf, nextOf, prevOf, linkField, Use, stateKnown, frontierFits, holesFew, holePagesFew, heldFits, heldGives, counted, holeSome, holeEnds, code, visited, emptyFew, emptyTaken, coldFew, coldTaken, ownerIs, firstIs, prevIs, listedYes, listedNo, freeFits, entryCarved, freeWith, listedFlag, carvedFits, virginFlag}
+use Rattle.demands.specs.Ranges.{Link, partialOf, emptyOf, coldOf, nextOf, prevOf, linkField, Use, stateKnown, frontierFits, holesFew, holePagesFew, heldFits, heldGives, counted, holeSome, holeEnds, code, visited, emptyFew, emptyTaken, coldFew, coldTaken, ownerIs, firstIs, prevIs, listedYes, listedNo, freeFits, entryCarved, markClear, freeWith, listedFlag, carvedFits, virginFlag}
 
 -- ---- the arena
 unfoldable pub countReads : List Use
@@ -125,7 +128,11 @@ yieldAll b c sh = every (yields b sh) (takeVisits b c sh)
 unfoldable pub barren : List ℕ → ℕ → Shape → Bool
 barren b c sh = not (yieldAll b c sh)
 
--- ---- releases: a page's links are read only where it is listed
+-- ---- releases
+unfoldable pub markReads : List ℕ → ℕ → Shape → List ℕ → List Use
+markReads b c sh ws = map (λ w. markClear (startOf b w) (indexOf sh (startOf b w) w / 32)) (outs (get b (arena size)) b c sh ws)
+
+-- a page's links are read only where it is listed
 unfoldable pub backReads : List ℕ → Shape → ℕ → ℕ → List Use
 backReads b sh m q =
     carvedFits q (sh .capacity)

@@ -9,11 +9,11 @@
 -- fates. Each condition says by itself when its number applies, also where an earlier number answers first.
 use Prim.Native.Nat.{ℕ, _+_, _≤_, _<_}
 use mathlib.Core.Bool.{Bool, true, false, cond, not, _||_}
-use mathlib.Core.List.{List, [], _∷_}
+use mathlib.Core.List.{List, [], _∷_, _++_}
 use mathlib.Core.Path.{_≡_}
 use lib.Dec.{eqb, ltb, leb}
 use lib.ListN.{length}
-use Rattle.facts.specs.Lists.{isNil, every, distinct}
+use Rattle.facts.specs.Lists.{isNil, every}
 use Rattle.words.specs.Word.{noneKind, smallKind, mediumKind, chunkKind}
 use Rattle.words.specs.Host.{badHost, digit}
 use Rattle.classes.specs.declared.Shape.{Shape}
@@ -34,7 +34,8 @@ use Rattle.plan.specs.Code.{PlanEnds}
 use Rattle.listing.specs.Listing.{badListing, shortHistories, ListingEnds}
 use Rattle.arena.specs.Calls.{heldDirect}
 use Rattle.direct.specs.Answer.{Releases}
-use Rattle.calls.specs.Release.{startOf, outAt, firstOf}
+use Rattle.calls.specs.Out.{startOf, outAt, repeats}
+use Rattle.calls.specs.Release.{firstOf}
 use Rattle.calls.specs.Chunks.{chunksMatch}
 use Rattle.trace.specs.Trace.{carried}
 use Rattle.trace.specs.Words.{roomOf, traceOn}
@@ -45,7 +46,7 @@ use Rattle.vigbuso.specs.Blocks as Blocks
 use Rattle.vigbuso.specs.Blocks.{takeOn, TakeEnds, ReleaseEnds, chunksOn, ChunksEnds}
 use Rattle.vigbuso.specs.Sizes.{SizeEnds}
 use Rattle.demands.specs.Ranges.{stateKnown, inRange, strays}
-use Rattle.demands.specs.Reads.{recordReads, commitReads, giveReads, reportReads, takeReads, barren, releaseReads, chunksReads}
+use Rattle.demands.specs.Reads.{recordReads, commitReads, giveReads, reportReads, takeReads, barren, markReads, releaseReads, chunksReads}
 
 -- ---- when each number applies
 -- 1. "Arena length, given at opening or stored as the book's first word, is 0 (an empty book reads so) or above 262,144."
@@ -80,9 +81,11 @@ manyChunks gs fs = ltb chunksMax (length gs) || ltb (length fs) (length gs)
 abbrev pub wrongKind : ℕ → List ℕ → Bool
 wrongKind kind ws = not (every (ofKind kind) ws)
 
--- 10. "A block is not out in this class, or stands twice."
+-- 10. "A block is not out in this class", and (document 02, A.2) "A repeat of a block not out in it stays 10."
 abbrev pub notOut : ℕ → List ℕ → ℕ → Shape → List ℕ → Bool
-notOut n b c sh ws = not (every (outAt n b c sh) ws) || not (distinct ws)
+notOut n b c sh ws = not (every (outAt n b c sh) ws)
+
+-- 15 (document 02, A.2) "when a block out in this class stands twice in one list; it comes between 9 and 10": `repeats`
 
 -- 11. "A block is on another page or span than the first"
 abbrev pub otherPage : List ℕ → List ℕ → Bool
@@ -97,7 +100,8 @@ abbrev pub notHeld : ℕ → List ℕ → ℕ → ℕ → Bool
 notHeld n b q m = not (heldDirect n b q m)
 
 -- 13. "Another book word that the call reads is out of its range, or a listed page yields no block.": `strays` and `barren`, over the
--- rows that the call reads of the one table, Specs/Ranges. That the tests of the code are just these is Specs/Number13.
+-- rows that the call reads of the one table, Specs/Ranges. That the tests of the code are just these is Specs/Number13. The words of marks
+-- (document 02, A.3) are tested "here before 15".
 
 -- 16 (document 02, A.7): there is a word that stops the trace; Specs/Trace, `Reason`, says which words do
 abbrev pub stopped : ℕ → List ℕ → List ℕ → List ℕ → Bool
@@ -166,34 +170,44 @@ takeTable low many b c h l =
     let sh = shapeOf (low + c) in
     (1, badLength n) ∷ (2, tooShort n b) ∷ (3, badHost h) ∷ (4, noClass many c) ∷ (5, shortList sh l) ∷ (13, strays b (takeReads b (low + c) sh) || barren b (low + c) sh) ∷ []
 
--- vigbuso_release_blocks, vigbuso_medium_release_blocks, in the same way
+-- vigbuso_release_blocks, vigbuso_medium_release_blocks, in the same way; first the rows that look at no block
+abbrev pub releaseEarly : ℕ → ℕ → List ℕ → ℕ → ℕ → List ℕ → List Row
+releaseEarly low many b c h ws =
+    let n = get b (arena size) in
+    (1, badLength n) ∷ (2, tooShort n b) ∷ (3, badHost h) ∷ (4, noClass many c) ∷ (7, isNil ws) ∷ (9, wrongKind (shapeOf (low + c) .kind) ws) ∷ []
+
 abbrev pub releaseTable : ℕ → ℕ → List ℕ → ℕ → ℕ → List ℕ → List Row
 releaseTable low many b c h ws =
     let n = get b (arena size) in
     let sh = shapeOf (low + c) in
-    (1, badLength n)
-    ∷ (2, tooShort n b)
-    ∷ (3, badHost h)
-    ∷ (4, noClass many c)
-    ∷ (7, isNil ws)
-    ∷ (9, wrongKind (sh .kind) ws)
+    releaseEarly low many b c h ws
+    ++ (13, strays b (markReads b (low + c) sh ws))
+    ∷ (15, repeats n b (low + c) sh ws)
     ∷ (10, notOut n b (low + c) sh ws)
     ∷ (11, otherPage b ws)
     ∷ (13, strays b (releaseReads b (low + c) sh (length ws) (startOf b (firstOf ws))))
     ∷ []
 
 -- vigbuso_release_bin_chunks
-abbrev pub chunksTable : List ℕ → ℕ → ℕ → List ℕ → List ℕ → List ℕ → List Row
-chunksTable b c h ws gs fs =
+abbrev pub chunksEarly : List ℕ → ℕ → ℕ → List ℕ → List ℕ → List ℕ → List Row
+chunksEarly b c h ws gs fs =
     let n = get b (arena size) in
-    let sh = shapeOf c in
     (1, badLength n)
     ∷ (2, tooShort n b)
     ∷ (3, badHost h)
     ∷ (4, noClass 64 c)
     ∷ (7, nothingListed ws gs)
     ∷ (8, manyChunks gs fs)
-    ∷ (9, wrongKind (sh .kind) ws || wrongKind chunkKind gs)
+    ∷ (9, wrongKind (shapeOf c .kind) ws || wrongKind chunkKind gs)
+    ∷ []
+
+abbrev pub chunksTable : List ℕ → ℕ → ℕ → List ℕ → List ℕ → List ℕ → List Row
+chunksTable b c h ws gs fs =
+    let n = get b (arena size) in
+    let sh = shapeOf c in
+    chunksEarly b c h ws gs fs
+    ++ (13, strays b (markReads b c sh ws))
+    ∷ (15, repeats n b c sh ws)
     ∷ (10, notOut n b c sh ws)
     ∷ (11, chunksDiffer b ws gs)
     ∷ (13, strays b (chunksReads b c sh gs))

@@ -11,14 +11,14 @@ use lib.Dec.{eqb}
 use lib.ListN.{length, getD}
 use borrow.Author.Tests.{eqb-true}
 use Rattle.facts.proofs.Bools.{and-left, and-right}
-use Rattle.fields.specs.Field.{Field, arena, class, hole, page, out, slot, size, state, frontier, holes, holePages, commits, commitsHigh, reuses, reusesHigh, abandoned, abandonedHigh, held, partial, empty, emptyCount, cold, coldCount, start, pages, owner, first, next, prev, free, carved, listed, virgin, tally, region, off, block, row, get, put, same, ok}
+use Rattle.fields.specs.Field.{Field, arena, mark, class, hole, page, out, slot, size, state, frontier, holes, holePages, commits, commitsHigh, reuses, reusesHigh, abandoned, abandonedHigh, held, partial, empty, emptyCount, cold, coldCount, start, pages, owner, first, next, prev, free, carved, listed, virgin, tally, region, off, block, row, get, put, same, ok}
 use Rattle.fields.proofs.Laws.{get-put-other, length-put}
 
 -- ---- a field from its four numbers
 makers : List (List (ℕ → ℕ → Field))
 makers =
     map (λ k i r. arena k) (size ∷ state ∷ frontier ∷ holes ∷ holePages ∷ commits ∷ commitsHigh ∷ reuses ∷ reusesHigh ∷ abandoned ∷ abandonedHigh ∷ held ∷ [])
-    ∷ []
+    ∷ ((λ i r. mark r i) ∷ [])
     ∷ map (λ k i r. class k r) (partial ∷ empty ∷ emptyCount ∷ cold ∷ coldCount ∷ [])
     ∷ map (λ k i r. hole k r) (start ∷ pages ∷ [])
     ∷ map (λ k i r. page k r) (owner ∷ first ∷ next ∷ prev ∷ free ∷ carved ∷ listed ∷ virgin ∷ tally ∷ [])
@@ -27,7 +27,7 @@ makers =
     ∷ []
 
 make : ℕ → ℕ → ℕ → ℕ → Field
-make r k i x = getD (getD makers r []) k (λ i r. hole start r) i x
+make r k i x = getD (getD makers r []) k (λ i r. mark r i) i x
 
 made : (f : Field) → make (region f) (off f) (block f) (row f) ≡ f
 unfolding makers make
@@ -43,6 +43,7 @@ made (arena reusesHigh) = refl
 made (arena abandoned) = refl
 made (arena abandonedHigh) = refl
 made (arena held) = refl
+made (mark p j) = refl
 made (class partial c) = refl
 made (class empty c) = refl
 made (class emptyCount c) = refl

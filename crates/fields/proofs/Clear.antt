@@ -1,9 +1,9 @@
--- Clearing out bits: a whole word at once, one stretch after another, and what is read afterwards.
+-- Clearing out bits: a whole word at once, one stretch after another, and what is read afterwards. Then words of marks likewise.
 use Prim.Native.Nat.{ℕ, zero, suc, _+_, _-_, _*_, _/_, _%_, _^_, _≤_, _<_}
 use native.Mathlib.Omega.{arith}
 use native.Mathlib.Nat.{le-refl, add-zero, zero-add, suc-add, zero-mod, mod-one, mod-eq-of-lt, div-one}
 use native.Mathlib.Numerals.{add-one}
-use native.Mathlib.Decide.{decLe}
+use native.Mathlib.Decide.{ℕ-discrete, decLe}
 use mathlib.Core.Bool.{Bool, true}
 use mathlib.Core.List.{List}
 use mathlib.Core.Path.{_≡_, refl, sym, ap, _∙_}
@@ -12,10 +12,10 @@ use lib.ListN.{length, getD, set}
 use lib.Pow.{pow-add, shr-shr, mod-pow-add}
 use lib.Seq.{lt-length-set, getD-set-same, set-getD, set-set}
 use borrow.Author.Tests.{lt-ltb, ne-eqb}
-use Rattle.fields.specs.Field.{Field, bits, place, out, words, put, get}
-use Rattle.fields.specs.Clear.{clearOut}
+use Rattle.fields.specs.Field.{Field, bits, place, mark, out, words, put, get}
+use Rattle.fields.specs.Clear.{clearOut, clearMarks}
 use Rattle.fields.proofs.Parts.{below, read-place-other}
-use Rattle.fields.proofs.Laws.{length-put, get-put-same, get-put-other}
+use Rattle.fields.proofs.Laws.{length-put, get-put-same, get-put-other, put-comm}
 use Rattle.fields.proofs.Changes.{Changes, changes-put}
 
 taken : (w x y a c : ℕ) → y ≡ x * 2 → w - a * x + 0 * x - c * y + 0 * y ≡ w - (c * 2 + a) * x + 0 * x
@@ -107,3 +107,41 @@ changes-clear t b zero p i b′ h d c = c
 changes-clear t b (suc k) p i b′ h d c =
     changes-clear t b k p (i + 1) (put b′ (out p i) 0) (omega arith) (λ j l m. d j (omega arith) (omega arith))
     (changes-put t b b′ (out p i) 0 (lt-ltb i 4096 (omega arith)) (d i (omega arith) (omega arith)) c)
+
+-- ---- words of marks
+pub length-clear-marks : (m p : ℕ) (b : List ℕ) → length (clearMarks b p m) ≡ length b
+unfolding clearMarks
+length-clear-marks zero p b = refl
+length-clear-marks (suc m) p b = length-put (clearMarks b p m) (mark p m) 0 ∙ length-clear-marks m p b
+
+pub get-clear-marks : (n p : ℕ) → ltb p n ≡ true → (m j : ℕ) (b : List ℕ) → leb (words n) (length b) ≡ true → m ≤ 128 → j < m → get (clearMarks b p m) (mark p j) ≡ 0
+unfolding clearMarks
+get-clear-marks n p hp zero j b hb h l = absurd (omega arith)
+get-clear-marks n p hp (suc m) j b hb h l =
+    let o : ltb m 128 ≡ true = lt-ltb m 128 (omega arith) in
+    elim (ℕ-discrete j m) [
+      | yes e ↦ rw e (get-put-same n (clearMarks b p m) (mark p m) 0 (rw length-clear-marks hb) (rw o hp) refl)
+      | no e ↦
+          get-put-other (clearMarks b p m) (mark p m) (mark p j) 0 o (lt-ltb j 128 (omega arith)) (rw (ne-eqb m j (λ z. e (sym z))))
+          ∙ get-clear-marks n p hp m j b hb (omega arith) (omega (arith, e))
+    ]
+
+pub changes-clear-marks : (t : Field → Bool) (b : List ℕ) (m p : ℕ) (b′ : List ℕ) → m ≤ 128 → ((j : ℕ) → t (mark p j) ≡ true) → Changes t b b′ → Changes t b (clearMarks b′ p m)
+unfolding clearMarks
+changes-clear-marks t b zero p b′ h d c = c
+changes-clear-marks t b (suc m) p b′ h d c =
+    changes-put t b (clearMarks b′ p m) (mark p m) 0 (lt-ltb m 128 (omega arith)) (d m) (changes-clear-marks t b m p b′ (omega arith) d c)
+
+-- a word of marks cleared before out bits, or after; so a loop may clear both in turn
+past-out : (k p i j : ℕ) (b : List ℕ) → i + k ≤ 4096 → j < 128 → clearOut (put b (mark p j) 0) p i k ≡ put (clearOut b p i k) (mark p j) 0
+unfolding clearOut
+past-out zero p i j b h l = refl
+past-out (suc k) p i j b h l =
+    ap (λ x. clearOut x p (i + 1) k) (put-comm b (mark p j) (out p i) 0 0 (lt-ltb j 128 l) (lt-ltb i 4096 (omega arith)) refl)
+    ∙ past-out k p (i + 1) j (put b (out p i) 0) (omega arith) l
+
+pub marks-past-out : (m k p i : ℕ) (b : List ℕ) → i + k ≤ 4096 → m ≤ 128 → clearOut (clearMarks b p m) p i k ≡ clearMarks (clearOut b p i k) p m
+unfolding clearMarks
+marks-past-out zero k p i b h l = refl
+marks-past-out (suc m) k p i b h l =
+    past-out k p i m (clearMarks b p m) h (omega arith) ∙ ap (λ x. put x (mark p m) 0) (marks-past-out m k p i b h (omega arith))

@@ -17,7 +17,7 @@ use lib.ListN.{length, getD, set, length-set}
 use lib.Seq.{getD-set-same, getD-set-other, set-getD, set-set, set-comm, set-out}
 use borrow.Author.Tests.{leb-true, ltb-true, eqb-false, lt-ltb}
 use Rattle.facts.proofs.Bools.{and-left, and-right, and-false}
-use Rattle.fields.specs.Field.{Field, arena, class, hole, page, out, slot, ArenaField, ClassField, HoleField, PageField, arenaOff, classOff, holeOff, pageOff, word, Part, bits, part, read, place, get, put, same, ok, valid, words, room}
+use Rattle.fields.specs.Field.{Field, arena, mark, class, hole, page, out, slot, ArenaField, ClassField, HoleField, PageField, arenaOff, classOff, holeOff, pageOff, word, Part, bits, part, read, place, get, put, same, ok, valid, words, room}
 use Rattle.fields.proofs.Parts.{Split, below, above, holdable, read-place, read-small, place-read, place-place, read-place-other, place-comm}
 
 -- ---- the offsets
@@ -96,36 +96,49 @@ slots p q i j hi hj e =
 separate : (f g : Field) → ok f ≡ true → ok g ≡ true → same f g ≡ false → Separate f g
 unfolding Separate
 separate (arena k) (arena l) u v e = inl (λ z. both (arenaOff k) (arenaOff l) 0 0 e z refl)
+separate (arena k) (mark q j) u v e = inl (λ z. omega (arith, ltb-true, arenaOff-lt k))
 separate (arena k) (class l d) u v e = inl (λ z. omega (arith, ltb-true, arenaOff-lt k, classOff-lt l))
 separate (arena k) (hole l j) u v e = inl (λ z. omega (arith, ltb-true, arenaOff-lt k, holeOff-lt l))
 separate (arena k) (page l q) u v e = inl (λ z. omega (arith, ltb-true, arenaOff-lt k, pageOff-lt l))
 separate (arena k) (out q j) u v e = inl (λ z. omega (arith, ltb-true, arenaOff-lt k))
 separate (arena k) (slot q j) u v e = inl (λ z. omega (arith, ltb-true, arenaOff-lt k))
+separate (mark p i) (arena l) u v e = inl (λ z. omega (arith, ltb-true, arenaOff-lt l))
+separate (mark p i) (mark q j) u v e = inl (λ z. both i j p q e (omega (arith, ltb-true)) (omega (arith, ltb-true)))
+separate (mark p i) (class l d) u v e = inl (λ z. omega (arith, ltb-true, classOff-lt l))
+separate (mark p i) (hole l j) u v e = inl (λ z. omega (arith, ltb-true, holeOff-lt l))
+separate (mark p i) (page l q) u v e = inl (λ z. omega (arith, ltb-true, pageOff-lt l))
+separate (mark p i) (out q j) u v e = inl (λ z. omega (arith, ltb-true))
+separate (mark p i) (slot q j) u v e = inl (λ z. omega (arith, ltb-true))
 separate (class k c) (arena l) u v e = inl (λ z. omega (arith, ltb-true, classOff-lt k, arenaOff-lt l))
+separate (class k c) (mark q j) u v e = inl (λ z. omega (arith, ltb-true, classOff-lt k))
 separate (class k c) (class l d) u v e = inl (λ z. both (classOff k) (classOff l) c d e (omega (arith, ltb-true, classOff-lt k, classOff-lt l)) (omega (arith, ltb-true, classOff-lt k, classOff-lt l)))
 separate (class k c) (hole l j) u v e = inl (λ z. omega (arith, ltb-true, classOff-lt k, holeOff-lt l))
 separate (class k c) (page l q) u v e = inl (λ z. omega (arith, ltb-true, classOff-lt k, pageOff-lt l))
 separate (class k c) (out q j) u v e = inl (λ z. omega (arith, ltb-true, classOff-lt k))
 separate (class k c) (slot q j) u v e = inl (λ z. omega (arith, ltb-true, classOff-lt k))
 separate (hole k i) (arena l) u v e = inl (λ z. omega (arith, ltb-true, holeOff-lt k, arenaOff-lt l))
+separate (hole k i) (mark q j) u v e = inl (λ z. omega (arith, ltb-true, holeOff-lt k))
 separate (hole k i) (class l d) u v e = inl (λ z. omega (arith, ltb-true, holeOff-lt k, classOff-lt l))
 separate (hole k i) (hole l j) u v e = inl (λ z. both (holeOff k) (holeOff l) i j e (omega (arith, ltb-true, holeOff-lt k, holeOff-lt l)) (omega (arith, ltb-true, holeOff-lt k, holeOff-lt l)))
 separate (hole k i) (page l q) u v e = inl (λ z. omega (arith, ltb-true, holeOff-lt k, pageOff-lt l))
 separate (hole k i) (out q j) u v e = inl (λ z. omega (arith, ltb-true, holeOff-lt k))
 separate (hole k i) (slot q j) u v e = inl (λ z. omega (arith, ltb-true, holeOff-lt k))
 separate (page k p) (arena l) u v e = inl (λ z. omega (arith, ltb-true, pageOff-lt k, arenaOff-lt l))
+separate (page k p) (mark q j) u v e = inl (λ z. omega (arith, ltb-true, pageOff-lt k))
 separate (page k p) (class l d) u v e = inl (λ z. omega (arith, ltb-true, pageOff-lt k, classOff-lt l))
 separate (page k p) (hole l j) u v e = inl (λ z. omega (arith, ltb-true, pageOff-lt k, holeOff-lt l))
 separate (page k p) (page l q) u v e = inl (λ z. both (pageOff k) (pageOff l) p q e (omega (arith, ltb-true, pageOff-lt k, pageOff-lt l)) (omega (arith, ltb-true, pageOff-lt k, pageOff-lt l)))
 separate (page k p) (out q j) u v e = inl (λ z. omega (arith, ltb-true, pageOff-lt k))
 separate (page k p) (slot q j) u v e = inl (λ z. omega (arith, ltb-true, pageOff-lt k))
 separate (out p i) (arena l) u v e = inl (λ z. omega (arith, ltb-true, arenaOff-lt l))
+separate (out p i) (mark q j) u v e = inl (λ z. omega (arith, ltb-true))
 separate (out p i) (class l d) u v e = inl (λ z. omega (arith, ltb-true, classOff-lt l))
 separate (out p i) (hole l j) u v e = inl (λ z. omega (arith, ltb-true, holeOff-lt l))
 separate (out p i) (page l q) u v e = inl (λ z. omega (arith, ltb-true, pageOff-lt l))
 separate (out p i) (out q j) u v e = outs p q i j (ltb-true _ _ u) (ltb-true _ _ v) e
 separate (out p i) (slot q j) u v e = inl (λ z. omega (arith, ltb-true))
 separate (slot p i) (arena l) u v e = inl (λ z. omega (arith, ltb-true, arenaOff-lt l))
+separate (slot p i) (mark q j) u v e = inl (λ z. omega (arith, ltb-true))
 separate (slot p i) (class l d) u v e = inl (λ z. omega (arith, ltb-true, classOff-lt l))
 separate (slot p i) (hole l j) u v e = inl (λ z. omega (arith, ltb-true, holeOff-lt l))
 separate (slot p i) (page l q) u v e = inl (λ z. omega (arith, ltb-true, pageOff-lt l))
@@ -135,6 +148,7 @@ separate (slot p i) (slot q j) u v e = slots p q i j (ltb-true _ _ u) (ltb-true 
 -- ---- what a field holds
 holds : (f : Field) (v : ℕ) → room f v ≡ true → holdable (part f) v
 holds (arena k) v e = tt
+holds (mark p j) v e = tt
 holds (class k c) v e = tt
 holds (hole k i) v e = tt
 holds (page k p) v e = tt
@@ -144,6 +158,7 @@ holds (slot p i) v e = ltb-true v 65536 e
 pub get-room : (b : List ℕ) (f : Field) → room f (get b f) ≡ true
 unfolding get
 get-room b (arena k) = refl
+get-room b (mark p j) = refl
 get-room b (class k c) = refl
 get-room b (hole k i) = refl
 get-room b (page k p) = refl
@@ -153,6 +168,8 @@ get-room b (slot p i) = lt-ltb _ _ (read-small _ 16 (getD b (word (slot p i)) 0)
 -- ---- a field of a book of n pages lies in it
 pub within : (n : ℕ) (f : Field) → valid n f ≡ true → word f < words n
 within n (arena k) e = omega (arith, arenaOff-lt k)
+within n (mark p j) e =
+    omega (arith, ltb-true j 128 (and-left _ (ltb p n) e), ltb-true p n (and-right (ltb j 128) _ e))
 within n (class k c) e = omega (arith, ltb-true, classOff-lt k)
 within n (hole k i) e = omega (arith, ltb-true, holeOff-lt k)
 within n (page k p) e = omega (arith, ltb-true, pageOff-lt k)

@@ -1,12 +1,13 @@
 -- The book's fields by name, where each lies, and how one is read and written. The book is `meta`, or b: a list of words.
---     Field         a field: of the arena, of a class, of a hole, of a page, an entry of a page's stack, an out bit
+--     Field         a field: of the arena, a word of marks, of a class, of a hole, of a page, an out bit, an entry of a page's stack
 --     word, part    its word, and which bits of the word
 --     get, put      the field's value in a book, and the book with another value there
 --     same          whether two fields are one: it computes at constructors, so that fields of different names differ by `refl`
---     ok            a class, hole and block are within their rows; valid n: and the page is below n
+--     ok            a class, hole, block and word of marks are within their rows; valid n: and the page is below n
 --     room          the value is one that the field can hold
 --     words         the words of a book
--- A page's words 144 to 271 are kept for marks, and have no field yet. Words 12 to 159 have none.
+-- A mark (document 02, A.3) is a bit of a page's words 144 to 271; its field is the whole word, 32 blocks' marks, since marks are cleared so.
+-- Words 12 to 159 have no field.
 use Prim.Native.Nat.{ℕ, _+_, _-_, _*_, _/_, _%_, _^_, _<_}
 use mathlib.Core.Bool.{Bool, true, _&&_}
 use mathlib.Core.List.{List}
@@ -29,6 +30,7 @@ pub data PageField : Type 0 where
 
 pub data Field : Type 0 where
   arena : ArenaField → Field
+  mark : ℕ → ℕ → Field
   class : ClassField → ℕ → Field
   hole : HoleField → ℕ → Field
   page : PageField → ℕ → Field
@@ -74,6 +76,7 @@ pageOff tally = 8
 
 abbrev pub word : Field → ℕ
 word (arena k) = arenaOff k
+word (mark p j) = 40144 + 4112 * p + j
 word (class k c) = 160 + 8 * c + classOff k
 word (hole k i) = 1024 + 2 * i + holeOff k
 word (page k p) = 40000 + 4112 * p + pageOff k
@@ -87,6 +90,7 @@ pub data Part : Type 0 where
 
 abbrev pub part : Field → Part
 part (arena k) = whole
+part (mark p j) = whole
 part (class k c) = whole
 part (hole k i) = whole
 part (page k p) = whole
@@ -114,9 +118,10 @@ unfoldable pub put : List ℕ → Field → ℕ → List ℕ
 put b f v = set b (word f) (place (part f) (getD b (word f) 0) v)
 
 -- ---- which field
--- a number for each constructor (1 is free); the name's offset; the block; the page, or what else counts the rows
+-- a number for each constructor; the name's offset; the block, or the word of marks; the page, or what else counts the rows
 abbrev pub region : Field → ℕ
 region (arena k) = 0
+region (mark p j) = 1
 region (class k c) = 2
 region (hole k i) = 3
 region (page k p) = 4
@@ -125,6 +130,7 @@ region (slot p i) = 6
 
 abbrev pub off : Field → ℕ
 off (arena k) = arenaOff k
+off (mark p j) = 0
 off (class k c) = classOff k
 off (hole k i) = holeOff k
 off (page k p) = pageOff k
@@ -133,6 +139,7 @@ off (slot p i) = 0
 
 abbrev pub block : Field → ℕ
 block (arena k) = 0
+block (mark p j) = j
 block (class k c) = 0
 block (hole k i) = 0
 block (page k p) = 0
@@ -141,6 +148,7 @@ block (slot p i) = i
 
 abbrev pub row : Field → ℕ
 row (arena k) = 0
+row (mark p j) = p
 row (class k c) = c
 row (hole k i) = i
 row (page k p) = p
@@ -153,6 +161,7 @@ same f g = eqb (region f) (region g) && (eqb (off f) (off g) && (eqb (block f) (
 -- ---- which fields there are, and what they hold
 abbrev pub ok : Field → Bool
 ok (arena k) = true
+ok (mark p j) = ltb j 128
 ok (class k c) = ltb c 76
 ok (hole k i) = ltb i holeSlots
 ok (page k p) = true
@@ -161,6 +170,7 @@ ok (slot p i) = ltb i 4096
 
 abbrev pub valid : ℕ → Field → Bool
 valid n (arena k) = true
+valid n (mark p j) = ltb j 128 && ltb p n
 valid n (class k c) = ltb c 76
 valid n (hole k i) = ltb i holeSlots
 valid n (page k p) = ltb p n
@@ -169,6 +179,7 @@ valid n (slot p i) = ltb i 4096 && ltb p n
 
 abbrev pub room : Field → ℕ → Bool
 room (arena k) v = true
+room (mark p j) v = true
 room (class k c) v = true
 room (hole k i) v = true
 room (page k p) v = true

@@ -8,15 +8,15 @@ use mathlib.Core.Path.{_≡_, refl, ap, _∙_}
 use lib.ListN.{length}
 use borrow.Author.Tests.{eq-eqb, ne-eqb}
 use Rattle.classes.specs.declared.Shape.{Shape}
-use Rattle.fields.specs.Field.{page, slot, free, carved, virgin, listed, put}
-use Rattle.fields.specs.Clear.{clearOut}
+use Rattle.fields.specs.Field.{page, mark, slot, free, carved, virgin, listed, put}
+use Rattle.fields.specs.Clear.{clearOut, clearMarks}
 use Rattle.fields.proofs.Laws.{length-put}
-use Rattle.fields.proofs.Clear.{length-clear, clear-more}
+use Rattle.fields.proofs.Clear.{length-clear, clear-more, marks-past-out}
 use Rattle.words.specs.Host.{digit}
 use Rattle.pages.specs.Runs.{nameRun}
 use Rattle.pages.specs.Stack.{downs, push}
-use Rattle.pages.specs.Asks.{StockAsks, CarveAsks}
-use Rattle.pages.specs.Carve.{stocked, carveAnew, bareRun, newRun}
+use Rattle.pages.specs.Asks.{StockAsks, CarveAsks, ClearAsks}
+use Rattle.pages.specs.Carve.{stocked, carveAnew, bareBits, bareRun, newRun}
 use Rattle.pages.proofs.Downs.{length-downs}
 use Rattle.pages.proofs.Frames.{stocked-le}
 
@@ -40,37 +40,50 @@ stock-again b₀ q k b b′ i h v e =
 pub stock-done : (b₀ : List ℕ) (q k : ℕ) (b : List ℕ) (i : ℕ) → k ≤ i → StockInv b₀ q k b i → b ≡ push b₀ q 0 (downs 0 k)
 stock-done b₀ q k b i h v = let e : i ≡ k = omega (arith, v .within) in v .done ∙ ap (λ z. push b₀ q 0 (downs 0 z)) e
 
--- ---- words of out bits
+-- ---- words of out bits and of marks
+pub word-done : (b : List ℕ) (q j : ℕ) (b₁ b₂ : List ℕ) → b₁ ≡ clearOut b q (32 * j) 32 → b₂ ≡ put b₁ (mark q j) 0 → b₂ ≡ put (clearOut b q (32 * j) 32) (mark q j) 0
+word-done b q j b₁ b₂ e e′ = cc
+
 pub record ClearInv (b₀ : List ℕ) (q k : ℕ) (b : List ℕ) (i : ℕ) : Type 0 where
+  pub few : k ≤ 128
   pub within : i ≤ k
   pub long : length b ≡ length b₀
-  pub done : b ≡ clearOut b₀ q 0 (32 * i)
+  pub done : b ≡ bareBits b₀ q i
 
-pub clear-start : (b₀ : List ℕ) (q k : ℕ) → ClearInv b₀ q k b₀ 0
-unfolding clearOut
-clear-start b₀ q k = record { within = omega arith; long = refl; done = refl }
+pub word-asks : (b₀ : List ℕ) (q k : ℕ) (b : List ℕ) (i : ℕ) → ClearAsks b₀ q k → ClearInv b₀ q k b i → i < k → ClearAsks b q (i + 1)
+word-asks b₀ q k b i a v h = record { few = omega (arith, a .few); there = rw (v .long) (a .there) }
 
-pub clear-again : (b₀ : List ℕ) (q k : ℕ) (b b′ : List ℕ) (i : ℕ) → i < k → ClearInv b₀ q k b i → b′ ≡ clearOut b q (32 * i) 32 → ClearInv b₀ q k b′ (i + 1)
+pub clear-start : (b₀ : List ℕ) (q k : ℕ) → ClearAsks b₀ q k → ClearInv b₀ q k b₀ 0
+unfolding clearOut clearMarks
+clear-start b₀ q k a = record { few = a .few; within = omega arith; long = refl; done = refl }
+
+pub clear-again : (b₀ : List ℕ) (q k : ℕ) (b b′ : List ℕ) (i : ℕ) → i < k → ClearInv b₀ q k b i → b′ ≡ put (clearOut b q (32 * i) 32) (mark q i) 0 → ClearInv b₀ q k b′ (i + 1)
+unfolding clearMarks
 clear-again b₀ q k b b′ i h v e =
     record {
+      few = v .few;
       within = omega arith;
-      long = rw e (length-clear 32 q (32 * i) b ∙ v .long);
-      done =
-          e
-          ∙ ap (λ z. clearOut z q (32 * i) 32) (v .done)
-          ∙ ap (λ z. clearOut (clearOut b₀ q 0 (32 * i)) q z 32) (sum (32 * i))
-          ∙ clear-more (32 * i) 32 q 0 b₀
-          ∙ ap (clearOut b₀ q 0) next;
+      long = e-long ∙ v .long;
+      done = e ∙ ap (λ z. put z (mark q i) 0) (ap (λ z. clearOut z q (32 * i) 32) (v .done) ∙ marks-past-out i 32 q (32 * i) (clearOut b₀ q 0 (32 * i)) (omega (arith, v .few)) (omega (arith, v .few)) ∙ ap (λ z. clearMarks z q i) outs) ∙ one-more (clearOut b₀ q 0 (32 * (i + 1)));
     }
   where
+    e-long : length b′ ≡ length b
+    e-long = ap length e ∙ length-put (clearOut b q (32 * i) 32) (mark q i) 0 ∙ length-clear 32 q (32 * i) b
+
+    one-more : (d : List ℕ) → put (clearMarks d q i) (mark q i) 0 ≡ clearMarks d q (i + 1)
+    one-more d = rw (add-one i)
+
     sum : (x : ℕ) → x ≡ 0 + x
     sum x = omega arith
 
     next : 32 * i + 32 ≡ 32 * (i + 1)
     next = omega arith
 
-pub clear-done : (b₀ : List ℕ) (q k : ℕ) (b : List ℕ) (i : ℕ) → k ≤ i → ClearInv b₀ q k b i → b ≡ clearOut b₀ q 0 (32 * k)
-clear-done b₀ q k b i h v = let e : i ≡ k = omega (arith, v .within) in v .done ∙ ap (λ z. clearOut b₀ q 0 (32 * z)) e
+    outs : clearOut (clearOut b₀ q 0 (32 * i)) q (32 * i) 32 ≡ clearOut b₀ q 0 (32 * (i + 1))
+    outs = ap (λ z. clearOut (clearOut b₀ q 0 (32 * i)) q z 32) (sum (32 * i)) ∙ clear-more (32 * i) 32 q 0 b₀ ∙ ap (clearOut b₀ q 0) next
+
+pub clear-done : (b₀ : List ℕ) (q k : ℕ) (b : List ℕ) (i : ℕ) → k ≤ i → ClearInv b₀ q k b i → b ≡ bareBits b₀ q k
+clear-done b₀ q k b i h v = let e : i ≡ k = omega (arith, v .within) in v .done ∙ ap (λ z. bareBits b₀ q z) e
 
 -- ---- a run
 pub stocked-all : (sh : Shape) → sh .kind ≡ 2 → sh .capacity ≡ stocked sh
@@ -86,6 +99,6 @@ pub carve-done : (b : List ℕ) (sh : Shape) (q : ℕ) (v : Bool) (k f : ℕ) (b
 unfolding carveAnew
 carve-done b sh q v k f b₁ b₂ b₃ b₄ e e₁ e′ e₂ e₃ e₄ = rw (e₄, e₃, e₂, e₁, e′, e)
 
-pub new-done : (b : List ℕ) (sh : Shape) (q : ℕ) (b₁ b₂ b₃ b₄ : List ℕ) → b₁ ≡ nameRun b q q (sh .pages) → b₂ ≡ clearOut b₁ q 0 (32 * ((sh .capacity + 31) / 32)) → b₃ ≡ put b₂ (page listed q) 0 → b₄ ≡ carveAnew b₃ sh q true → b₄ ≡ newRun b sh q
+pub new-done : (b : List ℕ) (sh : Shape) (q : ℕ) (b₁ b₂ b₃ b₄ : List ℕ) → b₁ ≡ nameRun b q q (sh .pages) → b₂ ≡ bareBits b₁ q ((sh .capacity + 31) / 32) → b₃ ≡ put b₂ (page listed q) 0 → b₄ ≡ carveAnew b₃ sh q true → b₄ ≡ newRun b sh q
 unfolding newRun bareRun
 new-done b sh q b₁ b₂ b₃ b₄ e₁ e₂ e₃ e₄ = cc

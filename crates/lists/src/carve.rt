@@ -1,10 +1,11 @@
 // Carving a run, and a run that the arena gave.
 ghost use mathlib.Core.Path.{_≡_};
-ghost use Prim.Native.Nat.{_*_};
+ghost use Prim.Native.Nat.{_+_, _*_};
 ghost use Rattle.fields.specs.Clear.{clearOut};
+ghost use Rattle.fields.specs.Field.{mark, put};
 ghost use Rattle.words.specs.Host.{digit};
 ghost use Rattle.pages.specs.Stack.{downs, push};
-ghost use Rattle.pages.specs.Carve.{stocked, carveAnew, newRun};
+ghost use Rattle.pages.specs.Carve.{stocked, carveAnew, bareBits, newRun};
 ghost use Rattle.pages.specs.Asks.{StockAsks, CarveAsks, ClearAsks, NewAsks};
 use crate::runs::name_run;
 use classes::Shape;
@@ -50,14 +51,23 @@ pub fn carve_anew(meta: &mut [u32], shape: Shape, q: u32, virgin: bool)
     fields::page::set_free(meta, q, k);
 }
 
-// The blocks of the first k words of out bits are not out.
-pub fn clear_out(meta: &mut [u32], q: u32, k: u32)
+// Blocks 32 j to 32 j + 31 are not out, and not marked.
+fn clear_word(meta: &mut [u32], q: u32, j: u32)
+    requires { ⌜ ClearAsks (now meta) q (j + 1) ⌝ }
+    ensures { λ _. ⌜ now (meta .exit) ≡ put (clearOut (now (meta .entry)) q (32 * j) 32) (mark q j) 0 ⌝ }
+{
+    fields::out::clear_word(meta, q, j);
+    fields::marks::set_word(meta, q, j, 0);
+}
+
+// The blocks of the first k words of out bits are not out, and not marked.
+pub fn clear_bits(meta: &mut [u32], q: u32, k: u32)
     requires { ⌜ ClearAsks (now meta) q k ⌝ }
-    ensures { λ _. ⌜ now (meta .exit) ≡ clearOut (now (meta .entry)) q 0 (32 * k) ⌝ }
+    ensures { λ _. ⌜ now (meta .exit) ≡ bareBits (now (meta .entry)) q k ⌝ }
 {
     let mut j = 0;
     while j < k {
-        fields::out::clear_word(meta, q, j);
+        clear_word(meta, q, j);
         j += 1;
     }
 }
@@ -67,7 +77,7 @@ pub fn new_run(meta: &mut [u32], shape: Shape, q: u32)
     ensures { λ _. ⌜ now (meta .exit) ≡ newRun (now (meta .entry)) shape q ⌝ }
 {
     name_run(meta, q, shape.pages);
-    clear_out(meta, q, (shape.capacity + 31) / 32);
+    clear_bits(meta, q, (shape.capacity + 31) / 32);
     fields::page::set_listed(meta, q, 0);
     carve_anew(meta, shape, q, true);
 }

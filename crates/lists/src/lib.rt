@@ -6,7 +6,7 @@ mod runs;
 mod stores;
 
 pub use carve::carve_anew;
-pub use carve::clear_out;
+pub use carve::clear_bits;
 pub use carve::new_run;
 pub use fair::header_fair;
 pub use fair::links_fair;

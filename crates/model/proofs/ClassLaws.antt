@@ -20,10 +20,10 @@ use Rattle.model.specs.declared.Spot.the-variants.{ToEmpty, ToCold, ToAr
 use Rattle.model.specs.Calls.{Request, take, giveBack, giveChunks, fate, fates, refused, blocksOf, releasedBy}
 use Rattle.model.specs.Page.{Page, isMedium, carve, isOut, noneOut, reused, returned, retire}
 use Rattle.model.specs.Class.{Class, lists, Cold, Result, Ask, done, asks, serve, refuse, Filled, fillFromList, served, thawed, onRun, takeFrom}
-use Rattle.model.specs.Release.{Site, locate, Settled, spotIn, park, parkIn, markRetired, settle, outHere, onPage, siteOfFirst, releaseList}
+use Rattle.model.specs.Release.{Site, locate, Settled, spotIn, park, parkIn, markRetired, settle, outHere, repeats, onPage, siteOfFirst, releaseList}
 use Rattle.model.specs.Chunks.{startsAt, blocksOn, chunkFits, chunkedOn, chunked, settleChunk, settleChunks, releaseChunks, answer}
 use Rattle.model.specs.Ledger.{runsWith}
-use Rattle.model.proofs.Counts.{every-count, filter-le, filter-passes, filter-keeps, distinct-count, total-append}
+use Rattle.model.proofs.Counts.{every-count, filter-le, filter-passes, filter-keeps, each-once, distinct-count, total-append}
 use Rattle.model.proofs.Pages.{all-append, outOf, on, out-le, is-out, out-is, GoodPage, EmptyPage, carve-empty, carve-on, reused-empty, reused-on, thawed-empty, thawed-on, Fills, fills, return-good, return-moves, none-out-of, retire-empty, return-on, retire-on}
 use Rattle.model.proofs.Sites.{outs, outCount, outFrom, outAt, Once, GoodClass, SiteLaw, SiteLaws, locate-law, Tells, locate-tells, out-once, out-first}
 
@@ -315,19 +315,23 @@ module _ (sh : Shape) (ok : Sound sh) where
   first-law s [] good = tt
   first-law s (w ∷ ws) good = locate-law sh s good (isOut sh w)
 
-  module _ (s : Class) (good : GoodClass sh s) (one : Once sh s) (h : ℕ) (ws : List ℕ) (passed : not (every (outHere sh s) ws && distinct ws) ≡ false) where
+  module _ (s : Class) (good : GoodClass sh s) (one : Once sh s) (h : ℕ) (ws : List ℕ) (single : repeats sh s ws ≡ false) (out : not (every (outHere sh s) ws) ≡ false) where
+    once : distinct ws ≡ true
+    unfolding repeats
+    once = each-once (outHere sh s) ws single (not-false (every (outHere sh s) ws) out)
+
     list-lawful : Lawful sh s (giveBack h ws) (onPage sh h s ws (siteOfFirst sh s ws))
-    list-lawful = page-lawful h s ws good one (second (every (outHere sh s) ws) (distinct ws) passed) (siteOfFirst sh s ws) (first-law s ws good)
+    list-lawful = page-lawful h s ws good one once (siteOfFirst sh s ws) (first-law s ws good)
 
     chunks-lawful : (gs fs l : List ℕ) → not (distinct (map pageOf gs) && (every (chunkFits sh s ws) gs && every (chunked sh s gs) ws)) ≡ false
         → Lawful sh s (giveChunks h ws gs fs) (done (record { class = settleChunks sh h ws s gs .class; answer = fates l; gives = settleChunks sh h ws s gs .gives }))
     chunks-lawful gs fs l placed =
         let every-one = and-right (every (chunkFits sh s ws) gs) (every (chunked sh s gs) ws) (second (distinct (map pageOf gs)) (every (chunkFits sh s ws) gs && every (chunked sh s gs) ws) placed) in
-        lawful-done (chunks-moves s ws gs l (settleChunks sh h ws s gs .class) (settleChunks sh h ws s gs .gives) good one every-one (chunks-law h ws (second (every (outHere sh s) ws) (distinct ws) passed) s gs good one))
+        lawful-done (chunks-moves s ws gs l (settleChunks sh h ws s gs .class) (settleChunks sh h ws s gs .gives) good one every-one (chunks-law h ws once s gs good one))
 
   -- every request of a class is lawful
   pub answer-lawful : (s : Class) → GoodClass sh s → Once sh s → (a : Request) → Lawful sh s a (answer sh s a)
   unfolding answer releaseList releaseChunks
   answer-lawful s good one (take h l) = search (lawful-cond sh s good, lawful-refuse sh s good, take-lawful h l (s .partial) (s .empty) (s .cold) (s .full) good)
   answer-lawful s good one (giveBack h ws) = search (lawful-cond sh s good, lawful-refuse sh s good, list-lawful s good one h ws)
-  answer-lawful s good one (giveChunks h ws gs fs) = search (lawful-cond sh s good, lawful-refuse sh s good, chunks-lawful s good one h ws) depth 9
+  answer-lawful s good one (giveChunks h ws gs fs) = search (lawful-cond sh s good, lawful-refuse sh s good, chunks-lawful s good one h ws) depth 10

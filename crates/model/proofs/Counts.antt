@@ -6,7 +6,7 @@ use mathlib.Core.Bool.{Bool, true, false, not, false≢true, true≢false}
 use native.Mathlib.Omega.{arith}
 use lib.Dec.{eqb}
 use lib.ListN.{take, drop, take-append-drop}
-use borrow.Author.Tests.{eqb-true, not-true}
+use borrow.Author.Tests.{eqb-true, not-true, not-false}
 use Rattle.facts.specs.Lists.{filter, every, total, elem, distinct, count}
 use Rattle.facts.proofs.Bools.{by-cases, and-left, and-right}
 
@@ -69,6 +69,14 @@ filter-keeps t w (x ∷ s) e =
     (λ b. by-cases (eqb w x)
     (λ a. absurd (true≢false (sym e ∙ ap t (eqb-true w x a) ∙ b)))
     (λ a. rw (b, a) (omega arith)))
+
+pub filter-all : (t : ℕ → Bool) (s : List ℕ) → every t s ≡ true → filter t s ≡ s
+filter-all t [] e = refl
+filter-all t (x ∷ s) e = rw (and-left (t x) (every t s) e) (ap (λ z. x ∷ z) (filter-all t s (and-right (t x) (every t s) e)))
+
+-- numbers 15 and 10 do not apply: no word stands twice
+pub each-once : (t : ℕ → Bool) (s : List ℕ) → not (distinct (filter t s)) ≡ false → every t s ≡ true → distinct s ≡ true
+each-once t s r e = sym (ap distinct (filter-all t s e)) ∙ not-false (distinct (filter t s)) r
 
 pub distinct-count : (w : ℕ) (s : List ℕ) → distinct s ≡ true → count w s ≤ 1
 distinct-count w [] e = omega arith

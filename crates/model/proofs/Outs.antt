@@ -10,7 +10,7 @@ use lib.Dec.{ltb}
 use lib.ListN.{length}
 use borrow.Author.Tests.{not-false}
 use Rattle.facts.specs.Lists.{isNil, every, distinct}
-use Rattle.facts.proofs.Bools.{by-cases, and-left, and-right}
+use Rattle.facts.proofs.Bools.{by-cases}
 use Rattle.words.specs.Host.{badHost}
 use Rattle.words.specs.Word.{chunkKind}
 use Rattle.classes.specs.declared.Shape.{Shape}
@@ -18,19 +18,19 @@ use Rattle.classes.specs.Shape.{shapeOf}
 use Rattle.classes.proofs.Shapes.{shape-sound}
 use Rattle.model.specs.Calls.{Call, Named, names, hostIn, wayOf, Request, take, giveBack, giveChunks, listOf, hostOf, isRefused}
 use Rattle.model.specs.Class.{Class, Ask, serve, refuse}
-use Rattle.model.specs.Release.{ofKind, outHere, releaseList}
+use Rattle.model.specs.Release.{ofKind, outHere, repeats, releaseList}
 use Rattle.model.specs.Chunks.{chunksMax, answer, releaseChunks}
 use Rattle.model.specs.Heap.{offer, finish, interact, classCall, step}
 use Rattle.model.specs.History.{events, heapAfter}
 use Rattle.model.specs.Entries.{OutIn, AllOut}
 use Rattle.model.specs.Demands.{Outs}
-use Rattle.model.proofs.Counts.{elem-count, every-count}
+use Rattle.model.proofs.Counts.{elem-count, every-count, each-once}
 use Rattle.model.proofs.Fold.{liveFrom, live-in, in-live}
 use Rattle.model.proofs.EntryCounts.{is, is-self, in-total, counted}
 use Rattle.model.proofs.Sites.{here-out, out-here}
 use Rattle.model.proofs.HeapLaws.{kept}
 
--- a request that is not refused passed its tests, number 10's too
+-- a request that is not refused passed its tests, those of numbers 15 and 10 too
 record Passed (b : Bool) (q : Ask) (g : Option ℕ) : Type 0 where
   not-so : b ≡ false
   on : isRefused (serve q g .answer) ≡ false
@@ -39,24 +39,35 @@ passed : (s : Class) (n : ℕ) (b : Bool) (q : Ask) (g : Option ℕ) → isRefus
 passed s n true q g u = absurd (true≢false u)
 passed s n false q g u = record { not-so = refl; on = u }
 
+record Tested (sh : Shape) (s : Class) (ws : List ℕ) : Type 0 where
+  out : every (outHere sh s) ws ≡ true
+  once : distinct ws ≡ true
+
 module _ (sh : Shape) (s : Class) (g : Option ℕ) where
-  list-tested : (h : ℕ) (ws : List ℕ) → isRefused (serve (answer sh s (giveBack h ws)) g .answer) ≡ false → (every (outHere sh s) ws && distinct ws) ≡ true
+  out-tested : (ws : List ℕ) (q : Ask) → isRefused (serve (cond (repeats sh s ws) (refuse s 15) (cond (not (every (outHere sh s) ws)) (refuse s 10) q)) g .answer) ≡ false → Tested sh s ws
+  unfolding repeats
+  out-tested ws q u =
+      let p15 = passed s 15 (repeats sh s ws) _ g u in
+      let o = not-false (every (outHere sh s) ws) (passed s 10 (not (every (outHere sh s) ws)) q g (p15 .on) .not-so) in
+      record { out = o; once = each-once (outHere sh s) ws (p15 .not-so) o }
+
+  list-tested : (h : ℕ) (ws : List ℕ) → isRefused (serve (answer sh s (giveBack h ws)) g .answer) ≡ false → Tested sh s ws
   unfolding answer releaseList
   list-tested h ws u =
       let p7 = passed s 7 (isNil ws) _ g u in
       let p9 = passed s 9 (not (every (ofKind (sh .kind)) ws)) _ g (p7 .on) in
-      not-false (every (outHere sh s) ws && distinct ws) (passed s 10 (not (every (outHere sh s) ws && distinct ws)) _ g (p9 .on) .not-so)
+      out-tested ws _ (p9 .on)
 
-  chunks-tested : (h : ℕ) (ws gs fs : List ℕ) → isRefused (serve (answer sh s (giveChunks h ws gs fs)) g .answer) ≡ false → (every (outHere sh s) ws && distinct ws) ≡ true
+  chunks-tested : (h : ℕ) (ws gs fs : List ℕ) → isRefused (serve (answer sh s (giveChunks h ws gs fs)) g .answer) ≡ false → Tested sh s ws
   unfolding answer releaseChunks
   chunks-tested h ws gs fs u =
       let p7 = passed s 7 (isNil ws || isNil gs) _ g u in
       let p8 = passed s 8 (ltb chunksMax (length gs) || ltb (length fs) (length gs)) _ g (p7 .on) in
       let p9 = passed s 9 (not (every (ofKind (sh .kind)) ws && every (ofKind chunkKind) gs)) _ g (p8 .on) in
-      not-false (every (outHere sh s) ws && distinct ws) (passed s 10 (not (every (outHere sh s) ws && distinct ws)) _ g (p9 .on) .not-so)
+      out-tested ws _ (p9 .on)
 
-  tested : (a : Request) → isRefused (serve (answer sh s a) g .answer) ≡ false → (every (outHere sh s) (listOf a) && distinct (listOf a)) ≡ true
-  tested (take h l) u = refl
+  tested : (a : Request) → isRefused (serve (answer sh s a) g .answer) ≡ false → Tested sh s (listOf a)
+  tested (take h l) u = record { out = refl; once = refl }
   tested (giveBack h ws) u = list-tested h ws u
   tested (giveChunks h ws gs fs) u = chunks-tested h ws gs fs u
 
@@ -88,8 +99,8 @@ module _ (size : ℕ) (xs : List Call) where
       let q = answer (shapeOf c) (class c) (d .request) in
       let t = tested (shapeOf c) (class c) (offer size (hostOf (d .request)) (heapAfter size xs .arena) q .run) (d .request) (rw (h, e) at u) in
       record {
-        out = λ w m. out-told c w (every-count (outHere (shapeOf c) (class c)) w ws (and-left (every (outHere (shapeOf c) (class c)) ws) (distinct ws) t) (elem-count w ws m));
-        once = and-right (every (outHere (shapeOf c) (class c)) ws) (distinct ws) t;
+        out = λ w m. out-told c w (every-count (outHere (shapeOf c) (class c)) w ws (t .out) (elem-count w ws m));
+        once = t .once;
       }
 
   pub outs : Outs size xs

@@ -11,7 +11,7 @@ use Rattle.classes.specs.declared.Shape.{Shape}
 use Rattle.model.specs.Calls.{Request, take, giveBack, giveChunks, fates}
 use Rattle.model.specs.Page.{Page, isOut}
 use Rattle.model.specs.Class.{Class, Ask, done, refuse, takeFrom}
-use Rattle.model.specs.Release.{Site, Settled, locate, settle, ofKind, outHere, releaseList}
+use Rattle.model.specs.Release.{Site, Settled, locate, settle, ofKind, outHere, repeats, releaseList}
 
 -- "Groups exceed 2,056"
 abbrev pub chunksMax : ℕ
@@ -58,15 +58,16 @@ settleChunks sh h ws s (g ∷ gs) =
     let r = settleChunks sh h ws (b .class) gs in
     record { class = r .class; fates = b .fate ∷ r .fates; gives = b .gives ++ r .gives }
 
--- numbers 7 to 11, each over both lists; "the fates stand in the groups' order and entries past them keep their content"
+-- numbers 7 to 9, 15, 10, 11, each over both lists; "the fates stand in the groups' order and entries past them keep their content"
 unfoldable pub releaseChunks : Shape → ℕ → Class → List ℕ → List ℕ → List ℕ → Ask
 releaseChunks sh h s ws gs fs =
     cond (isNil ws || isNil gs) (refuse s 7)
     (cond (ltb chunksMax (length gs) || ltb (length fs) (length gs)) (refuse s 8)
     (cond (not (every (ofKind (sh .kind)) ws && every (ofKind chunkKind) gs)) (refuse s 9)
-    (cond (not (every (outHere sh s) ws && distinct ws)) (refuse s 10)
+    (cond (repeats sh s ws) (refuse s 15)
+    (cond (not (every (outHere sh s) ws)) (refuse s 10)
     (cond (not (distinct (map pageOf gs) && (every (chunkFits sh s ws) gs && every (chunked sh s gs) ws))) (refuse s 11)
-    (let b = settleChunks sh h ws s gs in done (record { class = b .class; answer = fates (b .fates ++ drop (length gs) fs); gives = b .gives }))))))
+    (let b = settleChunks sh h ws s gs in done (record { class = b .class; answer = fates (b .fates ++ drop (length gs) fs); gives = b .gives })))))))
 
 -- one request of a class, from number 5 on
 unfoldable pub answer : Shape → Class → Request → Ask

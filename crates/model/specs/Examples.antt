@@ -178,6 +178,13 @@ rules =
     ∷ onPark 69 25 0 (parked 0 25 1)
     ∷ onPark 75 15 0 (parked 0 16 0)
     ∷ onPark 75 16 0 (parked 0 16 1)
+    -- "The repeat shall be reported first" (document 02, A.2): a repeated block and one already back, in every order; "A repeat of a block
+    -- not out in it stays 10"; a wrong kind stays 9
+    ∷ onNewHeap (take45 ∷ give45 15 (smalls (3 ∷ [])) ∷ give45 15 (smalls (2051 ∷ 3 ∷ 2051 ∷ [])) ∷ give45 15 (smalls (3 ∷ 2051 ∷ 2051 ∷ [])) ∷ give45 15 (smalls (2051 ∷ 2051 ∷ 3 ∷ [])) ∷ give45 15 (smalls (2051 ∷ 3 ∷ 3 ∷ [])) ∷ give45 15 (smalls (3 ∷ 3 ∷ [])) ∷ give45 15 (smalls (2051 ∷ 2051 ∷ []) ++ mediums (64 ∷ [])) ∷ give45 15 (smalls (2051 ∷ 1027 ∷ [])) ∷ [])
+    (taken45 0 true ∷ fate 0 ∷ refused 15 ∷ refused 15 ∷ refused 15 ∷ refused 10 ∷ refused 10 ∷ refused 9 ∷ fate 0 ∷ []) []
+    -- "it comes between 9 and 10", so before 11: a repeat on two pages; in groups whose counts are not the list's, and whose page is missing
+    ∷ onNewHeap (take45 ∷ take45 ∷ give45 15 (smalls (2051 ∷ 6147 ∷ 2051 ∷ [])) ∷ give45 15 (smalls (2051 ∷ 6147 ∷ [])) ∷ releaseBinChunks 45 15 (smalls (2051 ∷ 2051 ∷ [])) (chunkWord 1 0 ∷ []) (9 ∷ []) ∷ releaseBinChunks 45 15 (smalls (2051 ∷ 2051 ∷ [])) (chunkWord 2 1 ∷ []) (9 ∷ []) ∷ releaseBinChunks 45 15 (smalls (2051 ∷ [])) (chunkWord 2 0 ∷ []) (9 ∷ []) ∷ [])
+    (taken45 0 true ∷ taken45 4096 true ∷ refused 15 ∷ refused 11 ∷ refused 15 ∷ refused 15 ∷ refused 11 ∷ []) []
     -- "2,056 groups pass, 2,057 give 8": none of these is of a page that is there
     ∷ onClass (releaseChunks (shapeOf 45) 15 newClass three (replicate 2056 (chunkWord 1 0)) (lent 2056)) (refused 10)
     ∷ onClass (releaseChunks (shapeOf 45) 15 newClass three (replicate 2057 (chunkWord 1 0)) (lent 2057)) (refused 8)

@@ -2,10 +2,10 @@
 use Prim.Native.Nat.{ℕ}
 use mathlib.Core.List.{List, [], _∷_, _++_}
 use mathlib.Core.Option.{Option, none, some}
-use mathlib.Core.Bool.{Bool, false, cond, not, _&&_}
+use mathlib.Core.Bool.{Bool, false, cond, not}
 use lib.Dec.{eqb}
 use lib.ListN.{length}
-use Rattle.facts.specs.Lists.{isNil, every, isSome, distinct}
+use Rattle.facts.specs.Lists.{isNil, filter, every, isSome, distinct}
 use Rattle.words.specs.Word.{kindOf}
 use Rattle.words.specs.Host.{discardZeroed}
 use Rattle.classes.specs.declared.Shape.{Shape}
@@ -98,14 +98,18 @@ settle sh h retires ws x =
     (cond retires (markRetired (park sh h (x .without) (retire (x .page)))) (park sh h (x .without) (returned ws (x .page))))
     (record { class = x .with (returned ws (x .page)); fate = keptFate; gives = [] })
 
--- the tests of numbers 9 and 10
+-- the tests of numbers 9, 15 and 10
 unfoldable pub ofKind : ℕ → ℕ → Bool
 ofKind k w = eqb (kindOf w) k
 
 unfoldable pub outHere : Shape → Class → ℕ → Bool
 outHere sh s w = isSome (locate (isOut sh w) s)
 
--- `release_blocks_with_tail`: numbers 7, 9, 10, 11, each over the whole list
+-- "a block out in this class stands twice in one list" (document 02, A.2)
+unfoldable pub repeats : Shape → Class → List ℕ → Bool
+repeats sh s ws = not (distinct (filter (outHere sh s) ws))
+
+-- `release_blocks_with_tail`: numbers 7, 9, 15, 10, 11, each over the whole list
 unfoldable pub onPage : Shape → ℕ → Class → List ℕ → Option Site → Ask
 onPage sh h s ws none = refuse s 10
 onPage sh h s ws (some x) =
@@ -121,5 +125,6 @@ unfoldable pub releaseList : Shape → ℕ → Class → List ℕ → Ask
 releaseList sh h s ws =
     cond (isNil ws) (refuse s 7)
     (cond (not (every (ofKind (sh .kind)) ws)) (refuse s 9)
-    (cond (not (every (outHere sh s) ws && distinct ws)) (refuse s 10)
-    (onPage sh h s ws (siteOfFirst sh s ws))))
+    (cond (repeats sh s ws) (refuse s 15)
+    (cond (not (every (outHere sh s) ws)) (refuse s 10)
+    (onPage sh h s ws (siteOfFirst sh s ws)))))

@@ -11,11 +11,11 @@ use mathlib.Core.Path.{_≡_, refl}
 use lib.Dec.{ltb}
 use lib.ListN.{length}
 use Rattle.classes.specs.declared.Shape.{Shape}
-use Rattle.fields.specs.Field.{Field, class, page, slot, out, partial, next, prev, first, free, carved, listed, virgin, get, put}
-use Rattle.fields.specs.Clear.{clearOut}
+use Rattle.fields.specs.Field.{Field, class, page, slot, mark, out, partial, next, prev, first, free, carved, listed, virgin, get, put}
+use Rattle.fields.specs.Clear.{clearOut, clearMarks}
 use Rattle.fields.proofs.Changes.{Changes, changes-none, changes-put, changes-trans}
 use Rattle.fields.proofs.Outcome.{changes-putAt}
-use Rattle.fields.proofs.Clear.{changes-clear}
+use Rattle.fields.proofs.Clear.{changes-clear, changes-clear-marks}
 use Rattle.pages.specs.declared.Park.{Park}
 use Rattle.words.specs.Host.{digit}
 use Rattle.pages.specs.Runs.{nameRun}
@@ -99,15 +99,17 @@ module _ (t : Field → Bool) (b : List ℕ) (q : ℕ) (hf : t (page free q) ≡
 
 pub changes-new : (t : Field → Bool) (b : List ℕ) (sh : Shape) (q : ℕ) → sh .capacity ≤ 4096
     → t (page free q) ≡ true → t (page virgin q) ≡ true → ((i : ℕ) → t (slot q i) ≡ true) → t (page carved q) ≡ true → t (page listed q) ≡ true
-    → ((i : ℕ) → t (out q i) ≡ true) → ((y : ℕ) → q ≤ y → y < q + sh .pages → t (page first y) ≡ true) → Changes t b (newRun b sh q)
+    → ((i : ℕ) → t (out q i) ≡ true) → ((j : ℕ) → t (mark q j) ≡ true) → ((y : ℕ) → q ≤ y → y < q + sh .pages → t (page first y) ≡ true) → Changes t b (newRun b sh q)
 unfolding newRun bareRun
-changes-new t b sh q h hf hv hs hk hl ho hn =
+changes-new t b sh q h hf hv hs hk hl ho hm hn =
     let b₁ = nameRun b q q (sh .pages) in
     let b₂ = clearOut b₁ q 0 (32 * outWords sh) in
+    let b₃ = clearMarks b₂ q (outWords sh) in
     let few : 0 + 32 * ((sh .capacity + 31) / 32) ≤ 4096 = omega arith in
-    changes-trans t b (put b₂ (page listed q) 0) _
-    (changes-put t b b₂ (page listed q) 0 refl hl (changes-clear t b (32 * outWords sh) q 0 b₁ few (λ j l m. ho j) (changes-name t b b q q (sh .pages) hn (changes-none t b))))
-    (changes-carve t (put b₂ (page listed q) 0) q hf hv hs sh true hk h)
+    let words : (sh .capacity + 31) / 32 ≤ 128 = omega arith in
+    changes-trans t b (put b₃ (page listed q) 0) _
+    (changes-put t b b₃ (page listed q) 0 refl hl (changes-clear-marks t b (outWords sh) q b₂ words hm (changes-clear t b (32 * outWords sh) q 0 b₁ few (λ j l m. ho j) (changes-name t b b q q (sh .pages) hn (changes-none t b)))))
+    (changes-carve t (put b₃ (page listed q) 0) q hf hv hs sh true hk h)
 
 -- ---- blocks that come back
 pub back-free : (b : List ℕ) (q : ℕ) (is : List ℕ) → every small is ≡ true → get (marks b q 0 is) (page free q) ≡ get b (page free q)

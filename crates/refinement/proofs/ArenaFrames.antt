@@ -20,7 +20,7 @@ use Rattle.model.specs.Heap.{direct}
 use Rattle.arena.specs.Owners.{ownerCode}
 use Rattle.words.specs.Limits.{holeSlots}
 use Rattle.classes.specs.declared.Shape.{Shape}
-use Rattle.fields.specs.Field.{Field, arena, class, hole, page, out, slot, ClassField, PageField, owner, first, frontier, held, arenaOff, pageOff, get, put, words}
+use Rattle.fields.specs.Field.{Field, arena, class, hole, page, mark, out, slot, ClassField, PageField, owner, first, frontier, held, arenaOff, pageOff, get, put, words}
 use Rattle.fields.proofs.Laws.{get-put-same, length-put}
 use Rattle.fields.proofs.Changes.{Changes, changes-none, changes-put, changes-trans, changes-mono}
 use Rattle.model.specs.Arena.{Arena, Given, Grown}
@@ -35,6 +35,7 @@ use Rattle.arena.proofs.Frames.{isStored, arena-changes}
 -- ---- which words
 abbrev pub isOwner : (ℕ → Bool) → Field → Bool
 isOwner t (arena k) = false
+isOwner t (mark p j) = false
 isOwner t (class k c) = false
 isOwner t (hole k i) = false
 isOwner t (page k p) = eqb (pageOff k) 0 && t p
@@ -43,6 +44,7 @@ isOwner t (slot p i) = false
 
 abbrev pub isStep : (ℕ → Bool) → Field → Bool
 isStep t (arena k) = ltb 0 (arenaOff k)
+isStep t (mark p j) = false
 isStep t (class k c) = false
 isStep t (hole k i) = true
 isStep t (page k p) = eqb (pageOff k) 0 && t p
@@ -70,6 +72,9 @@ module _ (t : ℕ → Bool) (b b′ : List ℕ) (h : Changes (isStep t) b b′) 
   pub step-out : (p i : ℕ) → ltb i 4096 ≡ true → get b′ (out p i) ≡ get b (out p i)
   step-out p i o = h .kept (out p i) o refl
 
+  pub step-mark : (p j : ℕ) → ltb j 128 ≡ true → get b′ (mark p j) ≡ get b (mark p j)
+  step-mark p j o = h .kept (mark p j) o refl
+
   pub step-slot : (p i : ℕ) → ltb i 4096 ≡ true → get b′ (slot p i) ≡ get b (slot p i)
   step-slot p i o = h .kept (slot p i) o refl
 
@@ -80,6 +85,7 @@ and-mono false t u h e = e
 
 owner-mono : (t u : ℕ → Bool) → ((x : ℕ) → t x ≡ true → u x ≡ true) → (g : Field) → isOwner t g ≡ true → isOwner u g ≡ true
 owner-mono t u h (arena k) e = e
+owner-mono t u h (mark p j) e = e
 owner-mono t u h (class k c) e = e
 owner-mono t u h (hole k i) e = e
 owner-mono t u h (page k p) e = and-mono (eqb (pageOff k) 0) (t p) (u p) (h p) e
@@ -88,6 +94,7 @@ owner-mono t u h (slot p i) e = e
 
 owner-step : (t u : ℕ → Bool) → ((x : ℕ) → t x ≡ true → u x ≡ true) → (g : Field) → isOwner t g ≡ true → isStep u g ≡ true
 owner-step t u h (arena k) e = absurd (false≢true e)
+owner-step t u h (mark p j) e = e
 owner-step t u h (class k c) e = e
 owner-step t u h (hole k i) e = refl
 owner-step t u h (page k p) e = and-mono (eqb (pageOff k) 0) (t p) (u p) (h p) e
@@ -96,6 +103,7 @@ owner-step t u h (slot p i) e = e
 
 stored-step : (u : ℕ → Bool) (g : Field) → isStored g ≡ true → isStep u g ≡ true
 stored-step u (arena k) e = and-left (ltb 0 (arenaOff k)) (ltb (arenaOff k) 11) e
+stored-step u (mark p j) e = absurd (false≢true e)
 stored-step u (class k c) e = absurd (false≢true e)
 stored-step u (hole k i) e = refl
 stored-step u (page k p) e = absurd (false≢true e)
@@ -178,6 +186,7 @@ passed-changes b a o m w k l =
   where
     step-mono : (t u : ℕ → Bool) → ((x : ℕ) → t x ≡ true → u x ≡ true) → (g : Field) → isStep t g ≡ true → isStep u g ≡ true
     step-mono t u h (arena k) e = e
+    step-mono t u h (mark p j) e = e
     step-mono t u h (class k c) e = e
     step-mono t u h (hole k i) e = e
     step-mono t u h (page k p) e = and-mono (eqb (pageOff k) 0) (t p) (u p) (h p) e

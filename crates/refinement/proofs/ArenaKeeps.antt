@@ -25,7 +25,7 @@ use Rattle.refinement.specs.Represents.{heads, ClassRep}
 use Rattle.refinement.proofs.Basics.{digit-le}
 use Rattle.refinement.proofs.Kept.{Keeps, class-now, class-kept, listed-whole}
 use Rattle.refinement.proofs.ArenaReached.{Reached}
-use Rattle.refinement.proofs.ArenaFrames.{isStep, step-row, step-page, step-out, step-slot}
+use Rattle.refinement.proofs.ArenaFrames.{isStep, step-row, step-page, step-out, step-mark, step-slot}
 use Rattle.refinement.proofs.ArenaRuns.{given-step, left-whole, left-gone}
 
 module _ (t : ℕ → Bool) (b b′ : List ℕ) (h : Changes (isStep t) b b′) where
@@ -37,6 +37,7 @@ module _ (t : ℕ → Bool) (b b′ : List ℕ) (h : Changes (isStep t) b b′) 
       virgin = step-page t b b′ h virgin x refl;
       slots = λ i e. step-slot t b b′ h x i e;
       outs = λ i e. step-out t b b′ h x i e;
+      marks = λ j e. step-mark t b b′ h x j e;
     };
     listing = step-page t b b′ h listed x refl;
     ties = record { fore = step-page t b b′ h next x refl; back = step-page t b b′ h prev x refl };

@@ -12,7 +12,7 @@ use borrow.Author.Tests.{ltb-true, ltb-false, le-leb, lt-ltb, lt-leb}
 use Rattle.facts.proofs.Bools.{by-cases}
 use Rattle.model.specs.Cover.{inRun, covers}
 use Rattle.words.specs.Limits.{holeSlots}
-use Rattle.fields.specs.Field.{Field, arena, class, hole, page, out, slot, owner, size, state, held, holes, pageOff, get, put, ok, words}
+use Rattle.fields.specs.Field.{Field, arena, class, hole, page, mark, out, slot, owner, size, state, held, holes, pageOff, get, put, ok, words}
 use Rattle.fields.proofs.Laws.{get-put-same, get-put-other, length-put}
 use Rattle.fields.proofs.Changes.{differ}
 use Rattle.model.specs.Arena.{Arena}
@@ -51,6 +51,7 @@ rep-classes n b H cs r = stands-rep n b (H .arena) (H .holder) (heldPages n H) c
 -- the words that the arena's part reads: what keeps them keeps it
 abbrev pub isArenas : Field → Bool
 isArenas (arena k) = true
+isArenas (mark p j) = false
 isArenas (class k c) = false
 isArenas (hole k i) = true
 isArenas (page k p) = eqb (pageOff k) 0
@@ -59,6 +60,7 @@ isArenas (slot p i) = false
 
 stored-arenas : (g : Field) → isStored g ≡ true → isArenas g ≡ true
 stored-arenas (arena k) e = refl
+stored-arenas (mark p j) e = e
 stored-arenas (class k c) e = e
 stored-arenas (hole k i) e = refl
 stored-arenas (page k p) e = absurd (false≢true e)
@@ -79,6 +81,7 @@ rep-kept n b b′ H few long k r = record {
 
 owner-apart : (t : ℕ → Bool) (g : Field) → isStored g ≡ true → isOwner t g ≡ false
 owner-apart t (arena k) e = refl
+owner-apart t (mark p j) e = refl
 owner-apart t (class k c) e = refl
 owner-apart t (hole k i) e = refl
 owner-apart t (page k p) e = absurd (false≢true e)

@@ -19,7 +19,7 @@ use Rattle.model.specs.Release.{Site, inPartial, inFull, locate, ofKind, outHer
 use Rattle.model.specs.Chunks as Model
 use Rattle.model.specs.Chunks.{startsAt, fitsOn, chunkedOn, chunked}
 use Rattle.model.proofs.Find.{all-at}
-use Rattle.calls.specs.Release.{startOf, outAt}
+use Rattle.calls.specs.Out.{startOf, outAt}
 use Rattle.calls.specs.Chunks.{blocksOn, chunkFits, chunksMatch}
 use Rattle.refinement.specs.Represents.{PageRep, StateRep}
 use Rattle.refinement.proofs.Basics.{Setting}

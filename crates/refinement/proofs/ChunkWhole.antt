@@ -23,13 +23,14 @@ use Rattle.model.specs.Calls as Calls
 use Rattle.model.specs.Calls.{Call, fates}
 use Rattle.model.specs.Page.{isMedium, noneOut, reused, returned}
 use Rattle.model.specs.Class.{Ask, done, refuse, thawed}
-use Rattle.model.specs.Release.{Site, locate, ofKind}
+use Rattle.model.specs.Release.{Site, locate, ofKind, outHere, repeats}
 use Rattle.model.specs.Chunks as Model
 use Rattle.model.specs.Chunks.{startsAt, fitsOn, chunked, chunksMax, answer}
 use Rattle.model.specs.Heap.{Heap, offer, finish, interact, classCall, heldPages}
 use Rattle.model.specs.History.{heapAfter}
 use Rattle.model.proofs.Find.{pageIn, located-first}
-use Rattle.calls.specs.Release.{outAt, pageFair}
+use Rattle.calls.specs.Out.{outAt}
+use Rattle.calls.specs.Release.{pageFair}
 use Rattle.calls.specs.Chunks.{blocksOn, chunksMatch, returnsAll, runsGiven, pagesGiven, chunksFair, settleChunks, giveRuns, ChunksReleased, chunksNone, releaseChunks}
 use Rattle.refinement.specs.Represents.{Represents}
 use Rattle.refinement.specs.Direct.{Agrees}
@@ -41,6 +42,7 @@ use Rattle.refinement.proofs.ArenaFair.{give-passes}
 use Rattle.refinement.proofs.Draw.{free-length}
 use Rattle.refinement.proofs.Book.{setting-of, represents-class}
 use Rattle.refinement.proofs.Found.{Located, located, located-passes, At, found-at, placed-rep, outs-here}
+use Rattle.refinement.proofs.OutTests.{once-here, fault-same}
 use Rattle.refinement.proofs.Returned.{none-count, return-only, return-rep, return-room}
 use Rattle.refinement.proofs.Release.{shape-limits, length-firsts}
 use Rattle.refinement.proofs.ReleaseFair.{row-fair, page-fair, frontier-fair}
@@ -218,10 +220,11 @@ module _ (n : ℕ) (hn : n ≤ maxPages) (b : List ℕ) (H : Heap) (R : Represen
         (λ e. agrees-cond (ltb chunksMax (length gs) || ltb (length fs) (length gs)) _ _ _ _ (λ e. denied 8 refl (λ z. omega arith))
         (λ e. agrees-cond (not (k₁ && k₂)) _ _ _ _ (λ e. denied 9 refl (λ z. omega arith))
         (λ e. let k = and-left k₁ k₂ (not-false (k₁ && k₂) e) in
-        rw (← (outs-here s hn (H .classes c) (R .classes c hc) ws k))
-        (agrees-cond (not (every (outAt n b c (shapeOf c)) ws && distinct ws)) _ _ _ _ (λ e. denied 10 refl (λ z. omega arith))
-        (λ e. let u = not-false (every (outAt n b c sh) ws && distinct ws) e in
-        past-ten k (and-left (every (outAt n b c sh) ws) (distinct ws) u) (and-right (every (outAt n b c sh) ws) (distinct ws) u))))))
+        rw (fault-same s hn (H .classes c) (R .classes c hc) ws k)
+        (by-cases (repeats sh t ws) (λ u. rw u (denied 15 refl (λ z. omega arith)))
+        (λ u. by-cases (every (outHere sh t) ws)
+        (λ o. rw (u, o) (past-ten k (outs-here s hn t (R .classes c hc) ws k ∙ o) (once-here sh t ws u o)))
+        (λ o. rw (u, o) (denied 10 refl (λ z. omega arith))))))))
 
     pub chunks-whole : Agrees (Represents n) (chunksReply (releaseChunks n b c (shapeOf c) h ws gs fs)) (classCall n H c (Calls.giveChunks h ws gs fs))
     unfolding classCall answer

@@ -30,7 +30,8 @@ use Rattle.pages.specs.Stack.{indexOf}
 use Rattle.model.specs.declared.Spot.{Spot}
 use Rattle.model.specs.declared.Spot.the-variants.{ToEmpty, ToCold, ToArena}
 use Rattle.model.specs.Spot.{isEmpty, isCold, isArena}
-use Rattle.calls.specs.Release.{startOf, Released}
+use Rattle.calls.specs.Out.{startOf}
+use Rattle.calls.specs.Release.{Released}
 use Rattle.calls.specs.Chunks as Words
 use Rattle.calls.specs.Chunks.{blocksOn, returnsAll, runsGiven, chunkBackAt, givesOf, settleChunks}
 use Rattle.refinement.specs.Represents.{firsts}

@@ -27,7 +27,7 @@ use Rattle.model.proofs.Pages.{word-rises}
 use Rattle.model.proofs.Apart.{which}
 use Rattle.words.specs.Host.{digit}
 use Rattle.pages.specs.Stack.{marked, blocksFrom, indexOf, pageAt, isBlock}
-use Rattle.calls.specs.Release.{startOf, outIn, inRunOf, outAt}
+use Rattle.calls.specs.Out.{startOf, outIn, inRunOf, outAt}
 use Rattle.refinement.specs.Represents.{PageRep}
 use Rattle.refinement.proofs.Basics.{Setting, digit-cases}
 use Rattle.refinement.proofs.Frames.{whole-says}

@@ -9,11 +9,11 @@ use mathlib.Core.List.{List, [], _∷_, _++_, map, reverse}
 use mathlib.Core.Path.{_≡_, refl, sym, ap, _∙_}
 use lib.Dec.{eqb, ltb}
 use lib.ListN.{length, take, drop, length-append, length-drop, length-take, length-reverse}
-use borrow.Author.Tests.{eq-eqb, ne-eqb, eqb-true, eqb-false}
+use borrow.Author.Tests.{lt-ltb, eq-eqb, ne-eqb, eqb-true, eqb-false}
 use Rattle.facts.specs.Lists.{isNil, every, count}
 use Rattle.facts.proofs.Bools.{by-cases}
 use Rattle.classes.specs.declared.Shape.{Shape}
-use Rattle.fields.specs.Field.{Field, page, slot, out, owner, free, carved, listed, virgin, region, get, off}
+use Rattle.fields.specs.Field.{Field, page, mark, slot, out, owner, free, carved, listed, virgin, region, get, off}
 use Rattle.fields.proofs.Laws.{get-put-other}
 use Rattle.fields.proofs.Changes.{Changes}
 use Rattle.model.specs.Page as Model
@@ -95,6 +95,7 @@ module _ {n : ℕ} {b : List ℕ} {c : ℕ} {sh : Shape} (s : Setting n b c sh) 
     clean = changes (λ g. not (eqb (region g) 4 && eqb (off g) 7)) refl refl (λ j. refl) .kept (page virgin q) refl refl ∙ h .clean;
     within = omega (arith, h .within);
     outs = draw-outs;
+    unmarked = λ j u. draw-data .kept (mark q j) (lt-ltb j 128 (omega (arith, s .shape .few))) refl ∙ h .unmarked j u;
   }
 
 -- ---- the page

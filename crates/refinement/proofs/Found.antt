@@ -24,7 +24,8 @@ use Rattle.model.proofs.Find.{all-at, FoundLaw}
 use Rattle.words.specs.Host.{digit}
 use Rattle.pages.specs.Runs.{whole}
 use Rattle.pages.specs.declared.Park.the-variants.{Empty}
-use Rattle.calls.specs.Release.{startOf, outIn, inRunOf, outAt, unlisted, relisted}
+use Rattle.calls.specs.Out.{startOf, outIn, inRunOf, outAt}
+use Rattle.calls.specs.Release.{unlisted, relisted}
 use Rattle.refinement.specs.Represents.{PageRep, Parked, heads, ClassRep, StateRep}
 use Rattle.refinement.proofs.Basics.{Setting}
 use Rattle.refinement.proofs.Frames.{isData, ofClass, Only}
@@ -148,14 +149,14 @@ pub record Spot (q : ℕ) (zs : List Page) : Type 0 where
 spot-behind : (q : ℕ) (z : Page) (zs : List Page) → Spot q zs → Spot q (z ∷ zs)
 spot-behind q z zs r = record { before = z ∷ r .before; page = r .page; behind = r .behind; is = ap (λ l. z ∷ l) (r .is); here = r .here }
 
-spot : (q : ℕ) (zs : List Page) → 1 ≤ heads q zs → Spot q zs
+pub spot : (q : ℕ) (zs : List Page) → 1 ≤ heads q zs → Spot q zs
 spot q [] h = absurd (omega arith)
 spot q (z ∷ zs) h =
     by-cases (eqb q (z .first))
     (λ e. record { before = []; page = z; behind = zs; is = refl; here = sym (eqb-true q (z .first) e) })
     (λ e. let y : 1 ≤ 0 + heads q zs = rw e at h in spot-behind q z zs (spot q zs (omega arith)))
 
-all-spot : (P : Page → Type 0) {q : ℕ} {zs : List Page} (t : Spot q zs) → All P zs → P (t .page)
+pub all-spot : (P : Page → Type 0) {q : ℕ} {zs : List Page} (t : Spot q zs) → All P zs → P (t .page)
 all-spot P t a = all-at P (t .before) (t .page) (t .behind) .0 (subst (All P) (t .is) a) .0
 
 module _ {n : ℕ} {b : List ℕ} {c : ℕ} {sh : Shape} (s : Setting n b c sh) (hn : n ≤ maxPages) where
@@ -217,7 +218,7 @@ module _ {n : ℕ} {b : List ℕ} {c : ℕ} {sh : Shape} (s : Setting n b c sh) 
               (λ v. by-cases (leb 1 e) (λ x. n₃ (leb-true 1 e x))
               (λ x. n₄ (omega (arith, leb-false 1 a u, leb-false 1 d v, leb-false 1 e x)))))
 
-    run-of : outAt n b c sh w ≡ true → whole n b sh c (startOf b w) ≡ true
+    pub run-of : outAt n b c sh w ≡ true → whole n b sh c (startOf b w) ≡ true
     unfolding outAt inRunOf
     run-of o = search (and-left, and-right)
 

@@ -17,7 +17,7 @@ use Rattle.facts.proofs.Bools.{by-cases, bool-eq, and-left, and-right}
 use Rattle.facts.proofs.Lists.{every-at, every-of}
 use Rattle.classes.specs.declared.Shape.{Shape}
 use Rattle.classes.specs.Sound.{Sound}
-use Rattle.fields.specs.Field.{Field, arena, class, hole, page, slot, out, owner, first, frontier, pageOff, get, ok}
+use Rattle.fields.specs.Field.{Field, arena, class, hole, page, mark, slot, out, owner, first, frontier, pageOff, get, ok}
 use Rattle.fields.proofs.Changes.{Changes, changes-trans, changes-mono}
 use Rattle.pages.specs.Runs.{ofRun, whole}
 use Rattle.pages.specs.Stack.{marked}
@@ -97,6 +97,7 @@ module _ {b b′ : List ℕ} (k : Owns b b′) (n : ℕ) (sh : Shape) (c q : ℕ
 -- ---- which fields are whose
 abbrev pub home : List ℕ → Field → ℕ
 home b (arena k) = 0
+home b (mark p j) = get b (page owner p)
 home b (class k c) = suc c
 home b (hole k i) = 0
 home b (page k p) = cond (leb (pageOff k) 1) 0 (get b (page owner p))
@@ -118,6 +119,7 @@ only-owns c h = record {
 
 home-kept : (b b′ : List ℕ) → Owns b b′ → (g : Field) → home b′ g ≡ home b g
 home-kept b b′ o (arena k) = refl
+home-kept b b′ o (mark p j) = o .owners p
 home-kept b b′ o (class k c) = refl
 home-kept b b′ o (hole k i) = refl
 home-kept b b′ o (page k p) = rw (o .owners p)
@@ -132,6 +134,7 @@ only-trans c {b₁} {b₂} {b₃} h k =
 -- FREE, CARVED and VIRGIN, the stack and the out bits
 abbrev pub isData : ℕ → Field → Bool
 isData q (arena k) = false
+isData q (mark p j) = false
 isData q (class k c) = false
 isData q (hole k i) = false
 isData q (page k p) = (eqb (pageOff k) 4 || (eqb (pageOff k) 5 || eqb (pageOff k) 7)) && eqb p q

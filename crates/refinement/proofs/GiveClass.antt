@@ -16,7 +16,7 @@ use Rattle.model.specs.Cover.{inRun, covers}
 use Rattle.classes.specs.declared.Shape.{Shape}
 use Rattle.classes.specs.Shape.{shapeOf}
 use Rattle.classes.proofs.Shapes.{shape-sound}
-use Rattle.fields.specs.Field.{Field, PageField, arena, class, hole, page, out, slot, owner, first, next, prev, free, carved, listed, virgin, tally, pageOff, get}
+use Rattle.fields.specs.Field.{Field, PageField, arena, class, hole, page, mark, out, slot, owner, first, next, prev, free, carved, listed, virgin, tally, pageOff, get}
 use Rattle.model.specs.Arena.{give}
 use Rattle.model.specs.Page.{Page, reused}
 use Rattle.model.specs.Class.{Class, thawed}
@@ -51,6 +51,7 @@ owner-home tally e = absurd (false≢true e)
 
 arenas-home : (b : List ℕ) (c : ℕ) (g : Field) → isArenas g ≡ true → ofClass b c g ≡ false
 arenas-home b c (arena k) e = eqb·zero-suc c
+arenas-home b c (mark p j) e = absurd (false≢true e)
 arenas-home b c (class k d) e = absurd (false≢true e)
 arenas-home b c (hole k i) e = eqb·zero-suc c
 arenas-home b c (page k p) e = rw (owner-home k e) (eqb·zero-suc c)

@@ -17,7 +17,7 @@ use Rattle.classes.specs.declared.Shape.{Shape}
 use Rattle.classes.specs.Shape.{shapeOf}
 use Rattle.classes.proofs.Shapes.{shape-sound}
 use Rattle.fields.specs.Field as Field
-use Rattle.fields.specs.Field.{Field, arena, hole, page, slot, out, first, next, prev, free, carved, listed, virgin, pageOff, get}
+use Rattle.fields.specs.Field.{Field, arena, hole, page, mark, slot, out, first, next, prev, free, carved, listed, virgin, pageOff, get}
 use Rattle.fields.proofs.Changes.{Changes}
 use Rattle.model.specs.Page.{Page, carve}
 use Rattle.model.specs.Arena.{commit, Given}
@@ -36,7 +36,7 @@ use Rattle.refinement.proofs.ArenaKeeps.{step-class}
 use Rattle.refinement.proofs.CommitRuns.{claim-none, claim-others, claim-new}
 use Rattle.refinement.specs.Represents.{ClassRep, Represents}
 use Rattle.refinement.proofs.ArenaReached.{Reached, heapOf, idle-once, reached-commit}
-use Rattle.refinement.proofs.ArenaFrames.{isStep, inRunOf, either, passed, step-row, step-page, step-first, step-out, step-slot, committed-changes}
+use Rattle.refinement.proofs.ArenaFrames.{isStep, inRunOf, either, passed, step-row, step-page, step-first, step-out, step-mark, step-slot, committed-changes}
 use Rattle.refinement.proofs.ArenaSteps.{isArenas, rep-kept}
 use Rattle.refinement.proofs.ArenaRuns.{nobody-other, drawn-whole}
 use Rattle.refinement.proofs.CommitRep.{commit-rep}
@@ -49,6 +49,7 @@ use Rattle.refinement.proofs.NewRun.{LetsNew, new-changes, new-names, n
 -- the words of page q but OWNER, and FIRST of the run's pages
 abbrev isNew : ℕ → ℕ → Field → Bool
 isNew q m (arena k) = false
+isNew q m (mark p j) = eqb p q
 isNew q m (Field.class k c) = false
 isNew q m (hole k i) = false
 isNew q m (page k p) = (eqb (pageOff k) 1 && inRun m q p) || (ltb 1 (pageOff k) && eqb p q)
@@ -70,10 +71,11 @@ new-lets q m =
       virgin = e;
       slots = λ i. e;
       outs = λ i. e;
+      marks = λ j. e;
     }
 
 arena-lets : (q m : ℕ) → LetsNew (λ g. not (isArenas g)) q m
-arena-lets q m = record { starts = λ y l u. refl; listing = refl; free = refl; carved = refl; virgin = refl; slots = λ i. refl; outs = λ i. refl }
+arena-lets q m = record { starts = λ y l u. refl; listing = refl; free = refl; carved = refl; virgin = refl; slots = λ i. refl; outs = λ i. refl; marks = λ j. refl }
 
 module _ (n : ℕ) (b : List ℕ) (H : Heap) (R : Represents n b H) (ok : Reached n H) (c : ℕ) (hc : ltb c 76 ≡ true) (h : ℕ) where
   abbrev pages : ℕ
@@ -173,6 +175,7 @@ module _ (n : ℕ) (b : List ℕ) (H : Heap) (R : Represents n b H) (ok : Reache
             virgin = p virgin refl off;
             slots = λ i t. written .kept (slot x i) t off ∙ step-slot owned b after changes x i t;
             outs = λ i t. written .kept (out x i) t off ∙ step-out owned b after changes x i t;
+            marks = λ j t. written .kept (mark x j) t off ∙ step-mark owned b after changes x j t;
           };
           listing = p listed refl off;
           ties = record { fore = p next refl off; back = p prev refl off };

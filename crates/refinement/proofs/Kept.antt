@@ -15,7 +15,7 @@ use borrow.Author.Tests.{ne-eqb, lt-ltb, ltb-true}
 use Rattle.facts.specs.Lists.{All, count}
 use Rattle.classes.specs.declared.Shape.{Shape}
 use Rattle.classes.specs.Sound.{Sound}
-use Rattle.fields.specs.Field.{ClassField, class, page, slot, out, partial, owner, next, prev, free, carved, listed, virgin, get}
+use Rattle.fields.specs.Field.{ClassField, class, page, mark, slot, out, partial, owner, next, prev, free, carved, listed, virgin, get}
 use Rattle.model.specs.Page.{Page}
 use Rattle.model.proofs.Pages.{all-append}
 use Rattle.words.specs.Host.{digit}
@@ -34,6 +34,7 @@ pub record Body (q : ℕ) (b b′ : List ℕ) : Type 0 where
   pub virgin : get b′ (page virgin q) ≡ get b (page virgin q)
   pub slots : (i : ℕ) → ltb i 4096 ≡ true → get b′ (slot q i) ≡ get b (slot q i)
   pub outs : (i : ℕ) → ltb i 4096 ≡ true → get b′ (out q i) ≡ get b (out q i)
+  pub marks : (j : ℕ) → ltb j 128 ≡ true → get b′ (mark q j) ≡ get b (mark q j)
 
 pub record Ties (q : ℕ) (b b′ : List ℕ) : Type 0 where
   pub fore : get b′ (page next q) ≡ get b (page next q)
@@ -62,6 +63,7 @@ module _ {n : ℕ} {sh : Shape} (sound : Sound sh) {c : ℕ} {b b′ : List ℕ}
     clean = y .virgin ∙ h .clean;
     within = h .within;
     outs = λ i. ap (λ z. z + count i xs) (marked-same sound y i) ∙ h .outs i;
+    unmarked = λ j u. y .marks j (lt-ltb j 128 (omega (arith, sound .few))) ∙ h .unmarked j u;
   }
 
   pub rep-moved : {l l′ : ℕ} {p : Page} → Body (p .first) b b′ → get b′ (page listed (p .first)) ≡ l′ → whole n b′ sh c (p .first) ≡ true
@@ -143,6 +145,7 @@ module _ (c d : ℕ) (ne : c ≡ d → ⊥) {b b′ : List ℕ} (h : Only d b b�
       virgin = h .kept (page virgin q) refl far;
       slots = λ i e. h .kept (slot q i) e far;
       outs = λ i e. h .kept (out q i) e far;
+      marks = λ j e. h .kept (mark q j) e far;
     };
     listing = h .kept (page listed q) refl far;
     ties = record { fore = h .kept (page next q) refl far; back = h .kept (page prev q) refl far };

@@ -4,9 +4,9 @@ use mathlib.Core.Bool.{Bool, true, false, cond, not, _&&_, _||_}
 use mathlib.Core.List.{List, [], _∷_, map}
 use mathlib.Core.Option.{Option, none, some}
 use mathlib.Core.Path.{_≡_, refl, ap, _∙_}
-use lib.Dec.{ltb}
+use lib.Dec.{eqb, ltb}
 use lib.ListN.{length}
-use borrow.Author.Tests.{ne-eqb, not-false}
+use borrow.Author.Tests.{eqb-true, ne-eqb, not-false}
 use Rattle.facts.specs.Lists.{isNil, every, distinct}
 use Rattle.facts.proofs.Bools.{by-cases, and-left, and-right}
 use Rattle.words.specs.Word.{chunkKind, pageOf}
@@ -26,7 +26,9 @@ use Rattle.model.proofs.ArenaTidy.{tidy-give}
 use Rattle.arena.specs.Calls.{committed, given}
 use Rattle.pages.specs.declared.Park.the-variants.{Empty}
 use Rattle.calls.specs.Take.{Took, onRun, takeNew, takeCall}
-use Rattle.calls.specs.Release.{outAt, Released}
+use Rattle.calls.specs.Out.{outFault}
+use Rattle.calls.proofs.Out.{passed}
+use Rattle.calls.specs.Release.{Released}
 use Rattle.calls.specs.Chunks.{chunksMatch, chunksFair, settleChunks, giveRuns, ChunksReleased, releaseChunks}
 use Rattle.refinement.specs.Represents.{firsts, StateRep, ClassRep, Represents}
 use Rattle.refinement.specs.Run.{classReply}
@@ -118,14 +120,14 @@ module _ (n : ℕ) (hn : n ≤ maxPages) (b : List ℕ) (H : Heap) (R : Represen
         long-cond (isNil ws || isNil gs) _ _ (λ e. refl)
         (λ e. long-cond (ltb chunksMax (length gs) || ltb (length fs) (length gs)) _ _ (λ e. refl)
         (λ e. long-cond (not (k₁ && k₂)) _ _ (λ e. refl)
-        (λ e₁. long-cond (not (every (outAt n b c (shapeOf c)) ws && distinct ws)) _ _ (λ e. refl)
+        (λ e₁. long-cond (not (eqb (outFault n b c (shapeOf c) ws) 0)) _ _ (λ e. refl)
         (λ e₂. long-cond (not (chunksMatch b ws gs)) _ _ (λ e. refl)
         (λ e₃. long-cond (not (chunksFair n b c (shapeOf c) gs)) _ _ (λ e. refl)
         (λ e₄. let k = and-left k₁ k₂ (not-false (k₁ && k₂) e₁) in
-        let u = not-false (every (outAt n b c sh) ws && distinct ws) e₂ in
-        let o = and-left (every (outAt n b c sh) ws) (distinct ws) u in
+        let p = passed n b c sh ws (eqb-true (outFault n b c sh ws) 0 (not-false (eqb (outFault n b c sh ws) 0) e₂)) in
+        let o = p .out in
         let v : (t₁ && (t₂ && t₃)) ≡ true = rw (chunks-same s hn (H .classes c) (R .classes c hc) ws k o gs) at (not-false (chunksMatch b ws gs) e₃) in
-        let w = all-settled n hn b H R ok c hs ws k o (and-right (every (outAt n b c sh) ws) (distinct ws) u) h gs (and-left t₂ t₃ (and-right t₁ (t₂ && t₃) v)) (and-left t₁ (t₂ && t₃) v) in
+        let w = all-settled n hn b H R ok c hs ws k o (p .once) h gs (and-left t₂ t₃ (and-right t₁ (t₂ && t₃) v)) (and-left t₁ (t₂ && t₃) v) in
         rw (w .gives) (given-long hc (settleChunks b c sh h ws gs .book) (w .only) (x .class) (w .pages) (w .rep) (x .gives) (w .named))))))))
 
   -- ---- any request

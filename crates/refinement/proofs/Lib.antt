@@ -35,6 +35,7 @@ pub mod Join
 pub mod TakeWhole
 pub mod Decode
 pub mod Found
+pub mod OutTests
 pub mod Returned
 pub mod Release
 pub mod ReleaseFair

@@ -10,7 +10,7 @@ use mathlib.Core.Path.{_≡_, refl}
 use lib.Dec.{eqb, ltb}
 use borrow.Author.Tests.{eq-eqb, ne-eqb}
 use Rattle.facts.proofs.Bools.{or-right}
-use Rattle.fields.specs.Field.{Field, arena, class, hole, page, slot, out, partial, owner, first, next, prev, free, carved, listed, virgin, frontier, classOff, pageOff, get}
+use Rattle.fields.specs.Field.{Field, arena, class, hole, page, mark, slot, out, partial, owner, first, next, prev, free, carved, listed, virgin, frontier, classOff, pageOff, get}
 use Rattle.fields.proofs.Changes.{Changes}
 use Rattle.pages.specs.declared.Park.{Park}
 use Rattle.pages.specs.declared.Park.the-variants.{Empty, Cold}
@@ -22,6 +22,7 @@ use Rattle.refinement.proofs.Kept.{Body, Ties}
 -- ---- the partial list
 abbrev pub isLink : ℕ → ℕ → ℕ → ℕ → Field → Bool
 isLink c q x y (arena k) = false
+isLink c q x y (mark p j) = false
 isLink c q x y (class k d) = eqb (classOff k) 0 && (eqb y 0 && eqb d c)
 isLink c q x y (hole k i) = false
 isLink c q x y (page k z) =
@@ -80,6 +81,7 @@ module _ {b b′ : List ℕ} (c q x y : ℕ) (h : Changes (isLink c q x y) b b�
     virgin = h .kept (page virgin z) refl refl;
     slots = λ i o. h .kept (slot z i) o refl;
     outs = λ i o. h .kept (out z i) o refl;
+    marks = λ j o. h .kept (mark z j) o refl;
   }
 
   pub link-listing : (z : ℕ) → (z ≡ q → ⊥) → get b′ (page listed z) ≡ get b (page listed z)
@@ -102,6 +104,7 @@ module _ {b b′ : List ℕ} (c q x y : ℕ) (h : Changes (isLink c q x y) b b�
 -- ---- the stores
 abbrev pub isStow : Park → ℕ → ℕ → Field → Bool
 isStow k c q (arena l) = false
+isStow k c q (mark p j) = false
 isStow k c q (class l d) = (eqb (classOff l) (classOff (top k)) || eqb (classOff l) (classOff (stored k))) && eqb d c
 isStow k c q (hole l i) = false
 isStow k c q (page l p) = eqb (pageOff l) 2 && eqb p q
@@ -138,6 +141,7 @@ module _ {b b′ : List ℕ} (k : Park) (c q : ℕ) (h : Changes (isStow k c q) 
     virgin = h .kept (page virgin z) refl refl;
     slots = λ i o. h .kept (slot z i) o refl;
     outs = λ i o. h .kept (out z i) o refl;
+    marks = λ j o. h .kept (mark z j) o refl;
   }
 
   pub stow-listing : (z : ℕ) → get b′ (page listed z) ≡ get b (page listed z)

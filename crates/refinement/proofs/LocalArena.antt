@@ -8,7 +8,7 @@ use mathlib.Core.Path.{_≡_, refl}
 use lib.ListN.{length}
 use Rattle.classes.specs.declared.Shape.{Shape}
 use Rattle.fields.specs.Field.{ArenaField, HoleField, arena, hole, page, out, size, state, frontier, holes, holePages, commits, commitsHigh, reuses, reusesHigh, abandoned, abandonedHigh, held, start, pages, owner, first, listed, arenaOff, word, get, put}
-use Rattle.fields.specs.Clear.{clearOut}
+use Rattle.fields.specs.Clear.{clearOut, clearMarks}
 use Rattle.model.specs.declared.Hole.{Hole}
 use Rattle.model.specs.Arena.{Arena, Given}
 use Rattle.model.specs.Arena as Model
@@ -19,7 +19,7 @@ use Rattle.arena.specs.Calls.{advance, committed, given}
 use Rattle.pages.specs.Runs.{nameRun}
 use Rattle.pages.specs.Carve.{stocked, outWords, bareRun, newRun}
 use Rattle.pages.proofs.Frames.{stocked-le}
-use Rattle.refinement.proofs.Mix.{mix, PageIn, at-word, get-in, put-in, put-page, put-out}
+use Rattle.refinement.proofs.Mix.{mix, PageIn, at-word, get-in, put-in, put-page, put-out, put-mark}
 use Rattle.refinement.proofs.LocalPages.{carve-in}
 
 -- the record and the holes lie in S
@@ -125,6 +125,11 @@ module _ {S : ℕ → Bool} (d : List ℕ) where
   clear-in p zero i l b = refl
   clear-in {q} p (suc k) i l b = rw (put-out p b d i 0 (omega arith)) (clear-in p k (i + 1) (omega arith) (put b (out q i) 0))
 
+  marks-in : {q : ℕ} → PageIn S q → (m : ℕ) → m ≤ 128 → (b : List ℕ) → clearMarks (mix S b d) q m ≡ mix S (clearMarks b q m) d
+  unfolding clearMarks
+  marks-in p zero l b = refl
+  marks-in {q} p (suc m) l b = rw (marks-in p m (omega arith) b) (put-mark p (clearMarks b q m) d m 0 (omega arith))
+
   pub new-in : (b : List ℕ) (sh : Shape) (q : ℕ) → sh .capacity ≤ 4096 → 1 ≤ sh .pages → RunIn S q (sh .pages) → newRun (mix S b d) sh q ≡ mix S (newRun b sh q) d
   unfolding newRun bareRun
   new-in b sh q l one r =
@@ -132,5 +137,6 @@ module _ {S : ℕ → Bool} (d : List ℕ) where
       let few : 0 + 32 * ((sh .capacity + 31) / 32) ≤ 4096 = omega arith in
       let b₁ = nameRun b q q (sh .pages) in
       let b₂ = clearOut b₁ q 0 (32 * outWords sh) in
-      rw (name-in (sh .pages) q q r b, clear-in p (32 * outWords sh) 0 few b₁, put-page p b₂ d listed 0)
-      (carve-in p (put b₂ (page listed q) 0) d sh true (stocked-le sh (stocked sh) refl l))
+      let b₃ = clearMarks b₂ q (outWords sh) in
+      rw (name-in (sh .pages) q q r b, clear-in p (32 * outWords sh) 0 few b₁, marks-in p (outWords sh) (omega arith) b₂, put-page p b₃ d listed 0)
+      (carve-in p (put b₃ (page listed q) 0) d sh true (stocked-le sh (stocked sh) refl l))

@@ -21,7 +21,7 @@ use Rattle.facts.specs.Lists.{All, every, elem, distinct, isNil}
 use Rattle.model.specs.Calls.{fates}
 use Rattle.model.specs.Page.{Page, isMedium}
 use Rattle.model.specs.Class.{Class, done}
-use Rattle.model.specs.Release.{Site, Settled, locate, ofKind, outHere, settle}
+use Rattle.model.specs.Release.{Site, Settled, locate, ofKind, outHere, repeats, settle}
 use Rattle.model.specs.Chunks as Model
 use Rattle.model.specs.Chunks.{startsAt, chunked, chunksMax}
 use Rattle.model.specs.Heap.{Heap}
@@ -30,7 +30,8 @@ use Rattle.facts.proofs.Bools.{by-cases, and-left, and-right}
 use Rattle.model.proofs.Find.{pageIn, located-first}
 use Rattle.pages.specs.Runs.{whole}
 use Rattle.pages.specs.Stack.{indexOf, pageAt}
-use Rattle.calls.specs.Release.{startOf, inRunOf, outAt, Released}
+use Rattle.calls.specs.Out.{startOf, inRunOf, outAt}
+use Rattle.calls.specs.Release.{Released}
 use Rattle.calls.specs.Chunks as Words
 use Rattle.calls.specs.Chunks.{blocksOn, chunksMatch, chunksFair, chunkBackAt, givesOf, settleChunks, giveRuns, chunksNone, releaseChunks}
 use Rattle.refinement.specs.Represents.{StateRep, Represents}
@@ -39,6 +40,7 @@ use Rattle.refinement.proofs.Frames.{ofClass, Only, only-trans}
 use Rattle.refinement.proofs.ArenaReached.{Reached}
 use Rattle.refinement.proofs.Book.{setting-of, state-as}
 use Rattle.refinement.proofs.Found.{Located, located, located-passes, Away, found-at, outs-here}
+use Rattle.refinement.proofs.OutTests.{once-here, fault-same}
 use Rattle.refinement.proofs.Release.{Limits, shape-limits, SettledRep, stays, goes, settle-chunk}
 use Rattle.refinement.proofs.LocalGives.{all-local}
 use Rattle.refinement.proofs.ChunkTests.{chunks-same}
@@ -172,11 +174,11 @@ module _ {S : ℕ → Bool} (n : ℕ) (hn : n ≤ maxPages) (b : List ℕ) (H : 
         (let w = settleChunks b c (shapeOf c) h ws gs in record { code = 0; book = giveRuns (w .book) (shapeOf c .pages) (w .gives); fates = w .fates ++ drop (length gs) fs }))
 
     reached : (isNil ws || isNil gs) ≡ false → (ltb chunksMax (length gs) || ltb (length fs) (length gs)) ≡ false → (every (ofKind (shapeOf c .kind)) ws && every (ofKind chunkKind) gs) ≡ true
-        → (every (outHere (shapeOf c) (H .classes c)) ws && distinct ws) ≡ true → fit ≡ true
+        → repeats (shapeOf c) (H .classes c) ws ≡ false → every (outHere (shapeOf c) (H .classes c)) ws ≡ true → fit ≡ true
         → Model.releaseChunks (shapeOf c) h (H .classes c) ws gs fs
         ≡ (let x = Model.settleChunks (shapeOf c) h ws (H .classes c) gs in done (record { class = x .class; answer = fates (x .fates ++ drop (length gs) fs); gives = x .gives }))
     unfolding Model.releaseChunks
-    reached e₁ e₂ e₃ e₄ u = rw (e₁, e₂, e₃, e₄, u)
+    reached e₁ e₂ e₃ e₄ e₅ u = rw (e₁, e₂, e₃, e₄, e₅, u)
 
     module _ (k : every (ofKind (shapeOf c .kind)) ws ≡ true) (o : every (outHere (shapeOf c) (H .classes c)) ws ≡ true) (once : distinct ws ≡ true) where
       outs : every (outAt n b c (shapeOf c)) ws ≡ true
@@ -235,16 +237,17 @@ module _ {S : ℕ → Bool} (n : ℕ) (hn : n ≤ maxPages) (b : List ℕ) (H : 
         (λ e₁. by-cases (ltb chunksMax (length gs) || ltb (length fs) (length gs)) (λ e. rw (e₁, e))
         (λ e₂. by-cases (every (ofKind (shapeOf c .kind)) ws && every (ofKind chunkKind) gs)
         (λ e₃. let k = and-left k₁ k₂ e₃ in
-        rw (e₁, e₂, e₃, outs-here s hn (H .classes c) (R .classes c hc) ws k, outs-here s′ hn (H .classes c) r′ ws k)
-        (by-cases (every (outHere (shapeOf c) (H .classes c)) ws && distinct ws)
-        (λ e₄. rw e₄ (ends-local k (and-left (every (outHere sh t) ws) (distinct ws) e₄) (and-right (every (outHere sh t) ws) (distinct ws) e₄) (allowed e₁ e₂ e₃ e₄ a)))
-        (λ e₄. rw e₄)))
+        rw (e₁, e₂, e₃, fault-same s hn (H .classes c) (R .classes c hc) ws k, fault-same s′ hn (H .classes c) r′ ws k)
+        (by-cases (repeats (shapeOf c) (H .classes c) ws) (λ e₄. rw e₄)
+        (λ e₄. by-cases (every (outHere (shapeOf c) (H .classes c)) ws)
+        (λ e₅. rw (e₄, e₅) (ends-local k e₅ (once-here sh t ws e₄ e₅) (allowed e₁ e₂ e₃ e₄ e₅ a)))
+        (λ e₅. rw (e₄, e₅)))))
         (λ e₃. rw (e₁, e₂, e₃))))
       where
         allowed : (isNil ws || isNil gs) ≡ false → (ltb chunksMax (length gs) || ltb (length fs) (length gs)) ≡ false → (every (ofKind (shapeOf c .kind)) ws && every (ofKind chunkKind) gs) ≡ true
-            → (every (outHere (shapeOf c) (H .classes c)) ws && distinct ws) ≡ true → StaysHome (Model.releaseChunks (shapeOf c) h (H .classes c) ws gs fs) ⊎ Roams S H c
+            → repeats (shapeOf c) (H .classes c) ws ≡ false → every (outHere (shapeOf c) (H .classes c)) ws ≡ true → StaysHome (Model.releaseChunks (shapeOf c) h (H .classes c) ws gs fs) ⊎ Roams S H c
             → fit ≡ true → (Model.settleChunks (shapeOf c) h ws (H .classes c) gs .gives ≡ []) ⊎ Roams S H c
-        allowed e₁ e₂ e₃ e₄ (inl z) u =
+        allowed e₁ e₂ e₃ e₄ e₅ (inl z) u =
             let x = Model.settleChunks (shapeOf c) h ws (H .classes c) gs in
-            inl (home-gives (record { class = x .class; answer = fates (x .fates ++ drop (length gs) fs); gives = x .gives }) z (reached e₁ e₂ e₃ e₄ u))
-        allowed e₁ e₂ e₃ e₄ (inr z) u = inr z
+            inl (home-gives (record { class = x .class; answer = fates (x .fates ++ drop (length gs) fs); gives = x .gives }) z (reached e₁ e₂ e₃ e₄ e₅ u))
+        allowed e₁ e₂ e₃ e₄ e₅ (inr z) u = inr z

@@ -2,7 +2,7 @@
 --     list-local     the release keeps to the class's words, and the arena's where it gives
 use Prim.Native.Nat.{ℕ, suc, _≤_}
 use native.Mathlib.Omega.{arith}
-use mathlib.Core.Bool.{Bool, true, false, cond, not, _&&_}
+use mathlib.Core.Bool.{Bool, true, false, cond, not}
 use mathlib.Core.Logic.{_⊎_, inl, inr}
 use mathlib.Core.List.{List, [], _∷_, map}
 use mathlib.Core.Option.{Option, Option·some-injective}
@@ -12,24 +12,26 @@ use lib.ListN.{length}
 use borrow.Author.Tests.{ne-eqb}
 use Rattle.classes.specs.Shape.{shapeOf}
 use Rattle.fields.specs.Ranges.{maxPages}
-use Rattle.facts.specs.Lists.{every, distinct, count}
+use Rattle.facts.specs.Lists.{every, count}
 use Rattle.model.specs.Calls.{fate}
 use Rattle.model.specs.Page.{isOut}
 use Rattle.model.specs.Class.{Result, Ask, done}
-use Rattle.model.specs.Release.{Site, Settled, ofKind, outHere, onPage, settle, releaseList}
+use Rattle.model.specs.Release.{Site, Settled, ofKind, outHere, repeats, onPage, settle, releaseList}
 use Rattle.model.specs.Heap.{Heap}
 use Rattle.model.specs.Demands as Demands
 use Rattle.model.specs.Demands.{StaysHome}
-use Rattle.facts.proofs.Bools.{by-cases, and-left, and-right}
+use Rattle.facts.proofs.Bools.{by-cases, and-left}
 use Rattle.model.proofs.Counts.{distinct-count}
 use Rattle.arena.specs.Owners.{ownerCode}
 use Rattle.pages.specs.Stack.{indexOf}
-use Rattle.calls.specs.Release.{startOf, outAt, Released, releasedNone, lastStep, giveBackAt, releaseFair, releaseBlocks}
+use Rattle.calls.specs.Out.{startOf, outAt}
+use Rattle.calls.specs.Release.{Released, releasedNone, lastStep, giveBackAt, releaseFair, releaseBlocks}
 use Rattle.refinement.specs.Represents.{StateRep, Represents}
 use Rattle.refinement.proofs.Basics.{Setting}
 use Rattle.refinement.proofs.ArenaReached.{Reached}
 use Rattle.refinement.proofs.Book.{setting-of, state-as}
 use Rattle.refinement.proofs.Found.{At, found-at, placed-rep, same-pages, outs-here}
+use Rattle.refinement.proofs.OutTests.{once-here, fault-same}
 use Rattle.refinement.proofs.Returned.{return-room}
 use Rattle.refinement.proofs.Release.{shape-limits, SettledRep, stays, goes, settle-list}
 use Rattle.refinement.proofs.ReleaseFair.{release-fair}
@@ -78,7 +80,7 @@ module _ {S : ℕ → Bool} (n : ℕ) (hn : n ≤ maxPages) (b : List ℕ) (H : 
         (lastStep (shapeOf c) q (giveBackAt b c (shapeOf c) h q (map (indexOf (shapeOf c) q) ws))))
 
     module _ (w : ℕ) (ws : List ℕ) (a : StaysHome (releaseList (shapeOf c) h (H .classes c) (w ∷ ws)) ⊎ Roams S H c)
-        (k : every (ofKind (shapeOf c .kind)) (w ∷ ws) ≡ true) (o : every (outHere (shapeOf c) (H .classes c)) (w ∷ ws) ≡ true) (once : distinct (w ∷ ws) ≡ true) where
+        (k : every (ofKind (shapeOf c .kind)) (w ∷ ws) ≡ true) (single : repeats (shapeOf c) (H .classes c) (w ∷ ws) ≡ false) (o : every (outHere (shapeOf c) (H .classes c)) (w ∷ ws) ≡ true) where
       abbrev us : List ℕ
       us = w ∷ ws
 
@@ -107,12 +109,12 @@ module _ {S : ℕ → Bool} (n : ℕ) (hn : n ≤ maxPages) (b : List ℕ) (H : 
       p′ = subst (λ (y : Site). At n (mix S b d) c (shapeOf c) [] y) one (found-at {zs = []} r′ (x′ .found))
 
       few : (v : ℕ) → count v (w ∷ ws) ≤ 1
-      few v = distinct-count v us once
+      few v = distinct-count v us (once-here (shapeOf c) (H .classes c) us single o)
 
       asked : every (λ v. isOut (shapeOf c) v (x .site .page)) (w ∷ ws) ≡ true
           → ask (w ∷ ws) ≡ (let y = settle (shapeOf c) h false (w ∷ ws) (x .site) in done (record { class = y .class; answer = fate (y .fate); gives = y .gives }))
       unfolding releaseList onPage
-      asked u = rw (k, o, once, x .is, u)
+      asked u = rw (k, single, o, x .is, u)
 
       allowed : every (λ v. isOut (shapeOf c) v (x .site .page)) (w ∷ ws) ≡ true → StaysHome (releaseList (shapeOf c) h (H .classes c) (w ∷ ws)) ⊎ Roams S H c
           → (settle (shapeOf c) h false (w ∷ ws) (x .site) .gives ≡ []) ⊎ Roams S H c
@@ -152,8 +154,7 @@ module _ {S : ℕ → Bool} (n : ℕ) (hn : n ≤ maxPages) (b : List ℕ) (H : 
         let sh = shapeOf c in
         let t = H .classes c in
         by-cases (every (ofKind (shapeOf c .kind)) (w ∷ ws))
-        (λ k. rw (k, outs-here s hn (H .classes c) (R .classes c hc) (w ∷ ws) k, outs-here s′ hn (H .classes c) r′ (w ∷ ws) k)
-        (by-cases (every (outHere (shapeOf c) (H .classes c)) (w ∷ ws) && distinct (w ∷ ws))
-        (λ u. rw u (page-local w ws a k (and-left (every (outHere sh t) (w ∷ ws)) (distinct (w ∷ ws)) u) (and-right (every (outHere sh t) (w ∷ ws)) (distinct (w ∷ ws)) u)))
-        (λ u. rw u)))
+        (λ k. rw (k, fault-same s hn (H .classes c) (R .classes c hc) (w ∷ ws) k, fault-same s′ hn (H .classes c) r′ (w ∷ ws) k)
+        (by-cases (repeats (shapeOf c) (H .classes c) (w ∷ ws)) (λ u. rw u)
+        (λ u. by-cases (every (outHere (shapeOf c) (H .classes c)) (w ∷ ws)) (λ o. rw (u, o) (page-local w ws a k u o)) (λ o. rw (u, o)))))
         (λ k. rw k)

@@ -10,7 +10,7 @@ use mathlib.Core.Bool.{Bool, true, false, cond, not}
 use mathlib.Core.List.{List, [], _∷_}
 use mathlib.Core.Path.{_≡_, refl, sym, ap, _∙_}
 use lib.ListN.{length, getD, set, drop}
-use Rattle.fields.specs.Field.{Field, ClassField, PageField, class, page, slot, out, partial, empty, emptyCount, cold, coldCount, owner, first, next, prev, free, carved, listed, virgin, tally, classOff, pageOff, part, place, read, word, get, put}
+use Rattle.fields.specs.Field.{Field, ClassField, PageField, class, page, mark, slot, out, partial, empty, emptyCount, cold, coldCount, owner, first, next, prev, free, carved, listed, virgin, tally, classOff, pageOff, part, place, read, word, get, put}
 
 unfoldable pub mix : (ℕ → Bool) → List ℕ → List ℕ → List ℕ
 mix S [] d = []
@@ -93,6 +93,9 @@ module _ {S : ℕ → Bool} {q : ℕ} (p : PageIn S q) (b d : List ℕ) where
   in-out : (i : ℕ) → i < 4096 → S (word (out q i)) ≡ true
   in-out i h = at-word S (omega arith) (p .words (16 + i / 32) (omega arith))
 
+  in-mark : (j : ℕ) → j < 128 → S (word (mark q j)) ≡ true
+  in-mark j h = at-word S (omega arith) (p .words (144 + j) (omega arith))
+
   pub get-page : (k : PageField) → get (mix S b d) (page k q) ≡ get b (page k q)
   get-page k = get-in S b d (page k q) (in-page k)
 
@@ -107,6 +110,9 @@ module _ {S : ℕ → Bool} {q : ℕ} (p : PageIn S q) (b d : List ℕ) where
 
   pub put-out : (i v : ℕ) → i < 4096 → put (mix S b d) (out q i) v ≡ mix S (put b (out q i) v) d
   put-out i v h = put-in S b d (out q i) v (in-out i h)
+
+  pub put-mark : (j v : ℕ) → j < 128 → put (mix S b d) (mark q j) v ≡ mix S (put b (mark q j) v) d
+  put-mark j v h = put-in S b d (mark q j) v (in-mark j h)
 
 module _ {S : ℕ → Bool} {c : ℕ} (r : RowIn S c) (b d : List ℕ) where
   in-row : (k : ClassField) → S (word (class k c)) ≡ true

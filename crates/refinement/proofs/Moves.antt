@@ -14,7 +14,7 @@ use borrow.Author.Tests.{ne-eqb, eq-eqb}
 use Rattle.facts.specs.Lists.{All, count}
 use Rattle.classes.specs.declared.Shape.{Shape}
 use Rattle.classes.specs.Sound.{Sound}
-use Rattle.fields.specs.Field.{class, page, slot, out, partial, owner, next, prev, free, carved, listed, virgin, get, put, words}
+use Rattle.fields.specs.Field.{class, page, mark, slot, out, partial, owner, next, prev, free, carved, listed, virgin, get, put, words}
 use Rattle.fields.proofs.Laws.{get-put-same, length-put}
 use Rattle.fields.proofs.Changes.{Changes}
 use Rattle.model.specs.Page.{Page}
@@ -108,6 +108,7 @@ data-body q h x d = record {
   virgin = h .kept (page virgin x) refl (ne-eqb x q d);
   slots = λ i o. h .kept (slot x i) o (ne-eqb x q d);
   outs = λ i o. h .kept (out x i) o (ne-eqb x q d);
+  marks = λ j o. h .kept (mark x j) o refl;
 }
 
 pub data-ties : (q : ℕ) {b b′ : List ℕ} → Changes (isData q) b b′ → (x : ℕ) → Ties x b b′

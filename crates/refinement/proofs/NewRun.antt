@@ -10,7 +10,7 @@ use lib.Dec.{ltb}
 use borrow.Author.Tests.{ltb-true}
 use Rattle.facts.proofs.Bools.{by-cases}
 use Rattle.classes.specs.declared.Shape.{Shape}
-use Rattle.fields.specs.Field.{Field, page, slot, out, first, free, carved, listed, virgin, get}
+use Rattle.fields.specs.Field.{Field, page, mark, slot, out, first, free, carved, listed, virgin, get}
 use Rattle.fields.proofs.Changes.{Changes}
 use Rattle.model.specs.Page.{carve}
 use Rattle.pages.specs.Runs.{whole}
@@ -18,7 +18,7 @@ use Rattle.pages.specs.Stack.{marked}
 use Rattle.pages.specs.Carve.{bareRun, newRun}
 use Rattle.pages.proofs.Frames.{changes-new}
 use Rattle.pages.proofs.NewRun as Runs
-use Rattle.pages.proofs.NewRun.{bare-long, bare-listed, bare-outs}
+use Rattle.pages.proofs.NewRun.{bare-long, bare-listed, bare-outs, bare-marks}
 use Rattle.refinement.specs.Represents.{PageRep}
 use Rattle.refinement.proofs.Basics.{Setting, setting-kept}
 use Rattle.refinement.proofs.Pushes.{anew-holds, carve-rep}
@@ -32,10 +32,11 @@ pub record LetsNew (t : Field → Bool) (q m : ℕ) : Type 0 where
   pub virgin : t (page virgin q) ≡ true
   pub slots : (i : ℕ) → t (slot q i) ≡ true
   pub outs : (i : ℕ) → t (out q i) ≡ true
+  pub marks : (j : ℕ) → t (mark q j) ≡ true
 
 module _ {n : ℕ} {b : List ℕ} {c : ℕ} {sh : Shape} (s : Setting n b c sh) (q : ℕ) where
   pub new-changes : (t : Field → Bool) → LetsNew t q (sh .pages) → Changes t b (newRun b sh q)
-  new-changes t l = changes-new t b sh q (s .shape .few) (l .free) (l .virgin) (l .slots) (l .carved) (l .listing) (l .outs) (l .starts)
+  new-changes t l = changes-new t b sh q (s .shape .few) (l .free) (l .virgin) (l .slots) (l .carved) (l .listing) (l .outs) (l .marks) (l .starts)
 
   s₁ : Setting n (bareRun b sh q) c sh
   s₁ = setting-kept (bareRun b sh q) (bare-long b sh (s .shape .few) q) s
@@ -50,4 +51,4 @@ module _ {n : ℕ} {b : List ℕ} {c : ℕ} {sh : Shape} (s : Setting n b c sh) 
 
     pub new-rep : whole n (newRun b sh q) sh c q ≡ true → PageRep n sh (newRun b sh q) c 0 (carve sh q true)
     unfolding newRun
-    new-rep run = carve-rep sh q true (anew-holds s₁ q true hq run (bare-listed b sh (s .shape .few) q n (s .long) hq) idle)
+    new-rep run = carve-rep sh q true (anew-holds s₁ q true hq run (bare-listed b sh (s .shape .few) q n (s .long) hq) idle (bare-marks b sh (s .shape .few) q n (s .long) hq))

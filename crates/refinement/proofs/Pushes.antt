@@ -13,13 +13,13 @@ use borrow.Author.Tests.{lt-ltb, ltb-true, eq-eqb, ne-eqb}
 use Rattle.facts.specs.Lists.{every}
 use Rattle.facts.proofs.Bools.{and-left, and-right}
 use Rattle.classes.specs.declared.Shape.{Shape}
-use Rattle.fields.specs.Field.{Field, page, slot, out, owner, free, carved, listed, virgin, get}
+use Rattle.fields.specs.Field.{Field, page, mark, slot, out, owner, free, carved, listed, virgin, get}
 use Rattle.fields.proofs.Laws.{get-put-same, get-put-other, length-put}
 use Rattle.fields.proofs.Changes.{Changes}
 use Rattle.model.specs.Page.{isMedium, carveAs, carve}
 use Rattle.pages.specs.Runs.{whole}
 use Rattle.pages.specs.Stack.{marked, downs, push}
-use Rattle.pages.specs.Carve.{stocked, carveAnew}
+use Rattle.pages.specs.Carve.{stocked, carveAnew, outWords}
 use Rattle.pages.proofs.Downs.{digit-false, length-downs, small}
 use Rattle.pages.proofs.Pushes.{length-push, push-kept}
 use Rattle.pages.proofs.Frames.{changes-carve}
@@ -85,10 +85,10 @@ module _ {n : ℕ} {b : List ℕ} {c : ℕ} {sh : Shape} (s : Setting n b c sh) 
       (λ e. let o = in-row s j e in simp get-put-other (push-kept b q 0 (downs 0 (stocked sh)) room (out q j) o refl))
 
   -- the run's words, where no block is out, whatever they said of its blocks
-  pub anew-holds : {l : ℕ} → ltb q n ≡ true → whole n (carveAnew b sh q u) sh c q ≡ true → get b (page listed q) ≡ l → ((i : ℕ) → marked b sh q i ≡ 0)
+  pub anew-holds : {l : ℕ} → ltb q n ≡ true → whole n (carveAnew b sh q u) sh c q ≡ true → get b (page listed q) ≡ l → ((i : ℕ) → marked b sh q i ≡ 0) → ((j : ℕ) → j < outWords sh → get b (mark q j) ≡ 0)
       → Holds n sh (carveAnew b sh q u) c l q (downs 0 (stocked sh)) (stocked sh) u
   unfolding carveAnew
-  anew-holds hq run listing idle =
+  anew-holds hq run listing idle unmarked =
       let b₁ = push b q 0 (downs 0 (stocked sh)) in
       let hb₁ = long-kept n b (push b q 0 (downs 0 (stocked sh))) (length-push b q 0 (downs 0 (stocked sh))) (s .long) in
       let low : every (fits sh) (downs 0 (stocked sh)) ≡ true
@@ -103,6 +103,7 @@ module _ {n : ℕ} {b : List ℕ} {c : ℕ} {sh : Shape} (s : Setting n b c sh) 
         clean = simp (get-put-other, get-put-same n, hb₁);
         within = stocked-in sh;
         outs = λ j. omega (arith, anew-marked j, idle j, count-downs-zero j (stocked sh));
+        unmarked = λ j w. anew-data .kept (mark q j) (lt-ltb j 128 (omega (arith, s .shape .few))) refl ∙ unmarked j w;
       }
 
 -- the model's carving

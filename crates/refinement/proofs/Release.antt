@@ -106,7 +106,7 @@ module _ {n : ℕ} {b : List ℕ} {c : ℕ} {sh : Shape} (s : Setting n b c sh) 
       let o₁ = anew-only s q u (whole-owner n b (s .shape) c q run) in
       let s₁ = setting-kept b₁ (o₁ .long) s in
       let first : carve sh (p .first) (discardZeroed h && not (isMedium sh)) .first ≡ p .first = carve-first sh q u in
-      let rep₁ = carve-rep sh q u (anew-holds s q u (whole-in n b (s .shape) c q run) (whole-kept (data-owns q ch) n sh c q ∙ run) (r .fulls .0 .holds .listing) idle) in
+      let rep₁ = carve-rep sh q u (anew-holds s q u (whole-in n b (s .shape) c q run) (whole-kept (data-owns q ch) n sh c q ∙ run) (r .fulls .0 .holds .listing) idle (r .fulls .0 .holds .unmarked)) in
       let r₁ = at-full s p p₁ first ch r rep₁ in
       let idle₁ : (i : ℕ) → marked (carveAnew b sh (p .first) (discardZeroed h && not (isMedium sh))) sh (carve sh (p .first) (discardZeroed h && not (isMedium sh)) .first) i ≡ 0
       = λ i. ap (λ z. marked b₁ sh z i) first ∙ anew-marked s q u i ∙ idle i in

@@ -5,7 +5,7 @@
 --     release-after     the same after any history
 use Prim.Native.Nat.{ℕ, _≤_}
 use native.Mathlib.Omega.{arith}
-use mathlib.Core.Bool.{true, false, cond, not, _&&_, false≢true}
+use mathlib.Core.Bool.{true, false, cond, not, false≢true}
 use mathlib.Core.List.{List, [], _∷_, map}
 use mathlib.Core.Option.{Option, none, some}
 use mathlib.Core.Path.{_≡_, refl, sym, ap, _∙_}
@@ -13,7 +13,7 @@ use lib.Dec.{eqb, ltb}
 use lib.ListN.{length}
 use borrow.Author.Tests.{eqb-true, ne-eqb}
 use Rattle.facts.specs.Lists.{every, isSome, distinct, count}
-use Rattle.facts.proofs.Bools.{by-cases, and-left, and-right}
+use Rattle.facts.proofs.Bools.{by-cases, and-left}
 use Rattle.classes.specs.Shape.{shapeOf}
 use Rattle.fields.specs.Ranges.{maxPages}
 use Rattle.fields.proofs.Changes.{changes-none}
@@ -21,13 +21,14 @@ use Rattle.model.specs.Calls as Calls
 use Rattle.model.specs.Calls.{Call, fate}
 use Rattle.model.specs.Page.{isOut}
 use Rattle.model.specs.Class.{Ask, done, refuse}
-use Rattle.model.specs.Release.{Site, Settled, locate, ofKind, outHere, onPage, releaseList}
+use Rattle.model.specs.Release.{Site, Settled, locate, ofKind, outHere, repeats, onPage, releaseList}
 use Rattle.model.specs.Chunks.{answer}
 use Rattle.model.specs.Heap.{Heap, offer, finish, interact, classCall}
 use Rattle.model.specs.History.{heapAfter}
 use Rattle.model.proofs.Counts.{distinct-count}
 use Rattle.pages.specs.Stack.{indexOf}
-use Rattle.calls.specs.Release.{startOf, outAt, Released, releasedNone, lastStep, giveBackAt, releaseFair, releaseBlocks}
+use Rattle.calls.specs.Out.{startOf, outAt, outFault}
+use Rattle.calls.specs.Release.{Released, releasedNone, lastStep, giveBackAt, releaseFair, releaseBlocks}
 use Rattle.refinement.specs.Represents.{Represents}
 use Rattle.refinement.specs.Direct.{Agrees}
 use Rattle.refinement.specs.Releases.{listReply}
@@ -36,6 +37,7 @@ use Rattle.refinement.proofs.Frames.{ofClass}
 use Rattle.refinement.proofs.ArenaReached.{Reached, reached-after}
 use Rattle.refinement.proofs.Book.{setting-of, represents-class}
 use Rattle.refinement.proofs.Found.{Located, located, located-passes, At, found-at, placed-rep, same-page, same-pages, outs-here}
+use Rattle.refinement.proofs.OutTests.{once-here, fault-same}
 use Rattle.refinement.proofs.Returned.{return-room}
 use Rattle.refinement.proofs.Release.{shape-limits, SettledRep, stays, goes, settle-list}
 use Rattle.refinement.proofs.ReleaseFair.{release-fair}
@@ -83,29 +85,29 @@ module _ (n : ℕ) (hn : n ≤ maxPages) (b : List ℕ) (H : Heap) (R : Represen
         (sym (same-page s hn rp w (and-left (ofKind (sh .kind) w) (every (ofKind (sh .kind)) ws) k) (and-left (outAt n b c sh w) (every (outAt n b c sh) ws) o)) ∙ located-passes y))
         (w ∷ ws) once (same-pages s hn rp (w ∷ ws) k o)
 
-  -- number 10's test passed by both, or failed by both
+  -- the tests of numbers 15 and 10 passed by both, or failed by both
   past-ten : (w : ℕ) (ws : List ℕ) → every (ofKind (shapeOf c .kind)) (w ∷ ws) ≡ true
-      → every (outAt n b c (shapeOf c)) (w ∷ ws) ≡ every (outHere (shapeOf c) (H .classes c)) (w ∷ ws)
-      → ReleaseRep (cond (not (every (outAt n b c (shapeOf c)) (w ∷ ws) && distinct (w ∷ ws))) (releasedNone b 10) (rest (startOf b w) (w ∷ ws)))
-      (cond (not (every (outHere (shapeOf c) (H .classes c)) (w ∷ ws) && distinct (w ∷ ws))) (refuse (H .classes c) 10)
-      (onPage (shapeOf c) h (H .classes c) (w ∷ ws) (locate (isOut (shapeOf c) w) (H .classes c))))
+      → ReleaseRep (cond (not (eqb (outFault n b c (shapeOf c) (w ∷ ws)) 0)) (releasedNone b (outFault n b c (shapeOf c) (w ∷ ws))) (rest (startOf b w) (w ∷ ws)))
+      (cond (repeats (shapeOf c) (H .classes c) (w ∷ ws)) (refuse (H .classes c) 15)
+      (cond (not (every (outHere (shapeOf c) (H .classes c)) (w ∷ ws))) (refuse (H .classes c) 10)
+      (onPage (shapeOf c) h (H .classes c) (w ∷ ws) (locate (isOut (shapeOf c) w) (H .classes c)))))
   unfolding outHere
-  past-ten w ws k same =
+  past-ten w ws k =
       let sh = shapeOf c in
       let t = H .classes c in
-      let d = distinct (w ∷ ws) in
-      by-cases (every (outAt n b c (shapeOf c)) (w ∷ ws) && distinct (w ∷ ws))
-      (λ u. let o = and-left (every (outAt n b c sh) (w ∷ ws)) d u in
-      rw (← same, u) (on-page w ws k o (and-right (every (outAt n b c sh) (w ∷ ws)) d u) (locate (isOut sh w) t) (located (isOut sh w) t)
-      (and-left (outHere sh t w) (every (outHere sh t) ws) (sym same ∙ o))))
-      (λ u. rw (← same, u) (denied 10 refl (λ z. omega arith)))
+      let same = outs-here s hn t (R .classes c hc) (w ∷ ws) k in
+      rw (fault-same s hn t (R .classes c hc) (w ∷ ws) k)
+      (by-cases (repeats (shapeOf c) (H .classes c) (w ∷ ws)) (λ u. rw u (denied 15 refl (λ z. omega arith)))
+      (λ u. by-cases (every (outHere (shapeOf c) (H .classes c)) (w ∷ ws))
+      (λ o. rw (u, o) (on-page w ws k (same ∙ o) (once-here sh t (w ∷ ws) u o) (locate (isOut sh w) t) (located (isOut sh w) t) (and-left (outHere sh t w) (every (outHere sh t) ws) o)))
+      (λ o. rw (u, o) (denied 10 refl (λ z. omega arith)))))
 
   pub release-rep : (ws : List ℕ) → ReleaseRep (releaseBlocks n b c (shapeOf c) h ws) (releaseList (shapeOf c) h (H .classes c) ws)
   unfolding releaseBlocks releaseList rest
   release-rep [] = denied 7 refl (λ z. omega arith)
   release-rep (w ∷ ws) =
       by-cases (every (ofKind (shapeOf c .kind)) (w ∷ ws))
-      (λ k. let r = past-ten w ws k (outs-here s hn (H .classes c) (R .classes c hc) (w ∷ ws) k) in rw k r)
+      (λ k. let r = past-ten w ws k in rw k r)
       (λ k. rw k (denied 9 refl (λ z. omega arith)))
 
   -- ---- the whole book

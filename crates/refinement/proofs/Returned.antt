@@ -10,11 +10,11 @@ use mathlib.Core.List.{List, [], _∷_, _++_, map}
 use mathlib.Core.Path.{_≡_, refl, sym, ap, _∙_}
 use lib.Dec.{eqb, ltb, leb}
 use lib.ListN.{length, length-append}
-use borrow.Author.Tests.{eq-eqb, eqb-true, eqb-false, leb-true, leb-false, not-true}
+use borrow.Author.Tests.{lt-ltb, eq-eqb, eqb-true, eqb-false, leb-true, leb-false, not-true}
 use Rattle.facts.specs.Lists.{every, elem, count}
 use Rattle.facts.proofs.Bools.{by-cases, and-left, and-right}
 use Rattle.classes.specs.declared.Shape.{Shape}
-use Rattle.fields.specs.Field.{Field, page, slot, out, owner, free, carved, listed, virgin, region, get, put}
+use Rattle.fields.specs.Field.{Field, page, mark, slot, out, owner, free, carved, listed, virgin, region, get, put}
 use Rattle.fields.specs.Ranges.{maxPages}
 use Rattle.fields.proofs.Laws.{get-put-same, get-put-other, length-put}
 use Rattle.fields.proofs.Changes.{Changes, changes-none, changes-put, changes-trans}
@@ -116,6 +116,7 @@ module _ {n : ℕ} {b : List ℕ} {c : ℕ} {sh : Shape} (s : Setting n b c sh) 
         clean = rw back-is (simp (get-put-other, get-put-same n, hb₂));
         within = h .within;
         outs = back-outs;
+        unmarked = λ j u. ch .kept (mark q j) (lt-ltb j 128 (omega (arith, s .shape .few))) refl ∙ h .unmarked j u;
       }
 
 -- ---- the page
@@ -262,5 +263,6 @@ module _ {n : ℕ} {b : List ℕ} {c : ℕ} {sh : Shape} (s : Setting n b c sh) 
             clean = simp get-put-other (h .clean);
             within = omega arith;
             outs = λ i. omega (arith, emptied-idle i, digit-false i 0 (omega arith));
+            unmarked = λ j u. emptied-data .kept (mark q j) (lt-ltb j 128 (omega (arith, s .shape .few))) refl ∙ h .unmarked j u;
           };
         }

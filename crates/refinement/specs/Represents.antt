@@ -12,7 +12,7 @@ use lib.ListN.{length}
 use Rattle.facts.specs.Lists.{All, count}
 use Rattle.classes.specs.declared.Shape.{Shape}
 use Rattle.classes.specs.Shape.{shapeOf}
-use Rattle.fields.specs.Field.{page, slot, free, carved, listed, virgin, get}
+use Rattle.fields.specs.Field.{page, mark, slot, free, carved, listed, virgin, get}
 use Rattle.model.specs.Page.{Page, wordOf, reused}
 use Rattle.model.specs.Class.{Class, thawed}
 use Rattle.model.specs.Heap.{Heap}
@@ -23,6 +23,7 @@ use Rattle.pages.specs.Stack.{marked}
 use Rattle.pages.specs.declared.Park.{Park}
 use Rattle.pages.specs.declared.Park.the-variants.{Empty}
 use Rattle.pages.specs.Links.{other}
+use Rattle.pages.specs.Carve.{outWords}
 use Rattle.refinement.specs.Chain.{Chain, Stack}
 
 -- the stack of the run at q, top first
@@ -31,7 +32,8 @@ Slots b q [] = Unit {0}
 Slots b q (x ∷ xs) = (get b (slot q (length xs)) ≡ x) × (length xs < 4096) × Slots b q xs
 
 -- the run at q of class c: l is 1 where it is in the partial list, xs its stack, k blocks are carved, v whether it is virgin.
--- `outs` says at once that the entries are distinct and below k, and that the other blocks below k are out and no more.
+-- `outs` says at once that the entries are distinct and below k, and that the other blocks below k are out and no more; `unmarked`, that
+-- no mark is set (document 02, A.3).
 pub record Holds (n : ℕ) (sh : Shape) (b : List ℕ) (c l q : ℕ) (xs : List ℕ) (k : ℕ) (v : Bool) : Type 0 where
   pub run : whole n b sh c q ≡ true
   pub listing : get b (page listed q) ≡ l
@@ -41,6 +43,7 @@ pub record Holds (n : ℕ) (sh : Shape) (b : List ℕ) (c l q : ℕ) (xs : List 
   pub clean : get b (page virgin q) ≡ digit v
   pub within : k ≤ sh .capacity
   pub outs : (i : ℕ) → marked b sh q i + count i xs ≡ digit (ltb i k)
+  pub unmarked : (j : ℕ) → j < outWords sh → get b (mark q j) ≡ 0
 
 pub record PageRep (n : ℕ) (sh : Shape) (b : List ℕ) (c l : ℕ) (p : Page) : Type 0 where
   pub stack : List ℕ

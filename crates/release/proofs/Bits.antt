@@ -1,8 +1,8 @@
--- What a change of out bits alone keeps, and what a struck block's bit tells of another word.
---     start-kept, in-run-kept, out-in-kept, out-at-kept    the tests of number 10, on a book whose out bits may differ
+-- What a change of out bits and marks keeps, and what a block's bit tells of its word.
+--     start-kept, whole-kept, in-run-kept    a word's run, on a book whose out bits and marks may differ
 use Prim.Native.Nat.{ℕ, _+_, _-_, _*_, _≤_, _<_}
 use native.Mathlib.Omega.{arith}
-use mathlib.Core.Bool.{true, _&&_}
+use mathlib.Core.Bool.{Bool, true, _&&_, _||_}
 use mathlib.Core.List.{List}
 use mathlib.Core.Path.{_≡_, refl, ap}
 use lib.Dec.{eqb, leb}
@@ -12,20 +12,21 @@ use Rattle.facts.proofs.Bools.{and-left, and-right}
 use Rattle.facts.proofs.Lists.{every-same}
 use Rattle.words.specs.Word.{kindOf, granuleOf}
 use Rattle.classes.specs.declared.Shape.{Shape}
-use Rattle.fields.specs.Field.{arena, page, out, frontier, owner, first, get, put}
+use Rattle.fields.specs.Field.{Field, arena, page, out, frontier, owner, first, region, get, put}
 use Rattle.fields.proofs.Changes.{Changes, changes-none, changes-put}
 use Rattle.pages.specs.Runs.{ofRun, whole}
 use Rattle.pages.specs.Stack.{blocksFrom, indexOf, pageAt, isBlock}
-use Rattle.pages.proofs.Marks.{isMark}
-use Rattle.calls.specs.Release.{startOf, outIn, inRunOf}
-use Rattle.release.specs.Strike.{bitIn}
-use Rattle.release.specs.Asks.{hasBit}
+use Rattle.calls.specs.Out.{startOf, outIn, inRunOf}
+use Rattle.release.specs.Blocks.{bitIn}
 
--- ---- a change of out bits
-pub put-bit : (b : List ℕ) (q i v : ℕ) → i < 4096 → Changes isMark b (put b (out q i) v)
-put-bit b q i v h = changes-put isMark b b (out q i) v (lt-ltb i 4096 h) refl (changes-none isMark b)
+-- ---- a change of out bits, or of marks
+abbrev pub isBit : Field → Bool
+isBit f = eqb (region f) 1 || eqb (region f) 5
 
-module _ (b b′ : List ℕ) (h : Changes isMark b b′) where
+pub put-bit : (b : List ℕ) (q i v : ℕ) → i < 4096 → Changes isBit b (put b (out q i) v)
+put-bit b q i v h = changes-put isBit b b (out q i) v (lt-ltb i 4096 h) refl (changes-none isBit b)
+
+module _ (b b′ : List ℕ) (h : Changes isBit b b′) where
   pub start-kept : (w : ℕ) → startOf b′ w ≡ startOf b w
   unfolding startOf
   start-kept w = h .kept (page first (pageAt w)) refl refl
@@ -40,10 +41,6 @@ module _ (b b′ : List ℕ) (h : Changes isMark b b′) where
   pub in-run-kept : (n : ℕ) (sh : Shape) (c w : ℕ) → inRunOf n b′ sh c w ≡ inRunOf n b sh c w
   unfolding inRunOf
   in-run-kept n sh c w = rw (start-kept w, h .kept (arena frontier) refl refl, whole-kept n sh c (startOf b w))
-
-  pub bit-kept : (sh : Shape) (w : ℕ) → hasBit b′ sh w ≡ hasBit b sh w
-  unfolding hasBit
-  bit-kept sh w = rw (start-kept w, h .long)
 
 -- ---- a word's block, and its bit
 pub out-in : (b : List ℕ) (sh : Shape) (q w : ℕ) → outIn b sh q w ≡ (isBlock sh q w && eqb (get b (bitIn sh q w)) 1)

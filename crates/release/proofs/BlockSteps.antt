@@ -1,29 +1,31 @@
--- The ways out of `block_at` and `strike_one`.
+-- The ways out of `block_at` and `block_in`, and what a block tells.
 use Prim.Native.Nat.{ℕ, zero, suc, _+_, _-_, _*_, _/_, _%_, _^_, _≤_, _<_}
 use native.Mathlib.Omega.{arith}
-use native.Mathlib.Nat.{div-add-mod', mul-le-mul-right, lt-of-mul-lt-mul-right}
+use native.Mathlib.Nat.{div-add-mod', mod-eq-of-lt, mul-le-mul-right, lt-of-mul-lt-mul-right}
 use mir.Val.{Fits}
 use mir.Syntax.{w32, w64}
-use mathlib.Core.Bool.{Bool, true, false, and-false}
+use mathlib.Core.Bool.{Bool, true, false, _&&_, and-false}
 use mathlib.Core.List.{List}
 use mathlib.Core.Path.{_≡_, refl, sym, ap, _∙_}
 use lib.Dec.{eqb}
 use lib.ListN.{length}
-use borrow.Author.Tests.{le-leb, lt-ltb, eq-eqb, ne-eqb}
-use Rattle.words.specs.Word.{granuleOf}
+use lib.Pow.{low}
+use borrow.Author.Tests.{le-leb, lt-ltb, eq-eqb, ne-eqb, eqb-true}
+use Rattle.words.specs.Word.{kindOf, granuleOf}
 use Rattle.classes.specs.declared.Shape.{Shape}
 use Rattle.classes.specs.Sound.{Sound}
-use Rattle.fields.specs.Field.{out, get, put, words, Has}
+use Rattle.fields.specs.Field.{mark, out, words, Has}
 use Rattle.fields.specs.Ranges.{maxPages}
+use Rattle.model.specs.Page.{wordOf}
+use Rattle.model.specs.Release.{ofKind}
 use Rattle.pages.specs.Stack.{blocksFrom, indexOf, isBlock}
 use Rattle.stack.specs.Inverse.{inverse}
 use Rattle.stack.proofs.InverseLaws.{behind-point, past-point, narrow, product-fits, divides, quotient-fits}
-use Rattle.calls.specs.Release.{outIn}
 use Rattle.release.specs.declared.Found.{Found}
 use Rattle.release.specs.declared.Found.the-variants.{At, Nothing}
-use Rattle.release.specs.Strike.{found, blockAt, bitIn}
-use Rattle.release.specs.Asks.{StruckOne}
-use Rattle.release.proofs.Bits.{out-in, from-block, at-block, below-capacity}
+use Rattle.release.specs.Blocks.{found, blockAt, blockIn}
+use Rattle.release.specs.MarkAsks.{Near}
+use Rattle.release.proofs.Bits.{from-block, at-block, below-capacity}
 
 -- x granules behind the run's first block
 module _ (sh : Shape) (s : Sound sh) (m x : ℕ) (i : m ≡ inverse (sh .block)) (l : x < sh .capacity * sh .block) where
@@ -96,31 +98,72 @@ pub found-at : (t : Bool) (i j : ℕ) → At j ≡ found t i → (t ≡ true) ×
 found-at true i j e = (refl, cc)
 found-at false i j e = let z : _≡_ {A = ℕ} 0 1 = cc in absurd (omega arith)
 
-module _ (b : List ℕ) (sh : Shape) (q w : ℕ) where
-  pub not-block : (f : Found) → f ≡ blockAt sh q w → f ≡ Nothing → StruckOne false b b sh q w
-  not-block f e h =
-      let z = none-found (isBlock sh q w) (indexOf sh q w) (sym h ∙ e) in
-      let o : outIn b sh q w ≡ false = out-in b sh q w ∙ rw z in
-      record { answer = sym o; left = rw o }
+pub found-block : (sh : Shape) (q w : ℕ) (f : Found) (i : ℕ) → f ≡ blockAt sh q w → f ≡ At i → (isBlock sh q w ≡ true) × (i ≡ indexOf sh q w)
+found-block sh q w f i e h = found-at (isBlock sh q w) (indexOf sh q w) i (sym h ∙ e)
 
+-- ---- a word of the class's kind: x behind the word of block 0
+module _ (sh : Shape) (q base span m w x : ℕ) (a : Near sh q base span m) (u : (x + base) % 2 ^ 32 ≡ w) where
+  start-is : base ≡ sh .kind * 2 ^ 30 + (q * 4096 + sh .header)
+  unfolding wordOf
+  start-is = a .first ∙ omega arith
+
+  none-in : (ofKind (sh .kind) w && isBlock sh q w) ≡ false → Nothing ≡ blockIn sh q w
+  none-in h = rw h
+
+  pub outside : x < 2 ^ 32 → span ≤ x → Nothing ≡ blockIn sh q w
+  unfolding ofKind
+  outside f h = by (eqb (kindOf w) (sh .kind)) (isBlock sh q w) refl refl
+    where
+      by : (t v : Bool) → eqb (kindOf w) (sh .kind) ≡ t → isBlock sh q w ≡ v → Nothing ≡ found (t && v) (indexOf sh q w)
+      by false v y z = refl
+      by true false y z = refl
+      by true true y z =
+          let k : (indexOf sh q w + 1) * sh .block ≤ sh .capacity * sh .block = mul-le-mul-right (sh .block) (omega (arith, below-capacity sh q w z)) in
+          let o : kindOf w ≡ sh .kind = eqb-true (kindOf w) (sh .kind) y in
+          absurd (omega (arith, start-is, from-block sh q w z, at-block sh q w z, a .sound .wide, a .sound .fits, a .sound .known, a .below, a .all))
+
+  module _ (l : x < span) where
+    word-is : w ≡ x + base
+    word-is = omega (arith, start-is, a .all, a .sound .fits, a .sound .known, a .below)
+
+    granules : x < sh .capacity * sh .block
+    granules = rw (← (a .all)) l
+
+    kind-is : ofKind (sh .kind) w ≡ true
+    unfolding ofKind
+    kind-is = eq-eqb (kindOf w) (sh .kind) (omega (arith, word-is, start-is, a .all, a .sound .fits, a .below))
+
+    granule-is : (x + (q * 4096 + sh .header)) % 2 ^ 32 ≡ granuleOf w
+    granule-is =
+        let l : x + (q * 4096 + sh .header) < 2 ^ 30 = omega (arith, a .all, a .sound .fits, a .below) in
+        let e : w ≡ sh .kind * 2 ^ 30 + (x + (q * 4096 + sh .header)) = omega (arith, word-is, start-is) in
+        mod-eq-of-lt (omega arith) ∙ sym (ap (λ z. z % 2 ^ 30) e ∙ low (sh .kind) 30 l)
+
+    starts-low : q < maxPages
+    starts-low = omega (arith, a .below, a .sound .paged)
+
+    pub near-product : Fits w64 (x * m)
+    near-product = near-fits sh (a .sound) m x (a .by) granules
+
+    pub near-index : Fits w32 (x * m / 2 ^ 32)
+    near-index = index-fits sh (a .sound) m x (a .by) granules
+
+    pub inside-none : m ≤ x * m % 2 ^ 32 → Nothing ≡ blockIn sh q w
+    inside-none h =
+        let z = none-found (isBlock sh q w) (indexOf sh q w) (between-blocks sh q w (granuleOf w) x (a .sound) starts-low refl granule-is m (a .by) granules h) in
+        none-in (simp (z, and-false))
+
+    pub inside-at : x * m % 2 ^ 32 < m → At (x * m / 2 ^ 32) ≡ blockIn sh q w
+    inside-at h =
+        rw kind-is (a-block sh q w (granuleOf w) x (a .sound) starts-low refl granule-is m (a .by) granules h)
+
+module _ (b : List ℕ) (sh : Shape) (q w : ℕ) where
   pub has-bit : (f : Found) (i : ℕ) → Sound sh → words (q + 1) ≤ length b → f ≡ blockAt sh q w → f ≡ At i → Has b (out q i)
   has-bit f i s l e h =
-      let z = found-at (isBlock sh q w) (indexOf sh q w) i (sym h ∙ e) in
+      let z = found-block sh q w f i e h in
       omega (arith, below-capacity sh q w (z .0), z .1, s .few)
 
-  pub bit-set : (i x : ℕ) → x ≡ get b (out q i) → x ≡ 1 → get b (out q i) ≡ 1
-  bit-set i x e h = sym e ∙ h
-
-  pub not-out : (f : Found) (i x : ℕ) → f ≡ blockAt sh q w → f ≡ At i → x ≡ get b (out q i) → (x ≡ 1 → ⊥) → StruckOne false b b sh q w
-  not-out f i x e h k d =
-      let z = found-at (isBlock sh q w) (indexOf sh q w) i (sym h ∙ e) in
-      let y : eqb (get b (bitIn sh q w)) 1 ≡ false = rw (← (z .1), ← k) (ne-eqb x 1 d) in
-      let o : outIn b sh q w ≡ false = out-in b sh q w ∙ simp (y, and-false) in
-      record { answer = sym o; left = rw o }
-
-  pub was-out : (f : Found) (i x : ℕ) (b′ : List ℕ) → f ≡ blockAt sh q w → f ≡ At i → x ≡ get b (out q i) → x ≡ 1 → b′ ≡ put b (out q i) 0 → StruckOne true b′ b sh q w
-  was-out f i x b′ e h k d l =
-      let z = found-at (isBlock sh q w) (indexOf sh q w) i (sym h ∙ e) in
-      let y : eqb (get b (bitIn sh q w)) 1 ≡ true = rw (← (z .1), ← k) (eq-eqb x 1 d) in
-      let o : outIn b sh q w ≡ true = out-in b sh q w ∙ rw (z .0, y) in
-      record { answer = sym o; left = rw o (l ∙ ap (λ j. put b (out q j) 0) (z .1)) }
+  pub has-mark-at : (f : Found) (i : ℕ) → Sound sh → words (q + 1) ≤ length b → f ≡ blockAt sh q w → f ≡ At i → Has b (mark q (i / 32))
+  has-mark-at f i s l e h =
+      let z = found-block sh q w f i e h in
+      omega (arith, below-capacity sh q w (z .0), z .1, s .few)

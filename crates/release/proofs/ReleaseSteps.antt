@@ -1,46 +1,59 @@
 -- The ways out of a release.
-use Prim.Native.Nat.{ℕ, _+_, _≤_, _<_}
+--     fair-kept        number 13's last test reads no out bit and no mark
+--     act-takes ..     a list that is carried out: its blocks are taken, and come back
+--     one-passes, run-passes    what the shorter ways tell: none of numbers 9, 13 for a mark, 15, 10 and 11 applies
+use Prim.Native.Nat.{ℕ, zero, suc, _+_, _*_, _≤_, _<_}
 use native.Mathlib.Omega.{arith}
 use mathlib.Core.Bool.{Bool, true, false, cond, _&&_}
-use mathlib.Core.List.{List, [], _∷_, _++_, map}
+use mathlib.Core.List.{List, [], _∷_, map}
 use mathlib.Core.Path.{_≡_, refl, sym, ap, _∙_}
-use lib.Dec.{eqb, leb}
-use lib.ListN.{length, getD, take, drop}
-use lib.Seq.{take-add, drop-length}
-use borrow.Author.Tests.{eqb-true, le-leb, lt-ltb, eq-eqb}
-use Rattle.facts.specs.Lists.{isNil, every, distinct}
-use Rattle.facts.proofs.Bools.{and-left}
-use Rattle.facts.proofs.Lists.{every-same}
+use lib.Dec.{eqb, ltb, leb}
+use lib.ListN.{length, getD}
+use borrow.Author.Tests.{eqb-true, le-leb, lt-ltb, ltb-true, eq-eqb, ne-eqb}
+use Rattle.facts.specs.Lists.{isNil, every}
+use Rattle.facts.proofs.Bools.{and-left, and-right}
 use Rattle.classes.specs.declared.Shape.{Shape}
 use Rattle.classes.specs.Sound.{Sound}
-use Rattle.fields.specs.Field.{arena, class, page, frontier, state, holes, holePages, held, partial, empty, emptyCount, cold, coldCount, next, prev, free, carved, listed, virgin, get, put, words}
-use Rattle.fields.proofs.Changes.{Changes, changes-none, changes-trans}
+use Rattle.fields.specs.Clear.{clearMarks}
+use Rattle.fields.specs.Field.{arena, class, page, frontier, state, holes, holePages, held, partial, empty, emptyCount, cold, coldCount, first, next, prev, free, carved, listed, virgin, get, words, Has}
+use Rattle.fields.proofs.Changes.{Changes}
 use Rattle.model.specs.Release.{ofKind}
 use Rattle.arena.specs.Fair.{recordFair, giveFair}
 use Rattle.arena.specs.Calls.{given}
-use Rattle.pages.specs.Runs.{whole}
+use Rattle.pages.specs.Asks.{ClearAsks}
+use Rattle.pages.specs.Carve.{outWords}
 use Rattle.pages.specs.Fair.{headerFair}
-use Rattle.pages.specs.Stack.{marks, pushed, indexOf, back}
+use Rattle.pages.specs.Stack.{marks, pushed, indexOf, pageAt, back}
+use Rattle.pages.proofs.Downs.{small}
+use Rattle.pages.proofs.Marks.{marks-changes}
+use Rattle.calls.specs.Out.{startOf, inRunOf, outIn, outAt, markIn, clean, unmarked, outFault}
+use Rattle.calls.proofs.Out.{passed, passes}
 use Rattle.calls.specs.Release as Heap
-use Rattle.calls.specs.Release.{startOf, firstOf, inRunOf, outIn, outAt, pageFair, rowFair, spotFair, releaseFair, relisted, released, parkAs, parkAt, spotAt, unlisted, giveBackAt, lastStep, releaseBlocks}
+use Rattle.calls.specs.Release.{firstOf, pageFair, rowFair, spotFair, releaseFair, relisted, released, parkAs, parkAt, spotAt, unlisted, giveBackAt, lastStep, releaseBlocks}
 use Rattle.release.specs.declared.Found.{Found}
-use Rattle.release.specs.declared.Found.the-variants.{At, Nothing}
+use Rattle.release.specs.declared.Found.the-variants.{At}
 use Rattle.release.specs.declared.Released.{Released}
 use Rattle.release.specs.declared.Released.the-variants.{Refused, Fate}
-use Rattle.release.specs.Strike.{bitIn, runAt, countIn, struckIn, struckCount, struck, unstruck}
-use Rattle.release.specs.Asks.{InAsks, ClassAsks, hasBit, RestoreAsks, RestAsks, Rest, StruckIn}
+use Rattle.release.specs.declared.Tried.{Tried}
+use Rattle.release.specs.declared.Tried.the-variants.{Done, Not}
+use Rattle.release.specs.Asks.{ClassAsks, StartAsks, TakeAsks}
+use Rattle.release.specs.Blocks.{runAt}
 use Rattle.release.specs.Fair.{FairAsks}
-use Rattle.release.specs.Act.{settleAt, SettleAsks, RunAsks, Parked, Answered}
-use Rattle.pages.proofs.Marks.{isMark}
-use Rattle.release.proofs.Bits.{bit-kept, whole-kept}
-use Rattle.release.proofs.BlockSteps.{none-found, found-at}
-use Rattle.release.proofs.StrikeLaws.{strikes-all, restores, has-bits}
-use Rattle.release.proofs.RunLaws.{run-changes, run-struck, run-count, one-run, all-in-run, run-marks, within-arena}
-use Rattle.release.proofs.StrikeSteps.{run-whole, count-within}
-use Rattle.release.proofs.RestoreSteps.{every-append}
+use Rattle.release.specs.Marks.{readyIn, freshCount, freshBook, noMarks, takeMarks}
+use Rattle.release.specs.MarkAsks.{FieldAsks, MarkedIn, FaultAsks, Faulted}
+use Rattle.release.specs.Act.{settleAt, answerAs, SettleAsks, ActAsks, ListAsks, RunAsks, MarkedAsks, PassedAsks, Parked, Answered, Taken, Attempted}
+use Rattle.release.proofs.Bits.{isBit}
+use Rattle.release.proofs.BlockSteps.{found-at}
+use Rattle.release.proofs.RunSteps.{run-found}
+use Rattle.release.proofs.OutLaws.{page-of-out, run-within-out}
+use Rattle.release.proofs.RunLaws.{within-arena, run-start, run-out, out-here, in-low}
+use Rattle.release.proofs.MarkLaws.{mark-bits}
+use Rattle.release.proofs.Testing.{fault-none}
+use Rattle.release.proofs.TakeMarks.{lengths}
+use Rattle.release.proofs.RunMarks.{fresh-changes, takes-all, clears-run, AllFresh, all-fresh, not-repeated, not-marked}
 
--- ---- number 13's tests read no out bit
-module _ (b b′ : List ℕ) (h : Changes isMark b b′) where
+-- ---- number 13's last test reads no out bit and no mark
+module _ (b b′ : List ℕ) (h : Changes isBit b b′) where
   fair-kept : (n c : ℕ) (sh : Shape) (m q : ℕ) → c < 76 → releaseFair n b′ c sh m q ≡ releaseFair n b c sh m q
   unfolding releaseFair pageFair rowFair spotFair giveFair recordFair headerFair
   fair-kept n c sh m q hc =
@@ -65,47 +78,35 @@ module _ (b b′ : List ℕ) (h : Changes isMark b b′) where
         k (class coldCount c) o refl,
       )
 
--- ---- the words of one run, struck
-in-changes : (n c : ℕ) (sh : Shape) (s : Sound sh) (q : ℕ) (b : List ℕ) (ws : List ℕ) → whole n b sh c q ≡ true → Changes isMark b (struckIn b sh q ws)
-unfolding struckIn
-in-changes n c sh s q b [] h = changes-none isMark b
-in-changes n c sh s q b (w ∷ ws) h = by (outIn b sh q w) refl (λ k. in-changes n c sh s q (put b (bitIn sh q w) 0) ws (whole-kept b (put b (bitIn sh q w) 0) k n sh c q ∙ h))
-  where
-    by : (t : Bool) → outIn b sh q w ≡ t → (Changes isMark b (put b (bitIn sh q w) 0) → Changes isMark (put b (bitIn sh q w) 0) (struckIn (put b (bitIn sh q w) 0) sh q ws))
-        → Changes isMark b (struckIn b sh q (w ∷ ws))
-    by true o z = let k = run-changes n c sh s q b h w o in rw o (changes-trans isMark b (put b (bitIn sh q w) 0) _ k (z k))
-    by false o z = rw o (changes-none isMark b)
-
-nothing-left : (n : ℕ) (b : List ℕ) (c : ℕ) (sh : Shape) (ws : List ℕ) → ws ≡ [] → b ≡ struck n b c sh ws
-unfolding struck
-nothing-left n b c sh ws e = rw e
-
 -- ---- what a release answers
-module _ (n : ℕ) (b : List ℕ) (c : ℕ) (sh : Shape) (h : ℕ) (ws : List ℕ) where
-  module _ (z : isNil ws ≡ false) where
-    wrong-kind : every (ofKind (sh .kind)) ws ≡ false → Answered (Refused 9) b (releaseBlocks n b c sh h ws)
+module _ (n : ℕ) (b : List ℕ) (c : ℕ) (sh : Shape) (h : ℕ) (ws : List ℕ) (z : isNil ws ≡ false) where
+  wrong-kind : every (ofKind (sh .kind)) ws ≡ false → Answered (Refused 9) b (releaseBlocks n b c sh h ws)
+  unfolding releaseBlocks
+  wrong-kind e = rw (z, e) (record { answer = refl; left = refl })
+
+  module _ (k : every (ofKind (sh .kind)) ws ≡ true) where
+    at-fault : (r : ℕ) (b′ : List ℕ) → r ≡ outFault n b c sh ws → (r ≡ 0 → ⊥) → b′ ≡ b → Answered (Refused r) b′ (releaseBlocks n b c sh h ws)
     unfolding releaseBlocks
-    wrong-kind e = rw (z, e) (record { answer = refl; left = refl })
+    at-fault r b′ e d x = rw (z, k, ← e, ne-eqb r 0 d) (record { answer = by r d; left = x })
+      where
+        by : (r : ℕ) → (r ≡ 0 → ⊥) → Refused r ≡ answerAs r 0
+        by zero d = absurd (d refl)
+        by (suc r) d = refl
 
-    module _ (k : every (ofKind (sh .kind)) ws ≡ true) where
-      not-out : (b′ : List ℕ) → b′ ≡ b → (every (outAt n b c sh) ws && distinct ws) ≡ false → Answered (Refused 10) b′ (releaseBlocks n b c sh h ws)
+    module _ (o : outFault n b c sh ws ≡ 0) (q : ℕ) (y : startOf b (firstOf ws) ≡ q) where
+      two-runs : every (λ w. eqb (startOf b w) q) ws ≡ false → Answered (Refused 11) b (releaseBlocks n b c sh h ws)
       unfolding releaseBlocks
-      not-out b′ x e = rw (z, k, e) (record { answer = refl; left = x })
+      two-runs e = rw (z, k, o, y, e) (record { answer = refl; left = refl })
 
-      module _ (o : (every (outAt n b c sh) ws && distinct ws) ≡ true) (q : ℕ) (y : startOf b (firstOf ws) ≡ q) where
-        two-runs : (b′ : List ℕ) → b′ ≡ b → every (λ w. eqb (startOf b w) q) ws ≡ false → Answered (Refused 11) b′ (releaseBlocks n b c sh h ws)
+      module _ (u : every (λ w. eqb (startOf b w) q) ws ≡ true) where
+        not-fair : releaseFair n b c sh (length ws) q ≡ false → Answered (Refused 13) b (releaseBlocks n b c sh h ws)
         unfolding releaseBlocks
-        two-runs b′ x e = rw (z, k, o, y, e) (record { answer = refl; left = x })
+        not-fair e = rw (z, k, o, y, u, e) (record { answer = refl; left = refl })
 
-        module _ (u : every (λ w. eqb (startOf b w) q) ws ≡ true) where
-          not-fair : (b′ : List ℕ) → b′ ≡ b → releaseFair n b c sh (length ws) q ≡ false → Answered (Refused 13) b′ (releaseBlocks n b c sh h ws)
-          unfolding releaseBlocks
-          not-fair b′ x e = rw (z, k, o, y, u, e) (record { answer = refl; left = x })
-
-          carried-out : (r : ℕ) (b′ : List ℕ) → releaseFair n b c sh (length ws) q ≡ true → lastStep sh q (giveBackAt b c sh h q (map (indexOf sh q) ws)) .code ≡ 0
-              → Parked r b′ (lastStep sh q (giveBackAt b c sh h q (map (indexOf sh q) ws))) → Answered (Fate r) b′ (releaseBlocks n b c sh h ws)
-          unfolding releaseBlocks
-          carried-out r b′ e v p = rw (z, k, o, y, u, e) (record { answer = rw v (ap Fate (p .fate)); left = p .left })
+        carried-out : (r : ℕ) (b′ : List ℕ) → releaseFair n b c sh (length ws) q ≡ true → lastStep sh q (giveBackAt b c sh h q (map (indexOf sh q) ws)) .code ≡ 0
+            → Parked r b′ (lastStep sh q (giveBackAt b c sh h q (map (indexOf sh q) ws))) → Answered (Fate r) b′ (releaseBlocks n b c sh h ws)
+        unfolding releaseBlocks
+        carried-out r b′ e v p = rw (z, k, o, y, u, e) (record { answer = rw v (ap Fate (p .fate)); left = p .left })
 
 -- ---- an act refuses nothing
 last-code : (sh : Shape) (q : ℕ) (o : Heap.Released) → o .code ≡ 0 → lastStep sh q o .code ≡ 0
@@ -127,138 +128,347 @@ give-back-settles : (b : List ℕ) (c : ℕ) (sh : Shape) (h q : ℕ) (is : List
 unfolding giveBackAt settleAt back
 give-back-settles b c sh h q is = refl
 
--- ---- the run of the first word, with so many of the listed words struck in it
-module _ (n : ℕ) (b : List ℕ) (c : ℕ) (sh : Shape) (q : ℕ) (ws : List ℕ) (a : RunAsks n b c sh q ws) where
-  below-n : q + sh .pages ≤ n
-  below-n = within-arena n c sh (a .class .sound) q b (a .run)
+give-back-code : (b : List ℕ) (c : ℕ) (sh : Shape) (h q : ℕ) (is : List ℕ) → lastStep sh q (giveBackAt b c sh h q is) .code ≡ 0
+give-back-code b c sh h q is = last-code sh q (giveBackAt b c sh h q is) (rw (give-back-settles b c sh h q is) (settle-code (marks b q 0 is) c sh h q is))
 
-  pub run-in : InAsks b sh q
-  run-in =
-      record { sound = a .class .sound; below = omega (arith, below-n, a .class .sound .paged, a .class .few); there = omega (arith, below-n, a .class .sound .paged, a .class .long) }
+-- ---- the act: all words are out in the run at q
+lows : (sh : Shape) (s : Sound sh) (q : ℕ) (b : List ℕ) (ws : List ℕ) → every (outIn b sh q) ws ≡ true → every (λ w. ltb (indexOf sh q w) 4096) ws ≡ true
+lows sh s q b [] e = refl
+lows sh s q b (w ∷ ws) e = rw (lt-ltb (indexOf sh q w) 4096 (in-low sh s q b w (and-left (outIn b sh q w) _ e))) (lows sh s q b ws (and-right (outIn b sh q w) _ e))
 
-  hb : leb (words n) (length b) ≡ true
-  hb = le-leb (words n) (length b) (a .class .long)
+smalls : (sh : Shape) (q : ℕ) (ws : List ℕ) → every (λ w. ltb (indexOf sh q w) 4096) ws ≡ true → every small (map (indexOf sh q) ws) ≡ true
+smalls sh q [] e = refl
+smalls sh q (w ∷ ws) e = rw (and-left (ltb (indexOf sh q w) 4096) _ e) (smalls sh q ws (and-right (ltb (indexOf sh q w) 4096) _ e))
 
-  changes : Changes isMark b (struckIn b sh q ws)
-  changes = in-changes n c sh (a .class .sound) q b ws (a .run)
+module _ (n : ℕ) (b : List ℕ) (c : ℕ) (sh : Shape) (q : ℕ) (ws : List ℕ) (a : ActAsks n b c sh q ws) where
+  bits-low : every (λ w. ltb (indexOf sh q w) 4096) ws ≡ true
+  bits-low = lows sh (a .class .sound) q b ws (a .out)
 
-  prefix-bits : every (hasBit (struckIn b sh q ws) sh) (take (countIn b sh q ws) ws) ≡ true
-  prefix-bits =
-      let m = countIn b sh q ws in
-      let x = run-count n c sh (a .class .sound) q b ws (a .run) in
-      let y = has-bits n c sh (a .class .sound) b ws (a .class .few) hb in
-      let z = struckCount n (struckIn b sh q ws) c sh (drop m ws) in
-      let u : every (hasBit b sh) (take m ws ++ take z (drop m ws)) ≡ true = rw (x, take-add m z ws) at y in
-      every-same _ _ (take m ws) (bit-kept b (struckIn b sh q ws) changes sh) ∙ and-left (every (hasBit b sh) (take m ws)) _ (sym (every-append (hasBit b sh) (take m ws) (take z (drop m ws))) ∙ u)
+  pub act-takes : TakeAsks b sh q ws
+  act-takes = record {
+    run = record { sound = a .class .sound; below = omega (arith, a .inside, a .class .sound .paged, a .class .few); there = omega (arith, a .inside, a .class .sound .paged, a .class .long) };
+    bits = bits-low;
+  }
 
-  module _ (k : ℕ) (b′ : List ℕ) (s : StruckIn k b′ b sh q ws 0) where
-    k-is : k ≡ countIn b sh q ws
-    k-is = s .answer ∙ omega arith
+  changes : Changes isBit b (marks b q 0 (map (indexOf sh q) ws))
+  changes = marks-changes b q 0 isBit (λ i. refl) (map (indexOf sh q) ws) (smalls sh q ws bits-low)
 
-    pub class-after : ClassAsks n b′ c sh
-    class-after = record { known = a .class .known; sound = a .class .sound; few = a .class .few; long = rw (s .left) (omega (arith, changes .long, a .class .long)) }
+  module _ (b′ : List ℕ) (e : b′ ≡ marks b q 0 (map (indexOf sh q) ws)) where
+    pub act-settles : SettleAsks n b′ c sh q ws
+    act-settles = rw e (record {
+      class = record { known = a .class .known; sound = a .class .sound; few = a .class .few; long = omega (arith, changes .long, a .class .long) };
+      inside = a .inside;
+      fair = fair-kept b _ changes n c sh (length ws) q (a .class .known) ∙ a .fair;
+    })
 
-    struck-bits : every (hasBit b′ sh) (take k ws) ≡ true
-    struck-bits = rw (s .left, k-is) prefix-bits
+    pub act-done : (h r : ℕ) (b″ : List ℕ) → Parked r b″ (lastStep sh q (settleAt b′ c sh h q (map (indexOf sh q) ws))) → Parked r b″ (lastStep sh q (giveBackAt b c sh h q (map (indexOf sh q) ws)))
+    act-done h r b″ p = rw (give-back-settles b c sh h q (map (indexOf sh q) ws)) (rw e at p)
 
-    pub rest-asks : RestAsks n b′ c sh ws k
-    rest-asks = record { class = class-after; within = omega (arith, k-is, count-within b sh q ws); bits = struck-bits }
+-- ---- a list that no number before 11 refuses
+first-is : (ws : List ℕ) → isNil ws ≡ false → firstOf ws ≡ getD ws 0 0
+first-is [] z = let e : _≡_ {A = Bool} true false = z in let y : _≡_ {A = ℕ} 0 1 = cc in absurd (omega arith)
+first-is (w ∷ ws) z = refl
 
-    pub struck-low : k ≤ length ws
-    struck-low = rest-asks .within
+pub some-listed : (ws : List ℕ) → isNil ws ≡ false → 0 < length ws
+some-listed [] z = let e : _≡_ {A = Bool} true false = z in let y : _≡_ {A = ℕ} 0 1 = cc in absurd (omega arith)
+some-listed (w ∷ ws) z = omega arith
 
-    pub restore-asks : RestoreAsks b′ sh (take k ws)
-    restore-asks = record { sound = a .class .sound; bits = struck-bits }
+module _ (n : ℕ) (b : List ℕ) (c : ℕ) (sh : Shape) (ws : List ℕ) (a : PassedAsks n b c sh ws) where
+  out : every (outAt n b c sh) ws ≡ true
+  out = passed n b c sh ws (a .passed) .out
 
-    pub fair-asks : FairAsks b′ c sh q
-    fair-asks = record { known = a .class .known; sound = a .class .sound; there = omega (arith, below-n, a .class .sound .paged, class-after .long) }
+  pub start-asks : StartAsks n b ws
+  start-asks = record { long = a .class .long; pages = by ws out }
+    where
+      by : (vs : List ℕ) → every (outAt n b c sh) vs ≡ true → every (λ w. ltb (pageAt w) n) vs ≡ true
+      by [] e = refl
+      by (v ∷ vs) e = rw (lt-ltb (pageAt v) n (page-of-out n c sh (a .class .sound) b v (and-left (outAt n b c sh v) _ e))) (by vs (and-right (outAt n b c sh v) _ e))
 
-    -- all that was struck, by the words of any run
-    counted : k + struckCount n b′ c sh (drop k ws) ≡ struckCount n b c sh ws
-    counted = rw (s .left, k-is) (sym (run-count n c sh (a .class .sound) q b ws (a .run)))
+  pub first-asks : (p : ℕ) → p ≡ pageAt (getD ws 0 0) → Has b (page first p)
+  first-asks p e =
+      let l : ltb (pageAt (getD ws 0 0)) n ≡ true = by ws (start-asks .pages) (a .some) in
+      omega (arith, a .class .long, ltb-true (pageAt (getD ws 0 0)) n l)
+    where
+      by : (vs : List ℕ) → every (λ w. ltb (pageAt w) n) vs ≡ true → isNil vs ≡ false → ltb (pageAt (getD vs 0 0)) n ≡ true
+      by [] x y = let e : _≡_ {A = Bool} true false = y in let y : _≡_ {A = ℕ} 0 1 = cc in absurd (omega arith)
+      by (v ∷ vs) x y = and-left (ltb (pageAt v) n) _ x
 
-    went : struck n b′ c sh (drop k ws) ≡ struck n b c sh ws
-    went = rw (s .left, k-is) (sym (run-struck n c sh (a .class .sound) q b ws (a .run)))
+  module _ (p q : ℕ) (e : p ≡ pageAt (getD ws 0 0)) (y : q ≡ get b (page first p)) where
+    start-is : startOf b (firstOf ws) ≡ q
+    unfolding startOf
+    start-is = rw (first-is ws (a .some), ← e) (sym y)
 
-    tells : eqb (struckCount n b c sh ws) (length ws) ≡ (every (outAt n b c sh) ws && distinct ws)
-    tells = strikes-all n c sh (a .class .sound) b (sh .kind) ws hb (a .kinds)
+    module _ (h : ℕ) (t : Bool) (x : t ≡ every (λ w. eqb (startOf b w) q) ws) where
+      pub other-run : t ≡ false → Answered (Refused 11) b (releaseBlocks n b c sh h ws)
+      other-run d = two-runs n b c sh h ws (a .some) (a .kinds) (a .passed) q start-is (sym x ∙ d)
 
-    pub refused-rest : (h r : ℕ) (b″ : List ℕ) → (k ≡ length ws → ⊥) → Rest r b″ n b′ c sh ws k → Answered (Refused r) b″ (releaseBlocks n b c sh h ws)
-    refused-rest h r b″ d t = by (eqb (struckCount n b c sh ws) (length ws)) refl
-      where
-        back : b″ ≡ b
-        back = t .left ∙ rw (counted, went) (restores n c sh (a .class .sound) b ws hb)
+      module _ (d : t ≡ true) where
+        starts : every (λ w. eqb (startOf b w) q) ws ≡ true
+        starts = sym x ∙ d
 
-        elsewhere : (u : Bool) → every (λ w. eqb (startOf b w) q) ws ≡ u → struckCount n b c sh ws ≡ length ws → every (λ w. eqb (startOf b w) q) ws ≡ false
-        elsewhere true x e = absurd (d (k-is ∙ sym (one-run n c sh (a .class .sound) q b ws (a .run) x) ∙ e))
-        elsewhere false x e = x
+        first-out : outAt n b c sh (getD ws 0 0) ≡ true
+        first-out = by ws out (a .some)
+          where
+            by : (vs : List ℕ) → every (outAt n b c sh) vs ≡ true → isNil vs ≡ false → outAt n b c sh (getD vs 0 0) ≡ true
+            by [] x y = let e : _≡_ {A = Bool} true false = y in let y : _≡_ {A = ℕ} 0 1 = cc in absurd (omega arith)
+            by (v ∷ vs) x y = and-left (outAt n b c sh v) _ x
 
-        by : (u : Bool) → eqb (struckCount n b c sh ws) (length ws) ≡ u → Answered (Refused r) b″ (releaseBlocks n b c sh h ws)
-        by true e =
-            let x : r ≡ 11 = t .answer ∙ rw (counted, e) in
-            let o = sym tells ∙ e in
-            rw x (two-runs n b c sh h ws (a .some) (a .kinds) o q (a .start) b″ back (elsewhere _ refl (eqb-true (struckCount n b c sh ws) (length ws) e)))
-        by false e =
-            let x : r ≡ 10 = t .answer ∙ rw (counted, e) in
-            rw x (not-out n b c sh h ws (a .some) (a .kinds) b″ back (sym tells ∙ e))
+        within : q + sh .pages ≤ n
+        within =
+            let z : startOf b (getD ws 0 0) ≡ q = ap (startOf b) (sym (first-is ws (a .some))) ∙ start-is in
+            rw (← z) (run-within-out n c sh (a .class .sound) b (getD ws 0 0) first-out)
 
-    -- ---- all of them
-    module _ (e : k ≡ length ws) where
-      all-struck : countIn b sh q ws ≡ length ws
-      all-struck = sym k-is ∙ e
+        all-here : (vs : List ℕ) → every (λ w. eqb (startOf b w) q) vs ≡ true → every (outAt n b c sh) vs ≡ true → every (outIn b sh q) vs ≡ true
+        all-here [] i j = refl
+        all-here (v ∷ vs) i j =
+            rw (out-here n c sh (a .class .sound) q b v (eqb-true (startOf b v) q (and-left (eqb (startOf b v) q) _ i)) (and-left (outAt n b c sh v) _ j))
+            (all-here vs (and-right (eqb (startOf b v) q) _ i) (and-right (outAt n b c sh v) _ j))
 
-      all-start : every (λ w. eqb (startOf b w) q) ws ≡ true
-      all-start = all-in-run n c sh (a .class .sound) q b ws (a .run) all-struck
+        pub fair-asks : FairAsks b c sh q
+        fair-asks = record { known = a .class .known; sound = a .class .sound; there = omega (arith, within, a .class .sound .paged, a .class .long) }
 
-      all-count : struckCount n b c sh ws ≡ length ws
-      all-count = one-run n c sh (a .class .sound) q b ws (a .run) all-start ∙ all-struck
+        module _ (u : Bool) (f : u ≡ releaseFair n b c sh (length ws) q) where
+          pub unfair : u ≡ false → Answered (Refused 13) b (releaseBlocks n b c sh h ws)
+          unfair i = not-fair n b c sh h ws (a .some) (a .kinds) (a .passed) q start-is starts (sym f ∙ i)
 
-      all-out : (every (outAt n b c sh) ws && distinct ws) ≡ true
-      all-out = sym tells ∙ eq-eqb (struckCount n b c sh ws) (length ws) all-count
+          pub act-asks : u ≡ true → ActAsks n b c sh q ws
+          act-asks i = record { class = a .class; inside = within; out = all-here ws starts out; fair = sym f ∙ i }
 
-      module _ (t : Bool) (f : t ≡ releaseFair n b′ c sh k q) where
-        fair-is : t ≡ releaseFair n b c sh (length ws) q
-        fair-is = f ∙ rw (e, s .left) (fair-kept b (struckIn b sh q ws) changes n c sh (length ws) q (a .class .known))
+          pub acted : u ≡ true → (r : ℕ) (b′ : List ℕ) → Parked r b′ (lastStep sh q (giveBackAt b c sh h q (map (indexOf sh q) ws))) → Answered (Fate r) b′ (releaseBlocks n b c sh h ws)
+          acted i r b′ k = carried-out n b c sh h ws (a .some) (a .kinds) (a .passed) q start-is starts r b′ (sym f ∙ i) (give-back-code b c sh h q (map (indexOf sh q) ws)) k
 
-        pub settle-asks : t ≡ true → SettleAsks n b′ c sh q ws
-        settle-asks x = record { class = class-after; inside = below-n; fair = rw (← e) (sym f ∙ x) }
-
-        pub settled : (h r : ℕ) (b″ : List ℕ) → t ≡ true → Parked r b″ (lastStep sh q (settleAt b′ c sh h q (map (indexOf sh q) ws))) → Answered (Fate r) b″ (releaseBlocks n b c sh h ws)
-        settled h r b″ x p =
-            let is = map (indexOf sh q) ws in
-            let m : settleAt b′ c sh h q is ≡ giveBackAt b c sh h q is =
-            rw (s .left, run-marks sh (a .class .sound) q b ws all-struck) (sym (give-back-settles b c sh h q is)) in
-            carried-out n b c sh h ws (a .some) (a .kinds) all-out q (a .start) all-start r b″ (sym fair-is ∙ x)
-            (last-code sh q (giveBackAt b c sh h q is) (rw (← m) (settle-code b′ c sh h q is))) (rw m at p)
-
-        pub refused-fair : (h : ℕ) (b″ : List ℕ) → t ≡ false → b″ ≡ unstruck b′ sh (take k ws) → Answered (Refused 13) b″ (releaseBlocks n b c sh h ws)
-        refused-fair h b″ x l =
-            let d : drop (length ws) ws ≡ [] = drop-length ws in
-            let y : b′ ≡ struck n b c sh ws = nothing-left n b′ c sh (drop k ws) (ap (λ j. drop j ws) e ∙ d) ∙ went in
-            let back : b″ ≡ b = l ∙ rw (y, e, ← all-count) (restores n c sh (a .class .sound) b ws hb) in
-            not-fair n b c sh h ws (a .some) (a .kinds) all-out q (a .start) all-start b″ back (sym fair-is ∙ x)
-
--- ---- numbers 7, 9 and 10 before any run is struck
+-- ---- numbers 7, 9, and what `out_fault` says
 module _ (n : ℕ) (b : List ℕ) (c : ℕ) (sh : Shape) (h : ℕ) where
   pub none-listed : (ws : List ℕ) → length ws ≡ 0 → Answered (Refused 7) b (releaseBlocks n b c sh h ws)
   unfolding releaseBlocks
   none-listed [] e = record { answer = refl; left = refl }
   none-listed (w ∷ ws) e = absurd (omega arith)
 
-  module _ (t : Bool) where
-    pub bad-kind : (ws : List ℕ) → (length ws ≡ 0 → ⊥) → t ≡ every (ofKind (sh .kind)) ws → t ≡ false → Answered (Refused 9) b (releaseBlocks n b c sh h ws)
-    bad-kind [] d k x = absurd (d refl)
-    bad-kind (w ∷ ws) d k x = wrong-kind n b c sh h (w ∷ ws) refl (sym k ∙ x)
+  pub list-asks : (ws : List ℕ) → ClassAsks n b c sh → (length ws ≡ 0 → ⊥) → ListAsks n b c sh ws
+  list-asks [] a d = absurd (d refl)
+  list-asks (w ∷ ws) a d = record { class = a; some = refl }
 
-    pub first-idle : (ws : List ℕ) (f : Found) → (length ws ≡ 0 → ⊥) → t ≡ every (ofKind (sh .kind)) ws → t ≡ true → f ≡ runAt n b sh c (getD ws 0 0) → f ≡ Nothing → Answered (Refused 10) b (releaseBlocks n b c sh h ws)
-    unfolding outAt
-    first-idle [] f d k x e y = absurd (d refl)
-    first-idle (w ∷ ws) f d k x e y =
-        let z = none-found (inRunOf n b sh c w) (startOf b w) (sym y ∙ e) in
-        not-out n b c sh h (w ∷ ws) refl (sym k ∙ x) b refl (rw z)
+  module _ (ws : List ℕ) (a : ListAsks n b c sh ws) (t : Bool) (k : t ≡ every (ofKind (sh .kind)) ws) where
+    pub bad-kind : t ≡ false → Answered (Refused 9) b (releaseBlocks n b c sh h ws)
+    bad-kind x = wrong-kind n b c sh h ws (a .some) (sym k ∙ x)
 
-    pub run-asks : (ws : List ℕ) (f : Found) (q : ℕ) → ClassAsks n b c sh → (length ws ≡ 0 → ⊥) → t ≡ every (ofKind (sh .kind)) ws → t ≡ true → f ≡ runAt n b sh c (getD ws 0 0) → f ≡ At q → RunAsks n b c sh q ws
-    run-asks [] f q a d k x e y = absurd (d refl)
-    run-asks (w ∷ ws) f q a d k x e y =
-        let z = found-at (inRunOf n b sh c w) (startOf b w) q (sym y ∙ e) in
-        record { class = a; run = rw (z .1) (run-whole n b c sh w (z .0)); start = sym (z .1); some = refl; kinds = sym k ∙ x }
+    module _ (x : t ≡ true) where
+      pub fault-asks : FaultAsks n b c sh ws
+      fault-asks = record { class = a .class; kinds = sym k ∙ x }
+
+      module _ (r : ℕ) (b′ : List ℕ) (f : Faulted r b′ n b c sh ws) where
+        pub faulted : (r ≡ 0 → ⊥) → Answered (Refused r) b′ (releaseBlocks n b c sh h ws)
+        faulted d = at-fault n b c sh h ws (a .some) (sym k ∙ x) r b′ (f .answer) d (f .left)
+
+        pub passed-asks : r ≡ 0 → PassedAsks n b′ c sh ws
+        passed-asks d = rw (f .left) (record { class = a .class; some = a .some; kinds = sym k ∙ x; passed = sym (f .answer) ∙ d })
+
+        pub passed-on : (o : Released) (b″ : List ℕ) → Answered o b″ (releaseBlocks n b′ c sh h ws) → Answered o b″ (releaseBlocks n b c sh h ws)
+        passed-on o b″ i = rw (f .left) at i
+
+  -- ---- what was not carried out at once
+  pub tried-again : (ws : List ℕ) (r : Tried) (b′ : List ℕ) (o : Released) (b″ : List ℕ) → Attempted r b′ b (releaseBlocks n b c sh h ws) → r ≡ Not
+      → Answered o b″ (releaseBlocks n b′ c sh h ws) → Answered o b″ (releaseBlocks n b c sh h ws)
+  unfolding Attempted
+  tried-again ws (Done f) b′ o b″ t e i = let z : _≡_ {A = ℕ} 0 1 = cc in absurd (omega arith)
+  tried-again ws Not b′ o b″ t e i = rw t at i
+
+  pub not-tried : (ws : List ℕ) (r : Tried) (b′ : List ℕ) → Attempted r b′ b (releaseBlocks n b c sh h ws) → r ≡ Not → ClassAsks n b c sh → (length ws ≡ 0 → ⊥) → ListAsks n b′ c sh ws
+  unfolding Attempted
+  not-tried ws (Done f) b′ t e a d = let z : _≡_ {A = ℕ} 0 1 = cc in absurd (omega arith)
+  not-tried ws Not b′ t e a d = rw t (list-asks ws a d)
+
+  pub tried-done : (ws : List ℕ) (r : Tried) (f : ℕ) (b′ : List ℕ) → Attempted r b′ b (releaseBlocks n b c sh h ws) → r ≡ Done f → Answered (Fate f) b′ (releaseBlocks n b c sh h ws)
+  unfolding Attempted
+  tried-done ws (Done g) f b′ t e = let z : g ≡ f = cc in rw (← z) t
+  tried-done ws Not f b′ t e = let z : _≡_ {A = ℕ} 0 1 = cc in absurd (omega arith)
+
+  pub not-attempted : (ws : List ℕ) → Attempted Not b b (releaseBlocks n b c sh h ws)
+  unfolding Attempted
+  not-attempted ws = refl
+
+  pub run-asks : (ws : List ℕ) (f : Found) (q : ℕ) → ListAsks n b c sh ws → f ≡ runAt n b sh c (getD ws 0 0) → f ≡ At q → RunAsks n b c sh q ws
+  run-asks ws f q a e y =
+      let z = found-at (inRunOf n b sh c (getD ws 0 0)) (startOf b (getD ws 0 0)) q (sym y ∙ e) in
+      record { class = a .class; some = a .some; run = run-found n b c sh (getD ws 0 0) f e q y; start = ap (startOf b) (first-is ws (a .some)) ∙ sym (z .1) }
+
+-- ---- the run of the first word
+module _ (n : ℕ) (b : List ℕ) (c : ℕ) (sh : Shape) (q : ℕ) (ws : List ℕ) (a : RunAsks n b c sh q ws) where
+  sound : Sound sh
+  sound = a .class .sound
+
+  below-n : q + sh .pages ≤ n
+  below-n = within-arena n c sh sound q b (a .run)
+
+  pub field-asks : FieldAsks b sh q
+  field-asks = record { sound = sound; below = omega (arith, below-n, a .class .few); there = omega (arith, below-n, sound .paged, a .class .long) }
+
+  pub run-fair : FairAsks b c sh q
+  run-fair = record { known = a .class .known; sound = sound; there = field-asks .there }
+
+  -- what passes every number before 13's last
+  record Passes : Type 0 where
+    kinds : every (ofKind (sh .kind)) ws ≡ true
+    fault : outFault n b c sh ws ≡ 0
+    start : every (λ w. eqb (startOf b w) q) ws ≡ true
+    out : every (outIn b sh q) ws ≡ true
+
+  done : (h r : ℕ) (b′ : List ℕ) → Passes → releaseFair n b c sh (length ws) q ≡ true → Parked r b′ (lastStep sh q (giveBackAt b c sh h q (map (indexOf sh q) ws)))
+      → Answered (Fate r) b′ (releaseBlocks n b c sh h ws)
+  done h r b′ p f k = carried-out n b c sh h ws (a .some) (p .kinds) (p .fault) q (a .start) (p .start) r b′ f (give-back-code b c sh h q (map (indexOf sh q) ws)) k
+
+  -- ---- one block
+  module _ (one : length ws ≡ 1) (t : Bool) (e : t ≡ readyIn b sh q (getD ws 0 0)) (x : t ≡ true) where
+    ready : readyIn b sh q (getD ws 0 0) ≡ true
+    ready = sym e ∙ x
+
+    one-kind : ofKind (sh .kind) (getD ws 0 0) ≡ true
+    unfolding readyIn
+    one-kind = and-left (ofKind (sh .kind) (getD ws 0 0)) _ ready
+
+    one-rest : (outIn b sh q (getD ws 0 0) && eqb (get b (markIn sh q (getD ws 0 0))) 0) ≡ true
+    unfolding readyIn
+    one-rest = and-right (ofKind (sh .kind) (getD ws 0 0)) _ ready
+
+    one-in : outIn b sh q (getD ws 0 0) ≡ true
+    one-in = and-left (outIn b sh q (getD ws 0 0)) _ one-rest
+
+    one-start : startOf b (getD ws 0 0) ≡ q
+    one-start = run-start n c sh sound q b (a .run) (getD ws 0 0) one-in
+
+    one-out : outAt n b c sh (getD ws 0 0) ≡ true
+    one-out = run-out n c sh sound q b (a .run) (getD ws 0 0) one-in
+
+    one-clean : clean b sh (getD ws 0 0) ≡ true
+    one-clean = rw one-start (and-right (outIn b sh q (getD ws 0 0)) _ one-rest)
+
+    one-fault : outFault n b c sh (getD ws 0 0 ∷ []) ≡ 0
+    unfolding unmarked
+    one-fault = passes n b c sh (getD ws 0 0 ∷ []) (rw (one-out, one-clean)) (rw one-out) refl
+
+    the-one : ws ≡ getD ws 0 0 ∷ []
+    the-one = by ws one
+      where
+        by : (vs : List ℕ) → length vs ≡ 1 → vs ≡ getD vs 0 0 ∷ []
+        by [] l = absurd (omega arith)
+        by (v ∷ []) l = refl
+        by (v ∷ (u ∷ vs)) l = absurd (omega arith)
+
+    every-one : (t : ℕ → Bool) → t (getD ws 0 0) ≡ true → every t ws ≡ true
+    every-one t h = ap (every t) the-one ∙ rw h
+
+    one-passes : Passes
+    one-passes = record {
+      kinds = every-one (ofKind (sh .kind)) one-kind;
+      fault = ap (outFault n b c sh) the-one ∙ one-fault;
+      start = every-one (λ w. eqb (startOf b w) q) (eq-eqb (startOf b (getD ws 0 0)) q one-start);
+      out = every-one (outIn b sh q) one-in;
+    }
+
+    pub one-acts : (u : Bool) → u ≡ releaseFair n b c sh (length ws) q → u ≡ true → ActAsks n b c sh q ws
+    one-acts u f y = record { class = a .class; inside = below-n; out = one-passes .out; fair = sym f ∙ y }
+
+    pub one-done : (h : ℕ) (u : Bool) (r : ℕ) (b′ : List ℕ) → u ≡ releaseFair n b c sh (length ws) q → u ≡ true → Parked r b′ (lastStep sh q (giveBackAt b c sh h q (map (indexOf sh q) ws)))
+        → Attempted (Done r) b′ b (releaseBlocks n b c sh h ws)
+    unfolding Attempted
+    one-done h u r b′ f y k = done h r b′ one-passes (sym f ∙ y) k
+
+  -- ---- by words of marks
+  module _ (m : ℕ) (i : m ≡ outWords sh) where
+    few-words : m ≤ 128
+    few-words = omega (arith, sound .few)
+
+    all-words : sh .capacity ≤ 32 * m
+    all-words = omega arith
+
+    pub words-asks : ClearAsks b q m
+    words-asks = record { few = few-words; there = field-asks .there }
+
+    module _ (t : Bool) (e : t ≡ noMarks b q m) (x : t ≡ true) (k : ℕ) (b′ : List ℕ) (s : MarkedIn k b′ b sh q ws 0) where
+      none-set : noMarks b q m ≡ true
+      none-set = sym e ∙ x
+
+      marked-is : b′ ≡ freshBook b sh q ws
+      marked-is = s .left
+
+      marked-changes : Changes isBit b (freshBook b sh q ws)
+      marked-changes = mark-bits b _ (fresh-changes sh sound q m few-words all-words b ws)
+
+      pub clear-asks : ClearAsks b′ q m
+      clear-asks = rw marked-is (record { few = few-words; there = omega (arith, marked-changes .long, field-asks .there) })
+
+      pub cleared : (h : ℕ) (b″ : List ℕ) → b″ ≡ clearMarks b′ q m → Attempted Not b″ b (releaseBlocks n b c sh h ws)
+      unfolding Attempted
+      cleared h b″ l = l ∙ rw marked-is (clears-run sh sound q m few-words all-words b ws none-set)
+
+      module _ (y : k ≡ length ws) where
+        all-marked : freshCount b sh q ws ≡ length ws
+        all-marked = omega (arith, s .answer)
+
+        fresh : AllFresh sh sound q m few-words all-words n c b ws
+        fresh = all-fresh sh sound q m few-words all-words n c b ws (a .run) all-marked
+
+        hb : leb (words n) (length b) ≡ true
+        hb = le-leb (words n) (length b) (a .class .long)
+
+        run-passes : Passes
+        run-passes = record {
+          kinds = fresh .kinds;
+          fault = fault-none n b c sh ws (not-marked sh sound q m few-words all-words n c b ws none-set fresh) (not-repeated sh sound q m few-words all-words n c b ws fresh hb) (fresh .out);
+          start = fresh .start;
+          out = all-here ws (fresh .start) (fresh .out);
+        }
+          where
+            all-here : (vs : List ℕ) → every (λ w. eqb (startOf b w) q) vs ≡ true → every (outAt n b c sh) vs ≡ true → every (outIn b sh q) vs ≡ true
+            all-here [] i j = refl
+            all-here (v ∷ vs) i j =
+                rw (out-here n c sh sound q b v (eqb-true (startOf b v) q (and-left (eqb (startOf b v) q) _ i)) (and-left (outAt n b c sh v) _ j))
+                (all-here vs (and-right (eqb (startOf b v) q) _ i) (and-right (outAt n b c sh v) _ j))
+
+        taken-is : takeMarks (freshBook b sh q ws) q m ≡ marks b q 0 (map (indexOf sh q) ws)
+        taken-is = takes-all sh sound q m few-words all-words b ws (field-asks .there) none-set all-marked
+
+        taken-changes : Changes isBit b (marks b q 0 (map (indexOf sh q) ws))
+        taken-changes = marks-changes b q 0 isBit (λ i. refl) (map (indexOf sh q) ws) (smalls sh q ws (lows sh sound q b ws (run-passes .out)))
+
+        pub marked-asks : MarkedAsks n b′ c sh q m ws
+        marked-asks = rw marked-is (record {
+          class = record { known = a .class .known; sound = sound; few = a .class .few; long = omega (arith, marked-changes .long, a .class .long) };
+          inside = below-n;
+          few = few-words;
+          same = rw taken-is (fair-kept b _ taken-changes n c sh (length ws) q (a .class .known) ∙ sym (fair-kept b _ marked-changes n c sh (length ws) q (a .class .known)));
+        })
+
+        pub taken : (h : ℕ) (r : Tried) (b″ : List ℕ) → Taken r b″ n b′ c sh h q m ws → Attempted r b″ b (releaseBlocks n b c sh h ws)
+        unfolding Attempted Taken
+        taken h (Done f) b″ p =
+            let is = map (indexOf sh q) ws in
+            let g : releaseFair n b c sh (length ws) q ≡ true = sym (fair-kept b _ marked-changes n c sh (length ws) q (a .class .known)) ∙ rw marked-is at (p .fair) in
+            let u : settleAt (takeMarks b′ q m) c sh h q is ≡ giveBackAt b c sh h q is =
+            rw (marked-is, taken-is) (sym (give-back-settles b c sh h q is)) in
+            done h f b″ run-passes g (rw u at (p .act))
+        taken h Not b″ p = cleared h b″ p
+
+-- ---- from the marked book on
+module _ (n : ℕ) (b : List ℕ) (c : ℕ) (sh : Shape) (q m : ℕ) (ws : List ℕ) (a : MarkedAsks n b c sh q m ws) where
+  pub marked-there : ClearAsks b q m
+  marked-there = record { few = a .few; there = omega (arith, a .inside, a .class .sound .paged, a .class .long) }
+
+  pub marked-fair : FairAsks b c sh q
+  marked-fair = record { known = a .class .known; sound = a .class .sound; there = marked-there .there }
+
+  module _ (t : Bool) (f : t ≡ releaseFair n b c sh (length ws) q) (x : t ≡ true) (b′ : List ℕ) (e : b′ ≡ takeMarks b q m) where
+    pub marked-settles : SettleAsks n b′ c sh q ws
+    marked-settles = rw e (record {
+      class = record { known = a .class .known; sound = a .class .sound; few = a .class .few; long = omega (arith, lengths q m b, a .class .long) };
+      inside = a .inside;
+      fair = a .same ∙ sym f ∙ x;
+    })
+
+    pub marked-taken : (h r : ℕ) (b″ : List ℕ) → Parked r b″ (lastStep sh q (settleAt b′ c sh h q (map (indexOf sh q) ws))) → Taken (Done r) b″ n b c sh h q m ws
+    unfolding Taken
+    marked-taken h r b″ p = record { fair = sym f ∙ x; act = rw e at p }
+
+  pub marked-cleared : (h : ℕ) (b′ : List ℕ) → b′ ≡ clearMarks b q m → Taken Not b′ n b c sh h q m ws
+  unfolding Taken
+  marked-cleared h b′ e = e

@@ -1,4 +1,4 @@
--- The ways out of `run_of` and of the loop over the kinds.
+-- The ways out of `run_of`, what a run that was found has, and the loop over the kinds.
 use Prim.Native.Nat.{ℕ, zero, suc, _+_, _-_, _≤_, _<_}
 use native.Mathlib.Omega.{arith}
 use native.Mathlib.Decide.{ℕ-discrete}
@@ -7,21 +7,27 @@ use mathlib.Core.Bool.{Bool, true, false, _&&_, and-true, and-false, and-assoc}
 use mathlib.Core.List.{List}
 use mathlib.Core.Path.{_≡_, refl, sym, ap, _∙_}
 use lib.Bits.{bitOr, bitXor, or-zero-l, or-add-and, xor-add-and, xor-self, and-le-l, and-le-r}
-use lib.Dec.{eqb}
+use lib.Dec.{eqb, ltb, leb}
 use lib.ListN.{length, getD, drop}
 use lib.Seq.{drop-cons}
-use borrow.Author.Tests.{le-leb, lt-leb, lt-ltb, le-ltb, eq-eqb, ne-eqb}
+use borrow.Author.Tests.{le-leb, lt-leb, lt-ltb, le-ltb, eq-eqb, ne-eqb, leb-true}
 use Rattle.facts.specs.Lists.{every}
+use Rattle.facts.proofs.Bools.{and-left, and-right}
 use Rattle.facts.proofs.Lists.{drop-past}
 use Rattle.words.specs.Word.{kindOf}
 use Rattle.classes.specs.declared.Shape.{Shape}
-use Rattle.fields.specs.Field.{arena, page, frontier, first, get}
+use Rattle.classes.specs.Sound.{Sound}
+use Rattle.fields.specs.Field.{arena, page, frontier, first, get, words}
+use Rattle.fields.specs.Ranges.{maxPages}
 use Rattle.model.specs.Release.{ofKind}
 use Rattle.pages.specs.Runs.{whole}
 use Rattle.pages.specs.Stack.{pageAt}
-use Rattle.calls.specs.Release.{startOf, inRunOf}
+use Rattle.calls.specs.Out.{startOf, inRunOf}
+use Rattle.release.specs.declared.Found.{Found}
 use Rattle.release.specs.declared.Found.the-variants.{At, Nothing}
-use Rattle.release.specs.Strike.{runAt}
+use Rattle.release.specs.Blocks.{runAt}
+use Rattle.release.specs.Asks.{InAsks}
+use Rattle.release.proofs.BlockSteps.{found-at}
 
 module _ (n : ℕ) (b : List ℕ) (c : ℕ) (sh : Shape) (w p : ℕ) (e : p ≡ pageAt w) where
   none-in : inRunOf n b sh c w ≡ false → Nothing ≡ runAt n b sh c w
@@ -57,10 +63,29 @@ module _ (n : ℕ) (b : List ℕ) (c : ℕ) (sh : Shape) (w p : ℕ) (e : p ≡ 
     in-run f t h₁ y h₂ h₃ h₄ x h =
         rw (starts-at, ← y, ← x, h, lt-ltb (pageAt w) n (rw e at h₁), lt-ltb (pageAt w) f (rw e at h₂), le-leb q (pageAt w) (rw e at h₃), lt-ltb (pageAt w) (q + sh .pages) (omega arith))
 
--- ---- lists
+-- ---- a run that was found
+module _ (n : ℕ) (b : List ℕ) (c : ℕ) (sh : Shape) where
+  pub run-whole : (w : ℕ) → inRunOf n b sh c w ≡ true → whole n b sh c (startOf b w) ≡ true
+  unfolding inRunOf
+  run-whole w e = and-right (ltb (pageAt w) (startOf b w + sh .pages)) _ (and-right (leb (startOf b w) (pageAt w)) _ (and-right (ltb (pageAt w) (get b (arena frontier))) _ (and-right (ltb (pageAt w) n) _ e)))
+
+  below-arena : (q : ℕ) → whole n b sh c q ≡ true → q + sh .pages ≤ n
+  unfolding whole
+  below-arena q e = leb-true (q + sh .pages) n (and-left _ _ e)
+
+  module _ (w : ℕ) (f : Found) (e : f ≡ runAt n b sh c w) where
+    pub run-found : (q : ℕ) → f ≡ At q → whole n b sh c q ≡ true
+    run-found q h =
+        let z = found-at (inRunOf n b sh c w) (startOf b w) q (sym h ∙ e) in
+        rw (z .1) (run-whole w (z .0))
+
+    pub run-there : (q : ℕ) → f ≡ At q → Sound sh → n ≤ maxPages → words n ≤ length b → InAsks b sh q
+    run-there q h s few long =
+        let z = below-arena q (run-found q h) in
+        record { sound = s; below = omega (arith, s .paged); there = omega (arith, s .paged) }
 
 -- ---- number 9
-or-none : (a d : ℕ) → eqb (bitOr a d) 0 ≡ (eqb a 0 && eqb d 0)
+pub or-none : (a d : ℕ) → eqb (bitOr a d) 0 ≡ (eqb a 0 && eqb d 0)
 or-none zero d = rw (or-zero-l d)
 or-none (suc a) d = ne-eqb (bitOr (suc a) d) 0 (λ z. omega (arith, or-add-and (suc a) d, and-le-r (suc a) d)) ∙ sym (rw (ne-eqb (suc a) 0 (λ z. omega arith)))
 

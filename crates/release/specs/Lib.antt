@@ -1,4 +1,6 @@
-pub mod Strike
+pub mod Blocks
 pub mod Asks
 pub mod Fair
+pub mod Marks
+pub mod MarkAsks
 pub mod Act

@@ -1,9 +1,11 @@
 // Releases by list: the tests in their order, each over the whole list, and then the act.
+mod blocks;
 mod fair;
 mod kinds;
+mod marks;
 mod park;
 mod release;
-pub mod strike;
+mod tests;
 
 pub use fair::page_fair;
 pub use fair::row_fair;
@@ -12,11 +14,18 @@ pub use kinds::all_of_kind;
 pub use park::park_empty_page;
 pub use park::relist;
 pub use release::release_blocks;
+pub use tests::out_fault;
 
 // What a release answers: a refusal's number, or the page's fate.
 pub enum Released {
     Refused(u32),
     Fate(u32),
+}
+
+// Whether a release was carried out, with the page's fate; if not, nothing was changed.
+pub enum Tried {
+    Done(u32),
+    Not,
 }
 
 // A page's fate; RETIRED is added to it where the page was retired.

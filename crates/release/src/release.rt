@@ -1,20 +1,74 @@
 // A release by list: the numbers in their order, and then the act. A refusal leaves every word as it was.
-ghost use Rattle.calls.specs.Release.{releaseBlocks};
-ghost use Rattle.release.specs.Asks.{ClassAsks};
-ghost use Rattle.release.specs.Act.{RunAsks, Answered};
+ghost use mathlib.Core.Path.{_≡_};
+ghost use mathlib.Core.Bool.{true};
+ghost use mathlib.Core.List.{map};
+ghost use Prim.Native.Nat.{_≤_};
+ghost use Rattle.facts.specs.Lists.{every};
+ghost use lib.Dec.{eqb, ltb};
+ghost use lib.ListN.{length};
+ghost use Rattle.fields.specs.Field.{words};
+ghost use Rattle.pages.specs.Stack.{marks, indexOf, pageAt};
+ghost use Rattle.calls.specs.Out.{startOf};
+ghost use Rattle.calls.specs.Release.{giveBackAt, lastStep, releaseBlocks};
+ghost use Rattle.release.specs.Asks.{ClassAsks, StartAsks, TakeAsks};
+ghost use Rattle.release.specs.Act.{ActAsks, RunAsks, MarkedAsks, PassedAsks, ListAsks, Parked, Answered, Taken, Attempted};
 use super::Found;
 use super::Released;
+use super::Tried;
+use super::blocks::run_of;
 use super::fair::release_fair;
 use super::kinds::all_of_kind;
+use super::marks::clear_marks;
+use super::marks::mark_run;
+use super::marks::no_marks;
+use super::marks::ready_one;
+use super::marks::take_marks;
 use super::park::settle;
-use super::strike::refuse_rest;
-use super::strike::run_of;
-use super::strike::strike_run;
-use super::strike::unstrike;
+use super::tests::out_fault;
 use classes::Shape;
+use pages::page_at;
+use stack::index_by;
+use stack::inverse_of;
 
-// Numbers 10, 11 and 13, for the run at q of the list's first word.
-fn release_run(
+// Whether a word's run begins at q; every listed word's.
+fn starts_at(meta: &[u32], n: u32, q: u32, w: u32) -> bool
+    requires { ⌜ words n ≤ length (now meta) ⌝ }
+    requires { ⌜ ltb (pageAt w) n ≡ true ⌝ }
+    ensures { λ r. ⌜ r ≡ eqb (startOf (now (meta .entry)) w) q ⌝ }
+{
+    fields::page::first(meta, page_at(w)) == q
+}
+
+fn of_one_run(meta: &[u32], n: u32, q: u32, list: &[u32]) -> bool
+    requires { ⌜ StartAsks n (now meta) (now list) ⌝ }
+    ensures { λ r. ⌜ r ≡ every (λ w. eqb (startOf (now (meta .entry)) w) q) (now (list .entry)) ⌝ }
+{
+    let mut i = 0;
+    while i < list.len() {
+        if starts_at(meta, n, q, list[i]) {
+            i += 1;
+        } else {
+            return false;
+        }
+    }
+    true
+}
+
+// The listed blocks of the run at q are out no longer.
+fn take_list(meta: &mut [u32], shape: Shape, q: u32, list: &[u32])
+    requires { ⌜ TakeAsks (now meta) shape q (now list) ⌝ }
+    ensures { λ _. ⌜ now (meta .exit) ≡ marks (now (meta .entry)) q 0 (map (indexOf shape q) (now (list .entry))) ⌝ }
+{
+    let inv = inverse_of(shape.block);
+    let mut i = list.len();
+    while i != 0 {
+        i -= 1;
+        fields::out::set_bit(meta, q, index_by(shape, inv, q, list[i]), 0);
+    }
+}
+
+// They come back to their page.
+fn release_list(
     meta: &mut [u32],
     n: u32,
     c: u32,
@@ -22,19 +76,117 @@ fn release_run(
     host: u32,
     q: u32,
     list: &[u32],
-) -> Released
-    requires { ⌜ RunAsks n (now meta) c shape q (now list) ⌝ }
+) -> u32
+    requires { ⌜ ActAsks n (now meta) c shape q (now list) ⌝ }
+    ensures { λ r. ⌜ Parked r (now (meta .exit)) (lastStep shape q (giveBackAt (now (meta .entry)) c shape host q (map (indexOf shape q) (now (list .entry))))) ⌝ }
+{
+    take_list(meta, shape, q, list);
+    settle(meta, n, c, shape, host, q, list)
+}
+
+// Numbers 11 and 13, of words that are out, and the act.
+fn release_out(meta: &mut [u32], n: u32, c: u32, shape: Shape, host: u32, list: &[u32]) -> Released
+    requires { ⌜ PassedAsks n (now meta) c shape (now list) ⌝ }
     ensures { λ r. ⌜ Answered r (now (meta .exit)) (releaseBlocks n (now (meta .entry)) c shape host (now (list .entry))) ⌝ }
 {
-    let count = strike_run(meta, shape, q, list, 0);
-    if count != list.len() {
-        return Released::Refused(refuse_rest(meta, n, c, shape, list, count));
+    let q = fields::page::first(meta, page_at(list[0]));
+    if of_one_run(meta, n, q, list) {
+        if release_fair(meta, n, c, shape, list.len(), q) {
+            return Released::Fate(release_list(meta, n, c, shape, host, q, list));
+        }
+        return Released::Refused(13);
     }
-    if release_fair(meta, n, c, shape, count, q) {
-        return Released::Fate(settle(meta, n, c, shape, host, q, list));
+    Released::Refused(11)
+}
+
+// Each number over the whole list, from number 9 on.
+fn release_tested(
+    meta: &mut [u32],
+    n: u32,
+    c: u32,
+    shape: Shape,
+    host: u32,
+    list: &[u32],
+) -> Released
+    requires { ⌜ ListAsks n (now meta) c shape (now list) ⌝ }
+    ensures { λ r. ⌜ Answered r (now (meta .exit)) (releaseBlocks n (now (meta .entry)) c shape host (now (list .entry))) ⌝ }
+{
+    if all_of_kind(list, shape.kind) {
+        let fault = out_fault(meta, n, c, shape, list);
+        if fault != 0 {
+            return Released::Refused(fault);
+        }
+        return release_out(meta, n, c, shape, host, list);
     }
-    unstrike(meta, shape, list, count);
-    Released::Refused(13)
+    Released::Refused(9)
+}
+
+// A list of one block of the run at q, which repeats nothing: no mark is set.
+fn try_one(meta: &mut [u32], n: u32, c: u32, shape: Shape, host: u32, q: u32, list: &[u32]) -> Tried
+    requires { ⌜ RunAsks n (now meta) c shape q (now list) ⌝ }
+    requires { ⌜ length (now list) ≡ 1 ⌝ }
+    ensures { λ r. ⌜ Attempted r (now (meta .exit)) (now (meta .entry)) (releaseBlocks n (now (meta .entry)) c shape host (now (list .entry))) ⌝ }
+{
+    if ready_one(meta, shape, q, list[0]) {
+        if release_fair(meta, n, c, shape, list.len(), q) {
+            return Tried::Done(release_list(meta, n, c, shape, host, q, list));
+        }
+    }
+    Tried::Not
+}
+
+// All listed blocks are marked, in words 0 to m - 1: they are taken, or else the marks are.
+fn take_marked(
+    meta: &mut [u32],
+    n: u32,
+    c: u32,
+    shape: Shape,
+    host: u32,
+    q: u32,
+    m: u32,
+    list: &[u32],
+) -> Tried
+    requires { ⌜ MarkedAsks n (now meta) c shape q m (now list) ⌝ }
+    ensures { λ r. ⌜ Taken r (now (meta .exit)) n (now (meta .entry)) c shape host q m (now (list .entry)) ⌝ }
+{
+    if release_fair(meta, n, c, shape, list.len(), q) {
+        take_marks(meta, q, m);
+        return Tried::Done(settle(meta, n, c, shape, host, q, list));
+    }
+    clear_marks(meta, q, m);
+    Tried::Not
+}
+
+// A list whose words are all blocks out in the run at q, no mark of which is set: they are marked, and taken by whole words of marks.
+fn try_run(meta: &mut [u32], n: u32, c: u32, shape: Shape, host: u32, q: u32, list: &[u32]) -> Tried
+    requires { ⌜ RunAsks n (now meta) c shape q (now list) ⌝ }
+    ensures { λ r. ⌜ Attempted r (now (meta .exit)) (now (meta .entry)) (releaseBlocks n (now (meta .entry)) c shape host (now (list .entry))) ⌝ }
+{
+    let m = (shape.capacity + 31) / 32;
+    if no_marks(meta, q, m) {
+        let count = mark_run(meta, shape, q, list, 0);
+        if count == list.len() {
+            return take_marked(meta, n, c, shape, host, q, m, list);
+        }
+        clear_marks(meta, q, m);
+        return Tried::Not;
+    }
+    Tried::Not
+}
+
+// A list of blocks of one run, in as few passes as there can be. Where there is a doubt the book is as it was.
+fn try_release(meta: &mut [u32], n: u32, c: u32, shape: Shape, host: u32, list: &[u32]) -> Tried
+    requires { ⌜ ListAsks n (now meta) c shape (now list) ⌝ }
+    ensures { λ r. ⌜ Attempted r (now (meta .exit)) (now (meta .entry)) (releaseBlocks n (now (meta .entry)) c shape host (now (list .entry))) ⌝ }
+{
+    let run = run_of(meta, n, c, shape, list[0]);
+    let Found::At(q) = run else {
+        return Tried::Not;
+    };
+    if list.len() == 1 {
+        return try_one(meta, n, c, shape, host, q, list);
+    }
+    try_run(meta, n, c, shape, host, q, list)
 }
 
 // From number 7 on.
@@ -52,12 +204,9 @@ pub fn release_blocks(
     if list.len() == 0 {
         return Released::Refused(7);
     }
-    if all_of_kind(list, shape.kind) {
-        let run = run_of(meta, n, c, shape, list[0]);
-        let Found::At(q) = run else {
-            return Released::Refused(10);
-        };
-        return release_run(meta, n, c, shape, host, q, list);
-    }
-    Released::Refused(9)
+    let tried = try_release(meta, n, c, shape, host, list);
+    let Tried::Done(fate) = tried else {
+        return release_tested(meta, n, c, shape, host, list);
+    };
+    Released::Fate(fate)
 }

@@ -12,7 +12,7 @@ use lib.Dec.{eqb, ltb, leb}
 use lib.ListN.{length}
 use borrow.Author.Tests.{le-leb, leb-true, eq-eqb, ne-eqb}
 use Rattle.classes.specs.declared.Shape.{Shape}
-use Rattle.fields.specs.Field.{Field, arena, class, hole, page, out, slot, frontier, partial, owner, first, next, prev, free, carved, listed, virgin, classOff, pageOff, get, put, words}
+use Rattle.fields.specs.Field.{Field, arena, mark, class, hole, page, out, slot, frontier, partial, owner, first, next, prev, free, carved, listed, virgin, classOff, pageOff, get, put, words}
 use Rattle.fields.proofs.Laws.{get-put-same, get-put-other, length-put}
 use Rattle.fields.proofs.Changes.{Changes}
 use Rattle.pages.specs.Stack.{latest}
@@ -24,6 +24,7 @@ use Rattle.take.proofs.Walk.{plannedNone, thenPlanned, planned, planned
 
 abbrev pub isLinked : ℕ → ℕ → Field → Bool
 isLinked c q (arena k) = false
+isLinked c q (mark p j) = false
 isLinked c q (class k d) = eqb (classOff k) 0 && eqb d c
 isLinked c q (hole k i) = false
 isLinked c q (page k p) = (ltb 1 (pageOff k) && ltb (pageOff k) 4 || eqb (pageOff k) 6) && eqb p q

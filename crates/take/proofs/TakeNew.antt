@@ -81,7 +81,7 @@ abbrev isCarved : Field → Bool
 isCarved g = (eqb (region g) 4 && (eqb (off g) 4 || (eqb (off g) 5 || eqb (off g) 7))) || eqb (region g) 6
 
 abbrev pub isNew : Field → Bool
-isNew g = (eqb (region g) 4 && (eqb (off g) 1 || ltb 3 (off g))) || ltb 4 (region g)
+isNew g = (eqb (region g) 4 && (eqb (off g) 1 || ltb 3 (off g))) || (ltb 4 (region g) || eqb (region g) 1)
 
 module _ (n : ℕ) (b : List ℕ) (hb : leb (words n) (length b) ≡ true) (c : ℕ) (sh : Shape) (sd : Sound sh) (q : ℕ) (ends : q + sh .pages ≤ n) (under : q + sh .pages ≤ get b (arena frontier))
     (owners : (i : ℕ) → i < sh .pages → get b (page owner (q + i)) ≡ suc c) where
@@ -89,7 +89,7 @@ module _ (n : ℕ) (b : List ℕ) (hb : leb (words n) (length b) ≡ true) (c : 
   hq = lt-ltb q n (omega (arith, sd .paged))
 
   pub new-changes : Changes isNew b (newRun b sh q)
-  new-changes = changes-new isNew b sh q (sd .few) refl refl (λ i. refl) refl refl (λ i. refl) (λ y l u. refl)
+  new-changes = changes-new isNew b sh q (sd .few) refl refl (λ i. refl) refl refl (λ i. refl) (λ j. refl) (λ y l u. refl)
 
   abbrev bare : List ℕ
   bare = bareRun b sh q

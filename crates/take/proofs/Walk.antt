@@ -15,7 +15,7 @@ use lib.ListN.{length}
 use borrow.Author.Tests.{leb-true, eq-eqb, ne-eqb, eqb-true}
 use Rattle.facts.proofs.Bools.{by-cases, and-left, and-right}
 use Rattle.classes.specs.declared.Shape.{Shape}
-use Rattle.fields.specs.Field.{Field, arena, class, hole, page, out, slot, frontier, owner, first, next, prev, free, carved, listed, virgin, classOff, pageOff, get}
+use Rattle.fields.specs.Field.{Field, arena, mark, class, hole, page, out, slot, frontier, owner, first, next, prev, free, carved, listed, virgin, classOff, pageOff, get}
 use Rattle.fields.proofs.Changes.{Changes}
 use Rattle.pages.specs.Stack.{latest}
 use Rattle.calls.specs.Take.{sound, walk}
@@ -103,6 +103,7 @@ module _ (n : ℕ) (b : List ℕ) (c : ℕ) (sh : Shape) where
 -- ---- what a turn of the fill writes: the page's counts, out bits, links and LISTED, PREV of the page with code x, and the head
 abbrev pub isTurned : ℕ → ℕ → ℕ → Field → Bool
 isTurned c q x (arena k) = false
+isTurned c q x (mark p j) = false
 isTurned c q x (class k d) = eqb (classOff k) 0 && eqb d c
 isTurned c q x (hole k i) = false
 isTurned c q x (page k p) = (ltb 1 (pageOff k) && (ltb (pageOff k) 7 && eqb p q)) || (eqb (pageOff k) 3 && eqb (suc p) x)

@@ -13,7 +13,7 @@ use Rattle.facts.proofs.Lists.{every-get, every-made, every-at, every-of}
 use Rattle.words.specs.Word.{countOf, pageOf}
 use Rattle.fields.specs.Field.{page, tally, words, get}
 use Rattle.pages.specs.Stack.{pageAt}
-use Rattle.calls.specs.Release.{startOf}
+use Rattle.calls.specs.Out.{startOf}
 use Rattle.calls.specs.Chunks.{blocksOn, chunkFits, chunksMatch}
 use Rattle.tally.specs.Match.{onPage}
 use Rattle.tally.specs.Tally.{isPage, pageIn, tallyIn, named, ofChunk, chunkAt, hasChunk, agrees, tallied}

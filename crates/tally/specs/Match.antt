@@ -11,7 +11,7 @@ use Rattle.fields.specs.Field.{words}
 use Rattle.fields.specs.Ranges.{maxPages}
 use Rattle.model.specs.Chunks.{chunksMax}
 use Rattle.pages.specs.Stack.{pageAt}
-use Rattle.calls.specs.Release.{startOf}
+use Rattle.calls.specs.Out.{startOf}
 use Rattle.calls.specs.Chunks.{chunksMatch}
 
 -- the word's page is in the arena, and is a run by itself

@@ -1,7 +1,7 @@
 -- A take or a release that is refused leaves the book as it was, and counts no block; a take counts no more blocks than the lent list has places,
 -- nor than 64.
 use Prim.Native.Nat.{ℕ, suc, _-_, _≤_}
-use mathlib.Core.Bool.{Bool, true, false, cond, not, _&&_}
+use mathlib.Core.Bool.{Bool, true, false, cond, not}
 use mathlib.Core.List.{List, [], _∷_, map}
 use mathlib.Core.Option as Option
 use mathlib.Core.Option.{Option, some}
@@ -9,7 +9,7 @@ use mathlib.Core.Path.{_≡_, refl}
 use lib.Dec.{eqb, ltb}
 use native.Mathlib.Omega.{arith}
 use lib.ListN.{length, drop, length-append}
-use Rattle.facts.specs.Lists.{isNil, every, distinct}
+use Rattle.facts.specs.Lists.{isNil, every}
 use Rattle.facts.proofs.Bools.{by-cases}
 use Rattle.classes.specs.declared.Shape.{Shape}
 use Rattle.classes.specs.Shape.{shapeOf}
@@ -25,7 +25,8 @@ use Rattle.pages.specs.Carve.{newRun}
 use Rattle.pages.specs.declared.Park.{Park}
 use Rattle.pages.specs.declared.Park.the-variants.{Empty, Cold}
 use Rattle.arena.specs.Calls.{commitFor}
-use Rattle.calls.specs.Release.{Released, releasedNone, releaseBlocks, outAt, releaseFair, firstOf, lastStep, giveBackAt, parkAt, parkAs, unlisted, spotAt, startOf}
+use Rattle.calls.specs.Out.{startOf, outFault}
+use Rattle.calls.specs.Release.{Released, releasedNone, releaseBlocks, releaseFair, firstOf, lastStep, giveBackAt, parkAt, parkAs, unlisted, spotAt}
 use Rattle.calls.specs.Take.{Took, Filled, tookNone, took, walk, parkFair, fillFrom, filled, fromPartial, fromPark, onRun, takeNew, takeBlocks, takeCall}
 use Rattle.take.proofs.Fill.{fill-most}
 use Rattle.trace.specs.Words.{takeNow, backNow, classAt, ownerAt, known}
@@ -63,7 +64,7 @@ release-keeps n b c sh h ws =
     let act : Keeps b (lastStep sh q (giveBackAt b c sh h q (map (indexOf sh q) ws))) = done (last-zero sh q (giveBackAt b c sh h q (map (indexOf sh q) ws)) (give-zero b c sh h q (map (indexOf sh q) ws))) in
     next b (isNil ws) 7 _
     (next b (not (every (ofKind (sh .kind)) ws)) 9 _
-    (next b (not (every (outAt n b c sh) ws && distinct ws)) 10 _
+    (next b (not (eqb (outFault n b c sh ws) 0)) (outFault n b c sh ws) _
     (next b (not (every (λ w. eqb (startOf b w) q) ws)) 11 _
     (next b (not (releaseFair n b c sh (length ws) q)) 13 _ act))))
 

@@ -7,6 +7,7 @@ use mathlib.Core.Bool.{cond}
 use mathlib.Core.Path.{_≡_}
 use lib.Dec.{eqb}
 use Rattle.words.specs.Host.{digit}
+use Rattle.classes.specs.declared.Shape.{Shape}
 use Rattle.classes.specs.Shape.{shapeOf}
 use Rattle.fields.specs.Field.{arena, size, get}
 use Rattle.take.specs.declared.call.Take.{Take}
@@ -50,11 +51,14 @@ pub record TakeEnds (t : Heap.Took) (r : ℕ) (b l : List ℕ) (count₀ count�
   pub count : count′ ≡ countOut (answered t) count₀
   pub virgin : virgin′ ≡ virginOut (answered t) virgin₀
 
--- ---- releases by list
-unfoldable pub releaseOn : ℕ → ℕ → List ℕ → ℕ → ℕ → List ℕ → Back.Released
-releaseOn low many b c h ws =
+-- ---- releases by list; `release` is the class's own
+abbrev pub releaseOnBy : (ℕ → List ℕ → ℕ → Shape → ℕ → List ℕ → Back.Released) → ℕ → ℕ → List ℕ → ℕ → ℕ → List ℕ → Back.Released
+releaseOnBy release low many b c h ws =
     cond (eqb (classFault b h many c) 0)
-    (releaseBlocks (get b (arena size)) b (low + c) (shapeOf (low + c)) h ws) (releasedNone b (classFault b h many c))
+    (release (get b (arena size)) b (low + c) (shapeOf (low + c)) h ws) (releasedNone b (classFault b h many c))
+
+unfoldable pub releaseOn : ℕ → ℕ → List ℕ → ℕ → ℕ → List ℕ → Back.Released
+releaseOn low many b c h ws = releaseOnBy releaseBlocks low many b c h ws
 
 abbrev pub releaseCode : Released → ℕ
 releaseCode (Released.Refused k) = k
@@ -70,10 +74,13 @@ pub record ReleaseEnds (o : Back.Released) (r : ℕ) (b : List ℕ) (fate₀ fat
   pub fate : fate′ ≡ fateOut (answerAs (o .code) (o .fate)) fate₀
 
 -- ---- group releases, of small classes alone: gs are the groups, fs the lent fates
-unfoldable pub chunksOn : List ℕ → ℕ → ℕ → List ℕ → List ℕ → List ℕ → ChunksReleased
-chunksOn b c h ws gs fs =
+abbrev pub chunksOnBy : (ℕ → List ℕ → ℕ → Shape → ℕ → List ℕ → List ℕ → List ℕ → ChunksReleased) → List ℕ → ℕ → ℕ → List ℕ → List ℕ → List ℕ → ChunksReleased
+chunksOnBy release b c h ws gs fs =
     cond (eqb (classFault b h 64 c) 0)
-    (releaseChunks (get b (arena size)) b c (shapeOf c) h ws gs fs) (chunksNone b fs (classFault b h 64 c))
+    (release (get b (arena size)) b c (shapeOf c) h ws gs fs) (chunksNone b fs (classFault b h 64 c))
+
+unfoldable pub chunksOn : List ℕ → ℕ → ℕ → List ℕ → List ℕ → List ℕ → ChunksReleased
+chunksOn b c h ws gs fs = chunksOnBy releaseChunks b c h ws gs fs
 
 pub record ChunksEnds (o : ChunksReleased) (r : ℕ) (b fs : List ℕ) : Type 0 where
   pub code : r ≡ o .code

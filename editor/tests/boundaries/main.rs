@@ -8,4 +8,5 @@ mod holes;
 mod idle;
 mod parks;
 mod ranges;
+mod repeats;
 mod runs;

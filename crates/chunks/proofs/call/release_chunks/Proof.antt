@@ -1,10 +1,10 @@
-use Rattle.chunks.proofs.CallSteps.{no-list, no-chunks, many-chunks, few-fates, wrong-blocks, wrong-chunks, strike-asks}
+use Rattle.chunks.proofs.CallSteps.{no-list, no-chunks, many-chunks, few-fates, wrong-blocks, wrong-chunks, listed-asks}
 use borrow.Author.Needs.{needs}
 use Rattle.chunks.proofs.call.release_chunks.Statement.{statement}
 use Rattle.chunks.proofs.call.release_chunks.Tie as tie
 
-strike-chunks-requires : tie.Need-strike-chunks-requires
-strike-chunks-requires c κs =
+test-chunks-requires : tie.Need-test-chunks-requires
+test-chunks-requires c κs =
     let t = c .before .before in
     let m = t .before in
     let r = m .before in
@@ -14,7 +14,7 @@ strike-chunks-requires c κs =
     let x = y .before in
     let w = x .before in
     let s = w .before .before .before .before .before in
-    strike-asks _ _ _ _ 0 _ _ _ (w .if1 .left) (x .if2 .left) (y .if3 .left) (z .if4 .left) _ (k .all-of-kind .ensures) _ (r .if5 .taken) (m .all-of-kind2 .ensures) (t .if6 .taken) (s .pre)
+    listed-asks _ _ _ _ 0 _ _ _ (w .if1 .left) (x .if2 .left) (y .if3 .left) (z .if4 .left) _ (k .all-of-kind .ensures) _ (r .if5 .taken) (m .all-of-kind2 .ensures) (t .if6 .taken) (s .pre)
 
 returns-6 : tie.Need-returns-6
 returns-6 c =
@@ -43,4 +43,4 @@ release-chunks-spec =
     tie.close
     (tie.spec
     (λ c. search no-list) (λ c. search no-chunks) (λ c. search many-chunks) (λ c. search few-fates) (λ c κs. search needs) (λ c κs. search needs)
-    strike-chunks-requires (λ c. search needs) (λ c. search needs) (λ c. search needs) returns-6 returns-7)
+    test-chunks-requires (λ c. search needs) (λ c. search needs) (λ c. search needs) returns-6 returns-7)

@@ -1,0 +1,219 @@
+-- Document 02, A.2, holds of the exported calls: which answers it changed.
+--     repeat-exactly    A.2
+use Prim.Native.Nat.{ℕ, _+_}
+use native.Mathlib.Omega.{arith}
+use mathlib.Core.Bool.{Bool, true, false, cond, not, _&&_, _||_, true≢false, false≢true}
+use mathlib.Core.List.{List}
+use mathlib.Core.Logic.{_↔_}
+use mathlib.Core.Path.{_≡_, refl, sym, ap, _∙_}
+use lib.Dec.{eqb, leb}
+use borrow.Author.Tests.{not-true}
+use Rattle.facts.specs.Lists.{isNil, filter, every, distinct}
+use Rattle.facts.proofs.Bools.{by-cases, and-left, and-right}
+use Rattle.words.specs.Host.{badHost}
+use Rattle.words.specs.Word.{chunkKind}
+use Rattle.classes.specs.declared.Shape.{Shape}
+use Rattle.classes.specs.Shape.{shapeOf}
+use Rattle.fields.specs.Field.{arena, size, get}
+use Rattle.fields.specs.Ranges.{metaFault}
+use Rattle.model.specs.Calls as Calls
+use Rattle.model.specs.Calls.{Call}
+use Rattle.model.specs.Release.{ofKind}
+use Rattle.model.proofs.Counts.{filter-le, filter-passes, filter-keeps, each-once, distinct-count}
+use Rattle.calls.specs.Out.{outAt, OutTest, repeats, repeatFault}
+use Rattle.calls.specs.Release.{releasedNone, releaseBy, releaseBlocks}
+use Rattle.calls.specs.Chunks.{chunksNone, releaseChunksBy}
+use Rattle.calls.proofs.Out.{no-repeat}
+use Rattle.vigbuso.specs.Faults.{callFault, classFault}
+use Rattle.vigbuso.specs.Blocks.{releaseOnBy, chunksOnBy}
+use Rattle.refinement.specs.Direct.{Reply, turnedReply}
+use Rattle.refinement.specs.Releases.{listReply, chunksReply}
+use Rattle.demands.specs.Refusals.{firstNumber, nothingListed, manyChunks, wrongKind, releaseEarly, chunksEarly}
+use Rattle.demands.specs.Repeats.{callBy, asIn01, reachedBy, repeatsFirst, OutTwice, RepeatExactly}
+use Rattle.demands.proofs.RefusalsLaws.{not-and, Ends, ends, turn, book-turn, chain}
+use Rattle.demands.proofs.Returns.{not-distinct}
+
+-- ---- the two tests, on any list
+module _ (n : ℕ) (b : List ℕ) (c : ℕ) (sh : Shape) (ws : List ℕ) where
+  old-repeats : repeats n b c sh ws ≡ true → asIn01 n b c sh ws ≡ 10
+  unfolding asIn01
+  old-repeats r =
+      by-cases (every (outAt n b c sh) ws && distinct ws)
+      (λ u. absurd (true≢false (sym r ∙ no-repeat n b c sh ws (and-left (every (outAt n b c sh) ws) (distinct ws) u) (and-right (every (outAt n b c sh) ws) (distinct ws) u))))
+      (λ u. rw u)
+
+  new-repeats : repeats n b c sh ws ≡ true → repeatFault n b c sh ws ≡ 15
+  new-repeats r = rw r
+
+  no-repeats : repeats n b c sh ws ≡ false → repeatFault n b c sh ws ≡ asIn01 n b c sh ws
+  unfolding asIn01 repeats
+  no-repeats r = by-cases (every (outAt n b c sh) ws) (λ o. rw (r, o, each-once (outAt n b c sh) ws r o)) (λ o. rw (r, o))
+
+  out-twice : (repeats n b c sh ws ≡ true) ↔ OutTwice n b c sh ws
+  unfolding repeats
+  out-twice = (
+    λ e. let t = outAt n b c sh in
+        let r = not-distinct (filter t ws) (not-true (distinct (filter t ws)) e) in
+        record { word = r .0; out = filter-passes t (r .0) ws (omega (arith, r .1)); times = omega (arith, r .1, filter-le t (r .0) ws) },
+    λ p. let t = outAt n b c sh in
+        by-cases (distinct (filter t ws))
+        (λ u. absurd (omega (arith, p .times, filter-keeps t (p .word) ws (p .out), distinct-count (p .word) (filter t ws) u)))
+        (λ u. rw u),
+  )
+
+-- ---- a release by list: which test its blocks are put to shows where it is reached, and there alone
+zero-false : (t : Bool) → eqb (cond t 7 0) 0 ≡ false → t ≡ true
+zero-false true e = refl
+zero-false false e = absurd (true≢false e)
+
+module _ (low many : ℕ) (b : List ℕ) (c h : ℕ) (ws : List ℕ) where
+  abbrev n : ℕ
+  n = get b (arena size)
+
+  abbrev sh : Shape
+  sh = shapeOf (low + c)
+
+  -- the numbers before the test
+  abbrev early : ℕ
+  early = cond (eqb (classFault b h many c) 0) (cond (isNil ws) 7 (cond (wrongKind (sh .kind) ws) 9 0)) (classFault b h many c)
+
+  early-is : early ≡ firstNumber (releaseEarly low many b c h ws)
+  unfolding classFault callFault metaFault
+  early-is =
+      let t : Ends (λ (k : ℕ). k) (λ k. Unit {0}) (releaseEarly low many b c h ws) early =
+      rw (chain (callFault b h) 4 (leb many c) (λ (k : ℕ). k) _ refl, chain (metaFault b) 3 (badHost h) (λ (k : ℕ). k) _ refl)
+      (book-turn (λ (k : ℕ). k) (λ k. Unit {0}) _ (λ k. k) _ (λ k. refl) (λ k. tt)
+      (turn _ _ (badHost h) 3 _ _ _ refl tt λ e.
+      turn _ _ (leb many c) 4 _ _ _ refl tt λ e.
+      turn _ _ (isNil ws) 7 _ _ _ refl tt λ e.
+      turn _ _ (wrongKind (sh .kind) ws) 9 _ _ _ refl tt λ e.
+      ends _ _ 0 refl)
+      n
+      b) in
+      t .number
+
+  module _ (f : OutTest) where
+    list-turned : eqb (firstNumber (releaseEarly low many b c h ws)) 0 ≡ true → (k : ℕ) → f n b (low + c) sh ws ≡ k → eqb k 0 ≡ false
+        → releaseOnBy (releaseBy f) low many b c h ws ≡ releasedNone b k
+    list-turned e k t z =
+        let e′ : eqb early 0 ≡ true = rw early-is e in
+        by-cases (eqb (classFault b h many c) 0)
+        (λ u. by-cases (isNil ws) (λ v. absurd (false≢true (rw (u, v) at e′)))
+        (λ v. by-cases (wrongKind (sh .kind) ws) (λ w. absurd (false≢true (rw (u, v, w) at e′))) (λ w. rw (u, v, w, t, z))))
+        (λ u. absurd (false≢true (sym u ∙ (rw u at e′))))
+
+    list-same : (g : OutTest) → eqb (firstNumber (releaseEarly low many b c h ws)) 0 ≡ false → releaseOnBy (releaseBy f) low many b c h ws ≡ releaseOnBy (releaseBy g) low many b c h ws
+    list-same g e =
+        let e′ : eqb early 0 ≡ false = rw early-is e in
+        by-cases (eqb (classFault b h many c) 0)
+        (λ u. by-cases (isNil ws) (λ v. rw (u, v))
+        (λ v. by-cases (wrongKind (sh .kind) ws) (λ w. rw (u, v, w)) (λ w. absurd (true≢false (rw (u, v, w) at e′)))))
+        (λ u. rw u)
+
+    list-as : (g : OutTest) → f n b (low + c) sh ws ≡ g n b (low + c) sh ws → releaseOnBy (releaseBy f) low many b c h ws ≡ releaseOnBy (releaseBy g) low many b c h ws
+    list-as g e = rw e
+
+-- ---- so with groups
+module _ (b : List ℕ) (c h : ℕ) (ws gs fs : List ℕ) where
+  abbrev early-chunks : ℕ
+  early-chunks =
+      cond (eqb (classFault b h 64 c) 0)
+      (cond (nothingListed ws gs) 7 (cond (manyChunks gs fs) 8 (cond (wrongKind (shapeOf c .kind) ws || wrongKind chunkKind gs) 9 0))) (classFault b h 64 c)
+
+  early-chunks-is : early-chunks ≡ firstNumber (chunksEarly b c h ws gs fs)
+  unfolding classFault callFault metaFault
+  early-chunks-is =
+      let t : Ends (λ (k : ℕ). k) (λ k. Unit {0}) (chunksEarly b c h ws gs fs) early-chunks =
+      rw (chain (callFault b h) 4 (leb 64 c) (λ (k : ℕ). k) _ refl, chain (metaFault b) 3 (badHost h) (λ (k : ℕ). k) _ refl)
+      (book-turn (λ (k : ℕ). k) (λ k. Unit {0}) _ (λ k. k) _ (λ k. refl) (λ k. tt)
+      (turn _ _ (badHost h) 3 _ _ _ refl tt λ e.
+      turn _ _ (leb 64 c) 4 _ _ _ refl tt λ e.
+      turn _ _ (nothingListed ws gs) 7 _ _ _ refl tt λ e.
+      turn _ _ (manyChunks gs fs) 8 _ _ _ refl tt λ e.
+      turn _ _ (wrongKind (shapeOf c .kind) ws || wrongKind chunkKind gs) 9 _ _ _ refl tt λ e.
+      ends _ _ 0 refl)
+      (get b (arena size))
+      b) in
+      t .number
+
+  kinds-as : not (every (ofKind (shapeOf c .kind)) ws && every (ofKind chunkKind) gs) ≡ (wrongKind (shapeOf c .kind) ws || wrongKind chunkKind gs)
+  kinds-as = not-and (every (ofKind (shapeOf c .kind)) ws) (every (ofKind chunkKind) gs)
+
+  module _ (f : OutTest) where
+    chunks-turned : eqb (firstNumber (chunksEarly b c h ws gs fs)) 0 ≡ true → (k : ℕ) → f (get b (arena size)) b c (shapeOf c) ws ≡ k → eqb k 0 ≡ false
+        → chunksOnBy (releaseChunksBy f) b c h ws gs fs ≡ chunksNone b fs k
+    chunks-turned e k t z =
+        let e′ : eqb early-chunks 0 ≡ true = rw early-chunks-is e in
+        by-cases (eqb (classFault b h 64 c) 0)
+        (λ u. by-cases (nothingListed ws gs) (λ v. absurd (false≢true (rw (u, v) at e′)))
+        (λ v. by-cases (manyChunks gs fs) (λ m. absurd (false≢true (rw (u, v, m) at e′)))
+        (λ m. by-cases (wrongKind (shapeOf c .kind) ws || wrongKind chunkKind gs) (λ w. absurd (false≢true (rw (u, v, m, w) at e′)))
+        (λ w. rw (u, v, m, kinds-as, w, t, z)))))
+        (λ u. absurd (false≢true (sym u ∙ (rw u at e′))))
+
+    chunks-same : (g : OutTest) → eqb (firstNumber (chunksEarly b c h ws gs fs)) 0 ≡ false → chunksOnBy (releaseChunksBy f) b c h ws gs fs ≡ chunksOnBy (releaseChunksBy g) b c h ws gs fs
+    chunks-same g e =
+        let e′ : eqb early-chunks 0 ≡ false = rw early-chunks-is e in
+        by-cases (eqb (classFault b h 64 c) 0)
+        (λ u. by-cases (nothingListed ws gs) (λ v. rw (u, v))
+        (λ v. by-cases (manyChunks gs fs) (λ m. rw (u, v, m))
+        (λ m. by-cases (wrongKind (shapeOf c .kind) ws || wrongKind chunkKind gs) (λ w. rw (u, v, m, kinds-as, w))
+        (λ w. absurd (true≢false (rw (u, v, m, w) at e′))))))
+        (λ u. rw u)
+
+    chunks-as : (g : OutTest) → f (get b (arena size)) b c (shapeOf c) ws ≡ g (get b (arena size)) b c (shapeOf c) ws
+        → chunksOnBy (releaseChunksBy f) b c h ws gs fs ≡ chunksOnBy (releaseChunksBy g) b c h ws gs fs
+    chunks-as g e = rw e
+
+-- ---- any call, by two tests: where a third answers yes the first gives the number k, elsewhere the two agree
+module _ (t : ℕ → List ℕ → ℕ → Shape → List ℕ → Bool) (f : OutTest) where
+  turned-by : (k : ℕ) → eqb k 0 ≡ false → ((n : ℕ) (b : List ℕ) (c : ℕ) (sh : Shape) (ws : List ℕ) → t n b c sh ws ≡ true → f n b c sh ws ≡ k)
+      → (b : List ℕ) (x : Call) → reachedBy t b x ≡ true → callBy f b x ≡ turnedReply b k
+  turned-by k z h b (Calls.takeBlocks c a l) e = absurd (false≢true e)
+  turned-by k z h b (Calls.mediumTakeBlocks c a l) e = absurd (false≢true e)
+  turned-by k z h b (Calls.releaseBlocks c a ws) e =
+      rw (list-turned 0 64 b c a ws f (and-left (eqb (firstNumber (releaseEarly 0 64 b c a ws)) 0) _ e) k (h _ _ _ _ _ (and-right (eqb (firstNumber (releaseEarly 0 64 b c a ws)) 0) _ e)) z, z)
+  turned-by k z h b (Calls.mediumReleaseBlocks c a ws) e =
+      rw (list-turned 64 12 b c a ws f (and-left (eqb (firstNumber (releaseEarly 64 12 b c a ws)) 0) _ e) k (h _ _ _ _ _ (and-right (eqb (firstNumber (releaseEarly 64 12 b c a ws)) 0) _ e)) z, z)
+  turned-by k z h b (Calls.releaseBinChunks c a ws gs fs) e =
+      rw (chunks-turned b c a ws gs fs f (and-left (eqb (firstNumber (chunksEarly b c a ws gs fs)) 0) _ e) k (h _ _ _ _ _ (and-right (eqb (firstNumber (chunksEarly b c a ws gs fs)) 0) _ e)) z, z)
+  turned-by k z h b (Calls.commit a m) e = absurd (false≢true e)
+  turned-by k z h b (Calls.growFrontier a q old new) e = absurd (false≢true e)
+  turned-by k z h b (Calls.release a q m) e = absurd (false≢true e)
+  turned-by k z h b (Calls.contains o m) e = absurd (false≢true e)
+  turned-by k z h b Calls.report e = absurd (false≢true e)
+
+  same-by : (g : OutTest) → ((n : ℕ) (b : List ℕ) (c : ℕ) (sh : Shape) (ws : List ℕ) → t n b c sh ws ≡ false → f n b c sh ws ≡ g n b c sh ws)
+      → (b : List ℕ) (x : Call) → reachedBy t b x ≡ false → callBy f b x ≡ callBy g b x
+  same-by g h b (Calls.takeBlocks c a l) e = refl
+  same-by g h b (Calls.mediumTakeBlocks c a l) e = refl
+  same-by g h b (Calls.releaseBlocks c a ws) e =
+      ap listReply
+      (by-cases (eqb (firstNumber (releaseEarly 0 64 b c a ws)) 0) (λ u. list-as 0 64 b c a ws f g (h _ _ _ _ _ (rw u at e))) (λ u. list-same 0 64 b c a ws f g u))
+  same-by g h b (Calls.mediumReleaseBlocks c a ws) e =
+      ap listReply
+      (by-cases (eqb (firstNumber (releaseEarly 64 12 b c a ws)) 0) (λ u. list-as 64 12 b c a ws f g (h _ _ _ _ _ (rw u at e))) (λ u. list-same 64 12 b c a ws f g u))
+  same-by g h b (Calls.releaseBinChunks c a ws gs fs) e =
+      ap chunksReply
+      (by-cases (eqb (firstNumber (chunksEarly b c a ws gs fs)) 0) (λ u. chunks-as b c a ws gs fs f g (h _ _ _ _ _ (rw u at e))) (λ u. chunks-same b c a ws gs fs f g u))
+  same-by g h b (Calls.commit a m) e = refl
+  same-by g h b (Calls.growFrontier a q old new) e = refl
+  same-by g h b (Calls.release a q m) e = refl
+  same-by g h b (Calls.contains o m) e = refl
+  same-by g h b Calls.report e = refl
+
+-- ---- A.2
+pub repeat-exactly : RepeatExactly
+repeat-exactly = record { exactly = λ b x. (differs b x, differ b x); before = was; after = is; twice = out-twice }
+  where
+    was : (b : List ℕ) (x : Call) → repeatsFirst b x ≡ true → callBy asIn01 b x ≡ turnedReply b 10
+    was = turned-by repeats asIn01 10 refl old-repeats
+
+    is : (b : List ℕ) (x : Call) → repeatsFirst b x ≡ true → callBy repeatFault b x ≡ turnedReply b 15
+    is = turned-by repeats repeatFault 15 refl new-repeats
+
+    differs : (b : List ℕ) (x : Call) → (callBy repeatFault b x ≡ callBy asIn01 b x → ⊥) → repeatsFirst b x ≡ true
+    differs b x d = by-cases (repeatsFirst b x) (λ e. e) (λ e. absurd (d (same-by repeats repeatFault asIn01 no-repeats b x e)))
+
+    differ : (b : List ℕ) (x : Call) → repeatsFirst b x ≡ true → callBy repeatFault b x ≡ callBy asIn01 b x → ⊥
+    differ b x e s = let z : _≡_ {A = ℕ} 15 10 = ap (λ (r : Reply). r .code) (sym (is b x e) ∙ s ∙ was b x e) in omega arith

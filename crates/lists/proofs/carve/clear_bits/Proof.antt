@@ -1,0 +1,14 @@
+use Rattle.lists.proofs.CarveSteps.{ClearInv, word-asks, clear-start, clear-again, clear-done}
+use Prim.Native.Nat.{_-_}
+use borrow.Author.Needs.{needs}
+use Rattle.lists.proofs.carve.clear_bits.Statement.{statement}
+use Rattle.lists.proofs.carve.clear_bits.Tie as tie
+
+abbrev Inv-loop : tie.InvT-loop
+Inv-loop meta₀ q k i₀ meta i = ClearInv meta₀ q k meta i
+
+abbrev μ-loop : tie.MeasureT-loop
+μ-loop meta₀ q k i₀ meta i = k - i
+
+pub clear-bits-spec : {M : Type 1} → statement M
+clear-bits-spec = tie.close (tie.spec Inv-loop μ-loop (λ c. search clear-start) (λ c κs. search (needs, word-asks)) (λ c. search needs) (λ c. search needs) (λ c. search clear-again) (λ c. search needs) (λ c. search clear-done))

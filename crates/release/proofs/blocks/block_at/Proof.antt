@@ -1,0 +1,11 @@
+use Rattle.release.proofs.BlockSteps.{near-fits, index-fits, past-blocks, between-blocks, a-block}
+use borrow.Author.Needs.{needs}
+use Rattle.release.proofs.blocks.block_at.Statement.{statement}
+use Rattle.release.proofs.blocks.block_at.Tie as tie
+
+pub block-at-spec : {M : Type 1} → statement M
+block-at-spec =
+    tie.close
+    (tie.spec
+    (λ c κs. search needs) (λ c. search needs) (λ c. search needs) (λ c κs. search needs) (λ c. search needs) (λ c. search past-blocks)
+    (λ c. search needs) (λ c. search near-fits) (λ c. search between-blocks) (λ c. search index-fits) (λ c. search a-block))

@@ -1,0 +1,88 @@
+-- What marking and its tests ask and answer, and the book that they leave.
+use Prim.Native.Nat.{ℕ, _+_, _*_, _≤_}
+use mathlib.Core.Bool.{Bool, true, cond, not, _&&_}
+use mathlib.Core.List.{List}
+use mathlib.Core.Path.{_≡_}
+use lib.Dec.{eqb}
+use lib.ListN.{length, drop}
+use Rattle.facts.specs.Lists.{every}
+use Rattle.classes.specs.declared.Shape.{Shape}
+use Rattle.classes.specs.Sound.{Sound}
+use Rattle.fields.specs.Field.{out, get, words}
+use Rattle.fields.specs.Ranges.{maxPages}
+use Rattle.model.specs.Page.{wordOf}
+use Rattle.model.specs.Release.{ofKind}
+use Rattle.calls.specs.Out.{outIn, outAt, unmarked, repeats, outFault}
+use Rattle.stack.specs.Inverse.{inverse}
+use Rattle.release.specs.Asks.{ClassAsks}
+use Rattle.release.specs.Marks.{markAt, setMark, freshAt, isMarkedIn, markedIn, isMarked, marked, markCount, markBook, freshIn, freshCount, freshBook}
+
+-- the run at q, in an arena; its pages' granules are those of words of one kind
+pub record FieldAsks (b : List ℕ) (sh : Shape) (q : ℕ) : Type 0 where
+  pub sound : Sound sh
+  pub below : q + sh .pages ≤ maxPages
+  pub there : words (q + 1) ≤ length b
+
+-- the numbers by which a word's block is found: the word of block 0, the granules of all blocks, and the inverse of a block's
+pub record Near (sh : Shape) (q base span inv : ℕ) : Type 0 where
+  pub sound : Sound sh
+  pub below : q + sh .pages ≤ maxPages
+  pub first : base ≡ wordOf sh q 0
+  pub all : span ≡ sh .capacity * sh .block
+  pub by : inv ≡ inverse (sh .block)
+
+pub record MarkedBlock (r : Bool) (b′ b : List ℕ) (q i : ℕ) : Type 0 where
+  pub answer : r ≡ freshAt b q i
+  pub left : b′ ≡ cond (freshAt b q i) (setMark b q i) b
+
+pub record MarkedOne (r : Bool) (b′ b : List ℕ) (sh : Shape) (q w : ℕ) : Type 0 where
+  pub answer : r ≡ freshIn b sh q w
+  pub left : b′ ≡ cond (freshIn b sh q w) (markedIn b sh q w) b
+
+-- the listed words from place i on; the answer is the place of the first that is not marked
+pub record MarkedIn (r : ℕ) (b′ b : List ℕ) (sh : Shape) (q : ℕ) (ws : List ℕ) (i : ℕ) : Type 0 where
+  pub answer : r ≡ i + freshCount b sh q (drop i ws)
+  pub left : b′ ≡ freshBook b sh q (drop i ws)
+
+-- a word that is not out is passed over
+abbrev pub passes : Bool → Bool → Bool
+passes o m = not (o && m)
+
+abbrev pub leaves : Bool → Bool → List ℕ → List ℕ → List ℕ
+leaves o m b′ b = cond o (cond m b b′) b
+
+pub record PassedBlock (r : Bool) (b′ b : List ℕ) (q i : ℕ) : Type 0 where
+  pub answer : r ≡ passes (eqb (get b (out q i)) 1) (eqb (markAt b q i) 1)
+  pub left : b′ ≡ leaves (eqb (get b (out q i)) 1) (eqb (markAt b q i) 1) (setMark b q i) b
+
+pub record PassedIn (r : Bool) (b′ b : List ℕ) (sh : Shape) (q w : ℕ) : Type 0 where
+  pub answer : r ≡ passes (outIn b sh q w) (isMarkedIn b sh q w)
+  pub left : b′ ≡ leaves (outIn b sh q w) (isMarkedIn b sh q w) (markedIn b sh q w) b
+
+pub record PassedAt (r : Bool) (b′ : List ℕ) (n : ℕ) (b : List ℕ) (c : ℕ) (sh : Shape) (w : ℕ) : Type 0 where
+  pub answer : r ≡ passes (outAt n b c sh w) (isMarked b sh w)
+  pub left : b′ ≡ leaves (outAt n b c sh w) (isMarked b sh w) (marked b sh w) b
+
+pub record MarkedList (r : ℕ) (b′ : List ℕ) (n : ℕ) (b : List ℕ) (c : ℕ) (sh : Shape) (ws : List ℕ) : Type 0 where
+  pub answer : r ≡ markCount n b c sh ws
+  pub left : b′ ≡ markBook n b c sh ws
+
+-- after number 9
+pub record FaultAsks (n : ℕ) (b : List ℕ) (c : ℕ) (sh : Shape) (ws : List ℕ) : Type 0 where
+  pub class : ClassAsks n b c sh
+  pub kinds : every (ofKind (sh .kind)) ws ≡ true
+
+-- and 13, for a mark
+pub record TestAsks (n : ℕ) (b : List ℕ) (c : ℕ) (sh : Shape) (ws : List ℕ) : Type 0 where
+  pub class : ClassAsks n b c sh
+  pub kinds : every (ofKind (sh .kind)) ws ≡ true
+  pub clean : unmarked n b c sh ws ≡ true
+
+-- document 02, A.3: the words that the list marked are 0 again and no other word changed
+pub record Tested (r : Bool) (b′ : List ℕ) (n : ℕ) (b : List ℕ) (c : ℕ) (sh : Shape) (ws : List ℕ) : Type 0 where
+  pub answer : r ≡ repeats n b c sh ws
+  pub left : b′ ≡ b
+
+pub record Faulted (r : ℕ) (b′ : List ℕ) (n : ℕ) (b : List ℕ) (c : ℕ) (sh : Shape) (ws : List ℕ) : Type 0 where
+  pub answer : r ≡ outFault n b c sh ws
+  pub left : b′ ≡ b

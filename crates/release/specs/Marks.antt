@@ -1,0 +1,107 @@
+-- How numbers 13 (a mark) and 15 are found, and how the blocks of a list that is carried out are taken. The numbers themselves are on
+-- the list alone (calls, specs/Out): no mark is set there.
+--     markAt, setMark         the mark of block i of the run at q, and the book with it set
+--     markCount, markBook     marking in turn: how many words were passed before one that is marked already, and the book then
+--     clearBook               the words of marks of the listed blocks that are out, set to 0, whole
+--     freshCount, freshBook   the same in the run at q alone, up to the first word that is not out there or is marked
+--     takeMarks               in one run: the marked blocks' out bits cleared and the marks with them, a word at a time
+use Prim.Native.Nat.{ℕ, zero, suc, _+_, _*_, _/_, _%_}
+use mathlib.Core.Bool.{Bool, true, cond, not, _&&_}
+use mathlib.Core.List.{List, [], _∷_}
+use lib.Dec.{eqb}
+use lib.Bits.{bitXor}
+use lib.ListN.{getD, set}
+use Rattle.facts.specs.Lists.{every, below}
+use Rattle.classes.specs.declared.Shape.{Shape}
+use Rattle.fields.specs.Field.{bits, out, mark, read, place, get, put}
+use Rattle.model.specs.Release.{ofKind}
+use Rattle.pages.specs.Stack.{indexOf, isBlock}
+use Rattle.calls.specs.Out.{startOf, outIn, outAt, markIn, markOf, clean}
+
+-- ---- one block
+abbrev pub markAt : List ℕ → ℕ → ℕ → ℕ
+markAt b q i = read (bits (i % 32) 1) (get b (mark q (i / 32)))
+
+abbrev pub setMark : List ℕ → ℕ → ℕ → List ℕ
+setMark b q i = put b (mark q (i / 32)) (place (bits (i % 32) 1) (get b (mark q (i / 32))) 1)
+
+-- it is out and not marked
+abbrev pub freshAt : List ℕ → ℕ → ℕ → Bool
+freshAt b q i = eqb (get b (out q i)) 1 && not (eqb (markAt b q i) 1)
+
+-- ---- one word
+unfoldable pub isMarkedIn : List ℕ → Shape → ℕ → ℕ → Bool
+isMarkedIn b sh q w = eqb (markAt b q (indexOf sh q w)) 1
+
+unfoldable pub markedIn : List ℕ → Shape → ℕ → ℕ → List ℕ
+markedIn b sh q w = setMark b q (indexOf sh q w)
+
+abbrev pub isMarked : List ℕ → Shape → ℕ → Bool
+isMarked b sh w = isMarkedIn b sh (startOf b w) w
+
+abbrev pub marked : List ℕ → Shape → ℕ → List ℕ
+marked b sh w = markedIn b sh (startOf b w) w
+
+-- ---- lists, in the class's runs: a word that is not out is passed over
+unfoldable pub markCount : ℕ → List ℕ → ℕ → Shape → List ℕ → ℕ
+markCount n b c sh [] = 0
+markCount n b c sh (w ∷ ws) =
+    cond (outAt n b c sh w) (cond (isMarked b sh w) 0 (suc (markCount n (marked b sh w) c sh ws))) (suc (markCount n b c sh ws))
+
+unfoldable pub markBook : ℕ → List ℕ → ℕ → Shape → List ℕ → List ℕ
+markBook n b c sh [] = b
+markBook n b c sh (w ∷ ws) = cond (outAt n b c sh w) (cond (isMarked b sh w) b (markBook n (marked b sh w) c sh ws)) (markBook n b c sh ws)
+
+unfoldable pub clearBook : ℕ → List ℕ → ℕ → Shape → List ℕ → List ℕ
+clearBook n b c sh [] = b
+clearBook n b c sh (w ∷ ws) = clearBook n (cond (outAt n b c sh w) (put b (markOf b sh w) 0) b) c sh ws
+
+-- ---- words of the class's kind, in the run at q alone
+-- a block that is out and not marked
+unfoldable pub freshIn : List ℕ → Shape → ℕ → ℕ → Bool
+freshIn b sh q w = ofKind (sh .kind) w && (isBlock sh q w && freshAt b q (indexOf sh q w))
+
+-- a block that is out, and whose word of marks is 0
+unfoldable pub readyIn : List ℕ → Shape → ℕ → ℕ → Bool
+readyIn b sh q w = ofKind (sh .kind) w && (outIn b sh q w && eqb (get b (markIn sh q w)) 0)
+
+unfoldable pub freshCount : List ℕ → Shape → ℕ → List ℕ → ℕ
+freshCount b sh q [] = 0
+freshCount b sh q (w ∷ ws) = cond (freshIn b sh q w) (suc (freshCount (markedIn b sh q w) sh q ws)) 0
+
+unfoldable pub freshBook : List ℕ → Shape → ℕ → List ℕ → List ℕ
+freshBook b sh q [] = b
+freshBook b sh q (w ∷ ws) = cond (freshIn b sh q w) (freshBook (markedIn b sh q w) sh q ws) b
+
+-- ---- the marks of the run at q, 32 at a time: words 0 to m - 1 (cleared: `clearMarks`)
+-- the out bits of blocks 32 j to 32 j + 31 are this word
+abbrev pub outWord : ℕ → ℕ → ℕ
+outWord q j = 40016 + 4112 * q + j
+
+abbrev pub noMarks : List ℕ → ℕ → ℕ → Bool
+noMarks b q m = every (λ j. eqb (get b (mark q j)) 0) (below m)
+
+abbrev pub flipWord : List ℕ → ℕ → ℕ → ℕ → List ℕ
+flipWord b q j x = set b (outWord q j) (bitXor (getD b (outWord q j) 0) x)
+
+-- the blocks that are marked are out no longer, and no mark is left
+unfoldable pub takeWord : List ℕ → ℕ → ℕ → List ℕ
+takeWord b q j = put (flipWord b q j (get b (mark q j))) (mark q j) 0
+
+unfoldable pub takeMarks : List ℕ → ℕ → ℕ → List ℕ
+takeMarks b q zero = b
+takeMarks b q (suc m) = takeWord (takeMarks b q m) q m
+
+-- ---- number 13 word by word: in the run at q; in the class's runs
+unfoldable pub cleanIn : List ℕ → Shape → ℕ → ℕ → Bool
+cleanIn b sh q w = cond (outIn b sh q w) (eqb (get b (markIn sh q w)) 0) true
+
+unfoldable pub cleanAt : ℕ → List ℕ → ℕ → Shape → ℕ → Bool
+cleanAt n b c sh w = cond (outAt n b c sh w) (clean b sh w) true
+
+-- ---- clearing word by word
+unfoldable pub clearedIn : List ℕ → Shape → ℕ → ℕ → List ℕ
+clearedIn b sh q w = cond (outIn b sh q w) (put b (markIn sh q w) 0) b
+
+unfoldable pub clearedAt : ℕ → List ℕ → ℕ → Shape → ℕ → List ℕ
+clearedAt n b c sh w = cond (outAt n b c sh w) (put b (markOf b sh w) 0) b

@@ -1,0 +1,84 @@
+// Where a listed word's block is: its run, and its index there.
+ghost use mathlib.Core.Path.{_≡_};
+ghost use Prim.Native.Nat.{_<_};
+ghost use Rattle.classes.specs.Sound.{Sound};
+ghost use Rattle.fields.specs.Ranges.{maxPages};
+ghost use Rattle.words.specs.Word.{granuleOf};
+ghost use Rattle.stack.specs.Inverse.{inverse};
+ghost use Rattle.release.specs.Blocks.{blockAt, blockIn, runAt};
+ghost use Rattle.release.specs.Asks.{ClassAsks};
+ghost use Rattle.release.specs.MarkAsks.{Near};
+use super::Found;
+use classes::Shape;
+use lists::whole;
+use pages::page_at;
+use words::Word;
+
+// A word's granule.
+fn granule_of(w: u32) -> u32
+    ensures { λ r. ⌜ r ≡ granuleOf w ⌝ }
+{
+    Word::of(w).granule()
+}
+
+// The index of the block of the run at q that the word is; inv is the inverse of the block's granules.
+// A granule below the blocks wraps to one above them. What does not fill a block stands behind the point of the product.
+pub fn block_at(shape: Shape, inv: u64, q: u32, w: u32) -> Found
+    requires { ⌜ Sound shape ⌝ }
+    requires { ⌜ q < maxPages ⌝ }
+    requires { ⌜ inv ≡ inverse (shape .block) ⌝ }
+    ensures { λ r. ⌜ r ≡ blockAt shape q w ⌝ }
+{
+    let granule = granule_of(w);
+    let x = std::num::wrapping_sub_u32(granule, q * 4096 + shape.header);
+    if x >= shape.capacity * shape.block {
+        return Found::Nothing;
+    }
+    let product = x as u64 * inv;
+    if product % 4294967296 >= inv {
+        return Found::Nothing;
+    }
+    Found::At((product >> 32) as u32)
+}
+
+// The same of a word of the class's kind: one subtraction from the word of block 0 tells its kind and its granule.
+pub fn block_in(shape: Shape, q: u32, base: u32, span: u32, inv: u64, w: u32) -> Found
+    requires { ⌜ Near shape q base span inv ⌝ }
+    ensures { λ r. ⌜ r ≡ blockIn shape q w ⌝ }
+{
+    let x = std::num::wrapping_sub_u32(w, base);
+    if x >= span {
+        return Found::Nothing;
+    }
+    let product = x as u64 * inv;
+    if product % 4294967296 >= inv {
+        return Found::Nothing;
+    }
+    Found::At((product >> 32) as u32)
+}
+
+// The first page of the class's run that has the word's granule.
+pub fn run_of(meta: &[u32], n: u32, c: u32, shape: Shape, w: u32) -> Found
+    requires { ⌜ ClassAsks n (now meta) c shape ⌝ }
+    ensures { λ r. ⌜ r ≡ runAt n (now (meta .entry)) shape c w ⌝ }
+{
+    let p = page_at(w);
+    if p >= n {
+        return Found::Nothing;
+    }
+    if p >= fields::arena::frontier(meta) {
+        return Found::Nothing;
+    }
+    let q = fields::page::first(meta, p);
+    if q > p {
+        return Found::Nothing;
+    }
+    if p - q >= shape.pages {
+        return Found::Nothing;
+    }
+    if whole(meta, n, c, shape, q) {
+        Found::At(q)
+    } else {
+        Found::Nothing
+    }
+}
