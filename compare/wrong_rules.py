@@ -49,7 +49,7 @@ RANGES = "crates/demands/specs/Ranges.antt"
 SHAPE = "crates/classes/specs/Shape.antt"
 SHAPE_CODE = "crates/classes/src/runs.rt"
 # The boundary tests that look into the book.
-BOOK_TESTS = ["ranges::", "holes::a_cut_hole_keeps_its_index", "holes::the_last_hole_takes_a_used_up_ones_place"]
+BOOK_TESTS = ["ranges::", "marks::", "holes::a_cut_hole_keeps_its_index", "holes::the_last_hole_takes_a_used_up_ones_place"]
 
 
 @dataclass

@@ -72,6 +72,18 @@ impl Ledger {
         &self.out[class_id(family, class)]
     }
 
+    /// Whether a word is a block that is out in this class, which need not be there.
+    pub fn is_out(&self, family: Family, class: u32, word: u32) -> bool {
+        class < family.classes()
+            && kind_of(word) == family.kind()
+            && self.count_out(class_id(family, class), &[word]) == 1
+    }
+
+    /// The first page of a block's page or span. The block is out.
+    pub fn first_page(&self, word: u32) -> u32 {
+        self.run[page_of(word) as usize]
+    }
+
     /// Runs of the direct calls, by first page.
     pub fn direct(&self) -> &BTreeMap<u32, u32> {
         &self.direct

@@ -12,6 +12,7 @@ mod history;
 mod ledger;
 mod listing;
 mod lookups;
+mod marks;
 mod memory;
 mod model_test;
 mod oracle;
@@ -49,6 +50,8 @@ const USAGE: &str = "usage: compare COMMAND [--NAME VALUE ..]
                histories with the original's answers, computed by the checker on the model
   damaged      [--calls N] [--seed S] [--kinds all|blocks] [--only HISTORY]
                calls with any arguments on damaged books
+  marks        [--calls N] [--seed S]
+               releases and takes of random histories, also on a book whose mark words hold anything
   fits         [--plans N] [--seed S]
                plans of takes, made in orders of chance on arenas of just their total and of a page less
   places       [--pairs N] [--seed S]
@@ -73,6 +76,7 @@ fn main() -> ExitCode {
         Some("replay") => histories::replay(rest),
         Some("model-test") => model_test::run(rest),
         Some("damaged") => damaged::run(rest),
+        Some("marks") => marks::run(rest),
         Some("fits") => fits::run(rest),
         Some("places") => places::run(rest),
         Some("traces") => traces::run(rest),

@@ -1,13 +1,15 @@
--- Document 02, A.2, holds of the exported calls: which answers it changed.
+-- Document 02, A.2 and A.3, hold of the exported calls: which answers they changed, and that no mark is left.
 --     repeat-exactly    A.2
+--     marks-aside       A.3: the answers
+--     run-unmarked      A.3: the marks
 use Prim.Native.Nat.{ℕ, _+_}
 use native.Mathlib.Omega.{arith}
 use mathlib.Core.Bool.{Bool, true, false, cond, not, _&&_, _||_, true≢false, false≢true}
-use mathlib.Core.List.{List}
+use mathlib.Core.List.{List, [], _∷_, _++_}
 use mathlib.Core.Logic.{_↔_}
 use mathlib.Core.Path.{_≡_, refl, sym, ap, _∙_}
 use lib.Dec.{eqb, leb}
-use borrow.Author.Tests.{not-true}
+use borrow.Author.Tests.{lt-ltb, not-true}
 use Rattle.facts.specs.Lists.{isNil, filter, every, distinct}
 use Rattle.facts.proofs.Bools.{by-cases, and-left, and-right}
 use Rattle.words.specs.Host.{badHost}
@@ -19,21 +21,33 @@ use Rattle.fields.specs.Ranges.{metaFault}
 use Rattle.model.specs.Calls as Calls
 use Rattle.model.specs.Calls.{Call}
 use Rattle.model.specs.Release.{ofKind}
+use Rattle.model.specs.History.{heapAfter}
 use Rattle.model.proofs.Counts.{filter-le, filter-passes, filter-keeps, each-once, distinct-count}
-use Rattle.calls.specs.Out.{outAt, OutTest, repeats, repeatFault}
+use Rattle.calls.specs.Out.{outAt, OutTest, unmarked, repeats, repeatFault, outFault}
+use Rattle.calls.specs.Release as Back
 use Rattle.calls.specs.Release.{releasedNone, releaseBy, releaseBlocks}
-use Rattle.calls.specs.Chunks.{chunksNone, releaseChunksBy}
+use Rattle.calls.specs.Chunks.{chunksNone, releaseChunksBy, releaseChunks}
 use Rattle.calls.proofs.Out.{no-repeat}
+use Rattle.vigbuso.specs.Direct.{openOn}
 use Rattle.vigbuso.specs.Faults.{callFault, classFault}
-use Rattle.vigbuso.specs.Blocks.{releaseOnBy, chunksOnBy}
+use Rattle.vigbuso.specs.Blocks as Blocks
+use Rattle.vigbuso.specs.Blocks.{releaseOnBy, chunksOnBy, chunksOn}
 use Rattle.refinement.specs.Direct.{Reply, turnedReply}
 use Rattle.refinement.specs.Releases.{listReply, chunksReply}
+use Rattle.refinement.specs.Run.{repliesFrom, bookFrom}
+use Rattle.refinement.proofs.OutTests as OutTests
+use Rattle.demands.specs.Call.{call}
+use Rattle.demands.specs.Run as Opening
+use Rattle.demands.specs.Run.{Opens}
+use Rattle.demands.specs.Start.{pages, lent, calls}
 use Rattle.demands.specs.Refusals.{firstNumber, nothingListed, manyChunks, wrongKind, releaseEarly, chunksEarly}
-use Rattle.demands.specs.Repeats.{callBy, asIn01, reachedBy, repeatsFirst, OutTwice, RepeatExactly}
+use Rattle.demands.specs.Repeats.{callBy, asIn01, reachedBy, repeatsFirst, OutTwice, RepeatExactly, marksFirst, MarksAside, Unmarked}
 use Rattle.demands.proofs.RefusalsLaws.{not-and, Ends, ends, turn, book-turn, chain}
+use Rattle.demands.proofs.Histories.{run-represents, next-agrees, book-split}
 use Rattle.demands.proofs.Returns.{not-distinct}
+use Rattle.demands.proofs.Starts.{as-opening}
 
--- ---- the two tests, on any list
+-- ---- the three tests, on any list
 module _ (n : ℕ) (b : List ℕ) (c : ℕ) (sh : Shape) (ws : List ℕ) where
   old-repeats : repeats n b c sh ws ≡ true → asIn01 n b c sh ws ≡ 10
   unfolding asIn01
@@ -48,6 +62,14 @@ module _ (n : ℕ) (b : List ℕ) (c : ℕ) (sh : Shape) (ws : List ℕ) where
   no-repeats : repeats n b c sh ws ≡ false → repeatFault n b c sh ws ≡ asIn01 n b c sh ws
   unfolding asIn01 repeats
   no-repeats r = by-cases (every (outAt n b c sh) ws) (λ o. rw (r, o, each-once (outAt n b c sh) ws r o)) (λ o. rw (r, o))
+
+  new-marks : not (unmarked n b c sh ws) ≡ true → outFault n b c sh ws ≡ 13
+  unfolding outFault
+  new-marks u = rw u
+
+  no-marks : not (unmarked n b c sh ws) ≡ false → outFault n b c sh ws ≡ repeatFault n b c sh ws
+  unfolding outFault
+  no-marks u = rw u
 
   out-twice : (repeats n b c sh ws ≡ true) ↔ OutTwice n b c sh ws
   unfolding repeats
@@ -217,3 +239,70 @@ repeat-exactly = record { exactly = λ b x. (differs b x, differ b x); before = 
 
     differ : (b : List ℕ) (x : Call) → repeatsFirst b x ≡ true → callBy repeatFault b x ≡ callBy asIn01 b x → ⊥
     differ b x e s = let z : _≡_ {A = ℕ} 15 10 = ap (λ (r : Reply). r .code) (sym (is b x e) ∙ s ∙ was b x e) in omega arith
+
+-- ---- A.3
+abbrev marked : ℕ → List ℕ → ℕ → Shape → List ℕ → Bool
+marked n b c sh ws = not (unmarked n b c sh ws)
+
+by-now : (b : List ℕ) (x : Call) → call b x ≡ callBy outFault b x
+unfolding call Blocks.releaseOn chunksOn releaseBlocks releaseChunks
+by-now b (Calls.takeBlocks c h l) = refl
+by-now b (Calls.mediumTakeBlocks c h l) = refl
+by-now b (Calls.releaseBlocks c h ws) = refl
+by-now b (Calls.mediumReleaseBlocks c h ws) = refl
+by-now b (Calls.releaseBinChunks c h ws gs fs) = refl
+by-now b (Calls.commit h m) = refl
+by-now b (Calls.growFrontier h q old new) = refl
+by-now b (Calls.release h q m) = refl
+by-now b (Calls.contains o k) = refl
+by-now b Calls.report = refl
+
+is-marked : (b : List ℕ) (x : Call) → marksFirst b x ≡ true → call b x ≡ turnedReply b 13
+is-marked b x e = by-now b x ∙ turned-by marked outFault 13 refl new-marks b x e
+
+is-otherwise : (b : List ℕ) (x : Call) → marksFirst b x ≡ false → call b x ≡ callBy repeatFault b x
+is-otherwise b x e = by-now b x ∙ same-by marked outFault repeatFault no-marks b x e
+
+-- from an opening
+module _ (n : ℕ) (b : List ℕ) (o : Opens n b) where
+  never : (xs : List Call) (x : Call) → marksFirst (Opening.bookAfter n b xs) x ≡ false
+  never xs x =
+      by-cases (marksFirst (Opening.bookAfter n b xs) x)
+      (λ e. absurd (next-agrees n b o xs x .fair (ap (λ (r : Reply). r .code) (is-marked (Opening.bookAfter n b xs) x e))))
+      (λ e. e)
+
+  abbrev A2 : List ℕ → Call → Reply
+  A2 = callBy repeatFault
+
+  next-book : (xs : List Call) (x : Call) → call (Opening.bookAfter n b xs) x .book ≡ Opening.bookAfter n b (xs ++ x ∷ [])
+  next-book xs x = sym (book-split (openOn b n .book) xs (x ∷ []))
+
+  module _ where
+    replies-on : (ys xs : List Call) → repliesFrom A2 (Opening.bookAfter n b xs) ys ≡ repliesFrom call (Opening.bookAfter n b xs) ys
+    replies-on [] xs = refl
+    replies-on (y ∷ ys) xs =
+        let e = sym (is-otherwise (Opening.bookAfter n b xs) y (never xs y)) in
+        ap (λ (r : Reply). r ∷ repliesFrom A2 (r .book) ys) e
+        ∙ ap (λ (rs : List Reply). call (Opening.bookAfter n b xs) y ∷ rs) (rw (next-book xs y) (replies-on ys (xs ++ y ∷ [])))
+
+    book-on : (ys xs : List Call) → bookFrom A2 (Opening.bookAfter n b xs) ys ≡ bookFrom call (Opening.bookAfter n b xs) ys
+    book-on [] xs = refl
+    book-on (y ∷ ys) xs =
+        let e = sym (is-otherwise (Opening.bookAfter n b xs) y (never xs y)) in
+        ap (λ (r : Reply). bookFrom A2 (r .book) ys) e ∙ rw (next-book xs y) (book-on ys (xs ++ y ∷ []))
+
+pub marks-aside : MarksAside
+marks-aside = record {
+  now = by-now;
+  marked = is-marked;
+  otherwise = is-otherwise;
+  repeated = λ b x e. rw (is-otherwise b x e) (repeat-exactly .exactly b x);
+  replies = λ n b o xs. replies-on n b o xs [];
+  book = λ n b o xs. book-on n b o xs [];
+}
+
+-- ---- the marks
+pub run-unmarked : Unmarked
+run-unmarked s o xs c q l w j m =
+    let e = as-opening s o xs .book in
+    rw e (OutTests.run-unmarked (heapAfter (pages s) (calls s xs) .classes c) (run-represents (pages s) (lent s) o (calls s xs) .classes c (lt-ltb c 76 l)) q (rw e at w) j m)

@@ -1,10 +1,13 @@
--- Document 02, A.2, over the exported calls: which answers it changed, on any book and for any call.
+-- Document 02, A.2 and A.3, over the exported calls: which answers they changed, on any book and for any call; and that no mark is left.
 -- proofs/Repeats proves it.
 --     callBy           a call, with another test of a release's blocks in its place; by `outFault` it is `call`
 --     asIn01           document 01's test; `repeatFault` is A.2's
 --     repeatsFirst     "a block out in this class stands twice, with no earlier fault"
 --     RepeatExactly    the answers that A.2 changed are those, from 10 to 15
-use Prim.Native.Nat.{ℕ, _+_, _≤_}
+--     marksFirst       the word of marks of a listed block out in this class is not 0, with no earlier fault
+--     MarksAside       A.3 answers 13 there, and is A.2 elsewhere; so every history is answered as by A.2
+--     Unmarked         after every history no mark of a run is set
+use Prim.Native.Nat.{ℕ, _+_, _≤_, _<_}
 use mathlib.Core.Bool.{Bool, true, false, cond, not, _&&_}
 use mathlib.Core.List.{List}
 use mathlib.Core.Logic.{_↔_}
@@ -12,17 +15,24 @@ use mathlib.Core.Path.{_≡_}
 use lib.Dec.{eqb}
 use Rattle.facts.specs.Lists.{every, distinct, count}
 use Rattle.classes.specs.declared.Shape.{Shape}
-use Rattle.classes.specs.Shape.{shapeOf}
-use Rattle.fields.specs.Field.{arena, size, get}
+use Rattle.classes.specs.Shape.{shapeOf, classCount}
+use Rattle.fields.specs.Field.{arena, mark, size, get}
 use Rattle.model.specs.Calls as Calls
 use Rattle.model.specs.Calls.{Call}
-use Rattle.calls.specs.Out.{outAt, OutTest, repeats, repeatFault}
+use Rattle.pages.specs.Runs.{whole}
+use Rattle.pages.specs.Carve.{outWords}
+use Rattle.calls.specs.Out.{outAt, OutTest, unmarked, repeats, repeatFault, outFault}
 use Rattle.calls.specs.Release.{releaseBy}
 use Rattle.calls.specs.Chunks.{releaseChunksBy}
+use Rattle.vigbuso.specs.Direct.{openOn}
 use Rattle.vigbuso.specs.Blocks.{releaseOnBy, chunksOnBy}
 use Rattle.refinement.specs.Direct.{Reply, turnedReply}
 use Rattle.refinement.specs.Releases.{listReply, chunksReply}
+use Rattle.refinement.specs.Run.{repliesFrom, bookFrom}
 use Rattle.demands.specs.Call.{call}
+use Rattle.demands.specs.Run as Opening
+use Rattle.demands.specs.Run.{Opens, run}
+use Rattle.demands.specs.Start.{Start, pages, Starts, bookAfter}
 use Rattle.demands.specs.Refusals.{firstNumber, releaseEarly, chunksEarly}
 
 abbrev pub callBy : OutTest → List ℕ → Call → Reply
@@ -54,6 +64,7 @@ reachedBy t b (Calls.release h q m) = false
 reachedBy t b (Calls.contains o k) = false
 reachedBy t b Calls.report = false
 
+-- ---- A.2
 abbrev pub repeatsFirst : List ℕ → Call → Bool
 repeatsFirst b x = reachedBy repeats b x
 
@@ -69,3 +80,26 @@ pub record RepeatExactly : Type 0 where
   pub before : (b : List ℕ) (x : Call) → repeatsFirst b x ≡ true → callBy asIn01 b x ≡ turnedReply b 10
   pub after : (b : List ℕ) (x : Call) → repeatsFirst b x ≡ true → callBy repeatFault b x ≡ turnedReply b 15
   pub twice : (n : ℕ) (b : List ℕ) (c : ℕ) (sh : Shape) (ws : List ℕ) → (repeats n b c sh ws ≡ true) ↔ OutTwice n b c sh ws
+
+-- ---- A.3
+abbrev pub marksFirst : List ℕ → Call → Bool
+marksFirst b x = reachedBy (λ n b c sh ws. not (unmarked n b c sh ws)) b x
+
+-- "Where the mark word of a listed block out in this class isn't 0 beforehand, the answer is 13, here before 15, and nothing is marked. Otherwise
+-- every call returns and leaves what it did, the book's layout aside."
+pub record MarksAside : Type 0 where
+  pub now : (b : List ℕ) (x : Call) → call b x ≡ callBy outFault b x
+  pub marked : (b : List ℕ) (x : Call) → marksFirst b x ≡ true → call b x ≡ turnedReply b 13
+  pub otherwise : (b : List ℕ) (x : Call) → marksFirst b x ≡ false → call b x ≡ callBy repeatFault b x
+  -- so A.2's claim is one about the calls as they are
+  pub repeated : (b : List ℕ) (x : Call) → marksFirst b x ≡ false → (call b x ≡ callBy asIn01 b x → ⊥) ↔ (repeatsFirst b x ≡ true)
+  -- from an opening on it is never 13, so that a history with A.2's test is the history
+  pub replies : (n : ℕ) (b : List ℕ) → Opens n b → (xs : List Call) → repliesFrom (callBy repeatFault) (openOn b n .book) xs ≡ run n b xs
+  pub book : (n : ℕ) (b : List ℕ) → Opens n b → (xs : List Call) → bookFrom (callBy repeatFault) (openOn b n .book) xs ≡ Opening.bookAfter n b xs
+
+-- "On a book reached from an opening every call, refused ones included, ends with no mark set": after the calls xs since a start, which is an
+-- opening or a trace, every word of marks of every run of every class is 0
+abbrev pub Unmarked : Type 0
+Unmarked =
+    (s : Start) → Starts s → (xs : List Call) (c q : ℕ) → c < classCount → whole (pages s) (bookAfter s xs) (shapeOf c) c q ≡ true
+    → (j : ℕ) → j < outWords (shapeOf c) → get (bookAfter s xs) (mark q j) ≡ 0
