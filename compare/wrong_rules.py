@@ -49,7 +49,7 @@ RANGES = "crates/demands/specs/Ranges.antt"
 SHAPE = "crates/classes/specs/Shape.antt"
 SHAPE_CODE = "crates/classes/src/runs.rt"
 # The boundary tests that look into the book.
-BOOK_TESTS = ["ranges::", "marks::", "holes::a_cut_hole_keeps_its_index", "holes::the_last_hole_takes_a_used_up_ones_place"]
+BOOK_TESTS = ["ranges::", "marks::", "joins::stands", "holes::a_cut_hole_keeps_its_index", "holes::the_last_hole_takes_a_used_up_ones_place"]
 
 
 @dataclass
@@ -453,7 +453,7 @@ RULES = [
     ),
     Rule(
         "a total of just 65,536 pages is abandoned",
-        heap=[("arena.rs", "holes.bytes + bytes <= HOLE_CAP_BYTES", "holes.bytes + bytes < HOLE_CAP_BYTES")],
+        heap=[(OURS, "<= HOLE_CAP_BYTES", "< HOLE_CAP_BYTES")],
         model=[(HOLES, "leb (s .total + n) holePagesMax", "ltb (s .total + n) holePagesMax")],
     ),
     Rule(
@@ -467,6 +467,40 @@ RULES = [
     Rule(
         "a repeat of a block that is not out is 15",
         heap=[(LEDGER, "if self.count_out(id, &twice) > 0 {", "if !twice.is_empty() {")],
+    ),
+    Rule(
+        "holes that touch stay apart",
+        heap=[(OURS, "((0..self.len).find(ends), (0..self.len).find(starts))", "(None, None)")],
+        model=[(HOLES, "(place n q (s .holes) (holeBefore q (s .holes)) (holeAfter (q + n) (s .holes)))", "(place n q (s .holes) none none)")],
+    ),
+    Rule(
+        "a run joins the hole before it alone",
+        heap=[(OURS, "(0..self.len).find(starts))", "None)")],
+        model=[(HOLES, "(holeAfter (q + n) (s .holes))) (s .total + n)", "none) (s .total + n)")],
+    ),
+    Rule(
+        "a run joins the hole after it alone",
+        heap=[(OURS, "((0..self.len).find(ends),", "(None,")],
+        model=[(HOLES, "(place n q (s .holes) (holeBefore q (s .holes))", "(place n q (s .holes) none")],
+    ),
+    Rule(
+        "a run that joins needs a slot",
+        heap=[(OURS, "(None, None) if self.len >= HOLE_SLOTS", "_ if self.len >= HOLE_SLOTS")],
+        model=[(HOLES, "isSome b || isSome c || ltb (length hs) holeSlots", "ltb (length hs) holeSlots")],
+    ),
+    Rule(
+        "a run that joins may pass 65,536 pages",
+        heap=[(OURS, "if !self.has_room(pages) {", "if !self.has_room(pages) && self.touching(off, pages) == (None, None) {")],
+        model=[(HOLES, "accepts n q s = leb (s .total + n) holePagesMax &&", "accepts n q s = (leb (s .total + n) holePagesMax || isSome (holeBefore q (s .holes))) &&")],
+    ),
+    Rule(
+        "the joined hole stands at the index of the one after",
+        alike="the order of the holes shows in no answer (`orderless`); the row and the book's words hold it",
+        heap=[
+            (OURS, "self.entries[before].1 += pages + self.entries[after].1;", "self.entries[after] = (self.entries[before].0, self.entries[before].1 + pages + self.entries[after].1);"),
+            (OURS, "self.entries[after] = self.entries[last];", "self.entries[before] = self.entries[last];"),
+        ],
+        model=[(HOLES, "removeAt j (setAt i (withBoth", "removeAt i (setAt j (withBoth")],
     ),
     # What a word may hold shows in no history: the table of ranges has it, and editor/tests/boundaries/ranges.rs.
     Rule("VIRGIN up to 7", model=[(RANGES, "(virginFlag p) = upTo 1", "(virginFlag p) = upTo 7")], crate="demands"),

@@ -14,7 +14,7 @@ pub struct Part {
 /// The end of a function or block in a module's own column.
 const END: &str = "\n}\n";
 
-pub const PARTS: [Part; 11] = [
+pub const PARTS: [Part; 12] = [
     Part {
         file: "arena.rs",
         why: "the system's answers come from the host word",
@@ -35,6 +35,13 @@ pub const PARTS: [Part; 11] = [
         from: "    fn holes_take(&self, pages: usize) -> *mut u8 {\n",
         to: "",
         put: "    fn original_take(&self, pages: usize) -> *mut u8 {\n",
+    },
+    Part {
+        file: "arena.rs",
+        why: "document 02's joining of holes stands beside the original's give (A.4)",
+        from: "    fn holes_give(&self, base: *mut u8, pages: usize) {\n",
+        to: "",
+        put: "    fn original_give(&self, base: *mut u8, pages: usize) {\n",
     },
     Part {
         file: "sys/unix.rs",

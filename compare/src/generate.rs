@@ -1,5 +1,7 @@
 //! Random plans, by scenario: each reaches some corner of document 01's rules that a plain mix would seldom reach.
 
+use std::ops::Range;
+
 use crate::call::Kind;
 use crate::oracle;
 use crate::plan::{Intent, Piece, Place, Plan, Portion, Step};
@@ -288,21 +290,30 @@ fn many_holes(maker: &mut Maker) {
     maker.arena(9_000, 12_000);
     maker.push(HOST_ALL, Intent::Commit { pages: u64::from(maker.length.saturating_sub(200).max(1)) });
     let last = maker.random.between(HOLE_LIMIT - 6, HOLE_LIMIT + 14);
-    for hole in 0..last {
+    let mut first = 1;
+    for _ in 0..last {
         let pages = if maker.random.chance(1, 40) { 2 } else { 1 };
-        maker.push(HOST_ALL, Intent::ReleaseAt { first: 1 + 2 * hole, pages });
+        maker.push(HOST_ALL, Intent::ReleaseAt { first, pages });
+        first += pages + 1;
     }
+    let held = u64::from(maker.length.saturating_sub(200));
     for _ in 0..maker.random.between(300, 900) {
-        hole_limit_step(maker);
+        hole_limit_step(maker, first..held.max(first + 1));
     }
 }
 
-fn hole_limit_step(maker: &mut Maker) {
+/// `far` are pages beyond the holes.
+fn hole_limit_step(maker: &mut Maker, far: Range<u64>) {
     match maker.random.below(12) {
         0..=2 => maker.add(Intent::Commit { pages: 1 }),
         3 => maker.add(Intent::Commit { pages: 2 }),
         4 => maker.push(HOST_ALL - HOST_COMMIT, Intent::Commit { pages: 1 }),
-        5..=8 => maker.add(Intent::Release { piece: Piece::Front(1) }),
+        // Mostly a page between two holes, which joins them.
+        5 => maker.add(Intent::Release { piece: Piece::Front(1) }),
+        6..=8 => {
+            let first = maker.random.between(far.start, far.end - 1);
+            maker.add(Intent::ReleaseAt { first, pages: 1 });
+        }
         9 => maker.add(Intent::Release { piece: Piece::Front(3) }),
         10 => maker.direct_step(),
         _ => maker.look(),
@@ -321,7 +332,7 @@ pub fn at_hole_limit(random: &mut Random, first: u64, steps: usize) -> Vec<Step>
     maker.push(HOST_ALL - HOST_COMMIT, Intent::Commit { pages: 1 });
     maker.push(HOST_ALL, Intent::Report);
     while maker.steps.len() < steps {
-        hole_limit_step(&mut maker);
+        hole_limit_step(&mut maker, first + 28..first + 58);
     }
     maker.steps
 }

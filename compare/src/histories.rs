@@ -8,6 +8,7 @@ use crate::call::Kind;
 use crate::generate::{self, SCENARIOS};
 use crate::history::{self, History};
 use crate::memory::{Fence, Fenced};
+use crate::oracle::rules;
 use crate::plan::Plan;
 use crate::port::{self, Room};
 use crate::progress::Progress;
@@ -76,7 +77,8 @@ pub fn histories(words: &[String]) -> Result<bool, String> {
         progress.show(tally.calls(), calls, "calls");
     }
     println!("{tally}");
-    println!("  {plain} calls compared with the original as it is, those before it first chooses another equal hole");
+    rules::counted().for_each(|(give, times)| println!("  {give:<42} {times:>12}"));
+    println!("  {plain} calls compared with the original as it is, those before two holes would touch or it chooses another equal one");
     println!("{:.1} s", progress.seconds());
     say_what_is_missing();
     match difference {

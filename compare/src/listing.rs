@@ -1,5 +1,5 @@
 //! The listing of short histories, against a reading of document 02 (A.10): every input, with lists that are long enough and too
-//! short, and numbers outside. The arena is document 01's, with page numbers, holes in a list and best fit.
+//! short, and numbers outside. The arena is the papers', with page numbers, holes in a list, best fit of the lowest page, and joins.
 
 use crate::port;
 
@@ -24,10 +24,10 @@ struct State {
 }
 
 impl State {
-    /// From the front of the first of the shortest holes that suffice, else from the frontier.
+    /// From the front of the lowest of the shortest holes that suffice, else from the frontier.
     fn draw(&mut self, size: u64, pages: u64) -> Option<Run> {
         let enough = (0..self.holes.len()).filter(|&i| self.holes[i].pages >= pages);
-        let Some(best) = enough.min_by_key(|&i| self.holes[i].pages) else {
+        let Some(best) = enough.min_by_key(|&i| (self.holes[i].pages, self.holes[i].first)) else {
             let first = self.frontier;
             self.frontier += if first + pages <= size { pages } else { 0 };
             return (self.frontier > first).then_some(Run { first, pages });
@@ -41,6 +41,18 @@ impl State {
         Some(Run { first, pages })
     }
 
+    /// With the hole that ends where it starts, and the one that starts where it ends.
+    fn give(&mut self, mut run: Run) {
+        self.holes.retain(|hole| {
+            let (before, after) = (hole.first + hole.pages == run.first, run.first + run.pages == hole.first);
+            if before || after {
+                run = Run { first: run.first.min(hole.first), pages: run.pages + hole.pages };
+            }
+            !before && !after
+        });
+        self.holes.push(run);
+    }
+
     fn commit(&self, size: u64, pages: u64) -> State {
         let mut next = self.clone();
         next.written.push(pages as u32);
@@ -52,7 +64,7 @@ impl State {
     fn release(&self, earlier: usize) -> Option<State> {
         let mut next = self.clone();
         let run = next.runs[earlier].take()?;
-        next.holes.push(run);
+        next.give(run);
         next.written.push(3 + 1 + earlier as u32);
         next.runs.push(None);
         Some(next)

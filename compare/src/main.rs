@@ -9,6 +9,7 @@ mod game;
 mod generate;
 mod histories;
 mod history;
+mod joining;
 mod ledger;
 mod listing;
 mod lookups;
@@ -56,6 +57,8 @@ const USAGE: &str = "usage: compare COMMAND [--NAME VALUE ..]
                plans of takes, made in orders of chance on arenas of just their total and of a page less
   places       [--pairs N] [--seed S]
                neighbouring calls on two classes the other way round, books compared word for word
+  joining      [--turns N] [--seed S]
+               a workload like a long fill, with holes that touch left apart and with joins
   traces       [--traces N] [--seed S]
                random traces on the port, against their calls one by one on the original and on the port
   speed        [--file F] [--seconds S]
@@ -79,6 +82,7 @@ fn main() -> ExitCode {
         Some("marks") => marks::run(rest),
         Some("fits") => fits::run(rest),
         Some("places") => places::run(rest),
+        Some("joining") => joining::run(rest),
         Some("traces") => traces::run(rest),
         Some("speed") => speed::time(rest),
         Some("count") => speed::count(rest),

@@ -104,8 +104,11 @@ fn runs_p11_and_p12() {
     let p11 = [&calls[..], &again].concat();
     assert_eq!(answers(&p11)[4..], [run_at(0, false), run_at(4, false), run_at(8, false)]);
     assert_eq!(answers_with(&p11, Rules::Plain)[4..], [run_at(8, false), run_at(0, false), run_at(4, false)]);
-    let calls = [commit(grants, 4), give(0, 4), commit(refuses, 2), commit(grants, 2), commit(grants, 2)];
-    assert_eq!(answers(&calls)[2..], [Answer::NoRun, run_at(0, false), run_at(2, false)]);
+    let calls = [commit(grants, 4), give(0, 4), commit(refuses, 2), commit(grants, 3), commit(grants, 1)];
+    assert_eq!(answers(&calls)[2..], [Answer::NoRun, run_at(0, false), run_at(3, false)]);
+    let two_holes = [Answer::NoRun, run_at(4, true), run_at(2, false)];
+    assert_eq!(answers_with(&calls, Rules::Plain)[2..], two_holes);
+    assert_eq!(answers_with(&calls, Rules::Apart)[2..], [Answer::NoRun, run_at(4, true), run_at(0, false)]);
 }
 
 /// The original as it is agrees up to its first choice of another equal hole, and no further is asked of it.
@@ -117,6 +120,17 @@ fn the_original_departs_at_another_equal_hole() {
     let _alone = ORIGINAL.lock().unwrap_or_else(|poisoned| poisoned.into_inner());
     let (compared, difference) = run::compare_plain(64, &due);
     assert!(compared == 4 && difference.is_none());
+}
+
+/// Nor past a give that touches a hole, whatever it answers.
+#[test]
+fn the_original_departs_where_two_holes_would_touch() {
+    let calls = [commit(HOST_ALL, 10), give(0, 2), give(4, 2), give(2, 1), commit(HOST_ALL, 20)];
+    let answers = answers(&calls);
+    let due: Vec<Due> = calls.into_iter().zip(answers).collect();
+    let _alone = ORIGINAL.lock().unwrap_or_else(|poisoned| poisoned.into_inner());
+    let (compared, difference) = run::compare_plain(64, &due);
+    assert!(compared == 3 && difference.is_none());
 }
 
 /// A history of every scenario, read back from its text.

@@ -458,7 +458,7 @@ impl<B: AsRef<[u32]> + AsMut<[u32]>> Heap<B> {
     }
 
     /// Gives pages back to the arena that the direct calls hold: a run that was committed, a part of it, or several that
-    /// stand side by side.
+    /// stand side by side. Runs that were given back side by side serve a longer one again.
     ///
     /// ```
     /// # use vigbuso::{Heap, Refusal};
@@ -466,6 +466,11 @@ impl<B: AsRef<[u32]> + AsMut<[u32]>> Heap<B> {
     /// let run = heap.commit(3)?.unwrap().run;
     /// heap.release_run(run)?;
     /// assert_eq!(heap.release_run(run), Err(Refusal::NotHeld));
+    /// // Two runs of one page each, back in any order, are one hole with what is behind them.
+    /// let [one, two] = [heap.commit(1)?.unwrap().run, heap.commit(1)?.unwrap().run];
+    /// heap.release_run(two)?;
+    /// heap.release_run(one)?;
+    /// assert_eq!(heap.commit(3)?.unwrap().run.first, 0);
     /// # Ok::<(), Refusal>(())
     /// ```
     ///

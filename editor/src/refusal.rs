@@ -34,7 +34,7 @@ macro_rules! refusals {
             /// All of them, in the order of the table.
             const ALL: &'static [Refusal] = &[$(Refusal::$name),*];
 
-            /// Document 01's meaning of the number.
+            /// The papers' meaning of the number.
             ///
             /// ```
             /// assert_eq!(vigbuso::Refusal::HostWord.meaning(), "the host word exceeds 15");
@@ -86,7 +86,7 @@ impl Refusal {
         Refusal::ALL.iter().copied().find(|refusal| refusal.number() == number)
     }
 
-    /// Document 01's number.
+    /// The papers' number.
     ///
     /// ```
     /// assert_eq!(vigbuso::Refusal::NotHeld.number(), 12);

@@ -93,7 +93,8 @@ fn p12_a_hole_that_is_not_granted() {
     give(&mut heap, 0, 4);
     let without_commit = Host::from_bits(13).expect("four bits");
     assert_eq!(first_page(&mut heap, without_commit, 2), None);
-    // The holes are (2, 2) and (0, 2) now; nothing is held.
+    // There is the one hole (0, 4) again; nothing is held.
     assert_eq!(heap.report().expect("a reached book").idle, 64);
-    assert_eq!([(); 2].map(|()| first_page(&mut heap, Host::ALL, 2)), [Some(0), Some(2)]);
+    assert_eq!(first_page(&mut heap, Host::ALL, 4), Some(0));
+    assert_eq!(heap.report().expect("a reached book").reuses, 1);
 }

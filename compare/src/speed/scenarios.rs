@@ -16,6 +16,8 @@ pub enum Scenario {
     Sizes { family: Family },
     /// Commits of 1 page and gives, with so many holes of 1 page; none: from the frontier.
     Equal { holes: u32 },
+    /// Gives of a page between two holes, with so many holes.
+    Between { holes: u32 },
     /// Commits of 2 pages, with so many holes of 1 page.
     NoFit { holes: u32 },
     /// Commits of 2 pages, with so many holes, of which only the last is longer than 1 page.
@@ -83,6 +85,7 @@ pub fn all() -> Vec<Scenario> {
     let small = |class| Class(Family::Small, class);
     let medium = |class| Class(Family::Medium, class);
     let equal = HOLES.map(|holes| Scenario::Equal { holes });
+    let between = HOLES[1..].iter().map(|&holes| Scenario::Between { holes });
     let no_fit = HOLES[1..].iter().map(|&holes| Scenario::NoFit { holes });
     let one_fits = [10, 4_000].map(|holes| Scenario::OneFits { holes });
     let batches = [small(0), small(3), small(10), medium(0)].map(|class| Scenario::Batches { class });
@@ -97,7 +100,7 @@ pub fn all() -> Vec<Scenario> {
     let in_order = [(1, 8), (8, 8), (8, 64), (32, 64), (128, 8), (512, 8), (8, 314)].map(chunks(Order::Taken));
     let mixed = [(8, 8), (32, 64), (128, 8), (1_000, 4)].map(chunks(Order::Mixed));
     let sizes = [Family::Small, Family::Medium].map(|family| Scenario::Sizes { family });
-    let arena_calls = equal.into_iter().chain(no_fit).chain(one_fits).chain(report);
+    let arena_calls = equal.into_iter().chain(between).chain(no_fit).chain(one_fits).chain(report);
     let list_calls = batches.into_iter().chain(single).chain(ordered).chain(whole).chain(listed).chain(arena);
     arena_calls.chain(list_calls).chain(in_order).chain(mixed).chain(sizes).chain([Scenario::Fill]).collect()
 }
@@ -120,6 +123,7 @@ impl Scenario {
             Scenario::Sizes { family } => plain(&[format!("class of a size, {}", family_name(family))]),
             Scenario::Equal { holes: 0 } => with(0, &["commit, 1 page, from the frontier", "give, 1 page"]),
             Scenario::Equal { holes } => with(holes, &["commit, 1 page", "give, 1 page"]),
+            Scenario::Between { holes } => with(holes, &["give, 1 page, between two holes"]),
             Scenario::NoFit { holes } => with(holes, &["commit, 2 pages, fits no hole"]),
             Scenario::OneFits { holes } => with(holes, &["commit, 2 pages, one hole fits"]),
             Scenario::Report { classes: 0 } => plain(&["report".into()]),
@@ -160,6 +164,7 @@ impl Scenario {
             Scenario::Sizes { family } => sizes(side, meter, family),
             Scenario::Equal { holes: 0 } => frontier(side, meter),
             Scenario::Equal { holes } => equal(side, meter, holes),
+            Scenario::Between { holes } => between(side, meter, holes),
             Scenario::NoFit { holes } => no_fit(side, meter, holes),
             Scenario::OneFits { holes } => one_fits(side, meter, holes),
             Scenario::Report { classes } => report(side, meter, classes),
@@ -242,15 +247,27 @@ fn measure_gives<S: Side>(side: &mut S, meter: &Meter, firsts: &[u32; BATCH]) ->
     meter.measure(BATCH, || firsts.iter().for_each(|&first| side.give(first, 1))).1
 }
 
-/// No hole is stored when the commits begin; the gives store up to a batch of them.
+/// No hole is stored when the commits begin; the gives, of every other page, store up to a batch of them.
 fn frontier<S: Side>(side: &mut S, meter: &Meter) -> Round {
     store_holes(side, 1);
     let mut answers = vec![side.commit(1)];
     answers.extend((0..BATCH).map(|_| side.commit(1)));
     let (firsts, commit) = measure_commits(side, meter, 1);
-    let give = measure_gives(side, meter, &firsts);
     answers.extend(firsts);
+    let apart = [(); BATCH].map(|()| side.commit(2));
+    let give = measure_gives(side, meter, &apart);
+    answers.extend(apart);
     Round { costs: vec![commit, give], answers }
+}
+
+/// The named number of holes is there when the gives begin; each makes one of two.
+fn between<S: Side>(side: &mut S, meter: &Meter, holes: u32) -> Round {
+    const GIVES: usize = BATCH / 2;
+    let runs = [(); GIVES].map(|()| [side.commit(1), side.commit(3)][1]);
+    store_holes(side, holes - 2 * GIVES as u32);
+    runs.iter().for_each(|&first| [first, first + 2].into_iter().for_each(|page| side.give(page, 1)));
+    let ((), cost) = meter.measure(GIVES, || runs.iter().for_each(|&first| side.give(first + 1, 1)));
+    Round { costs: vec![cost], answers: runs.to_vec() }
 }
 
 /// A batch begins with half of it more holes than are named, and ends with as many less.

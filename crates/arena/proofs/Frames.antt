@@ -1,4 +1,4 @@
--- What the arena's stores and the owners' writes leave as it was.
+-- What the arena's stores and the owners' writes leave as it was, and that holes that were stored are loaded again.
 use Prim.Native.Nat.{ℕ, zero, suc, _+_, _≤_, _<_}
 use native.Mathlib.Omega.{arith}
 use mathlib.Core.Bool.{Bool, true, false, _&&_}
@@ -6,16 +6,18 @@ use mathlib.Core.List.{List, [], _∷_}
 use mathlib.Core.Path.{_≡_, refl, ap, _∙_}
 use lib.Dec.{eqb, ltb, leb}
 use lib.ListN.{length}
-use borrow.Author.Tests.{lt-ltb, ne-eqb}
+use borrow.Author.Tests.{lt-ltb, ne-eqb, leb-true}
+use Rattle.facts.proofs.Bools.{by-cases, and-left, and-right, and-no}
 use Rattle.words.specs.Limits.{holeSlots}
-use Rattle.fields.specs.Field.{Field, arena, mark, class, hole, page, out, slot, ArenaField, state, frontier, holes, holePages, commits, commitsHigh, reuses, reusesHigh, abandoned, abandonedHigh, start, pages, owner, arenaOff, pageOff, put, words}
-use Rattle.fields.proofs.Laws.{put-put-same, put-comm, length-put}
+use Rattle.fields.specs.Field.{Field, arena, mark, class, hole, page, out, slot, ArenaField, state, frontier, holes, holePages, commits, commitsHigh, reuses, reusesHigh, abandoned, abandonedHigh, start, pages, owner, arenaOff, pageOff, put, words, HoleField, held, holeOff, get}
+use Rattle.fields.proofs.Laws.{put-put-same, put-comm, length-put, get-put-same, get-put-other}
 use Rattle.fields.proofs.Changes.{Changes, changes-none, changes-put}
 use Rattle.model.specs.declared.Hole.{Hole}
 use Rattle.model.specs.Arena.{Arena}
-use Rattle.arena.specs.Load.{loadHoles}
-use Rattle.arena.specs.Store.{storeHoles, storeCounts, storeTop, storeArena}
+use Rattle.arena.specs.Load.{loadHole, loadHoles}
+use Rattle.arena.specs.Store.{storeHole, storeHoles, storeCounts, storeTop, storeArena}
 use Rattle.arena.specs.Owners.{own}
+use Rattle.arena.specs.Fair.{recordFair, holesEndFair, giveFair}
 
 -- as many holes are loaded as are asked for
 pub loaded-length : (b : List ℕ) (i k : ℕ) → length (loadHoles b i k) ≡ k
@@ -53,6 +55,58 @@ module _ (b : List ℕ) where
   pub arena-changes : (a : Arena) → length (a .store .holes) ≤ holeSlots → Changes isStored b (storeArena b a)
   unfolding storeArena
   arena-changes a l = record-changes _ _ _ _ _ _ _ _ (holes-change 0 (a .store .holes) (omega arith))
+
+-- ---- the holes that were stored, or that no write came to
+pub holes-same : (b b′ : List ℕ) (i k : ℕ) → i + k ≤ holeSlots → ((f : HoleField) (j : ℕ) → ltb j holeSlots ≡ true → i ≤ j → get b′ (hole f j) ≡ get b (hole f j))
+    → loadHoles b′ i k ≡ loadHoles b i k
+unfolding loadHoles
+holes-same b b′ i zero l h = refl
+holes-same b b′ i (suc k) l h =
+    let o : ltb i holeSlots ≡ true = lt-ltb i holeSlots (omega arith) in
+    rw (h start i o (omega arith), h pages i o (omega arith), holes-same b b′ (suc i) k (omega arith) (λ f j u v. h f j u (omega arith)))
+
+module _ (n : ℕ) where
+  pub hole-there : (b : List ℕ) (i : ℕ) (h : Hole) → leb (words n) (length b) ≡ true → ltb i holeSlots ≡ true → loadHole (storeHole b i h) i ≡ h
+  hole-there b i h hb o =
+      let hb′ : leb (words n) (length (put b (hole start i) (h .first))) ≡ true = rw length-put hb in
+      let e : get (storeHole b i h) (hole start i) ≡ h .first
+      = get-put-other (put b (hole start i) (h .first)) (hole pages i) (hole start i) (h .pages) o o refl ∙ get-put-same n b (hole start i) (h .first) hb o refl in
+      let f : get (storeHole b i h) (hole pages i) ≡ h .pages = get-put-same n (put b (hole start i) (h .first)) (hole pages i) (h .pages) hb′ o refl in
+      rw (e, f)
+
+  pub hole-other : (b : List ℕ) (i j : ℕ) (f : HoleField) (h : Hole) → ltb i holeSlots ≡ true → ltb j holeSlots ≡ true → eqb i j ≡ false
+      → get (storeHole b i h) (hole f j) ≡ get b (hole f j)
+  hole-other b i j f h o v d =
+      get-put-other (put b (hole start i) (h .first)) (hole pages i) (hole f j) (h .pages) o v (rw (d, and-no (eqb (holeOff pages) (holeOff f))))
+      ∙ get-put-other b (hole start i) (hole f j) (h .first) o v (rw (d, and-no (eqb (holeOff start) (holeOff f))))
+
+  pub holes-there : (b : List ℕ) (i : ℕ) (hs : List Hole) → leb (words n) (length b) ≡ true → i + length hs ≤ holeSlots → loadHoles (storeHoles b i hs) i (length hs) ≡ hs
+  unfolding loadHoles storeHoles
+  holes-there b i [] hb l = refl
+  holes-there b i (h ∷ hs) hb l =
+      let c = storeHoles b (suc i) hs in
+      let o : ltb i holeSlots ≡ true = lt-ltb i holeSlots (omega arith) in
+      let hc : leb (words n) (length c) ≡ true = rw (holes-change b (suc i) hs (omega arith) .long) hb in
+      rw (hole-there c i h hc o)
+      (ap (λ l. h ∷ l) (holes-same c (storeHole c i h) (suc i) (length hs) (omega arith) (λ f j v u. hole-other c i j f h o v (ne-eqb i j (λ e. omega arith)))
+      ∙ holes-there b (suc i) hs hb (omega arith)))
+
+-- number 13's test of a give, on a book with the same words
+module _ (n : ℕ) (b b′ : List ℕ) (k : (f : ArenaField) → get b′ (arena f) ≡ get b (arena f)) where
+  record-kept : recordFair n b′ ≡ recordFair n b
+  unfolding recordFair
+  record-kept = rw (k state, k frontier, k holes, k holePages, k held)
+
+  few-holes : recordFair n b ≡ true → get b (arena holes) ≤ holeSlots
+  unfolding recordFair
+  few-holes e = leb-true _ holeSlots (and-left _ _ (and-right (leb (get b (arena frontier)) n) _ (and-right (leb (get b (arena state)) 2) _ e)))
+
+  pub give-kept : ((f : HoleField) (j : ℕ) → ltb j holeSlots ≡ true → get b′ (hole f j) ≡ get b (hole f j)) → (m : ℕ) → giveFair n b′ m ≡ giveFair n b m
+  unfolding giveFair holesEndFair
+  give-kept h m =
+      by-cases (recordFair n b)
+      (λ t. rw (record-kept, t, k held, k frontier, k holes, holes-same b b′ 0 (get b (arena holes)) (let z = few-holes t in omega arith) (λ f j o l. h f j o)))
+      (λ t. rw (record-kept, t))
 
 -- ---- owners
 abbrev pub isOwner : Field → Bool

@@ -10,21 +10,51 @@ use Rattle.facts.specs.Lists.{every, below}
 use Rattle.fields.specs.Field.{arena, class, page, owner, frontier, held, emptyCount, coldCount, get, put}
 use Rattle.model.specs.declared.Figures.{Figures}
 use Rattle.model.specs.Heap.{badRun, badGrowth, direct, parkedPages, figuresWith}
+use Rattle.words.specs.Host.{reservationGranted, commitGranted}
 use Rattle.model.specs.Arena as Model
-use Rattle.model.specs.Arena.{Arena, Given, Grown}
+use Rattle.model.specs.Arena.{Arena, Status, unasked, ready, disabled, Given, Grown}
 use Rattle.arena.specs.Load.{loadArena}
-use Rattle.arena.specs.Store.{storeArena}
-use Rattle.arena.specs.Fair.{recordFair, commitFair, giveFair, reportFair}
+use Rattle.arena.specs.Store.{storeHoles, storeArena}
+use Rattle.arena.specs.Fair.{commitFair, giveFair, growFair, reportFair}
 use Rattle.arena.specs.Owners.{ownerCode, own, ownFresh, ownRun, heldWith}
 
 -- ---- steps, for the direct calls and for the classes above
--- the book after the arena has become a, with the pages below its frontier nobody's
-unfoldable pub advance : List ℕ → Arena → List ℕ
-advance b a = ownFresh (storeArena b a) (get b (arena frontier)) (a .frontier)
+-- The words of the arena after m pages were drawn, or none were, which left it as a. Where the commit is not granted they are given, so
+-- these are two steps on the holes, and the holes are stored after each: a give that removes a hole leaves the last slot as the draw did.
+unfoldable pub settledArena : ℕ → ℕ → List ℕ → Arena → Option ℕ → Bool → List ℕ
+settledArena h m b a none f = storeArena b a
+settledArena h m b a (some q) f = cond (commitGranted h) (storeArena b (Model.counted f a)) (storeArena (storeHoles b 0 (a .store .holes)) (Model.give m q a))
+
+-- after a commit: the model's `commitReady`, `commitAs` and `commit`
+unfoldable pub readyArena : ℕ → ℕ → ℕ → List ℕ → Arena → List ℕ
+readyArena n h m b a = let d = Model.draw n m a in settledArena h m b (d .arena) (d .run) (d .fresh)
+
+unfoldable pub arenaAs : ℕ → ℕ → ℕ → List ℕ → Arena → Status → List ℕ
+arenaAs n h m b a unasked = cond (reservationGranted h) (readyArena n h m b (Model.withStatus ready a)) (storeArena b (Model.withStatus disabled a))
+arenaAs n h m b a ready = readyArena n h m b a
+arenaAs n h m b a disabled = storeArena b a
+
+unfoldable pub committedArena : ℕ → ℕ → ℕ → List ℕ → Arena → List ℕ
+committedArena n h m b a = arenaAs n h m b a (a .status)
+
+-- after a growth: the model's `grow`
+unfoldable pub grownArena : ℕ → ℕ → ℕ → ℕ → List ℕ → Arena → List ℕ
+grownArena n h e m b a = cond (Model.canGrow n e m a) (settledArena h m b (Model.withFrontier (e + m) a) (some e) true) (storeArena b a)
+
+-- the book b after the arena's words have become x and its frontier f, with the pages below that nobody's
+unfoldable pub advance : List ℕ → List ℕ → ℕ → List ℕ
+advance b x f = ownFresh x (get b (arena frontier)) f
+
+-- the run that is answered, if one is, for an owner w
+unfoldable pub passedTo : List ℕ → List ℕ → ℕ → Option ℕ → ℕ → ℕ → List ℕ
+passedTo b x f o m w = put (ownRun (advance b x f) o m w) (arena held) (heldWith (get b (arena held)) o m)
 
 -- a commit of m pages for an owner w, on words that are in their ranges
-unfoldable pub committed : List ℕ → Given → ℕ → ℕ → List ℕ
-committed b g m w = put (ownRun (advance b (g .arena)) (g .run) m w) (arena held) (heldWith (get b (arena held)) (g .run) m)
+unfoldable pub committed : List ℕ → List ℕ → Given → ℕ → ℕ → List ℕ
+committed b x g m w = passedTo b x (g .arena .frontier) (g .run) m w
+
+abbrev pub commitBook : ℕ → List ℕ → ℕ → ℕ → Arena → ℕ → List ℕ
+commitBook n b h m a w = committed b (committedArena n h m b a) (Model.commit n h m a) m w
 
 pub record Committed : Type 0 where
   pub code : ℕ  -- 0, or the refusal's number
@@ -38,7 +68,7 @@ commitRefused b k = record { code = k; book = b; run = none; fresh = false }
 unfoldable pub commitFor : ℕ → List ℕ → ℕ → ℕ → ℕ → Committed
 commitFor n b h m w =
     let g = Model.commit n h m (loadArena b) in
-    cond (commitFair n b) (record { code = 0; book = committed b g m w; run = g .run; fresh = g .fresh }) (commitRefused b 13)
+    cond (commitFair n b) (record { code = 0; book = commitBook n b h m (loadArena b) w; run = g .run; fresh = g .fresh }) (commitRefused b 13)
 
 -- m pages from q on go to the holes, or are abandoned, and are nobody's
 unfoldable pub given : List ℕ → ℕ → ℕ → List ℕ
@@ -68,16 +98,19 @@ abbrev pub grownBy : Bool → ℕ → Option ℕ
 grownBy true e = some e
 grownBy false e = none
 
-unfoldable pub grownBook : List ℕ → Grown → ℕ → ℕ → List ℕ
-grownBook b g e m = put (ownRun (advance b (g .arena)) (grownBy (g .grew) e) m (ownerCode direct)) (arena held) (heldWith (get b (arena held)) (grownBy (g .grew) e) m)
+unfoldable pub grownBook : List ℕ → List ℕ → Grown → ℕ → ℕ → List ℕ
+grownBook b x g e m = passedTo b x (g .arena .frontier) (grownBy (g .grew) e) m (ownerCode direct)
+
+abbrev pub growBook : ℕ → List ℕ → ℕ → ℕ → ℕ → Arena → List ℕ
+growBook n b h e m a = grownBook b (grownArena n h e m b a) (Model.grow n h e m a) e m
 
 unfoldable pub growCall : ℕ → List ℕ → ℕ → ℕ → ℕ → ℕ → Done
 growCall n b h q old new =
     let g = Model.grow n h (q + old) (new - old) (loadArena b) in
     cond (badGrowth old new) (doneRefused b 6)
     (cond (not (heldDirect n b q old)) (doneRefused b 12)
-    (cond (not (recordFair n b)) (doneRefused b 13)
-    (record { code = 0; book = grownBook b g (q + old) (new - old); yes = g .grew })))
+    (cond (not (growFair n b h (q + old) (new - old))) (doneRefused b 13)
+    (record { code = 0; book = growBook n b h (q + old) (new - old) (loadArena b); yes = g .grew })))
 
 unfoldable pub releaseCall : ℕ → List ℕ → ℕ → ℕ → Done
 releaseCall n b q m =

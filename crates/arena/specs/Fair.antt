@@ -2,15 +2,17 @@
 -- length.
 use Prim.Native.Nat.{ℕ, _+_}
 use mathlib.Core.List.{List}
-use mathlib.Core.Bool.{Bool, _&&_}
+use mathlib.Core.Bool.{Bool, true, cond, not, _&&_}
 use lib.Dec.{leb}
 use Rattle.facts.specs.Lists.{every, below}
 use Rattle.fields.specs.Field.{arena, class, state, frontier, holes, holePages, held, emptyCount, coldCount, get}
 use Rattle.fields.specs.Ranges.{maxParked}
 use Rattle.classes.specs.Shape.{classCount}
 use Rattle.model.specs.declared.Hole.{Hole}
+use Rattle.words.specs.Host.{commitGranted}
 use Rattle.model.specs.HoleStore.{holeSlots, holePagesMax}
-use Rattle.arena.specs.Load.{loadHoles}
+use Rattle.model.specs.Arena.{canGrow}
+use Rattle.arena.specs.Load.{loadHoles, loadArena}
 
 -- the record
 unfoldable pub recordFair : ℕ → List ℕ → Bool
@@ -21,19 +23,33 @@ recordFair n b =
     && (leb (get b (arena holePages)) holePagesMax
     && leb (get b (arena held)) n)))
 
--- a hole: pages 1 to HOLE_PAGES, ending at or below FRONTIER
+-- a hole that a give reads: 1 page or more, ending at or below FRONTIER. Every give keeps this, so gives in turn are tested once.
+abbrev pub holeEndsFair : ℕ → Hole → Bool
+holeEndsFair f h = leb 1 (h .pages) && leb (h .first + h .pages) f
+
+unfoldable pub holesEndFair : List ℕ → Bool
+holesEndFair b = every (holeEndsFair (get b (arena frontier))) (loadHoles b 0 (get b (arena holes)))
+
+-- one that a commit reads: at most HOLE_PAGES pages, too
 abbrev pub holeFair : ℕ → ℕ → Hole → Bool
-holeFair total f h = leb 1 (h .pages) && (leb (h .pages) total && leb (h .first + h .pages) f)
+holeFair total f h = leb (h .pages) total && holeEndsFair f h
 
 unfoldable pub holesFair : List ℕ → Bool
 holesFair b = every (holeFair (get b (arena holePages)) (get b (arena frontier))) (loadHoles b 0 (get b (arena holes)))
 
--- a commit reads both; a give of m pages the record alone
+-- a commit, and a give of m pages
 unfoldable pub commitFair : ℕ → List ℕ → Bool
 commitFair n b = recordFair n b && holesFair b
 
 unfoldable pub giveFair : ℕ → List ℕ → ℕ → Bool
-giveFair n b m = recordFair n b && leb m (get b (arena held))
+giveFair n b m = recordFair n b && (leb m (get b (arena held)) && holesEndFair b)
+
+-- a growth by m pages of the run that ends at page e reads the holes where it gives those pages: it could grow, and is not granted
+unfoldable pub growGives : ℕ → List ℕ → ℕ → ℕ → ℕ → Bool
+growGives n b h e m = not (commitGranted h) && canGrow n e m (loadArena b)
+
+unfoldable pub growFair : ℕ → List ℕ → ℕ → ℕ → ℕ → Bool
+growFair n b h e m = recordFair n b && cond (growGives n b h e m) (holesEndFair b) true
 
 -- a report reads the record and how many runs each class has parked
 abbrev pub countsFair : List ℕ → ℕ → Bool

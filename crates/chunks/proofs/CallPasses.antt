@@ -14,11 +14,12 @@ use Rattle.facts.proofs.Bools.{by-cases, and-left, and-right}
 use Rattle.facts.proofs.Lists.{every-same}
 use Rattle.words.specs.Word.{countOf, pageOf}
 use Rattle.classes.specs.declared.Shape.{Shape}
-use Rattle.fields.specs.Field.{Field, arena, class, page, slot, out, region, off, frontier, state, holes, holePages, held, partial, empty, emptyCount, cold, coldCount, next, prev, free, carved, listed, get, put, words}
+use Rattle.fields.specs.Field.{Field, arena, class, page, slot, out, region, off, frontier, partial, empty, emptyCount, cold, coldCount, next, prev, free, carved, listed, get, put, words, hole, ok}
 use Rattle.fields.proofs.Changes.{Changes, changes-none, changes-put}
-use Rattle.arena.specs.Fair.{recordFair, giveFair}
+use Rattle.arena.specs.Fair.{giveFair}
 use Rattle.pages.specs.Stack.{indexOf, pageAt}
 use Rattle.calls.specs.Out.{inRunOf, outAt}
+use Rattle.arena.proofs.Frames.{give-kept}
 use Rattle.calls.specs.Release.{pageFair, rowFair}
 use Rattle.calls.specs.Chunks.{chunkFits, chunksMatch, returnsAll, runsGiven, pagesGiven, chunksFair, giveRuns}
 use Rattle.pages.specs.Fair.{linksFair}
@@ -158,18 +159,17 @@ module _ (n : ℕ) (b : List ℕ) (c : ℕ) (sh : Shape) (ws gs fs : List ℕ) (
       moved : Changes ofClass (pushAll b sh ws) (allPlaced b c sh h ws gs .book)
       moved = all-changes c hc sh (a .call .class .sound) h (pushAll b sh ws) gs
 
+      same : (f : Field) → ok f ≡ true → ofClass f ≡ false → stacked f ≡ false → get (allPlaced b c sh h ws gs .book) f ≡ get b f
+      same f o u v = moved .kept f o u ∙ stack .kept f o v
+
       given-kept : (x : ℕ) → giveFair n (allPlaced b c sh h ws gs .book) x ≡ giveFair n b x
-      unfolding giveFair recordFair
-      given-kept x =
-          let k = moved .kept in
-          let j = stack .kept in
-          rw (
-            k (arena frontier) refl refl ∙ j (arena frontier) refl refl,
-            k (arena state) refl refl ∙ j (arena state) refl refl,
-            k (arena holes) refl refl ∙ j (arena holes) refl refl,
-            k (arena holePages) refl refl ∙ j (arena holePages) refl refl,
-            k (arena held) refl refl ∙ j (arena held) refl refl,
-          )
+      given-kept x = give-kept n b (allPlaced b c sh h ws gs .book) (λ f. same (arena f) refl refl refl) (λ f j o. same (hole f j) o refl refl) x
+
+      all-low : every (λ g. ltb (pageOf g) (get (allPlaced b c sh h ws gs .book) (arena frontier))) gs ≡ true
+      all-low =
+          every-both (chunkFits b ws) (chunkFits b ws) (λ g. ltb (pageOf g) (get (allPlaced b c sh h ws gs .book) (arena frontier)))
+          (λ g i j. rw (same (arena frontier) refl refl refl) (lt-ltb (pageOf g) (get b (arena frontier)) (fits-lands n b c sh (a .call .single) ws gs (a .runs) m g i .low)))
+          gs (match-fits n b c sh (a .call .single) ws gs (a .runs) m) (match-fits n b c sh (a .call .single) ws gs (a .runs) m)
 
       runs-are : length (givesIn gs (allPlaced b c sh h ws gs .fates ++ drop (length gs) fs)) ≡ runsGiven b sh gs (get b (class emptyCount c)) (get b (class coldCount c))
       runs-are =
@@ -186,6 +186,7 @@ module _ (n : ℕ) (b : List ℕ) (c : ℕ) (sh : Shape) (ws gs fs : List ℕ) (
         long = omega (arith, moved .long, stack .long, a .call .class .long);
         single = a .call .single;
         below = chunks-below n b c sh (a .call .single) ws gs (a .runs) m;
+        low = all-low;
         fates = omega (arith, length-append (allPlaced b c sh h ws gs .fates) (drop (length gs) fs), fates-length c hc sh (a .call .class .sound) h (pushAll b sh ws) gs);
         fair = rw (runs-are, given-kept (pagesGiven b c sh gs)) fair-gives;
       }

@@ -27,9 +27,9 @@ use Rattle.calls.specs.Chunks.{chunksMatch, chunksFair, settleChunks, ChunksRel
 use Rattle.release.specs.MarkAsks.{FaultAsks, Faulted}
 use Rattle.chunks.specs.Pass.{cleared}
 use Rattle.chunks.specs.CallAsks.{allPlaced, settledTo, passes, CallAsks, ListedAsks, PassAsks, ChunksAnswered}
-use Rattle.chunks.proofs.PlaceSteps.{class-limits}
 use Rattle.chunks.proofs.Gather.{gathered}
 use Rattle.chunks.proofs.CallTests.{fair-pages}
+use Rattle.chunks.proofs.PlaceSteps.{class-limits}
 
 -- from number 11 on, as the definition has it
 abbrev from11 : ℕ → List ℕ → ℕ → Shape → ℕ → List ℕ → List ℕ → List ℕ → ChunksReleased

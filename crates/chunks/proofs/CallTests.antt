@@ -16,9 +16,10 @@ use Rattle.facts.proofs.Bools.{by-cases, and-left, and-right}
 use Rattle.facts.proofs.Lists.{every-same}
 use Rattle.words.specs.Word.{countOf, pageOf}
 use Rattle.classes.specs.declared.Shape.{Shape}
-use Rattle.fields.specs.Field.{arena, class, page, frontier, state, holes, holePages, held, partial, empty, emptyCount, cold, coldCount, next, prev, free, carved, listed, virgin, get, words}
+use Rattle.fields.specs.Field.{arena, class, hole, page, frontier, partial, empty, emptyCount, cold, coldCount, next, prev, free, carved, listed, virgin, get, words}
 use Rattle.fields.proofs.Changes.{Changes}
-use Rattle.arena.specs.Fair.{recordFair, giveFair}
+use Rattle.arena.specs.Fair.{giveFair}
+use Rattle.arena.proofs.Frames.{give-kept}
 use Rattle.pages.specs.Runs.{whole}
 use Rattle.pages.specs.Stack.{pageAt}
 use Rattle.pages.specs.Fair.{headerFair}
@@ -68,11 +69,8 @@ module _ (b b′ : List ℕ) (h : Changes isBit b b′) where
   runs-kept sh [] e k = refl
   runs-kept sh (g ∷ gs) e k = rw (returns-kept g, runs-kept sh gs e k, runs-kept sh gs _ _)
 
-  give-kept : (n m : ℕ) → giveFair n b′ m ≡ giveFair n b m
-  unfolding giveFair recordFair
-  give-kept n m =
-      let k = h .kept in
-      rw (k (arena frontier) refl refl, k (arena state) refl refl, k (arena holes) refl refl, k (arena holePages) refl refl, k (arena held) refl refl)
+  fair-kept : (n m : ℕ) → giveFair n b′ m ≡ giveFair n b m
+  fair-kept n m = give-kept n b b′ (λ f. h .kept (arena f) refl refl) (λ f j o. h .kept (hole f j) o refl) m
 
   module _ (c : ℕ) (hc : ltb c 76 ≡ true) where
     row-kept : rowFair b′ c ≡ rowFair b c
@@ -94,7 +92,7 @@ module _ (b b′ : List ℕ) (h : Changes isBit b b′) where
     pub chunks-fair-kept : (n : ℕ) (sh : Shape) (gs : List ℕ) → chunksFair n b′ c sh gs ≡ chunksFair n b c sh gs
     unfolding chunksFair
     chunks-fair-kept n sh gs =
-        rw (h .kept (arena frontier) refl refl, every-same (λ g. pageFair b′ sh (countOf g) (pageOf g)) (λ g. pageFair b sh (countOf g) (pageOf g)) gs (λ g. page-kept sh (countOf g) (pageOf g)), row-kept, given-kept sh gs, give-kept n _)
+        rw (h .kept (arena frontier) refl refl, every-same (λ g. pageFair b′ sh (countOf g) (pageOf g)) (λ g. pageFair b sh (countOf g) (pageOf g)) gs (λ g. page-kept sh (countOf g) (pageOf g)), row-kept, given-kept sh gs, fair-kept n _)
 
 -- ---- the pages' part of number 13
 pub fair-pages : (n : ℕ) (b : List ℕ) (c : ℕ) (sh : Shape) (gs : List ℕ) → chunksFair n b c sh gs ≡ true → every (λ g. pageFair b sh (countOf g) (pageOf g)) gs ≡ true

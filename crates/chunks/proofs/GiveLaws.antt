@@ -1,5 +1,5 @@
 -- Runs given one after another.
---     given-length     the book's length stays
+--     given-length, given-frontier     the book's length and the frontier stay
 --     given-fair       a give of m pages leaves a book that is fair for the rest
 --     gives-append     runs of two lists
 use Prim.Native.Nat.{ℕ, suc, _+_, _-_, _*_, _≤_, _<_}
@@ -18,75 +18,80 @@ use Rattle.facts.proofs.Lists.{drop-past}
 use Rattle.facts.proofs.Bools.{by-cases, and-left, and-right}
 use Rattle.words.specs.Word.{pageOf}
 use Rattle.classes.specs.declared.Shape.{Shape}
-use Rattle.fields.specs.Field.{ArenaField, arena, state, frontier, holes, holePages, held, words, get, put, same}
+use Rattle.fields.specs.Field.{Field, arena, hole, state, frontier, holes, holePages, held, words, get, same, ok}
 use Rattle.fields.proofs.Laws.{get-put-same, get-put-other, length-put}
 use Rattle.fields.proofs.Changes.{Changes, changes-none}
-use Rattle.model.specs.HoleStore as Model
-use Rattle.holes.specs.declared.Arena.{Arena}
-use Rattle.holes.specs.Record.{recordOf, storeRecord}
-use Rattle.arena.specs.Store.{storeTop, storeCounts}
-use Rattle.arena.specs.Fair.{recordFair, giveFair}
+use Rattle.facts.specs.Lists.{every}
+use Rattle.model.specs.HoleStore.{endsAt, startsAt, insert, accepts}
+use Rattle.model.specs.Arena.{Arena, give}
+use Rattle.model.proofs.Placing.{finds}
+use Rattle.model.proofs.ArenaLaws.{give-frontier}
+use Rattle.model.proofs.ArenaTidy.{few-give}
+use Rattle.arena.specs.Load.{statusCode, loadHoles, loadStore, loadArena}
+use Rattle.arena.specs.Store.{storeHoles, storeTop, storeCounts, storeArena}
+use Rattle.arena.specs.Fair.{recordFair, holeEndsFair, holesEndFair, giveFair}
 use Rattle.arena.specs.Owners.{own}
 use Rattle.arena.specs.Calls.{given}
-use Rattle.holes.specs.Act.{accepting, giveWords, giveRecord, givenWith, giveActs}
-use Rattle.holes.proofs.StoreLaws.{hole-length}
-use Rattle.arena.proofs.Frames.{isStored, isOwner, record-changes, own-changes}
-use Rattle.holes.proofs.Acts.{FairRecord, fair-record, give-acts}
+use Rattle.arena.proofs.Frames.{loaded-length, isOwner, holes-same, holes-there, arena-changes, own-changes}
+use Rattle.holes.proofs.StoreLaws.{holes-length}
+use Rattle.holes.proofs.EndsFair.{place-fair}
+use Rattle.holes.proofs.Acts.{FairRecord, fair-record, status-code}
 use Rattle.runs.specs.Asks.{GiveIn}
 use Rattle.calls.specs.Chunks.{givesOf, giveRuns}
 use Rattle.chunks.specs.Pass.{givesIn}
 use Rattle.chunks.specs.GiveAsks.{givesFair, GiveChunkAsks, GiveChunksAsks}
 
--- ---- the arena's record, stored
-module _ (n : ℕ) (x : List ℕ) (hx : leb (words n) (length x) ≡ true) (r : Arena) where
-  stored-state : get (storeRecord x r) (arena state) ≡ r .state
-  unfolding storeTop storeCounts
+-- ---- the arena's words, stored
+module _ (n : ℕ) (b : List ℕ) (hb : leb (words n) (length b) ≡ true) (a : Arena) (few : length (a .store .holes) ≤ 4096) where
+  x : List ℕ
+  x = storeHoles b 0 (a .store .holes)
+
+  hx : leb (words n) (length x) ≡ true
+  unfolding x
+  hx = rw (holes-length b 0 (a .store .holes)) hb
+
+  stored-state : get (storeArena b a) (arena state) ≡ statusCode (a .status)
+  unfolding storeArena storeTop storeCounts x
   stored-state = simp (get-put-same n, get-put-other, length-put, hx)
 
-  stored-frontier : get (storeRecord x r) (arena frontier) ≡ r .frontier
-  unfolding storeTop storeCounts
+  stored-frontier : get (storeArena b a) (arena frontier) ≡ a .frontier
+  unfolding storeArena storeTop storeCounts x
   stored-frontier = simp (get-put-same n, get-put-other, length-put, hx)
 
-  stored-holes : get (storeRecord x r) (arena holes) ≡ r .count
-  unfolding storeTop storeCounts
+  stored-holes : get (storeArena b a) (arena holes) ≡ length (a .store .holes)
+  unfolding storeArena storeTop storeCounts x
   stored-holes = simp (get-put-same n, get-put-other, length-put, hx)
 
-  stored-pages : get (storeRecord x r) (arena holePages) ≡ r .total
-  unfolding storeTop storeCounts
+  stored-pages : get (storeArena b a) (arena holePages) ≡ a .store .total
+  unfolding storeArena storeTop storeCounts x
   stored-pages = simp (get-put-same n, length-put, hx)
 
-stored-length : (x : List ℕ) (r : Arena) → length (storeRecord x r) ≡ length x
-stored-length x r = record-changes x x (r .commits) (r .reuses) (r .abandoned) (r .state) (r .frontier) (r .count) (r .total) (changes-none isStored x) .long
+  stored-there : loadHoles (storeArena b a) 0 (length (a .store .holes)) ≡ a .store .holes
+  unfolding storeArena storeTop storeCounts
+  stored-there =
+      holes-same (storeHoles b 0 (a .store .holes)) (storeArena b a) 0 (length (a .store .holes)) (omega arith) (λ f j o l. simp get-put-other)
+      ∙ holes-there n b 0 (a .store .holes) hb (omega arith)
 
-words-length : (b : List ℕ) (a : Arena) (m q : ℕ) → length (giveWords b a m q) ≡ length b
-unfolding giveWords
-words-length b a m q =
-    by-cases (accepting m a)
-    (λ e. rw e (hole-length b (a .count) (Model.hole q m)))
-    (λ e. rw e)
+-- ---- the arena after a give
+module _ (m q : ℕ) (a : Arena) where
+  give-status : give m q a .status ≡ a .status
+  unfolding give
+  give-status = by-cases (accepts m q (a .store)) (λ e. rw e) (λ e. rw e)
 
--- ---- the record after a give
-give-state : (a : Arena) (m : ℕ) → giveRecord a m .state ≡ a .state
-unfolding giveRecord
-give-state a m = by-cases (accepting m a) (λ e. rw e) (λ e. rw e)
+  give-total : a .store .total ≤ 65536 → give m q a .store .total ≤ 65536
+  unfolding give accepts insert
+  give-total l =
+      by-cases (accepts m q (a .store))
+      (λ e. rw e (leb-true (a .store .total + m) 65536 (and-left _ _ e)))
+      (λ e. rw e l)
 
-give-frontier : (a : Arena) (m : ℕ) → giveRecord a m .frontier ≡ a .frontier
-unfolding giveRecord
-give-frontier a m = by-cases (accepting m a) (λ e. rw e) (λ e. rw e)
-
-give-count : (a : Arena) (m : ℕ) → a .count ≤ 4096 → giveRecord a m .count ≤ 4096
-unfolding giveRecord
-give-count a m l =
-    by-cases (accepting m a)
-    (λ e. rw e (omega (arith, ltb-true (a .count) 4096 (and-left _ _ e))))
-    (λ e. rw e l)
-
-give-total : (a : Arena) (m : ℕ) → a .total ≤ 65536 → giveRecord a m .total ≤ 65536
-unfolding giveRecord
-give-total a m l =
-    by-cases (accepting m a)
-    (λ e. rw e (leb-true (a .total + m) 65536 (and-right (ltb (a .count) 4096) _ e)))
-    (λ e. rw e l)
+  give-ends : (f : ℕ) → 1 ≤ m → q + m ≤ f → every (holeEndsFair f) (a .store .holes) ≡ true → every (holeEndsFair f) (give m q a .store .holes) ≡ true
+  unfolding give insert
+  give-ends f one l fair =
+      let hs = a .store .holes in
+      by-cases (accepts m q (a .store))
+      (λ e. rw e (place-fair f m q one l hs fair (finds (endsAt q) hs) (finds (startsAt (q + m)) hs)))
+      (λ e. rw e fair)
 
 -- ---- the test
 module _ (n : ℕ) (b : List ℕ) where
@@ -102,11 +107,15 @@ module _ (n : ℕ) (b : List ℕ) where
 
     pub held-told : giveFair n b x ≡ true → x ≤ get b (arena held)
     unfolding giveFair
-    held-told e = leb-true x (get b (arena held)) (and-right (recordFair n b) _ e)
+    held-told e = leb-true x (get b (arena held)) (and-left _ _ (and-right (recordFair n b) _ e))
 
-    pub fair-less : recordFair n b ≡ true → x ≤ get b (arena held) → giveFair n b x ≡ true
+    pub ends-told : giveFair n b x ≡ true → holesEndFair b ≡ true
     unfolding giveFair
-    fair-less e l = rw (e, le-leb x (get b (arena held)) l)
+    ends-told e = and-right (leb x (get b (arena held))) _ (and-right (recordFair n b) _ e)
+
+    pub fair-less : recordFair n b ≡ true → holesEndFair b ≡ true → x ≤ get b (arena held) → giveFair n b x ≡ true
+    unfolding giveFair
+    fair-less e f l = rw (e, le-leb x (get b (arena held)) l) f
 
     pub fair-some : (x ≡ 0 → ⊥) → givesFair n b x ≡ true → giveFair n b x ≡ true
     unfolding givesFair
@@ -124,49 +133,70 @@ module _ (n : ℕ) (b : List ℕ) (q m : ℕ) (long : words n ≤ length b) (fai
   was : FairRecord n b
   was = fair-record n b fair
 
-  acts : given b q m ≡ put (own (storeRecord (giveWords b (recordOf b) m q) (giveRecord (recordOf b) m)) q m 0) (arena held) (get b (arena held) - m)
-  unfolding giveActs givenWith
-  acts = give-acts n b was q m
+  -- the arena afterwards, and the book before the owners and HELD
+  after : Arena
+  after = give m q (loadArena b)
 
-  -- before the owners and HELD
+  few : length (after .store .holes) ≤ 4096
+  unfolding after loadArena loadStore
+  few = few-give m q (loadArena b) (omega (arith, loaded-length b 0 (get b (arena holes)), was .holes))
+
   middle : List ℕ
-  middle = storeRecord (giveWords b (recordOf b) m q) (giveRecord (recordOf b) m)
+  middle = storeArena b after
 
   middle-length : length middle ≡ length b
   unfolding middle
-  middle-length = stored-length _ _ ∙ words-length b (recordOf b) m q
+  middle-length = arena-changes b after few .long
 
   owned : Changes isOwner middle (own middle q m 0)
   owned = own-changes middle middle q m 0 (changes-none isOwner middle)
 
   pub given-length : length (given b q m) ≡ length b
-  unfolding middle
-  given-length = rw acts (length-put _ (arena held) _ ∙ owned .long ∙ middle-length)
+  unfolding given middle after
+  given-length = length-put _ (arena held) _ ∙ owned .long ∙ middle-length
 
-  kept : (k : ArenaField) → same (arena held) (arena k) ≡ false → get (given b q m) (arena k) ≡ get middle (arena k)
-  unfolding middle
-  kept k d = rw acts (get-put-other (own middle q m 0) (arena held) (arena k) (get b (arena held) - m) refl refl d ∙ owned .kept (arena k) refl refl)
+  kept : (f : Field) → ok f ≡ true → isOwner f ≡ false → same (arena held) f ≡ false → get (given b q m) f ≡ get middle f
+  unfolding given middle after
+  kept f o u d = get-put-other (own middle q m 0) (arena held) f (get b (arena held) - m) refl o d ∙ owned .kept f o u
 
   pub given-held : get (given b q m) (arena held) ≡ get b (arena held) - m
+  unfolding given middle after
+  given-held = get-put-same n (own middle q m 0) (arena held) (get b (arena held) - m) (rw (owned .long, middle-length) hb) refl refl
+
+  pub given-frontier : get (given b q m) (arena frontier) ≡ get b (arena frontier)
+  unfolding middle after loadArena
+  given-frontier = kept (arena frontier) refl refl refl ∙ stored-frontier n b hb after few ∙ give-frontier m q (loadArena b)
+
+  given-count : get (given b q m) (arena holes) ≡ length (after .store .holes)
   unfolding middle
-  given-held = rw acts (get-put-same n (own middle q m 0) (arena held) (get b (arena held) - m) (rw (owned .long, middle-length) hb) refl refl)
+  given-count = kept (arena holes) refl refl refl ∙ stored-holes n b hb after few
 
   given-record : FairRecord n (given b q m)
-  unfolding middle was
-  given-record =
-      let x = giveWords b (recordOf b) m q in
-      let r = giveRecord (recordOf b) m in
-      let hx : leb (words n) (length x) ≡ true = rw (words-length b (recordOf b) m q) hb in
-      record {
-        state = rw (kept state refl ∙ stored-state n x hx r ∙ give-state (recordOf b) m) (was .state);
-        frontier = rw (kept frontier refl ∙ stored-frontier n x hx r ∙ give-frontier (recordOf b) m) (was .frontier);
-        holes = rw (kept holes refl ∙ stored-holes n x hx r) (give-count (recordOf b) m (was .holes));
-        holePages = rw (kept holePages refl ∙ stored-pages n x hx r) (give-total (recordOf b) m (was .holePages));
-        held = rw given-held (omega (arith, was .held));
-      }
+  unfolding middle after loadArena loadStore
+  given-record = record {
+    state = rw (kept (arena state) refl refl refl ∙ stored-state n b hb after few ∙ ap statusCode (give-status m q (loadArena b)) ∙ status-code (get b (arena state)) (was .state)) (was .state);
+    frontier = rw given-frontier (was .frontier);
+    holes = rw given-count few;
+    holePages = rw (kept (arena holePages) refl refl refl ∙ stored-pages n b hb after few) (give-total m q (loadArena b) (was .holePages));
+    held = rw given-held (omega (arith, was .held));
+  }
 
-  pub given-fair : (x : ℕ) → m + x ≤ get b (arena held) → giveFair n (given b q m) x ≡ true
-  given-fair x l = fair-less n (given b q m) x (fair-again n (given b q m) given-record) (rw given-held (omega arith))
+  given-holes : loadHoles (given b q m) 0 (length (after .store .holes)) ≡ after .store .holes
+  unfolding middle
+  given-holes = holes-same middle (given b q m) 0 (length (after .store .holes)) (let z = few in omega arith) (λ f j o l. kept (hole f j) o refl refl) ∙ stored-there n b hb after few
+
+  -- the holes stay in their range: so gives in turn are tested once
+  module _ (ends : holesEndFair b ≡ true) (one : 1 ≤ m) (below : q + m ≤ get b (arena frontier)) where
+    after-ends : every (holeEndsFair (get b (arena frontier))) (after .store .holes) ≡ true
+    unfolding after loadArena loadStore holesEndFair
+    after-ends = give-ends m q (loadArena b) (get b (arena frontier)) one below ends
+
+    given-ends : holesEndFair (given b q m) ≡ true
+    unfolding holesEndFair
+    given-ends = rw (given-frontier, given-count, given-holes) after-ends
+
+    pub given-fair : (x : ℕ) → m + x ≤ get b (arena held) → giveFair n (given b q m) x ≡ true
+    given-fair x l = fair-less n (given b q m) x (fair-again n (given b q m) given-record) given-ends (rw given-held (omega arith))
 
 -- ---- runs one after another
 pub gives-append : (b : List ℕ) (m : ℕ) (xs ys : List ℕ) → giveRuns b m (xs ++ ys) ≡ giveRuns (giveRuns b m xs) m ys
@@ -186,22 +216,31 @@ module _ (n : ℕ) (b : List ℕ) (sh : Shape) (g f : ℕ) (gs fs : List ℕ) (a
     first-fair : recordFair n b ≡ true
     first-fair = fair-told n b (suc (length (givesIn gs fs)) * sh .pages) all-fair
 
+    first-ends : holesEndFair b ≡ true
+    first-ends = ends-told n b (suc (length (givesIn gs fs)) * sh .pages) all-fair
+
+    first-low : pageOf g + sh .pages ≤ get b (arena frontier)
+    first-low = rw (a .single) (omega (arith, ltb-true (pageOf g) (get b (arena frontier)) (and-left _ _ (a .low))))
+
   pub chunk-asks : GiveChunkAsks n b (sh .pages) g f
   chunk-asks = record {
     few = a .few;
     long = a .long;
     inside = rw (a .single) (omega (arith, ltb-true (pageOf g) n (and-left _ _ (a .below))));
-    fair = by-cases (eqb f 6) (λ e. rw e (fair-less n b (sh .pages) (first-fair e) (rw (a .single) (omega (arith, enough e))))) (λ e. rw e);
+    fair = by-cases (eqb f 6) (λ e. rw e (fair-less n b (sh .pages) (first-fair e) (first-ends e) (rw (a .single) (omega (arith, enough e))))) (λ e. rw e);
   }
 
   pub left-length : length (giveRuns b (sh .pages) (givesOf (pageOf g) f)) ≡ length b
   left-length = by-cases (eqb f 6) (λ e. rw e (given-length n b (pageOf g) (sh .pages) (a .long) (first-fair e))) (λ e. rw e)
 
+  left-frontier : get (giveRuns b (sh .pages) (givesOf (pageOf g) f)) (arena frontier) ≡ get b (arena frontier)
+  left-frontier = by-cases (eqb f 6) (λ e. rw e (given-frontier n b (pageOf g) (sh .pages) (a .long) (first-fair e))) (λ e. rw e)
+
   left-fair : givesFair n (giveRuns b (sh .pages) (givesOf (pageOf g) f)) (length (givesIn gs fs) * sh .pages) ≡ true
   unfolding givesIn
   left-fair =
       by-cases (eqb f 6)
-      (λ e. rw e (fair-any n _ (length (givesIn gs fs) * sh .pages) (given-fair n b (pageOf g) (sh .pages) (a .long) (first-fair e) (length (givesIn gs fs) * sh .pages) (rw (a .single) (omega (arith, enough e))))))
+      (λ e. rw e (fair-any n _ (length (givesIn gs fs) * sh .pages) (given-fair n b (pageOf g) (sh .pages) (a .long) (first-fair e) (first-ends e) (rw (a .single) (omega arith)) (first-low e) (length (givesIn gs fs) * sh .pages) (rw (a .single) (omega (arith, enough e))))))
       (λ e. rw e (rw e at (a .fair)))
 
   pub asks-rest : GiveChunksAsks n (giveRuns b (sh .pages) (givesOf (pageOf g) f)) sh gs fs
@@ -210,6 +249,7 @@ module _ (n : ℕ) (b : List ℕ) (sh : Shape) (g f : ℕ) (gs fs : List ℕ) (a
     long = rw left-length (a .long);
     single = a .single;
     below = and-right (ltb (pageOf g) n) _ (a .below);
+    low = rw left-frontier (and-right (ltb (pageOf g) (get b (arena frontier))) _ (a .low));
     fates = omega (arith, a .fates);
     fair = left-fair;
   }

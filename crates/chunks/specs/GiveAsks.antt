@@ -8,7 +8,7 @@ use lib.ListN.{length}
 use Rattle.facts.specs.Lists.{every}
 use Rattle.words.specs.Word.{pageOf}
 use Rattle.classes.specs.declared.Shape.{Shape}
-use Rattle.fields.specs.Field.{words}
+use Rattle.fields.specs.Field.{arena, frontier, get, words}
 use Rattle.fields.specs.Ranges.{maxPages}
 use Rattle.model.specs.Spot.{arenaFate, retired}
 use Rattle.arena.specs.Fair.{giveFair}
@@ -29,5 +29,6 @@ pub record GiveChunksAsks (n : ℕ) (b : List ℕ) (sh : Shape) (gs fs : List �
   pub long : words n ≤ length b
   pub single : sh .pages ≡ 1
   pub below : every (λ g. ltb (pageOf g) n) gs ≡ true
+  pub low : every (λ g. ltb (pageOf g) (get b (arena frontier))) gs ≡ true
   pub fates : length gs ≤ length fs
   pub fair : givesFair n b (length (givesIn gs fs) * sh .pages) ≡ true

@@ -92,7 +92,7 @@ module _ (n : ℕ) (b : List ℕ) (fair : commitFair n b ≡ true) where
   hole-low i l =
       let h = holeAt i (loadArena b .store .holes) in
       let e = every-at (holeFair (get b (arena holePages)) (get b (arena frontier))) i (loadArena b .store .holes) l fair-holes in
-      let z : h .first + h .pages ≤ get b (arena frontier) = leb-true (h .first + h .pages) (get b (arena frontier)) (and-right (leb (h .pages) (get b (arena holePages))) _ (and-right (leb 1 (h .pages)) _ e)) in
+      let z : h .first + h .pages ≤ get b (arena frontier) = leb-true (h .first + h .pages) (get b (arena frontier)) (and-right (leb 1 (h .pages)) _ (and-right (leb (h .pages) (get b (arena holePages))) _ e)) in
       omega (arith, z, low-frontier)
 
   run-low : {h m : ℕ} {r : Option ℕ} {f : Bool} → Commits n h m (loadArena b) r f → (p : ℕ) → r ≡ some p → p ≤ n

@@ -1,35 +1,33 @@
 -- A run held by the direct calls can be released or grown, and no other: number 12 goes by what the calls and their answers tell.
 --     held-releases, held-grows       a direct release, a growth is not refused exactly if each page of the run is held so
 --     unheld-refused, unheld-stays    else it is refused as 12
---     run-given, run-abandoned        a run released so is stored as a hole, or abandoned where the store has no room
 --     growth-fits                     and a growth that is not refused is answered yes or no with its reason
 use Prim.Native.Nat.{ℕ, _+_, _-_, _≤_, _<_}
 use native.Mathlib.Omega.{arith}
 use mathlib.Core.Bool.{true, false, false≢true}
-use mathlib.Core.List.{List, [], _∷_, _++_}
-use mathlib.Core.Logic.{_⊎_, inl, inr, _↔_}
+use mathlib.Core.List.{List}
+use mathlib.Core.Logic.{_↔_}
 use mathlib.Core.Path.{_≡_, refl, sym, ap, _∙_}
-use lib.Dec.{eqb, ltb, leb}
-use lib.ListN.{length}
-use borrow.Author.Tests.{eqb-true, eqb-false, leb-true, leb-false, le-leb, lt-leb, le-ltb, lt-ltb}
+use lib.Dec.{eqb, leb}
+use borrow.Author.Tests.{eqb-true, eqb-false, leb-true, leb-false, le-leb, lt-leb, le-ltb}
 use Rattle.facts.proofs.Bools.{by-cases, and-right}
 use Rattle.facts.proofs.Lists.{every-at, every-of}
-use Rattle.words.specs.Host.{hostMax, badHost, commitGranted}
+use Rattle.words.specs.Host.{hostMax, commitGranted}
 use Rattle.model.specs.Calls as Calls
 use Rattle.model.specs.Calls.{Call, wayOf, isRefused}
-use Rattle.model.specs.HoleStore.{hole, holeSlots, holePagesMax, accepts, append}
-use Rattle.model.specs.Arena.{Arena, give, grow}
-use Rattle.model.specs.Heap.{Heap, isDirect, badRun, heldDirect, growCall, releaseCall, directCall, step}
+use Rattle.model.specs.Arena.{Arena, grow}
+use Rattle.model.specs.Heap.{isDirect, badRun, heldDirect, growCall, releaseCall, directCall, step}
 use Rattle.model.specs.History.{heapAfter}
 use Rattle.model.specs.Entries.{directAfter}
+use Rattle.model.proofs.HistoryArena.{good-run}
 use Rattle.model.proofs.Theorems.{conserved}
 use Rattle.arena.specs.Load.{loadArena}
 use Rattle.vigbuso.specs.Direct.{growOn, releaseOn}
 use Rattle.refinement.proofs.ArenaReached.{reached-after, held-below}
-use Rattle.refinement.proofs.DirectCalls.{direct-held, good-run}
+use Rattle.refinement.proofs.DirectCalls.{direct-held}
 use Rattle.demands.specs.Call.{call}
 use Rattle.demands.specs.Run.{Opens, bookAfter, next, told}
-use Rattle.demands.specs.Demands.{Grows, grew, elsewhere, exhausted, ungranted, GrowFits, Abandoned}
+use Rattle.demands.specs.Demands.{Grows, grew, elsewhere, exhausted, ungranted, GrowFits}
 use Rattle.demands.proofs.Histories.{run-represents, next-agrees}
 use Rattle.demands.proofs.Codes.{zero-of, unrefused-of}
 use Rattle.demands.proofs.Told.{told-direct}
@@ -44,28 +42,6 @@ grow-fits n h e m a =
     (λ c. rw (f, l, c) (ungranted c)))
     (λ l. rw (f, l) (exhausted (leb-false (e + m) n l))))
     (λ f. rw f (elsewhere (eqb-false (a .frontier) e f)))
-
--- ---- giving
-give-stored : (m q : ℕ) (a : Arena) → length (a .store .holes) < holeSlots → a .store .total + m ≤ holePagesMax → give m q a .store .holes ≡ a .store .holes ++ hole q m ∷ []
-unfolding give accepts append
-give-stored m q a few low = rw (lt-ltb (length (a .store .holes)) holeSlots few, le-leb (a .store .total + m) holePagesMax low)
-
-give-abandoned : (m q : ℕ) (a : Arena) → (holeSlots ≤ length (a .store .holes)) ⊎ (holePagesMax < a .store .total + m) → Abandoned a (give m q a)
-unfolding give accepts
-give-abandoned m q a full =
-    let t : accepts m (a .store) ≡ false = elim full [
-      | inl l ↦ rw (le-ltb (length (a .store .holes)) holeSlots l)
-      | inr l ↦ by-cases (ltb (length (a .store .holes)) holeSlots) (λ t. rw (t, lt-leb (a .store .total + m) holePagesMax l)) (λ t. rw t)
-    ] in
-    rw t (record { holes = refl; counted = refl })
-
--- a release that is not refused gives
-step-gives : (n : ℕ) (H : Heap) (h q m : ℕ) → isRefused (step n H (Calls.release h q m) .answer) ≡ false → step n H (Calls.release h q m) .heap .arena ≡ give m q (H .arena)
-unfolding step wayOf directCall releaseCall
-step-gives n H h q m u =
-    by-cases (badHost h) (λ t. absurd (false≢true (sym (rw t at u))))
-    (λ t. by-cases (badRun m) (λ v. absurd (false≢true (sym (rw (t, v) at u))))
-    (λ v. by-cases (heldDirect n H q m) (λ w. rw (t, v, w)) (λ w. absurd (false≢true (sym (rw (t, v, w) at u))))))
 
 module _ (n : ℕ) (xs : List Call) (h q m : ℕ) (low : h ≤ hostMax) (good : badRun m ≡ false) where
   held-run : ((k : ℕ) → k < m → isDirect (heapAfter n xs .holder (q + k)) ≡ true) → heldDirect n (heapAfter n xs) q m ≡ true
@@ -110,21 +86,6 @@ module _ (n : ℕ) (b : List ℕ) (o : Opens n b) (xs : List Call) where
 
   pub unheld-refused : (h q m : ℕ) → h ≤ hostMax → badRun m ≡ false → (k : ℕ) → k < m → directAfter (told n b xs) (q + k) ≡ false → next n b xs (Calls.release h q m) .answer ≡ Calls.refused 12
   unheld-refused h q m low good k l e = next-agrees n b o xs (Calls.release h q m) .answer ∙ step-not n xs h q m low good (not-held h q m low good k l e)
-
-  module _ (h q m : ℕ) (e : next n b xs (Calls.release h q m) .code ≡ 0) where
-    given-back : loadArena (next n b xs (Calls.release h q m) .book) ≡ give m q (heapAfter n xs .arena)
-    unfolding call
-    given-back =
-        let z = next-agrees n b o xs (Calls.release h q m) in
-        z .heap .arena .loads ∙ step-gives n (heapAfter n xs) h q m (rw (z .answer) at (unrefused-of (releaseOn (bookAfter n b xs) h q m .code) Calls.released refl e))
-
-    pub run-given : length (loadArena (bookAfter n b xs) .store .holes) < holeSlots → loadArena (bookAfter n b xs) .store .total + m ≤ holePagesMax
-        → loadArena (next n b xs (Calls.release h q m) .book) .store .holes ≡ loadArena (bookAfter n b xs) .store .holes ++ hole q m ∷ []
-    run-given = rw (given-back, run-represents n b o xs .arena .loads) (give-stored m q (heapAfter n xs .arena))
-
-    pub run-abandoned : (holeSlots ≤ length (loadArena (bookAfter n b xs) .store .holes)) ⊎ (holePagesMax < loadArena (bookAfter n b xs) .store .total + m)
-        → Abandoned (loadArena (bookAfter n b xs)) (loadArena (next n b xs (Calls.release h q m) .book))
-    run-abandoned = rw (given-back, run-represents n b o xs .arena .loads) (give-abandoned m q (heapAfter n xs .arena))
 
   module _ (h q m : ℕ) (low : h ≤ hostMax) (good : badRun m ≡ false) where
     released-held : next n b xs (Calls.release h q m) .code ≡ 0 → heldDirect n (heapAfter n xs) q m ≡ true

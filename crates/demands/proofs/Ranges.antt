@@ -13,11 +13,11 @@ use Rattle.facts.proofs.Bools.{by-cases, and-swap}
 use Rattle.words.specs.Word.{countOf, pageOf}
 use Rattle.classes.specs.declared.Shape.{Shape}
 use Rattle.classes.specs.Shape.{classCount}
-use Rattle.fields.specs.Field.{arena, class, hole, page, size, frontier, holes, holePages, held, pages, partial, empty, cold, free, carved, listed, get}
+use Rattle.fields.specs.Field.{arena, class, hole, page, size, frontier, holes, holePages, held, start, pages, partial, empty, cold, free, carved, listed, get}
 use Rattle.fields.specs.Ranges.{maxParked}
 use Rattle.model.specs.Spot.{isArena}
 use Rattle.arena.specs.Load.{loadHoles}
-use Rattle.arena.specs.Fair.{recordFair, holeFair, holesFair, commitFair, giveFair, countsFair, allCountsFair, reportFair}
+use Rattle.arena.specs.Fair.{recordFair, holeEndsFair, holesEndFair, holeFair, holesFair, commitFair, giveFair, growGives, growFair, countsFair, allCountsFair, reportFair}
 use Rattle.pages.specs.Runs.{ofRun, whole}
 use Rattle.pages.specs.Stack.{tops, latest, hasMore, indexOf}
 use Rattle.pages.proofs.Draws.{latest-length}
@@ -31,7 +31,7 @@ use Rattle.calls.specs.Release.{pageFair, rowFair, spotAt, spotFair, releaseFai
 use Rattle.calls.specs.Chunks.{pagesGiven, chunksFair}
 use Rattle.demands.specs.Ranges.{Link, partialOf, emptyOf, coldOf, nextOf, prevOf, linkField, Use, stateKnown, frontierFits, holesFew, holePagesFew, heldFits, holeEnds, code, visited, emptyFew, emptyTaken, coldFew, coldTaken, ownerIs, firstIs, prevIs, listedFlag, listedYes, listedNo, freeFits, markClear, freeWith, carvedFits, virginFlag, inRange, fits, strays}
 use Rattle.demands.specs.Number13.{takeFair, Number13}
-use Rattle.demands.specs.Reads.{countReads, recordReads, holeReads, commitReads, giveReads, parkedReads, reportReads, runReads, entryReads, pageReads, walkReads, walkVisits, parkReads, takeReads, takeVisits, supply, yields, yieldAll, barren, markReads, backReads, rowReads, releaseReads, backsReads, chunksReads}
+use Rattle.demands.specs.Reads.{countReads, recordReads, holeReads, commitReads, giveReads, parkedReads, reportReads, runReads, entryReads, pageReads, walkReads, walkVisits, parkReads, takeReads, takeVisits, supply, yields, yieldAll, barren, markReads, backReads, rowReads, releaseReads, backsReads, chunksReads, besideReads, givenReads, growReads}
 use Rattle.demands.proofs.RefusalsLaws.{not-and}
 
 -- ---- conjunctions
@@ -47,16 +47,27 @@ fits-none : (b : List ℕ) → true ≡ fits b []
 unfolding fits
 fits-none b = refl
 
+fits-if : (b : List ℕ) (t : Bool) (us : List Use) → cond t (fits b us) true ≡ fits b (cond t us [])
+fits-if b true us = refl
+fits-if b false us = fits-none b
+
 every-cond : {A : Type 0} (t : A → Bool) (i : Bool) (us vs : List A) → every t (cond i us vs) ≡ cond i (every t us) (every t vs)
 every-cond t true us vs = refl
 every-cond t false us vs = refl
 
 -- ---- the arena
-hole-as : (x y z r : Bool) → ((x && (y && z)) && r) ≡ ((x && y) && (z && r))
-hole-as x y z r = simp and-assoc
+hole-as : (x y z r : Bool) → ((y && (x && z)) && r) ≡ ((x && y) && (z && r))
+hole-as x y z r = simp sorts
 
-give-as : (s f h p l m : Bool) → ((s && (f && (h && (p && l)))) && m) ≡ (s && (f && (h && (p && ((m && l) && true)))))
-give-as s f h p l m = rw (and-true (m && l)) (simp sorts)
+-- a hole that ends at f or below has at most f pages
+beside-as : (q m f : ℕ) (r : Bool) → ((leb 1 m && leb (q + m) f) && r) ≡ ((leb 1 m && leb m f) && (leb (q + m) f && r))
+beside-as q m f r =
+    by-cases (leb (q + m) f)
+    (λ e. let l = leb-true (q + m) f e in rw (e, le-leb m f (omega arith)) (simp and-assoc))
+    (λ e. rw (e, and-false (leb 1 m), and-false (leb 1 m && leb m f)))
+
+give-as : (s f h p l m r : Bool) → ((s && (f && (h && (p && l)))) && (m && r)) ≡ ((s && (f && (h && (p && ((m && l) && true))))) && r)
+give-as s f h p l m r = rw (and-true (m && l)) (simp sorts)
 
 module _ (b : List ℕ) where
   record-ranges : recordFair (get b (arena size)) b ≡ fits b recordReads
@@ -72,10 +83,23 @@ module _ (b : List ℕ) where
   unfolding commitFair commitReads holesFair
   commit-ranges = rw (record-ranges, holes-ranges 0 (get b (arena holes)), fits-append)
 
-  give-ranges : (m : ℕ) → giveFair (get b (arena size)) b m ≡ fits b (giveReads m)
-  unfolding giveFair recordFair fits giveReads countReads
-  give-ranges m =
-      give-as (inRange b stateKnown) (inRange b frontierFits) (inRange b holesFew) (inRange b holePagesFew) (inRange b heldFits) (leb m (get b (arena held)))
+  beside-ranges : (i k : ℕ) → every (holeEndsFair (get b (arena frontier))) (loadHoles b i k) ≡ fits b (besideReads i k)
+  unfolding loadHoles besideReads fits
+  beside-ranges i zero = refl
+  beside-ranges i (suc k) = rw (beside-ranges (suc i) k) (beside-as (get b (hole start i)) (get b (hole pages i)) (get b (arena frontier)) (fits b (besideReads (suc i) k)))
+
+  given-as : (m : ℕ) (r : Bool) → (recordFair (get b (arena size)) b && (leb m (get b (arena held)) && r)) ≡ (fits b (givenReads m) && r)
+  unfolding recordFair fits givenReads countReads
+  given-as m r =
+      give-as (inRange b stateKnown) (inRange b frontierFits) (inRange b holesFew) (inRange b holePagesFew) (inRange b heldFits) (leb m (get b (arena held))) r
+
+  give-ranges : (m : ℕ) → giveFair (get b (arena size)) b m ≡ fits b (giveReads b m)
+  unfolding giveFair giveReads holesEndFair
+  give-ranges m = rw (given-as m (every (holeEndsFair (get b (arena frontier))) (loadHoles b 0 (get b (arena holes)))), beside-ranges 0 (get b (arena holes)), fits-append)
+
+  grow-ranges : (h e m : ℕ) → growFair (get b (arena size)) b h e m ≡ fits b (growReads b h e m)
+  unfolding growFair growReads holesEndFair
+  grow-ranges h e m = rw (record-ranges, beside-ranges 0 (get b (arena holes)), fits-append) (ap (λ (t : Bool). fits b recordReads && t) (fits-if b (growGives (get b (arena size)) b h e m) (besideReads 0 (get b (arena holes)))))
 
   parked-ranges : (cs : List ℕ) → every (countsFair b) cs ≡ fits b (parkedReads cs)
   unfolding fits parkedReads
@@ -115,7 +139,7 @@ module _ (b : List ℕ) (c : ℕ) (sh : Shape) where
   unfolding rowFair fits rowReads
   row-ranges = row-as (inRange b (code (partialOf c))) (inRange b (code (emptyOf c))) (inRange b (emptyFew c)) (inRange b (code (coldOf c))) (inRange b (coldFew c))
 
-  given-ranges : (t : Bool) (m : ℕ) → cond t (giveFair (get b (arena size)) b m) true ≡ fits b (cond t (giveReads m) [])
+  given-ranges : (t : Bool) (m : ℕ) → cond t (giveFair (get b (arena size)) b m) true ≡ fits b (cond t (giveReads b m) [])
   given-ranges true m = give-ranges b m
   given-ranges false m = fits-none b
 
@@ -140,7 +164,7 @@ module _ (b : List ℕ) (c : ℕ) (sh : Shape) where
   backs-ranges [] = fits-none b
   backs-ranges (g ∷ gs) = rw (back-ranges (countOf g) (pageOf g), fits-append, backs-ranges gs)
 
-  nothing-given : (t : Bool) (m : ℕ) → cond t true (giveFair (get b (arena size)) b m) ≡ fits b (cond t [] (giveReads m))
+  nothing-given : (t : Bool) (m : ℕ) → cond t true (giveFair (get b (arena size)) b m) ≡ fits b (cond t [] (giveReads b m))
   nothing-given true m = fits-none b
   nothing-given false m = give-ranges b m
 
@@ -302,9 +326,9 @@ module _ (b : List ℕ) (c : ℕ) (sh : Shape) where
 -- ---- the table
 pub number-13 : (b : List ℕ) → Number13 b
 number-13 b = record {
-  known = record-ranges b;
   commit = commit-ranges b;
   give = give-ranges b;
+  grow = grow-ranges b;
   report = report-ranges b;
   take = take-ranges b;
   marks = marks-ranges b;
@@ -314,17 +338,17 @@ number-13 b = record {
 
 -- ---- for each call: its test fails exactly where a word that it reads is out of its range, or a listed page yields no block
 module _ (b : List ℕ) where
-  pub record-strays : not (recordFair (get b (arena size)) b) ≡ strays b recordReads
-  unfolding strays
-  record-strays = ap not (record-ranges b)
-
   pub commit-strays : not (commitFair (get b (arena size)) b) ≡ strays b (commitReads b)
   unfolding strays
   commit-strays = ap not (commit-ranges b)
 
-  pub give-strays : (m : ℕ) → not (giveFair (get b (arena size)) b m) ≡ strays b (giveReads m)
+  pub give-strays : (m : ℕ) → not (giveFair (get b (arena size)) b m) ≡ strays b (giveReads b m)
   unfolding strays
   give-strays m = ap not (give-ranges b m)
+
+  pub grow-strays : (h e m : ℕ) → not (growFair (get b (arena size)) b h e m) ≡ strays b (growReads b h e m)
+  unfolding strays
+  grow-strays h e m = ap not (grow-ranges b h e m)
 
   pub report-strays : not (reportFair (get b (arena size)) b) ≡ strays b reportReads
   unfolding strays

@@ -1,6 +1,6 @@
 -- Each definition that an exported function's contract cites answers the first number of its table that applies, and keeps what it was
 -- lent where there is one. n is the arena's length in the book b.
-use Prim.Native.Nat.{ℕ, _+_}
+use Prim.Native.Nat.{ℕ, _+_, _-_}
 use mathlib.Core.Bool.{Bool, true, false, cond, not, _||_}
 use mathlib.Core.List.{List, [], _∷_, map}
 use mathlib.Core.Option.{Option, none, some}
@@ -22,7 +22,7 @@ use Rattle.fields.specs.Outcome as Fields
 use Rattle.fields.specs.Ranges.{metaFault}
 use Rattle.model.specs.Heap.{badRun, badGrowth}
 use Rattle.model.specs.Release.{ofKind}
-use Rattle.arena.specs.Fair.{recordFair, commitFair, giveFair, reportFair}
+use Rattle.arena.specs.Fair.{commitFair, giveFair, growFair, reportFair}
 use Rattle.arena.specs.Calls as Arena
 use Rattle.arena.specs.Calls.{Committed, commitRefused, commitFor, commitCall, Done, doneRefused, growCall}
 use Rattle.pages.specs.declared.Park.{Park}
@@ -43,7 +43,7 @@ use Rattle.vigbuso.specs.Blocks.{takeOn, chunksOn}
 use Rattle.trace.proofs.Refused.{give-zero}
 use Rattle.demands.specs.Refusals.{shortList, nothingListed, manyChunks, wrongKind, otherPage, chunksDiffer, notHeld, openTable, commitTable, growTable, giveTable, reportTable, takeTable, releaseTable, chunksTable, rateTable, gameTable, listingTable}
 use Rattle.demands.specs.Number13.{takeFair}
-use Rattle.demands.proofs.Ranges.{record-strays, commit-strays, give-strays, report-strays, take-strays, marks-strays, release-strays, chunks-strays}
+use Rattle.demands.proofs.Ranges.{commit-strays, give-strays, report-strays, take-strays, marks-strays, release-strays, chunks-strays, grow-strays}
 use Rattle.demands.proofs.RefusalsLaws.{not-and, le-not-lt, Ends, ends, turn, unless, out-turn, book-turn, chain, choose, before}
 
 -- ---- opening
@@ -67,12 +67,12 @@ commit-table b h m =
 pub grow-table : (b : List ℕ) (h q old new : ℕ) → Ends {R = Done} (λ o. o .code) (λ o. o .book ≡ b) (growTable b h q old new) (growOn b h q old new)
 unfolding growOn callFault metaFault growCall
 grow-table b h q old new =
-    rw (← (record-strays b), chain (metaFault b) 3 (badHost h) (doneRefused b) _ refl)
+    rw (← (grow-strays b h (q + old) (new - old)), chain (metaFault b) 3 (badHost h) (doneRefused b) _ refl)
     (book-turn _ _ _ (doneRefused b) _ (λ k. refl) (λ k. refl)
     (turn _ _ (badHost h) 3 _ _ _ refl refl λ e.
     turn _ _ (badGrowth old new) 6 _ _ _ refl refl λ e.
     turn _ _ (notHeld (get b (arena size)) b q old) 12 _ _ _ refl refl λ e.
-    turn _ _ (not (recordFair (get b (arena size)) b)) 13 _ _ _ refl refl λ e.
+    turn _ _ (not (growFair (get b (arena size)) b h (q + old) (new - old))) 13 _ _ _ refl refl λ e.
     ends _ _ _ refl)
     (get b (arena size))
     b)

@@ -3,7 +3,7 @@
 use Prim.Native.Nat.{ℕ, zero, suc, _+_, _-_, _/_}
 use mathlib.Core.Bool.{Bool, true, false, cond, not, _&&_, _||_}
 use mathlib.Core.List.{List, [], _∷_, _++_, map}
-use mathlib.Core.Path.{_≡_, refl, sym, ap, _∙_}
+use mathlib.Core.Path.{_≡_, refl, sym, ap, _∙_, subst}
 use lib.Dec.{eqb}
 use Rattle.facts.specs.Lists.{every, All, below}
 use Rattle.facts.proofs.Bools.{by-cases}
@@ -11,10 +11,10 @@ use Rattle.words.specs.Host.{digit}
 use Rattle.words.specs.Word.{countOf, pageOf}
 use Rattle.classes.specs.declared.Shape.{Shape}
 use Rattle.classes.specs.Shape.{classCount}
-use Rattle.fields.specs.Field.{arena, class, page, size, frontier, holes, holePages, pages, partial, empty, emptyCount, cold, coldCount, free, carved, listed, get}
+use Rattle.fields.specs.Field.{arena, class, page, size, frontier, holes, holePages, held, pages, partial, empty, emptyCount, cold, coldCount, free, carved, listed, get}
 use Rattle.model.specs.Spot.{spotOf, isEmpty, isCold, isArena}
-use Rattle.arena.specs.Load.{loadHoles}
-use Rattle.arena.specs.Fair.{recordFair, holeFair, holesFair, commitFair, giveFair, countsFair, allCountsFair, reportFair}
+use Rattle.arena.specs.Load.{loadHoles, loadArena}
+use Rattle.arena.specs.Fair.{recordFair, holeEndsFair, holesEndFair, holeFair, holesFair, commitFair, giveFair, growGives, growFair, countsFair, allCountsFair, reportFair}
 use Rattle.pages.specs.Runs.{ofRun, whole}
 use Rattle.pages.specs.Stack.{tops, hasMore, indexOf}
 use Rattle.pages.specs.Links.{top, stored}
@@ -26,7 +26,7 @@ use Rattle.calls.specs.Out.{startOf, outs}
 use Rattle.calls.specs.Release.{pageFair, rowFair, spotAt, spotFair, releaseFair}
 use Rattle.calls.specs.Chunks.{runsGiven, pagesGiven, chunksFair}
 use Rattle.demands.specs.Ranges.{Link, partialOf, emptyOf, coldOf, nextOf, linkField, Use, emptyTaken, coldTaken, listedYes, listedNo, markClear, field, fits}
-use Rattle.demands.specs.Reads.{countReads, recordReads, holeReads, commitReads, giveReads, parkedReads, reportReads, runReads, entryReads, pageReads, supply, walkReads, parkReads, takeReads, markReads, backReads, rowReads, releaseReads, backsReads, chunksReads}
+use Rattle.demands.specs.Reads.{countReads, recordReads, holeReads, commitReads, giveReads, parkedReads, reportReads, runReads, entryReads, pageReads, supply, walkReads, parkReads, takeReads, markReads, backReads, rowReads, releaseReads, backsReads, chunksReads, besideReads, givenReads, growReads}
 use Rattle.demands.specs.Number13.{takeFair, RowsDecide}
 use Rattle.demands.proofs.Ranges.{wanted, number-13}
 
@@ -65,10 +65,6 @@ module _ (b b′ : List ℕ) where
     unfolding recordFair recordReads countReads
     record-same h = rw (h .0, h .1 .0, h .1 .1 .0, h .1 .1 .1 .0, h .1 .1 .1 .1 .0)
 
-    give-same : (m : ℕ) → Same (giveReads m) → giveFair n b m ≡ giveFair n b′ m
-    unfolding giveFair recordFair giveReads countReads
-    give-same m h = rw (h .0, h .1 .0, h .1 .1 .0, h .1 .1 .1 .0, h .1 .1 .1 .1 .0)
-
     parked-same : (cs : List ℕ) → Same (parkedReads cs) → every (countsFair b) cs ≡ every (countsFair b′) cs
     unfolding parkedReads
     parked-same [] h = refl
@@ -96,6 +92,45 @@ module _ (b b′ : List ℕ) where
         let r = left recordReads hs h in
         let w = holes-words r in
         rw (record-same r, holes-same (get b (arena holePages)) (get b (arena frontier)) 0 (get b (arena holes)) (right recordReads hs h), w .0, w .1, w .2)
+
+    -- the holes where a give reads them
+    beside-same : (f i k : ℕ) → Same (besideReads i k) → every (holeEndsFair f) (loadHoles b i k) ≡ every (holeEndsFair f) (loadHoles b′ i k)
+    unfolding loadHoles besideReads
+    beside-same f i zero h = refl
+    beside-same f i (suc k) h = rw (h .0, h .1 .0, beside-same f (suc i) k (h .1 .1))
+
+    ends-same : get b (arena holes) ≡ get b′ (arena holes) → get b (arena frontier) ≡ get b′ (arena frontier) → Same (besideReads 0 (get b (arena holes))) → holesEndFair b ≡ holesEndFair b′
+    unfolding holesEndFair
+    ends-same e d h = rw (beside-same (get b (arena frontier)) 0 (get b (arena holes)) h, e, d)
+
+    given-record : (m : ℕ) → Same (givenReads m) → (recordFair n b ≡ recordFair n b′) × (get b (arena held) ≡ get b′ (arena held)) × (get b (arena holes) ≡ get b′ (arena holes)) × (get b (arena frontier) ≡ get b′ (arena frontier))
+    unfolding recordFair givenReads countReads
+    given-record m h = (rw (h .0, h .1 .0, h .1 .1 .0, h .1 .1 .1 .0, h .1 .1 .1 .1 .0), h .1 .1 .1 .1 .0, h .1 .1 .0, h .1 .0)
+
+    give-same : (m : ℕ) → Same (giveReads b m) → giveFair n b m ≡ giveFair n b′ m
+    unfolding giveFair giveReads
+    give-same m h =
+        let hs = besideReads 0 (get b (arena holes)) in
+        let w = given-record m (left (givenReads m) hs h) in
+        rw (w .0, w .1, ends-same (w .2) (w .3) (right (givenReads m) hs h))
+
+    grow-gives : (h e m : ℕ) → get b (arena frontier) ≡ get b′ (arena frontier) → growGives n b h e m ≡ growGives n b′ h e m
+    unfolding growGives loadArena
+    grow-gives h e m d = rw d
+
+    grow-same : get b (arena size) ≡ n → (h e m : ℕ) → Same (growReads b h e m) → growFair n b h e m ≡ growFair n b′ h e m
+    unfolding growFair growReads
+    grow-same z h e m k =
+        let hs = besideReads 0 (get b (arena holes)) in
+        let t = growGives (get b (arena size)) b h e m in
+        let r = left recordReads (cond t hs []) k in
+        let w = holes-words r in
+        rw (record-same r, ← (grow-gives h e m (w .2))) (ap (λ (x : Bool). recordFair n b′ && x) (if-ends (growGives n b h e m) (w .0) (w .2) (subst (λ (y : ℕ). Same (cond (growGives y b h e m) hs [])) z (right recordReads (cond t hs []) k))))
+      where
+        if-ends : (t : Bool) → get b (arena holes) ≡ get b′ (arena holes) → get b (arena frontier) ≡ get b′ (arena frontier) → Same (cond t (besideReads 0 (get b (arena holes))) [])
+            → cond t (holesEndFair b) true ≡ cond t (holesEndFair b′) true
+        if-ends true e d s = ends-same e d s
+        if-ends false e d s = refl
 
     -- ---- a page that a take comes to
     run-same : (c q : ℕ) (ks : List ℕ) → Same (runReads c q ks) → every (ofRun b c q) ks ≡ every (ofRun b′ c q) ks
@@ -221,7 +256,7 @@ module _ (b b′ : List ℕ) where
       unfolding rowReads
       row-words h = (h .1 .1 .0, h .1 .1 .1 .1 .0)
 
-      given-same : (t : Bool) (m : ℕ) → Same (cond t (giveReads m) []) → cond t (giveFair n b m) true ≡ cond t (giveFair n b′ m) true
+      given-same : (t : Bool) (m : ℕ) → Same (cond t (giveReads b m) []) → cond t (giveFair n b m) true ≡ cond t (giveFair n b′ m) true
       given-same true m h = give-same m h
       given-same false m h = refl
 
@@ -230,7 +265,7 @@ module _ (b b′ : List ℕ) where
       release-same m q h =
           let ps = backReads b sh m q in
           let t = eqb (get b (page free q) + m) (get b (page carved q)) && isArena (spotAt b c sh) in
-          let gs = cond t (giveReads (sh .pages)) [] in
+          let gs = cond t (giveReads b (sh .pages)) [] in
           let p = left ps (rowReads c ++ gs) (h .1) in
           let r = right ps (rowReads c ++ gs) (h .1) in
           let w = back-words m q p in
@@ -257,7 +292,7 @@ module _ (b b′ : List ℕ) where
           let s = spotOf sh e k in
           rw (w .0, w .1, runs-same gs (e + digit (isEmpty s)) (k + digit (isCold s)) r, runs-same gs e k r)
 
-      none-same : (t : Bool) (m : ℕ) → Same (cond t [] (giveReads m)) → cond t true (giveFair n b m) ≡ cond t true (giveFair n b′ m)
+      none-same : (t : Bool) (m : ℕ) → Same (cond t [] (giveReads b m)) → cond t true (giveFair n b m) ≡ cond t true (giveFair n b′ m)
       none-same true m h = refl
       none-same false m h = give-same m h
 
@@ -266,7 +301,7 @@ module _ (b b′ : List ℕ) where
       chunks-same gs h =
           let ps = backsReads b sh gs in
           let m = pagesGiven b c sh gs in
-          let ms = cond (eqb m 0) [] (giveReads m) in
+          let ms = cond (eqb m 0) [] (giveReads b m) in
           let p = left ps (rowReads c ++ ms) (h .1) in
           let r = right ps (rowReads c ++ ms) (h .1) in
           let e = row-words (left (rowReads c) ms r) in
@@ -298,9 +333,9 @@ module _ (b b′ : List ℕ) where
   rows-decide =
       let n = get b′ (arena size) in
       record {
-        known = λ h. rw (h .0) (record-same b b′ n (h .1));
         commit = λ h. rw (h .0) (commit-same b b′ n (h .1));
         give = λ m h. rw (h .0) (give-same b b′ n m (h .1));
+        grow = λ g e m h. rw (h .0) (grow-same b b′ n (h .0) g e m (h .1));
         report = λ h. rw (h .0) (report-same b b′ n (h .1));
         take = λ c sh h. rw (h .0) (take-same b b′ n (take-low c sh (h .1)) c sh (h .1));
         marks = λ c sh ws e h. number-13 b .marks c sh ws ∙ mark-same b b′ c sh ws (h .1) ∙ ap (fits b′) e ∙ sym (number-13 b′ .marks c sh ws);

@@ -32,7 +32,8 @@ use Rattle.demands.proofs.Sizes as Sizes
 use Rattle.demands.proofs.Fits.{commit-fits, run-fits, holes-counted, take-yields}
 use Rattle.demands.proofs.Returns.{word-returns, list-returns, repeated, not-out, not-together}
 use Rattle.demands.proofs.ChunkReturns.{chunks-return, chunks-repeated, chunks-not-out}
-use Rattle.demands.proofs.Held.{held-releases, unheld-refused, run-given, run-abandoned, held-grows, unheld-stays, growth-fits}
+use Rattle.demands.proofs.Held.{held-releases, unheld-refused, held-grows, unheld-stays, growth-fits}
+use Rattle.demands.proofs.Gives.{none-touch, run-given, commit-given, growth-given, class-given}
 use Rattle.demands.proofs.Unused.{commit-unused, growth-unused, class-unused}
 use Rattle.demands.proofs.Starts.{as-opening, told-is}
 
@@ -95,8 +96,11 @@ at-opening n b o xs = record {
   releases = held-releases n b o xs;
   unheld = unheld-refused n b o xs;
   holeTotal = holes-counted n b o xs;
+  noTwoTouch = none-touch n b o xs;
   gives = run-given n b o xs;
-  abandons = run-abandoned n b o xs;
+  givesBack = commit-given n b o xs;
+  givesGrowth = growth-given n b o xs;
+  givesOfClass = class-given n b o xs;
   grows = held-grows n b o xs;
   unheldGrowth = unheld-stays n b o xs;
   growths = growth-fits n b o xs;

@@ -1,11 +1,11 @@
 -- Demands 2 and 3, as statements about every history of calls on the words, from an opening or a trace on any book. proofs/Theorems proves them.
 use Prim.Native.Nat.{ℕ, _+_, _-_, _/_, _≤_, _<_}
 use mathlib.Core.Bool.{Bool, true, false}
-use mathlib.Core.List.{List, [], _∷_, _++_}
+use mathlib.Core.List.{List, [], _∷_}
 use mathlib.Core.Logic.{_⊎_, _↔_}
 use mathlib.Core.Option.{Option, none, some}
 use mathlib.Core.Path.{_≡_}
-use lib.ListN.{getD, length}
+use lib.ListN.{getD}
 use Rattle.facts.specs.Lists.{isNil, every, total}
 use Rattle.words.specs.Host.{hostMax, commitGranted}
 use Rattle.classes.specs.Sizes.{smallSizes, mediumSizes, pageBytes}
@@ -14,14 +14,16 @@ use Rattle.model.specs.declared.Hole.{Hole}
 use Rattle.model.specs.Cover.{inRun}
 use Rattle.model.specs.Calls as Calls
 use Rattle.model.specs.Calls.{Call, Answer, Named, names, hostOf, Request, blocksOf}
-use Rattle.model.specs.HoleStore.{hole, holeSlots, holePagesMax}
-use Rattle.model.specs.Arena.{Arena, more}
-use Rattle.model.specs.Class.{Class}
+use Rattle.model.specs.HoleStore.{hole}
+use Rattle.model.specs.Arena.{Arena, ready, withStatus, withFrontier, more, draw}
+use Rattle.model.specs.Class.{Class, serve}
 use Rattle.model.specs.Release.{ofKind}
-use Rattle.model.specs.Heap.{badRun, answerRun, step}
+use Rattle.model.specs.Chunks.{answer}
+use Rattle.model.specs.Heap.{badRun, answerRun, offer, step}
 use Rattle.model.specs.History.{Event, answers, events, heapAfter, callsOf, answersOf, runsOf}
 use Rattle.model.specs.Entries.{Entry, Live, HasByte, blockBytes, OutIn, AllOut, directAfter}
-use Rattle.model.specs.BestFit.{Commits}
+use Rattle.model.specs.BestFit.{Commits, usable}
+use Rattle.model.specs.Joining.{NoTwoTouch, HasRoom, JoinedWhere}
 use Rattle.model.specs.Demands.{Disjoint, IsoDisjoint}
 use Rattle.arena.specs.Load.{loadArena}
 use Rattle.refinement.specs.Direct.{Reply}
@@ -91,6 +93,17 @@ pub record Abandoned (a a′ : Arena) : Type 0 where
   pub holes : a′ .store .holes ≡ a .store .holes
   pub counted : a′ .abandoned ≡ more (a .abandoned)
 
+-- m pages from q on were given to the arena a, which is then a′ (document 02, A.4): where the total allows it and they touch a hole or a slot
+-- is free, they are joined to the holes that they touch, or appended; else they are abandoned
+pub record GivenTo (m q : ℕ) (a a′ : Arena) : Type 0 where
+  pub joined : HasRoom m q (a .store) → JoinedWhere m q (a .store .holes) (a′ .store .holes)
+  pub abandoned : (HasRoom m q (a .store) → ⊥) → Abandoned a a′
+
+-- runs of m pages, given one after the other
+pub data GivenInTurn (m : ℕ) : List ℕ → Arena → Arena → Type 0 where
+  all-given : (a : Arena) → GivenInTurn m [] a a
+  first-given : (q : ℕ) (qs : List ℕ) (a a₁ a′ : Arena) → GivenTo m q a a₁ → GivenInTurn m qs a₁ a′ → GivenInTurn m (q ∷ qs) a a′
+
 -- the run lies in the arena, of n pages, and nobody has a page of it: none is held by the direct calls, and no entry not yet released
 -- has a byte in it
 pub record Unused (n : ℕ) (vs : List Event) (q m : ℕ) : Type 0 where
@@ -142,14 +155,21 @@ pub record Demand2At (n : ℕ) (b : List ℕ) (xs : List Call) (rs : List Reply)
       → call b (Calls.release h q m) .answer ≡ Calls.refused 12
   -- the total that a give looks at is the pages of all holes
   pub holeTotal : loadArena b .store .total ≡ total (λ x. x .pages) (loadArena b .store .holes)
-  -- a run released directly is stored behind the other holes where the store has room for it
-  pub gives : (h q m : ℕ) → call b (Calls.release h q m) .code ≡ 0
-      → length (loadArena b .store .holes) < holeSlots → loadArena b .store .total + m ≤ holePagesMax
-      → loadArena (call b (Calls.release h q m) .book) .store .holes ≡ loadArena b .store .holes ++ hole q m ∷ []
-  -- where it has none the run is abandoned, and counted
-  pub abandons : (h q m : ℕ) → call b (Calls.release h q m) .code ≡ 0
-      → (holeSlots ≤ length (loadArena b .store .holes)) ⊎ (holePagesMax < loadArena b .store .total + m)
-      → Abandoned (loadArena b) (loadArena (call b (Calls.release h q m) .book))
+  -- no hole ends where another starts (document 02, A.4)
+  pub noTwoTouch : NoTwoTouch (loadArena b .store .holes)
+  -- a run released directly is given to the holes; so is the run that a commit which is not granted drew, and the pages of such a growth
+  pub gives : (h q m : ℕ) → call b (Calls.release h q m) .code ≡ 0 → GivenTo m q (loadArena b) (loadArena (call b (Calls.release h q m) .book))
+  pub givesBack : (h m q : ℕ) → call b (Calls.commit h m) .code ≡ 0 → usable h (loadArena b .status) ≡ true → commitGranted h ≡ false
+      → draw n m (withStatus ready (loadArena b)) .run ≡ some q
+      → GivenTo m q (draw n m (withStatus ready (loadArena b)) .arena) (loadArena (call b (Calls.commit h m) .book))
+  pub givesGrowth : (h q old new : ℕ) → call b (Calls.growFrontier h q old new) .code ≡ 0
+      → loadArena b .frontier ≡ q + old → q + old + (new - old) ≤ n → commitGranted h ≡ false
+      → GivenTo (new - old) (q + old) (withFrontier (q + old + (new - old)) (loadArena b)) (loadArena (call b (Calls.growFrontier h q old new) .book))
+  -- a call of a class that is not refused gives the class's runs in turn, after the commit that it asked for
+  pub givesOfClass : (x : Call) (d : Named) → names x ≡ some d → call b x .code ≡ 0
+      → (let q = answer (shapeOf (d .class)) (heapAfter n xs .classes (d .class)) (d .request) in
+      let g = offer n (hostOf (d .request)) (loadArena b) q in
+      GivenInTurn (shapeOf (d .class) .pages) (serve q (g .run) .gives) (g .arena) (loadArena (call b x .book)))
   -- so with a growth, and one that is not refused is answered by `Grows`
   pub grows : (h q old new : ℕ) → h ≤ hostMax → badRun old ≡ false → badRun new ≡ false → old < new
       → (call b (Calls.growFrontier h q old new) .code ≡ 0) ↔ ((k : ℕ) → k < old → directAfter (answered xs rs) (q + k) ≡ true)

@@ -12,14 +12,14 @@ use lib.Dec.{eqb, leb}
 use Rattle.facts.specs.Lists.{All}
 use Rattle.classes.specs.declared.Shape.{Shape}
 use Rattle.fields.specs.Field.{arena, class, size, frontier, partial, empty, cold, get}
-use Rattle.arena.specs.Fair.{recordFair, commitFair, giveFair, reportFair}
+use Rattle.arena.specs.Fair.{commitFair, giveFair, growFair, reportFair}
 use Rattle.pages.specs.declared.Park.the-variants.{Empty, Cold}
 use Rattle.calls.specs.Take.{walk, parkFair}
 use Rattle.calls.specs.Out.{unmarked}
 use Rattle.calls.specs.Release.{releaseFair}
 use Rattle.calls.specs.Chunks.{chunksFair}
 use Rattle.demands.specs.Ranges.{Use, field, fits}
-use Rattle.demands.specs.Reads.{recordReads, commitReads, giveReads, reportReads, takeReads, yieldAll, markReads, releaseReads, chunksReads}
+use Rattle.demands.specs.Reads.{commitReads, giveReads, reportReads, takeReads, yieldAll, markReads, releaseReads, chunksReads, growReads}
 
 unfoldable pub takeFair : ℕ → List ℕ → ℕ → Shape → Bool
 takeFair n b c sh =
@@ -30,10 +30,9 @@ takeFair n b c sh =
     (commitFair n b)))
 
 pub record Number13 (b : List ℕ) : Type 0 where
-  -- growth
-  pub known : recordFair (get b (arena size)) b ≡ fits b recordReads
   pub commit : commitFair (get b (arena size)) b ≡ fits b (commitReads b)
-  pub give : (m : ℕ) → giveFair (get b (arena size)) b m ≡ fits b (giveReads m)
+  pub give : (m : ℕ) → giveFair (get b (arena size)) b m ≡ fits b (giveReads b m)
+  pub grow : (h e m : ℕ) → growFair (get b (arena size)) b h e m ≡ fits b (growReads b h e m)
   pub report : reportFair (get b (arena size)) b ≡ fits b reportReads
   pub take : (c : ℕ) (sh : Shape) → takeFair (get b (arena size)) b c sh ≡ (fits b (takeReads b c sh) && yieldAll b c sh)
   -- before number 15, then with the other words
@@ -48,9 +47,9 @@ Alike b b′ us = (get b (arena size) ≡ get b′ (arena size)) × All (λ u. g
 
 -- such books pass or fail a call's test alike, whatever their other words are
 pub record RowsDecide (b b′ : List ℕ) : Type 0 where
-  pub known : Alike b b′ recordReads → recordFair (get b (arena size)) b ≡ recordFair (get b′ (arena size)) b′
   pub commit : Alike b b′ (commitReads b) → commitFair (get b (arena size)) b ≡ commitFair (get b′ (arena size)) b′
-  pub give : (m : ℕ) → Alike b b′ (giveReads m) → giveFair (get b (arena size)) b m ≡ giveFair (get b′ (arena size)) b′ m
+  pub give : (m : ℕ) → Alike b b′ (giveReads b m) → giveFair (get b (arena size)) b m ≡ giveFair (get b′ (arena size)) b′ m
+  pub grow : (h e m : ℕ) → Alike b b′ (growReads b h e m) → growFair (get b (arena size)) b h e m ≡ growFair (get b′ (arena size)) b′ h e m
   pub report : Alike b b′ reportReads → reportFair (get b (arena size)) b ≡ reportFair (get b′ (arena size)) b′
   pub take : (c : ℕ) (sh : Shape) → Alike b b′ (takeReads b c sh) → takeFair (get b (arena size)) b c sh ≡ takeFair (get b′ (arena size)) b′ c sh
   -- where the same blocks are out in both, as numbers 15 and 10 see them

@@ -41,8 +41,9 @@ pub data Use : Type 0 where
   heldGives : ℕ → Use
   -- a half of one of its counts
   counted : ArenaField → Use
-  -- a commit: each hole i
+  -- each hole i: its pages where a commit reads it, and where a give does; its end
   holeSome : ℕ → Use
+  holeBeside : ℕ → Use
   holeEnds : ℕ → Use
   -- a code; and where a take comes to its page, which is the first of m
   code : Link → Use
@@ -79,6 +80,7 @@ field heldFits = arena held
 field (heldGives k) = arena held
 field (counted k) = arena k
 field (holeSome i) = hole pages i
+field (holeBeside i) = hole pages i
 field (holeEnds i) = hole start i
 field (code f) = linkField f
 field (visited f m) = linkField f
@@ -108,6 +110,7 @@ range b heldFits = upTo (get b (arena size))
 range b (heldGives k) = between k (get b (arena size))
 range b (counted k) = anyValue
 range b (holeSome i) = between 1 (get b (arena holePages))
+range b (holeBeside i) = between 1 (get b (arena frontier))
 range b (holeEnds i) = endsBy (get b (hole pages i)) (get b (arena frontier))
 range b (code f) = upTo (get b (arena frontier))
 range b (visited f m) = runsTo m (get b (arena frontier))

@@ -1,9 +1,10 @@
 -- The words that number 13 is about: for each kind of call the rows of Specs/Ranges that it reads, along the call's own way through the
 -- book. "Another book word that the call reads": those that numbers 1, 10 to 12 and 15 judge stand there.
---     recordReads    growth, and within the next three
+--     recordReads    the record, within the next four
 --     reportReads    a report
 --     commitReads    a commit, a take's too
 --     giveReads      a give of m pages, a release's too
+--     growReads      a growth by m pages at page e
 --     takeReads      a take, from its first source that has a page
 --     takeVisits     the listed pages that it comes to; yieldAll, barren: each of them yields a block, one does not
 --     markReads      a release by list or by chunks, before number 15: the words of marks of its blocks that are out in the class
@@ -23,7 +24,8 @@ use Rattle.pages.specs.Stack.{indexOf}
 use Rattle.calls.specs.Out.{startOf, outs}
 use Rattle.calls.specs.Release.{spotAt}
 use Rattle.calls.specs.Chunks.{pagesGiven}
-use Rattle.demands.specs.Ranges.{Link, partialOf, emptyOf, coldOf, nextOf, prevOf, linkField, Use, stateKnown, frontierFits, holesFew, holePagesFew, heldFits, heldGives, counted, holeSome, holeEnds, code, visited, emptyFew, emptyTaken, coldFew, coldTaken, ownerIs, firstIs, prevIs, listedYes, listedNo, freeFits, entryCarved, markClear, freeWith, listedFlag, carvedFits, virginFlag}
+use Rattle.demands.specs.Ranges.{Link, partialOf, emptyOf, coldOf, nextOf, prevOf, linkField, Use, stateKnown, frontierFits, holesFew, holePagesFew, heldFits, heldGives, counted, holeSome, holeEnds, code, visited, emptyFew, emptyTaken, coldFew, coldTaken, ownerIs, firstIs, prevIs, listedYes, listedNo, freeFits, entryCarved, markClear, freeWith, listedFlag, carvedFits, virginFlag, holeBeside}
+use Rattle.arena.specs.Fair.{growGives}
 
 -- ---- the arena
 unfoldable pub countReads : List Use
@@ -40,8 +42,19 @@ holeReads i (suc k) = holeSome i ∷ holeEnds i ∷ holeReads (suc i) k
 unfoldable pub commitReads : List ℕ → List Use
 commitReads b = recordReads ++ holeReads 0 (get b (arena holes))
 
-unfoldable pub giveReads : ℕ → List Use
-giveReads m = stateKnown ∷ frontierFits ∷ holesFew ∷ holePagesFew ∷ heldGives m ∷ countReads
+unfoldable pub besideReads : ℕ → ℕ → List Use
+besideReads i zero = []
+besideReads i (suc k) = holeBeside i ∷ holeEnds i ∷ besideReads (suc i) k
+
+unfoldable pub givenReads : ℕ → List Use
+givenReads m = stateKnown ∷ frontierFits ∷ holesFew ∷ holePagesFew ∷ heldGives m ∷ countReads
+
+unfoldable pub giveReads : List ℕ → ℕ → List Use
+giveReads b m = givenReads m ++ besideReads 0 (get b (arena holes))
+
+-- the holes where the added pages are given
+unfoldable pub growReads : List ℕ → ℕ → ℕ → ℕ → List Use
+growReads b h e m = recordReads ++ cond (growGives (get b (arena size)) b h e m) (besideReads 0 (get b (arena holes))) []
 
 -- how many runs these classes have parked
 unfoldable pub parkedReads : List ℕ → List Use
@@ -149,7 +162,7 @@ releaseReads b c sh m q =
     frontierFits
     ∷ (backReads b sh m q
     ++ (rowReads c
-    ++ cond (eqb (get b (page free q) + m) (get b (page carved q)) && isArena (spotAt b c sh)) (giveReads (sh .pages)) []))
+    ++ cond (eqb (get b (page free q) + m) (get b (page carved q)) && isArena (spotAt b c sh)) (giveReads b (sh .pages)) []))
 
 unfoldable pub backsReads : List ℕ → Shape → List ℕ → List Use
 backsReads b sh [] = []
@@ -160,4 +173,4 @@ chunksReads b c sh gs =
     frontierFits
     ∷ (backsReads b sh gs
     ++ (rowReads c
-    ++ cond (eqb (pagesGiven b c sh gs) 0) [] (giveReads (pagesGiven b c sh gs))))
+    ++ cond (eqb (pagesGiven b c sh gs) 0) [] (giveReads b (pagesGiven b c sh gs))))

@@ -7,7 +7,7 @@
 --     Demand1                    every exported function does so, by what its contract says of it
 -- b is the book, n the arena's length in it, c a class, sh its shape, h the host word, ws a list of blocks, gs of groups, fs the lent
 -- fates. Each condition says by itself when its number applies, also where an earlier number answers first.
-use Prim.Native.Nat.{ℕ, _+_, _≤_, _<_}
+use Prim.Native.Nat.{ℕ, _+_, _-_, _≤_, _<_}
 use mathlib.Core.Bool.{Bool, true, false, cond, not, _||_}
 use mathlib.Core.List.{List, [], _∷_, _++_}
 use mathlib.Core.Path.{_≡_}
@@ -46,7 +46,7 @@ use Rattle.vigbuso.specs.Blocks as Blocks
 use Rattle.vigbuso.specs.Blocks.{takeOn, TakeEnds, ReleaseEnds, chunksOn, ChunksEnds}
 use Rattle.vigbuso.specs.Sizes.{SizeEnds}
 use Rattle.demands.specs.Ranges.{stateKnown, inRange, strays}
-use Rattle.demands.specs.Reads.{recordReads, commitReads, giveReads, reportReads, takeReads, barren, markReads, releaseReads, chunksReads}
+use Rattle.demands.specs.Reads.{commitReads, giveReads, reportReads, takeReads, barren, markReads, releaseReads, chunksReads, growReads}
 
 -- ---- when each number applies
 -- 1. "Arena length, given at opening or stored as the book's first word, is 0 (an empty book reads so) or above 262,144."
@@ -143,13 +143,13 @@ commitTable b h m =
 abbrev pub growTable : List ℕ → ℕ → ℕ → ℕ → ℕ → List Row
 growTable b h q old new =
     let n = get b (arena size) in
-    (1, badLength n) ∷ (2, tooShort n b) ∷ (3, badHost h) ∷ (6, badGrowth old new) ∷ (12, notHeld n b q old) ∷ (13, strays b recordReads) ∷ []
+    (1, badLength n) ∷ (2, tooShort n b) ∷ (3, badHost h) ∷ (6, badGrowth old new) ∷ (12, notHeld n b q old) ∷ (13, strays b (growReads b h (q + old) (new - old))) ∷ []
 
 -- vigbuso_release
 abbrev pub giveTable : List ℕ → ℕ → ℕ → ℕ → List Row
 giveTable b h q m =
     let n = get b (arena size) in
-    (1, badLength n) ∷ (2, tooShort n b) ∷ (3, badHost h) ∷ (6, badRun m) ∷ (12, notHeld n b q m) ∷ (13, strays b (giveReads m)) ∷ []
+    (1, badLength n) ∷ (2, tooShort n b) ∷ (3, badHost h) ∷ (6, badRun m) ∷ (12, notHeld n b q m) ∷ (13, strays b (giveReads b m)) ∷ []
 
 -- vigbuso_report
 abbrev pub reportTable : List ℕ → List Row

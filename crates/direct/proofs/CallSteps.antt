@@ -4,17 +4,17 @@ use native.Mathlib.Omega.{arith}
 use mathlib.Core.Bool.{Bool, true, false, _||_}
 use mathlib.Core.List.{List}
 use mathlib.Core.Option.{Option, none, some}
-use mathlib.Core.Path.{_≡_, refl, sym, ap, _∙_}
+use mathlib.Core.Path.{_≡_, refl, sym, ap, _∙_, subst}
 use lib.Dec.{eqb, leb}
 use lib.ListN.{length, set, length-set}
 use mir.Val.{Fits}
 use mir.Syntax.{w32, w64}
 use borrow.Author.Tests.{lt-ltb, le-leb, lt-leb, leb-true, leb-false, eq-eqb, ne-eqb}
 use Rattle.facts.specs.Lists.{isSome}
-use Rattle.facts.proofs.Bools.{by-cases, and-left, and-no}
+use Rattle.facts.proofs.Bools.{by-cases, and-left, and-right, and-no}
 use Rattle.words.specs.Limits.{maxPages}
 use Rattle.words.specs.Host.{commitGranted}
-use Rattle.fields.specs.Field.{arena, state, held, get}
+use Rattle.fields.specs.Field.{arena, frontier, state, held, get}
 use Rattle.model.specs.Heap.{badRun, badGrowth, direct}
 use Rattle.model.specs.Arena as Model
 use Rattle.holes.specs.declared.Arena.{Arena}
@@ -24,15 +24,15 @@ use Rattle.direct.specs.declared.Grow.{Grow}
 use Rattle.arena.specs.Load.{statusOf, loadArena}
 use Rattle.arena.specs.Owners.{ownerCode}
 use Rattle.holes.specs.Record.{recordOf}
-use Rattle.arena.specs.Fair.{recordFair, giveFair}
+use Rattle.arena.specs.Fair.{recordFair, holesEndFair, giveFair, growGives, growFair}
 use Rattle.arena.specs.Open.{cleared, headWords}
 use Rattle.arena.specs.Calls.{commitFor, commitCall, given, heldDirect, releaseCall, growCall, containsCall}
 use Rattle.holes.specs.Act.{endNone, endRun, endGiven, settle, fromFrontier, growWith, growActs, clamped}
-use Rattle.runs.specs.Asks.{GiveIn, BookIn}
+use Rattle.runs.specs.Asks.{GiveIn, BookIn, EndsIn}
 use Rattle.runs.specs.Answer.{answerOf, Answers}
 use Rattle.direct.specs.Answer.{grownAs, growCommit, Grew, Grows, fairGrow, Releases, heldRelease}
 use Rattle.holes.proofs.Acts.{fair-record, grow-acts}
-use Rattle.holes.proofs.PlanLaws.{clamp-commit, clamp-grow, clamped-le}
+use Rattle.holes.proofs.PlanLaws.{clamp-commit, clamp-growth, clamp-grow, clamped-le}
 
 -- ---- numbers
 pub bad-none : (m : ℕ) → m ≡ 0 → true ≡ badRun m
@@ -133,6 +133,9 @@ module _ (n : ℕ) (b : List ℕ) (q m : ℕ) (t : Bool) (k : BookIn b n) (e : t
   pub direct-end : Fits w64 (q + m)
   direct-end = record { fits = let z = direct-inside n b q m t e v in let y = k .small in omega arith }
 
+  pub direct-low : q + m ≤ maxPages
+  direct-low = let z = direct-inside n b q m t e v in let y = k .small in omega arith
+
   pub direct-near : Fits w32 (q + m)
   direct-near = record { fits = let z = direct-inside n b q m t e v in let y = k .small in omega arith }
 
@@ -174,11 +177,29 @@ module _ (n : ℕ) (b : List ℕ) (h e m : ℕ) where
       let o = growWith n b a h e m (ownerCode direct) d in
       rw (← f, ← g) (record { answer = s ∙ ap growCommit (k .answer) ∙ grow-as (o .code) (o .run) (o .fresh); book = k .book })
 
-  pub grows-fair : (t : Bool) (r : Grow) (x : List ℕ) → t ≡ recordFair n b → t ≡ true → Grows r x (growActs n b h e m (ownerCode direct)) → Grows r x (fairGrow n b h e m)
+  -- number 13's test
+  pub growth-told : (t : Bool) → t ≡ growFair n b h e m → t ≡ true → growFair n b h e m ≡ true
+  growth-told t f v = sym f ∙ v
+
+  pub growth-record : growFair n b h e m ≡ true → recordFair n b ≡ true
+  unfolding growFair
+  growth-record f = and-left (recordFair n b) _ f
+
+  growth-holes : growFair n b h e m ≡ true → commitGranted h ≡ false → get b (arena frontier) ≡ e → e + m ≤ n → holesEndFair b ≡ true
+  unfolding growFair growGives loadArena
+  growth-holes f g z l = rw (g, eq-eqb (get b (arena frontier)) e z, le-leb (e + m) n l) at (and-right (recordFair n b) _ f)
+
+  pub growth-ends : (a : Arena) → growFair n b h e m ≡ true → a ≡ recordOf b → commitGranted h ≡ false → a .frontier ≡ e → a .frontier + m ≤ n → EndsIn b a
+  unfolding holesEndFair
+  growth-ends a f i g z l =
+      let y : a .frontier ≡ get b (arena frontier) = ap (λ x. x .frontier) i in
+      subst (λ x. EndsIn b x) (sym i) (growth-holes f g (sym y ∙ z) (omega arith))
+
+  pub grows-fair : (t : Bool) (r : Grow) (x : List ℕ) → t ≡ growFair n b h e m → t ≡ true → Grows r x (growActs n b h e m (ownerCode direct)) → Grows r x (fairGrow n b h e m)
   unfolding fairGrow
   grows-fair t r x f v k = rw (← f, v) k
 
-  pub grows-unfair : (t : Bool) → t ≡ recordFair n b → t ≡ false → Grows (Grow.Refused 13) b (fairGrow n b h e m)
+  pub grows-unfair : (t : Bool) → t ≡ growFair n b h e m → t ≡ false → Grows (Grow.Refused 13) b (fairGrow n b h e m)
   unfolding fairGrow
   grows-unfair t f v = rw (← f, v) (record { answer = refl; book = refl })
 
@@ -204,11 +225,12 @@ module _ (n : ℕ) (b : List ℕ) (h q old new : ℕ) where
       → Grows r x (fairGrow n b h (q + old) m) → Grew r x (growCall n b h q old new)
   unfolding growCall fairGrow
   grow-held t u m r x k e v f w g y =
-      by-cases (recordFair n b)
-      (λ z. let i = rw (z, g, clamp-grow n b (k .small) h (q + old) (ownerCode direct) (new - old)) at y in
-      let j = grow-acts n b (le-leb _ _ (k .long)) (fair-record n b z) h (new - old) (q + old) in
-      rw (← e, v, ← f, w, z) (record { answer = i .answer ∙ rw (grow-code n b h (q + old) (new - old), j .yes); book = i .book ∙ sym (j .book) }))
-      (λ z. let i = rw z at y in
+      let m′ = new - old in
+      by-cases (growFair n b h (q + old) m′)
+      (λ z. let i = rw (g, clamp-growth n b (k .small) h (q + old) m′, z, clamp-grow n b (k .small) h (q + old) (ownerCode direct) m′) at y in
+      let j = grow-acts n b (le-leb _ _ (k .long)) (fair-record n b (growth-record n b h (q + old) m′ z)) h m′ (q + old) (growth-holes n b h (q + old) m′ z) in
+      rw (← e, v, ← f, w, z) (record { answer = i .answer ∙ rw (grow-code n b h (q + old) m′, j .yes); book = i .book ∙ sym (j .book) }))
+      (λ z. let i = rw (g, clamp-growth n b (k .small) h (q + old) m′, z) at y in
       rw (← e, v, ← f, w, z) (record { answer = i .answer; book = i .book }))
 
 -- ---- a commit

@@ -14,7 +14,7 @@ use Rattle.direct.specs.declared.Grow.the-variants.{Yes, No}
 use Rattle.direct.specs.declared.Report.{Report}
 use Rattle.direct.specs.declared.Report.the-variants.{Told}
 use Rattle.arena.specs.Owners.{ownerCode}
-use Rattle.arena.specs.Fair.{recordFair, giveFair, reportFair}
+use Rattle.arena.specs.Fair.{giveFair, growFair, reportFair}
 use Rattle.arena.specs.Calls.{Committed, commitRefused, Done, doneRefused, given, figures}
 use Rattle.holes.specs.Act.{growActs}
 
@@ -44,7 +44,7 @@ pub record Grows (r : Grow) (b : List ℕ) (o : Committed) : Type 0 where
   pub book : b ≡ o .book
 
 unfoldable pub fairGrow : ℕ → List ℕ → ℕ → ℕ → ℕ → Committed
-fairGrow n b h e m = cond (recordFair n b) (growActs n b h e m (ownerCode direct)) (commitRefused b 13)
+fairGrow n b h e m = cond (growFair n b h e m) (growActs n b h e m (ownerCode direct)) (commitRefused b 13)
 
 -- a release
 pub record Releases (r : ℕ) (b : List ℕ) (o : Done) : Type 0 where

@@ -14,7 +14,7 @@ ghost use Prim.Native.Nat.{_+_, _-_, _≤_, _<_};
 ghost use Rattle.words.specs.Limits.{maxPages};
 ghost use Rattle.model.specs.Heap.{badRun, badGrowth, direct};
 ghost use Rattle.arena.specs.Owners.{ownerCode};
-ghost use Rattle.arena.specs.Fair.{recordFair};
+ghost use Rattle.arena.specs.Fair.{growFair};
 ghost use Rattle.arena.specs.Calls.{commitCall, releaseCall, growCall, containsCall};
 ghost use Rattle.holes.specs.Act.{clamped, growActs};
 ghost use Rattle.runs.specs.Asks.{BookIn};
@@ -86,9 +86,9 @@ fn grow_of(c: Commit) -> Grow
     }
 }
 
-// A run that the direct calls hold and that ends at page `end`, on a record in its ranges.
+// A run that the direct calls hold and that ends at page `end`, on words in their ranges.
 fn grow_held(meta: &mut [u32], size: u32, host: u32, end: u32, pages: u32) -> Grow
-    requires { ⌜ BookIn (now meta) size × (recordFair size (now meta) ≡ true) × (pages ≤ maxPages + 1) ⌝ }
+    requires { ⌜ BookIn (now meta) size × (growFair size (now meta) host end pages ≡ true) × (pages ≤ maxPages + 1) ⌝ }
     ensures { λ r. ⌜ Grows r (now (meta .exit)) (growActs size (now (meta .entry)) host end pages (ownerCode direct)) ⌝ }
 {
     let a = load::load_record(meta);
@@ -102,11 +102,11 @@ fn grow_held(meta: &mut [u32], size: u32, host: u32, end: u32, pages: u32) -> Gr
     grow_of(growth::grow_run(meta, a, end, q))
 }
 
-fn grow_fair(meta: &mut [u32], size: u32, host: u32, end: u32, pages: u32) -> Grow
-    requires { ⌜ BookIn (now meta) size × (pages ≤ maxPages + 1) ⌝ }
+fn grow_tested(meta: &mut [u32], size: u32, host: u32, end: u32, pages: u32) -> Grow
+    requires { ⌜ BookIn (now meta) size × (end ≤ maxPages) × (pages ≤ maxPages + 1) ⌝ }
     ensures { λ r. ⌜ Grows r (now (meta .exit)) (fairGrow size (now (meta .entry)) host end pages) ⌝ }
 {
-    if load::record_fair(meta, size) {
+    if growth::grow_fair(meta, size, host, end, pages) {
         return grow_held(meta, size, host, end, pages);
     }
     Grow::Refused(13)
@@ -132,7 +132,7 @@ pub fn grow_frontier(meta: &mut [u32], size: u32, host: u32, first: u64, old: u6
         return Grow::Refused(6);
     }
     if owners::held_direct(meta, size, first, old) {
-        return grow_fair(meta, size, host, (first + old) as u32, clamp(new - old));
+        return grow_tested(meta, size, host, (first + old) as u32, clamp(new - old));
     }
     Grow::Refused(12)
 }

@@ -1,18 +1,18 @@
 -- What the code writes (specs/Act) is the model's step with the whole arena stored (specs/Calls).
 --     Stands               a book with the record still to be written stands for the model's arena: the record stored, it is the arena stored
---     stands-loaded, stands-status, stands-frontier, stands-counted, stands-give, drawn     each step keeps it
+--     stands-loaded, stands-status, stands-frontier, stands-counted, give-stands, drawn     each step keeps it
 --     commit-acts          a commit, on any words long enough
 use Prim.Native.Nat.{ℕ, zero, suc, _+_, _-_, _≤_, _<_}
 use native.Mathlib.Omega.{arith}
 use native.Mathlib.Decide.{ℕ-discrete, decLe}
-use mathlib.Core.Bool.{Bool, true, false, _&&_}
+use mathlib.Core.Bool.{Bool, true, false}
 use mathlib.Core.List.{List}
 use mathlib.Core.Option.{Option, none, some}
 use mathlib.Core.Path.{_≡_, refl, sym, ap, _∙_, subst}
 use lib.Dec.{ltb, leb}
-use lib.ListN.{length, length-append}
-use borrow.Author.Tests.{ltb-true, eq-eqb, ne-eqb, le-leb, lt-leb, leb-true}
-use Rattle.facts.specs.Lists.{isSome}
+use lib.ListN.{length}
+use borrow.Author.Tests.{eqb-true, eq-eqb, ne-eqb, le-leb, lt-leb, leb-true}
+use Rattle.facts.specs.Lists.{every, isSome}
 use Rattle.facts.proofs.Bools.{by-cases, and-left, and-right}
 use Rattle.words.specs.Limits.{holeSlots, holePagesMax}
 use Rattle.words.specs.Host.{reservationGranted, commitGranted}
@@ -20,24 +20,28 @@ use Rattle.fields.specs.Field.{arena, state, frontier, holes, holePages, held, 
 use Rattle.fields.proofs.Laws.{put-get}
 use Rattle.model.specs.declared.Hole.{Hole}
 use Rattle.model.specs.HoleStore as Model
-use Rattle.model.specs.HoleStore.{HoleStore, holeAt, setAt, removeAt, choose, cutFrom, takeAt, accepts, append}
+use Rattle.model.specs.HoleStore.{HoleStore, holeAt, setAt, removeAt, choose, cutFrom, takeAt, endsAt, startsAt, holeBefore, holeAfter, hasRoom, accepts, insert}
 use Rattle.model.specs.Arena as Arenas
 use Rattle.model.specs.Arena.{Arena, Status, ready, disabled, Given, give, drawFrom, draw, grant, commitReady, commitAs, commit}
 use Rattle.model.specs.Heap.{direct}
 use Rattle.model.proofs.HoleLists.{set-length}
 use Rattle.model.proofs.StoreLaws.{Chosen, at-hole, no-hole, chosen}
 use Rattle.model.proofs.ArenaLaws.{give-frontier}
+use Rattle.model.proofs.ArenaTidy.{few-give}
+use Rattle.model.proofs.Placing.{finds}
 use Rattle.holes.specs.declared.Arena.{Arena as Record}
 use Rattle.arena.specs.Load.{statusOf, statusCode, loadHole, loadHoles, loadStore, loadArena}
 use Rattle.arena.specs.Store.{storeHole, storeHoles, storeArena}
 use Rattle.holes.specs.Record.{recordOf, storeRecord, advanced, counted}
-use Rattle.arena.specs.Fair.{recordFair, holesFair, commitFair}
+use Rattle.arena.specs.Fair.{recordFair, holeEndsFair, holesEndFair, holeFair, holesFair, commitFair}
 use Rattle.arena.specs.Owners.{ownerCode, own}
-use Rattle.holes.specs.Plan.{indexCode, planAs, planOf}
-use Rattle.arena.specs.Calls.{Committed, advance, committed, commitFor, given, grownBy, grownBook}
-use Rattle.holes.specs.Act.{withState, withHoles, giveWords, giveRecord, drawWords, drawRecord, endNone, endRun, endGiven, settle, fromFrontier, holeDrawn, commitDrawn, commitPlanned, planned, commitRead, commitActs, givenWith, giveActs, growWith, growActs}
-use Rattle.holes.proofs.StoreLaws.{holes-kept, holes-set, holes-append, holes-removed, loaded-at, removed-length}
-use Rattle.arena.proofs.Frames.{loaded-length, isOwner, arena-changes, own-changes, own-twice}
+use Rattle.holes.specs.Plan.{indexCode, planAs, planOf, neighboursOf}
+use Rattle.arena.specs.Calls.{Committed, settledArena, readyArena, arenaAs, committedArena, grownArena, advance, passedTo, committed, commitFor, given, grownBy, grownBook, growBook}
+use Rattle.holes.specs.Act.{withState, touching, giveWords, giveRecord, drawWords, drawRecord, endNone, endRun, endGiven, settle, fromFrontier, holeDrawn, commitDrawn, commitPlanned, planned, commitRead, commitActs, givenWith, giveActs, growWith, growActs}
+use Rattle.holes.proofs.StoreLaws.{holes-length, holes-kept, holes-set, holes-removed, loaded-at, removed-length}
+use Rattle.holes.proofs.Joins.{holds, place-stands, no-place}
+use Rattle.holes.proofs.EndsFair.{every-at, every-weaker, take-fair}
+use Rattle.arena.proofs.Frames.{loaded-length, isOwner, holes-change, holes-there, arena-changes, own-changes, own-twice}
 use Rattle.fields.proofs.Changes.{changes-none}
 
 -- ---- the record that an arena is stored by
@@ -52,7 +56,7 @@ pub stands-stored : (b : List ℕ) (a : Arena) (x : List ℕ) (r : Record) → S
 unfolding storeArena
 stands-stored b a x r k = ap (λ z. storeRecord z (summary a)) (k .words) ∙ ap (storeRecord x) (k .top)
 
-status-code : (s : ℕ) → s ≤ 2 → statusCode (statusOf s) ≡ s
+pub status-code : (s : ℕ) → s ≤ 2 → statusCode (statusOf s) ≡ s
 status-code zero l = refl
 status-code (suc zero) l = refl
 status-code (suc (suc zero)) l = refl
@@ -72,35 +76,44 @@ module _ (b : List ℕ) (a : Arena) (x : List ℕ) (r : Record) (k : Stands b a 
   pub stands-counted : (f : Bool) → Stands b (Arenas.counted f a) x (counted f r)
   stands-counted f = record { words = k .words; top = ap (counted f) (k .top) }
 
--- giving: stored, or abandoned
-append-top : (m q : ℕ) (a : Arena) → summary (Arenas.withStore (append m q (a .store)) a) ≡ withHoles (length (a .store .holes) + 1) (a .store .total + m) (summary a)
-unfolding append
-append-top m q a = rw length-append
+-- giving, on a book that holds the arena's holes: stored, joined to those that it touches, or abandoned
+not-apart : (m q : ℕ) (h : Hole) → endsAt q h ≡ true → startsAt (q + m) h ≡ true → 1 ≤ h .pages → ⊥
+not-apart m q h e d l = omega (arith, eqb-true (h .first + h .pages) q e, eqb-true (h .first) (q + m) d)
 
-give-own : (b : List ℕ) (m q : ℕ) (a : Arena) → Stands b (give m q a) (giveWords (storeHoles b 0 (a .store .holes)) (summary a) m q) (giveRecord (summary a) m)
-unfolding give accepts append giveWords giveRecord
-give-own b m q a =
-    let hs = a .store .holes in
-    by-cases (ltb (length hs) holeSlots && leb (a .store .total + m) holePagesMax)
-    (λ e. let z : 0 + length hs ≡ length hs = omega arith in
-    rw e (record { words = holes-append b 0 hs (Model.hole q m) (rw z (ltb-true _ _ (and-left _ _ e))) ∙ rw z; top = append-top m q a }))
-    (λ e. rw e (record { words = refl; top = refl }))
+module _ (n : ℕ) (b : List ℕ) (hb : leb (words n) (length b) ≡ true) (m q : ℕ) (a : Arena) (here : loadHoles b 0 (length (a .store .holes)) ≡ a .store .holes) (few : length (a .store .holes) ≤ holeSlots)
+    (f : ℕ) (fair : every (holeEndsFair f) (a .store .holes) ≡ true) where
+  abbrev hs : List Hole
+  hs = a .store .holes
 
-pub stands-give : (b : List ℕ) (m q : ℕ) (a : Arena) (x : List ℕ) (r : Record) → Stands b a x r → Stands b (give m q a) (giveWords x r m q) (giveRecord r m)
-stands-give b m q a x r k =
-    let z = give-own b m q a in
-    record { words = z .words ∙ ap (λ y. giveWords y (summary a) m q) (k .words) ∙ ap (λ y. giveWords x y m q) (k .top); top = z .top ∙ ap (λ y. giveRecord y m) (k .top) }
+  some-pages : (i : ℕ) → i < length hs → 1 ≤ holeAt i hs .pages
+  some-pages i l = leb-true 1 _ (and-left _ _ (every-at (holeEndsFair f) hs i fair l))
 
-pub give-few : (m q : ℕ) (a : Arena) → length (a .store .holes) ≤ holeSlots → length (give m q a .store .holes) ≤ holeSlots
-unfolding give accepts append
-give-few m q a l =
-    by-cases (ltb (length (a .store .holes)) holeSlots && leb (a .store .total + m) holePagesMax)
-    (λ e. rw (e, length-append) (let z = ltb-true (length (a .store .holes)) holeSlots (and-left _ _ e) in omega arith))
-    (λ e. rw e l)
+  pub give-stands : Stands b (give m q a) (giveWords b (summary a) m q) (giveRecord b (summary a) m q)
+  unfolding give accepts insert giveWords giveRecord touching neighboursOf
+  give-stands =
+      let o = finds (endsAt q) hs in
+      let p = finds (startsAt (q + m)) hs in
+      by-cases (leb (a .store .total + m) holePagesMax)
+      (λ t. by-cases (hasRoom hs (holeBefore q hs) (holeAfter (q + m) hs))
+      (λ u. let z = place-stands n b hb hs here few (summary a) refl m q (not-apart m q) some-pages o p u in rw (here, t, u) (record { words = z .words; top = z .top }))
+      (λ u. let z = no-place n b hb hs here few (summary a) refl m q (not-apart m q) some-pages o p u in rw (here, t, u) (record { words = holds n b hb hs here few ∙ sym (z .0); top = sym (z .1) })))
+      (λ t. rw (here, t) (record { words = holds n b hb hs here few; top = refl }))
+
+-- a run that was drawn is given: the holes after the draw are stored, then it is a give
+pub given-stored : (n : ℕ) (b : List ℕ) → leb (words n) (length b) ≡ true → (m q : ℕ) (a : Arena) (x : List ℕ) (r : Record) → Stands b a x r → length (a .store .holes) ≤ holeSlots → (f : ℕ) → every (holeEndsFair f) (a .store .holes) ≡ true
+    → storeArena (storeHoles b 0 (a .store .holes)) (give m q a) ≡ storeRecord (giveWords x r m q) (giveRecord x r m q)
+given-stored n b hb m q a x r k few f fair =
+    let y = storeHoles b 0 (a .store .holes) in
+    let hy : leb (words n) (length y) ≡ true = rw (holes-length b 0 (a .store .holes)) hb in
+    let z = give-stands n y hy m q a (holes-there n b 0 (a .store .holes) hb (omega arith)) few f fair in
+    stands-stored y (give m q a) _ _ z
+    ∙ ap (λ w. storeRecord (giveWords w (summary a) m q) (giveRecord w (summary a) m q)) (k .words)
+    ∙ ap (λ w. storeRecord (giveWords x w m q) (giveRecord x w m q)) (k .top)
 
 -- ---- the end of a commit
-abbrev finish : List ℕ → Given → ℕ → ℕ → Committed
-finish b g m w = record { code = 0; book = committed b g m w; run = g .run; fresh = g .fresh }
+-- the arena's words are then y
+abbrev finish : List ℕ → List ℕ → Given → ℕ → ℕ → Committed
+finish b y g m w = record { code = 0; book = committed b y g m w; run = g .run; fresh = g .fresh }
 
 held-kept : (b y : List ℕ) → get y (arena held) ≡ get b (arena held) → put y (arena held) (get b (arena held)) ≡ y
 held-kept b y e = rw (← e) (put-get y (arena held))
@@ -108,85 +121,92 @@ held-kept b y e = rw (← e) (put-get y (arena held))
 held-stored : (b : List ℕ) (a : Arena) → length (a .store .holes) ≤ holeSlots → get (storeArena b a) (arena held) ≡ get b (arena held)
 held-stored b a few = arena-changes b a few .kept (arena held) refl refl
 
-held-owned : (b : List ℕ) (a : Arena) (q m w : ℕ) → length (a .store .holes) ≤ holeSlots → get (own (storeArena b a) q m w) (arena held) ≡ get b (arena held)
-held-owned b a q m w few = own-changes (storeArena b a) (storeArena b a) q m w (changes-none isOwner (storeArena b a)) .kept (arena held) refl refl ∙ held-stored b a few
+held-owned : (b y : List ℕ) (q m w : ℕ) → get y (arena held) ≡ get b (arena held) → get (own y q m w) (arena held) ≡ get b (arena held)
+held-owned b y q m w e = own-changes y y q m w (changes-none isOwner y) .kept (arena held) refl refl ∙ e
 
 -- the frontier did not move, or it moved by m pages
-advance-still : (b : List ℕ) (a : Arena) → a .frontier ≡ get b (arena frontier) → advance b a ≡ storeArena b a
+advance-still : (b y : List ℕ) (f : ℕ) → f ≡ get b (arena frontier) → advance b y f ≡ y
 unfolding advance own
-advance-still b a e =
-    let z : a .frontier - get b (arena frontier) ≡ 0 = omega arith in
+advance-still b y f e =
+    let z : f - get b (arena frontier) ≡ 0 = omega arith in
     rw z
 
-advance-moved : (b : List ℕ) (a : Arena) (m : ℕ) → a .frontier ≡ get b (arena frontier) + m → advance b a ≡ own (storeArena b a) (get b (arena frontier)) m 0
+advance-moved : (b y : List ℕ) (f m : ℕ) → f ≡ get b (arena frontier) + m → advance b y f ≡ own y (get b (arena frontier)) m 0
 unfolding advance
-advance-moved b a m e =
-    let z : a .frontier - get b (arena frontier) ≡ m = omega arith in
+advance-moved b y f m e =
+    let z : f - get b (arena frontier) ≡ m = omega arith in
     rw z
 
-module _ (n : ℕ) (b : List ℕ) (hb : leb (words n) (length b) ≡ true) (m w : ℕ) where
-  pub ends-none : (a : Arena) (x : List ℕ) (r : Record) → Stands b a x r → length (a .store .holes) ≤ holeSlots → a .frontier ≡ get b (arena frontier)
-      → finish b (Arenas.given a none false) m w ≡ endNone x r
-  unfolding committed endNone
-  ends-none a x r k few e =
+module _ (n : ℕ) (b : List ℕ) (hb : leb (words n) (length b) ≡ true) (m w : ℕ) (a : Arena) (x : List ℕ) (r : Record) (k : Stands b a x r) (few : length (a .store .holes) ≤ holeSlots) where
+  pub ends-none : a .frontier ≡ get b (arena frontier) → finish b (storeArena b a) (Arenas.given a none false) m w ≡ endNone x r
+  unfolding committed passedTo endNone
+  ends-none e =
       ap (λ z. record { code = 0; book = z; run = none; fresh = false })
-      (rw (advance-still b a e) (held-kept b (storeArena b a) (held-stored b a few) ∙ stands-stored b a x r k))
+      (rw (advance-still b (storeArena b a) (a .frontier) e) (held-kept b (storeArena b a) (held-stored b a few) ∙ stands-stored b a x r k))
 
   -- of a hole
-  pub ends-reuse : (a : Arena) (x : List ℕ) (r : Record) (q : ℕ) → Stands b a x r → length (a .store .holes) ≤ holeSlots → a .frontier ≡ get b (arena frontier)
-      → finish b (Arenas.given (Arenas.counted false a) (some q) false) m w ≡ endRun x r m q false w (get b (arena held))
-  unfolding committed endRun
-  ends-reuse a x r q k few e =
+  pub ends-reuse : (q : ℕ) → a .frontier ≡ get b (arena frontier) → finish b (storeArena b (Arenas.counted false a)) (Arenas.given (Arenas.counted false a) (some q) false) m w ≡ endRun x r m q false w (get b (arena held))
+  unfolding committed passedTo endRun
+  ends-reuse q e =
       let z = stands-stored b (Arenas.counted false a) x (counted false r) (stands-counted b a x r k false) in
       ap (λ y. record { code = 0; book = y; run = some q; fresh = false })
-      (rw (advance-still b (Arenas.counted false a) e, z))
-
-  pub ends-reuse-given : (a : Arena) (x : List ℕ) (r : Record) (q : ℕ) → Stands b a x r → length (a .store .holes) ≤ holeSlots → a .frontier ≡ get b (arena frontier)
-      → finish b (Arenas.given (give m q a) none false) m w ≡ endGiven x r m q false
-  unfolding committed endGiven
-  ends-reuse-given a x r q k few e =
-      let a′ = give m q a in
-      ap (λ y. record { code = 0; book = y; run = none; fresh = false })
-      (rw (advance-still b a′ (give-frontier m q a ∙ e))
-      (held-kept b (storeArena b a′) (held-stored b a′ (give-few m q a few)) ∙ stands-stored b a′ _ _ (stands-give b m q a x r k)))
+      (rw (advance-still b (storeArena b (Arenas.counted false a)) (a .frontier) e, z))
 
   -- of the frontier
-  pub ends-fresh : (a : Arena) (x : List ℕ) (r : Record) → Stands b a x r → length (a .store .holes) ≤ holeSlots → a .frontier ≡ get b (arena frontier) + m → a .frontier ≤ n
-      → finish b (Arenas.given (Arenas.counted true a) (some (get b (arena frontier))) true) m w ≡ endRun x r m (get b (arena frontier)) true w (get b (arena held))
-  unfolding committed endRun
-  ends-fresh a x r k few e l =
+  pub ends-fresh : a .frontier ≡ get b (arena frontier) + m → a .frontier ≤ n
+      → finish b (storeArena b (Arenas.counted true a)) (Arenas.given (Arenas.counted true a) (some (get b (arena frontier))) true) m w ≡ endRun x r m (get b (arena frontier)) true w (get b (arena held))
+  unfolding committed passedTo endRun
+  ends-fresh e l =
       let z = stands-stored b (Arenas.counted true a) x (counted true r) (stands-counted b a x r k true) in
+      let y = storeArena b (Arenas.counted true a) in
       let q = get b (arena frontier) in
       ap (λ y. record { code = 0; book = y; run = some q; fresh = true })
       (rw (
-        advance-moved b (Arenas.counted true a) m e,
-        own-twice n (storeArena b (Arenas.counted true a)) (rw (arena-changes b (Arenas.counted true a) few .long) hb) q m 0 w (omega arith),
-        ← (held-owned b (Arenas.counted true a) q m w few),
+        advance-moved b y (a .frontier) m e,
+        own-twice n y (rw (arena-changes b (Arenas.counted true a) few .long) hb) q m 0 w (omega arith),
       ) (rw z))
 
-  pub ends-fresh-given : (a : Arena) (x : List ℕ) (r : Record) → Stands b a x r → length (a .store .holes) ≤ holeSlots → a .frontier ≡ get b (arena frontier) + m
-      → finish b (Arenas.given (give m (get b (arena frontier)) a) none false) m w ≡ endGiven x r m (get b (arena frontier)) true
-  unfolding committed endGiven
-  ends-fresh-given a x r k few e =
-      let q = get b (arena frontier) in
-      let a′ = give m q a in
-      ap (λ y. record { code = 0; book = y; run = none; fresh = false })
-      (rw (advance-moved b a′ m (give-frontier m q a ∙ e))
-      (held-kept b (own (storeArena b a′) q m 0) (held-owned b a′ q m 0 (give-few m q a few)) ∙ ap (λ y. own y q m 0) (stands-stored b a′ _ _ (stands-give b m q a x r k))))
+  -- given, where it is not granted
+  module _ (f : ℕ) (fair : every (holeEndsFair f) (a .store .holes) ≡ true) (q : ℕ) where
+    given-words : List ℕ
+    given-words = storeArena (storeHoles b 0 (a .store .holes)) (give m q a)
+
+    given-are : given-words ≡ storeRecord (giveWords x r m q) (giveRecord x r m q)
+    unfolding given-words
+    given-are = given-stored n b hb m q a x r k few f fair
+
+    held-given : get given-words (arena held) ≡ get b (arena held)
+    unfolding given-words
+    held-given = held-stored (storeHoles b 0 (a .store .holes)) (give m q a) (few-give m q a few) ∙ holes-change b 0 (a .store .holes) (omega arith) .kept (arena held) refl refl
+
+    pub ends-reuse-given : a .frontier ≡ get b (arena frontier) → finish b (storeArena (storeHoles b 0 (a .store .holes)) (give m q a)) (Arenas.given (give m q a) none false) m w ≡ endGiven x r m q false
+    unfolding committed passedTo endGiven given-words
+    ends-reuse-given e =
+        ap (λ y. record { code = 0; book = y; run = none; fresh = false })
+        (rw (advance-still b given-words (give m q a .frontier) (give-frontier m q a ∙ e)) (held-kept b given-words held-given ∙ given-are))
+
+    pub ends-fresh-given : q ≡ get b (arena frontier) → a .frontier ≡ get b (arena frontier) + m
+        → finish b (storeArena (storeHoles b 0 (a .store .holes)) (give m q a)) (Arenas.given (give m q a) none false) m w ≡ endGiven x r m q true
+    unfolding committed passedTo endGiven given-words
+    ends-fresh-given s e =
+        ap (λ y. record { code = 0; book = y; run = none; fresh = false })
+        (rw (advance-moved b given-words (give m q a .frontier) m (give-frontier m q a ∙ e), ← s)
+        (held-kept b (own given-words q m 0) (held-owned b given-words q m 0 held-given) ∙ ap (λ y. own y q m 0) given-are))
 
 -- granted or not
-module _ (n : ℕ) (b : List ℕ) (hb : leb (words n) (length b) ≡ true) (m h w : ℕ) (a : Arena) (x : List ℕ) (r : Record) (k : Stands b a x r) (few : length (a .store .holes) ≤ holeSlots) where
-  settles-reuse : (q : ℕ) → a .frontier ≡ get b (arena frontier) → finish b (grant h m a (some q) false) m w ≡ settle x r m q false h w (get b (arena held))
-  unfolding grant settle
-  settles-reuse q e = by-cases (commitGranted h) (λ t. rw t (ends-reuse n b hb m w a x r q k few e)) (λ t. rw t (ends-reuse-given n b hb m w a x r q k few e))
+module _ (n : ℕ) (b : List ℕ) (hb : leb (words n) (length b) ≡ true) (m h w : ℕ) (a : Arena) (x : List ℕ) (r : Record) (k : Stands b a x r) (few : length (a .store .holes) ≤ holeSlots)
+    (f : ℕ) (fair : commitGranted h ≡ false → every (holeEndsFair f) (a .store .holes) ≡ true) (q : ℕ) where
+  settles-reuse : a .frontier ≡ get b (arena frontier) → finish b (settledArena h m b a (some q) false) (grant h m a (some q) false) m w ≡ settle x r m q false h w (get b (arena held))
+  unfolding grant settledArena settle
+  settles-reuse e = by-cases (commitGranted h) (λ t. rw t (ends-reuse n b hb m w a x r k few q e)) (λ t. rw t (ends-reuse-given n b hb m w a x r k few f (fair t) q e))
 
-  settles-fresh : a .frontier ≡ get b (arena frontier) + m → a .frontier ≤ n
-      → finish b (grant h m a (some (get b (arena frontier))) true) m w ≡ settle x r m (get b (arena frontier)) true h w (get b (arena held))
-  unfolding grant settle
-  settles-fresh e l = by-cases (commitGranted h) (λ t. rw t (ends-fresh n b hb m w a x r k few e l)) (λ t. rw t (ends-fresh-given n b hb m w a x r k few e))
-
-  settles-at : (q : ℕ) → q ≡ get b (arena frontier) → a .frontier ≡ q + m → a .frontier ≤ n → finish b (grant h m a (some q) true) m w ≡ settle x r m q true h w (get b (arena held))
-  settles-at q e f l = rw e (settles-fresh (rw e at f) l)
+  settles-fresh : q ≡ get b (arena frontier) → a .frontier ≡ get b (arena frontier) + m → a .frontier ≤ n
+      → finish b (settledArena h m b a (some q) true) (grant h m a (some q) true) m w ≡ settle x r m q true h w (get b (arena held))
+  unfolding grant settledArena settle
+  settles-fresh s e l =
+      by-cases (commitGranted h)
+      (λ t. rw (t, s) (ends-fresh n b hb m w a x r k few e l))
+      (λ t. rw t (ends-fresh-given n b hb m w a x r k few f (fair t) q s e))
 
 -- ---- a run from the holes
 module _ (n : ℕ) (b : List ℕ) (hb : leb (words n) (length b) ≡ true) (few : get b (arena holes) ≤ holeSlots) (m : ℕ) where
@@ -252,12 +272,12 @@ module _ (n : ℕ) (b : List ℕ) (hb : leb (words n) (length b) ≡ true) (few 
         (λ t. rw (t, used-length) (omega arith))
 
   -- the run drawn and settled, for any record that goes with the store
-  module _ (h w : ℕ) (a : Arena) (fr : a .frontier ≡ get b (arena frontier)) where
+  module _ (h w : ℕ) (f : ℕ) (fair : every (holeEndsFair f) HS ≡ true) (a : Arena) (fr : a .frontier ≡ get b (arena frontier)) where
     A₀ : Arena
     A₀ = Arenas.withStore S a
 
     settled : Given → Committed
-    settled d = finish b (grant h m (d .arena) (d .run) (d .fresh)) m w
+    settled d = finish b (settledArena h m b (d .arena) (d .run) (d .fresh)) (grant h m (d .arena) (d .run) (d .fresh)) m w
 
     lf : length HS ≤ holeSlots
     lf = rw length-HS few
@@ -267,10 +287,10 @@ module _ (n : ℕ) (b : List ℕ) (hb : leb (words n) (length b) ≡ true) (few 
     stands = record { words = holes-kept b 0 (get b (arena holes)); top = refl }
 
     by-frontier : settled (drawFrom n m A₀ none) ≡ fromFrontier n b (summary A₀) m h w (get b (arena held))
-    unfolding settled drawFrom fromFrontier grant A₀ S
+    unfolding settled drawFrom fromFrontier grant settledArena A₀ S
     by-frontier =
         by-cases (leb (a .frontier + m) n)
-        (λ t. rw t (settles-at n b hb m h w _ b _ (stands-frontier b A₀ b _ stands m) lf (a .frontier) fr refl (leb-true _ n t)))
+        (λ t. rw t (settles-fresh n b hb m h w (Arenas.withFrontier (a .frontier + m) A₀) b _ (stands-frontier b A₀ b _ stands m) lf f (λ _. fair) (a .frontier) fr (omega (arith, fr)) (leb-true _ n t)))
         (λ t. rw t (ends-none n b hb m w A₀ b _ stands lf fr))
 
     by-hole : (i : ℕ) → i < length HS → settled (drawFrom n m A₀ (some i)) ≡ commitDrawn n b (summary A₀) (suc i) m h w (get b (arena held))
@@ -278,32 +298,32 @@ module _ (n : ℕ) (b : List ℕ) (hb : leb (words n) (length b) ≡ true) (few 
     by-hole i l =
         let d : suc i - 1 ≡ i = omega arith in
         rw (ne-eqb (suc i) 0 (λ e. omega arith), d)
-        (ap (λ q. finish b (grant h m (Arenas.withStore (takeAt m i S) a) (some q) false) m w) (ap (λ x. x .first) (hole-HS i l))
+        (ap (λ q. finish b (settledArena h m b (Arenas.withStore (takeAt m i S) a) (some q) false) (grant h m (Arenas.withStore (takeAt m i S) a) (some q) false) m w) (ap (λ x. x .first) (hole-HS i l))
         ∙ settles-reuse n b hb m h w _ (drawWords b (summary A₀) m i) (drawRecord b (summary A₀) m i)
-        (record { words = draw-words i l (summary A₀) refl; top = draw-top i l a }) (few-drawn i l) (loadHole b i .first) fr)
+        (record { words = draw-words i l (summary A₀) refl; top = draw-top i l a }) (few-drawn i l) f (λ _. take-fair f m i S l fair) (loadHole b i .first) fr)
 
     drawn : (o : Option ℕ) → Chosen m HS o → settled (drawFrom n m A₀ o) ≡ commitDrawn n b (summary A₀) (indexCode o) m h w (get b (arena held))
     unfolding commitDrawn
     drawn o (no-hole e) = by-frontier
     drawn o (at-hole i l u) = by-hole i (l .inside)
 
-  module _ (h w : ℕ) where
+  module _ (h w : ℕ) (f : ℕ) (fair : every (holeEndsFair f) HS ≡ true) where
     by-ready : (s : Status) (r : Record) → summary (Arenas.withStatus s (loadArena b)) ≡ r
-        → finish b (commitReady n h m (Arenas.withStatus s (loadArena b))) m w ≡ commitDrawn n b r (indexCode (choose m HS)) m h w (get b (arena held))
-    unfolding commitReady draw loadArena loadStore HS S A₀ settled
-    by-ready s r top = drawn h w (Arenas.withStatus s (loadArena b)) refl (choose m HS) (chosen m HS) ∙ ap (λ z. commitDrawn n b z (indexCode (choose m HS)) m h w (get b (arena held))) top
+        → finish b (readyArena n h m b (Arenas.withStatus s (loadArena b))) (commitReady n h m (Arenas.withStatus s (loadArena b))) m w ≡ commitDrawn n b r (indexCode (choose m HS)) m h w (get b (arena held))
+    unfolding commitReady readyArena draw loadArena loadStore HS S A₀ settled
+    by-ready s r top = drawn h w f fair (Arenas.withStatus s (loadArena b)) refl (choose m HS) (chosen m HS) ∙ ap (λ z. commitDrawn n b z (indexCode (choose m HS)) m h w (get b (arena held))) top
 
     -- the arena as loaded, with its own STATE
     loaded-top : (s : ℕ) → s ≤ 2 → get b (arena state) ≡ s → summary (loadArena b) ≡ withState s (recordOf b)
     loaded-top s l e = stands-loaded b (rw e l) .top ∙ ap (λ z. withState z (recordOf b)) e
 
-    off : (s : Status) (r : Record) → summary (Arenas.withStatus s (loadArena b)) ≡ r → finish b (Arenas.given (Arenas.withStatus s (loadArena b)) none false) m w ≡ endNone b r
+    off : (s : Status) (r : Record) → summary (Arenas.withStatus s (loadArena b)) ≡ r → finish b (storeArena b (Arenas.withStatus s (loadArena b))) (Arenas.given (Arenas.withStatus s (loadArena b)) none false) m w ≡ endNone b r
     unfolding loadArena loadStore HS
     off s r top = ends-none n b hb m w (Arenas.withStatus s (loadArena b)) b r (record { words = holes-kept b 0 (get b (arena holes)); top = top }) (rw length-HS few) refl
 
     by-state : (s : ℕ) → s ≤ 2 → get b (arena state) ≡ s
-        → finish b (commitAs n h m (loadArena b) (statusOf s)) m w ≡ commitPlanned n b (recordOf b) (indexCode (choose m HS)) m h w (get b (arena held))
-    unfolding commitAs commitPlanned
+        → finish b (arenaAs n h m b (loadArena b) (statusOf s)) (commitAs n h m (loadArena b) (statusOf s)) m w ≡ commitPlanned n b (recordOf b) (indexCode (choose m HS)) m h w (get b (arena held))
+    unfolding commitAs arenaAs commitPlanned
     by-state zero l e =
         by-cases (reservationGranted h)
         (λ t. rw (e, t) (by-ready ready _ (ap (withState 1) (loaded-top 0 (omega arith) e))))
@@ -313,8 +333,8 @@ module _ (n : ℕ) (b : List ℕ) (hb : leb (words n) (length b) ≡ true) (few 
     by-state (suc (suc (suc s))) l e = absurd (omega arith)
 
     commit-fair : get b (arena state) ≤ 2
-        → finish b (commit n h m (loadArena b)) m w ≡ commitPlanned n b (recordOf b) (indexCode (choose m (loadHoles b 0 (get b (arena holes))))) m h w (get b (arena held))
-    unfolding commit loadArena HS
+        → finish b (committedArena n h m b (loadArena b)) (commit n h m (loadArena b)) m w ≡ commitPlanned n b (recordOf b) (indexCode (choose m (loadHoles b 0 (get b (arena holes))))) m h w (get b (arena held))
+    unfolding commit committedArena loadArena HS
     commit-fair l = by-state (get b (arena state)) l refl
 
 -- ---- a commit
@@ -343,37 +363,51 @@ pub planned-is : (b : List ℕ) (m : ℕ) → planned b m ≡ planAs (holesFair 
 unfolding planned planOf holesFair
 planned-is b m = refl
 
+-- a hole in a commit's range is in a give's
+pub ends-of : (b : List ℕ) → holesFair b ≡ true → every (holeEndsFair (get b (arena frontier))) (loadHoles b 0 (get b (arena holes))) ≡ true
+unfolding holesFair
+ends-of b e = every-weaker (holeFair (get b (arena holePages)) (get b (arena frontier))) (holeEndsFair (get b (arena frontier))) (λ h. and-right (leb (h .pages) (get b (arena holePages))) _) (loadHoles b 0 (get b (arena holes))) e
+
 pub commit-acts : (n : ℕ) (b : List ℕ) → leb (words n) (length b) ≡ true → (h m w : ℕ) → commitActs n b h m w ≡ commitFor n b h m w
-unfolding commitActs commitRead commitFor commitFair
+unfolding commitActs commitRead commitFor commitFair HS
 commit-acts n b hb h m w =
     by-cases (recordFair n b)
     (λ e. let k = fair-record n b e in
     by-cases (holesFair b)
-    (λ v. rw (e, planned-is b m, v) (sym (commit-fair n b hb (k .holes) m h w (k .state))))
+    (λ v. rw (e, planned-is b m, v) (sym (commit-fair n b hb (k .holes) m h w (get b (arena frontier)) (ends-of b v) (k .state))))
     (λ v. rw (e, planned-is b m, v)))
     (λ e. rw e)
 
 -- ---- giving
+loaded-here : (b : List ℕ) → loadHoles b 0 (length (loadArena b .store .holes)) ≡ loadArena b .store .holes
+unfolding loadArena loadStore
+loaded-here b = rw (loaded-length b 0 (get b (arena holes)))
+
 few-loaded : (b : List ℕ) → get b (arena holes) ≤ holeSlots → length (loadArena b .store .holes) ≤ holeSlots
 unfolding loadArena loadStore
 few-loaded b l = rw (loaded-length b 0 (get b (arena holes))) l
 
-pub give-acts : (n : ℕ) (b : List ℕ) → FairRecord n b → (q m : ℕ) → given b q m ≡ giveActs b q m
+fair-loaded : (b : List ℕ) → holesEndFair b ≡ true → every (holeEndsFair (get b (arena frontier))) (loadArena b .store .holes) ≡ true
+unfolding loadArena loadStore holesEndFair
+fair-loaded b e = e
+
+pub give-acts : (n : ℕ) (b : List ℕ) → leb (words n) (length b) ≡ true → FairRecord n b → holesEndFair b ≡ true → (q m : ℕ) → given b q m ≡ giveActs b q m
 unfolding given giveActs givenWith
-give-acts n b k q m =
-    let a = give m q (loadArena b) in
-    let y : storeArena b a ≡ storeRecord (giveWords b (recordOf b) m q) (giveRecord (recordOf b) m) = stands-stored b a _ _ (stands-give b m q (loadArena b) b (recordOf b) (stands-loaded b (k .state))) in
+give-acts n b hb k e q m =
+    let z = stands-stored b (give m q (loadArena b)) _ _ (give-stands n b hb m q (loadArena b) (loaded-here b) (few-loaded b (k .holes)) (get b (arena frontier)) (fair-loaded b e)) in
+    let y : storeArena b (give m q (loadArena b)) ≡ storeRecord (giveWords b (recordOf b) m q) (giveRecord b (recordOf b) m q)
+    = z ∙ ap (λ w. storeRecord (giveWords b w m q) (giveRecord b w m q)) (stands-loaded b (k .state) .top) in
     rw y
 
 -- ---- growth
 pub record GrowsAs (n : ℕ) (b : List ℕ) (h e m : ℕ) : Type 0 where
-  pub book : grownBook b (Arenas.grow n h e m (loadArena b)) e m ≡ growActs n b h e m (ownerCode direct) .book
+  pub book : growBook n b h e m (loadArena b) ≡ growActs n b h e m (ownerCode direct) .book
   pub yes : Arenas.grow n h e m (loadArena b) .grew ≡ isSome (growActs n b h e m (ownerCode direct) .run)
 
 -- the growth as a commit's end
-grown-given : (b : List ℕ) (e m : ℕ) (g : Arenas.Grown) → grownBook b g e m ≡ committed b (Arenas.given (g .arena) (grownBy (g .grew) e) (g .grew)) m (ownerCode direct)
+grown-given : (b y : List ℕ) (e m : ℕ) (g : Arenas.Grown) → grownBook b y g e m ≡ committed b y (Arenas.given (g .arena) (grownBy (g .grew) e) (g .grew)) m (ownerCode direct)
 unfolding grownBook committed
-grown-given b e m g = refl
+grown-given b y e m g = refl
 
 module _ (n : ℕ) (b : List ℕ) (hb : leb (words n) (length b) ≡ true) (k : FairRecord n b) (h m : ℕ) where
   A : Arena
@@ -383,44 +417,44 @@ module _ (n : ℕ) (b : List ℕ) (hb : leb (words n) (length b) ≡ true) (k : 
   unfolding A loadArena
   stands-A = stands-frontier b (loadArena b) b (recordOf b) (stands-loaded b (k .state)) m
 
-  grows-at : get b (arena frontier) + m ≤ n → GrowsAs n b h (get b (arena frontier)) m
-  unfolding growActs growWith fromFrontier settle Arenas.grow loadArena A
-  grows-at l =
+  grows-at : get b (arena frontier) + m ≤ n → (commitGranted h ≡ false → holesEndFair b ≡ true) → GrowsAs n b h (get b (arena frontier)) m
+  unfolding growActs growWith fromFrontier settle grownArena settledArena Arenas.grow loadArena A
+  grows-at l fair =
       let f = get b (arena frontier) in
       let few = few-loaded b (k .holes) in
       by-cases (commitGranted h)
       (λ t. let z = ends-fresh n b hb m (ownerCode direct) A b (advanced m (recordOf b)) stands-A few refl l in
       record {
-        book = rw (eq-eqb f f refl, le-leb (f + m) n l, t) (grown-given b f m _ ∙ ap (λ y. y .book) z);
+        book = rw (eq-eqb f f refl, le-leb (f + m) n l, t) (grown-given b _ f m _ ∙ ap (λ y. y .book) z);
         yes = rw (eq-eqb f f refl, le-leb (f + m) n l, t) (ap (λ y. isSome (y .run)) z);
       })
-      (λ t. let z = ends-fresh-given n b hb m (ownerCode direct) A b (advanced m (recordOf b)) stands-A few refl in
+      (λ t. let z = ends-fresh-given n b hb m (ownerCode direct) A b (advanced m (recordOf b)) stands-A few f (fair-loaded b (fair t)) f refl refl in
       record {
-        book = rw (eq-eqb f f refl, le-leb (f + m) n l, t) (grown-given b f m _ ∙ ap (λ y. y .book) z);
+        book = rw (eq-eqb f f refl, le-leb (f + m) n l, t) (grown-given b _ f m _ ∙ ap (λ y. y .book) z);
         yes = rw (eq-eqb f f refl, le-leb (f + m) n l, t) (ap (λ y. isSome (y .run)) z);
       })
 
-  unmoved : finish b (Arenas.given (loadArena b) none false) m (ownerCode direct) ≡ endNone b (recordOf b)
+  unmoved : finish b (storeArena b (loadArena b)) (Arenas.given (loadArena b) none false) m (ownerCode direct) ≡ endNone b (recordOf b)
   unfolding loadArena
   unmoved = ends-none n b hb m (ownerCode direct) (loadArena b) b (recordOf b) (stands-loaded b (k .state)) (few-loaded b (k .holes)) refl
 
   grows-full : n < get b (arena frontier) + m → GrowsAs n b h (get b (arena frontier)) m
-  unfolding growActs growWith fromFrontier endNone Arenas.grow loadArena
+  unfolding growActs growWith fromFrontier endNone grownArena Arenas.grow loadArena
   grows-full l =
       let f = get b (arena frontier) in
-      record { book = rw (eq-eqb f f refl, lt-leb (f + m) n l) (grown-given b f m _ ∙ ap (λ y. y .book) unmoved); yes = rw (eq-eqb f f refl, lt-leb (f + m) n l) refl }
+      record { book = rw (eq-eqb f f refl, lt-leb (f + m) n l) (grown-given b _ f m _ ∙ ap (λ y. y .book) unmoved); yes = rw (eq-eqb f f refl, lt-leb (f + m) n l) refl }
 
   grows-elsewhere : (e : ℕ) → (get b (arena frontier) ≡ e → ⊥) → GrowsAs n b h e m
-  unfolding growActs growWith endNone Arenas.grow loadArena
+  unfolding growActs growWith endNone grownArena Arenas.grow loadArena
   grows-elsewhere e d =
       let t = ne-eqb (get b (arena frontier)) e d in
-      record { book = rw t (grown-given b e m _ ∙ ap (λ y. y .book) unmoved); yes = rw t refl }
+      record { book = rw t (grown-given b _ e m _ ∙ ap (λ y. y .book) unmoved); yes = rw t refl }
 
-  pub grow-acts : (e : ℕ) → GrowsAs n b h e m
-  grow-acts e =
+  pub grow-acts : (e : ℕ) → (commitGranted h ≡ false → get b (arena frontier) ≡ e → e + m ≤ n → holesEndFair b ≡ true) → GrowsAs n b h e m
+  grow-acts e fair =
       elim (ℕ-discrete (get b (arena frontier)) e) [
         | yes z ↦ subst (λ y. GrowsAs n b h y m) z (elim (decLe (get b (arena frontier) + m) n) [
-          | yes l ↦ grows-at l
+          | yes l ↦ grows-at l (λ t. fair t z (omega (arith, z)))
           | no l ↦ grows-full (omega arith)
         ])
         | no d ↦ grows-elsewhere e d

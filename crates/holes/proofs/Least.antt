@@ -16,7 +16,7 @@ use Rattle.model.specs.HoleStore.{goesBefore, Fit, fitAt, nearer, leastFit, ind
 use Rattle.arena.specs.Fair.{holeFair}
 use Rattle.holes.specs.declared.holes.Best.{Best}
 use Rattle.holes.specs.Plan.{indexCode, planAs, planOf}
-use Rattle.holes.specs.Scan.{over, key, noBest, betterOf, bestOf, codeAt}
+use Rattle.holes.specs.Scan.{over, key, noBest, betterOf, weighed, bestOf, codeAt}
 
 -- ---- one hole, and what is found
 module _ (need i k : ℕ) (h : Hole) (b : Best) (e : k ≡ key need h) where
@@ -139,10 +139,10 @@ module _ (need : ℕ) (need-fits : need < 2 ^ 32) where
 
   module _ (total f : ℕ) (f-fits : f < 2 ^ 32) where
     short-of : (h : Hole) → holeFair total f h ≡ true → h .first + h .pages < 2 ^ 32
-    short-of h e = omega (arith, leb-true (h .first + h .pages) f (and-right (leb (h .pages) total) _ (and-right (leb 1 (h .pages)) _ e)))
+    short-of h e = omega (arith, leb-true (h .first + h .pages) f (and-right (leb 1 (h .pages)) _ (and-right (leb (h .pages) total) _ e)))
 
     says-all : (hs : List Hole) (i : ℕ) → every (holeFair total f) hs ≡ true → Says i (bestOf need i hs noBest) (leastFit need hs)
-    unfolding bestOf leastFit
+    unfolding weighed leastFit
     says-all [] i e = inr refl
     says-all (h ∷ hs) i e =
         says-nearer i h (bestOf need (suc i) hs noBest) (leastFit need hs) (short-of h (and-left (holeFair total f h) _ e)) (says-all hs (suc i) (and-right (holeFair total f h) _ e))

@@ -1,4 +1,6 @@
 pub mod StoreLaws
+pub mod EndsFair
+pub mod Joins
 pub mod Acts
 pub mod PlanLaws
 mod Calling
@@ -10,4 +12,5 @@ mod Loading
 mod Looping
 mod Proving
 mod Scanning
+mod Touching
 mod Walk

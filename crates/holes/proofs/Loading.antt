@@ -2,7 +2,7 @@
 --     load-step       i are loaded, so with the next one stored i + 1 are
 --     fair-step       they are in their range so far, and so with the next one
 --     rest-step       those from i on are as they were, so those from i + 1 on are, whatever is stored at i
---     part-fair, part-best    with a part before the others: whether all are in their range, and the best of all
+--     part-fair, part-weighed    with a part before the others: whether all are in their range, and what all come to
 use mathlib.Core.Path.{_≡_, refl, sym, ap, _∙_}
 use Prim.Native.Nat.{ℕ, zero, suc, _+_, _-_, _<_, _≤_}
 use native.Mathlib.Omega.{arith}
@@ -15,8 +15,7 @@ use lib.Seq.{take-suc-set, drop-set-lt, drop-drop}
 use Rattle.facts.specs.Lists.{every}
 use Rattle.model.specs.declared.Hole.{Hole}
 use Rattle.arena.specs.Load.{loadHole, loadHoles}
-use Rattle.holes.specs.declared.holes.Best.{Best}
-use Rattle.holes.specs.Scan.{bestOf}
+use Rattle.holes.specs.Scan.{weighed}
 
 loads-last : (b : List ℕ) (i k : ℕ) → loadHoles b i k ++ (loadHole b (i + k) ∷ []) ≡ loadHoles b i (suc k)
 unfolding loadHoles
@@ -58,14 +57,14 @@ module _ (p : Hole → Bool) (b : List ℕ) where
   pub fair-step : (others : Bool) (from i : ℕ) → ((others && every p (loadHoles b from i)) && p (loadHole b (from + i))) ≡ (others && every p (loadHoles b from (i + 1)))
   fair-step others from i = rw (fair-part from i 1, one (from + i)) (and-assoc others _ _)
 
--- ---- the best
-best-part : (need : ℕ) (b : List ℕ) (i m k : ℕ) (x : Best) → bestOf need i (loadHoles b i (m + k)) x ≡ bestOf need i (loadHoles b i m) (bestOf need (i + m) (loadHoles b (i + m) k) x)
-unfolding loadHoles bestOf
-best-part need b i zero k x = let e : 0 + k ≡ k = omega arith in rw (add-zero, e)
-best-part need b i (suc m) k x =
+-- ---- weighed
+weighed-part : {X : Type 0} (f : ℕ → Hole → X → X) (b : List ℕ) (i m k : ℕ) (x : X) → weighed f i (loadHoles b i (m + k)) x ≡ weighed f i (loadHoles b i m) (weighed f (i + m) (loadHoles b (i + m) k) x)
+unfolding loadHoles weighed
+weighed-part f b i zero k x = let e : 0 + k ≡ k = omega arith in rw (add-zero, e)
+weighed-part f b i (suc m) k x =
     let d : suc m + k ≡ suc (m + k) = omega arith in
     let e : i + suc m ≡ suc i + m = omega arith in
-    rw (d, e, best-part need b (suc i) m k x)
+    rw (d, e, weighed-part f b (suc i) m k x)
 
 -- ---- the holes at `from` and on, before those at `left` and on
 module _ (b : List ℕ) (from left count : ℕ) (l : from ≤ left) (k : left ≤ count) where
@@ -75,8 +74,8 @@ module _ (b : List ℕ) (from left count : ℕ) (l : from ≤ left) (k : left �
       let d : from + (left - from) ≡ left = omega arith in
       rw (e, fair-part p b from (left - from) (count - left), d) (and-comm (every p (loadHoles b left (count - left))) _)
 
-  pub part-best : (need : ℕ) (x : Best) → bestOf need from (loadHoles b from (left - from)) (bestOf need left (loadHoles b left (count - left)) x) ≡ bestOf need from (loadHoles b from (count - from)) x
-  part-best need x =
+  pub part-weighed : {X : Type 0} (f : ℕ → Hole → X → X) (x : X) → weighed f from (loadHoles b from (left - from)) (weighed f left (loadHoles b left (count - left)) x) ≡ weighed f from (loadHoles b from (count - from)) x
+  part-weighed f x =
       let e : count - from ≡ (left - from) + (count - left) = omega arith in
       let d : from + (left - from) ≡ left = omega arith in
-      rw (e, best-part need b from (left - from) (count - left) x, d)
+      rw (e, weighed-part f b from (left - from) (count - left) x, d)

@@ -1,18 +1,17 @@
 -- What a plan on words in their ranges says.
 --     plan-fits      a chosen hole is stored, long enough, and within the hole pages and the frontier
---     clamp-commit, clamp-grow    a run of more pages than any arena has may be counted as one page more than that
+--     clamp-commit, clamp-grow, clamp-growth    a run of more pages than any arena has may be counted as one page more than that
 --     commit-long    a commit of more pages than any arena has goes like every other one: no hole, no room
-use Prim.Native.Nat.{ℕ, zero, suc, _+_, _-_, _≤_, _<_}
+use Prim.Native.Nat.{ℕ, suc, _+_, _-_, _≤_, _<_}
 use native.Mathlib.Omega.{arith}
-use mathlib.Core.Bool.{Bool, true, cond}
-use mathlib.Core.List.{List, [], _∷_}
+use mathlib.Core.Bool.{true, false, cond}
+use mathlib.Core.List.{List}
 use mathlib.Core.Option.{Option}
 use mathlib.Core.Path.{_≡_, refl, sym, ap, _∙_}
 use lib.Dec.{eqb, leb}
 use lib.ListN.{length}
 use borrow.Author.Tests.{leb-true, leb-false, lt-leb}
-use Rattle.facts.specs.Lists.{every}
-use Rattle.facts.proofs.Bools.{by-cases, and-left, and-right}
+use Rattle.facts.proofs.Bools.{by-cases, and-left, and-right, and-no}
 use Rattle.words.specs.Limits.{maxPages}
 use Rattle.fields.specs.Field.{arena, frontier, holes, holePages, held, get, words}
 use Rattle.model.specs.declared.Hole.{Hole}
@@ -23,18 +22,14 @@ use Rattle.holes.specs.declared.Arena.{Arena}
 use Rattle.holes.specs.declared.Plan.{Plan}
 use Rattle.arena.specs.Load.{loadHole, loadHoles}
 use Rattle.holes.specs.Record.{recordOf}
-use Rattle.arena.specs.Fair.{recordFair, holeFair, holesFair}
+use Rattle.arena.specs.Fair.{recordFair, holeFair, holesFair, growGives, growFair}
 use Rattle.holes.specs.Plan.{indexCode}
 use Rattle.arena.specs.Calls.{commitRefused, commitFor}
 use Rattle.holes.specs.Act.{endNone, fromFrontier, commitDrawn, nextState, withState, commitPlanned, planned, commitRead, commitActs, growWith, growActs, clamped}
 use Rattle.arena.proofs.Frames.{loaded-length}
 use Rattle.holes.proofs.StoreLaws.{loaded-at}
+use Rattle.holes.proofs.EndsFair.{every-at}
 use Rattle.holes.proofs.Acts.{planned-is, fair-record, commit-acts}
-
-every-at : (t : Hole → Bool) (hs : List Hole) (i : ℕ) → every t hs ≡ true → i < length hs → t (holeAt i hs) ≡ true
-every-at t [] i e l = absurd (omega arith)
-every-at t (h ∷ hs) zero e l = and-left (t h) (every t hs) e
-every-at t (h ∷ hs) (suc i) e l = every-at t hs i (and-right (t h) (every t hs) e) (omega arith)
 
 -- hole i has m pages or more, and is within the hole pages and the frontier
 pub record HoleFits (b : List ℕ) (m i : ℕ) : Type 0 where
@@ -54,12 +49,12 @@ module _ (b : List ℕ) (m : ℕ) (fair : holesFair b ≡ true) where
       let e : 0 + i ≡ i = omega arith in
       let x : holeAt i HS ≡ loadHole b i = loaded-at b 0 (get b (arena holes)) i here ∙ rw e in
       let z = rw x at (every-at (holeFair (get b (arena holePages)) (get b (arena frontier))) HS i fair (l .inside)) in
-      let z₁ = and-right (leb 1 (loadHole b i .pages)) _ z in
+      let z₁ = and-right (leb (loadHole b i .pages) (get b (arena holePages))) _ z in
       record {
         stored = here;
         enough = rw x at (l .enough);
-        within = leb-true _ _ (and-left _ _ z₁);
-        ends = leb-true _ _ (and-right (leb (loadHole b i .pages) (get b (arena holePages))) _ z₁);
+        within = leb-true _ _ (and-left _ _ z);
+        ends = leb-true _ _ (and-right (leb 1 (loadHole b i .pages)) _ z₁);
       }
 
   fits-of : (o : Option ℕ) → Chosen m HS o → (indexCode o ≡ 0 → ⊥) → HoleFits b m (indexCode o - 1)
@@ -127,6 +122,18 @@ clamp-grow n b l h e w m =
     by-cases (leb m maxPages)
     (λ t. rw t)
     (λ t. rw t (grow-long n b h e w (maxPages + 1) l (omega arith) ∙ sym (grow-long n b h e w m l (let z = leb-false m maxPages t in omega arith))))
+
+-- the test of it
+long-gives : (n : ℕ) (b : List ℕ) (h e m : ℕ) → n ≤ maxPages → maxPages + 1 ≤ m → growGives n b h e m ≡ false
+unfolding growGives
+long-gives n b h e m l k = simp (lt-leb (e + m) n (omega arith), and-no)
+
+pub clamp-growth : (n : ℕ) (b : List ℕ) → n ≤ maxPages → (h e m : ℕ) → growFair n b h e (clamped m) ≡ growFair n b h e m
+unfolding clamped growFair
+clamp-growth n b l h e m =
+    by-cases (leb m maxPages)
+    (λ t. rw t)
+    (λ t. rw (t, long-gives n b h e (maxPages + 1) l (omega arith), long-gives n b h e m l (let z = leb-false m maxPages t in omega arith)))
 
 pub clamped-le : (m : ℕ) → clamped m ≤ maxPages + 1
 unfolding clamped

@@ -1,4 +1,4 @@
--- A scan of the first `count` holes of a slice, the last one first: what a turn of `scan` uses.
+-- A scan of the first `count` holes of a slice, the last one first: what a turn of `scan` or `touch` uses.
 --     scan-start    before the first turn
 --     scan-step     the hole at j is weighed after those behind it
 use mathlib.Core.Path.{_≡_, sym, ap, _∙_}
@@ -8,37 +8,36 @@ use mathlib.Core.List.{List}
 use lib.ListN.{length, getD, take, drop, drop-of-length-le}
 use lib.Seq.{drop-cons, getD-take, length-take-le}
 use Rattle.model.specs.declared.Hole.{Hole}
-use Rattle.holes.specs.declared.holes.Best.{Best}
-use Rattle.holes.specs.Scan.{noHole, betterOf, bestOf}
+use Rattle.holes.specs.Scan.{noHole, weighed}
 
--- the best of the holes at j and on, where the first stands at the index `from`
-abbrev pub bestFrom : ℕ → ℕ → ℕ → List Hole → Best → ℕ → Best
-bestFrom need from count ys b j = bestOf need (from + j) (drop j (take count ys)) b
+-- what the holes at j and on come to, where the first stands at the index `from`
+abbrev pub weighedFrom : {X : Type 0} → (ℕ → Hole → X → X) → ℕ → ℕ → List Hole → X → ℕ → X
+weighedFrom f from count ys x j = weighed f (from + j) (drop j (take count ys)) x
 
-module _ (need from count : ℕ) (ys : List Hole) (within : count ≤ length ys) (b : Best) where
+module _ {X : Type 0} (f : ℕ → Hole → X → X) (from count : ℕ) (ys : List Hole) (within : count ≤ length ys) (x : X) where
   long : length (take count ys) ≡ count
   long = length-take-le count ys within
 
-  pub scan-start : b ≡ bestFrom need from count ys b count
-  unfolding bestOf
+  pub scan-start : x ≡ weighedFrom f from count ys x count
+  unfolding weighed
   scan-start =
       let l : length (take count ys) ≤ count = omega (arith, long) in
-      ap (λ (hs : List Hole). bestOf need (from + count) hs b) (sym (drop-of-length-le (take count ys) l))
+      ap (λ (hs : List Hole). weighed f (from + count) hs x) (sym (drop-of-length-le (take count ys) l))
 
-  pub scan-step : (i : ℕ) → 0 < i → i ≤ count → betterOf need (from + (i - 1)) (getD ys (i - 1) noHole) (bestFrom need from count ys b i) ≡ bestFrom need from count ys b (i - 1)
-  unfolding bestOf
+  pub scan-step : (i : ℕ) → 0 < i → i ≤ count → f (from + (i - 1)) (getD ys (i - 1) noHole) (weighedFrom f from count ys x i) ≡ weighedFrom f from count ys x (i - 1)
+  unfolding weighed
   scan-step i l up-to =
       let j : ℕ = i - 1 in
       let zs : List Hole = take count ys in
       let here : j < length zs = omega (arith, long) in
       let e : suc j ≡ i = omega arith in
       let d : suc (from + j) ≡ from + i = omega arith in
-      sym (ap (λ (hs : List Hole). bestOf need (from + j) hs b) (drop-cons zs j noHole here)
-      ∙ ap (λ (g : Hole). betterOf need (from + j) g (bestOf need (suc (from + j)) (drop (suc j) zs) b)) (getD-take count ys j noHole (omega arith))
-      ∙ ap (λ (k : ℕ). betterOf need (from + j) (getD ys j noHole) (bestOf need k (drop (suc j) zs) b)) d
-      ∙ ap (λ (k : ℕ). betterOf need (from + j) (getD ys j noHole) (bestOf need (from + i) (drop k zs) b)) e)
+      sym (ap (λ (hs : List Hole). weighed f (from + j) hs x) (drop-cons zs j noHole here)
+      ∙ ap (λ (g : Hole). f (from + j) g (weighed f (suc (from + j)) (drop (suc j) zs) x)) (getD-take count ys j noHole (omega arith))
+      ∙ ap (λ (k : ℕ). f (from + j) (getD ys j noHole) (weighed f k (drop (suc j) zs) x)) d
+      ∙ ap (λ (k : ℕ). f (from + j) (getD ys j noHole) (weighed f (from + i) (drop k zs) x)) e)
 
-  pub scan-end : bestFrom need from count ys b 0 ≡ bestOf need from (take count ys) b
+  pub scan-end : weighedFrom f from count ys x 0 ≡ weighed f from (take count ys) x
   scan-end =
       let e : from + 0 ≡ from = omega arith in
       rw e

@@ -1,5 +1,6 @@
 -- Writing only what changed is storing everything.
 --     holes-kept       the holes that the words hold, stored again, change no word
+--     loaded-set       one hole written: one of the loaded list changes
 --     holes-set        one hole changed: one hole written
 --     holes-append     a hole appended: one hole written
 --     holes-removed    a hole of the loaded list used up: the last one written in its place
@@ -20,7 +21,7 @@ use Rattle.model.specs.declared.Hole.{Hole}
 use Rattle.model.specs.HoleStore.{holeAt, setAt, removeAt, withoutLast, lastHole}
 use Rattle.model.proofs.HoleLists.{set-length}
 use Rattle.arena.specs.Load.{loadHole, loadHoles}
-use Rattle.arena.proofs.Frames.{loaded-length}
+use Rattle.arena.proofs.Frames.{loaded-length, hole-there, hole-other, holes-same}
 use Rattle.arena.specs.Store.{storeHole, storeHoles}
 
 -- ---- one hole
@@ -61,6 +62,22 @@ pub holes-kept : (b : List ℕ) (i k : ℕ) → storeHoles b i (loadHoles b i k)
 unfolding loadHoles storeHoles
 holes-kept b i zero = refl
 holes-kept b i (suc k) = rw (holes-kept b (suc i) k) (hole-kept b i)
+
+-- one hole written: one of the loaded list changes
+pub loaded-set : (n : ℕ) (b : List ℕ) → leb (words n) (length b) ≡ true → (j i k : ℕ) (v : Hole) → j + k ≤ holeSlots → j + i < holeSlots → loadHoles (storeHole b (j + i) v) j k ≡ setAt i v (loadHoles b j k)
+unfolding loadHoles
+loaded-set n b hb j i zero v l u = refl
+loaded-set n b hb j zero (suc k) v l u =
+    let o : ltb j holeSlots ≡ true = lt-ltb j holeSlots (omega arith) in
+    rw (add-zero, hole-there n b j v hb o)
+    (ap (λ hs. v ∷ hs) (holes-same b (storeHole b j v) (suc j) k (omega arith) (λ f x y z. hole-other n b j x f v o y (ne-eqb j x (λ e. omega arith)))))
+loaded-set n b hb j (suc i) (suc k) v l u =
+    let o : ltb (j + suc i) holeSlots ≡ true = lt-ltb (j + suc i) holeSlots u in
+    let d : ltb j holeSlots ≡ true = lt-ltb j holeSlots (omega arith) in
+    let e : suc j + i ≡ j + suc i = omega arith in
+    let ne = ne-eqb (j + suc i) j (λ z. omega arith) in
+    rw (hole-other n b (j + suc i) j start v o d ne, hole-other n b (j + suc i) j pages v o d ne)
+    (ap (λ hs. loadHole b j ∷ hs) (ap (λ x. loadHoles (storeHole b x v) (suc j) k) (sym e) ∙ loaded-set n b hb (suc j) i k v (omega arith) (omega arith)))
 
 -- one hole of any list changed
 pub holes-set : (n : ℕ) (b : List ℕ) → leb (words n) (length b) ≡ true → (i j : ℕ) (x : Hole) (hs : List Hole) → i + length hs ≤ holeSlots → j < length hs

@@ -1,5 +1,5 @@
 -- What the walks by hand of this crate share: the names of the logic that they use, the laws of what is passed by value and of what is lent, and a slice's machine value.
---     number, truth, unit, aHole, aBest, aPlan, anArena, aGain     plain data
+--     number, truth, unit, aHole, aBest, anEdges, aBeside, aPlan, aNeighbours, anArena, aGain     plain data
 --     byValue, lent, lentMut, recordMut                     a parameter: plain data, a `&[T]`, a `&mut [T]`, a `&mut Arena`
 --     lentAt, holeVals, machine, Lent, scaled               a reference, a hole's and a slice's machine values, what a `&[T]` owns, and that an element's offset fits
 use mir.Syntax.{Width}
@@ -12,8 +12,11 @@ use denote.Triple.Walked.{stay-none, stay-none-slice, stay-slice, stay-ref, goes
 use denote.Struct.Laws as laws
 use Rattle.model.proofs.Hole as hole
 use Rattle.holes.proofs.Plan as plan
+use Rattle.holes.proofs.Neighbours as neighbours
 use Rattle.holes.proofs.Arena as arena
 use Rattle.holes.proofs.holes.Best as best
+use Rattle.holes.proofs.holes.Edges as edges
+use Rattle.holes.proofs.holes.Beside as beside
 use Rattle.holes.proofs.record.Gain as gain
 use Rattle.holes.proofs.Calling.{Plain}
 use Rattle.holes.proofs.Proving.{Taken}
@@ -82,8 +85,17 @@ aHole = record { low = hole.Laws.lowered; tells = laws.tells hole.the-type hole.
 abbrev pub aBest : Plain best.the-row
 aBest = record { low = best.Laws.lowered; tells = laws.tells best.the-type best.Laws.the-laws; makes = λ 𝓤 H A W. laws.makes best.the-type best.Laws.the-plain 𝓤 H A; lawful = λ 𝓤 H A W. laws.lawful best.the-type best.Laws.the-laws 𝓤 H A W; silent = λ x f. refl }
 
+abbrev pub anEdges : Plain edges.the-row
+anEdges = record { low = edges.Laws.lowered; tells = laws.tells edges.the-type edges.Laws.the-laws; makes = λ 𝓤 H A W. laws.makes edges.the-type edges.Laws.the-plain 𝓤 H A; lawful = λ 𝓤 H A W. laws.lawful edges.the-type edges.Laws.the-laws 𝓤 H A W; silent = λ x f. refl }
+
+abbrev pub aBeside : Plain beside.the-row
+aBeside = record { low = beside.Laws.lowered; tells = laws.tells beside.the-type beside.Laws.the-laws; makes = λ 𝓤 H A W. laws.makes beside.the-type beside.Laws.the-plain 𝓤 H A; lawful = λ 𝓤 H A W. laws.lawful beside.the-type beside.Laws.the-laws 𝓤 H A W; silent = λ x f. refl }
+
 abbrev pub aPlan : Plain plan.the-row
 aPlan = record { low = plan.Laws.lowered; tells = laws.tells plan.the-type plan.Laws.the-laws; makes = λ 𝓤 H A W. laws.makes plan.the-type plan.Laws.the-plain 𝓤 H A; lawful = λ 𝓤 H A W. laws.lawful plan.the-type plan.Laws.the-laws 𝓤 H A W; silent = λ x f. refl }
+
+abbrev pub aNeighbours : Plain neighbours.the-row
+aNeighbours = record { low = neighbours.Laws.lowered; tells = laws.tells neighbours.the-type neighbours.Laws.the-laws; makes = λ 𝓤 H A W. laws.makes neighbours.the-type neighbours.Laws.the-plain 𝓤 H A; lawful = λ 𝓤 H A W. laws.lawful neighbours.the-type neighbours.Laws.the-laws 𝓤 H A W; silent = λ x f. refl }
 
 abbrev pub anArena : Plain arena.the-row
 anArena = record { low = arena.Laws.lowered; tells = laws.tells arena.the-type arena.Laws.the-laws; makes = λ 𝓤 H A W. laws.makes arena.the-type arena.Laws.the-plain 𝓤 H A; lawful = λ 𝓤 H A W. laws.lawful arena.the-type arena.Laws.the-laws 𝓤 H A W; silent = λ x f. refl }

@@ -4,22 +4,25 @@
 use Prim.Native.Nat.{ℕ, zero, suc, _+_, _-_}
 use mathlib.Core.List.{List}
 use mathlib.Core.Option.{none, some}
-use mathlib.Core.Bool.{Bool, true, false, cond, _&&_}
+use mathlib.Core.Bool.{Bool, true, false, cond}
 use mathlib.Core.Path.{_≡_}
 use lib.Dec.{eqb, leb, ltb}
 use Rattle.words.specs.Limits.{maxPages}
 use Rattle.words.specs.Host.{reservationGranted, commitGranted}
 use Rattle.fields.specs.Field.{arena, frontier, held, get, put}
 use Rattle.model.specs.HoleStore as Model
-use Rattle.model.specs.HoleStore.{holeSlots, holePagesMax}
+use Rattle.model.specs.HoleStore.{holeSlots, holePagesMax, withBefore, withAfter, withBoth}
+use Rattle.model.specs.declared.Hole.{Hole}
 use Rattle.holes.specs.declared.Arena.{Arena}
 use Rattle.holes.specs.declared.Plan.{Plan}
+use Rattle.holes.specs.declared.Neighbours.{Neighbours}
+use Rattle.holes.specs.declared.holes.Edges.{Edges}
 use Rattle.arena.specs.Load.{loadHole, loadHoles}
 use Rattle.arena.specs.Store.{storeHole}
 use Rattle.holes.specs.Record.{recordOf, storeRecord, advanced, counted, abandoning}
 use Rattle.arena.specs.Fair.{recordFair}
 use Rattle.arena.specs.Owners.{own}
-use Rattle.holes.specs.Plan.{planOf}
+use Rattle.holes.specs.Plan.{planOf, neighboursOf}
 use Rattle.arena.specs.Calls.{Committed, commitRefused}
 
 -- ---- the record
@@ -29,20 +32,44 @@ withState s a = record { state = s; frontier = a .frontier; count = a .count; to
 abbrev pub withHoles : ℕ → ℕ → Arena → Arena
 withHoles k t a = record { state = a .state; frontier = a .frontier; count = k; total = t; commits = a .commits; reuses = a .reuses; abandoned = a .abandoned }
 
--- ---- giving
-abbrev pub accepting : ℕ → Arena → Bool
-accepting m a = ltb (a .count) holeSlots && leb (a .total + m) holePagesMax
+-- ---- giving: by the codes of the hole before the run and of the one after, 0 for none
+-- with both joined, at i and j: v is the joined hole, and the last hole comes to j; where that is the joined one, only j is written
+unfoldable pub bothWords : List ℕ → Arena → ℕ → ℕ → Hole → List ℕ
+bothWords b a i j v = cond (eqb (i + 1) (a .count)) (storeHole b j v) (storeHole (storeHole b i v) j (loadHole b (a .count - 1)))
 
-unfoldable pub giveWords : List ℕ → Arena → ℕ → ℕ → List ℕ
-giveWords b a m q = cond (accepting m a) (storeHole b (a .count) (Model.hole q m)) b
+unfoldable pub placeWords : List ℕ → Arena → ℕ → ℕ → ℕ → ℕ → List ℕ
+placeWords b a m q zero zero = cond (ltb (a .count) holeSlots) (storeHole b (a .count) (Model.hole q m)) b
+placeWords b a m q (suc i) zero = storeHole b i (withBefore m (loadHole b i))
+placeWords b a m q zero (suc j) = storeHole b j (withAfter m q (loadHole b j))
+placeWords b a m q (suc i) (suc j) = bothWords b a i j (withBoth m (loadHole b i) (loadHole b j))
 
-unfoldable pub giveRecord : Arena → ℕ → Arena
-giveRecord a m = cond (accepting m a) (withHoles (a .count + 1) (a .total + m) a) (abandoning a)
+unfoldable pub placeRecord : Arena → ℕ → ℕ → ℕ → Arena
+placeRecord a m zero zero = cond (ltb (a .count) holeSlots) (withHoles (a .count + 1) (a .total + m) a) (abandoning a)
+placeRecord a m (suc i) zero = withHoles (a .count) (a .total + m) a
+placeRecord a m zero (suc j) = withHoles (a .count) (a .total + m) a
+placeRecord a m (suc i) (suc j) = withHoles (a .count - 1) (a .total + m) a
 
 -- the words x and the record r after it
+pub record Places (b : List ℕ) (a : Arena) (m q c d : ℕ) (x : List ℕ) (r : Arena) : Type 0 where
+  pub book : x ≡ placeWords b a m q c d
+  pub top : r ≡ placeRecord a m c d
+
+-- the holes that a run of m pages at q touches
+abbrev pub edges : ℕ → ℕ → Edges
+edges m q = record { first = q; end = q + m }
+
+unfoldable pub touching : List ℕ → Arena → ℕ → ℕ → Neighbours
+touching b a m q = neighboursOf (loadHoles b 0 (a .count)) (a .frontier) (edges m q)
+
+unfoldable pub giveWords : List ℕ → Arena → ℕ → ℕ → List ℕ
+giveWords b a m q = let t = touching b a m q in cond (leb (a .total + m) holePagesMax) (placeWords b a m q (t .before) (t .after)) b
+
+unfoldable pub giveRecord : List ℕ → Arena → ℕ → ℕ → Arena
+giveRecord b a m q = let t = touching b a m q in cond (leb (a .total + m) holePagesMax) (placeRecord a m (t .before) (t .after)) (abandoning a)
+
 pub record Gives (b : List ℕ) (a : Arena) (m q : ℕ) (x : List ℕ) (r : Arena) : Type 0 where
   pub book : x ≡ giveWords b a m q
-  pub top : r ≡ giveRecord a m
+  pub top : r ≡ giveRecord b a m q
 
 -- ---- a run from hole i: its front is cut off, or the last hole comes into its place
 unfoldable pub drawWords : List ℕ → Arena → ℕ → ℕ → List ℕ
@@ -67,7 +94,7 @@ endRun b a m q f w d = record { code = 0; book = put (own (storeRecord b (counte
 -- not granted: the run is given; a fresh run's pages are nobody's
 unfoldable pub endGiven : List ℕ → Arena → ℕ → ℕ → Bool → Committed
 endGiven b a m q f =
-    let x = storeRecord (giveWords b a m q) (giveRecord a m) in
+    let x = storeRecord (giveWords b a m q) (giveRecord b a m q) in
     record { code = 0; book = cond f (own x q m 0) x; run = none; fresh = false }
 
 unfoldable pub settle : List ℕ → Arena → ℕ → ℕ → Bool → ℕ → ℕ → ℕ → Committed
@@ -104,7 +131,7 @@ commitActs n b h m w = cond (recordFair n b) (commitRead n b h m w (get b (arena
 
 -- ---- the other steps
 unfoldable pub givenWith : List ℕ → Arena → ℕ → ℕ → ℕ → List ℕ
-givenWith b a d q m = put (own (storeRecord (giveWords b a m q) (giveRecord a m)) q m 0) (arena held) (d - m)
+givenWith b a d q m = put (own (storeRecord (giveWords b a m q) (giveRecord b a m q)) q m 0) (arena held) (d - m)
 
 unfoldable pub giveActs : List ℕ → ℕ → ℕ → List ℕ
 giveActs b q m = givenWith b (recordOf b) (get b (arena held)) q m

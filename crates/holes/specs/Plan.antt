@@ -5,9 +5,12 @@ use mathlib.Core.Option.{Option, none, some}
 use mathlib.Core.Bool.{Bool, cond}
 use Rattle.facts.specs.Lists.{every}
 use Rattle.model.specs.declared.Hole.{Hole}
-use Rattle.model.specs.HoleStore.{choose}
+use Rattle.model.specs.HoleStore.{choose, holeBefore, holeAfter}
 use Rattle.holes.specs.declared.Plan.{Plan}
-use Rattle.arena.specs.Fair.{holeFair}
+use Rattle.holes.specs.declared.Neighbours.{Neighbours}
+use Rattle.holes.specs.declared.holes.Edges.{Edges}
+use Rattle.holes.specs.declared.holes.Beside.{Beside}
+use Rattle.arena.specs.Fair.{holeFair, holeEndsFair}
 
 -- an index with one added, 0 for none
 abbrev pub indexCode : Option ℕ → ℕ
@@ -21,3 +24,10 @@ planAs fair code = record { fair = fair; code = cond fair code 0 }
 -- total and f are the words HOLE_PAGES and FRONTIER
 unfoldable pub planOf : List Hole → ℕ → ℕ → ℕ → Plan
 planOf hs total f m = planAs (every (holeFair total f) hs) (indexCode (choose m hs))
+
+-- ---- what a give of a run finds: the hole before it and the one after, by the model's own search; f is the word FRONTIER
+abbrev pub neighboursAs : Bool → Beside → Neighbours
+neighboursAs fair x = record { fair = fair; before = x .before; after = x .after }
+
+unfoldable pub neighboursOf : List Hole → ℕ → Edges → Neighbours
+neighboursOf hs f run = record { fair = every (holeEndsFair f) hs; before = indexCode (holeBefore (run .first) hs); after = indexCode (holeAfter (run .end) hs) }

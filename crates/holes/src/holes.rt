@@ -3,13 +3,13 @@ use model::Hole;
 use std::num::wrapping_sub_u32;
 ghost use mathlib.Core.Path.{_≡_};
 ghost use Prim.Native.Nat.{_+_, _<_, _≤_, _^_};
-ghost use mathlib.Core.Bool.{_&&_};
+ghost use mathlib.Core.Bool.{_&&_, cond};
 ghost use lib.ListN.{length, getD, take, drop};
 ghost use Rattle.facts.specs.Lists.{every};
 ghost use Rattle.fields.specs.Field.{hole, start, pages, word, Has};
 ghost use Rattle.arena.specs.Load.{loadHole, loadHoles};
 ghost use Rattle.arena.specs.Fair.{holeFair};
-ghost use Rattle.holes.specs.Scan.{noHole, key, betterOf, bestOf};
+ghost use Rattle.holes.specs.Scan.{noHole, key, betterOf, bestOf, besideAt, besideOf};
 
 pub fn hole_at(holes: &[Hole], i: usize) -> Hole
     requires { ⌜ i < length (now holes) ⌝ }
@@ -61,6 +61,56 @@ pub fn scan(holes: &[Hole], from: u32, count: u32, need: u32, behind: Best) -> B
     best
 }
 
+// A run to be given: its first page, and the one behind its last.
+pub struct Edges {
+    pub first: u32,
+    pub end: u32,
+}
+
+// The codes of the holes that touch a run: of the one that ends at its first page, and of the one that starts at its end. 0 is none.
+pub struct Beside {
+    pub before: u32,
+    pub after: u32,
+}
+
+// The code of index `i`, or else the other one.
+fn code_if(so: bool, i: u32, other: u32) -> u32
+    requires { ⌜ i + 1 < 2 ^ 32 ⌝ }
+    ensures { λ r. ⌜ r ≡ cond so (i + 1) other ⌝ }
+{
+    if so { i + 1 } else { other }
+}
+
+// The hole at `i` on the side where it touches the run, before those behind it.
+fn beside_at(run: Edges, i: u32, h: Hole, behind: Beside) -> Beside
+    requires { ⌜ i + 1 < 2 ^ 32 ⌝ }
+    ensures { λ r. ⌜ r ≡ besideAt run i h behind ⌝ }
+{
+    let ends = (h.first as u64) + (h.pages as u64) == (run.first as u64);
+    let starts = h.first == run.end;
+    Beside {
+        before: code_if(ends, i, behind.before),
+        after: code_if(starts, i, behind.after),
+    }
+}
+
+// The holes that touch a run, the lowest index of each, among the first `count`, which stand at the index `from` and on, and those behind
+// them. The last one is looked at first.
+pub fn touch(holes: &[Hole], from: u32, count: u32, run: Edges, behind: Beside) -> Beside
+    requires { ⌜ (count ≤ length (now holes)) × (from + count < 2 ^ 32) ⌝ }
+    ensures { λ r. ⌜ r ≡ besideOf run from (take count (now (holes .entry))) behind ⌝ }
+{
+    let mut found = behind;
+    let mut i = count;
+    while 0 < i {
+        let j = i - 1;
+        let h = hole_at(holes, j as usize);
+        found = beside_at(run, from + j, h, found);
+        i = j;
+    }
+    found
+}
+
 // The hole that the words hold at `i`.
 pub fn hole_from(meta: &[u32], i: u32) -> Hole
     requires { ⌜ Has (now meta) (hole pages i) ⌝ }
@@ -76,10 +126,10 @@ pub fn hole_from(meta: &[u32], i: u32) -> Hole
 fn fair_too(fair: bool, h: Hole, total: u32, frontier: u32) -> bool
     ensures { λ r. ⌜ r ≡ (fair && holeFair total frontier h) ⌝ }
 {
-    let some = 1 <= h.pages;
     let few = h.pages <= total;
+    let some = 1 <= h.pages;
     let below = (h.first as u64) + (h.pages as u64) <= (frontier as u64);
-    fair & some & few & below
+    fair & few & some & below
 }
 
 // The `count` holes that the words hold at the index `from` and on are stored, the others stay; the answer is whether each of those is in

@@ -1,8 +1,12 @@
-// What a commit of some pages finds among the holes that the words hold. They are loaded into a local array, which is lent, 32 at a time.
+// What a commit of some pages, or a give, finds among the holes that the words hold. They are loaded into a local array, which is lent, 32 at a time.
+use super::holes::Beside;
 use super::holes::Best;
+use super::holes::Edges;
 use super::holes::load_holes;
 use super::holes::scan;
+use super::holes::touch;
 use crate::Arena;
+use crate::Neighbours;
 use crate::Plan;
 use model::Hole;
 ghost use mathlib.Core.Path.{_≡_};
@@ -10,7 +14,7 @@ ghost use Prim.Native.Nat.{_-_, _≤_};
 ghost use lib.ListN.{length};
 ghost use Rattle.model.specs.HoleStore.{holeSlots};
 ghost use Rattle.arena.specs.Load.{loadHoles};
-ghost use Rattle.holes.specs.Plan.{planAs, planOf};
+ghost use Rattle.holes.specs.Plan.{planAs, planOf, neighboursAs, neighboursOf};
 ghost use Rattle.holes.specs.Scan.{codeAt};
 
 // Where the last 32 of so many holes begin.
@@ -71,4 +75,43 @@ pub fn plan(meta: &[u32], a: Arena, pages: u32) -> Plan
 {
     let mut holes = [Hole { first: 0, pages: 0 }; 32];
     plan_in(meta, &mut holes, a, pages)
+}
+
+fn beside(fair: bool, sides: Beside) -> Neighbours
+    ensures { λ r. ⌜ r ≡ neighboursAs fair sides ⌝ }
+{
+    Neighbours {
+        fair,
+        before: sides.before,
+        after: sides.after,
+    }
+}
+
+// As `plan_in` does. A hole that ends below the frontier has no more pages than that.
+fn neighbours_in(meta: &[u32], holes: &mut [Hole], a: Arena, run: Edges) -> Neighbours
+    requires { ⌜ (32 ≤ length (now holes)) × (a .count ≤ holeSlots) × (40000 ≤ length (now meta)) ⌝ }
+    ensures { λ r. ⌜ r ≡ neighboursOf (loadHoles (now (meta .entry)) 0 (a .count)) (a .frontier) run ⌝ }
+{
+    let mut fair = true;
+    let mut sides = Beside {
+        before: 0,
+        after: 0,
+    };
+    let mut left = a.count;
+    while 0 < left {
+        let from = part(left);
+        let count = left - from;
+        fair = load_holes(meta, holes, fair, from, count, a.frontier, a.frontier);
+        sides = touch(holes, from, count, run, sides);
+        left = from;
+    }
+    beside(fair, sides)
+}
+
+pub fn neighbours(meta: &[u32], a: Arena, run: Edges) -> Neighbours
+    requires { ⌜ (a .count ≤ holeSlots) × (40000 ≤ length (now meta)) ⌝ }
+    ensures { λ r. ⌜ r ≡ neighboursOf (loadHoles (now (meta .entry)) 0 (a .count)) (a .frontier) run ⌝ }
+{
+    let mut holes = [Hole { first: 0, pages: 0 }; 32];
+    neighbours_in(meta, &mut holes, a, run)
 }

@@ -8,7 +8,7 @@ use native.Mathlib.Omega.{arith}
 use lib.Dec.{leb}
 use lib.ListN.{length}
 use borrow.Author.Tests.{leb-true}
-use Rattle.model.specs.HoleStore.{leastFit, cutFrom, accepts, append}
+use Rattle.model.specs.HoleStore.{leastFit, cutFrom, lowestThat, place, insert, accepts}
 use Rattle.model.specs.Arena.{give, drawFrom, draw, grant, commitReady, commitAs, commit}
 use Rattle.listing.specs.History.{opened, committed, released, written, Lists}
 use Rattle.listing.specs.Node.{mostPages, mostCalls, commitNode, mayCall, afterCall}
@@ -41,7 +41,7 @@ abbrev Computed : ℕ → ℕ → Type 0
 Computed n k = (listing n k ≡ written (histories n k opened)) × (leb (length (listing n k)) mostNumbers ≡ true)
 
 computed : (n k : ℕ) → Bounds n k → Computed n k
-unfolding commitNode mayCall afterCall gather soFar listFrom histories committed released written leastFit cutFrom accepts append give drawFrom draw grant commitReady commitAs commit
+unfolding commitNode mayCall afterCall gather soFar listFrom histories committed released written leastFit cutFrom lowestThat place insert accepts give drawFrom draw grant commitReady commitAs commit
 computed n k b =
     arenas (λ n. (k : ℕ) → k ≤ mostCalls → Computed n k)
     (lengths (Computed 1) (refl, refl) (refl, refl) (refl, refl) (refl, refl) (refl, refl))

@@ -9,11 +9,11 @@ use borrow.Author.Tests.{leb-true, eqb-true}
 use Rattle.facts.proofs.Bools.{by-cases, and-left, and-right}
 use Rattle.model.specs.Cover.{covers, coversAll, coversRun}
 use Rattle.words.specs.Host.{reservationGranted, commitGranted}
-use Rattle.model.specs.HoleStore.{accepts, append}
+use Rattle.model.specs.HoleStore.{accepts, insert}
 use Rattle.model.specs.Arena.{Arena, Status, unasked, ready, disabled, withStatus, withFrontier, give, giveAll, Given, given, drawFrom, draw, grant, commitReady, commitAs, commit, canGrow, grow}
 use Rattle.model.specs.Ledger.{inHoles, above, abandons, allAbandon, grantAbandons, readyAbandons, commitAbandons, growAbandons}
-use Rattle.model.proofs.Counts.{total-append}
 pub use Rattle.model.proofs.Runs.{covers-in, covers-before, covers-after, covers-le, above-at, above-not, above-cut}
+use Rattle.model.proofs.Placing.{place-covers}
 use Rattle.model.proofs.StoreLaws.{Chosen, at-hole, no-hole, chosen, take-law}
 
 -- how often page x is idle
@@ -23,13 +23,13 @@ idle x a = inHoles x a + above (a .frontier) x
 -- giving
 pub give-frontier : (n q : ℕ) (a : Arena) → give n q a .frontier ≡ a .frontier
 unfolding give
-give-frontier n q a = by-cases (accepts n (a .store)) (λ e. rw e refl) (λ e. rw e refl)
+give-frontier n q a = by-cases (accepts n q (a .store)) (λ e. rw e refl) (λ e. rw e refl)
 
 pub give-law : (n q x : ℕ) (a : Arena) → idle x (give n q a) + abandons n q a x ≡ idle x a + covers n q x
-unfolding give append
+unfolding give insert
 give-law n q x a =
-    by-cases (accepts n (a .store))
-    (λ e. rw e (rw total-append (omega arith)))
+    by-cases (accepts n q (a .store))
+    (λ e. rw e (omega (arith, place-covers n q x (a .store .holes))))
     (λ e. rw e (omega arith))
 
 pub give-all-law : (n x : ℕ) (qs : List ℕ) (a : Arena) → idle x (giveAll n qs a) + allAbandon n qs a x ≡ idle x a + coversAll n qs x
@@ -41,8 +41,8 @@ give-all-frontier n [] a = refl
 give-all-frontier n (q ∷ qs) a = give-all-frontier n qs (give n q a) ∙ give-frontier n q a
 
 -- drawing: the run leaves the idle pages
-record Drawn (size n : ℕ) (a : Arena) (d : Given) : Type 0 where
-  pages : (x : ℕ) → idle x (d .arena) + coversRun n (d .run) x ≡ idle x a
+pub record Drawn (size n : ℕ) (a : Arena) (d : Given) : Type 0 where
+  pub pages : (x : ℕ) → idle x (d .arena) + coversRun n (d .run) x ≡ idle x a
   rises : a .frontier ≤ d .arena .frontier
   bound : a .frontier ≤ size → d .arena .frontier ≤ size
 
@@ -62,7 +62,7 @@ module _ (size n : ℕ) (a : Arena) where
   drawnFrom (at-hole i k w) = record { pages = λ x. omega (arith, take-law n i x (a .store) (k .inside) (k .enough)); rises = omega arith; bound = λ b. b }
   drawnFrom (no-hole k) = search (drawn-cond, drawn-frontier, drawn-none, leb-true)
 
-drawn : (size n : ℕ) (a : Arena) → Drawn size n a (draw size n a)
+pub drawn : (size n : ℕ) (a : Arena) → Drawn size n a (draw size n a)
 unfolding draw
 drawn size n a = drawnFrom size n a (chosen n (a .store .holes))
 

@@ -33,6 +33,11 @@ use Rattle.model.proofs.Fold.{liveNext, liveFrom}
 use Rattle.model.proofs.EntryCounts.{is, at, entries-same, entries-other, entries-at, entries-not, filter-total, word-stays, other-stays, gone}
 use Rattle.model.proofs.Accounts.{held-le, Account, Balance, balance, Passes, drawn-direct, given-direct}
 
+-- a commit's answer is no refusal
+pub run-answered : (o : Option ℕ) (b : Bool) → isRefused (answerRun o b) ≡ false
+run-answered none b = refl
+run-answered (some q) b = refl
+
 -- of a heap after n calls, with the entries not yet released, the pages held by the direct calls as the answers tell, and how often
 -- each page was abandoned
 pub record Inv (size n : ℕ) (H : Heap) (es : List Entry) (f : ℕ → Bool) (lost : ℕ → ℕ) : Type 0 where
@@ -206,10 +211,6 @@ module _ (size n : ℕ) (H : Heap) (es : List Entry) (f : ℕ → Bool) (l : ℕ
   run-of : (o : Option ℕ) (b : Bool) → runOf (answerRun o b) ≡ o
   run-of none b = refl
   run-of (some q) b = refl
-
-  pub run-answered : (o : Option ℕ) (b : Bool) → isRefused (answerRun o b) ≡ false
-  run-answered none b = refl
-  run-answered (some q) b = refl
 
   next-commit : (h m : ℕ) → Next (Calls.commit h m) (commitCall size H h m)
   unfolding commitCall

@@ -139,7 +139,7 @@ module _ (size n : ℕ) (H : Heap) (es : List Entry) (f : ℕ → Bool) (l : ℕ
           run-gains m (g .run) (g .fresh),
           cond-none (isRefused (answerRun (g .run) (g .fresh))),
           total-balance (λ y. isHeld (H .holder y)) (λ y. isHeld (commitCall size H h m .heap .holder y)) (coversRun m (g .run)) (λ y. 0) (below size)
-              (λ y. omega (arith, rw (run-answered size n H es f l inv (g .run) (g .fresh)) at (one y), k .pages y, inv .one y)),
+              (λ y. omega (arith, rw (run-answered (g .run) (g .fresh)) at (one y), k .pages y, inv .one y)),
           zeros (below size),
         );
       }

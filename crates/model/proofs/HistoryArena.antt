@@ -1,5 +1,5 @@
--- Along every history the hole store is tidy: hence best fit, the total of the holes, and the figure of the arena's idle pages.
-use Prim.Native.Nat.{ℕ, _+_, _-_, _≤_}
+-- Along every history the hole store is tidy: hence best fit, joining, the total of the holes, and the figure of the arena's idle pages.
+use Prim.Native.Nat.{ℕ, suc, _+_, _-_, _≤_}
 use mathlib.Core.Path.{_≡_, refl}
 use mathlib.Core.List.{List, [], _∷_}
 use mathlib.Core.Option.{Option, none, some}
@@ -21,16 +21,19 @@ use Rattle.model.specs.Release.{Site, onPage, releaseList}
 use Rattle.model.specs.Chunks.{answer, releaseChunks}
 use Rattle.model.specs.Heap.{Heap, Outcome, newHeap, offer, finish, interact, classCall, badRun, badGrowth, commitCall, growCall, releaseCall, unchanged, directCall, route, step}
 use Rattle.model.specs.History.{heapFrom, heapAfter}
-use Rattle.model.specs.Demands.{BestFit}
+use Rattle.model.specs.Entries.{Entry}
+use Rattle.model.specs.Demands.{BestFit, Joining}
 use Rattle.model.proofs.ArenaLaws.{idle}
 use Rattle.model.proofs.BestFit.{commits}
+use Rattle.model.proofs.Placing.{no-two-touch}
+use Rattle.model.proofs.Joining.{stored, joined-where}
 use Rattle.model.proofs.Tidy.{Tidy}
-use Rattle.model.proofs.ArenaTidy.{tidy-new, tidy-give, tidy-give-all, tidy-commit, tidy-grow}
+use Rattle.model.proofs.ArenaTidy.{Once, tidy-new, tidy-give, tidy-give-all, tidy-commit, tidy-grow}
 use Rattle.model.proofs.IdlePages.{HolesBelow, holes-below, idle-figure}
-use Rattle.model.proofs.HeapLaws.{kept}
+use Rattle.model.proofs.HeapLaws.{Inv, start, step-inv, kept}
 
 -- a request is done, or asks for one of the class's runs
-data AsksRun (sh : Shape) : Ask → Type 0 where
+pub data AsksRun (sh : Shape) : Ask → Type 0 where
   is-done : {r : Result} → AsksRun sh (done r)
   is-asked : {k : Option ℕ → Result} → AsksRun sh (asks (sh .pages) k)
 
@@ -51,11 +54,22 @@ module _ (sh : Shape) where
   page-asks h s ws none = is-done
   page-asks h s ws (some x) = search (asks-cond, is-done)
 
-  answer-asks : (s : Class) (r : Request) → AsksRun sh (answer sh s r)
+  pub answer-asks : (s : Class) (r : Request) → AsksRun sh (answer sh s r)
   unfolding answer releaseList releaseChunks
   answer-asks s (Calls.take h l) = search (asks-cond, is-done, take-asks)
   answer-asks s (Calls.giveBack h ws) = search (asks-cond, is-done, page-asks)
   answer-asks s (Calls.giveChunks h ws gs fs) = search (asks-cond, is-done) depth 9
+
+-- runs of 1 page or more
+pub good-run : (n : ℕ) → badRun n ≡ false → 1 ≤ n
+unfolding badRun
+good-run n e = by-cases (eqb n 0) (λ d. absurd (true≢false (rw d at e))) (λ d. omega (arith, eqb-false n 0 d))
+
+pub longer : (old new : ℕ) → badGrowth old new ≡ false → 1 ≤ new - old
+longer old new e =
+    by-cases (leb new old)
+    (λ d. by-cases (badRun old) (λ c. absurd (true≢false (rw c at e))) (λ c. by-cases (badRun new) (λ b. absurd (true≢false (rw (c, b) at e))) (λ b. absurd (true≢false (rw (c, b, d) at e)))))
+    (λ d. omega (arith, leb-false new old d))
 
 -- the heap after a call: its holes are tidy
 record TidyAfter (o : Outcome) : Type 0 where
@@ -65,11 +79,11 @@ after-cond : (b : Bool) (o p : Outcome) → (b ≡ true → TidyAfter o) → (b 
 after-cond true o p h k = h refl
 after-cond false o p h k = k refl
 
-module _ (size : ℕ) (H : Heap) (k : Tidy (H .arena .store)) where
-  tidy-offer : (h : ℕ) (sh : Shape) → 1 ≤ sh .pages → (q : Ask) → AsksRun sh q → Tidy (offer size h (H .arena) q .arena .store)
+module _ (size : ℕ) (H : Heap) (once : Once (H .arena)) (k : Tidy (H .arena .store)) where
+  pub tidy-offer : (h : ℕ) (sh : Shape) → 1 ≤ sh .pages → (q : Ask) → AsksRun sh q → Tidy (offer size h (H .arena) q .arena .store)
   unfolding offer
   tidy-offer h sh one q is-done = k
-  tidy-offer h sh one q is-asked = tidy-commit size h (sh .pages) one (H .arena) k
+  tidy-offer h sh one q is-asked = tidy-commit size h (sh .pages) one (H .arena) once k
 
   tidy-class : (c : ℕ) (r : Request) → TidyAfter (classCall size H c r)
   unfolding classCall interact finish
@@ -83,19 +97,9 @@ module _ (size : ℕ) (H : Heap) (k : Tidy (H .arena .store)) where
   same : (x : Calls.Answer) → TidyAfter (unchanged H x)
   same x = record { tidy = k }
 
-  good-run : (n : ℕ) → badRun n ≡ false → 1 ≤ n
-  unfolding badRun
-  good-run n e = by-cases (eqb n 0) (λ d. absurd (true≢false (rw d at e))) (λ d. omega (arith, eqb-false n 0 d))
-
   commit-tidy : (h n : ℕ) → badRun n ≡ false → TidyAfter (commitCall size H h n)
   unfolding commitCall
-  commit-tidy h n e = record { tidy = tidy-commit size h n (good-run n e) (H .arena) k }
-
-  longer : (old new : ℕ) → badGrowth old new ≡ false → 1 ≤ new - old
-  longer old new e =
-      by-cases (leb new old)
-      (λ d. by-cases (badRun old) (λ c. absurd (true≢false (rw c at e))) (λ c. by-cases (badRun new) (λ b. absurd (true≢false (rw (c, b) at e))) (λ b. absurd (true≢false (rw (c, b, d) at e)))))
-      (λ d. omega (arith, leb-false new old d))
+  commit-tidy h n e = record { tidy = tidy-commit size h n (good-run n e) (H .arena) once k }
 
   grow-tidy : (h q old new : ℕ) → badGrowth old new ≡ false → TidyAfter (growCall size H h q old new)
   unfolding growCall
@@ -127,9 +131,13 @@ module _ (size : ℕ) (H : Heap) (k : Tidy (H .arena .store)) where
   unfolding step
   tidy-step x = tidy-route x (wayOf x) .tidy
 
-tidy-from : (size : ℕ) (H : Heap) (xs : List Call) → Tidy (H .arena .store) → Tidy (heapFrom size H xs .arena .store)
-tidy-from size H [] k = k
-tidy-from size H (x ∷ xs) k = tidy-from size (step size H x .heap) xs (tidy-step size H k x)
+-- along a history: that no page is in two holes is the heap's invariant
+pub once-inv : {size n : ℕ} {H : Heap} {es : List Entry} {f : ℕ → Bool} {l : ℕ → ℕ} → Inv size n H es f l → Once (H .arena)
+once-inv inv x = omega (arith, inv .one x)
+
+tidy-from : (size n : ℕ) (H : Heap) (es : List Entry) (f : ℕ → Bool) (l : ℕ → ℕ) → Inv size n H es f l → (xs : List Call) → Tidy (H .arena .store) → Tidy (heapFrom size H xs .arena .store)
+tidy-from size n H es f l inv [] k = k
+tidy-from size n H es f l inv (x ∷ xs) k = tidy-from size (suc n) (step size H x .heap) _ _ _ (step-inv size n H es f l inv x) xs (tidy-step size H (once-inv inv) k x)
 
 module _ (size : ℕ) (xs : List Call) where
   abbrev arena : Arena
@@ -137,11 +145,15 @@ module _ (size : ℕ) (xs : List Call) where
 
   pub tidy-after : Tidy (arena .store)
   unfolding newHeap
-  tidy-after = tidy-from size newHeap xs tidy-new
+  tidy-after = tidy-from size 0 newHeap [] (λ x. false) (λ x. 0) (start size) xs tidy-new
 
   -- demand 2's choice of a run
   pub best-fit : BestFit size xs
   best-fit = record { commits = λ h n. commits size h n arena }
+
+  -- no two holes touch, and a given run stands where document 02 says
+  pub joining : Joining size xs
+  joining = record { noTwoTouch = no-two-touch (arena .store .holes) (tidy-after .touch); stored = λ n q. stored n q (arena .store); joinedWhere = λ n q one e. joined-where n q one arena e }
 
   -- the report's figures
   pub hole-total : arena .store .total ≡ total (λ h. h .pages) (arena .store .holes)

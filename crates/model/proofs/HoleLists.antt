@@ -1,6 +1,6 @@
 -- Lists of holes by index, with one hole set or used up: their length, sums, what holds of each.
 use Prim.Native.Nat.{ℕ, zero, suc, _+_, _-_, _≤_, _<_}
-use mathlib.Core.Path.{_≡_, refl}
+use mathlib.Core.Path.{_≡_, refl, sym, ap, _∙_}
 use mathlib.Core.List.{List, [], _∷_, _++_}
 use mathlib.Core.Bool.{Bool, cond}
 use native.Mathlib.Omega.{arith}
@@ -39,6 +39,10 @@ module _ (f : Hole → ℕ) where
   pub at-total : (i : ℕ) (hs : List Hole) → i < length hs → f (holeAt i hs) ≤ total f hs
   at-total i hs h = omega (arith, remove-total i hs h)
 
+pub total-le : (P : Hole → Type 0) (f g : Hole → ℕ) → ((h : Hole) → P h → f h ≤ g h) → (hs : List Hole) → All P hs → total f hs ≤ total g hs
+total-le P f g l [] k = omega arith
+total-le P f g l (h ∷ hs) k = omega (arith, l h (k .0), total-le P f g l hs (k .1))
+
 pub length-total : (hs : List Hole) → total (λ h. 1) hs ≡ length hs
 length-total [] = refl
 length-total (h ∷ hs) = let ih = length-total hs in omega arith
@@ -56,6 +60,38 @@ last-length (x ∷ y ∷ hs) = let ih = last-length (y ∷ hs) in omega arith
 
 pub remove-length : (i : ℕ) (hs : List Hole) → length (removeAt i hs) ≡ length hs - 1
 remove-length i hs = omega (arith, set-length i (lastHole hs) (withoutLast hs), last-length hs)
+
+-- by index: a hole set, the last hole, a hole replaced by the last
+pub set-same : (i : ℕ) (v : Hole) (hs : List Hole) → i < length hs → holeAt i (setAt i v hs) ≡ v
+set-same i v [] h = absurd (omega arith)
+set-same zero v (x ∷ hs) h = refl
+set-same (suc i) v (x ∷ hs) h = set-same i v hs (omega arith)
+
+pub set-differs : (i k : ℕ) (v : Hole) (hs : List Hole) → (k ≡ i → ⊥) → holeAt k (setAt i v hs) ≡ holeAt k hs
+set-differs i k v [] n = refl
+set-differs zero zero v (x ∷ hs) n = absurd (n refl)
+set-differs zero (suc k) v (x ∷ hs) n = refl
+set-differs (suc i) zero v (x ∷ hs) n = refl
+set-differs (suc i) (suc k) v (x ∷ hs) n = set-differs i k v hs (λ e. n (ap suc e))
+
+last-at : (x : Hole) (hs : List Hole) → lastHole (x ∷ hs) ≡ holeAt (length hs) (x ∷ hs)
+last-at x [] = refl
+last-at x (y ∷ hs) = last-at y hs
+
+without-at : (k : ℕ) (hs : List Hole) → k < length hs - 1 → holeAt k (withoutLast hs) ≡ holeAt k hs
+without-at k [] h = refl
+without-at k (x ∷ []) h = absurd (omega arith)
+without-at zero (x ∷ y ∷ hs) h = refl
+without-at (suc k) (x ∷ y ∷ hs) h = without-at k (y ∷ hs) (omega arith)
+
+pub remove-same : (i : ℕ) (hs : List Hole) → i < length hs - 1 → holeAt i (removeAt i hs) ≡ holeAt (length hs - 1) hs
+remove-same i [] h = absurd (omega arith)
+remove-same i (x ∷ hs) h =
+    let k : length (x ∷ hs) - 1 ≡ length hs = omega arith in
+    set-same i (lastHole (x ∷ hs)) (withoutLast (x ∷ hs)) (omega (arith, last-length (x ∷ hs))) ∙ last-at x hs ∙ ap (λ l. holeAt l (x ∷ hs)) (sym k)
+
+pub remove-differs : (i k : ℕ) (hs : List Hole) → k < length hs - 1 → (k ≡ i → ⊥) → holeAt k (removeAt i hs) ≡ holeAt k hs
+remove-differs i k hs h n = set-differs i k (lastHole hs) (withoutLast hs) n ∙ without-at k hs h
 
 -- what holds of each hole
 module _ (P : Hole → Type 0) where

@@ -1,23 +1,29 @@
 -- Arenas that differ in the order of their holes alone answer alike, and go on differing in it alone.
-use Prim.Native.Nat.{ℕ, suc, _+_, _-_, _≤_, _<_}
+use Prim.Native.Nat.{ℕ, _+_, _-_, _≤_, _<_}
 use mathlib.Core.Path.{_≡_, refl, sym, ap, _∙_, ap₂, subst}
 use mathlib.Core.List.{List, [], _∷_}
 use mathlib.Core.Option.{Option, none, some}
-use mathlib.Core.Bool.{Bool, true, false, cond, _&&_}
+use mathlib.Core.Bool.{Bool, true, false, cond, _&&_, _||_}
 use native.Mathlib.Omega.{arith}
 use lib.Dec.{eqb, leb, ltb}
 use lib.ListN.{length}
 use borrow.Author.Tests.{eqb-true, eq-eqb}
-use Rattle.facts.specs.Lists.{All, total}
-use Rattle.facts.proofs.Bools.{by-cases, and-left, and-right}
 use Rattle.words.specs.Host.{reservationGranted, commitGranted}
 use Rattle.model.specs.declared.Hole.{Hole}
-use Rattle.model.specs.HoleStore.{HoleStore, hole, holeAt, removeAt, cutFrom, takeAt, holeSlots, holePagesMax, accepts, append}
+use Rattle.facts.specs.Lists.{All, total, isSome}
+use Rattle.facts.proofs.Bools.{by-cases, and-left, and-right}
+use Rattle.model.specs.Cover.{covers, coversAll}
+use Rattle.model.specs.HoleStore.{HoleStore, hole, holeAt, removeAt, cutFrom, takeAt, endsAt, startsAt, holeBefore, holeAfter, holeSlots, holePagesMax, insert, hasRoom, accepts}
 use Rattle.model.specs.Arena.{Arena, Status, unasked, ready, disabled, withStatus, withFrontier, more, counted, give, giveAll, given, drawFrom, draw, grant, commitReady, commitAs, commit, canGrow, grow}
 use Rattle.model.specs.Order.{isHole, SameHoles, SameArena, SameGiven, SameGrown}
-use Rattle.model.proofs.Counts.{total-append}
-use Rattle.model.proofs.HoleLists.{num, set-total, remove-total, at-total, length-total, all-at}
-use Rattle.model.proofs.StoreLaws.{Chosen, at-hole, no-hole, chosen}
+use Rattle.model.specs.Ledger.{above}
+use Rattle.model.proofs.Runs.{covers-in, above-cut}
+use Rattle.model.proofs.HoleLists.{num, set-total, remove-total, at-total, total-le, length-total, all-at}
+use Rattle.model.proofs.Placing.{ends, starts, Found, found, not-found, finds, valueAt, newOf, joinedOf, placing}
+use Rattle.model.proofs.StoreLaws.{Chosen, at-hole, no-hole, chosen, holesWith}
+use Rattle.model.proofs.ArenaLaws.{idle, give-law, drawn}
+use Rattle.model.proofs.Tidy.{Tidy}
+use Rattle.model.proofs.ArenaTidy.{tidy-give, tidy-draw}
 
 -- every measure of holes has the same sum
 abbrev pub Sums : List Hole → List Hole → Type 0
@@ -39,11 +45,11 @@ record At (g : Hole) (hs : List Hole) : Type 0 where
   there : holeAt index hs ≡ g
 
 counted-at : (g : Hole) (hs : List Hole) → 1 ≤ total (λ h. num (isHole (g .first) (g .pages) h)) hs → At g hs
-counted-at g [] l = absurd (omega arith)
-counted-at g (h ∷ hs) l =
-    by-cases (isHole (g .first) (g .pages) h)
-    (λ e. record { index = 0; inside = omega arith; there = is-hole h g e })
-    (λ e. let x = counted-at g hs (omega (arith, ap num e)) in record { index = suc (x .index); inside = omega (arith, x .inside); there = x .there })
+counted-at g hs l = look (finds (isHole (g .first) (g .pages)) hs)
+  where
+    look : {o : Option ℕ} → Found (isHole (g .first) (g .pages)) hs o → At g hs
+    look (found i b e) = record { index = i; inside = b; there = is-hole (holeAt i hs) g e }
+    look (not-found z) = absurd (omega arith)
 
 pub same-sums : (hs gs : List Hole) → SameHoles hs gs → Sums hs gs
 same-sums [] [] s f = refl
@@ -68,11 +74,7 @@ module _ (hs gs : List Hole) (s : Sums hs gs) where
   all-other : (P : Hole → Type 0) → All P hs → (j : ℕ) → j < length gs → P (holeAt j gs)
   all-other P k j l = let x = other-at gs hs (λ f. sym (s f)) j l in rw (x .there) at (all-at P (x .index) hs (x .inside) k)
 
--- the hole at an index, if there is one; the chosen one is the same
-abbrev valueAt : List Hole → Option ℕ → Option Hole
-valueAt hs none = none
-valueAt hs (some i) = some (holeAt i hs)
-
+-- the chosen hole is the same
 chosen-same : (n : ℕ) (hs gs : List Hole) → Sums hs gs → {o p : Option ℕ} → Chosen n hs o → Chosen n gs p → valueAt hs o ≡ valueAt gs p
 chosen-same n hs gs s (no-hole k) (no-hole l) = refl
 chosen-same n hs gs s (at-hole i a b) (no-hole l) = absurd (omega (arith, a .enough, all-other gs hs (λ f. sym (s f)) (λ h. h .pages < n) l i (a .inside)))
@@ -87,8 +89,69 @@ chosen-same n hs gs s (at-hole i a b) (at-hole j c d) =
     let hi = all-other gs hs (λ f. sym (s f)) (λ h. h .pages ≡ y .pages → y .first ≤ h .first) d i (a .inside) same in
     ap some (same-hole x y (omega arith) same)
 
+-- the hole that passes a test is the same where only one does
+none-passes : (t : Hole → Bool) (g : Hole → ℕ) (hs : List Hole) → total (λ h. num (t h)) hs ≡ 0 → total (λ h. cond (t h) (g h) 0) hs ≡ 0
+none-passes t g [] z = refl
+none-passes t g (h ∷ hs) z = by-cases (t h) (λ e. absurd (omega (arith, ap num e))) (λ e. rw e (omega (arith, none-passes t g hs (omega arith))))
+
+one-passes : (t : Hole → Bool) (g : Hole → ℕ) (hs : List Hole) (i : ℕ) → i < length hs → t (holeAt i hs) ≡ true → total (λ h. num (t h)) hs ≤ 1
+    → total (λ h. cond (t h) (g h) 0) hs ≡ g (holeAt i hs)
+one-passes t g hs i l e u =
+    let own : cond (t (holeAt i hs)) (g (holeAt i hs)) 0 ≡ g (holeAt i hs) = rw e in
+    omega (
+      arith,
+      remove-total (λ h. num (t h)) i hs l,
+      ap num e,
+      remove-total (λ h. cond (t h) (g h) 0) i hs l,
+      none-passes t g (removeAt i hs) (omega (arith, remove-total (λ h. num (t h)) i hs l, ap num e)),
+    )
+
+found-same : (t : Hole → Bool) (hs gs : List Hole) → Sums hs gs → total (λ h. num (t h)) hs ≤ 1 → {o p : Option ℕ} → Found t hs o → Found t gs p → valueAt hs o ≡ valueAt gs p
+found-same t hs gs s u (not-found z) (not-found y) = refl
+found-same t hs gs s u (found i l e) (not-found y) = absurd (omega (arith, s (λ h. num (t h)), at-total (λ h. num (t h)) i hs l, ap num e))
+found-same t hs gs s u (not-found z) (found j l e) = absurd (omega (arith, s (λ h. num (t h)), at-total (λ h. num (t h)) j gs l, ap num e))
+found-same t hs gs s u (found i l e) (found j k d) =
+    let v = s (λ h. num (t h)) in
+    ap some (same-hole (holeAt i hs) (holeAt j gs)
+    (omega (arith, one-passes t (λ h. h .first) hs i l e u, one-passes t (λ h. h .first) gs j k d (omega arith), s (λ h. cond (t h) (h .first) 0)))
+    (omega (arith, one-passes t (λ h. h .pages) hs i l e u, one-passes t (λ h. h .pages) gs j k d (omega arith), s (λ h. cond (t h) (h .pages) 0))))
+
+-- no page is in two holes: so at most one ends, and one starts, at a page
+start-covers : (x : ℕ) (h : Hole) → 1 ≤ h .pages → num (startsAt x h) ≤ covers (h .pages) (h .first) x
+start-covers x h l =
+    by-cases (startsAt x h)
+    (λ e. let d = eqb-true (h .first) x e in rw e (omega (arith, covers-in (h .pages) (h .first) x (omega arith) (omega arith))))
+    (λ e. rw e (omega arith))
+
+end-covers-any : (x : ℕ) (h : Hole) → 1 ≤ h .pages → num (endsAt x h) ≤ covers (h .pages) (h .first) (x - 1)
+end-covers-any x h l =
+    by-cases (endsAt x h)
+    (λ e. let d = eqb-true (h .first + h .pages) x e in rw e (omega (arith, covers-in (h .pages) (h .first) (x - 1) (omega arith) (omega arith))))
+    (λ e. rw e (omega arith))
+
+module _ (hs : List Hole) (each : All (λ h. 1 ≤ h .pages) hs) (once : (x : ℕ) → holesWith x hs ≤ 1) where
+  ends-once : (q : ℕ) → ends q hs ≤ 1
+  ends-once q = omega (arith, once (q - 1), total-le (λ h. 1 ≤ h .pages) (λ h. num (endsAt q h)) (λ h. covers (h .pages) (h .first) (q - 1)) (end-covers-any q) hs each)
+
+  starts-once : (q : ℕ) → starts q hs ≤ 1
+  starts-once q = omega (arith, once q, total-le (λ h. 1 ≤ h .pages) (λ h. num (startsAt q h)) (λ h. covers (h .pages) (h .first) q) (start-covers q) hs each)
+
+-- an arena whose holes are of 1 page or more, and which has no page idle twice
+pub record Sound (a : Arena) : Type 0 where
+  pub tidy : Tidy (a .store)
+  pub once : (x : ℕ) → idle x a ≤ 1
+
 -- giving
-module _ (n q : ℕ) (a b : Arena) (s : SameArena a b) where
+abbrev roomOf : ℕ → Option Hole → Option Hole → Bool
+roomOf l b c = isSome b || isSome c || ltb l holeSlots
+
+room-value : (hs : List Hole) (o p : Option ℕ) → hasRoom hs o p ≡ roomOf (length hs) (valueAt hs o) (valueAt hs p)
+room-value hs none none = refl
+room-value hs none (some j) = refl
+room-value hs (some i) none = refl
+room-value hs (some i) (some j) = refl
+
+module _ (n q : ℕ) (one : 1 ≤ n) (a b : Arena) (s : SameArena a b) (k : Sound a) where
   abbrev hs : List Hole
   hs = a .store .holes
 
@@ -98,26 +161,52 @@ module _ (n q : ℕ) (a b : Arena) (s : SameArena a b) where
   sums : Sums hs gs
   sums = same-sums hs gs (s .holes)
 
-  accepts-same : accepts n (a .store) ≡ accepts n (b .store)
-  unfolding accepts
-  accepts-same = ap₂ _&&_ (ap (λ l. ltb l holeSlots) (same-length hs gs sums)) (ap (λ t. leb (t + n) holePagesMax) (s .total))
+  once : (x : ℕ) → holesWith x hs ≤ 1
+  once x = omega (arith, k .once x)
 
-  append-same : (f : Hole → ℕ) → total f (append n q (a .store) .holes) ≡ total f (append n q (b .store) .holes)
-  unfolding append
-  append-same f = omega (arith, total-append f hs (hole q n ∷ []), total-append f gs (hole q n ∷ []), sums f)
+  before-same : valueAt hs (holeBefore q hs) ≡ valueAt gs (holeBefore q gs)
+  before-same = found-same (endsAt q) hs gs sums (ends-once hs (k .tidy .each) once q) (finds (endsAt q) hs) (finds (endsAt q) gs)
+
+  after-same : valueAt hs (holeAfter (q + n) hs) ≡ valueAt gs (holeAfter (q + n) gs)
+  after-same = found-same (startsAt (q + n)) hs gs sums (starts-once hs (k .tidy .each) once (q + n)) (finds (startsAt (q + n)) hs) (finds (startsAt (q + n)) gs)
+
+  accepts-same : accepts n q (a .store) ≡ accepts n q (b .store)
+  unfolding accepts
+  accepts-same =
+      let x = before-same in
+      let y = after-same in
+      let z = same-length hs gs sums in
+      ap₂ _&&_ (ap (λ t. leb (t + n) holePagesMax) (s .total)) (room-value hs (holeBefore q hs) (holeAfter (q + n) hs) ∙ (cc) ∙ sym (room-value gs (holeBefore q gs) (holeAfter (q + n) gs)))
+
+  insert-same : Sums (insert n q (a .store) .holes) (insert n q (b .store) .holes)
+  unfolding insert
+  insert-same f =
+      omega (
+        arith,
+        placing n q one hs .sums f,
+        placing n q one gs .sums f,
+        sums f,
+        ap₂ (λ x y. total f (joinedOf x y)) before-same after-same,
+        ap₂ (λ x y. f (newOf n q x y)) before-same after-same,
+      )
 
   pub give-same : SameArena (give n q a) (give n q b)
-  unfolding give append
+  unfolding give insert
   give-same =
-      by-cases (accepts n (a .store))
-      (λ e. let d : accepts n (b .store) ≡ true = sym accepts-same ∙ e in
-      rw (e, d) (record { status = s .status; frontier = s .frontier; holes = λ x m. append-same (λ h. num (isHole x m h)); total = ap (λ t. t + n) (s .total); commits = s .commits; reuses = s .reuses; abandoned = s .abandoned }))
-      (λ e. let d : accepts n (b .store) ≡ false = sym accepts-same ∙ e in
+      by-cases (accepts n q (a .store))
+      (λ e. let d : accepts n q (b .store) ≡ true = sym accepts-same ∙ e in
+      rw (e, d) (record { status = s .status; frontier = s .frontier; holes = λ x m. insert-same (λ h. num (isHole x m h)); total = ap (λ t. t + n) (s .total); commits = s .commits; reuses = s .reuses; abandoned = s .abandoned }))
+      (λ e. let d : accepts n q (b .store) ≡ false = sym accepts-same ∙ e in
       rw (e, d) (record { status = s .status; frontier = s .frontier; holes = s .holes; total = s .total; commits = s .commits; reuses = s .reuses; abandoned = ap more (s .abandoned) }))
 
-pub give-all-same : (n : ℕ) (qs : List ℕ) (a b : Arena) → SameArena a b → SameArena (giveAll n qs a) (giveAll n qs b)
-give-all-same n [] a b s = s
-give-all-same n (q ∷ qs) a b s = give-all-same n qs (give n q a) (give n q b) (give-same n q a b s)
+-- giving in turn, where no page is given that is idle
+pub give-all-same : (n : ℕ) → 1 ≤ n → (qs : List ℕ) (a b : Arena) → SameArena a b → Tidy (a .store) → ((x : ℕ) → idle x a + coversAll n qs x ≤ 1) → SameArena (giveAll n qs a) (giveAll n qs b)
+give-all-same n one [] a b s t u = s
+give-all-same n one (q ∷ qs) a b s t u =
+    give-all-same n one qs (give n q a) (give n q b)
+    (give-same n q one a b s (record { tidy = t; once = λ x. omega (arith, u x) }))
+    (tidy-give n one q a t)
+    (λ x. omega (arith, u x, give-law n q x a))
 
 -- drawing: what a cut or used-up hole leaves of a sum
 abbrev restSum : ℕ → (Hole → ℕ) → Hole → ℕ
@@ -189,43 +278,47 @@ counted-same f a b s = record { status = s .status; frontier = s .frontier; hole
 status-same : (x : Status) (a b : Arena) → SameArena a b → SameArena (withStatus x a) (withStatus x b)
 status-same x a b s = record { status = refl; frontier = s .frontier; holes = s .holes; total = s .total; commits = s .commits; reuses = s .reuses; abandoned = s .abandoned }
 
-module _ (size h n : ℕ) where
-  grant-same : (a b : Arena) (o : Option ℕ) (f : Bool) → SameArena a b → SameGiven (grant h n a o f) (grant h n b o f)
+module _ (size h n : ℕ) (one : 1 ≤ n) where
+  grant-same : (a b : Arena) (o : Option ℕ) (f : Bool) → SameArena a b → Sound a → SameGiven (grant h n a o f) (grant h n b o f)
   unfolding grant
-  grant-same a b none f s = same-given a b none false s
-  grant-same a b (some q) f s =
+  grant-same a b none f s k = same-given a b none false s
+  grant-same a b (some q) f s k =
       by-cases (commitGranted h)
       (λ e. rw e (same-given (counted f a) (counted f b) (some q) f (counted-same f a b s)))
-      (λ e. rw e (same-given (give n q a) (give n q b) none false (give-same n q a b s)))
+      (λ e. rw e (same-given (give n q a) (give n q b) none false (give-same n q one a b s k)))
 
-  ready-same : (a b : Arena) → SameArena a b → SameGiven (commitReady size h n a) (commitReady size h n b)
+  ready-same : (a b : Arena) → SameArena a b → Sound a → SameGiven (commitReady size h n a) (commitReady size h n b)
   unfolding commitReady
-  ready-same a b s =
+  ready-same a b s k =
       let d = draw size n a in
       let e = draw size n b in
       let w = draw-same size n a b s in
-      rw (← (w .run), ← (w .fresh)) (grant-same (d .arena) (e .arena) (d .run) (d .fresh) (w .arena))
+      let sound : Sound (d .arena) = record { tidy = tidy-draw size n one a (λ x. omega (arith, k .once x)) (k .tidy); once = λ x. omega (arith, k .once x, drawn size n a .pages x) } in
+      rw (← (w .run), ← (w .fresh)) (grant-same (d .arena) (e .arena) (d .run) (d .fresh) (w .arena) sound)
 
-  as-same : (a b : Arena) (x : Status) → SameArena a b → SameGiven (commitAs size h n a x) (commitAs size h n b x)
+  as-same : (a b : Arena) (x : Status) → SameArena a b → Sound a → SameGiven (commitAs size h n a x) (commitAs size h n b x)
   unfolding commitAs
-  as-same a b unasked s =
+  as-same a b unasked s k =
       by-cases (reservationGranted h)
-      (λ e. rw e (ready-same (withStatus ready a) (withStatus ready b) (status-same ready a b s)))
+      (λ e. rw e (ready-same (withStatus ready a) (withStatus ready b) (status-same ready a b s) (record { tidy = k .tidy; once = k .once })))
       (λ e. rw e (same-given (withStatus disabled a) (withStatus disabled b) none false (status-same disabled a b s)))
-  as-same a b ready s = ready-same a b s
-  as-same a b disabled s = same-given a b none false s
+  as-same a b ready s k = ready-same a b s k
+  as-same a b disabled s k = same-given a b none false s
 
-  pub commit-same : (a b : Arena) → SameArena a b → SameGiven (commit size h n a) (commit size h n b)
+  pub commit-same : (a b : Arena) → SameArena a b → Sound a → SameGiven (commit size h n a) (commit size h n b)
   unfolding commit
-  commit-same a b s = subst (λ x. SameGiven (commitAs size h n a (a .status)) (commitAs size h n b x)) (s .status) (as-same a b (a .status) s)
+  commit-same a b s k = subst (λ x. SameGiven (commitAs size h n a (a .status)) (commitAs size h n b x)) (s .status) (as-same a b (a .status) s k)
 
 -- growing
-module _ (size h e n : ℕ) (a b : Arena) (s : SameArena a b) where
+module _ (size h e n : ℕ) (one : 1 ≤ n) (a b : Arena) (s : SameArena a b) (k : Sound a) where
   abbrev up : Arena → Arena
   up x = withFrontier (e + n) x
 
   up-same : SameArena (up a) (up b)
   up-same = record { status = s .status; frontier = refl; holes = s .holes; total = s .total; commits = s .commits; reuses = s .reuses; abandoned = s .abandoned }
+
+  up-sound : canGrow size e n a ≡ true → Sound (up a)
+  up-sound c = record { tidy = k .tidy; once = λ x. omega (arith, k .once x, above-cut n e x, ap (λ f. above f x) (eqb-true (a .frontier) e (and-left (eqb (a .frontier) e) (leb (e + n) size) c))) }
 
   pub grow-same : SameGrown (grow size h e n a) (grow size h e n b)
   unfolding grow
@@ -234,5 +327,5 @@ module _ (size h e n : ℕ) (a b : Arena) (s : SameArena a b) where
       (λ c. let c′ : canGrow size e n b ≡ true = rw (s .frontier) at c in
       by-cases (commitGranted h)
       (λ g. rw (c, c′, g) (record { grew = refl; arena = counted-same true (up a) (up b) up-same }))
-      (λ g. rw (c, c′, g) (record { grew = refl; arena = give-same n e (up a) (up b) up-same })))
+      (λ g. rw (c, c′, g) (record { grew = refl; arena = give-same n e one (up a) (up b) up-same (up-sound c) })))
       (λ c. let c′ : canGrow size e n b ≡ false = rw (s .frontier) at c in rw (c, c′) (record { grew = refl; arena = s }))

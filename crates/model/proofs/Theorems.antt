@@ -11,7 +11,7 @@ use Rattle.model.specs.Calls.{Call, Request}
 use Rattle.model.specs.Chunks.{answer}
 use Rattle.model.specs.Heap.{Heap, figures}
 use Rattle.model.specs.History.{events, heapAfter}
-use Rattle.model.specs.Demands.{BestFit, Yielding, Outs, Conserved, Figured, Demand3, IsoDisjoint, Commute, StaysHome, Orderless}
+use Rattle.model.specs.Demands.{BestFit, Joining, Yielding, Outs, Conserved, Figured, Demand3, IsoDisjoint, Commute, StaysHome, Orderless}
 use Rattle.model.proofs.HistoryArena as Arenas
 use Rattle.model.proofs.SameHeaps as Orders
 use Rattle.model.proofs.Yields as Yields
@@ -25,6 +25,10 @@ use Rattle.model.proofs.Commute as Calls
 -- Demand 2
 pub best-fit : (size : ℕ) (xs : List Call) → BestFit size xs
 best-fit = Arenas.best-fit
+
+-- document 02, A.4: touching holes are one
+pub joining : (size : ℕ) (xs : List Call) → Joining size xs
+joining = Arenas.joining
 
 -- the order of the holes shows in no answer
 pub orderless : (size : ℕ) (xs ys : List Call) → Orderless size xs ys

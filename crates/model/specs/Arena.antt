@@ -7,7 +7,7 @@ use mathlib.Core.Bool.{Bool, true, false, cond, _&&_}
 use lib.Dec.{eqb, leb, ltb}
 use Rattle.words.specs.Host.{reservationGranted, commitGranted}
 use Rattle.classes.specs.Sizes.{pageBytes}
-use Rattle.model.specs.HoleStore.{HoleStore, emptyStore, holeAt, choose, takeAt, accepts, append}
+use Rattle.model.specs.HoleStore.{HoleStore, emptyStore, holeAt, choose, takeAt, accepts, insert}
 
 -- the reservation is not asked for yet, granted, or refused: then "the arena is disabled for good"
 pub data Status : Type 0 where
@@ -44,9 +44,9 @@ counted fresh a = record { status = a .status; frontier = a .frontier; store = a
 abbrev pub abandon : Arena → Arena
 abandon a = record { status = a .status; frontier = a .frontier; store = a .store; commits = a .commits; reuses = a .reuses; abandoned = more (a .abandoned) }
 
--- giving: stored, or abandoned
+-- giving: stored, joined to the holes that it touches, or abandoned
 unfoldable pub give : ℕ → ℕ → Arena → Arena
-give n q a = cond (accepts n (a .store)) (withStore (append n q (a .store)) a) (abandon a)
+give n q a = cond (accepts n q (a .store)) (withStore (insert n q (a .store)) a) (abandon a)
 
 abbrev pub giveAll : ℕ → List ℕ → Arena → Arena
 giveAll n [] a = a

@@ -69,7 +69,7 @@ releaseChunks sh h s ws gs fs =
     (cond (not (distinct (map pageOf gs) && (every (chunkFits sh s ws) gs && every (chunked sh s gs) ws))) (refuse s 11)
     (let b = settleChunks sh h ws s gs in done (record { class = b .class; answer = fates (b .fates ++ drop (length gs) fs); gives = b .gives })))))))
 
--- one request of a class, from number 5 on
+-- one request of a class with these limits, from number 5 on
 unfoldable pub answer : Shape → Class → Request → Ask
 answer sh s (take h l) = cond (ltb (length l) (sh .batch)) (refuse s 5) (takeFrom sh l (s .partial) (s .empty) (s .cold) (s .full))
 answer sh s (giveBack h ws) = releaseList sh h s ws

@@ -20,6 +20,8 @@ use Rattle.model.specs.Entries.{Entry, Live, OutIn, AllOut, HasByte, fir
 use Rattle.model.specs.Ledger.{inHoles, above, runsWith, heldBy, abandonedFrom}
 use Rattle.model.specs.Held.{gained, lost, parkedAt, idleAt}
 use Rattle.model.specs.BestFit.{Commits}
+use Rattle.model.specs.HoleStore.{accepts}
+use Rattle.model.specs.Joining.{NoTwoTouch, HasRoom, JoinedWhere}
 use Rattle.model.specs.Order.{SameHeap}
 use Rattle.model.specs.Yields.{Listed, TakeYields}
 use Rattle.model.specs.Heap.{newHeap}
@@ -27,6 +29,14 @@ use Rattle.model.specs.Heap.{newHeap}
 -- Demand 2: a commit on the heap after a history answers by best fit, or none with its reason
 pub record BestFit (size : ℕ) (xs : List Call) : Type 0 where
   pub commits : (h n : ℕ) → Commits size h n (heapAfter size xs .arena) (Arenas.commit size h n (heapAfter size xs .arena) .run) (Arenas.commit size h n (heapAfter size xs .arena) .fresh)
+
+-- Document 02, A.4: after every history no two holes touch; a run that is then given is stored, not abandoned, exactly if there is room,
+-- and stands where the request says
+pub record Joining (size : ℕ) (xs : List Call) : Type 0 where
+  pub noTwoTouch : NoTwoTouch (heapAfter size xs .arena .store .holes)
+  pub stored : (n q : ℕ) → (accepts n q (heapAfter size xs .arena .store) ≡ true) ↔ HasRoom n q (heapAfter size xs .arena .store)
+  pub joinedWhere : (n q : ℕ) → 1 ≤ n → accepts n q (heapAfter size xs .arena .store) ≡ true
+      → JoinedWhere n q (heapAfter size xs .arena .store .holes) (Arenas.give n q (heapAfter size xs .arena) .store .holes)
 
 -- Document 02, A.8: where two histories lead to heaps that differ in the order of their holes alone, every further history is answered
 -- alike, with the same runs, and they go on differing in it alone

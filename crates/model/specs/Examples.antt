@@ -13,7 +13,7 @@ use Rattle.classes.specs.Shape.{shapeOf}
 use Rattle.classes.specs.Examples as Lookups
 use Rattle.model.specs.declared.Hole.{Hole}
 use Rattle.model.specs.Calls.{Call, takeBlocks, mediumTakeBlocks, releaseBlocks, mediumReleaseBlocks, releaseBinChunks, commit, growFrontier, release, contains, report, Answer, refused, taken, fate, fates, run, noRun, released, grown, contained, reported}
-use Rattle.model.specs.HoleStore.{hole, store, accepts}
+use Rattle.model.specs.HoleStore.{HoleStore, hole, store, takeAt, accepts}
 use Rattle.model.specs.Page.{Page, carveAs}
 use Rattle.model.specs.Class.{newClass, lists, Ask, serve, takeFrom}
 use Rattle.model.specs.Release.{Settled, park}
@@ -49,9 +49,16 @@ onPark c e k t = record {
   expected = t;
 }
 
--- n pages are given to a store of so many holes with so many pages
-unfoldable pub onGive : ℕ → ℕ → ℕ → Bool → Example
-onGive n holes pages b = record { found = stored (accepts n (store (replicate holes (hole 0 1)) pages)); expected = stored b }
+-- n pages from q on are given to a store; so many holes, each of page 4, with so many pages in all
+unfoldable pub onGive : ℕ → ℕ → HoleStore → Bool → Example
+onGive n q s b = record { found = stored (accepts n q s); expected = stored b }
+
+abbrev at4 : ℕ → ℕ → HoleStore
+at4 holes pages = store (replicate holes (hole 4 1)) pages
+
+-- runs of pages 0 to 15 are given in turn, and these holes stand then
+abbrev pub givenInTurn : List Hole → List Hole → Example
+givenInTurn runs hs = onNewHeap (commit 15 16 ∷ map (λ h. release 15 (h .first) (h .pages)) runs) (run 0 true ∷ map (λ h. released) runs) hs
 
 unfoldable pub onClass : Ask → Answer → Example
 onClass q z = record { found = answered (serve q none .answer); expected = answered z }
@@ -140,10 +147,31 @@ rules =
     ∷ onNewHeap (commit 15 8 ∷ release 15 0 1 ∷ release 15 2 1 ∷ release 15 4 1 ∷ release 15 6 1 ∷ commit 15 1 ∷ commit 15 1 ∷ [])
     (run 0 true ∷ released ∷ released ∷ released ∷ released ∷ run 0 false ∷ run 2 false ∷ []) (hole 6 1 ∷ hole 4 1 ∷ [])
     -- "if 4,096 holes are stored or the total would pass 65,536 pages"
-    ∷ onGive 1 4095 4095 true
-    ∷ onGive 1 4096 4096 false
-    ∷ onGive 1 1 65535 true
-    ∷ onGive 2 1 65535 false
+    ∷ onGive 1 0 (at4 4095 4095) true
+    ∷ onGive 1 0 (at4 4096 4096) false
+    ∷ onGive 1 0 (at4 1 65535) true
+    ∷ onGive 2 0 (at4 1 65535) false
+    -- "A run that joins needs no slot, so at 4,096 holes it is stored ..; the page total is still tested first" (document 02, A.4): behind
+    -- a hole, before one
+    ∷ onGive 1 5 (at4 4096 4096) true
+    ∷ onGive 1 3 (at4 4096 4096) true
+    ∷ onGive 2 5 (at4 1 65535) false
+    ∷ onGive 2 2 (at4 1 65535) false
+    -- "a cut hole given back included"
+    ∷ onGive 1 4 (takeAt 1 9 (store (replicate 4096 (hole 4 2)) 8192)) true
+    -- "The joined hole stands at the index of the hole before it": that one last, too
+    ∷ givenInTurn (hole 0 2 ∷ hole 8 2 ∷ hole 2 2 ∷ []) (hole 0 4 ∷ hole 8 2 ∷ [])
+    ∷ givenInTurn (hole 8 2 ∷ hole 0 2 ∷ hole 2 2 ∷ []) (hole 8 2 ∷ hole 0 4 ∷ [])
+    -- "or of the hole after it if there is none before": that one last, too
+    ∷ givenInTurn (hole 2 2 ∷ hole 8 2 ∷ hole 0 2 ∷ []) (hole 0 4 ∷ hole 8 2 ∷ [])
+    ∷ givenInTurn (hole 8 2 ∷ hole 2 2 ∷ hole 0 2 ∷ []) (hole 8 2 ∷ hole 0 4 ∷ [])
+    -- "Where both join, the one after is removed and the last hole takes its index"; the one after is the last; "even if the last is the
+    -- joined one"
+    ∷ givenInTurn (hole 0 2 ∷ hole 4 2 ∷ hole 8 2 ∷ hole 12 2 ∷ hole 2 2 ∷ []) (hole 0 6 ∷ hole 12 2 ∷ hole 8 2 ∷ [])
+    ∷ givenInTurn (hole 0 2 ∷ hole 8 2 ∷ hole 4 2 ∷ hole 2 2 ∷ []) (hole 0 6 ∷ hole 8 2 ∷ [])
+    ∷ givenInTurn (hole 8 2 ∷ hole 4 2 ∷ hole 12 2 ∷ hole 0 2 ∷ hole 2 2 ∷ []) (hole 8 2 ∷ hole 0 6 ∷ hole 12 2 ∷ [])
+    -- a growth that is not granted joins, too
+    ∷ onNewHeap (commit 15 4 ∷ release 15 2 2 ∷ commit 15 2 ∷ growFrontier 13 2 2 4 ∷ release 15 2 2 ∷ []) (run 0 true ∷ released ∷ run 2 false ∷ grown false ∷ released ∷ []) (hole 2 4 ∷ [])
     -- "puts the list before the page's free list"
     ∷ onNewHeap (take45 ∷ give45 15 (smalls (2051 ∷ [])) ∷ give45 15 (smalls (1027 ∷ [])) ∷ take45 ∷ [])
     (taken45 0 true ∷ fate 0 ∷ fate 0 ∷ taken 2 (smalls (2051 ∷ 1027 ∷ []) ++ lent 62) false ∷ []) []
@@ -212,9 +240,9 @@ examples =
     -- P11: "holes (0,2), (4,2), (8,2) given in turn: three takes of 2 get pages", "now" (document 02, A.8) "gives 0, 4, 8"
     ∷ onNewHeap (commit 15 10 ∷ release 15 0 2 ∷ release 15 4 2 ∷ release 15 8 2 ∷ commit 15 2 ∷ commit 15 2 ∷ commit 15 2 ∷ [])
     (run 0 true ∷ released ∷ released ∷ released ∷ run 0 false ∷ run 4 false ∷ run 8 false ∷ []) []
-    -- P12: "hole (0,4), take 2 not granted: none, holes (2,2), (0,2)"
+    -- P12: "hole (0,4), take 2 not granted: none", and "now ends with the one hole (0,4)" (document 02, A.4)
     ∷ onNewHeap (commit 15 4 ∷ release 15 0 4 ∷ commit 13 2 ∷ [])
-    (run 0 true ∷ released ∷ noRun ∷ []) (hole 2 2 ∷ hole 0 2 ∷ [])
+    (run 0 true ∷ released ∷ noRun ∷ []) (hole 0 4 ∷ [])
     -- "Tempting: .. clearing virgin for a reused hole": P6 on one
     ∷ onNewHeap (commit 15 1 ∷ release 15 0 1 ∷ take0 ∷ [])
     (run 0 true ∷ released ∷ taken 64 (smalls (down 66 3)) true ∷ []) []

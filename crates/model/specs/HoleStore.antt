@@ -1,4 +1,4 @@
--- The hole store (document 01, "A run of pages"; document 02, A.8; the original's `HoleStore`).
+-- The hole store (document 01, "A run of pages"; document 02, A.4 and A.8; the original's `HoleStore`).
 use Prim.Native.Nat.{ℕ, zero, suc, _+_, _-_}
 use mathlib.Core.List.{List, [], _∷_, _++_}
 use mathlib.Core.Option.{Option, none, some}
@@ -6,6 +6,7 @@ use mathlib.Core.Bool.{Bool, cond, _&&_, _||_}
 use lib.Dec.{eqb, leb, ltb}
 use lib.ListN.{length}
 pub use Rattle.words.specs.Limits.{holeSlots, holePagesMax}
+use Rattle.facts.specs.Lists.{isSome}
 use Rattle.model.specs.declared.Hole.{Hole}
 
 abbrev pub hole : ℕ → ℕ → Hole
@@ -85,9 +86,53 @@ cutFrom n i x s =
 abbrev pub takeAt : ℕ → ℕ → HoleStore → HoleStore
 takeAt n i s = cutFrom n i (holeAt i (s .holes)) s
 
--- "Giving appends", unless 4,096 holes are stored or the total would pass 65,536 pages
-unfoldable pub accepts : ℕ → HoleStore → Bool
-accepts n s = ltb (length (s .holes)) holeSlots && leb (s .total + n) holePagesMax
+-- Giving (document 02, A.4): "A given run shall join the hole that ends where it starts and the hole that starts where it ends", each
+-- the one of the lowest index that does
+abbrev pub next : Option ℕ → Option ℕ
+next none = none
+next (some i) = some (suc i)
 
-unfoldable pub append : ℕ → ℕ → HoleStore → HoleStore
-append n q s = store (s .holes ++ hole q n ∷ []) (s .total + n)
+unfoldable pub lowestThat : (Hole → Bool) → List Hole → Option ℕ
+lowestThat t [] = none
+lowestThat t (h ∷ hs) = cond (t h) (some 0) (next (lowestThat t hs))
+
+abbrev pub endsAt : ℕ → Hole → Bool
+endsAt q h = eqb (h .first + h .pages) q
+
+abbrev pub startsAt : ℕ → Hole → Bool
+startsAt e h = eqb (h .first) e
+
+abbrev pub holeBefore : ℕ → List Hole → Option ℕ
+holeBefore q hs = lowestThat (endsAt q) hs
+
+abbrev pub holeAfter : ℕ → List Hole → Option ℕ
+holeAfter e hs = lowestThat (startsAt e) hs
+
+-- the hole of n pages from q on with the hole before them, with the one after, and with both
+abbrev pub withBefore : ℕ → Hole → Hole
+withBefore n b = hole (b .first) (b .pages + n)
+
+abbrev pub withAfter : ℕ → ℕ → Hole → Hole
+withAfter n q c = hole q (n + c .pages)
+
+abbrev pub withBoth : ℕ → Hole → Hole → Hole
+withBoth n b c = hole (b .first) (b .pages + n + c .pages)
+
+-- the holes with n pages from q on, given the indices of the hole before them and of the one after: "The joined hole stands at the index
+-- of the hole before it, or of the hole after it if there is none before. Where both join, the one after is removed and the last hole
+-- takes its index, even if the last is the joined one." One that joins none is appended.
+unfoldable pub place : ℕ → ℕ → List Hole → Option ℕ → Option ℕ → List Hole
+place n q hs none none = hs ++ hole q n ∷ []
+place n q hs (some i) none = setAt i (withBefore n (holeAt i hs)) hs
+place n q hs none (some j) = setAt j (withAfter n q (holeAt j hs)) hs
+place n q hs (some i) (some j) = removeAt j (setAt i (withBoth n (holeAt i hs) (holeAt j hs)) hs)
+
+unfoldable pub insert : ℕ → ℕ → HoleStore → HoleStore
+insert n q s = store (place n q (s .holes) (holeBefore q (s .holes)) (holeAfter (q + n) (s .holes))) (s .total + n)
+
+-- "A run that joins needs no slot, so at 4,096 holes it is stored ..; the page total is still tested first."
+abbrev pub hasRoom : List Hole → Option ℕ → Option ℕ → Bool
+hasRoom hs b c = isSome b || isSome c || ltb (length hs) holeSlots
+
+unfoldable pub accepts : ℕ → ℕ → HoleStore → Bool
+accepts n q s = leb (s .total + n) holePagesMax && hasRoom (s .holes) (holeBefore q (s .holes)) (holeAfter (q + n) (s .holes))

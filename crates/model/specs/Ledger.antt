@@ -40,7 +40,7 @@ heldBy c (class d) = cond (eqb d c) 1 0
 
 -- how often a give of n pages from q on abandons page x; gives in turn; a commit; a growth
 abbrev pub abandons : ℕ → ℕ → Arena → ℕ → ℕ
-abandons n q a x = cond (accepts n (a .store)) 0 (covers n q x)
+abandons n q a x = cond (accepts n q (a .store)) 0 (covers n q x)
 
 abbrev pub allAbandon : ℕ → List ℕ → Arena → ℕ → ℕ
 allAbandon n [] a x = 0

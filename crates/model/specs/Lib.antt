@@ -13,6 +13,7 @@ pub mod Entries
 pub mod Ledger
 pub mod Held
 pub mod BestFit
+pub mod Joining
 pub mod Order
 pub mod Yields
 pub mod Demands

@@ -1,7 +1,7 @@
 -- Number 13's tests for the arena's steps pass on a book that stands for a reached heap.
 --     record-passes, holes-passes    the record, the holes
 --     commit-passes                  all that a commit tests
---     give-passes                    all that a give of held pages tests
+--     give-passes, grow-passes       all that a give of held pages tests; all that a growth tests
 use Prim.Native.Nat.{ℕ, _+_, _≤_}
 use native.Mathlib.Omega.{arith}
 use mathlib.Core.Bool.{true}
@@ -11,6 +11,7 @@ use lib.Dec.{leb}
 use lib.ListN.{length}
 use borrow.Author.Tests.{le-leb}
 use Rattle.facts.specs.Lists.{every, All, total}
+use Rattle.facts.proofs.Bools.{by-cases}
 use Rattle.fields.specs.Field.{arena, state, frontier, holes, holePages, held, get}
 use Rattle.words.specs.Limits.{holeSlots, holePagesMax}
 use Rattle.model.specs.declared.Hole.{Hole}
@@ -18,7 +19,7 @@ use Rattle.model.specs.Arena.{Arena, Status, unasked, ready, disabled}
 use Rattle.model.specs.Heap.{Heap, heldPages}
 use Rattle.model.proofs.IdlePages.{HolesBelow}
 use Rattle.arena.specs.Load.{statusCode, loadHoles, loadStore, loadArena}
-use Rattle.arena.specs.Fair.{holeFair, recordFair, holesFair, commitFair, giveFair}
+use Rattle.arena.specs.Fair.{holeEndsFair, holesEndFair, holeFair, recordFair, holesFair, commitFair, giveFair, growGives, growFair}
 use Rattle.arena.specs.Represents.{ArenaRep}
 use Rattle.arena.proofs.Frames.{loaded-length}
 use Rattle.refinement.proofs.ArenaReached.{Reached, reached-holes, held-le}
@@ -50,7 +51,11 @@ status-range disabled = refl
 holes-range : (t f : ℕ) (hs : List Hole) → All (λ h. 1 ≤ h .pages) hs → HolesBelow f hs → total (λ h. h .pages) hs ≤ t → every (holeFair t f) hs ≡ true
 holes-range t f [] each low l = refl
 holes-range t f (h ∷ hs) each low l =
-    rw (le-leb 1 (h .pages) (each .0), le-leb (h .pages) t (omega arith), le-leb (h .first + h .pages) f (low .0)) (holes-range t f hs (each .1) (low .1) (omega arith))
+    rw (le-leb (h .pages) t (omega arith), le-leb 1 (h .pages) (each .0), le-leb (h .first + h .pages) f (low .0)) (holes-range t f hs (each .1) (low .1) (omega arith))
+
+ends-range : (f : ℕ) (hs : List Hole) → All (λ h. 1 ≤ h .pages) hs → HolesBelow f hs → every (holeEndsFair f) hs ≡ true
+ends-range f [] each low = refl
+ends-range f (h ∷ hs) each low = rw (le-leb 1 (h .pages) (each .0), le-leb (h .first + h .pages) f (low .0)) (ends-range f hs (each .1) (low .1))
 
 module _ (n : ℕ) (b : List ℕ) (H : Heap) (rep : ArenaRep n b H) (r : Reached n H) where
   pub record-passes : recordFair n b ≡ true
@@ -79,10 +84,18 @@ module _ (n : ℕ) (b : List ℕ) (H : Heap) (rep : ArenaRep n b H) (r : Reached
       rw (loads-total b (H .arena) (rep .loads), loads-frontier b (H .arena) (rep .loads), loads-holes b (H .arena) (rep .loads))
       (holes-range (H .arena .store .total) (H .arena .frontier) (H .arena .store .holes) (r .tidy .each) (reached-holes n H r) (omega (arith, r .tidy .sum)))
 
+  ends-passes : holesEndFair b ≡ true
+  unfolding holesEndFair
+  ends-passes = rw (loads-frontier b (H .arena) (rep .loads), loads-holes b (H .arena) (rep .loads)) (ends-range (H .arena .frontier) (H .arena .store .holes) (r .tidy .each) (reached-holes n H r))
+
   pub commit-passes : commitFair n b ≡ true
   unfolding commitFair
   commit-passes = rw (record-passes, holes-passes)
 
   pub give-passes : (m : ℕ) → m ≤ heldPages n H → giveFair n b m ≡ true
   unfolding giveFair
-  give-passes m l = rw (record-passes, rep .held, le-leb m (heldPages n H) l)
+  give-passes m l = rw (record-passes, rep .held, le-leb m (heldPages n H) l) ends-passes
+
+  pub grow-passes : (h e m : ℕ) → growFair n b h e m ≡ true
+  unfolding growFair
+  grow-passes h e m = rw record-passes (by-cases (growGives n b h e m) (λ t. rw t ends-passes) (λ t. rw t))

@@ -23,14 +23,15 @@ use Rattle.classes.specs.declared.Shape.{Shape}
 use Rattle.fields.specs.Field.{Field, arena, class, hole, page, mark, out, slot, ClassField, PageField, owner, first, frontier, held, arenaOff, pageOff, get, put, words}
 use Rattle.fields.proofs.Laws.{get-put-same, length-put}
 use Rattle.fields.proofs.Changes.{Changes, changes-none, changes-put, changes-trans, changes-mono}
-use Rattle.model.specs.Arena.{Arena, Given, Grown}
+use Rattle.model.specs.Arena.{Arena}
 use Rattle.model.specs.Arena as Model
 use Rattle.pages.specs.Runs.{ofRun, whole}
 use Rattle.arena.specs.Load.{loadArena}
 use Rattle.arena.specs.Store.{storeArena}
-use Rattle.arena.specs.Owners.{own, ownRun, heldWith}
-use Rattle.arena.specs.Calls.{advance, committed, given, grownBy, grownBook}
+use Rattle.arena.specs.Owners.{own, ownRun}
+use Rattle.arena.specs.Calls.{advance, passedTo, committed, commitBook, given, grownBy, grownBook, growBook}
 use Rattle.arena.proofs.Frames.{isStored, arena-changes}
+use Rattle.refinement.proofs.ArenaStored.{Few, commit-stored, grow-stored, stored-changes}
 
 -- ---- which words
 abbrev pub isOwner : (ℕ → Bool) → Field → Bool
@@ -161,27 +162,26 @@ either t u x = t x || u x
 abbrev pub passed : List ℕ → Arena → ℕ → Bool
 passed b a = inRun (a .frontier - get b (arena frontier)) (get b (arena frontier))
 
-pub advance-changes : (b : List ℕ) (a : Arena) → length (a .store .holes) ≤ holeSlots → Changes (isStep (passed b a)) b (advance b a)
+pub advance-changes : (b x : List ℕ) (a : Arena) → Changes isStored b x → Changes (isStep (passed b a)) b (advance b x (a .frontier))
 unfolding advance
-advance-changes b a l =
+advance-changes b x a k =
     let t = passed b a in
     let f = get b (arena frontier) in
-    let c = storeArena b a in
-    changes-trans (isStep t) b c (own c f (a .frontier - f) 0)
-    (changes-mono isStored (isStep t) b c (stored-step t) (arena-changes b a l))
-    (changes-mono (isOwner t) (isStep t) c (own c f (a .frontier - f) 0) (owner-step t t (λ x e. e)) (own-changes c f (a .frontier - f) 0))
+    changes-trans (isStep t) b x (own x f (a .frontier - f) 0)
+    (changes-mono isStored (isStep t) b x (stored-step t) k)
+    (changes-mono (isOwner t) (isStep t) x (own x f (a .frontier - f) 0) (owner-step t t (λ y e. e)) (own-changes x f (a .frontier - f) 0))
 
 -- what a commit or a growth writes: the frontier passed pages, a run got an owner, HELD changed
-passed-changes : (b : List ℕ) (a : Arena) (o : Option ℕ) (m w k : ℕ) → length (a .store .holes) ≤ holeSlots
-    → Changes (isStep (either (passed b a) (inRunOf m o))) b (put (ownRun (advance b a) o m w) (arena held) k)
-passed-changes b a o m w k l =
+passed-changes : (b x : List ℕ) (a : Arena) (o : Option ℕ) (m w : ℕ) → Changes isStored b x → Changes (isStep (either (passed b a) (inRunOf m o))) b (passedTo b x (a .frontier) o m w)
+unfolding passedTo
+passed-changes b x a o m w k =
     let t = passed b a in
     let u = inRunOf m o in
     let v = either t u in
-    let c = advance b a in
-    changes-put (isStep v) b (ownRun c o m w) (arena held) k refl refl
+    let c = advance b x (a .frontier) in
+    changes-put (isStep v) b (ownRun c o m w) (arena held) _ refl refl
     (changes-trans (isStep v) b c (ownRun c o m w)
-    (changes-mono (isStep t) (isStep v) b c (step-mono t v (λ x e. or-left (t x) (u x) e)) (advance-changes b a l))
+    (changes-mono (isStep t) (isStep v) b c (step-mono t v (λ x e. or-left (t x) (u x) e)) (advance-changes b x a k))
     (changes-mono (isOwner u) (isStep v) c (ownRun c o m w) (owner-step u v (λ x e. or-right (t x) (u x) e)) (run-changes c o m w)))
   where
     step-mono : (t u : ℕ → Bool) → ((x : ℕ) → t x ≡ true → u x ≡ true) → (g : Field) → isStep t g ≡ true → isStep u g ≡ true
@@ -193,15 +193,14 @@ passed-changes b a o m w k l =
     step-mono t u h (out p i) e = e
     step-mono t u h (slot p i) e = e
 
-pub committed-changes : (b : List ℕ) (g : Given) (m w : ℕ) → length (g .arena .store .holes) ≤ holeSlots
-    → Changes (isStep (either (passed b (g .arena)) (inRunOf m (g .run)))) b (committed b g m w)
-unfolding committed
-committed-changes b g m w l = passed-changes b (g .arena) (g .run) m w (heldWith (get b (arena held)) (g .run) m) l
+module _ (n : ℕ) (b : List ℕ) (h m : ℕ) (a : Arena) (l : Few a) where
+  pub committed-changes : (w : ℕ) → Changes (isStep (either (passed b (Model.commit n h m a .arena)) (inRunOf m (Model.commit n h m a .run)))) b (commitBook n b h m a w)
+  unfolding committed
+  committed-changes w = let g = Model.commit n h m a in passed-changes b _ (g .arena) (g .run) m w (stored-changes b (commit-stored h m b n a l))
 
-pub grown-changes : (b : List ℕ) (g : Grown) (e m : ℕ) → length (g .arena .store .holes) ≤ holeSlots
-    → Changes (isStep (either (passed b (g .arena)) (inRunOf m (grownBy (g .grew) e)))) b (grownBook b g e m)
-unfolding grownBook
-grown-changes b g e m l = passed-changes b (g .arena) (grownBy (g .grew) e) m (ownerCode direct) (heldWith (get b (arena held)) (grownBy (g .grew) e) m) l
+  pub grown-changes : (e : ℕ) → Changes (isStep (either (passed b (Model.grow n h e m a .arena)) (inRunOf m (grownBy (Model.grow n h e m a .grew) e)))) b (growBook n b h e m a)
+  unfolding grownBook
+  grown-changes e = let g = Model.grow n h e m a in passed-changes b _ (g .arena) (grownBy (g .grew) e) m (ownerCode direct) (stored-changes b (grow-stored h m b n e a l))
 
 pub given-changes : (b : List ℕ) (q m : ℕ) → length (Model.give m q (loadArena b) .store .holes) ≤ holeSlots → Changes (isStep (inRun m q)) b (given b q m)
 unfolding given

@@ -19,7 +19,7 @@ use Rattle.model.specs.Heap.{Heap, Holder, nobody, direct, class, isHeld, passT
 use Rattle.model.specs.History.{heapFrom, heapAfter}
 use Rattle.model.proofs.Runs.{above-at}
 use Rattle.model.proofs.Tidy.{Tidy}
-use Rattle.model.proofs.ArenaTidy.{tidy-commit, tidy-grow, tidy-give}
+use Rattle.model.proofs.ArenaTidy.{Once, tidy-commit, tidy-grow, tidy-give}
 use Rattle.model.proofs.ArenaLaws.{idle, commit-law, grow-law, grow-bound, give-law, give-frontier}
 use Rattle.model.proofs.IdlePages.{HolesBelow, holes-below}
 use Rattle.model.proofs.HeapLaws.{kept}
@@ -63,6 +63,10 @@ module _ (n : ℕ) (H : Heap) (r : Reached n H) where
   pub idle-once : (x : ℕ) → idle x (H .arena) ≤ 1
   idle-once x = omega (arith, r .apart x)
 
+  -- no page is in two holes
+  pub holes-once : Once (H .arena)
+  holes-once x = omega (arith, r .apart x)
+
   pub reached-holes : HolesBelow (H .arena .frontier) (H .arena .store .holes)
   reached-holes = holes-below (H .arena) (r .tidy) idle-once
 
@@ -101,7 +105,7 @@ module _ (n : ℕ) (H : Heap) (r : Reached n H) (h m : ℕ) (one : 1 ≤ m) (who
       let g = commit n h m (H .arena) in
       let law = commit-law n h m (H .arena) in
       record {
-        tidy = tidy-commit n h m one (H .arena) (r .tidy);
+        tidy = tidy-commit n h m one (H .arena) (holes-once n H r) (r .tidy);
         bound = law .bound (r .bound);
         apart = λ x. takes (H .holder x) who (idle x (H .arena)) (idle x (g .arena)) (coversRun m (g .run) x) (r .apart x) (omega (arith, law .pages x)) (one-held who);
         known = known-passed who (coversRun m (g .run)) (H .holder) ours (r .known);

@@ -19,11 +19,11 @@ use Rattle.fields.proofs.Changes.{Changes}
 use Rattle.model.specs.Arena.{Arena, commit, grow, give}
 use Rattle.model.specs.Class.{Class}
 use Rattle.model.specs.Heap.{Heap, Holder, nobody, direct, class, isHeld, passTo}
-use Rattle.model.proofs.ArenaTidy.{tidy-commit, tidy-grow, tidy-give}
+use Rattle.model.proofs.ArenaTidy.{tidy-give}
 use Rattle.model.proofs.ArenaLaws.{idle, commit-law, grow-law, grow-rises, give-frontier}
 use Rattle.pages.specs.Runs.{whole}
 use Rattle.arena.specs.Owners.{ownerCode}
-use Rattle.arena.specs.Calls.{committed, given, grownBy, grownBook}
+use Rattle.arena.specs.Calls.{commitBook, given, grownBy, growBook}
 use Rattle.arena.specs.Represents.{ArenaRep}
 use Rattle.refinement.proofs.ArenaReached.{Reached, heapOf, above-nobody, idle-nobody}
 use Rattle.refinement.proofs.ArenaFair.{loads-frontier}
@@ -175,25 +175,25 @@ module _ (n : ℕ) (b : List ℕ) (H : Heap) (rep : ArenaRep n b H) (r : Reached
 
 -- ---- a commit for a holder that is not class d
 module _ (n : ℕ) (b : List ℕ) (H : Heap) (rep : ArenaRep n b H) (r : Reached n H) (h m : ℕ) (one : 1 ≤ m) (who : Holder) (holds : isHeld who ≡ 1) where
-  pub commit-whole : (sh : Shape) (d x : ℕ) → 1 ≤ sh .pages → isOf d who ≡ false → whole n (committed b (commit n h m (H .arena)) m (ownerCode who)) sh d x ≡ whole n b sh d x
+  pub commit-whole : (sh : Shape) (d x : ℕ) → 1 ≤ sh .pages → isOf d who ≡ false → whole n (commitBook n b h m (H .arena) (ownerCode who)) sh d x ≡ whole n b sh d x
   commit-whole sh d x some-page o =
       let g = commit n h m (H .arena) in
       let law = commit-law n h m (H .arena) in
-      let c = committed b g m (ownerCode who) in
+      let c = commitBook n b h m (H .arena) (ownerCode who) in
       let t = either (passed b (g .arena)) (inRunOf m (g .run)) in
       drawn-whole n b c H r rep (g .arena) (coversRun m (g .run)) who (H .classes) (commit-rep n b H rep r h m one who holds (H .classes)) (law .rises)
       (λ y. omega (arith, law .pages y))
-      (λ y e. step-first t b c (committed-changes b g m (ownerCode who) (tidy-commit n h m one (H .arena) (r .tidy) .slots)) y)
+      (λ y e. step-first t b c (committed-changes n b h m (H .arena) (r .tidy .slots) (ownerCode who)) y)
       sh d x some-page o
 
 -- a growth, for a class
 pub grow-whole : (n : ℕ) (b : List ℕ) (H : Heap) → ArenaRep n b H → Reached n H → (h m : ℕ) → 1 ≤ m → (e : ℕ) (sh : Shape) (d x : ℕ) → 1 ≤ sh .pages → ltb d 76 ≡ true
-    → whole n (grownBook b (grow n h e m (H .arena)) e m) sh d x ≡ whole n b sh d x
+    → whole n (growBook n b h e m (H .arena)) sh d x ≡ whole n b sh d x
 grow-whole n b H rep r h m one e sh d x some-page hd =
     let g = grow n h e m (H .arena) in
     let t = either (passed b (g .arena)) (inRunOf m (grownBy (g .grew) e)) in
-    drawn-whole n b (grownBook b g e m) H r rep (g .arena) (λ y. cond (g .grew) (covers m e y) 0) direct (H .classes)
+    drawn-whole n b (growBook n b h e m (H .arena)) H r rep (g .arena) (λ y. cond (g .grew) (covers m e y) 0) direct (H .classes)
     (grow-rep n b H rep r h m one e (H .classes)) (grow-rises n h e m (H .arena))
     (λ y. omega (arith, grow-law n h e m (H .arena) y))
-    (λ y z. step-first t b (grownBook b g e m) (grown-changes b g e m (tidy-grow n h m one e (H .arena) (r .tidy) .slots)) y)
+    (λ y z. step-first t b (growBook n b h e m (H .arena)) (grown-changes n b h m (H .arena) (r .tidy .slots) e) y)
     sh d x some-page (direct-other d hd)

@@ -18,13 +18,12 @@ use Rattle.fields.proofs.Changes.{differ}
 use Rattle.model.specs.Arena.{Arena}
 use Rattle.model.specs.Heap.{Heap, Holder, nobody, passTo, heldPages}
 use Rattle.model.specs.Class.{Class}
-use Rattle.model.proofs.Tidy.{Tidy}
 use Rattle.arena.specs.Load.{statusCode, loadArena}
-use Rattle.arena.specs.Store.{storeArena}
 use Rattle.arena.specs.Owners.{ownerCode, own}
 use Rattle.arena.specs.Represents.{ArenaRep}
-use Rattle.arena.proofs.Frames.{isStored, arena-changes}
-use Rattle.refinement.proofs.ArenaStore.{long-kept, load-kept, store-written, load-store}
+use Rattle.arena.proofs.Frames.{isStored}
+use Rattle.refinement.proofs.ArenaStore.{long-kept, load-kept, load-written}
+use Rattle.refinement.proofs.ArenaStored.{Stored, stored-changes, stored-written}
 use Rattle.refinement.proofs.ArenaFrames.{isOwner, own-changes, own-in}
 use Rattle.refinement.proofs.ArenaReached.{heapOf}
 use Rattle.refinement.proofs.ArenaFair.{loads-number}
@@ -90,16 +89,17 @@ owner-apart t (slot p i) e = refl
 
 module _ (n : ℕ) (b : List ℕ) (a : Arena) (w : ℕ → Holder) (f k : ℕ) (s : Stands n b a w f k) where
   -- another arena is stored
-  pub store-stands : (a′ : Arena) → Tidy (a′ .store) → Stands n (storeArena b a′) a′ w f k
-  store-stands a′ t =
-      let h = arena-changes b a′ (t .slots) in
+  pub store-stands : (a′ : Arena) (x : List ℕ) → Stored b a′ x → Stands n x a′ w f k
+  store-stands a′ x t =
+      let h = stored-changes b t in
+      let z = stored-written b n (s .long) t in
       record {
-        long = long-kept n b (storeArena b a′) (h .long) (s .long);
+        long = long-kept n b x (h .long) (s .long);
         length = h .kept (arena size) refl refl ∙ s .length;
-        loads = load-store n b a′ (s .long) (t .slots);
-        state = store-written n b a′ (s .long) (t .slots) .status;
+        loads = load-written x a′ z;
+        state = z .status;
         held = h .kept (arena held) refl refl ∙ s .held;
-        owners = λ x l. h .kept (page owner x) refl refl ∙ s .owners x l;
+        owners = λ y l. h .kept (page owner y) refl refl ∙ s .owners y l;
       }
 
   module _ (few : length (a .store .holes) ≤ holeSlots) where

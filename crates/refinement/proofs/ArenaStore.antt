@@ -1,24 +1,21 @@
 -- The arena's words: what was stored is loaded again.
 --     load-kept        a book with the same such words holds the same arena
 --     load-store       an arena that was stored is loaded again
-use Prim.Native.Nat.{ℕ, zero, suc, _+_, _≤_}
+use Prim.Native.Nat.{ℕ, _≤_}
 use native.Mathlib.Omega.{arith}
-use mathlib.Core.Bool.{true, false}
-use mathlib.Core.List.{List, [], _∷_}
-use mathlib.Core.Path.{_≡_, refl, ap, _∙_}
-use lib.Dec.{eqb, ltb, leb}
+use mathlib.Core.Bool.{true}
+use mathlib.Core.List.{List}
+use mathlib.Core.Path.{_≡_, refl, _∙_}
+use lib.Dec.{ltb, leb}
 use lib.ListN.{length}
-use borrow.Author.Tests.{lt-ltb, ne-eqb}
-use Rattle.facts.proofs.Bools.{and-no}
 use Rattle.words.specs.Limits.{holeSlots}
-use Rattle.fields.specs.Field.{Field, arena, hole, HoleField, start, pages, state, frontier, holes, holePages, commits, commitsHigh, reuses, reusesHigh, abandoned, abandonedHigh, holeOff, get, put, ok, words}
+use Rattle.fields.specs.Field.{Field, arena, hole, HoleField, state, frontier, holes, holePages, commits, commitsHigh, reuses, reusesHigh, abandoned, abandonedHigh, get, ok, words}
 use Rattle.fields.specs.Wide.{getWide}
 use Rattle.fields.proofs.Laws.{get-put-same, get-put-other, length-put}
-use Rattle.model.specs.declared.Hole.{Hole}
 use Rattle.model.specs.Arena.{Arena, Status, unasked, ready, disabled}
-use Rattle.arena.proofs.Frames.{isStored, holes-change}
-use Rattle.arena.specs.Load.{statusOf, statusCode, loadHole, loadHoles, loadStore, loadArena}
-use Rattle.arena.specs.Store.{storeHole, storeHoles, storeCounts, storeTop, storeArena}
+use Rattle.arena.proofs.Frames.{isStored, holes-change, holes-same, holes-there}
+use Rattle.arena.specs.Load.{statusOf, statusCode, loadHoles, loadStore, loadArena}
+use Rattle.arena.specs.Store.{storeHoles, storeCounts, storeTop, storeArena}
 
 pub long-kept : (n : ℕ) (b b′ : List ℕ) → length b′ ≡ length b → leb (words n) (length b) ≡ true → leb (words n) (length b′) ≡ true
 long-kept n b b′ e h = rw e h
@@ -46,14 +43,6 @@ load-written b a w =
     rw (w .status, status-of (a .status), w .frontier, w .number, w .holes, w .total, w .commits, w .reuses, w .abandoned) refl
 
 -- ---- a book whose arena's words are as they were
-holes-same : (b b′ : List ℕ) (i k : ℕ) → i + k ≤ 4096 → ((f : HoleField) (j : ℕ) → ltb j 4096 ≡ true → i ≤ j → get b′ (hole f j) ≡ get b (hole f j))
-    → loadHoles b′ i k ≡ loadHoles b i k
-unfolding loadHoles
-holes-same b b′ i zero l h = refl
-holes-same b b′ i (suc k) l h =
-    let o : ltb i 4096 ≡ true = lt-ltb i 4096 (omega arith) in
-    rw (h start i o (omega arith), h pages i o (omega arith), holes-same b b′ (suc i) k (omega arith) (λ f j u v. h f j u (omega arith)))
-
 pub load-kept : (b b′ : List ℕ) → get b (arena holes) ≤ 4096 → ((g : Field) → ok g ≡ true → isStored g ≡ true → get b′ g ≡ get b g) → loadArena b′ ≡ loadArena b
 unfolding loadArena loadStore
 load-kept b b′ l h =
@@ -73,31 +62,6 @@ load-kept b b′ l h =
 
 -- ---- what was stored
 module _ (n : ℕ) where
-  hole-there : (b : List ℕ) (i : ℕ) (h : Hole) → leb (words n) (length b) ≡ true → ltb i 4096 ≡ true → loadHole (storeHole b i h) i ≡ h
-  hole-there b i h hb o =
-      let hb′ : leb (words n) (length (put b (hole start i) (h .first))) ≡ true = rw length-put hb in
-      let e : get (storeHole b i h) (hole start i) ≡ h .first
-      = get-put-other (put b (hole start i) (h .first)) (hole pages i) (hole start i) (h .pages) o o refl ∙ get-put-same n b (hole start i) (h .first) hb o refl in
-      let f : get (storeHole b i h) (hole pages i) ≡ h .pages = get-put-same n (put b (hole start i) (h .first)) (hole pages i) (h .pages) hb′ o refl in
-      rw (e, f)
-
-  hole-other : (b : List ℕ) (i j : ℕ) (f : HoleField) (h : Hole) → ltb i 4096 ≡ true → ltb j 4096 ≡ true → eqb i j ≡ false
-      → get (storeHole b i h) (hole f j) ≡ get b (hole f j)
-  hole-other b i j f h o v d =
-      get-put-other (put b (hole start i) (h .first)) (hole pages i) (hole f j) (h .pages) o v (rw (d, and-no (eqb (holeOff pages) (holeOff f))))
-      ∙ get-put-other b (hole start i) (hole f j) (h .first) o v (rw (d, and-no (eqb (holeOff start) (holeOff f))))
-
-  holes-there : (b : List ℕ) (i : ℕ) (hs : List Hole) → leb (words n) (length b) ≡ true → i + length hs ≤ 4096 → loadHoles (storeHoles b i hs) i (length hs) ≡ hs
-  unfolding loadHoles storeHoles
-  holes-there b i [] hb l = refl
-  holes-there b i (h ∷ hs) hb l =
-      let c = storeHoles b (suc i) hs in
-      let o : ltb i 4096 ≡ true = lt-ltb i 4096 (omega arith) in
-      let hc = long-kept n b c (holes-change b (suc i) hs (omega arith) .long) hb in
-      rw (hole-there c i h hc o)
-      (ap (λ l. h ∷ l) (holes-same c (storeHole c i h) (suc i) (length hs) (omega arith) (λ f j v u. hole-other c i j f h o v (ne-eqb i j (λ e. omega arith)))
-      ∙ holes-there b (suc i) hs hb (omega arith)))
-
   -- the record over any book
   record Top (x y : List ℕ) (s f k t c r a : ℕ) : Type 0 where
     state : get y (arena state) ≡ s
@@ -133,7 +97,7 @@ module _ (n : ℕ) where
         frontier = t .frontier;
         number = t .number;
         total = t .total;
-        holes = holes-same x _ 0 (length (a .store .holes)) (omega arith) (λ f j o u. t .holes f j o) ∙ holes-there b 0 (a .store .holes) hb (omega arith);
+        holes = holes-same x _ 0 (length (a .store .holes)) (omega arith) (λ f j o u. t .holes f j o) ∙ holes-there n b 0 (a .store .holes) hb (omega arith);
         commits = t .commits;
         reuses = t .reuses;
         abandoned = t .abandoned;

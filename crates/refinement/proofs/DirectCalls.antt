@@ -4,13 +4,13 @@
 --     direct-represents    every call that names no class, on the whole book
 use Prim.Native.Nat.{ℕ, suc, _+_, _-_, _≤_, _<_}
 use native.Mathlib.Omega.{arith}
-use mathlib.Core.Bool.{Bool, true, false, cond, not, _&&_, _||_, true≢false, false≢true}
+use mathlib.Core.Bool.{Bool, true, false, cond, not, _&&_, _||_, false≢true}
 use mathlib.Core.List.{List}
 use mathlib.Core.Path.{_≡_, refl, sym, ap}
 use lib.Dec.{eqb, ltb, leb}
-use borrow.Author.Tests.{leb-true, leb-false, ltb-true, eqb-false, ne-eqb, not-false}
+use borrow.Author.Tests.{leb-true, leb-false, ltb-true, ne-eqb, not-false}
 use Rattle.facts.specs.Lists.{every, below}
-use Rattle.facts.proofs.Bools.{by-cases, and-left, and-right, nor-left, nor-right}
+use Rattle.facts.proofs.Bools.{by-cases, and-left, and-right, nor-left}
 use Rattle.facts.proofs.Lists.{every-at, every-cong}
 use Rattle.model.specs.Cover.{inRun, covers}
 use Rattle.classes.specs.declared.Shape.{Shape}
@@ -23,7 +23,7 @@ use Rattle.model.specs.Calls.{Call, Answer, refused}
 use Rattle.model.specs.Arena as Model
 use Rattle.model.specs.Heap as Heaps
 use Rattle.model.specs.Heap.{Heap, Holder, Outcome, nobody, direct, class, isDirect, isHeld, badRun, badGrowth, unchanged, directCall}
-use Rattle.model.proofs.ArenaTidy.{tidy-commit, tidy-grow}
+use Rattle.model.proofs.HistoryArena.{good-run, longer}
 use Rattle.pages.specs.Runs.{whole}
 use Rattle.arena.specs.Owners.{ownerCode}
 use Rattle.arena.specs.Calls.{commitCall, everyDirect, heldDirect, growCall, grownBy, releaseCall, containsCall, figures, reportCode}
@@ -32,7 +32,7 @@ use Rattle.refinement.specs.Represents.{Represents}
 use Rattle.refinement.specs.Direct.{Reply, reply, commitReply, growReply, releaseReply, directReply, Agrees}
 use Rattle.refinement.proofs.ArenaHolders.{isKnown}
 use Rattle.refinement.proofs.ArenaReached.{Reached, held-below}
-use Rattle.refinement.proofs.ArenaFair.{loads-frontier, record-passes}
+use Rattle.refinement.proofs.ArenaFair.{loads-frontier, record-passes, grow-passes}
 use Rattle.refinement.proofs.ArenaFrames.{isStep, inRunOf, either, passed, committed-changes, grown-changes}
 use Rattle.refinement.proofs.CommitRep.{commit-for, commit-rep, grow-rep}
 use Rattle.refinement.proofs.GiveRep.{give-fair, give-rep}
@@ -45,11 +45,6 @@ record Beside (n : ℕ) (b b′ : List ℕ) : Type 0 where
   pages : ℕ → Bool
   changes : Changes (isStep pages) b b′
   runs : (sh : Shape) (d x : ℕ) → 1 ≤ sh .pages → ltb d 76 ≡ true → whole n b′ sh d x ≡ whole n b sh d x
-
--- ---- number 6
-pub good-run : (m : ℕ) → badRun m ≡ false → 1 ≤ m
-unfolding badRun
-good-run m e = by-cases (eqb m 0) (λ d. absurd (true≢false (rw d at e))) (λ d. omega (arith, eqb-false m 0 d))
 
 -- ---- number 12
 is-direct : (w : Holder) → isKnown w ≡ true → eqb (ownerCode w) (ownerCode direct) ≡ isDirect w
@@ -136,14 +131,11 @@ module _ (n : ℕ) (b : List ℕ) (H : Heap) (rep : ArenaRep n b H) (r : Reached
         agrees = record { answer = refl; fair = λ z. omega arith; heap = commit-rep n b H rep r h m one direct refl (H .classes) };
         beside = record {
           pages = either (passed b (g .arena)) (inRunOf m (g .run));
-          changes = committed-changes b g m (ownerCode direct) (tidy-commit n h m one (H .arena) (r .tidy) .slots);
+          changes = committed-changes n b h m (H .arena) (r .tidy .slots) (ownerCode direct);
           runs = λ sh d x l hd. commit-whole n b H rep r h m one direct refl sh d x l (direct-other d hd);
         };
         classes = refl;
       }))
-
-  longer : (old new : ℕ) → badGrowth old new ≡ false → 1 ≤ new - old
-  longer old new e = omega (arith, leb-false new old (nor-right (badRun new) (leb new old) (nor-right (badRun old) (badRun new || leb new old) e)))
 
   settle-grow : (h q old new : ℕ) → Settled (growReply (growCall n b h q old new)) (directCall n H (Calls.growFrontier h q old new))
   unfolding growCall directCall Heaps.growCall
@@ -153,12 +145,12 @@ module _ (n : ℕ) (b : List ℕ) (H : Heap) (rep : ArenaRep n b H) (r : Reached
       (settle-cond growReply (not (Heaps.heldDirect n H q old)) _ _ _ _ (λ c. settle-refused 12 (λ z. omega arith))
       (λ c. let one = longer old new d in
       let g = Model.grow n h (q + old) (new - old) (H .arena) in
-      rw (record-passes n b H rep r, rep .loads)
+      rw (grow-passes n b H rep r h (q + old) (new - old), rep .loads)
       (record {
         agrees = record { answer = refl; fair = λ z. omega arith; heap = grow-rep n b H rep r h (new - old) one (q + old) (H .classes) };
         beside = record {
           pages = either (passed b (g .arena)) (inRunOf (new - old) (grownBy (g .grew) (q + old)));
-          changes = grown-changes b g (q + old) (new - old) (tidy-grow n h (new - old) one (q + old) (H .arena) (r .tidy) .slots);
+          changes = grown-changes n b h (new - old) (H .arena) (r .tidy .slots) (q + old);
           runs = λ sh d x l hd. grow-whole n b H rep r h (new - old) one (q + old) sh d x l hd;
         };
         classes = refl;

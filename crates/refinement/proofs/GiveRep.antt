@@ -19,6 +19,7 @@ use Rattle.arena.specs.Owners.{own}
 use Rattle.arena.specs.Fair.{giveFair}
 use Rattle.arena.specs.Calls.{given}
 use Rattle.arena.specs.Represents.{ArenaRep}
+use Rattle.refinement.proofs.ArenaStored.{once}
 use Rattle.refinement.proofs.ArenaReached.{Reached, heapOf, held-below}
 use Rattle.refinement.proofs.ArenaFair.{give-passes}
 use Rattle.refinement.proofs.ArenaHeld.{heldOf, held-less}
@@ -45,7 +46,7 @@ module _ (n : ℕ) (b : List ℕ) (H : Heap) (rep : ArenaRep n b H) (r : Reached
       let k = heldPages n H in
       let w = passTo nobody (covers m q) (H .holder) in
       let t = tidy-give m one q (H .arena) (r .tidy) in
-      let s = store-stands n b (H .arena) (H .holder) f k (rep-stands n b H rep) a t in
+      let s = store-stands n b (H .arena) (H .holder) f k (rep-stands n b H rep) a (storeArena b a) (once (t .slots)) in
       let o = own-stands n (storeArena b a) a (H .holder) f k s (t .slots) q m (omega (arith, run-ends, r .bound)) nobody in
       let p = held-stands n (own (storeArena b a) q m 0) a w f k o (t .slots) (get b (arena held) - m) in
       rw (rep .loads)

@@ -23,18 +23,18 @@ use Rattle.model.specs.Page.{Page, carve}
 use Rattle.model.specs.Arena.{commit, Given}
 use Rattle.model.specs.Class.{Class}
 use Rattle.model.specs.Heap.{Heap, nobody, class, passTo}
-use Rattle.model.proofs.ArenaTidy.{tidy-commit}
 use Rattle.model.proofs.ArenaLaws.{commit-law}
 use Rattle.model.proofs.IdlePages.{commit-below}
 use Rattle.words.specs.Host.{digit}
 use Rattle.pages.specs.Runs.{whole}
 use Rattle.pages.specs.declared.Park.{Park}
 use Rattle.pages.specs.Carve.{newRun}
-use Rattle.arena.specs.Calls.{committed}
+use Rattle.arena.specs.Calls.{commitBook}
 use Rattle.arena.specs.Represents.{ArenaRep}
 use Rattle.refinement.proofs.ArenaKeeps.{step-class}
 use Rattle.refinement.proofs.CommitRuns.{claim-none, claim-others, claim-new}
 use Rattle.refinement.specs.Represents.{ClassRep, Represents}
+use Rattle.refinement.proofs.ArenaStored.{commit-stored, stored-few}
 use Rattle.refinement.proofs.ArenaReached.{Reached, heapOf, idle-once, reached-commit}
 use Rattle.refinement.proofs.ArenaFrames.{isStep, inRunOf, either, passed, step-row, step-page, step-first, step-out, step-mark, step-slot, committed-changes}
 use Rattle.refinement.proofs.ArenaSteps.{isArenas, rep-kept}
@@ -86,7 +86,7 @@ module _ (n : ℕ) (b : List ℕ) (H : Heap) (R : Represents n b H) (ok : Reache
 
   -- the book after the commit, and the pages that got an owner
   abbrev after : List ℕ
-  after = committed b grant pages (suc c)
+  after = commitBook n b h pages (H .arena) (suc c)
 
   abbrev owned : ℕ → Bool
   owned = either (passed b (grant .arena)) (inRunOf pages (grant .run))
@@ -95,10 +95,10 @@ module _ (n : ℕ) (b : List ℕ) (H : Heap) (R : Represents n b H) (ok : Reache
   one = shape-sound c .paged
 
   pub few : length (commit n h (shapeOf c .pages) (H .arena) .arena .store .holes) ≤ holeSlots
-  few = tidy-commit n h pages one (H .arena) (ok .tidy) .slots
+  few = stored-few b (commit-stored h pages b n (H .arena) (ok .tidy .slots))
 
   pub changes : Changes (isStep owned) b after
-  changes = committed-changes b grant pages (suc c) few
+  changes = committed-changes n b h pages (H .arena) (ok .tidy .slots) (suc c)
 
   rep₁ : (cs : ℕ → Class) → ArenaRep n after (heapOf (grant .arena) (passTo (class c) (coversRun pages (grant .run)) (H .holder)) cs)
   rep₁ cs = commit-rep n b H (R .arena) ok h pages one (class c) refl cs

@@ -23,7 +23,7 @@ use Rattle.model.specs.Arena.{commit}
 use Rattle.model.specs.Heap.{Heap}
 use Rattle.model.specs.Yields.{Listed}
 use Rattle.model.proofs.ArenaTidy.{tidy-give}
-use Rattle.arena.specs.Calls.{committed, given}
+use Rattle.arena.specs.Calls.{commitBook, given}
 use Rattle.pages.specs.declared.Park.the-variants.{Empty}
 use Rattle.calls.specs.Take.{Took, onRun, takeNew, takeCall}
 use Rattle.calls.specs.Out.{outFault}
@@ -77,7 +77,7 @@ module _ (n : ℕ) (hn : n ≤ maxPages) (b : List ℕ) (H : Heap) (R : Represen
     new-long fs z = rw (commit-for n b H (R .arena) ok h (shapeOf c .pages) (suc c)) (go (commit n h (shapeOf c .pages) (H .arena) .run) refl)
       where
         go : (o : Option ℕ) → commit n h (shapeOf c .pages) (H .arena) .run ≡ o
-            → length (onRun (committed b (commit n h (shapeOf c .pages) (H .arena)) (shapeOf c .pages) (suc c)) c (shapeOf c) l o .book) ≡ length b
+            → length (onRun (commitBook n b h (shapeOf c .pages) (H .arena) (suc c)) c (shapeOf c) l o .book) ≡ length b
         go none e = changes n b H R ok c hc h .long
         go (some q) e =
             run-fills n b H R ok c hc h l fs z q e .only .long ∙ run-only n b H R ok c hc h l fs z q e .long ∙ written n b H R ok c hc h q e .long ∙ changes n b H R ok c hc h .long

@@ -1,4 +1,5 @@
 pub mod ArenaStore
+pub mod ArenaStored
 pub mod ArenaFrames
 pub mod ArenaHolders
 pub mod ArenaReached

@@ -6,16 +6,19 @@ use mathlib.Core.List.{List, [], _∷_}
 use mathlib.Core.Option.{Option, none, some}
 use mathlib.Core.Path.{_≡_, refl}
 use lib.ListN.{length}
+use Rattle.facts.proofs.Bools.{by-cases}
+use Rattle.words.specs.Host.{reservationGranted, commitGranted}
 use Rattle.classes.specs.declared.Shape.{Shape}
 use Rattle.fields.specs.Field.{ArenaField, HoleField, arena, hole, page, out, size, state, frontier, holes, holePages, commits, commitsHigh, reuses, reusesHigh, abandoned, abandonedHigh, held, start, pages, owner, first, listed, arenaOff, word, get, put}
 use Rattle.fields.specs.Clear.{clearOut, clearMarks}
 use Rattle.model.specs.declared.Hole.{Hole}
-use Rattle.model.specs.Arena.{Arena, Given}
+use Rattle.model.specs.Arena.{Arena, Status, unasked, ready, disabled}
 use Rattle.model.specs.Arena as Model
+use Rattle.model.proofs.ArenaTidy.{few-give, few-draw}
 use Rattle.arena.specs.Load.{loadHoles, loadStore, loadArena}
 use Rattle.arena.specs.Store.{storeHoles, storeCounts, storeTop, storeArena}
 use Rattle.arena.specs.Owners.{own, ownFresh, ownRun}
-use Rattle.arena.specs.Calls.{advance, committed, given}
+use Rattle.arena.specs.Calls.{settledArena, readyArena, arenaAs, committedArena, advance, passedTo, committed, commitBook, given}
 use Rattle.pages.specs.Runs.{nameRun}
 use Rattle.pages.specs.Carve.{stocked, outWords, bareRun, newRun}
 use Rattle.pages.proofs.Frames.{stocked-le}
@@ -94,18 +97,41 @@ module _ {S : ℕ → Bool} (a : ArenaIn S) (d : List ℕ) where
   own-run-in none m w r b = refl
   own-run-in (some q) m w r b = own-in m q w (r q refl) b
 
-  pub committed-in : (b : List ℕ) (g : Given) (m w : ℕ) → length (g .arena .store .holes) ≤ 4096 → RunIn S (get b (arena frontier)) (g .arena .frontier - get b (arena frontier))
-      → ((q : ℕ) → g .run ≡ some q → RunIn S q m) → committed (mix S b d) g m w ≡ mix S (committed b g m w) d
-  unfolding committed advance
-  committed-in b g m w l f r =
-      rw (
-        get-arena b held,
-        get-arena b frontier,
-        arena-in b (g .arena) l,
-        own-in (g .arena .frontier - get b (arena frontier)) (get b (arena frontier)) 0 f (storeArena b (g .arena)),
-        own-run-in (g .run) m w r (ownFresh (storeArena b (g .arena)) (get b (arena frontier)) (g .arena .frontier)),
-      )
-      (put-arena _ held _)
+  -- ---- a commit
+  settled-in : (b : List ℕ) (h m : ℕ) (g : Arena) (o : Option ℕ) (f : Bool) → length (g .store .holes) ≤ 4096 → settledArena h m (mix S b d) g o f ≡ mix S (settledArena h m b g o f) d
+  unfolding settledArena
+  settled-in b h m g none f l = arena-in b g l
+  settled-in b h m g (some q) f l =
+      let hs = g .store .holes in
+      by-cases (commitGranted h)
+      (λ e. rw e (arena-in b (Model.counted f g) l))
+      (λ e. rw (e, holes-in hs 0 (omega arith) b) (arena-in (storeHoles b 0 hs) (Model.give m q g) (few-give m q g l)))
+
+  module _ (n : ℕ) (b : List ℕ) (h m : ℕ) where
+    ready-in : (g : Arena) → length (g .store .holes) ≤ 4096 → readyArena n h m (mix S b d) g ≡ mix S (readyArena n h m b g) d
+    unfolding readyArena
+    ready-in g l = let x = Model.draw n m g in settled-in b h m (x .arena) (x .run) (x .fresh) (few-draw n m g l)
+
+    as-in : (g : Arena) (s : Status) → length (g .store .holes) ≤ 4096 → arenaAs n h m (mix S b d) g s ≡ mix S (arenaAs n h m b g s) d
+    unfolding arenaAs
+    as-in g unasked l = by-cases (reservationGranted h) (λ e. rw e (ready-in (Model.withStatus ready g) l)) (λ e. rw e (arena-in b (Model.withStatus disabled g) l))
+    as-in g ready l = ready-in g l
+    as-in g disabled l = arena-in b g l
+
+    pub committed-in : (a : Arena) (w : ℕ) → length (a .store .holes) ≤ 4096 → RunIn S (get b (arena frontier)) (Model.commit n h m a .arena .frontier - get b (arena frontier))
+        → ((q : ℕ) → Model.commit n h m a .run ≡ some q → RunIn S q m) → commitBook n (mix S b d) h m a w ≡ mix S (commitBook n b h m a w) d
+    unfolding committed passedTo advance committedArena
+    committed-in a w l f r =
+        let g = Model.commit n h m a in
+        let x = arenaAs n h m b a (a .status) in
+        rw (
+          get-arena b held,
+          get-arena b frontier,
+          as-in a (a .status) l,
+          own-in (g .arena .frontier - get b (arena frontier)) (get b (arena frontier)) 0 f x,
+          own-run-in (g .run) m w r (ownFresh x (get b (arena frontier)) (g .arena .frontier)),
+        )
+        (put-arena _ held _)
 
   pub given-in : (b : List ℕ) (q m : ℕ) → get b (arena holes) ≤ 4096 → length (Model.give m q (loadArena b) .store .holes) ≤ 4096 → RunIn S q m → given (mix S b d) q m ≡ mix S (given b q m) d
   unfolding given

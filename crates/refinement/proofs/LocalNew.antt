@@ -18,14 +18,14 @@ use Rattle.pages.specs.declared.Park.the-variants.{Empty}
 use Rattle.pages.specs.Links.{link}
 use Rattle.pages.specs.Carve.{newRun}
 use Rattle.calls.specs.Take.{onRun, takeNew}
-use Rattle.arena.specs.Calls.{committed}
+use Rattle.arena.specs.Calls.{commitBook}
 use Rattle.refinement.specs.Represents.{ClassRep, Represents}
 use Rattle.refinement.proofs.ArenaReached.{Reached}
 use Rattle.refinement.proofs.ArenaFair.{loads-frontier}
 use Rattle.refinement.proofs.CommitRep.{commit-for}
 use Rattle.refinement.proofs.CommitRuns.{run-nobody}
 use Rattle.refinement.proofs.Pushes.{carve-first}
-use Rattle.refinement.proofs.Join.{few, same, new-setting, class-joins}
+use Rattle.refinement.proofs.Join.{same, new-setting, class-joins}
 use Rattle.refinement.proofs.TakeWhole.{run-setting, run-rep, run-only}
 use Rattle.refinement.proofs.Mix.{mix, PageIn}
 use Rattle.refinement.proofs.LocalFill.{Home, home-only, link-local, fill-local}
@@ -38,14 +38,14 @@ module _ {S : ℕ → Bool} (n : ℕ) (b : List ℕ) (H : Heap) (R : Represents 
   grant = commit n h (shapeOf c .pages) (H .arena)
 
   abbrev after : List ℕ
-  after = committed b grant (shapeOf c .pages) (suc c)
+  after = commitBook n b h (shapeOf c .pages) (H .arena) (suc c)
 
   run-in : (q : ℕ) → commit n h (shapeOf c .pages) (H .arena) .run ≡ some q → RunIn S q (shapeOf c .pages)
   run-in q e x u v = idle x (λ w. run-nobody n b H (R .arena) ok h (shapeOf c .pages) (shape-sound c .paged) q e x (rw (le-leb q x u, lt-ltb x (q + shapeOf c .pages) v)))
 
-  after-in : committed (mix S b d) grant (shapeOf c .pages) (suc c) ≡ mix S after d
+  after-in : commitBook n (mix S b d) h (shapeOf c .pages) (H .arena) (suc c) ≡ mix S after d
   after-in =
-      committed-in ai d b grant (shapeOf c .pages) (suc c) (few n b H R ok c hc h)
+      committed-in ai d n b h (shapeOf c .pages) (H .arena) (suc c) (ok .tidy .slots)
       (λ x u v. idle x (λ w. absurd (omega (arith, loads-frontier b (H .arena) (R .arena .loads))))) run-in
 
   with-run : (q : ℕ) → commit n h (shapeOf c .pages) (H .arena) .run ≡ some q → onRun (mix S after d) c (shapeOf c) l (some q) .book ≡ mix S (onRun after c (shapeOf c) l (some q) .book) d

@@ -35,7 +35,7 @@ use Rattle.pages.specs.declared.Park.the-variants.{Empty}
 use Rattle.pages.specs.Links.{link}
 use Rattle.pages.specs.Carve.{newRun}
 use Rattle.calls.specs.Take.{Took, tookNone, fillFrom, onRun, takeNew, takeCall}
-use Rattle.arena.specs.Calls.{committed}
+use Rattle.arena.specs.Calls.{commitBook}
 use Rattle.refinement.proofs.GiveClass.{arena-only}
 use Rattle.refinement.specs.Represents.{ClassRep, Represents}
 use Rattle.refinement.specs.Classes.{takeReply}
@@ -69,7 +69,7 @@ module _ (n : ℕ) (b : List ℕ) (H : Heap) (R : Represents n b H) (ok : Reache
     grant = commit n h (shapeOf c .pages) (H .arena)
 
     abbrev after : List ℕ
-    after = committed b grant (shapeOf c .pages) (suc c)
+    after = commitBook n b h (shapeOf c .pages) (H .arena) (suc c)
 
     -- what the model makes of the arena's answer
     abbrev outcome : Option ℕ → Outcome

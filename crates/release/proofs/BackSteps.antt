@@ -10,13 +10,14 @@ use borrow.Author.Tests.{leb-true, eqb-true, le-leb, lt-ltb, eq-eqb, ne-eqb}
 use Rattle.facts.proofs.Bools.{and-left, and-right}
 use Rattle.classes.specs.declared.Shape.{Shape}
 use Rattle.classes.specs.Sound.{Sound}
-use Rattle.fields.specs.Field.{Field, ArenaField, arena, class, page, region, off, frontier, state, holes, holePages, held, partial, empty, emptyCount, cold, coldCount, next, prev, free, carved, listed, virgin, get, put, words}
+use Rattle.fields.specs.Field.{Field, arena, class, hole, page, region, off, frontier, partial, empty, emptyCount, cold, coldCount, next, prev, free, carved, listed, virgin, get, put, words, ok}
 use Rattle.fields.proofs.Laws.{get-put-same, length-put}
 use Rattle.fields.proofs.Changes.{Changes}
 use Rattle.model.specs.declared.Spot.{Spot}
 use Rattle.model.specs.declared.Spot.the-variants.{ToEmpty, ToCold, ToArena}
 use Rattle.model.specs.Spot.{isArena}
-use Rattle.arena.specs.Fair.{recordFair, giveFair}
+use Rattle.arena.specs.Fair.{giveFair}
+use Rattle.arena.proofs.Frames.{give-kept}
 use Rattle.arena.specs.Calls.{given}
 use Rattle.runs.specs.Asks.{GiveIn}
 use Rattle.pages.specs.declared.Park.the-variants.{Empty, Cold}
@@ -31,7 +32,7 @@ use Rattle.pages.specs.Fair.{linksFair}
 use Rattle.release.specs.Act.{settleAt, coldVirgin, ParkingAsks, BackAsks, SettleAsks, Parked}
 use Rattle.release.proofs.Spots.{arena-alone}
 use Rattle.release.proofs.FairSteps.{page-room, page-carved, links-fair, head-low}
-use Rattle.release.proofs.ParkSteps.{unlisted-changes, relisted-changes, carve-changes}
+use Rattle.release.proofs.ParkSteps.{moves, unlisted-changes, relisted-changes, carve-changes}
 
 -- ---- the page with its blocks back: of the words that are tested, only FREE and VIRGIN are other ones
 abbrev onStack : Field → Bool
@@ -109,39 +110,35 @@ module _ (b : List ℕ) (c : ℕ) (sh : Shape) (h q : ℕ) (ws : List ℕ) where
       unfolding settleAt
       some-out b″ z p = rw (← e, ← j, ← k, ne-eqb x y z) (record { fate = refl; left = p })
 
--- ---- the arena's words are as they were until the last step
+-- ---- the arena's words are as they were until the last step, the holes too
 abbrev notArena : Field → Bool
-notArena f = not (eqb (region f) 0)
+notArena f = not (eqb (region f) 0 || eqb (region f) 3)
 
-give-kept : (n m : ℕ) (b b′ : List ℕ) → ((k : ArenaField) → get b′ (arena k) ≡ get b (arena k)) → giveFair n b′ m ≡ giveFair n b m
-unfolding giveFair recordFair
-give-kept n m b b′ k = rw (k state, k frontier, k holes, k holePages, k held)
+module _ (c : ℕ) (sh : Shape) (h q : ℕ) (hc : c < 76) (s : Sound sh) (g : Field) (o : ok g ≡ true) (u : notArena g ≡ false) (v : moves g ≡ false) (w : onStack g ≡ false) where
+  stow-kept : (b : List ℕ) → get (stow b c Empty q) g ≡ get b g
+  stow-kept b = changes-stow notArena b c q (lt-ltb c 76 hc) Empty refl refl refl .kept g o u
 
-module _ (c : ℕ) (sh : Shape) (h q : ℕ) (hc : c < 76) (s : Sound sh) (k : ArenaField) where
-  stow-kept : (b : List ℕ) → get (stow b c Empty q) (arena k) ≡ get b (arena k)
-  stow-kept b = changes-stow notArena b c q (lt-ltb c 76 hc) Empty refl refl refl .kept (arena k) refl refl
-
-  cold-kept : (b : List ℕ) → get (parkCold b c sh h q) (arena k) ≡ get b (arena k)
+  cold-kept : (b : List ℕ) → get (parkCold b c sh h q) g ≡ get b g
   cold-kept b =
-      changes-stow notArena (carveAnew b sh q (coldVirgin sh h)) c q (lt-ltb c 76 hc) Cold refl refl refl .kept (arena k) refl refl
-      ∙ carve-changes b c sh h q (coldVirgin sh h) s .kept (arena k) refl refl
+      changes-stow notArena (carveAnew b sh q (coldVirgin sh h)) c q (lt-ltb c 76 hc) Cold refl refl refl .kept g o u
+      ∙ carve-changes b c sh h q (coldVirgin sh h) s .kept g o v
 
-  in-kept : (b : List ℕ) (t : Spot) → get (parkedIn b c sh h q t) (arena k) ≡ get b (arena k)
+  in-kept : (b : List ℕ) (t : Spot) → get (parkedIn b c sh h q t) g ≡ get b g
   in-kept b ToEmpty = stow-kept b
   in-kept b ToCold = cold-kept b
   in-kept b ToArena = refl
 
-  park-kept : (b : List ℕ) → get (parkAt b c sh h q .book) (arena k) ≡ get b (arena k)
+  park-kept : (b : List ℕ) → get (parkAt b c sh h q .book) g ≡ get b g
   unfolding parkAt
-  park-kept b = in-kept (unlisted b c q) (spotAt b c sh) ∙ unlisted-changes b c q hc .kept (arena k) refl refl
+  park-kept b = in-kept (unlisted b c q) (spotAt b c sh) ∙ unlisted-changes b c q hc .kept g o v
 
-  settle-kept : (b is : List ℕ) → get b (page free q) + length is ≤ 4096 → get (settleAt b c sh h q is .book) (arena k) ≡ get b (arena k)
+  settle-kept : (b is : List ℕ) → get b (page free q) + length is ≤ 4096 → get (settleAt b c sh h q is .book) g ≡ get b g
   unfolding settleAt
-  settle-kept b is l = by (eqb (get (pushed b q is) (page carved q)) (get (pushed b q is) (page free q))) ∙ push-changes b q is l .kept (arena k) refl refl
+  settle-kept b is l = by (eqb (get (pushed b q is) (page carved q)) (get (pushed b q is) (page free q))) ∙ push-changes b q is l .kept g o w
     where
-      by : (t : Bool) → get (cond t (parkAt (pushed b q is) c sh h q) (released (relisted (pushed b q is) c q) 0) .book) (arena k) ≡ get (pushed b q is) (arena k)
+      by : (t : Bool) → get (cond t (parkAt (pushed b q is) c sh h q) (released (relisted (pushed b q is) c q) 0) .book) g ≡ get (pushed b q is) g
       by true = park-kept (pushed b q is)
-      by false = relisted-changes (pushed b q is) c q hc .kept (arena k) refl refl
+      by false = relisted-changes (pushed b q is) c q hc .kept g o v
 
 -- ---- a run whose fate is the arena is one that number 13 was tested for
 module _ (n : ℕ) (b : List ℕ) (c : ℕ) (sh : Shape) (q m : ℕ) (e : releaseFair n b c sh m q ≡ true) where
@@ -197,11 +194,13 @@ module _ (n : ℕ) (b : List ℕ) (c : ℕ) (sh : Shape) (h q : ℕ) (ws : List 
   module _ (r : ℕ) (b′ : List ℕ) (p : Parked r b′ (settleAt b c sh h q (map (indexOf sh q) ws))) where
     pub give-asks : SettleAsks n b c sh q ws → r ≡ 2 → length b′ ≡ length b → GiveIn b′ n q (sh .pages)
     give-asks a x k =
+        let same : (g : Field) → ok g ≡ true → notArena g ≡ false → moves g ≡ false → onStack g ≡ false → get (settleAt b c sh h q (map (indexOf sh q) ws) .book) g ≡ get b g
+        = λ g o u v w. settle-kept c sh h q (a .class .known) (a .class .sound) g o u v w b (map (indexOf sh q) ws) (slots-left b c sh h q ws (back-asks a)) in
         record {
           long = omega (arith, a .class .long);
           small = a .class .few;
           inside = a .inside;
-          fair = rw (p .left) (give-kept n (sh .pages) b _ (λ j. settle-kept c sh h q (a .class .known) (a .class .sound) j b (map (indexOf sh q) ws) (slots-left b c sh h q ws (back-asks a))) ∙ gives-fair a (sym (p .fate) ∙ x));
+          fair = rw (p .left) (give-kept n b _ (λ j. same (arena j) refl refl refl refl) (λ f j o. same (hole f j) o refl refl refl) (sh .pages) ∙ gives-fair a (sym (p .fate) ∙ x));
         }
 
     pub given-away : (b″ : List ℕ) → r ≡ 2 → b″ ≡ given b′ q (sh .pages) → Parked r b″ (lastStep sh q (settleAt b c sh h q (map (indexOf sh q) ws)))

@@ -15,10 +15,10 @@ use Rattle.facts.proofs.Bools.{and-left, and-right}
 use Rattle.classes.specs.declared.Shape.{Shape}
 use Rattle.classes.specs.Sound.{Sound}
 use Rattle.fields.specs.Clear.{clearMarks}
-use Rattle.fields.specs.Field.{arena, class, page, frontier, state, holes, holePages, held, partial, empty, emptyCount, cold, coldCount, first, next, prev, free, carved, listed, virgin, get, words, Has}
+use Rattle.fields.specs.Field.{arena, class, page, frontier, partial, empty, emptyCount, cold, coldCount, first, next, prev, free, carved, listed, virgin, get, words, Has, hole}
 use Rattle.fields.proofs.Changes.{Changes}
 use Rattle.model.specs.Release.{ofKind}
-use Rattle.arena.specs.Fair.{recordFair, giveFair}
+use Rattle.arena.proofs.Frames.{give-kept}
 use Rattle.arena.specs.Calls.{given}
 use Rattle.pages.specs.Asks.{ClearAsks}
 use Rattle.pages.specs.Carve.{outWords}
@@ -55,16 +55,13 @@ use Rattle.release.proofs.RunMarks.{fresh-changes, takes-all, clears-ru
 -- ---- number 13's last test reads no out bit and no mark
 module _ (b b′ : List ℕ) (h : Changes isBit b b′) where
   fair-kept : (n c : ℕ) (sh : Shape) (m q : ℕ) → c < 76 → releaseFair n b′ c sh m q ≡ releaseFair n b c sh m q
-  unfolding releaseFair pageFair rowFair spotFair giveFair recordFair headerFair
+  unfolding releaseFair pageFair rowFair spotFair headerFair
   fair-kept n c sh m q hc =
       let k = h .kept in
       let o = lt-ltb c 76 hc in
       rw (
         k (arena frontier) refl refl,
-        k (arena state) refl refl,
-        k (arena holes) refl refl,
-        k (arena holePages) refl refl,
-        k (arena held) refl refl,
+        give-kept n b b′ (λ f. k (arena f) refl refl) (λ f j o. k (hole f j) o refl) (sh .pages),
         k (page carved q) refl refl,
         k (page free q) refl refl,
         k (page listed q) refl refl,

@@ -8,6 +8,7 @@ use lib.Dec.{ltb}
 use lib.ListN.{length}
 use borrow.Author.Tests.{lt-ltb, le-ltb, le-leb, lt-leb, eq-eqb, ne-eqb}
 use Rattle.facts.proofs.Bools.{by-cases}
+use Rattle.words.specs.Limits.{holeSlots}
 use Rattle.words.specs.Host.{reservationGranted, commitGranted}
 use Rattle.fields.specs.Field.{arena, held, put}
 use Rattle.holes.specs.declared.Arena.{Arena}
@@ -18,12 +19,13 @@ use Rattle.runs.specs.declared.Commit.{Commit}
 use Rattle.runs.specs.declared.Commit.the-variants.{Run, Nothing}
 use Rattle.holes.specs.Record.{storeRecord, advanced, counted}
 use Rattle.arena.specs.Owners.{own}
-use Rattle.arena.specs.Load.{loadHole}
+use Rattle.arena.specs.Load.{loadHole, loadHoles}
 use Rattle.arena.specs.Store.{storeHole}
 use Rattle.holes.specs.Act.{withState, withHoles, Gives, drawWords, drawRecord, Draws, endNone, endRun, endGiven, settle, fromFrontier, holeDrawn, commitDrawn, nextState, commitPlanned}
-use Rattle.runs.specs.Asks.{RecordIn, HoleIn, PlanIn, RequestIn, RunIn}
+use Rattle.runs.specs.Asks.{RecordIn, HoleIn, PlanIn, EndsIn, RequestIn, RunIn}
 use Rattle.runs.specs.Answer.{Answers}
 use Rattle.holes.proofs.StoreLaws.{hole-length}
+use Rattle.holes.proofs.EndsFair.{ends-more, draw-fair}
 
 -- ---- a run from a hole, which is g
 module _ (b : List ℕ) (a : Arena) (m i : ℕ) (g : Hole) (here : g ≡ loadHole b i) where
@@ -49,11 +51,17 @@ module _ (b : List ℕ) (a : Arena) (m i : ℕ) (g : Hole) (here : g ≡ loadHol
   unfolding drawWords
   draw-length = by-cases (ltb m (loadHole b i .pages)) (λ t. rw t (hole-length b i _)) (λ t. rw t (hole-length b i _))
 
-  pub hole-run : (x : List ℕ) (r : Arena) (q : Request) → Draws b a m i x r → q .pages ≡ m → RequestIn b q → RecordIn (q .size) a → HoleIn a i (loadHole b i) m → RunIn x r (g .first) q
+  draw-count : a .count ≤ holeSlots → drawRecord b a m i .count ≤ holeSlots
   unfolding drawRecord
-  hole-run x r q d e rq ra rh =
+  draw-count l = by-cases (ltb m (loadHole b i .pages)) (λ t. rw t l) (λ t. rw t (omega arith))
+
+  pub hole-run : (x : List ℕ) (r : Arena) (q : Request) → Draws b a m i x r → q .pages ≡ m → RequestIn b q → RecordIn (q .size) a → HoleIn a i (loadHole b i) m → EndsIn b a → RunIn x r (g .first) q
+  unfolding drawRecord
+  hole-run x r q d e rq ra rh re =
       let l : length x ≡ length b = ap length (d .book) ∙ draw-length in
       let t : r .total ≡ a .total - m = ap (λ z. z .total) (d .top) in
+      let u : r .frontier ≡ a .frontier = ap (λ z. z .frontier) (d .top) in
+      let c : r .count ≤ holeSlots = subst (λ z. z .count ≤ holeSlots) (sym (d .top)) (draw-count (ra .few)) in
       let k = hole-in rh in
       let h₁ = k .enough in
       let h₂ = k .ends in
@@ -61,7 +69,16 @@ module _ (b : List ℕ) (a : Arena) (m i : ℕ) (g : Hole) (here : g ≡ loadHol
       let h₄ = rq .long in
       let h₅ = rq .small in
       let h₆ = ra .short in
-      record { long = omega arith; near = omega arith; short = omega arith; owned = rq .owned }
+      let fair = draw-fair (a .frontier) (q .size) b (le-leb _ _ h₄) a m i (ra .few) (rh .stored) re in
+      record {
+        long = omega arith;
+        near = omega arith;
+        short = omega arith;
+        few = c;
+        low = omega arith;
+        owned = rq .owned;
+        ends = λ _. subst (λ y. EndsIn y r) (sym (d .book)) (subst (λ y. EndsIn (drawWords b a m i) y) (sym (d .top)) fair);
+      }
 
   pub from-drawn : (h w d : ℕ) (s : Commit) (x y : List ℕ) (r : Arena) → Draws b a m i x r → Answers s y (settle x r m (g .first) false h w d) → Answers s y (holeDrawn b a i m h w d)
   unfolding holeDrawn
@@ -69,14 +86,28 @@ module _ (b : List ℕ) (a : Arena) (m i : ℕ) (g : Hole) (here : g ≡ loadHol
       subst (λ (q : ℕ). Answers s y (settle (drawWords b a m i) (drawRecord b a m i) m q false h w d)) (ap (λ z. z .first) here) (rw (e .book, e .top) at k)
 
 -- ---- no hole
-pub frontier-run : (b : List ℕ) (a r : Arena) (q : Request) → RequestIn b q → RecordIn (q .size) a → r ≡ advanced (q .pages) a → r .frontier ≤ q .size → RunIn b r (a .frontier) q
-frontier-run b a r q rq ra e l =
+pub frontier-run : (b : List ℕ) (a r : Arena) (q : Request) → RequestIn b q → RecordIn (q .size) a → (commitGranted (q .host) ≡ false → a .frontier + q .pages ≤ q .size → EndsIn b a) → r ≡ advanced (q .pages) a → r .frontier ≤ q .size → RunIn b r (a .frontier) q
+frontier-run b a r q rq ra re e l =
     let t : r .total ≡ a .total = ap (λ z. z .total) e in
     let u : r .frontier ≡ a .frontier + q .pages = ap (λ z. z .frontier) e in
+    let c : r .count ≡ a .count = ap (λ z. z .count) e in
     let h₁ = rq .long in
     let h₂ = rq .small in
     let h₃ = ra .short in
-    record { long = omega arith; near = omega arith; short = omega arith; owned = rq .owned }
+    let h₄ = ra .few in
+    record {
+      long = omega arith;
+      near = omega arith;
+      short = omega arith;
+      few = omega arith;
+      low = omega arith;
+      owned = rq .owned;
+      ends = λ g. subst (λ y. EndsIn b y) (sym e) (ends-more (a .frontier) (a .frontier + q .pages) (omega arith) (loadHoles b 0 (a .count)) (re g (omega arith)));
+    }
+
+-- where it is not granted the holes are in a give's range
+pub run-ends-in : (b : List ℕ) (a : Arena) (first : ℕ) (q : Request) (t : Bool) (k : ℕ) → RunIn b a first q → k ≡ q .host → t ≡ commitGranted k → t ≡ false → EndsIn b a
+run-ends-in b a first q t k r e u v = r .ends (ap commitGranted (sym e) ∙ sym u ∙ v)
 
 -- ---- the end
 module _ (b : List ℕ) (a : Arena) (m q : ℕ) where
@@ -155,6 +186,9 @@ record-with n s a r e k = subst (λ z. RecordIn n z) (sym e) (record { moved = k
 
 pub plan-with : (b : List ℕ) (s m c : ℕ) (a r : Arena) → r ≡ withState s a → PlanIn b a c m → PlanIn b r c m
 plan-with b s m c a r e k d = let z = k d in subst (λ y. HoleIn y (c - 1) (loadHole b (c - 1)) m) (sym e) (record { stored = z .stored; enough = z .enough; within = z .within; ends = z .ends })
+
+pub ends-with : (b : List ℕ) (s : ℕ) (a r : Arena) → r ≡ withState s a → EndsIn b a → EndsIn b r
+ends-with b s a r e k = subst (λ y. EndsIn b y) (sym e) k
 
 pub plan-hole : (b : List ℕ) (m c : ℕ) (a : Arena) → PlanIn b a c m → (c ≡ 0 → ⊥) → HoleIn a (c - 1) (loadHole b (c - 1)) m
 plan-hole b m c a k d = k d

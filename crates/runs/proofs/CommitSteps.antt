@@ -6,6 +6,7 @@ use mathlib.Core.List.{List}
 use mathlib.Core.Path.{_≡_, refl, sym, ap, _∙_, subst}
 use borrow.Author.Tests.{le-leb, eq-eqb, ne-eqb}
 use Rattle.words.specs.Limits.{maxPages, holeSlots}
+use Rattle.words.specs.Host.{commitGranted}
 use Rattle.fields.specs.Field.{arena, held, get}
 use Rattle.holes.specs.declared.Arena.{Arena}
 use Rattle.holes.specs.declared.Plan.{Plan}
@@ -18,9 +19,9 @@ use Rattle.arena.specs.Fair.{recordFair, commitFair}
 use Rattle.holes.specs.Plan.{planAs, planOf}
 use Rattle.arena.specs.Calls.{commitFor}
 use Rattle.holes.specs.Act.{endNone, fromFrontier, commitPlanned, planned, commitRead, commitActs, growWith}
-use Rattle.runs.specs.Asks.{RecordIn, HoleIn, PlanIn, RequestIn, BookIn}
+use Rattle.runs.specs.Asks.{RecordIn, HoleIn, PlanIn, EndsIn, RequestIn, BookIn}
 use Rattle.runs.specs.Answer.{Answers}
-use Rattle.holes.proofs.Acts.{fair-record, commit-acts}
+use Rattle.holes.proofs.Acts.{fair-record, planned-is, ends-of, commit-acts}
 use Rattle.holes.proofs.PlanLaws.{plan-fits}
 
 -- ---- the record that was loaded
@@ -48,6 +49,9 @@ module _ (n : ℕ) (b : List ℕ) (a : Arena) (h e m w d : ℕ) where
   unfolding growWith endNone
   grows-not x z f = rw (ne-eqb (a .frontier) e z) (record { answer = refl; book = f })
 
+  pub grow-ends : (commitGranted h ≡ false → a .frontier ≡ e → a .frontier + m ≤ n → EndsIn b a) → a .frontier ≡ e → commitGranted h ≡ false → a .frontier + m ≤ n → EndsIn b a
+  grow-ends k z g l = k g z l
+
   pub grows-there : (s : Commit) (x : List ℕ) → a .frontier ≡ e → Answers s x (fromFrontier n b a m h w d) → Answers s x (growWith n b a h e m w d)
   unfolding growWith
   grows-there s x z k = rw (eq-eqb (a .frontier) e z) k
@@ -65,6 +69,9 @@ module _ (n : ℕ) (b : List ℕ) (h m w d : ℕ) (a : Arena) (e : a ≡ recordO
         let k = plan-fits b m p plan-is t z in
         subst (λ y. HoleIn y (p .code - 1) (loadHole b (p .code - 1)) m) (sym e) (record { stored = k .stored; enough = k .enough; within = k .within; ends = k .ends })
 
+    pub among-ends : p .fair ≡ true → EndsIn b a
+    among-ends t = subst (λ y. EndsIn b y) (sym e) (ends-of b (sym (ap (λ z. z .fair) (plan-is ∙ planned-is b m)) ∙ t))
+
     pub among-on : (s : Commit) (x : List ℕ) → p .fair ≡ true → Answers s x (commitPlanned n b a (p .code) m h w d) → Answers s x (commitRead n b h m w d)
     unfolding commitRead
     among-on s x t k = rw (← plan-is, t, ← e) k
@@ -76,6 +83,10 @@ module _ (n : ℕ) (b : List ℕ) (h m w d : ℕ) (a : Arena) (e : a ≡ recordO
   -- none is
   pub none-in : PlanIn b a 0 m
   none-in d = absurd (d refl)
+
+  pub none-ends : a .count ≡ 0 → EndsIn b a
+  unfolding loadHoles
+  none-ends z = rw z refl
 
   none-planned : a .count ≡ 0 → planned b m ≡ planAs true 0
   unfolding planned planOf loadHoles leastFit

@@ -3,27 +3,37 @@ use Prim.Native.Nat.{ℕ, zero, suc, _+_, _-_, _≤_, _<_}
 use native.Mathlib.Omega.{arith}
 use mathlib.Core.Bool.{Bool, true, false}
 use mathlib.Core.List.{List}
-use mathlib.Core.Path.{_≡_, refl, sym, ap, _∙_}
+use mathlib.Core.Path.{_≡_, refl, sym, ap, _∙_, subst}
 use lib.Dec.{leb}
 use borrow.Author.Tests.{le-leb, lt-leb, leb-true, eq-eqb, ne-eqb}
 use Rattle.facts.proofs.Bools.{and-left, and-right, and-no}
+use Rattle.words.specs.Limits.{holeSlots}
+use Rattle.words.specs.Host.{commitGranted}
 use Rattle.model.specs.Heap.{direct}
 use Rattle.arena.specs.Owners.{ownerCode}
-use Rattle.fields.specs.Field.{arena, page, owner, frontier, held, get, put}
+use Rattle.fields.specs.Field.{arena, page, owner, frontier, holes, held, get, put}
 use Rattle.holes.specs.declared.Arena.{Arena}
 use Rattle.holes.specs.Record.{recordOf, storeRecord}
-use Rattle.arena.specs.Fair.{recordFair, giveFair}
+use Rattle.arena.specs.Fair.{recordFair, holesEndFair, giveFair, growGives, growFair}
 use Rattle.arena.specs.Owners.{own}
+use Rattle.arena.specs.Load.{loadArena}
 use Rattle.arena.specs.Calls.{given, everyDirect, heldDirect}
 use Rattle.holes.specs.Act.{Gives, givenWith, giveActs}
-use Rattle.runs.specs.Asks.{GiveIn, LoadedIn}
-use Rattle.holes.proofs.Acts.{fair-record, give-acts}
+use Rattle.runs.specs.Asks.{StoreIn, GiveIn, LoadedIn}
+use Rattle.holes.proofs.Acts.{FairRecord, fair-record, give-acts}
 
 -- ---- giving
 module _ (n : ℕ) (b : List ℕ) (m : ℕ) where
-  pub fair-give : (t : Bool) (d : ℕ) → t ≡ recordFair n b → t ≡ true → d ≡ get b (arena held) → leb m d ≡ giveFair n b m
+  pub fair-give : (t : Bool) (d : ℕ) (r : Bool) → t ≡ recordFair n b → t ≡ true → d ≡ get b (arena held) → m ≤ d → r ≡ holesEndFair b → r ≡ giveFair n b m
   unfolding giveFair
-  fair-give t d e v f = rw (← e, v, f)
+  fair-give t d r e v f l g = rw (← e, v, ← f, le-leb m d l) g
+
+  pub short-give : (t : Bool) (d : ℕ) → t ≡ recordFair n b → t ≡ true → d ≡ get b (arena held) → d < m → false ≡ giveFair n b m
+  unfolding giveFair
+  short-give t d e v f l = rw (← e, v, ← f, lt-leb m d l)
+
+  pub told-few : (t : Bool) → t ≡ recordFair n b → t ≡ true → get b (arena holes) ≤ holeSlots
+  told-few t e v = fair-record n b (sym e ∙ v) .holes
 
   pub unfair-give : (t : Bool) → t ≡ recordFair n b → t ≡ false → false ≡ giveFair n b m
   unfolding giveFair
@@ -34,22 +44,34 @@ unfolding givenWith
 gives-loaded b a d q m x y z v r g e f o =
     o ∙ ap (λ w. put w (arena held) (d - m)) (f ∙ ap (λ w. own w q m 0) (e ∙ ap (λ w. storeRecord w r) (g .book) ∙ ap (storeRecord _) (g .top)))
 
-pub loaded-in : (b : List ℕ) (n : ℕ) (a : Arena) (d q m : ℕ) → GiveIn b n q m → a ≡ recordOf b → d ≡ get b (arena held) → LoadedIn b a d q m
-unfolding giveFair
-loaded-in b n a d q m k e f =
-    let z = fair-record n b (and-left _ _ (k .fair)) in
-    let t : a .total ≡ recordOf b .total = ap (λ y. y .total) e in
-    let u = leb-true m (get b (arena held)) (and-right (recordFair n b) _ (k .fair)) in
-    let l₁ = k .long in
-    let l₂ = k .small in
-    let l₃ = k .inside in
-    let l₄ = z .holePages in
-    record { long = omega arith; near = omega arith; short = omega arith; owned = omega arith }
+module _ (b : List ℕ) (n : ℕ) (a : Arena) (d q m : ℕ) (k : GiveIn b n q m) (e : a ≡ recordOf b) (f : d ≡ get b (arena held)) where
+  fair : FairRecord n b
+  unfolding giveFair
+  fair = fair-record n b (and-left _ _ (k .fair))
 
-pub given-is : (b x : List ℕ) (n : ℕ) (a : Arena) (d q m : ℕ) → GiveIn b n q m → a ≡ recordOf b → d ≡ get b (arena held) → x ≡ givenWith b a d q m → x ≡ given b q m
-unfolding giveFair giveActs
-given-is b x n a d q m k e f g =
-    g ∙ ap (λ y. givenWith b y d q m) e ∙ ap (λ y. givenWith b (recordOf b) y q m) f ∙ sym (give-acts n b (fair-record n b (and-left _ _ (k .fair))) q m)
+  enough : m ≤ get b (arena held)
+  unfolding giveFair
+  enough = leb-true m (get b (arena held)) (and-left _ _ (and-right (recordFair n b) _ (k .fair)))
+
+  ends : holesEndFair b ≡ true
+  unfolding giveFair
+  ends = and-right (leb m (get b (arena held))) _ (and-right (recordFair n b) _ (k .fair))
+
+  pub loaded-in : LoadedIn b a d q m
+  unfolding holesEndFair
+  loaded-in =
+      let l₁ = k .long in
+      let l₂ = k .small in
+      let l₃ = k .inside in
+      let z = fair in
+      let y = enough in
+      let s : StoreIn b (recordOf b) q m = record { long = omega arith; few = z .holes; short = z .holePages; low = let x = z .frontier in omega arith; near = omega arith; ends = ends } in
+      record { long = omega arith; near = omega arith; store = subst (λ y. StoreIn b y q m) (sym e) s; owned = omega arith }
+
+  pub given-is : (x : List ℕ) → x ≡ givenWith b a d q m → x ≡ given b q m
+  unfolding giveActs
+  given-is x g =
+      g ∙ ap (λ y. givenWith b y d q m) e ∙ ap (λ y. givenWith b (recordOf b) y q m) f ∙ sym (give-acts n b (le-leb _ _ (k .long)) fair ends q m)
 
 -- ---- the pages of a run, the last one first
 pub record Looking (b : List ℕ) (q m left : ℕ) : Type 0 where
@@ -80,6 +102,38 @@ module _ (b : List ℕ) (q m : ℕ) where
   unfolding everyDirect
   looks-done zero k l = k .rest
   looks-done (suc left) k l = absurd (omega arith)
+
+-- ---- number 13 of a growth
+module _ (n : ℕ) (b : List ℕ) (h e m : ℕ) where
+  pub gives-granted : (t : Bool) (k : ℕ) → k ≡ h → t ≡ commitGranted k → t ≡ true → false ≡ growGives n b h e m
+  unfolding growGives
+  gives-granted t k u v w = let z : commitGranted h ≡ true = ap commitGranted (sym u) ∙ sym v ∙ w in rw z
+
+  module _ (t : Bool) (k : ℕ) (u : k ≡ h) (v : t ≡ commitGranted k) (w : t ≡ false) (f : ℕ) (g : f ≡ get b (arena frontier)) where
+    refused : commitGranted h ≡ false
+    refused = ap commitGranted (sym u) ∙ sym v ∙ w
+
+    pub gives-elsewhere : (f ≡ e → ⊥) → false ≡ growGives n b h e m
+    unfolding growGives loadArena
+    gives-elsewhere d = rw (refused, ← g, ne-eqb f e d)
+
+    pub gives-there : f ≡ e → leb (e + m) n ≡ growGives n b h e m
+    unfolding growGives loadArena
+    gives-there s = rw (refused, ← g, eq-eqb f e s)
+
+  module _ (t : Bool) (r : t ≡ recordFair n b) where
+    pub grow-unfair : t ≡ false → false ≡ growFair n b h e m
+    unfolding growFair
+    grow-unfair v = rw (← r, v)
+
+    module _ (v : t ≡ true) (g : Bool) (i : g ≡ growGives n b h e m) where
+      pub grow-holes : (o : Bool) → g ≡ true → o ≡ holesEndFair b → o ≡ growFair n b h e m
+      unfolding growFair
+      grow-holes o w f = rw (← r, v, ← i, w) f
+
+      pub grow-record : g ≡ false → true ≡ growFair n b h e m
+      unfolding growFair
+      grow-record w = rw (← r, v, ← i, w)
 
 -- ---- number 12
 module _ (n : ℕ) (b : List ℕ) (q m : ℕ) where

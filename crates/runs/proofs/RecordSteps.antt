@@ -2,23 +2,36 @@
 use Prim.Native.Nat.{ℕ, zero, suc, _+_, _-_, _≤_, _<_}
 use native.Mathlib.Omega.{arith}
 use native.Mathlib.Numerals.{add-one}
-use mathlib.Core.Bool.{false}
-use mathlib.Core.List.{List}
-use mathlib.Core.Path.{_≡_, refl, _∙_}
+use mathlib.Core.Bool.{Bool, true, false}
+use mathlib.Core.List.{List, []}
+use mathlib.Core.Option.{Option}
+use mathlib.Core.Path.{_≡_, refl, sym, ap, _∙_, subst}
 use lib.Dec.{leb}
 use lib.ListN.{length}
-use borrow.Author.Tests.{lt-ltb, le-ltb, le-leb, lt-leb}
+use borrow.Author.Tests.{lt-ltb, le-ltb, le-leb, lt-leb, eq-eqb, ne-eqb}
+use Rattle.facts.specs.Lists.{every}
 use Rattle.facts.proofs.Bools.{and-no}
 use Rattle.words.specs.Limits.{holeSlots, holePagesMax}
-use Rattle.fields.specs.Field.{arena, page, owner, state, frontier, holes, holePages, held, get, put}
+use Rattle.fields.specs.Field as Field
+use Rattle.fields.specs.Field.{arena, page, owner, state, frontier, holes, holePages, held, pages, get, put}
 use Rattle.fields.proofs.Laws.{length-put}
 use Rattle.holes.specs.declared.Arena.{Arena}
-use Rattle.holes.specs.Record.{abandoning}
-use Rattle.arena.specs.Fair.{recordFair}
+use Rattle.holes.specs.declared.Neighbours.{Neighbours}
+use Rattle.holes.specs.declared.holes.Edges.{Edges}
+use Rattle.holes.specs.Record.{recordOf, abandoning}
+use Rattle.holes.specs.Plan.{indexCode, neighboursOf}
+use Rattle.arena.specs.Fair.{recordFair, holeEndsFair, holesEndFair}
 use Rattle.arena.specs.Owners.{own}
+use Rattle.arena.specs.Load.{loadHole, loadHoles}
 use Rattle.arena.specs.Store.{storeHole}
-use Rattle.model.specs.HoleStore.{hole}
-use Rattle.holes.specs.Act.{withHoles, giveWords, giveRecord, Gives}
+use Rattle.arena.proofs.Frames.{loaded-length}
+use Rattle.model.specs.declared.Hole.{Hole}
+use Rattle.model.specs.HoleStore.{hole, holeAt, lowestThat, endsAt, startsAt, holeBefore, holeAfter, withBefore, withAfter, withBoth}
+use Rattle.model.proofs.Placing.{Found, found, not-found, finds}
+use Rattle.holes.specs.Act.{withHoles, bothWords, placeWords, placeRecord, Places, edges, touching, giveWords, giveRecord, Gives}
+use Rattle.holes.proofs.StoreLaws.{loaded-at}
+use Rattle.holes.proofs.EndsFair.{ends-at}
+use Rattle.runs.specs.Asks.{StoreIn, SlotIn, StoredIn, TouchIn}
 
 -- ---- the record's test: one failing word is enough
 module _ (n : ℕ) (b : List ℕ) where
@@ -76,17 +89,110 @@ module _ (b₀ : List ℕ) (first pages w : ℕ) where
   pub owns-done : (b : List ℕ) (p left : ℕ) → Owning b₀ first pages w b p left → left ≤ 0 → b ≡ own b₀ first pages w
   owns-done b p left k l = let z : left ≡ 0 = omega arith in none w b p left z ∙ k .rest
 
+-- ---- the holes' test
+module _ (b : List ℕ) (a : Arena) (e : a ≡ recordOf b) where
+  pub record-few : get b (arena holes) ≤ holeSlots → a .count ≤ holeSlots
+  record-few l = let z : a .count ≡ get b (arena holes) = ap (λ y. y .count) e in omega arith
+
+  pub none-fair : a .count ≡ 0 → true ≡ holesEndFair b
+  unfolding holesEndFair loadHoles
+  none-fair z = let y : get b (arena holes) ≡ 0 = sym (ap (λ y. y .count) e) ∙ z in rw y
+
+  pub told-fair : (t : Neighbours) (run : Edges) → t ≡ neighboursOf (loadHoles b 0 (a .count)) (a .frontier) run → t .fair ≡ holesEndFair b
+  unfolding holesEndFair neighboursOf
+  told-fair t run f = ap (λ y. y .fair) f ∙ ap (λ y. every (holeEndsFair (y .frontier)) (loadHoles b 0 (y .count))) e
+
+-- ---- a run placed among the holes, by the codes c and d of those that it touches
+module _ (b : List ℕ) (a : Arena) (m q : ℕ) where
+  pub appends-not : (r : Arena) → holeSlots ≤ a .count → r ≡ abandoning a → Places b a m q 0 0 b r
+  unfolding placeWords placeRecord
+  appends-not r l e = let z = le-ltb (a .count) holeSlots l in record { book = rw z; top = rw z e }
+
+  pub appends : (x : List ℕ) (r : Arena) → a .count < holeSlots → x ≡ storeHole b (a .count) (hole q m) → r ≡ withHoles (a .count + 1) (a .total + m) a → Places b a m q 0 0 x r
+  unfolding placeWords placeRecord
+  appends x r l e f = let z = lt-ltb (a .count) holeSlots l in record { book = rw z e; top = rw z f }
+
+  module _ (x : List ℕ) (r : Arena) where
+    pub places-none : (c d : ℕ) → c ≡ 0 → d ≡ 0 → Places b a m q 0 0 x r → Places b a m q c d x r
+    places-none c d e f k = rw (e, f) k
+
+    pub places-before : (c d : ℕ) → (c ≡ 0 → ⊥) → d ≡ 0 → (x ≡ storeHole b (c - 1) (withBefore m (loadHole b (c - 1)))) × (r ≡ withHoles (a .count) (a .total + m) a) → Places b a m q c d x r
+    unfolding placeWords placeRecord
+    places-before zero d ne e k = absurd (ne refl)
+    places-before (suc i) d ne e k = let z : suc i - 1 ≡ i = omega arith in rw e (record { book = rw z at (k .0); top = k .1 })
+
+    pub places-after : (c d : ℕ) → c ≡ 0 → (d ≡ 0 → ⊥) → (x ≡ storeHole b (d - 1) (withAfter m q (loadHole b (d - 1)))) × (r ≡ withHoles (a .count) (a .total + m) a) → Places b a m q c d x r
+    unfolding placeWords placeRecord
+    places-after c zero e ne k = absurd (ne refl)
+    places-after c (suc j) e ne k = let z : suc j - 1 ≡ j = omega arith in rw e (record { book = rw z at (k .0); top = k .1 })
+
+    pub places-both : (c d : ℕ) → (c ≡ 0 → ⊥) → (d ≡ 0 → ⊥) → (x ≡ bothWords b a (c - 1) (d - 1) (withBoth m (loadHole b (c - 1)) (loadHole b (d - 1)))) × (r ≡ withHoles (a .count - 1) (a .total + m) a) → Places b a m q c d x r
+    unfolding placeWords placeRecord
+    places-both zero d ne nd k = absurd (ne refl)
+    places-both (suc i) zero ne nd k = absurd (nd refl)
+    places-both (suc i) (suc j) ne nd k =
+        let z : suc i - 1 ≡ i = omega arith in
+        let y : suc j - 1 ≡ j = omega arith in
+        record { book = rw (z, y) at (k .0); top = k .1 }
+
+pub touched : (b : List ℕ) (a : Arena) (c : ℕ) → TouchIn b a c → (c ≡ 0 → ⊥) → StoredIn b a (c - 1)
+touched b a c k d = k d
+
+-- where the last hole is the joined one, or not
+module _ (b : List ℕ) (a : Arena) (i j : ℕ) (v : Hole) where
+  pub both-last : (x : List ℕ) → i + 1 ≡ a .count → x ≡ storeHole b j v → x ≡ bothWords b a i j v
+  unfolding bothWords
+  both-last x e f = rw (eq-eqb (i + 1) (a .count) e) f
+
+  pub both-moved : (x : List ℕ) → (i + 1 ≡ a .count → ⊥) → x ≡ storeHole (storeHole b i v) j (loadHole b (a .count - 1)) → x ≡ bothWords b a i j v
+  unfolding bothWords
+  both-moved x e f = rw (ne-eqb (i + 1) (a .count) e) f
+
 -- ---- giving
 module _ (b : List ℕ) (a : Arena) (m q : ℕ) where
-  pub gives-full : (r : Arena) → holeSlots ≤ a .count → r ≡ abandoning a → Gives b a m q b r
-  unfolding giveWords giveRecord
-  gives-full r l e = let z = le-ltb (a .count) holeSlots l in record { book = rw z; top = rw z e }
-
   pub gives-over : (r : Arena) → holePagesMax < a .total + m → r ≡ abandoning a → Gives b a m q b r
   unfolding giveWords giveRecord
-  gives-over r l e = let z = lt-leb (a .total + m) holePagesMax l in record { book = simp (z, and-no); top = simp (z, and-no) e }
+  gives-over r l e = let z = lt-leb (a .total + m) holePagesMax l in record { book = rw z; top = rw z e }
 
-  pub gives : (x : List ℕ) (r : Arena) → a .count < holeSlots → a .total + m ≤ holePagesMax → x ≡ storeHole b (a .count) (hole q m) → r ≡ withHoles (a .count + 1) (a .total + m) a
-      → Gives b a m q x r
-  unfolding giveWords giveRecord
-  gives x r l u e f = let z = lt-ltb (a .count) holeSlots l in let y = le-leb (a .total + m) holePagesMax u in record { book = rw (z, y) e; top = rw (z, y) f }
+  pub gives-first : (x : List ℕ) (r : Arena) → a .total + m ≤ holePagesMax → a .count ≡ 0 → Places b a m q 0 0 x r → Gives b a m q x r
+  unfolding giveWords giveRecord touching neighboursOf loadHoles lowestThat
+  gives-first x r l z k =
+      let y = le-leb (a .total + m) holePagesMax l in
+      let e : loadHoles b 0 (a .count) ≡ [] = ap (loadHoles b 0) z in
+      record { book = rw (y, e) (k .book); top = rw (y, e) (k .top) }
+
+  pub slot-in : StoreIn b a q m → SlotIn b a m
+  slot-in s = record { long = s .long; few = s .few; short = s .short; near = let z = s .near in omega arith }
+
+  module _ (t : Neighbours) (e : t ≡ neighboursOf (loadHoles b 0 (a .count)) (a .frontier) (edges m q)) where
+    pub gives-placed : (x : List ℕ) (r : Arena) → a .total + m ≤ holePagesMax → Places b a m q (t .before) (t .after) x r → Gives b a m q x r
+    unfolding giveWords giveRecord touching
+    gives-placed x r l k =
+        let y = le-leb (a .total + m) holePagesMax l in
+        record { book = rw (y, ← e) (k .book); top = rw (y, ← e) (k .top) }
+
+    module _ (s : StoreIn b a q m) where
+      HS : List Hole
+      HS = loadHoles b 0 (a .count)
+
+      stored-at : (i : ℕ) → i < length HS → StoredIn b a i
+      unfolding HS
+      stored-at i l =
+          let long = loaded-length b 0 (a .count) in
+          let z : 0 + i ≡ i = omega arith in
+          let y = ends-at (a .frontier) HS (s .ends) i l in
+          let x : holeAt i HS ≡ loadHole b i = loaded-at b 0 (a .count) i (omega arith) ∙ ap (loadHole b) z in
+          let p : holeAt i HS .pages ≡ get b (Field.hole pages i) = ap (λ h. h .pages) x in
+          record { stored = omega arith; small = omega (arith, y .low, s .low) }
+
+      found-in : (u : Hole → Bool) {o : Option ℕ} → Found u HS o → TouchIn b a (indexCode o)
+      found-in u (not-found z) d = absurd (d refl)
+      found-in u (found i l h) d = let z : suc i - 1 ≡ i = omega arith in rw z (stored-at i l)
+
+      pub before-in : TouchIn b a (t .before)
+      unfolding neighboursOf HS
+      before-in = let z : t .before ≡ indexCode (holeBefore q HS) = ap (λ y. y .before) e in subst (TouchIn b a) (sym z) (found-in (endsAt q) (finds (endsAt q) HS))
+
+      pub after-in : TouchIn b a (t .after)
+      unfolding neighboursOf HS
+      after-in = let z : t .after ≡ indexCode (holeAfter (q + m) HS) = ap (λ y. y .after) e in subst (TouchIn b a) (sym z) (found-in (startsAt (q + m)) (finds (startsAt (q + m)) HS))

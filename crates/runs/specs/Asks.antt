@@ -1,16 +1,18 @@
 -- What the steps of a commit ask of the book, the record and the plan.
 use Prim.Native.Nat.{ℕ, _+_, _-_, _≤_, _<_}
 use mathlib.Core.List.{List}
-use mathlib.Core.Bool.{true}
+use mathlib.Core.Bool.{true, false}
 use mathlib.Core.Path.{_≡_}
 use lib.ListN.{length}
 use Rattle.words.specs.Limits.{maxPages, holeSlots, holePagesMax}
-use Rattle.fields.specs.Field.{words}
+use Rattle.facts.specs.Lists.{every}
+use Rattle.words.specs.Host.{commitGranted}
+use Rattle.fields.specs.Field.{hole, pages, get, words}
 use Rattle.model.specs.declared.Hole.{Hole}
 use Rattle.holes.specs.declared.Arena.{Arena}
 use Rattle.runs.specs.declared.Request.{Request}
-use Rattle.arena.specs.Load.{loadHole}
-use Rattle.arena.specs.Fair.{giveFair}
+use Rattle.arena.specs.Load.{loadHole, loadHoles}
+use Rattle.arena.specs.Fair.{holeEndsFair, giveFair}
 
 -- a record in its ranges, in an arena of n pages
 pub record RecordIn (n : ℕ) (a : Arena) : Type 0 where
@@ -29,6 +31,10 @@ pub record HoleIn (a : Arena) (i : ℕ) (x : Hole) (m : ℕ) : Type 0 where
 abbrev pub PlanIn : List ℕ → Arena → ℕ → ℕ → Type 0
 PlanIn b a code m = (code ≡ 0 → ⊥) → HoleIn a (code - 1) (loadHole b (code - 1)) m
 
+-- the holes are in a give's range
+abbrev pub EndsIn : List ℕ → Arena → Type 0
+EndsIn b a = every (holeEndsFair (a .frontier)) (loadHoles b 0 (a .count)) ≡ true
+
 -- a request on a book that is long enough
 pub record RequestIn (b : List ℕ) (q : Request) : Type 0 where
   pub long : words (q .size) ≤ length b
@@ -41,7 +47,10 @@ pub record RunIn (b : List ℕ) (a : Arena) (first : ℕ) (q : Request) : Type 0
   pub long : words (first + q .pages) ≤ length b
   pub near : first + q .pages ≤ maxPages
   pub short : a .total ≤ holePagesMax
+  pub few : a .count ≤ holeSlots
+  pub low : a .frontier ≤ maxPages
   pub owned : q .held ≤ maxPages
+  pub ends : commitGranted (q .host) ≡ false → EndsIn b a
 
 -- a run that may be given, in an arena of n pages
 pub record GiveIn (b : List ℕ) (n first m : ℕ) : Type 0 where
@@ -50,11 +59,35 @@ pub record GiveIn (b : List ℕ) (n first m : ℕ) : Type 0 where
   pub inside : first + m ≤ n
   pub fair : giveFair n b m ≡ true
 
+-- a run of m pages at q that is given to the holes: the book holds them, and a is the record that goes with them
+pub record StoreIn (b : List ℕ) (a : Arena) (q m : ℕ) : Type 0 where
+  pub long : 40000 ≤ length b
+  pub few : a .count ≤ holeSlots
+  pub short : a .total ≤ holePagesMax
+  pub low : a .frontier ≤ maxPages
+  pub near : q + m ≤ maxPages
+  pub ends : EndsIn b a
+
+-- m pages that come to a slot
+pub record SlotIn (b : List ℕ) (a : Arena) (m : ℕ) : Type 0 where
+  pub long : 40000 ≤ length b
+  pub few : a .count ≤ holeSlots
+  pub short : a .total ≤ holePagesMax
+  pub near : m ≤ maxPages
+
+-- hole i is stored, and no longer than an arena; the one with this code, where it is one
+pub record StoredIn (b : List ℕ) (a : Arena) (i : ℕ) : Type 0 where
+  pub stored : i < a .count
+  pub small : get b (hole pages i) ≤ maxPages
+
+abbrev pub TouchIn : List ℕ → Arena → ℕ → Type 0
+TouchIn b a code = (code ≡ 0 → ⊥) → StoredIn b a (code - 1)
+
 -- the same with the record and HELD at hand
 pub record LoadedIn (b : List ℕ) (a : Arena) (d first m : ℕ) : Type 0 where
   pub long : words (first + m) ≤ length b
   pub near : first + m ≤ maxPages
-  pub short : a .total ≤ holePagesMax
+  pub store : StoreIn b a first m
   pub owned : m ≤ d
 
 -- the book of an arena of n pages

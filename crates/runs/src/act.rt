@@ -10,12 +10,14 @@ use holes::record;
 use model::Hole;
 use words::Host;
 ghost use mathlib.Core.Path.{_≡_};
-ghost use Prim.Native.Nat.{_≤_};
+ghost use mathlib.Core.Bool.{false};
+ghost use Prim.Native.Nat.{_+_, _≤_};
 ghost use lib.ListN.{length};
 ghost use Rattle.words.specs.Limits.{maxPages};
+ghost use Rattle.words.specs.Host.{commitGranted};
 ghost use Rattle.arena.specs.Load.{loadHole};
 ghost use Rattle.holes.specs.Act.{Draws, endRun, endGiven, settle, fromFrontier, holeDrawn, commitDrawn, nextState, commitPlanned};
-ghost use Rattle.runs.specs.Asks.{RecordIn, HoleIn, PlanIn, RequestIn, RunIn};
+ghost use Rattle.runs.specs.Asks.{RecordIn, HoleIn, PlanIn, EndsIn, RequestIn, RunIn};
 ghost use Rattle.runs.specs.Answer.{Answers};
 
 // The front of hole `i`, which is `x`, is cut off, or the last hole comes into its place; the record afterwards is answered.
@@ -44,7 +46,7 @@ fn end_run(meta: &mut [u32], a: Arena, first: u32, fresh: bool, q: Request)
 
 // The commit is not granted: the run is given, and a fresh run's pages are nobody's.
 fn end_given(meta: &mut [u32], a: Arena, first: u32, fresh: bool, q: Request)
-    requires { ⌜ RunIn (now meta) a first q ⌝ }
+    requires { ⌜ RunIn (now meta) a first q × EndsIn (now meta) a ⌝ }
     ensures { λ _. ⌜ now (meta .exit) ≡ endGiven (now (meta .entry)) a (q .pages) first fresh .book ⌝ }
 {
     let b = give::give_run(meta, a, first, q.pages);
@@ -67,7 +69,7 @@ pub fn settle(meta: &mut [u32], a: Arena, first: u32, fresh: bool, q: Request) -
 }
 
 pub fn from_frontier(meta: &mut [u32], a: Arena, q: Request) -> Commit
-    requires { ⌜ RequestIn (now meta) q × RecordIn (q .size) a ⌝ }
+    requires { ⌜ RequestIn (now meta) q × RecordIn (q .size) a × (commitGranted (q .host) ≡ false → a .frontier + q .pages ≤ q .size → EndsIn (now meta) a) ⌝ }
     ensures { λ r. ⌜ Answers r (now (meta .exit)) (fromFrontier (q .size) (now (meta .entry)) a (q .pages) (q .host) (q .owner) (q .held)) ⌝ }
 {
     let b = record::advanced_by(a, q.pages);
@@ -79,7 +81,7 @@ pub fn from_frontier(meta: &mut [u32], a: Arena, q: Request) -> Commit
 }
 
 fn from_hole(meta: &mut [u32], a: Arena, i: u32, q: Request) -> Commit
-    requires { ⌜ RequestIn (now meta) q × RecordIn (q .size) a × HoleIn a i (loadHole (now meta) i) (q .pages) ⌝ }
+    requires { ⌜ RequestIn (now meta) q × RecordIn (q .size) a × HoleIn a i (loadHole (now meta) i) (q .pages) × EndsIn (now meta) a ⌝ }
     ensures { λ r. ⌜ Answers r (now (meta .exit)) (holeDrawn (now (meta .entry)) a i (q .pages) (q .host) (q .owner) (q .held)) ⌝ }
 {
     let x = hole_from(meta, i);
@@ -88,7 +90,7 @@ fn from_hole(meta: &mut [u32], a: Arena, i: u32, q: Request) -> Commit
 }
 
 fn commit_drawn(meta: &mut [u32], a: Arena, code: u32, q: Request) -> Commit
-    requires { ⌜ RequestIn (now meta) q × RecordIn (q .size) a × PlanIn (now meta) a code (q .pages) ⌝ }
+    requires { ⌜ RequestIn (now meta) q × RecordIn (q .size) a × PlanIn (now meta) a code (q .pages) × EndsIn (now meta) a ⌝ }
     ensures { λ r. ⌜ Answers r (now (meta .exit)) (commitDrawn (q .size) (now (meta .entry)) a code (q .pages) (q .host) (q .owner) (q .held)) ⌝ }
 {
     if code == 0 {
@@ -112,7 +114,7 @@ fn next_state(state: u32, host: u32) -> u32
 
 // The chosen hole has this code; 0 is none.
 pub fn commit_planned(meta: &mut [u32], a: Arena, code: u32, q: Request) -> Commit
-    requires { ⌜ RequestIn (now meta) q × RecordIn (q .size) a × PlanIn (now meta) a code (q .pages) ⌝ }
+    requires { ⌜ RequestIn (now meta) q × RecordIn (q .size) a × PlanIn (now meta) a code (q .pages) × EndsIn (now meta) a ⌝ }
     ensures { λ r. ⌜ Answers r (now (meta .exit)) (commitPlanned (q .size) (now (meta .entry)) a code (q .pages) (q .host) (q .owner) (q .held)) ⌝ }
 {
     let s = next_state(a.state, q.host);

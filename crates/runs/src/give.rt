@@ -3,16 +3,22 @@ use super::load;
 use super::owners;
 use super::store;
 use holes::Arena;
+use holes::holes::Edges;
+use holes::plans;
 use holes::record;
 use words::limits::HOLE_PAGES_MAX;
 use words::limits::HOLE_SLOTS;
 ghost use mathlib.Core.Path.{_≡_};
-ghost use Prim.Native.Nat.{_+_, _≤_, _<_, _^_};
+ghost use Prim.Native.Nat.{_+_, _-_, _≤_, _<_};
 ghost use lib.ListN.{length};
+ghost use Rattle.words.specs.Limits.{holeSlots};
+ghost use Rattle.model.specs.HoleStore.{hole, withBefore, withAfter, withBoth};
+ghost use Rattle.arena.specs.Load.{loadHole};
+ghost use Rattle.arena.specs.Store.{storeHole};
 ghost use Rattle.arena.specs.Fair.{giveFair};
 ghost use Rattle.arena.specs.Calls.{given};
-ghost use Rattle.holes.specs.Act.{withHoles, withState, Gives, givenWith};
-ghost use Rattle.runs.specs.Asks.{GiveIn, LoadedIn};
+ghost use Rattle.holes.specs.Act.{withHoles, withState, bothWords, Places, Gives, givenWith};
+ghost use Rattle.runs.specs.Asks.{StoreIn, SlotIn, StoredIn, TouchIn, GiveIn, LoadedIn};
 
 pub fn with_holes(a: Arena, count: u32, total: u32) -> Arena
     ensures { λ r. ⌜ r ≡ withHoles count total a ⌝ }
@@ -42,19 +48,108 @@ pub fn with_state(a: Arena, state: u32) -> Arena
     }
 }
 
-// The hole is written; the record afterwards is answered.
-pub fn give_run(meta: &mut [u32], a: Arena, first: u32, pages: u32) -> Arena
-    requires { ⌜ (40000 ≤ length (now meta)) × (a .total + pages < 2 ^ 32) ⌝ }
-    ensures { λ r. ⌜ Gives (now (meta .entry)) a pages first (now (meta .exit)) r ⌝ }
+// The run touches no hole: it gets the next slot, or is abandoned where none is free.
+fn append(meta: &mut [u32], a: Arena, first: u32, pages: u32) -> Arena
+    requires { ⌜ SlotIn (now meta) a pages ⌝ }
+    ensures { λ r. ⌜ Places (now (meta .entry)) a pages first 0 0 (now (meta .exit)) r ⌝ }
 {
     if HOLE_SLOTS <= a.count {
         return record::abandoning(a);
     }
+    store::store_hole(meta, a.count, first, pages);
+    with_holes(a, a.count + 1, a.total + pages)
+}
+
+// Hole `i` ends where the run begins.
+fn join_before(meta: &mut [u32], a: Arena, i: u32, pages: u32) -> Arena
+    requires { ⌜ SlotIn (now meta) a pages × StoredIn (now meta) a i ⌝ }
+    ensures { λ r. ⌜ (now (meta .exit) ≡ storeHole (now (meta .entry)) i (withBefore pages (loadHole (now (meta .entry)) i))) × (r ≡ withHoles (a .count) (a .total + pages) a) ⌝ }
+{
+    let first = fields::hole::start(meta, i);
+    let before = fields::hole::pages(meta, i);
+    store::store_hole(meta, i, first, before + pages);
+    with_holes(a, a.count, a.total + pages)
+}
+
+// Hole `j` begins where the run ends.
+fn join_after(meta: &mut [u32], a: Arena, j: u32, first: u32, pages: u32) -> Arena
+    requires { ⌜ SlotIn (now meta) a pages × StoredIn (now meta) a j ⌝ }
+    ensures { λ r. ⌜ (now (meta .exit) ≡ storeHole (now (meta .entry)) j (withAfter pages first (loadHole (now (meta .entry)) j))) × (r ≡ withHoles (a .count) (a .total + pages) a) ⌝ }
+{
+    let after = fields::hole::pages(meta, j);
+    store::store_hole(meta, j, first, pages + after);
+    with_holes(a, a.count, a.total + pages)
+}
+
+// The joined hole comes to `i`, and the last one to `j`.
+fn move_last(meta: &mut [u32], a: Arena, i: u32, j: u32, first: u32, pages: u32)
+    requires { ⌜ (40000 ≤ length (now meta)) × (a .count ≤ holeSlots) × (i < a .count) × (j < a .count) ⌝ }
+    ensures { λ _. ⌜ now (meta .exit) ≡ storeHole (storeHole (now (meta .entry)) i (hole first pages)) j (loadHole (now (meta .entry)) (a .count - 1)) ⌝ }
+{
+    let start = fields::hole::start(meta, a.count - 1);
+    let last = fields::hole::pages(meta, a.count - 1);
+    store::store_hole(meta, i, first, pages);
+    store::store_hole(meta, j, start, last);
+}
+
+// Where the last hole is the joined one it comes to `j`.
+fn put_both(meta: &mut [u32], a: Arena, i: u32, j: u32, first: u32, pages: u32)
+    requires { ⌜ (40000 ≤ length (now meta)) × (a .count ≤ holeSlots) × (i < a .count) × (j < a .count) ⌝ }
+    ensures { λ _. ⌜ now (meta .exit) ≡ bothWords (now (meta .entry)) a i j (hole first pages) ⌝ }
+{
+    if i + 1 == a.count {
+        store::store_hole(meta, j, first, pages);
+        return;
+    }
+    move_last(meta, a, i, j, first, pages);
+}
+
+// Hole `i` ends where the run begins, and hole `j` begins where it ends.
+fn join_both(meta: &mut [u32], a: Arena, i: u32, j: u32, pages: u32) -> Arena
+    requires { ⌜ SlotIn (now meta) a pages × StoredIn (now meta) a i × StoredIn (now meta) a j ⌝ }
+    ensures { λ r. ⌜ (now (meta .exit) ≡ bothWords (now (meta .entry)) a i j (withBoth pages (loadHole (now (meta .entry)) i) (loadHole (now (meta .entry)) j))) × (r ≡ withHoles (a .count - 1) (a .total + pages) a) ⌝ }
+{
+    let first = fields::hole::start(meta, i);
+    let before = fields::hole::pages(meta, i);
+    let after = fields::hole::pages(meta, j);
+    put_both(meta, a, i, j, first, before + pages + after);
+    with_holes(a, a.count - 1, a.total + pages)
+}
+
+// The holes are written, by the codes of those that the run touches; the record afterwards is answered.
+fn place(meta: &mut [u32], a: Arena, first: u32, pages: u32, before: u32, after: u32) -> Arena
+    requires { ⌜ SlotIn (now meta) a pages × TouchIn (now meta) a before × TouchIn (now meta) a after ⌝ }
+    ensures { λ r. ⌜ Places (now (meta .entry)) a pages first before after (now (meta .exit)) r ⌝ }
+{
+    if before == 0 {
+        if after == 0 {
+            return append(meta, a, first, pages);
+        }
+        return join_after(meta, a, after - 1, first, pages);
+    }
+    if after == 0 {
+        return join_before(meta, a, before - 1, pages);
+    }
+    join_both(meta, a, before - 1, after - 1, pages)
+}
+
+// With no hole stored none is read.
+pub fn give_run(meta: &mut [u32], a: Arena, first: u32, pages: u32) -> Arena
+    requires { ⌜ StoreIn (now meta) a first pages ⌝ }
+    ensures { λ r. ⌜ Gives (now (meta .entry)) a pages first (now (meta .exit)) r ⌝ }
+{
     if HOLE_PAGES_MAX < a.total + pages {
         return record::abandoning(a);
     }
-    store::store_hole(meta, a.count, first, pages);
-    with_holes(a, a.count + 1, a.total + pages)
+    if a.count == 0 {
+        return append(meta, a, first, pages);
+    }
+    let run = Edges {
+        first,
+        end: first + pages,
+    };
+    let t = plans::neighbours(meta, a, run);
+    place(meta, a, first, pages, t.before, t.after)
 }
 
 // The record is written, the pages are nobody's, and they are no longer held.
@@ -74,7 +169,9 @@ pub fn give_fair(meta: &[u32], size: u32, pages: u32) -> bool
     ensures { λ r. ⌜ r ≡ giveFair size (now (meta .entry)) pages ⌝ }
 {
     if load::record_fair(meta, size) {
-        return pages <= fields::arena::held(meta);
+        if pages <= fields::arena::held(meta) {
+            return load::holes_fair(meta);
+        }
     }
     false
 }

@@ -1,12 +1,16 @@
 // The arena's record as the words hold it, and number 13's tests of it.
 use holes::Arena;
+use holes::holes::Edges;
+use holes::plans;
 use words::limits::HOLE_PAGES_MAX;
 use words::limits::HOLE_SLOTS;
 ghost use mathlib.Core.Path.{_≡_};
 ghost use Prim.Native.Nat.{_≤_};
 ghost use lib.ListN.{length};
 ghost use Rattle.holes.specs.Record.{recordOf};
-ghost use Rattle.arena.specs.Fair.{recordFair};
+ghost use Rattle.words.specs.Limits.{holeSlots};
+ghost use Rattle.fields.specs.Field.{arena, holes, get};
+ghost use Rattle.arena.specs.Fair.{recordFair, holesEndFair};
 
 pub fn load_record(meta: &[u32]) -> Arena
     requires { ⌜ 40000 ≤ length (now meta) ⌝ }
@@ -41,4 +45,17 @@ pub fn record_fair(meta: &[u32], size: u32) -> bool
         return false;
     }
     fields::arena::held(meta) <= size
+}
+
+// Is every hole in a give's range. With no hole stored none is read.
+pub fn holes_fair(meta: &[u32]) -> bool
+    requires { ⌜ (40000 ≤ length (now meta)) × (get (now meta) (arena holes) ≤ holeSlots) ⌝ }
+    ensures { λ r. ⌜ r ≡ holesEndFair (now (meta .entry)) ⌝ }
+{
+    let a = load_record(meta);
+    if a.count == 0 {
+        return true;
+    }
+    let t = plans::neighbours(meta, a, Edges { first: 0, end: 0 });
+    t.fair
 }

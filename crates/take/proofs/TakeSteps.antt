@@ -16,9 +16,8 @@ use Rattle.fields.specs.Field.{arena, class, page, frontier, partial, empty, co
 use Rattle.fields.proofs.Changes.{Changes}
 use Rattle.runs.specs.declared.Commit as Commit
 use Rattle.runs.specs.declared.Commit.the-variants as Made
-use Rattle.arena.specs.Load.{loadArena}
 use Rattle.arena.specs.Fair.{commitFair}
-use Rattle.arena.specs.Calls.{Committed, commitRefused, committed, commitFor}
+use Rattle.arena.specs.Calls.{Committed, commitRefused, commitFor}
 use Rattle.runs.specs.Answer as Arena
 use Rattle.runs.specs.Answer.{Answers}
 use Rattle.model.specs.Arena as Model
@@ -194,12 +193,11 @@ module _ (n : ℕ) (b : List ℕ) (c : ℕ) (sh : Shape) (h : ℕ) (l : List ℕ
 
   refused-keeps : (commits .code ≡ 0 → ⊥) → commits .book ≡ b
   unfolding commitFor
-  refused-keeps d = go (commitFair n b) d
+  refused-keeps d = go (commitFair n b) _ refl d
     where
-      go : (t : Bool) → (cond t (record { code = 0; book = committed b (Model.commit n h (sh .pages) (loadArena b)) (sh .pages) (suc c); run = Model.commit n h (sh .pages) (loadArena b) .run; fresh = Model.commit n h (sh .pages) (loadArena b) .fresh }) (commitRefused b 13) .code ≡ 0 → ⊥)
-          → cond t (record { code = 0; book = committed b (Model.commit n h (sh .pages) (loadArena b)) (sh .pages) (suc c); run = Model.commit n h (sh .pages) (loadArena b) .run; fresh = Model.commit n h (sh .pages) (loadArena b) .fresh }) (commitRefused b 13) .book ≡ b
-      go true d = absurd (d refl)
-      go false d = refl
+      go : (t : Bool) (x : Committed) → x .code ≡ 0 → (cond t x (commitRefused b 13) .code ≡ 0 → ⊥) → cond t x (commitRefused b 13) .book ≡ b
+      go true x e d = absurd (d e)
+      go false x e d = refl
 
   pub new-refused : (r : Commit.Commit) (k : ℕ) (b′ : List ℕ) → Answers r b′ (commitFor n b h (sh .pages) (c + 1)) → r ≡ Made.Refused k → Takes (Answer.Refused k) b′ l (takeNew n b c sh h l)
   unfolding takeNew

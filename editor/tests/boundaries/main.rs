@@ -6,6 +6,7 @@ mod chunks;
 mod heap;
 mod holes;
 mod idle;
+mod joins;
 mod marks;
 mod parks;
 mod ranges;

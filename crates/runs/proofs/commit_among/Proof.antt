@@ -1,11 +1,11 @@
 use borrow.Author.Needs.{needs}
 use Rattle.runs.proofs.commit_among.Statement.{statement}
 use Rattle.runs.proofs.commit_among.Tie as tie
-use Rattle.runs.proofs.CommitSteps.{loaded-few, loaded-record, plan-in, among-on, among-off}
+use Rattle.runs.proofs.CommitSteps.{loaded-few, loaded-record, plan-in, among-ends, among-on, among-off}
 
 pub commit-among-spec : {M : Type 1} → statement M
 commit-among-spec =
     tie.close
     (tie.spec
-    (λ c κs. (search loaded-few, search needs)) (λ c κs. (search needs, search loaded-record, search plan-in))
+    (λ c κs. (search loaded-few, search needs)) (λ c κs. (search needs, search loaded-record, search plan-in, search among-ends))
     (λ c. search needs) (λ c. search among-on) (λ c. search needs) (λ c. search among-off))

@@ -5,7 +5,7 @@ use Rattle.holes.specs.Scan.{noHole, betterOf}
 use Rattle.model.specs.declared.Hole.{Hole}
 use Rattle.holes.specs.declared.holes.Best.{Best}
 use Rattle.holes.proofs.Looping.{Nearer, OneTurn, loop-from}
-use Rattle.holes.proofs.Scanning.{bestFrom, scan-start, scan-step, scan-end}
+use Rattle.holes.proofs.Scanning.{weighedFrom, scan-start, scan-step, scan-end}
 use Rattle.model.proofs.Hole as T
 use Rattle.holes.proofs.holes.Best as B
 use Rattle.holes.proofs.holes.hole_at
@@ -56,7 +56,7 @@ module _ {M : Type 1} (𝓤 : URA M) (H : Heap 𝓤) (A : Atoms 𝓤) (W : Given
     b : Best
     b-is : Is B.the-row b (aBest .low b ∷ [])
     up-to : i ≤ count
-    same : b ≡ bestFrom need base count (now s) behind i
+    same : b ≡ weighedFrom (betterOf need) base count (now s) behind i
 
   abbrev left : Turn → ℕ
   left t = t .i
@@ -68,7 +68,7 @@ module _ {M : Type 1} (𝓤 : URA M) (H : Heap 𝓤) (A : Atoms 𝓤) (W : Given
     b = r;
     b-is = is;
     up-to = omega (arith, t .up-to);
-    same = e₂ ∙ ap (λ (g : Hole). betterOf need (base + (t .i - 1)) g (t .b)) e₁ ∙ ap (betterOf need (base + (t .i - 1)) (getD (now s) (t .i - 1) noHole)) (t .same) ∙ scan-step need base count (now s) (pre .0) behind (t .i) l (t .up-to);
+    same = e₂ ∙ ap (λ (g : Hole). betterOf need (base + (t .i - 1)) g (t .b)) e₁ ∙ ap (betterOf need (base + (t .i - 1)) (getD (now s) (t .i - 1) noHole)) (t .same) ∙ scan-step (betterOf need) base count (now s) (pre .0) behind (t .i) l (t .up-to);
   }
 
   exits : (t : Turn) → t .i ≤ 0 → ent 𝓤 (⋆ 𝓤 H A (‵ (Lent κ R s) ∷ (‵ (flft κ q) ⊛ ‵ ftrue) ∷ ‵ Rest ∷ [])) (Post (aBest .low (t .b)))
@@ -76,7 +76,7 @@ module _ {M : Type 1} (𝓤 : URA M) (H : Heap 𝓤) (A : Atoms 𝓤) (W : Given
       let e : t .i ≡ 0 = omega arith in
       qed W (‵ (Lent κ R s) ∷ (‵ (flft κ q) ⊛ ‵ ftrue) ∷ ‵ Rest ∷ []) ∵
       suffices ! _ (ends 𝓤 H A f.ended taken (f.clauses 𝓤 H A mem run) W (((κ, tt), (q, tt), tt, x, at), tt) (aBest .low (t .b)) (t .b) (tt, (tt, (tt, (tt, (tt, tt))))) (tt, (tt, (tt, (tt, (tt, tt)))))) $
-      says ! (t .same ∙ ap (bestFrom need base count (now s) behind) e ∙ scan-end need base count (now s) (pre .0) behind) $
+      says ! (t .same ∙ ap (weighedFrom (betterOf need) base count (now s) behind) e ∙ scan-end (betterOf need) base count (now s) (pre .0) behind) $
       move ! (1 ∷ []) $ frame ! $ fjoin ! $ frame ! $ owned ! B.the-row (Is B.the-row) (aBest .makes 𝓤 H A W) (t .b) _ (t .b-is) $ done !
 
   module _ (l₀ l₁ l₂ l₃ l₄ l₅ l₆ l₇ l₈ l₉ l₁₀ l₁₁ l₁₂ : ℕ) where
@@ -142,7 +142,7 @@ module _ {M : Type 1} (𝓤 : URA M) (H : Heap 𝓤) (A : Atoms 𝓤) (W : Given
     turns t = by-cases (ltb 0 (t .i)) (more t) (leaves t)
 
     goes-on : Sq W (Ctx count behind) (runs (𝓣 .C) (𝓣 .Λ) En body.t-3 (atRet En Post))
-    goes-on = first ! $ blocks ! $ loop-from W 𝓣 En body.turn-1 body.t-4 Post left I turns (record { i = count; b = behind; b-is = behind-is; up-to = omega arith; same = scan-start need base count (now s) (pre .0) behind })
+    goes-on = first ! $ blocks ! $ loop-from W 𝓣 En body.turn-1 body.t-4 Post left I turns (record { i = count; b = behind; b-is = behind-is; up-to = omega arith; same = scan-start (betterOf need) base count (now s) (pre .0) behind })
 
   walk : Is (ShrSlice (named 0) κ R) s (machine s ∷ []) → ent 𝓤 (onEntry 𝓤 H A f.signature (κ, tt) (q, tt) x at) (WpFn 𝓤 H (𝓣 .C) (𝓣 .Λ) f.Code.function (machine s ∷ vint w32 base ∷ vint w32 count ∷ vint w32 need ∷ aBest .low behind ∷ []) Post)
   walk p =

@@ -9,10 +9,10 @@ use Rattle.model.specs.HoleStore.{holeSlots}
 use Rattle.arena.specs.Load.{loadHoles}
 use Rattle.arena.specs.Fair.{holeFair}
 use Rattle.holes.specs.Plan.{planAs, planOf}
-use Rattle.holes.specs.Scan.{noBest, bestOf, codeAt}
+use Rattle.holes.specs.Scan.{noBest, betterOf, weighed, bestOf, codeAt}
 use Rattle.holes.proofs.Lending.{lend-mut, back-mut, lend-shr, back-shr}
 use Rattle.holes.proofs.Looping.{Nearer, OneTurn, loop-from}
-use Rattle.holes.proofs.Loading.{part-fair, part-best}
+use Rattle.holes.proofs.Loading.{part-fair, part-weighed}
 use Rattle.holes.proofs.Least.{plan-is}
 use Rattle.model.specs.declared.Hole.{Hole}
 use Rattle.holes.specs.declared.holes.Best.{Best}
@@ -129,7 +129,7 @@ module _ {M : Type 1} (𝓤 : URA M) (H : Heap 𝓤) (A : Atoms 𝓤) (W : Given
     len = long;
     up-to = omega (arith, t .up-to);
     so-far = e₁ ∙ ap (λ (z : Bool). z && every ok (loadHoles (now m) p (t .n - p))) (t .so-far) ∙ part-fair (now m) p (t .n) (a .count) l (t .up-to) ok;
-    same = e₃ ∙ ap (λ (z : List Hole). bestOf pages p z (t .best)) e₂ ∙ ap (bestOf pages p (loadHoles (now m) p (t .n - p))) (t .same) ∙ part-best (now m) p (t .n) (a .count) l (t .up-to) pages noBest;
+    same = e₃ ∙ ap (λ (z : List Hole). bestOf pages p z (t .best)) e₂ ∙ ap (bestOf pages p (loadHoles (now m) p (t .n - p))) (t .same) ∙ part-weighed (now m) p (t .n) (a .count) l (t .up-to) (betterOf pages) noBest;
   }
 
   plan-of : (t : Turn) (r : Plan) → t .n ≤ 0 → r ≡ planAs (t .fair) (codeAt pages (t .best)) → r ≡ planOf (loadHoles (now m) 0 (a .count)) (a .total) (a .frontier) pages
@@ -238,7 +238,7 @@ module _ {M : Type 1} (𝓤 : URA M) (H : Heap 𝓤) (A : Atoms 𝓤) (W : Given
     turns t = by-cases (ltb 0 (t .n)) (more t) (leaves t)
 
     goes-on : Sq W (Ctx (a .count) ys true noBest) (runs (𝓣 .C) (𝓣 .Λ) En body.t-4 (atRet En Post))
-    unfolding loadHoles bestOf
+    unfolding loadHoles weighed
     goes-on =
         let z : a .count - a .count ≡ 0 = omega arith in
         first ! $ blocks ! $ loop-from W 𝓣 En body.turn-1 body.t-5 Post left I turns (record { n = a .count; hs = ys; fair = true; best = noBest; is = none-is; len = refl; up-to = omega arith; so-far = rw z refl; same = rw z refl })
