@@ -45,9 +45,12 @@ LIMITS = "crates/words/specs/Limits.antt"
 HOST = "crates/words/specs/Host.antt"
 HOST_CODE = "crates/words/src/host_bits.rt"
 RANGES = "crates/demands/specs/Ranges.antt"
-# A class's limits are in its shape, by definition and in code.
+# The 8 MiB of a medium class are in its shape, the limits without rows with the rows, by definition and in code.
 SHAPE = "crates/classes/specs/Shape.antt"
 SHAPE_CODE = "crates/classes/src/runs.rt"
+PARKING = "compare/src/parking.rs"
+ROWS = "crates/rules/specs/Rules.antt"
+ROWS_CODE = "crates/rules/src/rows.rt"
 # The boundary tests that look into the book.
 BOOK_TESTS = ["ranges::", "marks::", "joins::stands", "holes::a_cut_hole_keeps_its_index", "holes::the_last_hole_takes_a_used_up_ones_place"]
 
@@ -69,14 +72,20 @@ def at(column, *lines):
     return "\n".join(" " * column + line for line in lines)
 
 
-def limit(name, heap, *shape):
-    """A limit of the stores: a constant of the original, and places in the shape, definition and code alike."""
+def limit(name, heap, plain):
+    """A limit of the stores: a constant of the original, and one of the limits without rows, in definition and code alike."""
     const, old, new = heap
-    in_code = lambda text: at(8, *(part.strip().replace(" = ", ": ") + "," for part in text.split(";"))).strip()
+    family, which = plain
+    told = dict(small=[4, 256], medium=[32, 256])[family]
+    wrong = [int(new) if which == at else number for at, number in enumerate(told)]
+    in_code = lambda numbers: at(12, f"empty: {numbers[0]},", f"cold: {numbers[1]},")
     return Rule(
         name,
         heap=[("heap.rs", f"const {const} = {old};", f"const {const} = {new};")],
-        model=[(SHAPE, *shape), (SHAPE_CODE, *map(in_code, shape))],
+        model=[
+            (ROWS, f"(limits {told[0]} {told[1]})", f"(limits {wrong[0]} {wrong[1]})"),
+            (ROWS_CODE, in_code(told), in_code(wrong)),
+        ],
     )
 
 
@@ -173,27 +182,55 @@ RULES = [
     limit(
         "5 empty pages",
         ("EMPTY_PAGE_CACHE_PER_CLASS: u32", "4", "5"),
-        "empties = 4; emptypages = 4",
-        "empties = 5; emptypages = 5",
+        ("small", 0),
     ),
     limit(
         "128 cold pages",
         ("MAX_COLD_PAGE_SLOTS: usize", "256", "128"),
-        "emptypages = 4; colds = 256",
-        "emptypages = 4; colds = 128",
+        ("small", 1),
     ),
     limit(
         "128 cold spans",
         ("MAX_COLD_SPAN_SLOTS: usize", "256", "128"),
-        "emptypages = 128; colds = 256",
-        "emptypages = 128; colds = 128",
+        ("medium", 1),
     ),
-    limit("16 empty spans", ("EMPTY_SPAN_CACHE_PER_CLASS: u32", "32", "16"), "empties = 32", "empties = 16"),
-    limit(
+    limit("16 empty spans", ("EMPTY_SPAN_CACHE_PER_CLASS: u32", "32", "16"), ("medium", 0)),
+    Rule(
         "144 pages of empty spans",
-        ("MAX_EMPTY_SPAN_BYTES_PER_CLASS: usize", "8 * 1024 * 1024", "9 * 1024 * 1024"),
-        "emptypages = 128",
-        "emptypages = 144",
+        heap=[
+            (
+                "heap.rs",
+                "const MAX_EMPTY_SPAN_BYTES_PER_CLASS: usize = 8 * 1024 * 1024;",
+                "const MAX_EMPTY_SPAN_BYTES_PER_CLASS: usize = 9 * 1024 * 1024;",
+            )
+        ],
+        model=[(SHAPE, "emptypages = 128", "emptypages = 144"), (SHAPE_CODE, "emptypages: 128", "emptypages: 144")],
+    ),
+    Rule(
+        "rows give no more than document 01's limits",
+        heap=[("compare/src/oracle/limits.rs", "given => given as usize,", "given => own.min(given as usize),")],
+    ),
+    Rule(
+        "a row's two limits are exchanged",
+        heap=[(PARKING, ".map(|row| [row[2], row[3]])", ".map(|row| [row[3], row[2]])")],
+        model=[(ROWS, "rowLimits r = limits (r .empty) (r .cold)", "rowLimits r = limits (r .cold) (r .empty)")],
+        crate="rules",
+    ),
+    Rule(
+        "a limit of 257 passes",
+        heap=[(PARKING, "pub const MOST: u32 = 256;", "pub const MOST: u32 = 257;")],
+    ),
+    Rule(
+        "17 comes before 18",
+        heap=[(PARKING, "} else if (0..CLASSES).any(|class| of(class) > 1) {", "} else if (0..CLASSES).all(|class| of(class) > 0) && (0..CLASSES).any(|class| of(class) > 1) {")],
+        model=[(ROWS, "(cond (twoRows ws) 18 (cond (noRow ws) 17 0))", "(cond (noRow ws) 17 (cond (twoRows ws) 18 0))")],
+        crate="rules",
+    ),
+    Rule(
+        "a class above 75 passes",
+        heap=[(PARKING, "row[1] >= CLASSES", "row[1] > CLASSES")],
+        model=[(ROWS, "ltb (r .last) classCount", "leb (r .last) classCount")],
+        crate="rules",
     ),
     Rule(
         "2,057 groups pass",

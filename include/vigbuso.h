@@ -27,9 +27,9 @@ extern "C" {
 
 /* The version of this header and of the archive that it is for. */
 #define VIGBUSO_VERSION_MAJOR 0
-#define VIGBUSO_VERSION_MINOR 2
+#define VIGBUSO_VERSION_MINOR 3
 #define VIGBUSO_VERSION_PATCH 0
-#define VIGBUSO_VERSION "0.2.0"
+#define VIGBUSO_VERSION "0.3.0"
 
 /* Bytes of a page, and of a granule: every block starts at a multiple of it. */
 #define VIGBUSO_PAGE_BYTES 65536u
@@ -50,6 +50,10 @@ extern "C" {
 
 /* The most chunks (document 01's groups) of a release by chunks. */
 #define VIGBUSO_MAX_CHUNKS 2056u
+
+/* Words of a row of parking rules, and the most that a limit in it may be. */
+#define VIGBUSO_ROW 4u
+#define VIGBUSO_LIMIT 256u
 
 /* How many figures vigbuso_report writes. */
 #define VIGBUSO_FIGURES 6u
@@ -94,6 +98,9 @@ enum vigbuso_fate { VIGBUSO_KEPT = 0, VIGBUSO_COLD = 1, VIGBUSO_TO_ARENA = 2, VI
 enum vigbuso_refusal {
     VIGBUSO_ARENA_LENGTH = 1,
     VIGBUSO_BOOK_TOO_SHORT = 2,
+    VIGBUSO_ROWS = 19,
+    VIGBUSO_TWO_ROWS = 18,
+    VIGBUSO_NO_ROW = 17,
     VIGBUSO_PLAN = 14,
     VIGBUSO_STOPPED = 16,
     VIGBUSO_LISTING = 20,
@@ -154,6 +161,13 @@ static inline const char *vigbuso_refusal_text(uint32_t number) {
     case 16:
         return "a word of the trace has kind 3, is a report with other bits set, names a class above 75 or a place not out, or a lent "
                "list is full";
+    case 17:
+        return "parking rules are given and a class has no row";
+    case 18:
+        return "a class has two rows";
+    case 19:
+        return "the list of parking rules isn't whole rows of four, a limit exceeds 256, or a row's last class is below its first "
+               "or above 75";
     case 20:
         return "the listing's arena isn't 1 to 3 pages, its length is above 4, or the lent list is shorter than the listing";
     case 21:
@@ -196,9 +210,13 @@ uint32_t vigbuso_size_class(uint64_t size, uint32_t *size_class);
 /*
  * Opens a heap on an arena of so many pages, 1 to 262,144. Every other call works on a book that was opened.
  *   book   book_len words, written; VIGBUSO_BOOK_WORDS(pages) at least
- * Returns 0, or 1, 2.
+ *   rows   rows_len words, read: parking rules, VIGBUSO_ROW words to a row. A row has a first and a last class, small ones 0 to 63,
+ *          medium ones 64 to 75, then how many empty and how many cold runs each of them keeps, 0 to VIGBUSO_LIMIT. Each class has just
+ *          one row; their order is free. With none, rows_len 0, a small class keeps 4 empty and 256 cold pages, a medium one 32 empty
+ *          and 256 cold spans. The empty spans of a medium class have 8 MiB at most in any case
+ * Returns 0, or 1, 2, 19, 18, 17.
  */
-uint32_t vigbuso_open(uint32_t *book, size_t book_len, uint64_t pages);
+uint32_t vigbuso_open(uint32_t *book, size_t book_len, uint64_t pages, const uint32_t *rows, size_t rows_len);
 
 /*
  * Asks for a run of so many pages, to be used directly.

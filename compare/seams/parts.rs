@@ -14,7 +14,7 @@ pub struct Part {
 /// The end of a function or block in a module's own column.
 const END: &str = "\n}\n";
 
-pub const PARTS: [Part; 12] = [
+pub const PARTS: [Part; 16] = [
     Part {
         file: "arena.rs",
         why: "the system's answers come from the host word",
@@ -81,6 +81,35 @@ pub const PARTS: [Part; 12] = [
         put: "unsafe fn mact_fate(base: *mut u8, fate: SpanFate) {\n    \
               crate::oracle::fates::push(match fate {\n        SpanFate::Keep => 0,\n        \
               SpanFate::Unmap(_) => 2,\n    });\n",
+    },
+    Part {
+        file: "heap.rs",
+        why: "a small class's empty limit is its row's, if rows are given (document 02, A.9)",
+        from: "    if list.empty_count < EMPTY_PAGE_CACHE_PER_CLASS {\n",
+        to: "",
+        put: "    if list.empty_count < crate::oracle::limits::empty((*page).class as usize, EMPTY_PAGE_CACHE_PER_CLASS) {\n",
+    },
+    Part {
+        file: "heap.rs",
+        why: "and its cold limit",
+        from: "    } else if (list.cold_len as usize) < MAX_COLD_PAGE_SLOTS\n",
+        to: "",
+        put: "    } else if (list.cold_len as usize) < crate::oracle::limits::cold((*page).class as usize, MAX_COLD_PAGE_SLOTS)\n",
+    },
+    Part {
+        file: "heap.rs",
+        why: "a medium class's empty limit is its row's; its 8 MiB stay beside it",
+        from: "        if list.empty_count < EMPTY_SPAN_CACHE_PER_CLASS\n",
+        to: "",
+        put: "        let class = crate::oracle::original::classes::NUM_CLASSES + (*span).mclass as usize;\n        \
+              if list.empty_count < crate::oracle::limits::empty(class, EMPTY_SPAN_CACHE_PER_CLASS)\n",
+    },
+    Part {
+        file: "heap.rs",
+        why: "and its cold limit",
+        from: "        } else if (list.cold_len as usize) < MAX_COLD_SPAN_SLOTS\n",
+        to: "",
+        put: "        } else if (list.cold_len as usize) < crate::oracle::limits::cold(class, MAX_COLD_SPAN_SLOTS)\n",
     },
     Part {
         file: "heap.rs",

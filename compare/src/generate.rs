@@ -4,6 +4,7 @@ use std::ops::Range;
 
 use crate::call::Kind;
 use crate::oracle;
+use crate::parking;
 use crate::plan::{Intent, Piece, Place, Plan, Portion, Step};
 use crate::random::Random;
 use crate::words::{Family, HOST_ALL, HOST_COMMIT, HOST_RESERVE, MAX_PAGES};
@@ -44,7 +45,8 @@ pub fn plan(random: &mut Random, asked: fn(Kind) -> bool, name: Option<&str>, pa
     let mut maker = Maker { random: Random::new(random.word()), pages, length: 1, steps: Vec::new(), asked };
     (scenario.make)(&mut maker);
     maker.push(HOST_ALL, Intent::Report);
-    Plan { scenario: scenario.name, pages: maker.length, steps: maker.steps }
+    let rows = if random.chance(1, 3) { parking::any_rows(random) } else { Vec::new() };
+    Plan { scenario: scenario.name, pages: maker.length, rows, steps: maker.steps }
 }
 
 struct Maker {

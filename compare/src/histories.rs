@@ -54,7 +54,7 @@ pub fn histories(words: &[String]) -> Result<bool, String> {
     let mut book = Book::new();
     let mut tally = Tally::default();
     let mut progress = Progress::begin();
-    let mut plain = 0;
+    let (mut plain, mut ruled) = (0, 0);
     let mut difference = None;
     while tally.calls() < calls && difference.is_none() {
         let plan = source.plan();
@@ -65,7 +65,11 @@ pub fn histories(words: &[String]) -> Result<bool, String> {
             tally.count_holes(reference);
             history.push((call.clone(), due.clone()));
         });
-        let (compared, other) = run::compare_plain(plan.pages, &history);
+        let (compared, other) = match plan.rows.is_empty() {
+            true => run::compare_plain(plan.pages, &history),
+            false => (0, None),
+        };
+        ruled += if plan.rows.is_empty() { 0 } else { history.len() };
         plain += compared;
         if let Some(other) = other {
             println!("the original as it is differs before document 02 lets it:");
@@ -79,6 +83,7 @@ pub fn histories(words: &[String]) -> Result<bool, String> {
     println!("{tally}");
     rules::counted().for_each(|(give, times)| println!("  {give:<42} {times:>12}"));
     println!("  {plain} calls compared with the original as it is, those before two holes would touch or it chooses another equal one");
+    println!("  {ruled} calls on heaps with parking rules of their own");
     println!("{:.1} s", progress.seconds());
     say_what_is_missing();
     match difference {
@@ -110,7 +115,7 @@ fn print_smallest(plan: &Plan, found: Difference, book: &mut Book) {
     }
     let last = last.unwrap_or(found);
     calls.push((last.call.clone(), last.due));
-    print!("{}", History { pages: small.pages, calls }.text());
+    print!("{}", History { pages: small.pages, rows: small.rows, calls }.text());
     println!("# the port answers:");
     println!("# {}", history::line(&last.call, &last.got));
 }
@@ -136,7 +141,7 @@ pub fn record(words: &[String]) -> Result<bool, String> {
         tally.begin(plan.scenario);
         let calls = run::record(&plan, asked);
         calls.iter().for_each(|(call, answer)| tally.count(call, answer));
-        text += &History { pages: plan.pages, calls }.text();
+        text += &History { pages: plan.pages, rows: plan.rows, calls }.text();
     }
     fs::write(file, text).map_err(|error| format!("{file}: {error}"))?;
     println!("{tally}");
@@ -146,9 +151,9 @@ pub fn record(words: &[String]) -> Result<bool, String> {
 /// The calls of a file once more, with the answers that are due now; what is no call stays as it is.
 fn record_given(given: &str, file: &str) -> Result<bool, String> {
     let old = fs::read_to_string(given).map_err(|error| format!("{given}: {error}"))?;
-    let mut due = history::parse(&old)?.into_iter().flat_map(|History { pages, calls }| {
+    let mut due = history::parse(&old)?.into_iter().flat_map(|History { pages, rows, calls }| {
         let calls = calls.into_iter().map(|(call, _)| call).collect();
-        run::answered(pages, calls)
+        run::answered(pages, &rows, calls)
     });
     let (mut text, mut changed) = (String::new(), 0);
     for line in old.lines() {
@@ -177,7 +182,7 @@ pub fn replay(words: &[String]) -> Result<bool, String> {
     let mut room = Room::new(Fence::Back);
     for history in history::parse(&text)? {
         let mut book = Fenced::new(book_words(history.pages), Fence::Back);
-        let opened = port::open(book.words_mut(), u64::from(history.pages));
+        let opened = port::open_with(book.words_mut(), u64::from(history.pages), &history.rows);
         if opened != 0 {
             return Err(format!("an opening of {} pages is refused as {opened}", history.pages));
         }

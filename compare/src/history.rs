@@ -1,7 +1,7 @@
 //! Histories as text: one call a line, `NAME ARGUMENTS = RETURNED OUT-PARAMETERS`, as CALLS.md passes them.
 //!
 //! ```text
-//! open PAGES
+//! open PAGES                                                     (with rows: open PAGES N NUMBER..)
 //! take_blocks CLASS HOST LENGTH FILL = 0 COUNT VIRGIN WORD..      (medium_take_blocks alike)
 //! release_blocks CLASS HOST N WORD.. = 0 FATE                     (medium_release_blocks alike)
 //! release_bin_chunks CLASS HOST N WORD.. M GROUP.. LENGTH FILL = 0 FATE..
@@ -23,12 +23,17 @@ use crate::words::{Family, FIGURES, NO_PAGE};
 #[derive(Clone, PartialEq, Eq, Debug)]
 pub struct History {
     pub pages: u32,
+    pub rows: Vec<u32>,
     pub calls: Vec<Due>,
 }
 
 impl History {
     pub fn text(&self) -> String {
-        let mut text = format!("open {}\n", self.pages);
+        let mut text = format!("open {}", self.pages);
+        if !self.rows.is_empty() {
+            listed(&self.rows).for_each(|number| write!(text, " {number}").expect("a string takes all"));
+        }
+        text.push('\n');
         for (call, answer) in &self.calls {
             text += &line(call, answer);
             text.push('\n');
@@ -107,14 +112,22 @@ pub fn parse(text: &str) -> Result<Vec<History>, String> {
     let mut histories: Vec<History> = Vec::new();
     for (at, line) in text.lines().enumerate().filter(|(_, line)| !line.is_empty() && !line.starts_with('#')) {
         let bad = || format!("line {}: {line}", at + 1);
-        if let Some(pages) = line.strip_prefix("open ") {
-            histories.push(History { pages: pages.parse().map_err(|_| bad())?, calls: Vec::new() });
+        if let Some(opening) = line.strip_prefix("open ") {
+            let (pages, rows) = parse_opening(opening).ok_or_else(bad)?;
+            histories.push(History { pages, rows, calls: Vec::new() });
         } else {
             let history = histories.last_mut().ok_or_else(bad)?;
             history.calls.push(parse_line(line).ok_or_else(bad)?);
         }
     }
     Ok(histories)
+}
+
+fn parse_opening(text: &str) -> Option<(u32, Vec<u32>)> {
+    let mut from = Numbers::of(text)?;
+    let pages = from.word()?;
+    let rows = if from.0.len() > 0 { from.list()? } else { Vec::new() };
+    from.next().is_none().then_some((pages, rows))
 }
 
 /// The numbers of a line's side, read from the front.

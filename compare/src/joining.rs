@@ -29,7 +29,7 @@ pub fn run(words: &[String]) -> Result<bool, String> {
     );
     println!("|---|---|---|---|---|---|---|---|");
     let [_, joined] = [("stay apart", Rules::Apart), ("become one", Rules::Amended)].map(|(name, rules)| {
-        let mut reference = Reference::open_with(PAGES, rules);
+        let mut reference = Reference::open_with(PAGES, &[], rules);
         let told = fill(turns, seed, |call| reference.answer(call));
         let ((holes, pages), below) = (reference.holes(), reference.frontier());
         let [from_holes, fresh, none] = told.spans;

@@ -16,7 +16,9 @@ mod lookups;
 mod marks;
 mod memory;
 mod model_test;
+mod openings;
 mod oracle;
+mod parking;
 mod places;
 mod plan;
 mod planned;
@@ -55,6 +57,8 @@ const USAGE: &str = "usage: compare COMMAND [--NAME VALUE ..]
                releases and takes of random histories, also on a book whose mark words hold anything
   fits         [--plans N] [--seed S]
                plans of takes, made in orders of chance on arenas of just their total and of a page less
+  openings     [--openings N] [--seed S]
+               openings with parking rules, many of them refused
   places       [--pairs N] [--seed S]
                neighbouring calls on two classes the other way round, books compared word for word
   joining      [--turns N] [--seed S]
@@ -81,6 +85,7 @@ fn main() -> ExitCode {
         Some("damaged") => damaged::run(rest),
         Some("marks") => marks::run(rest),
         Some("fits") => fits::run(rest),
+        Some("openings") => openings::run(rest),
         Some("places") => places::run(rest),
         Some("joining") => joining::run(rest),
         Some("traces") => traces::run(rest),

@@ -57,9 +57,9 @@ fn play(random: &mut Random, tally: &mut Tally) -> Result<(), String> {
     let pages = random.between(1, 20) as u32;
     let scenario = random.pick(&SCENARIOS);
     let plan = generate::plan(random, |_| true, Some(scenario), Some(pages));
-    let mut reference = Reference::open(pages);
+    let mut reference = Reference::open(pages, &plan.rows);
     let (mut plain, mut room) = (vec![0; book_words(pages)], Room::new(Fence::Back));
-    assert_eq!(port::open(&mut plain, u64::from(pages)), 0, "an arena of {pages} pages opens");
+    assert_eq!(port::open_with(&mut plain, u64::from(pages), &plan.rows), 0, "an arena of {pages} pages opens");
     let mut marked = plain.clone();
     for step in &plan.steps {
         let Some(call) = step.call(&reference.ledger, reference.frontier()) else { continue };

@@ -6,6 +6,7 @@ use crate::arguments::Arguments;
 use crate::call::{Answer, Call, Lent};
 use crate::ledger::class_id;
 use crate::memory::Fence;
+use crate::parking;
 use crate::plan::{Intent, Piece, Plan, Portion, Step};
 use crate::port::{self, Room};
 use crate::progress::Progress;
@@ -93,9 +94,9 @@ struct Walk {
 }
 
 impl Walk {
-    fn open(pages: u32, content: u32) -> Walk {
+    fn open(pages: u32, rows: &[u32], content: u32) -> Walk {
         let mut book = vec![content; book_words(pages)];
-        assert_eq!(port::open(&mut book, u64::from(pages)), 0, "an arena of {pages} pages opens");
+        assert_eq!(port::open_with(&mut book, u64::from(pages), rows), 0, "an arena of {pages} pages opens");
         let (before, earlier) = (book.clone(), book.clone());
         Walk { book, before, earlier, room: Room::new(Fence::Back), last: None }
     }
@@ -154,8 +155,8 @@ fn on_two_classes(first: &Call, second: &Call) -> bool {
 /// A history whose calls fit what was answered so far, by the original.
 fn history(random: &mut Random, tally: &mut Tally) {
     let plan = if random.chance(1, 15) { stores(random) } else { mixed(random) };
-    let mut walk = Walk::open(plan.pages, random.pick(&[0, 1, 40, u32::MAX]));
-    let mut reference = Reference::open(plan.pages);
+    let mut walk = Walk::open(plan.pages, &plan.rows, random.pick(&[0, 1, 40, u32::MAX]));
+    let mut reference = Reference::open(plan.pages, &plan.rows);
     for wanted in &plan.steps {
         let Some(call) = wanted.call(&reference.ledger, reference.frontier()) else { continue };
         let due = reference.answer(&call);
@@ -175,7 +176,8 @@ fn mixed(random: &mut Random) -> Plan {
         any_step(random, family, class)
     });
     let steps = steps.collect();
-    Plan { scenario: "mixed", pages: random.between(2, 40) as u32, steps }
+    let rows = if random.chance(1, 2) { parking::any_rows(random) } else { Vec::new() };
+    Plan { scenario: "mixed", pages: random.between(2, 40) as u32, rows, steps }
 }
 
 /// Pages of one class beyond what its stores keep, so that releases give, with calls on other classes between them.
@@ -197,7 +199,7 @@ fn stores(random: &mut Random) -> Plan {
         let (family, class) = random.pick(&[(Family::Small, 40), (Family::Small, 46), (Family::Medium, 0)]);
         steps.push(any_step(random, family, class));
     }
-    Plan { scenario: "stores", pages: runs as u32 + 8, steps }
+    Plan { scenario: "stores", pages: runs as u32 + 8, rows: Vec::new(), steps }
 }
 
 fn any_class(random: &mut Random) -> (Family, u32) {
@@ -235,7 +237,7 @@ const FILL_PAGES: u32 = 64;
 
 /// The neighbouring calls of a workload like a fill.
 fn fill() -> Tally {
-    let (mut tally, mut walk) = (Tally::default(), Walk::open(FILL_PAGES, 0));
+    let (mut tally, mut walk) = (Tally::default(), Walk::open(FILL_PAGES, &[], 0));
     for call in speed::fill_calls() {
         walk.step(call, &mut tally);
     }
@@ -246,7 +248,7 @@ fn fill() -> Tally {
 fn example() -> bool {
     let take =
         |class| Call::Take { family: Family::Small, class, host: HOST_ALL, lent: Lent { len: SMALL_BATCH, fill: 0 } };
-    let (mut tally, mut walk) = (Tally::default(), Walk::open(64, 0));
+    let (mut tally, mut walk) = (Tally::default(), Walk::open(64, &[], 0));
     walk.step(take(0), &mut tally);
     walk.step(take(1), &mut tally);
     println!(

@@ -82,6 +82,8 @@ pub struct Step {
 pub struct Plan {
     pub scenario: &'static str,
     pub pages: u32,
+    /// Parking rules; none are document 01's.
+    pub rows: Vec<u32>,
     pub steps: Vec<Step>,
 }
 

@@ -13,7 +13,7 @@ extern "C" {
     fn vigbuso_class_table(a: u64, b: u64, top: u64, slots: u64, list: *mut u32, len: usize) -> u32;
     fn vigbuso_short_histories(pages: u64, length: u64, list: *mut u32, len: usize, written: *mut u64) -> u32;
     fn vigbuso_plan(sizes: *const u32, len: usize, takes: *const u32, takes_len: usize, total: *mut u64) -> u32;
-    fn vigbuso_open(book: *mut u32, words: usize, pages: u64) -> u32;
+    fn vigbuso_open(book: *mut u32, words: usize, pages: u64, rows: *const u32, rows_len: usize) -> u32;
     fn vigbuso_commit(book: *mut u32, words: usize, host: u32, pages: u64, first: *mut u32, fresh: *mut u32) -> u32;
     fn vigbuso_grow_frontier(
         book: *mut u32,
@@ -139,10 +139,15 @@ pub fn plan(sizes: &[u32], takes: &[u32]) -> Planned {
     }
 }
 
-/// 0, or the refusal's number.
+/// Without rows: 0, or the refusal's number.
 pub fn open(book: &mut [u32], pages: u64) -> u32 {
-    // SAFETY: the slice is lent for the call.
-    unsafe { vigbuso_open(book.as_mut_ptr(), book.len(), pages) }
+    open_with(book, pages, &[])
+}
+
+/// 0, or the refusal's number.
+pub fn open_with(book: &mut [u32], pages: u64, rows: &[u32]) -> u32 {
+    // SAFETY: both slices are lent for the call, the rows to be read.
+    unsafe { vigbuso_open(book.as_mut_ptr(), book.len(), pages, rows.as_ptr(), rows.len()) }
 }
 
 /// What is returned; blocks, figures and the three counts are written.
@@ -184,6 +189,11 @@ pub struct Room {
 impl Room {
     pub fn new(fence: Fence) -> Room {
         Room { list: Fenced::new(ROOM, fence), chunks: Fenced::new(ROOM, fence), lent: Fenced::new(ROOM, fence) }
+    }
+
+    /// A list that is only read, at its place.
+    pub fn lend(&mut self, list: &[u32]) -> &[u32] {
+        placed(&mut self.list, list)
     }
 }
 

@@ -11,13 +11,13 @@ pub struct Reference {
 }
 
 impl Reference {
-    /// By document 02's rules.
-    pub fn open(pages: u32) -> Reference {
-        Reference::open_with(pages, Rules::Amended)
+    /// By document 02's rules. The rows of the opening are not refused.
+    pub fn open(pages: u32, rows: &[u32]) -> Reference {
+        Reference::open_with(pages, rows, Rules::Amended)
     }
 
-    pub fn open_with(pages: u32, rules: Rules) -> Reference {
-        Reference { original: Original::open(pages, rules), ledger: Ledger::new(pages) }
+    pub fn open_with(pages: u32, rows: &[u32], rules: Rules) -> Reference {
+        Reference { original: Original::open(pages, rows, rules), ledger: Ledger::new(pages) }
     }
 
     /// Pages below the frontier.

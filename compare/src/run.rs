@@ -54,9 +54,9 @@ fn soil(plan: &Plan) -> u32 {
 
 /// Runs a plan on both; tells `seen` each call that was compared.
 pub fn compare(plan: &Plan, book: &mut Book, mut seen: impl FnMut(&Call, &Answer, &Reference)) -> Option<Difference> {
-    let mut reference = Reference::open(plan.pages);
+    let mut reference = Reference::open(plan.pages, &plan.rows);
     let (book, room) = book.soiled(plan.pages, soil(plan));
-    let opened = port::open(book, u64::from(plan.pages));
+    let opened = port::open_with(book, u64::from(plan.pages), &plan.rows);
     assert!(opened == 0, "an opening of {} pages is refused as {opened}", plan.pages);
     for (step, wanted) in plan.steps.iter().enumerate() {
         let Some(call) = wanted.call(&reference.ledger, reference.frontier()) else { continue };
@@ -70,10 +70,10 @@ pub fn compare(plan: &Plan, book: &mut Book, mut seen: impl FnMut(&Call, &Answer
     None
 }
 
-/// Asks the original as it is the calls of a history, with the answers that are due, up to the first at which document 02's
+/// Asks the original as it is the calls of a history without rows, with the answers that are due, up to the first at which document 02's
 /// rule does something else. How many calls were compared, and the first that differs.
 pub fn compare_plain(pages: u32, calls: &[Due]) -> (u64, Option<Difference>) {
-    let mut reference = Reference::open_with(pages, Rules::Watched);
+    let mut reference = Reference::open_with(pages, &[], Rules::Watched);
     let mut compared = 0;
     for (step, (call, due)) in calls.iter().enumerate() {
         let got = reference.answer(call);
@@ -89,14 +89,14 @@ pub fn compare_plain(pages: u32, calls: &[Due]) -> (u64, Option<Difference>) {
 }
 
 /// The judge's answers to the calls of a history.
-pub fn answered(pages: u32, calls: Vec<Call>) -> Vec<Due> {
-    let mut reference = Reference::open(pages);
+pub fn answered(pages: u32, rows: &[u32], calls: Vec<Call>) -> Vec<Due> {
+    let mut reference = Reference::open(pages, rows);
     calls.into_iter().map(|call| (call.clone(), reference.answer(&call))).collect()
 }
 
 /// Runs a plan on the original alone, leaving out what is not asked.
 pub fn record(plan: &Plan, asked: impl Fn(Kind) -> bool) -> Vec<Due> {
-    let mut reference = Reference::open(plan.pages);
+    let mut reference = Reference::open(plan.pages, &plan.rows);
     let mut history = Vec::new();
     for wanted in &plan.steps {
         let Some(call) = wanted.call(&reference.ledger, reference.frontier()) else { continue };

@@ -27,7 +27,7 @@ struct Shrinking<F> {
 impl<F: FnMut(&Plan) -> Option<usize>> Shrinking<F> {
     /// Keeps the steps, up to the failing one, if they still fail.
     fn accepts(&mut self, steps: Vec<Step>) -> bool {
-        let mut plan = Plan { steps, ..self.small };
+        let mut plan = Plan { steps, ..self.small.clone() };
         if Instant::now() > self.end {
             return false;
         }

@@ -12,7 +12,9 @@ mod history;
 mod ledger;
 mod memory;
 mod oracle;
+mod parking;
 mod planned;
+mod random;
 mod reference;
 mod sizes;
 mod words;
@@ -41,12 +43,12 @@ thread_local! {
     static HEAP: RefCell<Option<Heap>> = const { RefCell::new(None) };
 }
 
-fn open(book: *const u32, pages: u32) {
+fn open(book: *const u32, pages: u32, rows: &[u32]) {
     HEAP.with(|heap| {
         // The former one lets the original go first.
         *heap.borrow_mut() = None;
         let alone = ORIGINAL.lock().unwrap_or_else(|poisoned| poisoned.into_inner());
-        *heap.borrow_mut() = Some(Heap { book, reference: Reference::open(pages), _alone: alone });
+        *heap.borrow_mut() = Some(Heap { book, reference: Reference::open(pages, rows), _alone: alone });
     });
 }
 
@@ -105,15 +107,25 @@ pub unsafe extern "C" fn vigbuso_plan(
 }
 
 #[no_mangle]
-pub unsafe extern "C" fn vigbuso_open(book: *mut u32, words: usize, pages: u64) -> u32 {
+pub unsafe extern "C" fn vigbuso_open(
+    book: *mut u32,
+    words: usize,
+    pages: u64,
+    rows: *const u32,
+    rows_len: usize,
+) -> u32 {
     if pages == 0 || pages > u64::from(MAX_PAGES) {
         return 1;
     }
     if words < book_words(pages as u32) {
         return 2;
     }
+    let rows = list(rows, rows_len);
+    if let Some(number) = parking::refusal(&rows) {
+        return number;
+    }
     book.write(pages as u32);
-    open(book, pages as u32);
+    open(book, pages as u32, &rows);
     0
 }
 
@@ -278,7 +290,7 @@ pub unsafe extern "C" fn stand_in_replay(file: *const c_char) -> u32 {
         }
     };
     for (at, history) in histories.iter().enumerate() {
-        let mut reference = Reference::open(history.pages);
+        let mut reference = Reference::open(history.pages, &history.rows);
         for (call, due) in &history.calls {
             let got = reference.answer(call);
             if got != *due {

@@ -24,7 +24,7 @@ fn answers(calls: &[Call]) -> Vec<Answer> {
 
 fn answers_with(calls: &[Call], rules: Rules) -> Vec<Answer> {
     let _alone = ORIGINAL.lock().unwrap_or_else(|poisoned| poisoned.into_inner());
-    let mut reference = Reference::open_with(64, rules);
+    let mut reference = Reference::open_with(64, &[], rules);
     calls.iter().map(|call| reference.answer(call)).collect()
 }
 
@@ -140,7 +140,7 @@ fn text_is_read_back() {
     let mut random = Random::new(5);
     for scenario in &SCENARIOS {
         let plan = generate::plan(&mut random, |_| true, Some(scenario.name), None);
-        let history = History { pages: plan.pages, calls: run::record(&plan, |_| true) };
+        let history = History { pages: plan.pages, rows: plan.rows.clone(), calls: run::record(&plan, |_| true) };
         assert!(!history.calls.is_empty(), "{} makes no call", scenario.name);
         assert_eq!(history::parse(&history.text()), Ok(vec![history]));
     }
@@ -161,7 +161,7 @@ fn shrinks_to_what_fails() {
         let after = plan.steps[at..].iter().position(|step| step.intent == last)?;
         Some(at + after)
     };
-    let small = shrink(&Plan { scenario: "", pages: 9, steps }, fails);
+    let small = shrink(&Plan { scenario: "", pages: 9, rows: Vec::new(), steps }, fails);
     assert_eq!(
         small.steps.iter().map(|step| (&step.intent, step.host)).collect::<Vec<_>>(),
         [(&needed, HOST_ALL), (&last, HOST_ALL)]

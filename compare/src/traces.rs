@@ -73,7 +73,7 @@ impl Walk {
         let mut book = vec![soil; book_words(pages)];
         assert_eq!(port::open(&mut book, u64::from(pages)), 0, "an arena of {pages} pages opens");
         let (handed, figures) = (Vec::new(), Vec::new());
-        Walk { reference: Reference::open(pages), book, handed, figures, highest: 0, none: 0, given: 0 }
+        Walk { reference: Reference::open(pages, &[]), book, handed, figures, highest: 0, none: 0, given: 0 }
     }
 
     fn bytes(&self) -> u64 {

@@ -29,7 +29,7 @@ use crate::{Block, Chunk, Class, Fate, Figures, Growth, Host, Kind, Refusal, Rep
 extern "C" {
     fn vigbuso_size_class(size: u64, class: *mut u32) -> u32;
     fn vigbuso_plan(sizes: *const u32, sizes_len: usize, takes: *const u32, takes_len: usize, total: *mut u64) -> u32;
-    fn vigbuso_open(book: *mut u32, book_len: usize, pages: u64) -> u32;
+    fn vigbuso_open(book: *mut u32, book_len: usize, pages: u64, rows: *const u32, rows_len: usize) -> u32;
     fn vigbuso_commit(book: *mut u32, book_len: usize, host: u32, pages: u64, first: *mut u32, fresh: *mut u32) -> u32;
     fn vigbuso_grow_frontier(
         book: *mut u32,
@@ -158,9 +158,10 @@ pub(crate) fn plan(sizes: &[u32], takes: &[u32]) -> Result<u64, Refusal> {
     Ok(total)
 }
 
-pub(crate) fn open(book: &mut [u32], pages: u64) -> Result<(), Refusal> {
-    // SAFETY: the slice is lent for the call.
-    carried_out(unsafe { vigbuso_open(book.as_mut_ptr(), book.len(), pages) })
+/// No rows are none of the caller's own rules.
+pub(crate) fn open(book: &mut [u32], pages: u64, rows: &[u32]) -> Result<(), Refusal> {
+    // SAFETY: both slices are lent for the call, the rows to be read.
+    carried_out(unsafe { vigbuso_open(book.as_mut_ptr(), book.len(), pages, rows.as_ptr(), rows.len()) })
 }
 
 /// First page and fresh.
@@ -332,7 +333,7 @@ mod tests {
 
     fn opened() -> Vec<u32> {
         let mut book = vec![0; WORDS];
-        open(&mut book, 1).expect("a page, and a book for it");
+        open(&mut book, 1, &[]).expect("a page, and a book for it");
         book
     }
 
@@ -370,12 +371,23 @@ mod tests {
 
     #[test]
     fn a_book_has_a_length_and_is_long_enough() {
-        assert_eq!(open(&mut [], 1), Err(Refusal::BookTooShort));
-        assert_eq!(open(&mut vec![0; WORDS - 1], 1), Err(Refusal::BookTooShort));
-        assert_eq!(open(&mut vec![0; WORDS], 0), Err(Refusal::ArenaLength));
+        assert_eq!(open(&mut [], 1, &[]), Err(Refusal::BookTooShort));
+        assert_eq!(open(&mut vec![0; WORDS - 1], 1, &[]), Err(Refusal::BookTooShort));
+        assert_eq!(open(&mut vec![0; WORDS], 0, &[]), Err(Refusal::ArenaLength));
         assert_eq!(report(&[]), Err(Refusal::ArenaLength));
         assert_eq!(report(&opened()[..WORDS - 1]), Err(Refusal::BookTooShort));
         assert_eq!(contains(&[], 0, 0), 0);
+    }
+
+    #[test]
+    fn rows_are_whole_and_each_class_has_one() {
+        let mut book = opened();
+        let all = [0, 75, 4, 256];
+        assert_eq!(open(&mut book, 1, &all[..3]), Err(Refusal::Rows));
+        assert_eq!(open(&mut book, 1, &[all, all].concat()), Err(Refusal::TwoRows));
+        assert_eq!(open(&mut book, 1, &[0, 74, 4, 256]), Err(Refusal::NoRow));
+        assert_eq!(book, opened());
+        assert_eq!(open(&mut book, 1, &all), Ok(()));
     }
 
     #[test]
@@ -399,7 +411,7 @@ mod tests {
         for (class, room) in [(small(0), 64), (medium(0), 10), (medium(11), 8)] {
             let mut list = vec![Block::FILLER; room];
             let mut book = vec![0; WORDS + 9 * 4_112];
-            open(&mut book, 10).expect("ten pages, and a book for them");
+            open(&mut book, 10, &[]).expect("ten pages, and a book for them");
             assert_eq!(take(&mut book, class, Host::ALL, &mut list[1..]), Err(Refusal::ListTooShort));
             assert!(list.iter().all(|&block| block == Block::FILLER));
             assert_eq!(take(&mut book, class, Host::ALL, &mut list).map(|(count, _)| count as usize), Ok(room));

@@ -4,7 +4,9 @@ use alloc::vec;
 use alloc::vec::Vec;
 use core::fmt;
 
-use crate::{ffi, Block, Chunk, Class, Committed, Fate, Host, OpenError, Refusal, ReleaseError, Report, Run, Taken};
+use crate::{
+    ffi, Block, Chunk, Class, Committed, Fate, Host, OpenError, Refusal, ReleaseError, Report, Rules, Run, Taken,
+};
 
 /// The most pages of an arena.
 ///
@@ -36,8 +38,8 @@ pub const fn book_words(pages: u64) -> usize {
 /// or [lent by the caller](Heap::on).
 ///
 /// Every call passes a host word, the system's answers. The heap keeps one, [`Host::GRANTED`] unless
-/// [another is set](Heap::set_host); the methods whose names end in `_with` are told it each time, for programs that have a
-/// system below the heap.
+/// [another is set](Heap::set_host); the methods whose names end in `_with`, openings aside, are told it each time, for programs that
+/// have a system below the heap.
 ///
 /// ```
 /// use vigbuso::{Class, Heap, Refusal};
@@ -75,6 +77,21 @@ impl Heap {
     /// [`Refusal::ArenaLength`].
     pub fn open(pages: u64) -> Result<Heap, Refusal> {
         Heap::on(vec![0; own_words(pages)], pages)
+    }
+
+    /// Opens a heap as [`Heap::open`] does, with parking rules of its own.
+    ///
+    /// ```
+    /// # use vigbuso::{Heap, Rules};
+    /// let heap = Heap::open_with(64, &Rules::every(0, 0))?; // nothing is parked
+    /// # Ok::<(), vigbuso::Refusal>(())
+    /// ```
+    ///
+    /// # Errors
+    ///
+    /// [`Refusal::ArenaLength`]; [`Refusal::Rows`] for a limit above [`Rules::MOST`].
+    pub fn open_with(pages: u64, rules: &Rules) -> Result<Heap, Refusal> {
+        Heap::on_with(vec![0; own_words(pages)], pages, rules)
     }
 
     /// Opens a heap as [`Heap::open`] does, and answers where there is no memory for the book.
@@ -122,7 +139,25 @@ impl<B: AsRef<[u32]> + AsMut<[u32]>> Heap<B> {
     ///
     /// [`Refusal::ArenaLength`], [`BookTooShort`](Refusal::BookTooShort).
     pub fn on(mut book: B, pages: u64) -> Result<Heap<B>, Refusal> {
-        ffi::open(book.as_mut(), pages)?;
+        ffi::open(book.as_mut(), pages, &[])?;
+        Ok(Heap::opened(book, pages))
+    }
+
+    /// Opens a heap as [`Heap::on`] does, with parking rules of its own.
+    ///
+    /// ```
+    /// use vigbuso::{book_words, Heap, Rules};
+    ///
+    /// let mut book = vec![7; book_words(64)];
+    /// let heap = Heap::on_with(&mut book[..], 64, &Rules::every(8, 0))?;
+    /// # Ok::<(), vigbuso::Refusal>(())
+    /// ```
+    ///
+    /// # Errors
+    ///
+    /// As [`Heap::on`]; [`Refusal::Rows`] for a limit above [`Rules::MOST`].
+    pub fn on_with(mut book: B, pages: u64, rules: &Rules) -> Result<Heap<B>, Refusal> {
+        ffi::open(book.as_mut(), pages, &rules.rows())?;
         Ok(Heap::opened(book, pages))
     }
 
@@ -155,7 +190,8 @@ impl<B: AsRef<[u32]> + AsMut<[u32]>> Heap<B> {
         Ok(Heap::opened(book, pages))
     }
 
-    /// Opens the heap anew on the same book: every block and every run that was out is forgotten. The host word is kept.
+    /// Opens the heap anew on the same book: every block and every run that was out is forgotten, and so are parking rules of its
+    /// own. The host word is kept.
     ///
     /// ```
     /// # use vigbuso::{Class, Heap};
@@ -170,7 +206,25 @@ impl<B: AsRef<[u32]> + AsMut<[u32]>> Heap<B> {
     ///
     /// [`Refusal::ArenaLength`], [`BookTooShort`](Refusal::BookTooShort); the heap is as it was then.
     pub fn reopen(&mut self, pages: u64) -> Result<(), Refusal> {
-        ffi::open(self.book.as_mut(), pages)?;
+        ffi::open(self.book.as_mut(), pages, &[])?;
+        self.pages = pages;
+        Ok(())
+    }
+
+    /// Opens the heap anew as [`Heap::reopen`] does, with parking rules of its own.
+    ///
+    /// ```
+    /// # use vigbuso::{Heap, Rules};
+    /// let mut heap = Heap::open(64)?;
+    /// heap.reopen_with(64, &Rules::every(8, 0))?;
+    /// # Ok::<(), vigbuso::Refusal>(())
+    /// ```
+    ///
+    /// # Errors
+    ///
+    /// As [`Heap::reopen`]; [`Refusal::Rows`] for a limit above [`Rules::MOST`]. The heap is as it was then, with its old rules.
+    pub fn reopen_with(&mut self, pages: u64, rules: &Rules) -> Result<(), Refusal> {
+        ffi::open(self.book.as_mut(), pages, &rules.rows())?;
         self.pages = pages;
         Ok(())
     }

@@ -39,7 +39,7 @@
 //!
 //! | arena | blocks |
 //! |---|---|
-//! | [`Heap::open`], [`Heap::on`], [`Heap::reopen`], [`Heap::resume`] | [`Heap::take`] |
+//! | [`Heap::open`], [`Heap::open_with`] its own parking [`Rules`], [`Heap::on`], [`Heap::reopen`], [`Heap::resume`] | [`Heap::take`] |
 //! | [`Heap::report`], [`Heap::contains`] | [`Heap::release`], [`Heap::release_all`] |
 //! | [`Heap::commit`], [`Heap::grow_frontier`], [`Heap::release_run`] | [`Heap::release_chunks`] |
 //!
@@ -73,6 +73,7 @@ mod pool;
 mod refusal;
 mod release;
 mod report;
+mod rules;
 mod run;
 mod store;
 mod table;
@@ -92,6 +93,7 @@ pub use plan::plan;
 pub use pool::{Pool, PoolReport};
 pub use refusal::Refusal;
 pub use report::Report;
+pub use rules::Rules;
 pub use run::{Committed, Run};
 pub use store::{Record, Store};
 pub use table::{class_table, Growth};

@@ -4,7 +4,7 @@ use alloc::vec;
 use alloc::vec::Vec;
 use core::{fmt, mem, slice};
 
-use crate::{AllocError, Block, Class, Heap, Refusal, ReleaseError, Report, BATCH};
+use crate::{AllocError, Block, Class, Heap, Refusal, ReleaseError, Report, Rules, BATCH};
 
 /// By class: blocks in stock above which the older half goes back. It is two batches, but no more than 256 KiB, or eight
 /// blocks where that is less.
@@ -72,6 +72,25 @@ impl Pool {
     /// As [`Heap::open`].
     pub fn open(pages: u64) -> Result<Pool, Refusal> {
         Heap::open(pages).map(Pool::new)
+    }
+
+    /// A pool on a new heap with parking rules of its own.
+    ///
+    /// ```
+    /// # use vigbuso::{Pool, Rules};
+    /// let mut pool = Pool::open_with(64, &Rules::every(0, 0))?;
+    /// let block = pool.alloc(100)?;
+    /// pool.free(block)?;
+    /// pool.flush()?;
+    /// assert_eq!(pool.report()?.arena.held, 0);
+    /// # Ok::<(), Box<dyn std::error::Error>>(())
+    /// ```
+    ///
+    /// # Errors
+    ///
+    /// As [`Heap::open_with`].
+    pub fn open_with(pages: u64, rules: &Rules) -> Result<Pool, Refusal> {
+        Heap::open_with(pages, rules).map(Pool::new)
     }
 }
 

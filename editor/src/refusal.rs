@@ -10,7 +10,8 @@ macro_rules! refusals {
         /// [stopped](Refusal::Stopped) at a word, which leaves what the earlier words did.
         ///
         /// [`Heap`](crate::Heap) itself rules some of them out: a [`Host`](crate::Host) has no more than four bits (3), a
-        /// [`Class`](crate::Class) is there (4), and a take's list has room for a batch (5). A heap that was opened by
+        /// [`Class`](crate::Class) is there (4), a take's list has room for a batch (5), and [`Rules`](crate::Rules) have a row for
+        /// each class (17, 18). A heap that was opened by
         /// `Heap::open` also has a book that is long enough (2) and that nobody else writes, so that no word of it is out of
         /// its range (13). Later versions may have more numbers.
         ///
@@ -66,6 +67,9 @@ refusals! {
     14 Plan "the plan is empty, has lists of unequal length or above 4,096 entries, names a size above 65,472 or has a number above 1,000,000"
     15 Repeated "a block that is out in this class stands twice in the list"
     16 Stopped "a word of the trace has kind 3, is a report with other bits set, names a class above 75 or a place not out, or a lent list is full"
+    17 NoRow "parking rules are given and a class has no row"
+    18 TwoRows "a class has two rows"
+    19 Rows "the list of parking rules isn't whole rows of four, a limit exceeds 256, or a row's last class is below its first or above 75"
     20 Listing "the listing's arena isn't 1 to 3 pages, its length is above 4, or the lent list is shorter than the listing"
     21 Game "the game's pages are not 1 to 6, its live limit not 1 to the pages, or its moves above 8"
     22 Growth "the growth's a is not above b, b is 0, or either exceeds 1,000"

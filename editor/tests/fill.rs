@@ -15,6 +15,7 @@ use fill::search::{Progress, Stop};
 use fill::store::Store;
 use fill::words::Words;
 use fill::{picture, plot, progress};
+use vigbuso::Rules;
 
 const WORDS: &str = include_str!("../examples/words.txt");
 const LARGE: &str = include_str!("../examples/fill/15x15.txt");
@@ -115,6 +116,21 @@ fn everything_is_tried_in_a_tiny_grid() {
     assert_eq!(done.best.map(|best| best.score), Some(5 + 6 + 7 + 2));
 }
 
+/// Parking rules change where records stand, and never the fill.
+#[test]
+fn the_fill_is_the_same_with_parking_rules_of_its_own() {
+    let plain = job(1_000, 32);
+    let due = shown(&plain, &run(&plain));
+    for keep in [0, 1, 256] {
+        let job = Job { keep: Some(keep), ..job(1_000, 32) };
+        let done = run(&job);
+        assert_eq!(shown(&job, &done), due);
+        assert!(done.report.overlap <= u64::from(keep), "{}", done.report);
+    }
+    let refused = Job { keep: Some(257), ..plain }.run(&mut |_| ()).err().expect("a limit above 256");
+    assert!(refused.to_string().starts_with("refused as 19: "), "{refused}");
+}
+
 /// With few pages the search ends early, but a fill that it had found is still there.
 #[test]
 fn the_best_fill_is_kept_when_the_arena_is_full() {
@@ -177,7 +193,7 @@ fn spans_are_one_field_and_neighbours_have_other_colours() {
 
 #[test]
 fn parked_pages_are_drawn_as_such() {
-    let mut store = Store::open(32).expect("an arena");
+    let mut store = Store::open(32, Rules::default()).expect("an arena");
     let mut put = |bytes| store.put(&vec![7; bytes]).expect("no refusal").expect("room");
     let (_kept, records) = (put(100), [put(16), put(20_000), put(60_000)]);
     for record in records {
@@ -223,6 +239,8 @@ fn bad_grids_and_arguments_are_refused() {
     assert_eq!(parse(&["--turns", "7"]).map(|found| found.turns), Ok(7));
     assert_eq!(parse(&["--turns", "0"]), Err("--turns wants a number above 0, not `0`".into()));
     assert_eq!(parse(&["--pages"]), Err("--pages wants a value".into()));
+    assert_eq!(parse(&["--keep", "0"]).map(|found| found.keep), Ok(Some(0)));
+    assert_eq!(parse(&["--keep", "all"]), Err("--keep wants a number".into()));
     assert!(parse(&["--page", "1"]).is_err_and(|error| error.starts_with("`--page` is no option")));
 }
 

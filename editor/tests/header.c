@@ -66,10 +66,26 @@ static void texts(void) {
 }
 
 static void opening(void) {
-    IS(vigbuso_open(book, words, 0), VIGBUSO_ARENA_LENGTH);
-    IS(vigbuso_open(book, words - 1, PAGES), VIGBUSO_BOOK_TOO_SHORT);
+    IS(vigbuso_open(book, words, 0, NULL, 0), VIGBUSO_ARENA_LENGTH);
+    IS(vigbuso_open(book, words - 1, PAGES, NULL, 0), VIGBUSO_BOOK_TOO_SHORT);
     IS(vigbuso_contains(book, words, 0, 1), 0);
-    IS(vigbuso_open(book, words, PAGES), 0);
+    IS(vigbuso_open(book, words, PAGES, NULL, 0), 0);
+}
+
+/* Class 45 parks nothing, the other small classes as much as can be, the medium ones a little. */
+static void rules(void) {
+    const uint32_t rows[4 * VIGBUSO_ROW] = {46, 63, VIGBUSO_LIMIT, VIGBUSO_LIMIT, 64, 75, 1, 0, 45, 45, 0, 0, 0, 44, 256, 256};
+    uint32_t list[VIGBUSO_BATCH], count = 0, virgin = 0, fate = 7;
+    IS(vigbuso_open(book, words, PAGES, rows, 15), VIGBUSO_ROWS);
+    IS(vigbuso_open(book, words, PAGES, rows + 1, 12), VIGBUSO_ROWS);
+    IS(vigbuso_open(book, words, PAGES, rows, 12), VIGBUSO_NO_ROW);
+    IS(vigbuso_open(book, words, PAGES, rows, 16), 0);
+    IS(vigbuso_take_blocks(book, words, 45, HOST, list, VIGBUSO_BATCH, &count, &virgin), 0);
+    IS(vigbuso_release_blocks(book, words, 45, HOST, list, count, &fate), 0);
+    IS(fate, VIGBUSO_TO_ARENA);
+    IS(vigbuso_take_blocks(book, words, 44, HOST, list, VIGBUSO_BATCH, &count, &virgin), 0);
+    IS(vigbuso_release_blocks(book, words, 44, HOST, list, count, &fate), 0);
+    IS(fate, VIGBUSO_KEPT);
 }
 
 static void small_blocks(void) {
@@ -229,6 +245,7 @@ int main(void) {
     game();
     plan();
     short_histories();
+    rules();
     free(book);
     printf("%d differences\n", differences);
     return differences != 0;

@@ -50,12 +50,15 @@ impl Twins {
         self.before.copy_from_slice(words);
     }
 
-    pub fn open(&mut self, pages: u64, due: u32) -> Result<(), String> {
-        let numbers = [&mut self.front, &mut self.back].map(|side| port::open(side.book.words_mut(), pages));
+    pub fn open(&mut self, pages: u64, rows: &[u32], due: u32) -> Result<(), String> {
+        let numbers = [&mut self.front, &mut self.back].map(|side| {
+            let lent = side.room.lend(rows);
+            port::open_with(side.book.words_mut(), pages, lent)
+        });
         if numbers != [due, due] {
-            return Err(format!("an opening of {pages} pages answers {numbers:?}, not {due} both times"));
+            return Err(format!("an opening of {pages} pages with {rows:?} answers {numbers:?}, not {due} both times"));
         }
-        self.same(due != 0).map_err(|what| format!("an opening of {pages} pages: {what}"))?;
+        self.same(due != 0).map_err(|what| format!("an opening of {pages} pages with {rows:?}: {what}"))?;
         self.before.copy_from_slice(self.front.book.words());
         Ok(())
     }

@@ -16,9 +16,9 @@ pub struct Damage {
 }
 
 impl Damage {
-    /// After the opening, whose words count as seen: it writes among the first ones.
-    pub fn begin(&mut self) {
-        (0..160).for_each(|at| self.saw(at));
+    /// After the opening, whose words count as seen: it writes the first ones, and further ones that are not 0.
+    pub fn begin(&mut self, words: &[u32]) {
+        (0..160).chain((160..768).filter(|&at| words[at] != 0)).for_each(|at| self.saw(at));
     }
 
     pub fn saw(&mut self, at: usize) {

@@ -18,6 +18,7 @@ use self::damage::Damage;
 use crate::arguments::Arguments;
 use crate::call::{Answer, Call, Kind};
 use crate::history;
+use crate::parking;
 use crate::random::Random;
 use crate::tally::Tally;
 use crate::words::{book_words, HOST_ALL, MAX_PAGES};
@@ -123,19 +124,22 @@ impl History<'_> {
         let pages = u64::from(self.pool.pages());
         let beyond = u64::from(MAX_PAGES);
         let wrong = self.random.pick(&[0, pages + 100, beyond, beyond + 1, u64::MAX, 1 << 32, (1 << 32) + pages]);
-        for pages in [wrong, pages] {
+        let rows = if self.random.chance(1, 2) { Vec::new() } else { parking::any_rows(self.random) };
+        for (pages, rows) in
+            [(wrong, parking::wrong_rows(self.random)), (pages, parking::wrong_rows(self.random)), (pages, rows)]
+        {
             if trace {
-                println!("open {pages}");
+                println!("open {pages} {rows:?}");
             }
             let due = match pages {
                 0 => 1,
                 pages if pages > beyond => 1,
                 pages if book_words(pages as u32) > self.twins.len() => 2,
-                _ => 0,
+                _ => parking::refusal(&rows).unwrap_or(0),
             };
-            self.twins.open(pages, due)?;
+            self.twins.open(pages, &rows, due)?;
         }
-        self.damage.begin();
+        self.damage.begin(self.twins.words());
         if self.random.chance(19, 20) {
             // The reservation, so that what follows has an arena.
             self.twins.ask(&Call::Commit { host: HOST_ALL, pages: 1 }, &mut self.damage)?;

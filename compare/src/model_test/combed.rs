@@ -43,12 +43,12 @@ pub fn cases(random: &mut Random, steps: usize) -> [Case; 3] {
 
 /// The history from an opening, and its part from the comb on.
 fn recorded(random: &mut Random, comb: Comb, steps: usize) -> [Case; 2] {
-    let mut plan = Plan { scenario: "comb", pages: comb.frontier + ABOVE, steps: prefix(comb) };
+    let mut plan = Plan { scenario: "comb", pages: comb.frontier + ABOVE, rows: Vec::new(), steps: prefix(comb) };
     plan.steps.extend(generate::at_hole_limit(random, u64::from(2 * comb.holes + 2), steps));
     let calls = run::record(&plan, |_| true);
     let (before, after) = calls.split_at(comb.holes as usize + 1);
     assert!(before.iter().all(leads), "the calls that lead to the comb answer as they must");
-    let history = |calls: &[Due]| History { pages: plan.pages, calls: calls.to_vec() };
+    let history = |calls: &[Due]| History { pages: plan.pages, rows: Vec::new(), calls: calls.to_vec() };
     [Case { start: None, history: history(&calls) }, Case { start: Some(comb), history: history(after) }]
 }
 
@@ -68,12 +68,13 @@ fn leads((call, answer): &Due) -> bool {
 
 /// The module that writes the comb down, and computes one with few holes from its calls.
 pub fn module(own_crate: &str) -> String {
-    let plan = Plan { scenario: "comb", pages: FEW.frontier + ABOVE, steps: prefix(FEW) };
+    let plan = Plan { scenario: "comb", pages: FEW.frontier + ABOVE, rows: Vec::new(), steps: prefix(FEW) };
     let calls: Vec<Call> = run::record(&plan, |_| true).into_iter().map(|(call, _)| call).collect();
     let computed = format!(
-        "(Histories.{heap_from} {pages} Heaps.{new_heap} calls)",
+        "(Histories.{heap_from} {pages} (Heaps.{new_heap} {plain}) calls)",
         heap_from = names::HEAP_FROM,
         new_heap = names::NEW_HEAP,
+        plain = names::PLAIN_RULES,
         pages = plan.pages,
     );
     let written = FEW.term();

@@ -6,7 +6,7 @@ use crate::history::History;
 
 /// The text of a module that states and proves one history from an opening.
 pub fn module(own_crate: &str, history: &History) -> String {
-    stated(own_crate, history, "Answers.{computed}", "computed")
+    stated(own_crate, history, "Answers.{computed}", &format!("computed {}", words(&history.rows)))
 }
 
 /// The same from a heap that the module `Combed` writes down.
@@ -63,16 +63,19 @@ pub fn answers_module(unfolded: &[(String, String, Vec<String>)]) -> String {
          use Rattle.{model}.specs.{heap_module}.{{Heap}}\n\
          use Rattle.{model}.specs.{calls}.{{{call_type}, {answer_type}}}\n\
          use Rattle.{model}.specs.{history} as Histories\n\
+         use {rules}.{{{rules_of}}}\n\
          {uses}\n\
-         unfoldable pub computed : ℕ → List {call_type} → List {answer_type}\n\
+         unfoldable pub computed : List ℕ → ℕ → List {call_type} → List {answer_type}\n\
          unfolding {unfolding}\n\
-         computed size calls = Histories.{answers} size calls\n\n\
+         computed rows size calls = Histories.{answers} size ({rules_of} rows) calls\n\n\
          unfoldable pub computedFrom : Heap → ℕ → List {call_type} → List {answer_type}\n\
          unfolding computed\n\
          computedFrom heap size calls = map (λ (e : Histories.Event). e .answer) (Histories.{events_from} size heap calls)\n",
         model = names::CRATE,
         calls = names::CALLS_MODULE,
         history = names::HISTORY_MODULE,
+        rules = names::RULES_MODULE,
+        rules_of = names::RULES_OF,
         call_type = names::CALL_TYPE,
         answer_type = names::ANSWER_TYPE,
         answers = names::ANSWERS,

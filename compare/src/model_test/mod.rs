@@ -117,7 +117,8 @@ fn generated(arguments: &Arguments) -> Result<Vec<Case>, String> {
 fn case(random: &mut Random, name: &str, steps: usize) -> Case {
     let mut plan = generate::plan(random, |_| true, Some(name), None);
     plan.steps.truncate(steps);
-    let history = affordable(History { pages: plan.pages, calls: run::record(&plan, |_| true) });
+    let calls = run::record(&plan, |_| true);
+    let history = affordable(History { pages: plan.pages, rows: plan.rows, calls });
     Case { start: None, history }
 }
 
@@ -150,5 +151,5 @@ fn affordable(history: History) -> History {
             }
         }
     }
-    History { pages: history.pages, calls }
+    History { calls, ..history }
 }

@@ -10,7 +10,11 @@ pub const HISTORY_MODULE: &str = "History";
 /// The types of calls and of answers, in the first.
 pub const CALL_TYPE: &str = "Call";
 pub const ANSWER_TYPE: &str = "Answer";
-/// The answers of a history from an opening, by the arena's length and the calls, in the second.
+/// The rules that an opening's rows give, and those of none.
+pub const RULES_MODULE: &str = "Rattle.rules.specs.Rules";
+pub const RULES_OF: &str = "rulesOf";
+pub const PLAIN_RULES: &str = "plainRules";
+/// The answers of a history from an opening, by the arena's length, the rules and the calls, in the second.
 pub const ANSWERS: &str = "answers";
 
 /// The constructor of a call.
@@ -43,7 +47,7 @@ pub const REPORTED: &str = "reported";
 /// The fields of the last one's figures, in the report's order.
 pub const FIGURES: [&str; 6] = ["commits", "reuses", "abandoned", "held", "idle", "overlap"];
 
-/// The events of a history from a heap, and the heap after it, in the module of histories; the heap after an opening.
+/// The events of a history from a heap, and the heap after it, in the module of histories; the heap after an opening with rules.
 pub const EVENTS_FROM: &str = "eventsFrom";
 pub const HEAP_FROM: &str = "heapFrom";
 pub const HEAP_MODULE: &str = "Heap";
@@ -55,6 +59,7 @@ pub const COMBED_USES: &str = "use Rattle.model.specs.HoleStore.{hole, store}
 use Rattle.model.specs.Arena.{ready}
 use Rattle.model.specs.Heap.{Heap, direct, nobody, newHeap}
 use Rattle.model.specs.declared.Hole.{Hole}
+use Rattle.rules.specs.Rules.{plainRules}
 ";
 pub const COMBED: &str = "comb : ℕ → ℕ → List Hole
 comb zero first = []
@@ -72,7 +77,8 @@ combed frontier holes = record {
     abandoned = 0;
   };
   holder = λ x. cond (ltb x frontier && not (eqb (x % 2) 1 && ltb x (2 * holes))) direct nobody;
-  classes = newHeap .classes;
+  classes = (newHeap plainRules) .classes;
+  rules = plainRules;
 }
 ";
 /// What of two heaps is compared: `{}` stands for a heap, and the list of pages is `pages`.

@@ -6,6 +6,7 @@
 pub mod asked;
 mod fates;
 mod host;
+mod limits;
 pub mod rules;
 mod slot;
 
@@ -84,9 +85,11 @@ pub struct Chunks {
 }
 
 impl Original {
-    pub fn open(pages: u32, rules: Rules) -> Original {
+    /// The rows are not refused.
+    pub fn open(pages: u32, rows: &[u32], rules: Rules) -> Original {
         assert!(!IN_USE.swap(true, Ordering::AcqRel), "one history of the original at a time");
         rules::set(rules);
+        limits::set(rows);
         arena::rebuild(pages as usize);
         Original {
             pages,

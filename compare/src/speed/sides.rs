@@ -57,7 +57,7 @@ pub struct OriginalSide(Original);
 
 impl OriginalSide {
     pub fn open() -> OriginalSide {
-        let mut original = Original::open(MOST_PAGES, Rules::Plain);
+        let mut original = Original::open(MOST_PAGES, &[], Rules::Plain);
         original.keep_fates(false);
         OriginalSide(original)
     }

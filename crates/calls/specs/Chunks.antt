@@ -8,6 +8,7 @@ use lib.ListN.{length, drop}
 use Rattle.facts.specs.Lists.{isNil, filter, every, elem, distinct}
 use Rattle.words.specs.Word.{chunkKind, countOf, pageOf}
 use Rattle.classes.specs.declared.Shape.{Shape}
+use Rattle.rules.specs.declared.Limits.{Limits}
 use Rattle.fields.specs.Field.{arena, class, page, frontier, free, carved, get}
 use Rattle.model.specs.Spot.{spotOf, isEmpty, isCold, isArena, arenaFate, retired}
 use Rattle.model.specs.Release.{ofKind}
@@ -17,6 +18,7 @@ use Rattle.arena.specs.Calls as Arena
 use Rattle.words.specs.Host.{digit}
 use Rattle.pages.specs.declared.Park.the-variants.{Empty, Cold}
 use Rattle.pages.specs.Links.{stored}
+use Rattle.pages.specs.Fair.{limitsAt}
 use Rattle.pages.specs.Stack.{back, indexOf}
 use Rattle.calls.specs.Out.{startOf, OutTest, outFault}
 use Rattle.calls.specs.Release.{pageFair, rowFair, Released, placed}
@@ -37,15 +39,15 @@ chunksMatch b ws gs = distinct (map pageOf gs) && (every (chunkFits b ws) gs && 
 abbrev pub returnsAll : List ℕ → ℕ → Bool
 returnsAll b g = eqb (get b (page free (pageOf g)) + countOf g) (get b (page carved (pageOf g)))
 
--- how many runs go to the arena, with e empty and k cold pages before
-unfoldable pub runsGiven : List ℕ → Shape → List ℕ → ℕ → ℕ → ℕ
-runsGiven b sh [] e k = 0
-runsGiven b sh (g ∷ gs) e k =
-    let s = spotOf sh e k in
-    cond (returnsAll b g) (digit (isArena s) + runsGiven b sh gs (e + digit (isEmpty s)) (k + digit (isCold s))) (runsGiven b sh gs e k)
+-- how many runs go to the arena, with these limits, and e empty and k cold pages before
+unfoldable pub runsGiven : List ℕ → Shape → Limits → List ℕ → ℕ → ℕ → ℕ
+runsGiven b sh lim [] e k = 0
+runsGiven b sh lim (g ∷ gs) e k =
+    let s = spotOf sh lim e k in
+    cond (returnsAll b g) (digit (isArena s) + runsGiven b sh lim gs (e + digit (isEmpty s)) (k + digit (isCold s))) (runsGiven b sh lim gs e k)
 
 abbrev pub pagesGiven : List ℕ → ℕ → Shape → List ℕ → ℕ
-pagesGiven b c sh gs = runsGiven b sh gs (get b (class (stored Empty) c)) (get b (class (stored Cold) c)) * sh .pages
+pagesGiven b c sh gs = runsGiven b sh (limitsAt b c) gs (get b (class (stored Empty) c)) (get b (class (stored Cold) c)) * sh .pages
 
 unfoldable pub chunksFair : ℕ → List ℕ → ℕ → Shape → List ℕ → Bool
 chunksFair n b c sh gs =

@@ -21,7 +21,7 @@ use Rattle.arena.specs.Fair.{giveFair}
 use Rattle.arena.specs.Calls as Arena
 use Rattle.pages.specs.Stack.{back, indexOf}
 use Rattle.pages.specs.Links.{link, unlink, stow, stored}
-use Rattle.pages.specs.Fair.{headerFair, linksFair, storeFair}
+use Rattle.pages.specs.Fair.{headerFair, linksFair, storeFair, limitsAt, limitsFair}
 use Rattle.pages.specs.declared.Park.the-variants.{Empty, Cold}
 use Rattle.pages.specs.Carve.{carveAnew}
 use Rattle.calls.specs.Out.{startOf, OutTest, outFault}
@@ -31,7 +31,7 @@ unfoldable pub pageFair : List ℕ → Shape → ℕ → ℕ → Bool
 pageFair b sh m q = headerFair b sh m q && (leb (get b (page listed q)) 1 && linksFair b q)
 
 unfoldable pub rowFair : List ℕ → ℕ → Bool
-rowFair b c = leb (get b (class partial c)) (get b (arena frontier)) && (storeFair b c Empty && storeFair b c Cold)
+rowFair b c = leb (get b (class partial c)) (get b (arena frontier)) && (storeFair b c Empty && (storeFair b c Cold && limitsFair b c))
 
 -- ---- the act
 pub record Released : Type 0 where
@@ -66,7 +66,7 @@ abbrev pub parkAs : List ℕ → ℕ → Shape → ℕ → ℕ → Spot → Rele
 parkAs b c sh h q s = released (parkedIn b c sh h q s) (fateOf sh s)
 
 abbrev pub spotAt : List ℕ → ℕ → Shape → Spot
-spotAt b c sh = spotOf sh (get b (class (stored Empty) c)) (get b (class (stored Cold) c))
+spotAt b c sh = spotOf sh (limitsAt b c) (get b (class (stored Empty) c)) (get b (class (stored Cold) c))
 
 unfoldable pub parkAt : List ℕ → ℕ → Shape → ℕ → ℕ → Released
 parkAt b c sh h q = parkAs (unlisted b c q) c sh h q (spotAt b c sh)

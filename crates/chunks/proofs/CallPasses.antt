@@ -14,7 +14,7 @@ use Rattle.facts.proofs.Bools.{by-cases, and-left, and-right}
 use Rattle.facts.proofs.Lists.{every-same}
 use Rattle.words.specs.Word.{countOf, pageOf}
 use Rattle.classes.specs.declared.Shape.{Shape}
-use Rattle.fields.specs.Field.{Field, arena, class, page, slot, out, region, off, frontier, partial, empty, emptyCount, cold, coldCount, next, prev, free, carved, listed, get, put, words, hole, ok}
+use Rattle.fields.specs.Field.{Field, arena, class, page, slot, out, region, off, frontier, partial, empty, emptyCount, cold, coldCount, next, prev, free, carved, listed, get, put, words, hole, ok, emptyLimit, coldLimit}
 use Rattle.fields.proofs.Changes.{Changes, changes-none, changes-put}
 use Rattle.arena.specs.Fair.{giveFair}
 use Rattle.pages.specs.Stack.{indexOf, pageAt}
@@ -22,7 +22,7 @@ use Rattle.calls.specs.Out.{inRunOf, outAt}
 use Rattle.arena.proofs.Frames.{give-kept}
 use Rattle.calls.specs.Release.{pageFair, rowFair}
 use Rattle.calls.specs.Chunks.{chunkFits, chunksMatch, returnsAll, runsGiven, pagesGiven, chunksFair, giveRuns}
-use Rattle.pages.specs.Fair.{linksFair}
+use Rattle.pages.specs.Fair.{linksFair, limitsAt}
 use Rattle.release.proofs.Bits.{isBit, in-run-kept}
 use Rattle.release.proofs.FairSteps.{links-fair}
 use Rattle.release.proofs.OutLaws.{run-of-out, index-of-out, page-of-out}
@@ -72,7 +72,7 @@ module _ (n : ℕ) (b : List ℕ) (c : ℕ) (sh : Shape) (ws gs fs : List ℕ) (
 
   module _ (m : chunksMatch b ws gs ≡ true) where
     pub fair-asks : ChunksFairAsks n b c sh gs
-    fair-asks = record { class = a .call .class; below = chunks-below n b c sh (a .call .single) ws gs (a .runs) m; chunks = a .chunks; limit = a .call .limits .empties }
+    fair-asks = record { class = a .call .class; below = chunks-below n b c sh (a .call .single) ws gs (a .runs) m; chunks = a .chunks }
 
     module _ (f : chunksFair n b c sh gs ≡ true) (h : ℕ) where
       fair-low : get b (arena frontier) ≤ n
@@ -116,6 +116,8 @@ module _ (n : ℕ) (b : List ℕ) (c : ℕ) (sh : Shape) (ws gs fs : List ℕ) (
             k (class emptyCount c) hc refl,
             k (class cold c) hc refl,
             k (class coldCount c) hc refl,
+            k (class emptyLimit c) hc refl,
+            k (class coldLimit c) hc refl,
           )
 
       links-kept : (q : ℕ) → linksFair (pushAll b sh ws) q ≡ linksFair b q
@@ -129,7 +131,6 @@ module _ (n : ℕ) (b : List ℕ) (c : ℕ) (sh : Shape) (ws gs fs : List ℕ) (
           record {
             known = a .call .class .known;
             sound = a .call .class .sound;
-            limits = a .call .limits;
             few = rw e (omega (arith, fair-low, a .call .class .few));
             long = rw (e, stack .long) (omega (arith, fair-low, a .call .class .long));
             row = row-kept ∙ fair-row;
@@ -171,11 +172,12 @@ module _ (n : ℕ) (b : List ℕ) (c : ℕ) (sh : Shape) (ws gs fs : List ℕ) (
           (λ g i j. rw (same (arena frontier) refl refl refl) (lt-ltb (pageOf g) (get b (arena frontier)) (fits-lands n b c sh (a .call .single) ws gs (a .runs) m g i .low)))
           gs (match-fits n b c sh (a .call .single) ws gs (a .runs) m) (match-fits n b c sh (a .call .single) ws gs (a .runs) m)
 
-      runs-are : length (givesIn gs (allPlaced b c sh h ws gs .fates ++ drop (length gs) fs)) ≡ runsGiven b sh gs (get b (class emptyCount c)) (get b (class coldCount c))
+      runs-are : length (givesIn gs (allPlaced b c sh h ws gs .fates ++ drop (length gs) fs)) ≡ runsGiven b sh (limitsAt b c) gs (get b (class emptyCount c)) (get b (class coldCount c))
       runs-are =
           let s = a .call .class .sound in
           ap length (sym (gives-in c hc sh s h (pushAll b sh ws) gs (drop (length gs) fs)))
-          ∙ gives-count c hc sh s h n b gs (match-apart n b c sh (a .call .single) ws gs (a .runs) m) (pushAll b sh ws) (le-leb (words n) (length (pushAll b sh ws)) (rw (stack .long) (a .call .class .long)))
+          ∙ gives-count c hc sh s h n b (limitsAt b c) gs (match-apart n b c sh (a .call .single) ws gs (a .runs) m) (pushAll b sh ws) (le-leb (words n) (length (pushAll b sh ws)) (rw (stack .long) (a .call .class .long)))
+          (rw (stack .kept (class emptyLimit c) hc refl, stack .kept (class coldLimit c) hc refl))
           (all-idle gs (match-fits n b c sh (a .call .single) ws gs (a .runs) m))
           ∙ rw (stack .kept (class emptyCount c) hc refl, stack .kept (class coldCount c) hc refl)
 
@@ -236,7 +238,6 @@ module _ (n : ℕ) (b : List ℕ) (c : ℕ) (sh : Shape) (ws gs fs : List ℕ) (
     call = record {
       class = record { known = a .call .class .known; sound = a .call .class .sound; few = a .call .class .few; long = omega (arith, changes .long, a .call .class .long) };
       single = a .call .single;
-      limits = a .call .limits;
     };
     runs = every-same (inRunOf n (cleared b sh ws) sh c) (inRunOf n b sh c) ws (in-run-kept b (cleared b sh ws) changes n sh c) ∙ in-runs ws (a .out);
     chunks = a .chunks;

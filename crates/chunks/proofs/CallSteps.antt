@@ -29,7 +29,6 @@ use Rattle.chunks.specs.Pass.{cleared}
 use Rattle.chunks.specs.CallAsks.{allPlaced, settledTo, passes, CallAsks, ListedAsks, PassAsks, ChunksAnswered}
 use Rattle.chunks.proofs.Gather.{gathered}
 use Rattle.chunks.proofs.CallTests.{fair-pages}
-use Rattle.chunks.proofs.PlaceSteps.{class-limits}
 
 -- from number 11 on, as the definition has it
 abbrev from11 : ℕ → List ℕ → ℕ → Shape → ℕ → List ℕ → List ℕ → List ℕ → ChunksReleased
@@ -144,4 +143,4 @@ pub small-asks : (n : ℕ) (b : List ℕ) (c : ℕ) → c < 64 → n ≤ maxPage
 unfolding shapeOf smallShape
 small-asks n b c l few long =
     let e : shapeOf c .pages ≡ 1 = rw (lt-ltb c 64 l) in
-    record { class = record { known = omega arith; sound = shape-sound c; few = few; long = long }; single = e; limits = class-limits c }
+    record { class = record { known = omega arith; sound = shape-sound c; few = few; long = long }; single = e }

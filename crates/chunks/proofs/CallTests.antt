@@ -16,7 +16,8 @@ use Rattle.facts.proofs.Bools.{by-cases, and-left, and-right}
 use Rattle.facts.proofs.Lists.{every-same}
 use Rattle.words.specs.Word.{countOf, pageOf}
 use Rattle.classes.specs.declared.Shape.{Shape}
-use Rattle.fields.specs.Field.{arena, class, hole, page, frontier, partial, empty, emptyCount, cold, coldCount, next, prev, free, carved, listed, virgin, get, words}
+use Rattle.fields.specs.Field.{arena, class, hole, page, frontier, partial, empty, emptyCount, cold, coldCount, next, prev, free, carved, listed, virgin, get, words, emptyLimit, coldLimit}
+use Rattle.rules.specs.declared.Limits.{Limits}
 use Rattle.fields.proofs.Changes.{Changes}
 use Rattle.arena.specs.Fair.{giveFair}
 use Rattle.arena.proofs.Frames.{give-kept}
@@ -64,10 +65,10 @@ module _ (b b′ : List ℕ) (h : Changes isBit b b′) where
   returns-kept : (g : ℕ) → returnsAll b′ g ≡ returnsAll b g
   returns-kept g = rw (h .kept (page free (pageOf g)) refl refl, h .kept (page carved (pageOf g)) refl refl)
 
-  runs-kept : (sh : Shape) (gs : List ℕ) (e k : ℕ) → runsGiven b′ sh gs e k ≡ runsGiven b sh gs e k
+  runs-kept : (sh : Shape) (lim : Limits) (gs : List ℕ) (e k : ℕ) → runsGiven b′ sh lim gs e k ≡ runsGiven b sh lim gs e k
   unfolding runsGiven
-  runs-kept sh [] e k = refl
-  runs-kept sh (g ∷ gs) e k = rw (returns-kept g, runs-kept sh gs e k, runs-kept sh gs _ _)
+  runs-kept sh lim [] e k = refl
+  runs-kept sh lim (g ∷ gs) e k = rw (returns-kept g, runs-kept sh lim gs e k, runs-kept sh lim gs _ _)
 
   fair-kept : (n m : ℕ) → giveFair n b′ m ≡ giveFair n b m
   fair-kept n m = give-kept n b b′ (λ f. h .kept (arena f) refl refl) (λ f j o. h .kept (hole f j) o refl) m
@@ -84,10 +85,12 @@ module _ (b b′ : List ℕ) (h : Changes isBit b b′) where
           k (class emptyCount c) hc refl,
           k (class cold c) hc refl,
           k (class coldCount c) hc refl,
+          k (class emptyLimit c) hc refl,
+          k (class coldLimit c) hc refl,
         )
 
     given-kept : (sh : Shape) (gs : List ℕ) → pagesGiven b′ c sh gs ≡ pagesGiven b c sh gs
-    given-kept sh gs = rw (h .kept (class emptyCount c) hc refl, h .kept (class coldCount c) hc refl, runs-kept sh gs _ _)
+    given-kept sh gs = rw (h .kept (class emptyCount c) hc refl, h .kept (class coldCount c) hc refl, h .kept (class emptyLimit c) hc refl, h .kept (class coldLimit c) hc refl, runs-kept sh _ gs _ _)
 
     pub chunks-fair-kept : (n : ℕ) (sh : Shape) (gs : List ℕ) → chunksFair n b′ c sh gs ≡ chunksFair n b c sh gs
     unfolding chunksFair

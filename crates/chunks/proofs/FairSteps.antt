@@ -17,6 +17,7 @@ use Rattle.facts.proofs.Bools.{by-cases}
 use Rattle.facts.proofs.Lists.{drop-past, every-get}
 use Rattle.words.specs.Word.{countOf, pageOf}
 use Rattle.classes.specs.declared.Shape.{Shape}
+use Rattle.rules.specs.declared.Limits.{Limits}
 use Rattle.fields.specs.Field.{arena, class, page, frontier, emptyCount, coldCount, free, carved, get}
 use Rattle.fields.specs.Ranges.{maxParked}
 use Rattle.arena.specs.Fair.{giveFair}
@@ -29,7 +30,8 @@ use Rattle.pages.proofs.Downs.{digit-le}
 use Rattle.calls.specs.Release.{pageFair, rowFair}
 use Rattle.calls.specs.Chunks.{returnsAll, runsGiven, pagesGiven, chunksFair}
 use Rattle.pages.specs.Asks.{PageAsks}
-use Rattle.release.proofs.FairSteps.{page-room, count-low}
+use Rattle.pages.specs.Fair.{limitsAt}
+use Rattle.release.proofs.FairSteps.{page-room, count-low, limits-low}
 use Rattle.release.proofs.Spots.{empty-room}
 use Rattle.chunks.specs.declared.fair.Stores.{Stores}
 use Rattle.chunks.specs.GiveAsks.{givesFair}
@@ -92,53 +94,53 @@ module _ (s : Stores) (k : Spot) where
   pub spot-arena : k ≡ ToArena → record { empties = s .empties; colds = s .colds; runs = s .runs + 1 } ≡ spotted s k
   spot-arena h = rw h (simp add-zero)
 
-module _ (b : List ℕ) (sh : Shape) (g : ℕ) (s : Stores) where
+module _ (b : List ℕ) (sh : Shape) (lim : Limits) (g : ℕ) (s : Stores) where
   pub spotted-asks : CountAsks b sh g s → SpottedAsks s
   spotted-asks a = record { empties = omega (arith, a .empties); colds = a .colds; runs = a .runs }
 
   module _ (r : Bool) (e : r ≡ returnsAll b g) where
-    pub count-none : r ≡ false → s ≡ counted b sh g s
+    pub count-none : r ≡ false → s ≡ counted b sh lim g s
     unfolding counted
     count-none h = rw (← e, h)
 
-    pub count-one : r ≡ true → (k : Spot) → k ≡ spotOf sh (s .empties) (s .colds) → (t : Stores) → t ≡ spotted s k → t ≡ counted b sh g s
+    pub count-one : r ≡ true → (k : Spot) → k ≡ spotOf sh lim (s .empties) (s .colds) → (t : Stores) → t ≡ spotted s k → t ≡ counted b sh lim g s
     unfolding counted
     count-one h k j t z = z ∙ rw (← e, h, j)
 
-  counted-empties : sh .empties ≤ maxParked → s .empties ≤ maxParked → counted b sh g s .empties ≤ maxParked
+  counted-empties : lim .empty ≤ maxParked → s .empties ≤ maxParked → counted b sh lim g s .empties ≤ maxParked
   unfolding counted
   counted-empties l h =
-      let k = spotOf sh (s .empties) (s .colds) in
+      let k = spotOf sh lim (s .empties) (s .colds) in
       by-cases (returnsAll b g)
-      (λ t. rw t (by-cases (isEmpty k) (λ u. rw u (omega (arith, empty-room sh (s .empties) (s .colds) u))) (λ u. rw u (omega arith))))
+      (λ t. rw t (by-cases (isEmpty k) (λ u. rw u (omega (arith, empty-room sh lim (s .empties) (s .colds) u))) (λ u. rw u (omega arith))))
       (λ t. rw t h)
 
-  counted-colds : counted b sh g s .colds ≤ s .colds + 1
+  counted-colds : counted b sh lim g s .colds ≤ s .colds + 1
   unfolding counted
-  counted-colds = by-cases (returnsAll b g) (λ t. rw t (omega (arith, digit-le (isCold (spotOf sh (s .empties) (s .colds)))))) (λ t. rw t (omega arith))
+  counted-colds = by-cases (returnsAll b g) (λ t. rw t (omega (arith, digit-le (isCold (spotOf sh lim (s .empties) (s .colds)))))) (λ t. rw t (omega arith))
 
-  counted-runs : counted b sh g s .runs ≤ s .runs + 1
+  counted-runs : counted b sh lim g s .runs ≤ s .runs + 1
   unfolding counted
-  counted-runs = by-cases (returnsAll b g) (λ t. rw t (omega (arith, digit-le (isArena (spotOf sh (s .empties) (s .colds)))))) (λ t. rw t (omega arith))
+  counted-runs = by-cases (returnsAll b g) (λ t. rw t (omega (arith, digit-le (isArena (spotOf sh lim (s .empties) (s .colds)))))) (λ t. rw t (omega arith))
 
-  counted-rest : (gs : List ℕ) → counted b sh g s .runs + runsGiven b sh gs (counted b sh g s .empties) (counted b sh g s .colds) ≡ s .runs + runsGiven b sh (g ∷ gs) (s .empties) (s .colds)
+  counted-rest : (gs : List ℕ) → counted b sh lim g s .runs + runsGiven b sh lim gs (counted b sh lim g s .empties) (counted b sh lim g s .colds) ≡ s .runs + runsGiven b sh lim (g ∷ gs) (s .empties) (s .colds)
   unfolding counted runsGiven
   counted-rest gs = by-cases (returnsAll b g) (λ t. rw t (omega arith)) (λ t. rw t)
 
 -- ---- the runs given
-pub record Counting (b : List ℕ) (sh : Shape) (gs : List ℕ) (e k : ℕ) (s : Stores) (i : ℕ) : Type 0 where
+pub record Counting (b : List ℕ) (sh : Shape) (lim : Limits) (gs : List ℕ) (e k : ℕ) (s : Stores) (i : ℕ) : Type 0 where
   pub within : i ≤ length gs
   pub empties : s .empties ≤ maxParked
   pub colds : s .colds ≤ maxParked + i
   pub runs : s .runs ≤ i
-  pub rest : s .runs + runsGiven b sh (drop i gs) (s .empties) (s .colds) ≡ runsGiven b sh gs e k
+  pub rest : s .runs + runsGiven b sh lim (drop i gs) (s .empties) (s .colds) ≡ runsGiven b sh lim gs e k
 
-module _ (n : ℕ) (b : List ℕ) (sh : Shape) (gs : List ℕ) (e k : ℕ) where
-  module _ (a : RunsAsks n b sh gs e k) where
-    pub counting-none : Counting b sh gs e k (record { empties = e; colds = k; runs = 0 }) 0
+module _ (n : ℕ) (b : List ℕ) (sh : Shape) (lim : Limits) (gs : List ℕ) (e k : ℕ) where
+  module _ (a : RunsAsks n b sh lim gs e k) where
+    pub counting-none : Counting b sh lim gs e k (record { empties = e; colds = k; runs = 0 }) 0
     counting-none = record { within = omega arith; empties = a .empties; colds = omega (arith, a .colds); runs = omega arith; rest = omega arith }
 
-    module _ (s : Stores) (i : ℕ) (v : Counting b sh gs e k s i) (l : i < length gs) where
+    module _ (s : Stores) (i : ℕ) (v : Counting b sh lim gs e k s i) (l : i < length gs) where
       pub counting-asks : CountAsks b sh (getD gs i 0) s
       counting-asks =
           let g = getD gs i 0 in
@@ -153,52 +155,52 @@ module _ (n : ℕ) (b : List ℕ) (sh : Shape) (gs : List ℕ) (e k : ℕ) where
             runs = omega (arith, v .runs, a .chunks);
           }
 
-      pub counting-more : (s′ : Stores) → s′ ≡ counted b sh (getD gs i 0) s → Counting b sh gs e k s′ (i + 1)
+      pub counting-more : (s′ : Stores) → s′ ≡ counted b sh lim (getD gs i 0) s → Counting b sh lim gs e k s′ (i + 1)
       counting-more s′ z =
           let g = getD gs i 0 in
           rw z (record {
             within = omega arith;
-            empties = counted-empties b sh g s (a .limit) (v .empties);
-            colds = omega (arith, counted-colds b sh g s, v .colds);
-            runs = omega (arith, counted-runs b sh g s, v .runs);
-            rest = rw add-one (counted-rest b sh g s (drop (suc i) gs) ∙ (rw (drop-cons gs i 0 l) at (v .rest)));
+            empties = counted-empties b sh lim g s (a .limit) (v .empties);
+            colds = omega (arith, counted-colds b sh lim g s, v .colds);
+            runs = omega (arith, counted-runs b sh lim g s, v .runs);
+            rest = rw add-one (counted-rest b sh lim g s (drop (suc i) gs) ∙ (rw (drop-cons gs i 0 l) at (v .rest)));
           })
 
-  pub counting-done : (s : Stores) (i : ℕ) → Counting b sh gs e k s i → length gs ≤ i → s .runs ≡ runsGiven b sh gs e k
+  pub counting-done : (s : Stores) (i : ℕ) → Counting b sh lim gs e k s i → length gs ≤ i → s .runs ≡ runsGiven b sh lim gs e k
   unfolding runsGiven
   counting-done s i v l = omega (arith, rw (drop-past gs i l) at (v .rest))
 
-runs-few : (b : List ℕ) (sh : Shape) (gs : List ℕ) (e k : ℕ) → runsGiven b sh gs e k ≤ length gs
+runs-few : (b : List ℕ) (sh : Shape) (lim : Limits) (gs : List ℕ) (e k : ℕ) → runsGiven b sh lim gs e k ≤ length gs
 unfolding runsGiven
-runs-few b sh [] e k = omega arith
-runs-few b sh (g ∷ gs) e k =
-    let s = spotOf sh e k in
+runs-few b sh lim [] e k = omega arith
+runs-few b sh lim (g ∷ gs) e k =
+    let s = spotOf sh lim e k in
     by-cases (returnsAll b g)
-    (λ t. rw t (omega (arith, digit-le (isArena s), runs-few b sh gs (e + digit (isEmpty s)) (k + digit (isCold s)))))
-    (λ t. rw t (omega (arith, runs-few b sh gs e k)))
+    (λ t. rw t (omega (arith, digit-le (isArena s), runs-few b sh lim gs (e + digit (isEmpty s)) (k + digit (isCold s)))))
+    (λ t. rw t (omega (arith, runs-few b sh lim gs e k)))
 
 -- ---- the give
-module _ (n : ℕ) (b : List ℕ) (c : ℕ) (sh : Shape) (gs : List ℕ) (x y : ℕ) (j : x ≡ get b (class emptyCount c)) (h : y ≡ get b (class coldCount c)) where
-  pub runs-asks : PagesGivenAsks n b c sh gs → RunsAsks n b sh gs x y
+module _ (n : ℕ) (b : List ℕ) (c : ℕ) (sh : Shape) (gs : List ℕ) (x y : ℕ) (j : x ≡ get b (class emptyCount c)) (h : y ≡ get b (class coldCount c)) (lim : Limits) (i : lim ≡ limitsAt b c) where
+  pub runs-asks : PagesGivenAsks n b c sh gs → RunsAsks n b sh lim gs x y
   runs-asks a = record {
     sound = a .all .class .sound;
     pages = record { long = a .all .class .long; below = a .all .below };
     fair = a .pages;
     chunks = a .all .chunks;
-    limit = a .all .limit;
+    limit = rw i (limits-low b c (a .row) .empty);
     empties = rw j (count-low b c Empty (a .row));
     colds = rw h (count-low b c Cold (a .row));
   }
 
-  module _ (r : ℕ) (e : r ≡ runsGiven b sh gs x y) where
+  module _ (r : ℕ) (e : r ≡ runsGiven b sh lim gs x y) where
     pub given-fits : PagesGivenAsks n b c sh gs → Fits w32 (r * sh .pages)
     given-fits a =
-        let l : r ≤ 2056 = rw e (omega (arith, runs-few b sh gs x y, a .all .chunks)) in
+        let l : r ≤ 2056 = rw e (omega (arith, runs-few b sh lim gs x y, a .all .chunks)) in
         let m : r * sh .pages ≤ 2056 * 8 = mul-le-mul {n₁ = r} {n₂ = 2056} l (a .all .class .sound .short) in
         record { fits = omega arith }
 
     given-is : pagesGiven b c sh gs ≡ r * sh .pages
-    given-is = rw (← j, ← h, ← e)
+    given-is = rw (← j, ← h, ← i, ← e)
 
     pub none-given : r * sh .pages ≡ 0 → true ≡ givesFair n b (pagesGiven b c sh gs)
     unfolding givesFair

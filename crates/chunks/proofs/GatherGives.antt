@@ -17,10 +17,12 @@ use Rattle.facts.proofs.Bools.{by-cases, and-left, and-right}
 use Rattle.words.specs.Word.{pageOf}
 use Rattle.classes.specs.declared.Shape.{Shape}
 use Rattle.classes.specs.Sound.{Sound}
-use Rattle.fields.specs.Field.{Field, arena, mark, class, hole, page, out, slot, region, off, emptyCount, coldCount, next, free, carved, virgin, get, put, words}
+use Rattle.fields.specs.Field.{Field, arena, mark, class, hole, page, out, slot, region, off, emptyCount, coldCount, next, free, carved, virgin, get, put, words, ClassField, emptyLimit, coldLimit}
+use Rattle.rules.specs.declared.Limits.{Limits}
 use Rattle.fields.proofs.Laws.{get-put-same, get-put-other, length-put}
 use Rattle.fields.proofs.Changes.{Changes, changes-none, changes-trans, changes-mono}
 use Rattle.model.specs.Page.{isMedium}
+use Rattle.pages.specs.Fair.{limitsAt}
 use Rattle.pages.specs.declared.Park.{Park}
 use Rattle.pages.specs.declared.Park.the-variants.{Empty, Cold}
 use Rattle.words.specs.Host.{digit}
@@ -95,21 +97,21 @@ module _ (n c q : ℕ) (hc : ltb c 76 ≡ true) where
         d₁ : List ℕ
         d₁ = put (put d₀ (page carved q) 0) (page free q) 0
 
-        same : (k : Park) → get d₁ (class (stored k) c) ≡ get b (class (stored k) c)
+        same : (k : ClassField) → get d₁ (class k c) ≡ get b (class k c)
         same k =
-            get-put-other (put d₀ (page carved q) 0) (page free q) (class (stored k) c) 0 refl hc refl
-            ∙ get-put-other d₀ (page carved q) (class (stored k) c) 0 refl hc refl
-            ∙ get-put-other b (page virgin q) (class (stored k) c) 0 refl hc refl
+            get-put-other (put d₀ (page carved q) 0) (page free q) (class k c) 0 refl hc refl
+            ∙ get-put-other d₀ (page carved q) (class k c) 0 refl hc refl
+            ∙ get-put-other b (page virgin q) (class k c) 0 refl hc refl
 
         by : (t : Bool) → Adds c q (get b (class emptyCount c)) (get b (class coldCount c)) t (spotAt b c sh) (cond t (markRetired (parkAs (unlisted d₁ c q) c sh h q (spotAt d₁ c sh))) (released (relisted d₀ c q) 0))
         by true =
             let u = unlisted d₁ c q in
             let z = unlisted-changes d₁ c q (ltb-true c 76 hc) in
-            let e : get (unlisted d₁ c q) (class emptyCount c) ≡ get b (class emptyCount c) = z .kept (class emptyCount c) hc refl ∙ same Empty in
-            let k : get (unlisted d₁ c q) (class coldCount c) ≡ get b (class coldCount c) = z .kept (class coldCount c) hc refl ∙ same Cold in
+            let e : get (unlisted d₁ c q) (class emptyCount c) ≡ get b (class emptyCount c) = z .kept (class emptyCount c) hc refl ∙ same (stored Empty) in
+            let k : get (unlisted d₁ c q) (class coldCount c) ≡ get b (class coldCount c) = z .kept (class coldCount c) hc refl ∙ same (stored Cold) in
             let l : length (unlisted d₁ c q) ≡ length b
             = z .long ∙ length-put (put d₀ (page carved q) 0) (page free q) 0 ∙ length-put d₀ (page carved q) 0 ∙ length-put b (page virgin q) 0 in
-            let x : spotAt d₁ c sh ≡ spotAt b c sh = rw (same Empty, same Cold) in
+            let x : spotAt d₁ c sh ≡ spotAt b c sh = rw (same (stored Empty), same (stored Cold), same emptyLimit, same coldLimit) in
             rw x (rw (e, k) at (as-adds u (rw l hb) (spotAt b c sh)))
         by false =
             let z = relisted-changes d₀ c q (ltb-true c 76 hc) in
@@ -139,18 +141,18 @@ module _ (c : ℕ) (hc : ltb c 76 ≡ true) (sh : Shape) (s : Sound sh) (h : ℕ
       let i : idle b′ (pageOf g) ≡ idle b (pageOf g) = rw (z .kept (page carved p) refl (rw x), z .kept (page free p) refl (rw x)) in
       (i ∙ a .0, idle-kept b₀ q b b′ z gs (rw d at e) (a .1)))
 
-  pub gives-count : (n : ℕ) (b₀ : List ℕ) (gs : List ℕ) → distinct (map pageOf gs) ≡ true → (b : List ℕ) → leb (words n) (length b) ≡ true → All (λ g. idle b (pageOf g) ≡ returnsAll b₀ g) gs
-      → length (placeAll b c sh h gs .gives) ≡ runsGiven b₀ sh gs (get b (class emptyCount c)) (get b (class coldCount c))
+  pub gives-count : (n : ℕ) (b₀ : List ℕ) (lim : Limits) (gs : List ℕ) → distinct (map pageOf gs) ≡ true → (b : List ℕ) → leb (words n) (length b) ≡ true → limitsAt b c ≡ lim → All (λ g. idle b (pageOf g) ≡ returnsAll b₀ g) gs
+      → length (placeAll b c sh h gs .gives) ≡ runsGiven b₀ sh lim gs (get b (class emptyCount c)) (get b (class coldCount c))
   unfolding placeAll runsGiven
-  gives-count n b₀ [] u b hb i = refl
-  gives-count n b₀ (g ∷ gs) u b hb i =
+  gives-count n b₀ lim [] u b hb e i = refl
+  gives-count n b₀ lim (g ∷ gs) u b hb e i =
       let q = pageOf g in
       let qs = map pageOf gs in
       let new = not-true (elem q qs) (and-left (not (elem q qs)) (distinct qs) u) in
       let r = placeAt b c sh h q in
       let z = place-changes c q hc sh (s .few) h b in
-      let a = place-adds n c q hc sh s h b hb in
-      let ih = gives-count n b₀ gs (and-right (not (elem q qs)) (distinct qs) u) (r .book) (rw (z .long) hb) (idle-kept b₀ q b (r .book) z gs new (i .1)) in
+      let a = rw e at (place-adds n c q hc sh s h b hb) in
+      let ih = gives-count n b₀ lim gs (and-right (not (elem q qs)) (distinct qs) u) (r .book) (rw (z .long) hb) (rw (z .kept (class emptyLimit c) hc refl, z .kept (class coldLimit c) hc refl) e) (idle-kept b₀ q b (r .book) z gs new (i .1)) in
       let l = length-append (givesOf q (r .fate)) (placeAll (r .book) c sh h gs .gives) in
       by-cases (returnsAll b₀ g)
       (λ t. let a₁ = rw (i .0 ∙ t) at a in rw t (l ∙ rw (a₁ .gives, ih, a₁ .empty, a₁ .cold)))

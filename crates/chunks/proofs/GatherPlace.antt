@@ -14,7 +14,7 @@ use borrow.Author.Tests.{lt-ltb, eq-eqb}
 use Rattle.facts.specs.Lists.{every}
 use Rattle.facts.proofs.Bools.{and-left, and-right}
 use Rattle.classes.specs.declared.Shape.{Shape}
-use Rattle.fields.specs.Field.{Field, PageField, class, page, slot, out, region, off, row, partial, emptyCount, coldCount, next, prev, free, carved, listed, virgin, get, put, ok}
+use Rattle.fields.specs.Field.{Field, PageField, class, page, slot, out, region, off, row, partial, emptyCount, coldCount, emptyLimit, coldLimit, next, prev, free, carved, listed, virgin, get, put, ok}
 use Rattle.fields.specs.Outcome.{putAt}
 use Rattle.fields.proofs.Laws.{get-put-other, put-comm}
 use Rattle.fields.proofs.Changes.{Changes, changes-none, changes-put, changes-trans, differ}
@@ -150,7 +150,7 @@ module _ (c q : ℕ) (hc : ltb c 76 ≡ true) (f : Field) (v : ℕ) (of : ok f �
     park-past : (b : List ℕ) (h : ℕ) → parkAt (put b f v) c sh h q ≡ onBook after (parkAt b c sh h q)
     unfolding parkAt
     park-past b h =
-        rw (idle b (class emptyCount c) hc refl, idle b (class coldCount c) hc refl, unlisted-past b) (as-past (unlisted b c q) h (spotAt b c sh))
+        rw (idle b (class emptyCount c) hc refl, idle b (class coldCount c) hc refl, idle b (class emptyLimit c) hc refl, idle b (class coldLimit c) hc refl, unlisted-past b) (as-past (unlisted b c q) h (spotAt b c sh))
 
     pub place-past : (b : List ℕ) (h : ℕ) → placeAt (put b f v) c sh h q ≡ onBook (λ d. put d f v) (placeAt b c sh h q)
     unfolding placeAt after
@@ -165,7 +165,7 @@ module _ (c q : ℕ) (hc : ltb c 76 ≡ true) (f : Field) (v : ℕ) (of : ok f �
 
 -- ---- what placing may change
 abbrev pub stirs : ℕ → Field → Bool
-stirs q f = eqb (region f) 2 || (leb 4 (region f) && not (aside q f))
+stirs q f = (eqb (region f) 2 && leb (off f) 4) || (leb 4 (region f) && not (aside q f))
 
 pub stirs-own : (q : ℕ) → not (not (eqb q q)) ≡ true
 stirs-own q = rw (eq-eqb q q refl)

@@ -20,7 +20,8 @@ use borrow.Author.Tests.{leb-true, ltb-true, eqb-true, eqb-false, le-leb, lt-ltb
 use Rattle.facts.proofs.Bools.{and-left, and-right}
 use Rattle.classes.specs.declared.Shape.{Shape}
 use Rattle.classes.specs.Sound.{Sound}
-use Rattle.fields.specs.Field.{Field, PageField, arena, class, page, word, part, whole, region, off, frontier, partial, next, prev, free, carved, listed, virgin, words, get, put, ok}
+use Rattle.rules.specs.Rules.{Fit}
+use Rattle.fields.specs.Field.{Field, PageField, arena, class, page, word, part, whole, region, off, frontier, partial, emptyLimit, coldLimit, next, prev, free, carved, listed, virgin, words, get, put, ok}
 use Rattle.fields.specs.Outcome.{putAt}
 use Rattle.fields.specs.Ranges.{maxParked}
 use Rattle.fields.proofs.Laws.{get-put-same, get-put-other, length-put}
@@ -34,19 +35,19 @@ use Rattle.model.specs.declared.Spot.{Spot}
 use Rattle.model.specs.declared.Spot.the-variants.{ToEmpty, ToCold, ToArena}
 use Rattle.model.specs.Spot.{isEmpty, isCold}
 use Rattle.calls.specs.Release.{rowFair, unlisted, relisted, released, spotAt, parkedIn, parkAt, emptied, markRetired}
-use Rattle.pages.specs.Fair.{linksFair, storeFair}
+use Rattle.pages.specs.Fair.{linksFair, storeFair, limitsAt}
 use Rattle.release.specs.Act.{coldVirgin, ParkingAsks}
-use Rattle.release.proofs.FairSteps.{count-low}
+use Rattle.release.proofs.FairSteps.{count-low, limits-low}
 use Rattle.release.proofs.Spots.{empty-room, cold-room}
 use Rattle.release.proofs.ParkSteps.{unlisted-changes}
 use Rattle.chunks.specs.Pass.{placeAt}
-use Rattle.chunks.specs.PlaceAsks.{Limits}
 
 -- ---- the tests as bounds
 pub record Row (b : List ℕ) (c : ℕ) : Type 0 where
   pub head : get b (class partial c) ≤ get b (arena frontier)
   pub tops : (k : Park) → get b (class (top k) c) ≤ get b (arena frontier)
   pub counts : (k : Park) → get b (class (stored k) c) ≤ maxParked
+  pub limits : Fit (limitsAt b c)
 
 abbrev pub Ties : List ℕ → ℕ → Type 0
 Ties b x = get b (page listed x) ≡ 1 → (get b (page next x) ≤ get b (arena frontier)) × (get b (page prev x) ≤ get b (arena frontier))
@@ -56,7 +57,7 @@ module _ (b : List ℕ) (c : ℕ) where
   unfolding rowFair
   row-in r =
       let f = get b (arena frontier) in
-      rw (le-leb _ f (r .head), le-leb _ f (r .tops Empty), le-leb _ maxParked (r .counts Empty), le-leb _ f (r .tops Cold), le-leb _ maxParked (r .counts Cold))
+      rw (le-leb _ f (r .head), le-leb _ f (r .tops Empty), le-leb _ maxParked (r .counts Empty), le-leb _ f (r .tops Cold), le-leb _ maxParked (r .counts Cold), le-leb _ maxParked (r .limits .empty), le-leb _ maxParked (r .limits .cold))
 
   pub row-out : rowFair b c ≡ true → Row b c
   unfolding rowFair
@@ -64,11 +65,12 @@ module _ (b : List ℕ) (c : ℕ) where
       let f = get b (arena frontier) in
       let e₁ = and-right (leb (get b (class partial c)) f) _ e in
       let e₂ = and-left (storeFair b c Empty) _ e₁ in
-      let e₃ = and-right (storeFair b c Empty) _ e₁ in
+      let e₃ = and-left (storeFair b c Cold) _ (and-right (storeFair b c Empty) _ e₁) in
       record {
         head = leb-true _ f (and-left _ _ e);
         tops = λ k. elim k [ Empty ↦ leb-true _ f (and-left _ _ e₂) | Cold ↦ leb-true _ f (and-left _ _ e₃) ];
         counts = λ k. count-low b c k e;
+        limits = limits-low b c e;
       }
 
 module _ (b : List ℕ) (x : ℕ) where
@@ -176,6 +178,7 @@ module _ (b : List ℕ) (c : ℕ) (hc : ltb c 76 ≡ true) where
             head = rw (e, kept (class partial c) hc refl) (s .row .head);
             tops = λ j. rw (e, kept (class (top j) c) hc refl) (s .row .tops j);
             counts = λ j. rw (kept (class (stored j) c) hc refl) (s .row .counts j);
+            limits = rw (kept (class emptyLimit c) hc refl, kept (class coldLimit c) hc refl) (s .row .limits);
           };
           links = λ x h d.
               let z = s .links x h (sym (kept (page listed x) refl refl) ∙ d) in
@@ -202,6 +205,7 @@ module _ (b : List ℕ) (c : ℕ) (hc : ltb c 76 ≡ true) where
             head = below (class partial c) refl (s .row .head);
             tops = λ j. below (class (top j) c) refl (s .row .tops j);
             counts = λ j. rw (kept (class (stored j) c) hc (no-code j c)) (s .row .counts j);
+            limits = rw (kept (class emptyLimit c) hc refl, kept (class coldLimit c) hc refl) (s .row .limits);
           };
           links = λ x h d.
               let z = s .links x h (sym (kept (page listed x) refl refl) ∙ d) in
@@ -220,6 +224,7 @@ module _ (b : List ℕ) (c : ℕ) (hc : ltb c 76 ≡ true) where
             head = rw (e, kept (class partial c) hc refl) (s .row .head);
             tops = λ j. rw (e, kept (class (top j) c) hc (no-count j c)) (s .row .tops j);
             counts = λ j. low-put b′ f (class (stored j) c) v maxParked refl refl l (s .row .counts j);
+            limits = rw (kept (class emptyLimit c) hc refl, kept (class coldLimit c) hc refl) (s .row .limits);
           };
           links = λ x h d.
               let z = s .links x h (sym (kept (page listed x) refl refl) ∙ d) in
@@ -239,6 +244,7 @@ module _ (b : List ℕ) (c : ℕ) (hc : ltb c 76 ≡ true) where
             head = rw (e, kept (class partial c) hc refl) (s .row .head);
             tops = λ j. rw (e, kept (class (top j) c) hc refl) (s .row .tops j);
             counts = λ j. rw (kept (class (stored j) c) hc refl) (s .row .counts j);
+            limits = rw (kept (class emptyLimit c) hc refl, kept (class coldLimit c) hc refl) (s .row .limits);
           };
           links = λ x h d. rw (e, kept (page next x) refl refl, kept (page prev x) refl refl) (by x h (listed-put b′ q x v d));
         }
@@ -335,24 +341,24 @@ module _ (b : List ℕ) (c : ℕ) (hc : ltb c 76 ≡ true) (q : ℕ) (hq : q < g
       stow-steady b c hc q hq there d (still-steady b c hc b′ s d m) Cold (rw (m .kept (class (stored Cold) c) hc refl) (k refl))
   as-steady b′ s ToArena e k = s
 
-  park-steady : Limits sh → Ties b q → (b′ : List ℕ) → Steady b c b′ → Steady b c (parkAt b′ c sh h q .book)
+  park-steady : Ties b q → (b′ : List ℕ) → Steady b c b′ → Steady b c (parkAt b′ c sh h q .book)
   unfolding parkAt
-  park-steady l t b′ s =
+  park-steady t b′ s =
       let m = unlisted-changes b′ c q (ltb-true c 76 hc) in
       as-steady (unlisted b′ c q) (unlisted-steady b c hc q hq there b′ s t) (spotAt b′ c sh)
-      (λ e. rw (m .kept (class (stored Empty) c) hc refl) (omega (arith, empty-room sh _ _ e, l .empties)))
-      (λ e. rw (m .kept (class (stored Cold) c) hc refl) (omega (arith, cold-room sh _ _ e, l .colds)))
+      (λ e. rw (m .kept (class (stored Empty) c) hc refl) (omega (arith, empty-room sh _ _ _ e, s .row .limits .empty)))
+      (λ e. rw (m .kept (class (stored Cold) c) hc refl) (omega (arith, cold-room sh _ _ _ e, s .row .limits .cold)))
 
   -- ---- a chunk's page
-  pub placed-steady : Limits sh → Ties b q → (b′ : List ℕ) → Steady b c b′ → Steady b c (placeAt b′ c sh h q .book)
+  pub placed-steady : Ties b q → (b′ : List ℕ) → Steady b c b′ → Steady b c (placeAt b′ c sh h q .book)
   unfolding placeAt
-  placed-steady l t b′ s = by (eqb (get d (page carved q)) (get d (page free q)))
+  placed-steady t b′ s = by (eqb (get d (page carved q)) (get d (page free q)))
     where
       d : List ℕ
       d = put b′ (page virgin q) 0
 
       by : (u : Bool) → Steady b c (cond u (markRetired (parkAt (emptied d q) c sh h q)) (released (relisted d c q) 0) .book)
-      by true = park-steady l t (emptied d q) (emptied-steady b c hc d (virgin-steady b c hc b′ s q) q)
+      by true = park-steady t (emptied d q) (emptied-steady b c hc d (virgin-steady b c hc b′ s q) q)
       by false = relisted-steady b c hc q hq there d (virgin-steady b c hc b′ s q)
 
 -- ---- what the functions ask

@@ -4,7 +4,7 @@ use native.Mathlib.Omega.{arith}
 use native.Mathlib.Numerals.{add-one}
 use mir.Val.{Fits}
 use mir.Syntax.{w32}
-use mathlib.Core.Bool.{Bool, true, false, cond}
+use mathlib.Core.Bool.{Bool, true}
 use mathlib.Core.List.{List, [], _∷_, _++_, append-assoc}
 use mathlib.Core.Path.{_≡_, refl, sym, ap, _∙_}
 use lib.Dec.{ltb, leb}
@@ -15,8 +15,6 @@ use Rattle.facts.specs.Lists.{every}
 use Rattle.facts.proofs.Bools.{and-left, and-right}
 use Rattle.words.specs.Word.{pageOf}
 use Rattle.classes.specs.declared.Shape.{Shape}
-use Rattle.classes.specs.Sizes.{smallSizes, mediumSizes}
-use Rattle.classes.specs.Shape.{smallShape, mediumShape, shapeOf}
 use Rattle.fields.specs.Field.{arena, page, frontier, free, carved, virgin, words, get, put}
 use Rattle.model.specs.Spot.{arenaFate}
 use Rattle.pages.specs.Asks.{LinkAsks}
@@ -25,7 +23,7 @@ use Rattle.pages.specs.Fair.{linksFair}
 use Rattle.release.specs.Act.{ParkingAsks, Parked}
 use Rattle.release.proofs.Spots.{fate-low}
 use Rattle.chunks.specs.Pass.{placeAt, placeAll}
-use Rattle.chunks.specs.PlaceAsks.{Limits, placeFair, PlaceAsks, Placed}
+use Rattle.chunks.specs.PlaceAsks.{placeFair, PlaceAsks, Placed}
 use Rattle.chunks.proofs.PlaceKept.{Steady, row-out, ties-out, steady-none, virgin-steady, emptied-steady, placed-steady, asks-kept}
 
 pub retires : (b b₁ b₂ : List ℕ) (q : ℕ) → b₁ ≡ put b (page carved q) 0 → b₂ ≡ put b₁ (page free q) 0 → b₂ ≡ emptied b q
@@ -128,7 +126,7 @@ module _ (b : List ℕ) (c : ℕ) (sh : Shape) (h : ℕ) (gs fs : List ℕ) (a :
         record {
           within = omega arith;
           size = length-set fs′ i r ∙ v .size;
-          steady = rw (p .left) (placed-steady b c (lt-ltb c 76 (a .known)) q low there sh (a .sound) h (a .limits) (ties-out b q links) b′ (v .steady));
+          steady = rw (p .left) (placed-steady b c (lt-ltb c 76 (a .known)) q low there sh (a .sound) h (ties-out b q links) b′ (v .steady));
           left = sym (next-book c sh h b′ b″ (drop i gs) (drop (i + 1) gs) (getD gs i 0) q r d e p) ∙ v .left;
           fates = one-more fs′ _ _ _ (length gs) i r l (omega (arith, v .size, a .room)) (next-fates c sh h b′ b″ (drop i gs) (drop (i + 1) gs) (getD gs i 0) q r d e p) (v .fates);
         }
@@ -139,12 +137,3 @@ module _ (b : List ℕ) (c : ℕ) (sh : Shape) (h : ℕ) (gs fs : List ℕ) (a :
       let n : i ≡ length gs = omega (arith, v .within) in
       let d : drop i gs ≡ [] = rw n (drop-length gs) in
       record { left = rw d at (v .left); fates = sym (take-append-drop (length gs) fs′) ∙ rw (d, n) at (v .fates) }
-
--- ---- every class's limits are in range
-pub class-limits : (c : ℕ) → Limits (shapeOf c)
-unfolding shapeOf smallShape mediumShape
-class-limits c = by (ltb c 64)
-  where
-    by : (t : Bool) → Limits (cond t (smallShape (getD smallSizes c 16384)) (mediumShape (getD mediumSizes (c - 64) 65472)))
-    by true = record { empties = omega arith; colds = omega arith }
-    by false = record { empties = omega arith; colds = omega arith }

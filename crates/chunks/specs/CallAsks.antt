@@ -21,7 +21,7 @@ use Rattle.calls.specs.Chunks.{chunksMatch, chunksFair, Settled, giveRuns, Chun
 use Rattle.release.specs.Asks.{ClassAsks}
 use Rattle.chunks.specs.Pass.{cleared, pushAll, placeAll}
 use Rattle.chunks.specs.PushAsks.{PushAllAsks}
-use Rattle.chunks.specs.PlaceAsks.{Limits, PlaceAsks}
+use Rattle.chunks.specs.PlaceAsks.{PlaceAsks}
 use Rattle.chunks.specs.GiveAsks.{GiveChunksAsks}
 
 -- the blocks back on their stacks, and the pages placed
@@ -47,7 +47,6 @@ hasBit n sh w = ltb (pageAt w) n && ltb (indexOf sh (pageAt w) w) pageSlots
 pub record CallAsks (n : ℕ) (b : List ℕ) (c : ℕ) (sh : Shape) : Type 0 where
   pub class : ClassAsks n b c sh
   pub single : sh .pages ≡ 1
-  pub limits : Limits sh
 
 -- numbers 7, 8 and 9 have passed
 pub record ListedAsks (n : ℕ) (b : List ℕ) (c : ℕ) (sh : Shape) (ws gs fs : List ℕ) : Type 0 where

@@ -12,6 +12,7 @@ use Rattle.facts.specs.Lists.{every}
 use Rattle.words.specs.Word.{countOf, pageOf}
 use Rattle.classes.specs.declared.Shape.{Shape}
 use Rattle.classes.specs.Sound.{Sound}
+use Rattle.rules.specs.declared.Limits.{Limits}
 use Rattle.fields.specs.Field.{page, free, carved, words, get}
 use Rattle.fields.specs.Ranges.{maxParked}
 use Rattle.model.specs.Chunks.{chunksMax}
@@ -29,8 +30,8 @@ chunkFair b sh g = pageFair b sh (countOf g) (pageOf g)
 abbrev pub spotted : Stores → Spot → Stores
 spotted s k = record { empties = s .empties + digit (isEmpty k); colds = s .colds + digit (isCold k); runs = s .runs + digit (isArena k) }
 
-unfoldable pub counted : List ℕ → Shape → ℕ → Stores → Stores
-counted b sh g s = cond (returnsAll b g) (spotted s (spotOf sh (s .empties) (s .colds))) s
+unfoldable pub counted : List ℕ → Shape → Limits → ℕ → Stores → Stores
+counted b sh lim g s = cond (returnsAll b g) (spotted s (spotOf sh lim (s .empties) (s .colds))) s
 
 -- ---- what is asked
 pub record PagesAsks (n : ℕ) (b gs : List ℕ) : Type 0 where
@@ -55,12 +56,12 @@ pub record CountAsks (b : List ℕ) (sh : Shape) (g : ℕ) (s : Stores) : Type 0
   pub runs : s .runs < 2 ^ 31
 
 -- all chunks' pages have passed
-pub record RunsAsks (n : ℕ) (b : List ℕ) (sh : Shape) (gs : List ℕ) (e k : ℕ) : Type 0 where
+pub record RunsAsks (n : ℕ) (b : List ℕ) (sh : Shape) (lim : Limits) (gs : List ℕ) (e k : ℕ) : Type 0 where
   pub sound : Sound sh
   pub pages : PagesAsks n b gs
   pub fair : every (chunkFair b sh) gs ≡ true
   pub chunks : length gs ≤ chunksMax
-  pub limit : sh .empties ≤ maxParked
+  pub limit : lim .empty ≤ maxParked
   pub empties : e ≤ maxParked
   pub colds : k ≤ maxParked
 
@@ -68,7 +69,6 @@ pub record ChunksFairAsks (n : ℕ) (b : List ℕ) (c : ℕ) (sh : Shape) (gs : 
   pub class : ClassAsks n b c sh
   pub below : every (λ g. ltb (pageOf g) n) gs ≡ true
   pub chunks : length gs ≤ chunksMax
-  pub limit : sh .empties ≤ maxParked
 
 -- the row has passed too
 pub record PagesGivenAsks (n : ℕ) (b : List ℕ) (c : ℕ) (sh : Shape) (gs : List ℕ) : Type 0 where

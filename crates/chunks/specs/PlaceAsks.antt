@@ -10,15 +10,10 @@ use Rattle.words.specs.Word.{pageOf}
 use Rattle.classes.specs.declared.Shape.{Shape}
 use Rattle.classes.specs.Sound.{Sound}
 use Rattle.fields.specs.Field.{arena, frontier, words, get}
-use Rattle.fields.specs.Ranges.{maxPages, maxParked}
+use Rattle.fields.specs.Ranges.{maxPages}
 use Rattle.calls.specs.Release.{rowFair}
 use Rattle.pages.specs.Fair.{linksFair}
 use Rattle.chunks.specs.Pass.{placeAll}
-
--- a store that is filled to its limit passes number 13
-pub record Limits (sh : Shape) : Type 0 where
-  pub empties : sh .empties ≤ maxParked
-  pub colds : sh .colds ≤ maxParked
 
 -- a page below the frontier, with the words that placing it reads in their ranges
 abbrev pub placeFair : List ℕ → ℕ → Bool
@@ -27,7 +22,6 @@ placeFair b q = ltb q (get b (arena frontier)) && linksFair b q
 pub record PlaceAsks (b : List ℕ) (c : ℕ) (sh : Shape) (gs fs : List ℕ) : Type 0 where
   pub known : c < 76
   pub sound : Sound sh
-  pub limits : Limits sh
   pub few : get b (arena frontier) ≤ maxPages
   pub long : words (get b (arena frontier)) ≤ length b
   pub row : rowFair b c ≡ true

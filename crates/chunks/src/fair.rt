@@ -8,6 +8,7 @@ ghost use Rattle.chunks.specs.GiveAsks.{givesFair};
 ghost use Rattle.chunks.specs.FairAsks.{chunkFair, spotted, counted, PagesAsks, ReturnsAsks, SpottedAsks, CountAsks, RunsAsks, PagesGivenAsks, ChunksFairAsks};
 use classes::Shape;
 use model::Spot;
+use rules::Limits;
 use words::Word;
 
 // The counts of the two stores, and of the runs for the arena, as the chunks are gone through.
@@ -74,20 +75,28 @@ fn count_spot(s: Stores, spot: Spot) -> Stores
     }
 }
 
-fn count_chunk(meta: &[u32], shape: Shape, chunk: u32, s: Stores) -> Stores
+fn count_chunk(meta: &[u32], shape: Shape, limits: Limits, chunk: u32, s: Stores) -> Stores
     requires { ⌜ CountAsks (now meta) shape chunk s ⌝ }
-    ensures { λ r. ⌜ r ≡ counted (now (meta .entry)) shape chunk s ⌝ }
+    ensures { λ r. ⌜ r ≡ counted (now (meta .entry)) shape limits chunk s ⌝ }
 {
     if returns_all(meta, chunk) {
-        return count_spot(s, release::spot_of(shape, s.empties, s.colds));
+        return count_spot(s, release::spot_of(shape, limits, s.empties, s.colds));
     }
     s
 }
 
 // How many runs go to the arena, with so many empty and cold pages before.
-fn runs_given(meta: &[u32], n: u32, shape: Shape, chunks: &[u32], empties: u32, colds: u32) -> u32
-    requires { ⌜ RunsAsks n (now meta) shape (now chunks) empties colds ⌝ }
-    ensures { λ r. ⌜ r ≡ runsGiven (now (meta .entry)) shape (now (chunks .entry)) empties colds ⌝ }
+fn runs_given(
+    meta: &[u32],
+    n: u32,
+    shape: Shape,
+    limits: Limits,
+    chunks: &[u32],
+    empties: u32,
+    colds: u32,
+) -> u32
+    requires { ⌜ RunsAsks n (now meta) shape limits (now chunks) empties colds ⌝ }
+    ensures { λ r. ⌜ r ≡ runsGiven (now (meta .entry)) shape limits (now (chunks .entry)) empties colds ⌝ }
 {
     let mut s = Stores {
         empties,
@@ -96,7 +105,7 @@ fn runs_given(meta: &[u32], n: u32, shape: Shape, chunks: &[u32], empties: u32, 
     };
     let mut i = 0;
     while i < chunks.len() {
-        s = count_chunk(meta, shape, chunks[i], s);
+        s = count_chunk(meta, shape, limits, chunks[i], s);
         i += 1;
     }
     s.runs
@@ -109,7 +118,8 @@ fn gives_fair(meta: &[u32], n: u32, c: u32, shape: Shape, chunks: &[u32]) -> boo
 {
     let empties = fields::class::empty_count(meta, c);
     let colds = fields::class::cold_count(meta, c);
-    let given = runs_given(meta, n, shape, chunks, empties, colds) * shape.pages;
+    let limits = release::limits_at(meta, c);
+    let given = runs_given(meta, n, shape, limits, chunks, empties, colds) * shape.pages;
     if given == 0 {
         return true;
     }

@@ -7,13 +7,13 @@ use Rattle.words.specs.Word.{smallKind, mediumKind}
 use Rattle.classes.specs.declared.Shape.{Shape}
 use Rattle.classes.specs.Sizes.{smallSizes, mediumSizes, granuleBytes, smallHeader, mediumHeader, smallCapacity, spanPages, spanCapacity}
 
--- a small class, by its block's bytes: at most 64 blocks a take, 4 empty pages (whatever their bytes), 256 cold ones
+-- a small class, by its block's bytes: at most 64 blocks a take. Its empty pages are limited by its rule alone: it allows 256 at most
 unfoldable pub smallShape : ℕ → Shape
-smallShape size = record { kind = smallKind; block = size / granuleBytes; header = smallHeader / granuleBytes; pages = 1; capacity = smallCapacity size; batch = 64; empties = 4; emptypages = 4; colds = 256 }
+smallShape size = record { kind = smallKind; block = size / granuleBytes; header = smallHeader / granuleBytes; pages = 1; capacity = smallCapacity size; batch = 64; emptypages = 256 }
 
--- a medium class: at most one span's blocks a take, 32 empty spans within 8 MiB (128 pages), 256 cold ones
+-- a medium class: at most one span's blocks a take; "each medium class's own 8 MiB" (128 pages) of empty spans stays beside its rule
 unfoldable pub mediumShape : ℕ → Shape
-mediumShape size = record { kind = mediumKind; block = size / granuleBytes; header = mediumHeader / granuleBytes; pages = spanPages size; capacity = spanCapacity size; batch = spanCapacity size; empties = 32; emptypages = 128; colds = 256 }
+mediumShape size = record { kind = mediumKind; block = size / granuleBytes; header = mediumHeader / granuleBytes; pages = spanPages size; capacity = spanCapacity size; batch = spanCapacity size; emptypages = 128 }
 
 -- 0 to 63 and 64 to 75
 abbrev pub classCount : ℕ

@@ -45,9 +45,6 @@ pub struct Shape {
     pub capacity: u32,
     // The most blocks that a take gives.
     pub batch: u32,
-    // The most empty runs that the class keeps, and the most pages in them.
-    pub empties: u32,
+    // The most pages in its empty runs, whatever its parking rules allow.
     pub emptypages: u32,
-    // The most cold runs that it keeps.
-    pub colds: u32,
 }

@@ -15,7 +15,7 @@ use super::sizes::span_pages_for;
 
 const GRANULE: u32 = 16;
 
-// At most 64 blocks a take, and 4 empty pages.
+// At most 64 blocks a take. As many empty pages as a rule can allow, so that its rule alone limits them.
 fn small_shape(size: u32, capacity: u32) -> Shape
     requires { ⌜ capacity ≡ smallCapacity size ⌝ }
     ensures { λ r. ⌜ r ≡ smallShape size ⌝ }
@@ -27,13 +27,11 @@ fn small_shape(size: u32, capacity: u32) -> Shape
         pages: 1,
         capacity,
         batch: 64,
-        empties: 4,
-        emptypages: 4,
-        colds: 256,
+        emptypages: 256,
     }
 }
 
-// At most a span's blocks a take, and 32 empty spans of 128 pages, which is 8 MiB.
+// At most a span's blocks a take, and 128 pages, which is 8 MiB, in empty spans.
 fn medium_shape(size: u32) -> Shape
     requires { ⌜ 0 < size ⌝ }
     requires { ⌜ size ≤ pageBytes ⌝ }
@@ -47,9 +45,7 @@ fn medium_shape(size: u32) -> Shape
         pages: span_pages_for(size),
         capacity,
         batch: capacity,
-        empties: 32,
         emptypages: 128,
-        colds: 256,
     }
 }
 

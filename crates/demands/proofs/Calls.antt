@@ -1,18 +1,20 @@
 -- A call by the exported functions' definitions, on a book that stands for a heap, is the call on the words that the refinement knows.
---     room, opens    an opening is not refused exactly where the arena is of 1 to 262,144 pages and the book is long enough for it
+--     room, opens    an opening is not refused exactly where the arena is of 1 to 262,144 pages, the book is long enough for it and the rule
+--                    rows cover the classes
 --     refused-book   a refused one leaves the book as it was
 --     no-fault       numbers 1 and 2 do not apply to a book that stands for a heap
 --     call-is        `call` is the refinement's `callReply`
 use Prim.Native.Nat.{ℕ, _+_, _≤_}
 use native.Mathlib.Omega.{arith}
 use mathlib.Core.Bool.{true, false, _&&_, false≢true}
-use mathlib.Core.List.{List}
-use mathlib.Core.Path.{_≡_}
+use mathlib.Core.List.{List, []}
+use mathlib.Core.Path.{_≡_, refl}
 use lib.Dec.{eqb, ltb, leb}
 use lib.ListN.{length}
 use borrow.Author.Tests.{eqb-true, leb-true, le-leb, lt-leb, ltb-true, ltb-false}
 use Rattle.facts.proofs.Bools.{by-cases, and-left, and-right}
 use Rattle.words.specs.Host.{badHost}
+use Rattle.rules.specs.Rules.{rowsIn, rowsFor, badRows, twoRows, noRow, rowsFault, rulesOf}
 use Rattle.fields.specs.Field.{arena, size, get, words}
 use Rattle.fields.specs.Ranges.{maxPages, lengthFault, metaFault}
 use Rattle.model.specs.Calls as Calls
@@ -24,7 +26,7 @@ use Rattle.arena.specs.Open.{opened}
 use Rattle.direct.specs.Answer.{reportOf}
 use Rattle.vigbuso.specs.Faults.{callFault, classFault}
 use Rattle.vigbuso.specs.Direct as Direct
-use Rattle.vigbuso.specs.Direct.{openOn, commitOn, growOn, containsOn, reportOn}
+use Rattle.vigbuso.specs.Direct.{openFault, openOn, commitOn, growOn, containsOn, reportOn}
 use Rattle.vigbuso.specs.Blocks as Blocks
 use Rattle.vigbuso.specs.Blocks.{takeOn, chunksOn}
 use Rattle.refinement.specs.Represents.{Represents}
@@ -37,36 +39,51 @@ use Rattle.demands.specs.Run.{Opens, Room}
 pub fits-length : (n k : ℕ) → 1 ≤ n → n ≤ maxPages → words n ≤ k → lengthFault n k ≡ 0
 fits-length n k p q l = rw (le-leb 1 n p, le-leb n maxPages q, le-leb (words n) k l)
 
-pub room-of : (n : ℕ) (b : List ℕ) → lengthFault n (length b) ≡ 0 → Room n b
-room-of n b e =
+room-of : (n : ℕ) (rows b : List ℕ) → lengthFault n (length b) ≡ 0 → rowsFault rows ≡ 0 → Room n rows b
+room-of n rows b e f =
     by-cases (leb 1 n && leb n maxPages)
     (λ u. by-cases (leb (words n) (length b))
-    (λ v. record { some-pages = leb-true 1 n (and-left _ _ u); few-pages = leb-true n maxPages (and-right (leb 1 n) _ u); long = leb-true (words n) (length b) v })
+    (λ v. record { some-pages = leb-true 1 n (and-left _ _ u); few-pages = leb-true n maxPages (and-right (leb 1 n) _ u); long = leb-true (words n) (length b) v; ruled = f })
     (λ v. let z : lengthFault n (length b) ≡ 2 = rw (u, v) in absurd (omega (arith, e, z))))
     (λ u. let z : lengthFault n (length b) ≡ 1 = rw u in absurd (omega (arith, e, z)))
+
+-- no rows
+none-fault : rowsFault [] ≡ 0
+unfolding rowsFault badRows twoRows noRow rowsFor rowsIn
+none-fault = refl
+
+pub room-plain : (n : ℕ) (b : List ℕ) → lengthFault n (length b) ≡ 0 → Room n [] b
+room-plain n b e = room-of n [] b e none-fault
 
 zero-plus : (c : ℕ) → 0 + c ≡ c
 zero-plus c = omega arith
 
-module _ (n : ℕ) (b : List ℕ) where
-  fault-of : Opens n b → lengthFault n (length b) ≡ 0
+module _ (n : ℕ) (rows b : List ℕ) where
+  fault-of : Opens n rows b → openFault n rows b ≡ 0
   unfolding openOn
-  fault-of o =
-      by-cases (eqb (lengthFault n (length b)) 0) (λ e. eqb-true (lengthFault n (length b)) 0 e) (λ e. rw e at o)
+  fault-of o = by-cases (eqb (openFault n rows b) 0) (λ e. eqb-true (openFault n rows b) 0 e) (λ e. rw e at o)
 
-  pub room : Opens n b → Room n b
-  room o = room-of n b (fault-of o)
+  length-of : openFault n rows b ≡ 0 → lengthFault n (length b) ≡ 0
+  unfolding openFault
+  length-of z = by-cases (eqb (lengthFault n (length b)) 0) (λ e. eqb-true (lengthFault n (length b)) 0 e) (λ e. rw e at z)
 
-  pub opens : Room n b → Opens n b
-  unfolding openOn
-  opens r = rw (fits-length n (length b) (r .some-pages) (r .few-pages) (r .long))
+  rows-of : openFault n rows b ≡ 0 → rowsFault rows ≡ 0
+  unfolding openFault
+  rows-of z = rw (length-of z) at z
+
+  pub room : Opens n rows b → Room n rows b
+  room o = room-of n rows b (length-of (fault-of o)) (rows-of (fault-of o))
+
+  pub opens : Room n rows b → Opens n rows b
+  unfolding openOn openFault
+  opens r = rw (fits-length n (length b) (r .some-pages) (r .few-pages) (r .long), r .ruled)
 
   -- a refused one leaves the book as it was
-  pub refused-book : (Opens n b → ⊥) → openOn b n .book ≡ b
+  pub refused-book : (Opens n rows b → ⊥) → openOn b n rows .book ≡ b
   unfolding openOn
-  refused-book r = by-cases (eqb (lengthFault n (length b)) 0) (λ e. absurd (r (rw e))) (λ e. rw e)
+  refused-book r = by-cases (eqb (openFault n rows b) 0) (λ e. absurd (r (rw e))) (λ e. rw e)
 
-  pub opened-by : Opens n b → openOn b n .book ≡ opened n b
+  pub opened-by : Opens n rows b → openOn b n rows .book ≡ opened n (rulesOf rows) b
   unfolding openOn
   opened-by o = rw (fault-of o)
 

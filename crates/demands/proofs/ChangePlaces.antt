@@ -12,6 +12,7 @@ use Rattle.facts.proofs.Bools.{by-cases, and-false}
 use Rattle.words.specs.Host.{badHost}
 use Rattle.classes.specs.Sizes.{smallSizes}
 use Rattle.classes.specs.Shape.{smallShape, shapeOf}
+use Rattle.rules.specs.Rules.{Rules, rulesOf}
 use Rattle.model.specs.Calls as Calls
 use Rattle.model.specs.Calls.{Call, blocksOf, Named, names, hostIn, wayOf}
 use Rattle.model.specs.Class.{Ask, done, asks}
@@ -45,66 +46,66 @@ home-of (done r) e = gives-none (r .gives) e
     gives-none [] e = stays (r .class) (r .answer)
     gives-none (g ∷ gs) e = absurd (true≢false e)
 
-at-home : (n : ℕ) (xs : List Call) (x : Call) (p : Named) → names x ≡ some p → reaches n xs x ≡ false → AtHome (heapAfter n xs) x p
+at-home : (n : ℕ) (rules : Rules) (xs : List Call) (x : Call) (p : Named) → names x ≡ some p → reaches n rules xs x ≡ false → AtHome (heapAfter n rules xs) x p
 unfolding wayOf
-at-home n xs x p e r = by-cases (badHost (hostIn x)) inl (λ g. inr (home-of _ (rw (g, e) at r)))
+at-home n rules xs x p e r = by-cases (badHost (hostIn x)) inl (λ g. inr (home-of _ (rw (g, e) at r)))
 
 -- ---- the book after more calls
-module _ (n : ℕ) (b : List ℕ) (o : Opens n b) (xs : List Call) where
-  after : (ys : List Call) → bookAfter n b (xs ++ ys) ≡ bookFrom call (bookAfter n b xs) ys
-  after ys = book-split (openOn b n .book) xs ys
+module _ (n : ℕ) (rows b : List ℕ) (o : Opens n rows b) (xs : List Call) where
+  after : (ys : List Call) → bookAfter n rows b (xs ++ ys) ≡ bookFrom call (bookAfter n rows b xs) ys
+  after ys = book-split (openOn b n rows .book) xs ys
 
   -- one call more, after x
-  second-is : (x y : Call) → next n b (xs ++ x ∷ []) y ≡ callReply n (callReply n (bookAfter n b xs) x .book) y
-  second-is x y = next-is n b o (xs ++ x ∷ []) y ∙ ap (λ (m : List ℕ). callReply n m y) (after (x ∷ []) ∙ ap (λ (r : Reply). r .book) (next-is n b o xs x))
+  second-is : (x y : Call) → next n rows b (xs ++ x ∷ []) y ≡ callReply n (callReply n (bookAfter n rows b xs) x .book) y
+  second-is x y = next-is n rows b o (xs ++ x ∷ []) y ∙ ap (λ (m : List ℕ). callReply n m y) (after (x ∷ []) ∙ ap (λ (r : Reply). r .book) (next-is n rows b o xs x))
 
-  two-after : (x y : Call) → call (call (bookAfter n b xs) x .book) y .book ≡ callReply n (callReply n (bookAfter n b xs) x .book) y .book
+  two-after : (x y : Call) → call (call (bookAfter n rows b xs) x .book) y .book ≡ callReply n (callReply n (bookAfter n rows b xs) x .book) y .book
   two-after x y = ap (λ (m : List ℕ). call m y .book) (sym (after (x ∷ []))) ∙ ap (λ (r : Reply). r .book) (second-is x y)
 
   runs : (x y : Call) (zs : List Call)
-      → run n b (xs ++ x ∷ y ∷ zs) ≡ run n b xs ++ (next n b xs x ∷ next n b (xs ++ x ∷ []) y ∷ repliesFrom call (call (call (bookAfter n b xs) x .book) y .book) zs)
+      → run n rows b (xs ++ x ∷ y ∷ zs) ≡ run n rows b xs ++ (next n rows b xs x ∷ next n rows b (xs ++ x ∷ []) y ∷ repliesFrom call (call (call (bookAfter n rows b xs) x .book) y .book) zs)
   runs x y zs =
-      run-calls n b xs x (y ∷ zs)
-      ∙ ap (λ (r : Reply). run n b xs ++ (next n b xs x ∷ r ∷ repliesFrom call (call (call (bookAfter n b xs) x .book) y .book) zs))
+      run-calls n rows b xs x (y ∷ zs)
+      ∙ ap (λ (r : Reply). run n rows b xs ++ (next n rows b xs x ∷ r ∷ repliesFrom call (call (call (bookAfter n rows b xs) x .book) y .book) zs))
       (ap (λ (m : List ℕ). call m y) (sym (after (x ∷ []))))
 
 pub change-places : ChangePlaces
-change-places n b o xs x y p q ex ey ne one =
-    let s = Words.change-places n (room n b o .few-pages) xs (bookAfter n b xs) (run-represents n b o xs) x y p q ex ey ne (home (and-false (reaches n xs x) (reaches n xs y) one)) in
-    let books : call (call (bookAfter n b xs) x .book) y .book ≡ call (call (bookAfter n b xs) y .book) x .book
-    = two-after n b o xs x y ∙ s .book ∙ sym (two-after n b o xs y x) in
+change-places n rows b o xs x y p q ex ey ne one =
+    let s = Words.change-places n (room n rows b o .few-pages) (rulesOf rows) xs (bookAfter n rows b xs) (run-represents n rows b o xs) x y p q ex ey ne (home (and-false (reaches n (rulesOf rows) xs x) (reaches n (rulesOf rows) xs y) one)) in
+    let books : call (call (bookAfter n rows b xs) x .book) y .book ≡ call (call (bookAfter n rows b xs) y .book) x .book
+    = two-after n rows b o xs x y ∙ s .book ∙ sym (two-after n rows b o xs y x) in
     record {
-      firstCode = ap (λ (r : Reply). r .code) (next-is n b o xs x) ∙ s .firstCode ∙ sym (ap (λ (r : Reply). r .code) (second-is n b o xs y x));
-      first = ap (λ (r : Reply). r .answer) (next-is n b o xs x) ∙ s .first ∙ sym (ap (λ (r : Reply). r .answer) (second-is n b o xs y x));
-      secondCode = ap (λ (r : Reply). r .code) (second-is n b o xs x y) ∙ s .secondCode ∙ sym (ap (λ (r : Reply). r .code) (next-is n b o xs y));
-      second = ap (λ (r : Reply). r .answer) (second-is n b o xs x y) ∙ s .second ∙ sym (ap (λ (r : Reply). r .answer) (next-is n b o xs y));
-      book = λ zs. after n b o xs (x ∷ y ∷ zs) ∙ ap (λ (m : List ℕ). bookFrom call m zs) books ∙ sym (after n b o xs (y ∷ x ∷ zs));
+      firstCode = ap (λ (r : Reply). r .code) (next-is n rows b o xs x) ∙ s .firstCode ∙ sym (ap (λ (r : Reply). r .code) (second-is n rows b o xs y x));
+      first = ap (λ (r : Reply). r .answer) (next-is n rows b o xs x) ∙ s .first ∙ sym (ap (λ (r : Reply). r .answer) (second-is n rows b o xs y x));
+      secondCode = ap (λ (r : Reply). r .code) (second-is n rows b o xs x y) ∙ s .secondCode ∙ sym (ap (λ (r : Reply). r .code) (next-is n rows b o xs y));
+      second = ap (λ (r : Reply). r .answer) (second-is n rows b o xs x y) ∙ s .second ∙ sym (ap (λ (r : Reply). r .answer) (next-is n rows b o xs y));
+      book = λ zs. after n rows b o xs (x ∷ y ∷ zs) ∙ ap (λ (m : List ℕ). bookFrom call m zs) books ∙ sym (after n rows b o xs (y ∷ x ∷ zs));
       follows = λ zs. (
-        repliesFrom call (call (call (bookAfter n b xs) x .book) y .book) zs,
-        runs n b o xs x y zs,
-        runs n b o xs y x zs ∙ ap (λ (m : List ℕ). run n b xs ++ (next n b xs y ∷ next n b (xs ++ y ∷ []) x ∷ repliesFrom call m zs)) (sym books),
+        repliesFrom call (call (call (bookAfter n rows b xs) x .book) y .book) zs,
+        runs n rows b o xs x y zs,
+        runs n rows b o xs y x zs ∙ ap (λ (m : List ℕ). run n rows b xs ++ (next n rows b xs y ∷ next n rows b (xs ++ y ∷ []) x ∷ repliesFrom call m zs)) (sym books),
       );
     }
   where
-    home : (reaches n xs x ≡ false) ⊎ (reaches n xs y ≡ false) → AtHome (heapAfter n xs) x p ⊎ AtHome (heapAfter n xs) y q
-    home (inl r) = inl (at-home n xs x p ex r)
-    home (inr r) = inr (at-home n xs y q ey r)
+    home : (reaches n (rulesOf rows) xs x ≡ false) ⊎ (reaches n (rulesOf rows) xs y ≡ false) → AtHome (heapAfter n (rulesOf rows) xs) x p ⊎ AtHome (heapAfter n (rulesOf rows) xs) y q
+    home (inl r) = inl (at-home n (rulesOf rows) xs x p ex r)
+    home (inr r) = inr (at-home n (rulesOf rows) xs y q ey r)
 
 -- ---- two takes that both commit
 -- the page of the first block that a take answers: on a new heap, and after a take of another class
 firstPage : Calls.Answer → ℕ
 firstPage x = pageAt (getD (blocksOf x) 0 0)
 
-first-alone : firstPage (step 64 newHeap (takeOf 44) .answer) ≡ 0
+first-alone : firstPage (step 64 (newHeap (rulesOf [])) (takeOf 44) .answer) ≡ 0
 unfolding firstPage smallSizes smallShape shapeOf Holes.leastFit Holes.cutFrom Arenas.drawFrom Arenas.draw Arenas.grant Arenas.commitReady Arenas.commitAs Arenas.commit Pages.wordOf Pages.carveAs Pages.hasMore Pages.carvedNow Pages.pop Classes.after Classes.fillFromList Classes.served Classes.onRun Classes.takeFrom Chunks.answer Heaps.newHeap Heaps.offer Heaps.finish Heaps.interact Heaps.classCall Heaps.step wayOf
 first-alone = refl
 
-first-behind : firstPage (step 64 (heapAfter 64 (takeOf 45 ∷ [])) (takeOf 44) .answer) ≡ 1
+first-behind : firstPage (step 64 (heapAfter 64 (rulesOf []) (takeOf 45 ∷ [])) (takeOf 44) .answer) ≡ 1
 unfolding firstPage smallSizes smallShape shapeOf Holes.leastFit Holes.cutFrom Arenas.drawFrom Arenas.draw Arenas.grant Arenas.commitReady Arenas.commitAs Arenas.commit Pages.wordOf Pages.carveAs Pages.hasMore Pages.carvedNow Pages.pop Classes.after Classes.fillFromList Classes.served Classes.onRun Classes.takeFrom Chunks.answer Heaps.newHeap Heaps.offer Heaps.finish Heaps.interact Heaps.classCall Heaps.step wayOf
 first-behind = refl
 
 pub one-only : OneOnly
 one-only b o s =
     let e : _≡_ {A = ℕ} 0 1
-    = sym first-alone ∙ ap firstPage (sym (next-agrees 64 b o [] (takeOf 44) .answer) ∙ s .first ∙ next-agrees 64 b o (takeOf 45 ∷ []) (takeOf 44) .answer) ∙ first-behind in
+    = sym first-alone ∙ ap firstPage (sym (next-agrees 64 [] b o [] (takeOf 44) .answer) ∙ s .first ∙ next-agrees 64 [] b o (takeOf 45 ∷ []) (takeOf 44) .answer) ∙ first-behind in
     omega arith

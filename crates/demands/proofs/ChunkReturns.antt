@@ -19,6 +19,8 @@ use Rattle.classes.specs.declared.Shape.{Shape}
 use Rattle.classes.specs.Shape.{smallShape, shapeOf}
 use Rattle.classes.specs.Sound.{Sound}
 use Rattle.classes.proofs.Shapes.{shape-sound}
+use Rattle.rules.specs.Rules.{rulesOf}
+use Rattle.rules.specs.declared.Limits.{Limits}
 use Rattle.fields.specs.Ranges.{maxPages}
 use Rattle.model.specs.Calls as Calls
 use Rattle.model.specs.Calls.{Call, Named, names, isRefused}
@@ -107,7 +109,7 @@ module _ (sh : Shape) (ok : Sound sh) (s : Class) (good : GoodClass sh s) (once 
   presence-is gs = every-is (chunked sh s gs) (λ w. elem (pageAt w) (map pageOf gs)) ws (chunked-is gs)
 
 -- all numbers after 3, on a class
-module _ (sh : Shape) (s : Class) (h : ℕ) (ws gs fs : List ℕ) (g : Option ℕ) where
+module _ (sh : Shape) (lim : Limits) (s : Class) (h : ℕ) (ws gs fs : List ℕ) (g : Option ℕ) where
   record Tests : Type 0 where
     listed : isNil ws ≡ false
     grouped : isNil gs ≡ false
@@ -121,7 +123,7 @@ module _ (sh : Shape) (s : Class) (h : ℕ) (ws gs fs : List ℕ) (g : Option �
     counts : every (chunkFits sh s ws) gs ≡ true
     present : every (chunked sh s gs) ws ≡ true
 
-  chunks-tests : isRefused (serve (answer sh s (Calls.giveChunks h ws gs fs)) g .answer) ≡ false → Tests
+  chunks-tests : isRefused (serve (answer sh lim s (Calls.giveChunks h ws gs fs)) g .answer) ≡ false → Tests
   unfolding answer releaseChunks
   chunks-tests u =
       let p7 = passed s 7 (isNil ws || isNil gs) _ g u in
@@ -148,7 +150,7 @@ module _ (sh : Shape) (s : Class) (h : ℕ) (ws gs fs : List ℕ) (g : Option �
         present = and-right (every (chunkFits sh s ws) gs) (every (chunked sh s gs) ws) u11;
       }
 
-  tests-chunks : Tests → isRefused (serve (answer sh s (Calls.giveChunks h ws gs fs)) g .answer) ≡ false
+  tests-chunks : Tests → isRefused (serve (answer sh lim s (Calls.giveChunks h ws gs fs)) g .answer) ≡ false
   unfolding answer releaseChunks
   tests-chunks t =
       rw (t .listed, t .grouped, t .few, t .room, t .kinds, t .groupKinds, single-here sh s ws (t .out) (t .single), t .out, t .pages, t .counts, t .present)
@@ -156,11 +158,11 @@ module _ (sh : Shape) (s : Class) (h : ℕ) (ws gs fs : List ℕ) (g : Option �
   -- the lists pass all tests before 15, and fail that of 15, or that of 10
   module _ (listed : isNil ws ≡ false) (grouped : isNil gs ≡ false) (few : ltb chunksMax (length gs) ≡ false) (room : ltb (length fs) (length gs) ≡ false)
       (kinds : every (ofKind (sh .kind)) ws ≡ true) (groupKinds : every (ofKind chunkKind) gs ≡ true) where
-    refused-fifteen : repeats sh s ws ≡ true → serve (answer sh s (Calls.giveChunks h ws gs fs)) g .answer ≡ Calls.refused 15
+    refused-fifteen : repeats sh s ws ≡ true → serve (answer sh lim s (Calls.giveChunks h ws gs fs)) g .answer ≡ Calls.refused 15
     unfolding answer releaseChunks
     refused-fifteen t = rw (listed, grouped, few, room, kinds, groupKinds, t)
 
-    refused-ten : repeats sh s ws ≡ false → every (outHere sh s) ws ≡ false → serve (answer sh s (Calls.giveChunks h ws gs fs)) g .answer ≡ Calls.refused 10
+    refused-ten : repeats sh s ws ≡ false → every (outHere sh s) ws ≡ false → serve (answer sh lim s (Calls.giveChunks h ws gs fs)) g .answer ≡ Calls.refused 10
     unfolding answer releaseChunks
     refused-ten u t = rw (listed, grouped, few, room, kinds, groupKinds, u, t)
 
@@ -169,12 +171,15 @@ small-paged : (c : ℕ) → c < 64 → shapeOf c .pages ≡ 1
 unfolding shapeOf smallShape
 small-paged c l = rw (lt-ltb c 64 l)
 
-module _ (n : ℕ) (b : List ℕ) (o : Opens n b) (xs : List Call) (c h : ℕ) (ws gs fs : List ℕ) (small : c < 64) where
+module _ (n : ℕ) (rows b : List ℕ) (o : Opens n rows b) (xs : List Call) (c h : ℕ) (ws gs fs : List ℕ) (small : c < 64) where
   abbrev few-pages : n ≤ maxPages
-  few-pages = room n b o .few-pages
+  few-pages = room n rows b o .few-pages
 
   abbrev class : Class
-  class = heapAfter n xs .classes c
+  class = heapAfter n (rulesOf rows) xs .classes c
+
+  abbrev limits : Limits
+  limits = heapAfter n (rulesOf rows) xs .rules c
 
   abbrev x : Call
   x = Calls.releaseBinChunks c h ws gs fs
@@ -186,25 +191,25 @@ module _ (n : ℕ) (b : List ℕ) (o : Opens n b) (xs : List Call) (c h : ℕ) (
   names-it = rw (lt-ltb c 64 small)
 
   abbrev gives : Option ℕ
-  gives = offer n h (heapAfter n xs .arena) (answer (shapeOf c) class (Calls.giveChunks h ws gs fs)) .run
+  gives = offer n h (heapAfter n (rulesOf rows) xs .arena) (answer (shapeOf c) limits class (Calls.giveChunks h ws gs fs)) .run
 
   module _ (host : badHost h ≡ false) where
-    passes : next n b xs x .code ≡ 0 → Tests (shapeOf c) class h ws gs fs gives
+    passes : next n rows b xs x .code ≡ 0 → Tests (shapeOf c) limits class h ws gs fs gives
     unfolding classCall interact finish
-    passes z = chunks-tests (shapeOf c) class h ws gs fs gives (next-unrefused n b o xs x named names-it host z)
+    passes z = chunks-tests (shapeOf c) limits class h ws gs fs gives (next-unrefused n rows b o xs x named names-it host z)
 
-    returned : Tests (shapeOf c) class h ws gs fs gives → next n b xs x .code ≡ 0
+    returned : Tests (shapeOf c) limits class h ws gs fs gives → next n rows b xs x .code ≡ 0
     unfolding classCall interact finish
-    returned t = next-zero n b o xs x named names-it host (tests-chunks (shapeOf c) class h ws gs fs gives t)
+    returned t = next-zero n rows b o xs x named names-it host (tests-chunks (shapeOf c) limits class h ws gs fs gives t)
 
   module _ (out : every (outHere (shapeOf c) class) ws ≡ true) where
     counts-told : every (chunkFits (shapeOf c) class ws) gs ≡ every (countFits ws) gs
-    counts-told = counts-are (shapeOf c) (shape-sound c) class (good-class n few-pages xs c) (once-class n few-pages xs c) (small-paged c small) (low-site n few-pages xs c) ws out gs
+    counts-told = counts-are (shapeOf c) (shape-sound c) class (good-class n few-pages (rulesOf rows) xs c) (once-class n few-pages (rulesOf rows) xs c) (small-paged c small) (low-site n few-pages (rulesOf rows) xs c) ws out gs
 
     presence-told : every (chunked (shapeOf c) class gs) ws ≡ every (λ w. elem (pageAt w) (map pageOf gs)) ws
-    presence-told = presence-is (shapeOf c) (shape-sound c) class (good-class n few-pages xs c) (once-class n few-pages xs c) (small-paged c small) (low-site n few-pages xs c) ws out gs
+    presence-told = presence-is (shapeOf c) (shape-sound c) class (good-class n few-pages (rulesOf rows) xs c) (once-class n few-pages (rulesOf rows) xs c) (small-paged c small) (low-site n few-pages (rulesOf rows) xs c) ws out gs
 
-  tests-out : badHost h ≡ false → Tests (shapeOf c) class h ws gs fs gives → ChunksOut (told n b xs) c h ws gs fs
+  tests-out : badHost h ≡ false → Tests (shapeOf c) limits class h ws gs fs gives → ChunksOut (told n rows b xs) c h ws gs fs
   tests-out host t = record {
     plain = record {
       host = ltb-false hostMax h host;
@@ -215,15 +220,15 @@ module _ (n : ℕ) (b : List ℕ) (o : Opens n b) (xs : List Call) (c h : ℕ) (
       kinds = t .kinds;
       groupKinds = t .groupKinds;
     };
-    out = all-out n b o xs c ws (t .out) (t .single);
+    out = all-out n rows b o xs c ws (t .out) (t .single);
     pages = t .pages;
     counts = sym (counts-told (t .out)) ∙ t .counts;
     present = sym (presence-told (t .out)) ∙ t .present;
   }
 
-  out-tests : ChunksOut (told n b xs) c h ws gs fs → Tests (shapeOf c) class h ws gs fs gives
+  out-tests : ChunksOut (told n rows b xs) c h ws gs fs → Tests (shapeOf c) limits class h ws gs fs gives
   out-tests p =
-      let out = out-all n b o xs c ws (p .out) in
+      let out = out-all n rows b o xs c ws (p .out) in
       record {
         listed = p .plain .listed;
         grouped = p .plain .grouped;
@@ -238,37 +243,37 @@ module _ (n : ℕ) (b : List ℕ) (o : Opens n b) (xs : List Call) (c h : ℕ) (
         present = presence-told out ∙ p .present;
       }
 
-  pub chunks-return-of : (next n b xs x .code ≡ 0) ↔ ChunksOut (told n b xs) c h ws gs fs
+  pub chunks-return-of : (next n rows b xs x .code ≡ 0) ↔ ChunksOut (told n rows b xs) c h ws gs fs
   chunks-return-of = (
-    λ z. let host = next-host n b o xs x named names-it z in tests-out host (passes host z),
+    λ z. let host = next-host n rows b o xs x named names-it z in tests-out host (passes host z),
     λ p. returned (le-ltb hostMax h (p .plain .host)) (out-tests p),
   )
 
   module _ (p : Plain c h ws gs fs) where
-    abbrev class-answer : next n b xs x .answer ≡ classCall n (heapAfter n xs) c (Calls.giveChunks h ws gs fs) .answer
-    class-answer = next-answer n b o xs x named names-it (le-ltb hostMax h (p .host))
+    abbrev class-answer : next n rows b xs x .answer ≡ classCall n (heapAfter n (rulesOf rows) xs) c (Calls.giveChunks h ws gs fs) .answer
+    class-answer = next-answer n rows b o xs x named names-it (le-ltb hostMax h (p .host))
 
-    pub repeated-of : Twice (told n b xs) c ws → next n b xs x .answer ≡ Calls.refused 15
+    pub repeated-of : Twice (told n rows b xs) c ws → next n rows b xs x .answer ≡ Calls.refused 15
     unfolding classCall interact finish
     repeated-of t =
         class-answer
-        ∙ refused-fifteen (shapeOf c) class h ws gs fs gives (p .listed) (p .grouped) (le-ltb chunksMax (length gs) (p .few)) (le-ltb (length fs) (length gs) (p .room)) (p .kinds) (p .groupKinds) (twice-repeats n b o xs c ws t)
+        ∙ refused-fifteen (shapeOf c) limits class h ws gs fs gives (p .listed) (p .grouped) (le-ltb chunksMax (length gs) (p .few)) (le-ltb (length fs) (length gs) (p .room)) (p .kinds) (p .groupKinds) (twice-repeats n rows b o xs c ws t)
 
-    pub not-out-of : (Twice (told n b xs) c ws → ⊥) → (AllOut (told n b xs) c ws → ⊥) → next n b xs x .answer ≡ Calls.refused 10
+    pub not-out-of : (Twice (told n rows b xs) c ws → ⊥) → (AllOut (told n rows b xs) c ws → ⊥) → next n rows b xs x .answer ≡ Calls.refused 10
     unfolding classCall interact finish
     not-out-of t r =
-        let u = no-twice n b o xs c ws t in
+        let u = no-twice n rows b o xs c ws t in
         class-answer
-        ∙ refused-ten (shapeOf c) class h ws gs fs gives (p .listed) (p .grouped) (le-ltb chunksMax (length gs) (p .few)) (le-ltb (length fs) (length gs) (p .room)) (p .kinds) (p .groupKinds) u (not-all n b o xs c ws u r)
+        ∙ refused-ten (shapeOf c) limits class h ws gs fs gives (p .listed) (p .grouped) (le-ltb chunksMax (length gs) (p .few)) (le-ltb (length fs) (length gs) (p .room)) (p .kinds) (p .groupKinds) u (not-all n rows b o xs c ws u r)
 
-pub chunks-return : (n : ℕ) (b : List ℕ) → Opens n b → (xs : List Call) (c h : ℕ) (ws gs fs : List ℕ) → c < 64
-    → (next n b xs (Calls.releaseBinChunks c h ws gs fs) .code ≡ 0) ↔ ChunksOut (told n b xs) c h ws gs fs
-chunks-return n b o xs c h ws gs fs l = chunks-return-of n b o xs c h ws gs fs l
+pub chunks-return : (n : ℕ) (rows b : List ℕ) → Opens n rows b → (xs : List Call) (c h : ℕ) (ws gs fs : List ℕ) → c < 64
+    → (next n rows b xs (Calls.releaseBinChunks c h ws gs fs) .code ≡ 0) ↔ ChunksOut (told n rows b xs) c h ws gs fs
+chunks-return n rows b o xs c h ws gs fs l = chunks-return-of n rows b o xs c h ws gs fs l
 
-pub chunks-repeated : (n : ℕ) (b : List ℕ) → Opens n b → (xs : List Call) (c h : ℕ) (ws gs fs : List ℕ) → c < 64 → Plain c h ws gs fs → Twice (told n b xs) c ws
-    → next n b xs (Calls.releaseBinChunks c h ws gs fs) .answer ≡ Calls.refused 15
-chunks-repeated n b o xs c h ws gs fs l = repeated-of n b o xs c h ws gs fs l
+pub chunks-repeated : (n : ℕ) (rows b : List ℕ) → Opens n rows b → (xs : List Call) (c h : ℕ) (ws gs fs : List ℕ) → c < 64 → Plain c h ws gs fs → Twice (told n rows b xs) c ws
+    → next n rows b xs (Calls.releaseBinChunks c h ws gs fs) .answer ≡ Calls.refused 15
+chunks-repeated n rows b o xs c h ws gs fs l = repeated-of n rows b o xs c h ws gs fs l
 
-pub chunks-not-out : (n : ℕ) (b : List ℕ) → Opens n b → (xs : List Call) (c h : ℕ) (ws gs fs : List ℕ) → c < 64 → Plain c h ws gs fs → (Twice (told n b xs) c ws → ⊥) → (AllOut (told n b xs) c ws → ⊥)
-    → next n b xs (Calls.releaseBinChunks c h ws gs fs) .answer ≡ Calls.refused 10
-chunks-not-out n b o xs c h ws gs fs l = not-out-of n b o xs c h ws gs fs l
+pub chunks-not-out : (n : ℕ) (rows b : List ℕ) → Opens n rows b → (xs : List Call) (c h : ℕ) (ws gs fs : List ℕ) → c < 64 → Plain c h ws gs fs → (Twice (told n rows b xs) c ws → ⊥) → (AllOut (told n rows b xs) c ws → ⊥)
+    → next n rows b xs (Calls.releaseBinChunks c h ws gs fs) .answer ≡ Calls.refused 10
+chunks-not-out n rows b o xs c h ws gs fs l = not-out-of n rows b o xs c h ws gs fs l

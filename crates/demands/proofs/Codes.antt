@@ -14,6 +14,7 @@ use lib.Dec.{eqb, ltb}
 use borrow.Author.Tests.{eqb-true}
 use Rattle.facts.proofs.Bools.{by-cases}
 use Rattle.words.specs.Host.{badHost}
+use Rattle.rules.specs.Rules.{rulesOf}
 use Rattle.model.specs.Calls as Calls
 use Rattle.model.specs.Calls.{Call, Answer, Named, named, names, hostIn, wayOf, hostOf, Request, refused, isRefused}
 use Rattle.model.specs.Heap.{Outcome, classCall, step}
@@ -55,33 +56,33 @@ host-of (Calls.release h q m) d e = absurd (Option·none-ne-some d e)
 host-of (Calls.contains o k) d e = absurd (Option·none-ne-some d e)
 host-of Calls.report d e = absurd (Option·none-ne-some d e)
 
-module _ (n : ℕ) (b : List ℕ) (o : Opens n b) (xs : List Call) (x : Call) (d : Named) (e : names x ≡ some d) where
+module _ (n : ℕ) (rows b : List ℕ) (o : Opens n rows b) (xs : List Call) (x : Call) (d : Named) (e : names x ≡ some d) where
   -- number 3
-  pub next-host : next n b xs x .code ≡ 0 → badHost (hostOf (d .request)) ≡ false
+  pub next-host : next n rows b xs x .code ≡ 0 → badHost (hostOf (d .request)) ≡ false
   unfolding callReply wayOf
   next-host z =
       by-cases (badHost (hostOf (d .request)))
-      (λ t. absurd (let y = rw (next-is n b o xs x, host-of x d e, t) at z in omega arith))
+      (λ t. absurd (let y = rw (next-is n rows b o xs x, host-of x d e, t) at z in omega arith))
       (λ t. t)
 
   module _ (good : badHost (hostOf (d .request)) ≡ false) where
-    pub next-step : step n (heapAfter n xs) x ≡ classCall n (heapAfter n xs) (d .class) (d .request)
+    pub next-step : step n (heapAfter n (rulesOf rows) xs) x ≡ classCall n (heapAfter n (rulesOf rows) xs) (d .class) (d .request)
     unfolding step wayOf
     next-step = rw (host-of x d e, good, e)
 
-    pub next-answer : next n b xs x .answer ≡ classCall n (heapAfter n xs) (d .class) (d .request) .answer
-    next-answer = next-agrees n b o xs x .answer ∙ ap (λ (y : Outcome). y .answer) next-step
+    pub next-answer : next n rows b xs x .answer ≡ classCall n (heapAfter n (rulesOf rows) xs) (d .class) (d .request) .answer
+    next-answer = next-agrees n rows b o xs x .answer ∙ ap (λ (y : Outcome). y .answer) next-step
 
-    pub next-class : next n b xs x ≡ classReply n (bookAfter n b xs) (d .class) (d .request)
+    pub next-class : next n rows b xs x ≡ classReply n (bookAfter n rows b xs) (d .class) (d .request)
     unfolding callReply wayOf
-    next-class = rw (next-is n b o xs x, host-of x d e, good, e)
+    next-class = rw (next-is n rows b o xs x, host-of x d e, good, e)
 
-    pub next-unrefused : next n b xs x .code ≡ 0 → isRefused (classCall n (heapAfter n xs) (d .class) (d .request) .answer) ≡ false
+    pub next-unrefused : next n rows b xs x .code ≡ 0 → isRefused (classCall n (heapAfter n (rulesOf rows) xs) (d .class) (d .request) .answer) ≡ false
     next-unrefused z =
-        let u : isRefused (next n b xs x .answer) ≡ false = rw next-class (class-unrefused n (bookAfter n b xs) (d .class) (d .request) (rw next-class at z)) in
-        rw (next-agrees n b o xs x .answer, next-step) at u
+        let u : isRefused (next n rows b xs x .answer) ≡ false = rw next-class (class-unrefused n (bookAfter n rows b xs) (d .class) (d .request) (rw next-class at z)) in
+        rw (next-agrees n rows b o xs x .answer, next-step) at u
 
-    pub next-zero : isRefused (classCall n (heapAfter n xs) (d .class) (d .request) .answer) ≡ false → next n b xs x .code ≡ 0
+    pub next-zero : isRefused (classCall n (heapAfter n (rulesOf rows) xs) (d .class) (d .request) .answer) ≡ false → next n rows b xs x .code ≡ 0
     next-zero u =
-        let z : isRefused (next n b xs x .answer) ≡ false = rw (next-agrees n b o xs x .answer, next-step) u in
-        rw next-class (class-zero n (bookAfter n b xs) (d .class) (d .request) (rw next-class at z))
+        let z : isRefused (next n rows b xs x .answer) ≡ false = rw (next-agrees n rows b o xs x .answer, next-step) u in
+        rw next-class (class-zero n (bookAfter n rows b xs) (d .class) (d .request) (rw next-class at z))

@@ -39,7 +39,7 @@ use Rattle.refinement.specs.Run.{repliesFrom}
 use Rattle.demands.specs.Call.{call}
 use Rattle.demands.specs.Run.{Opens, run}
 use Rattle.demands.specs.Contracts.{runSeen, Shows, take-blocks, medium-take-blocks, release-blocks, medium-release-blocks, release-bin-chunks, commit, grow-frontier, release, contains, report, InTurn, ends, calls}
-use Rattle.demands.proofs.Calls.{room-of}
+use Rattle.demands.proofs.Calls.{room-plain}
 use Rattle.refinement.proofs.Basics.{digit-eqb}
 
 not-zero : (k : ℕ) → eqb (suc k) 0 ≡ false
@@ -104,7 +104,7 @@ module _ (n : ℕ) (b : List ℕ) (fair : commitFair n b ≡ true) where
 
 sized : (b : List ℕ) → eqb (metaFault b) 0 ≡ true → get b (arena size) ≤ maxPages
 unfolding metaFault
-sized b u = room-of (get b (arena size)) b (eqb-true (metaFault b) 0 u) .few-pages
+sized b u = room-plain (get b (arena size)) b (eqb-true (metaFault b) 0 u) .few-pages
 
 -- ---- the calls
 commit-low : (b : List ℕ) (h m p : ℕ) → commitOn b h m .code ≡ 0 → commitOn b h m .run ≡ some p → eqb p noPage ≡ false
@@ -144,5 +144,5 @@ in-turn-replies : {b : List ℕ} {xs : List Call} {ws : List Reply} → InTurn b
 in-turn-replies (ends b) = refl
 in-turn-replies (calls b x w xs ws s t) = ap₂ _∷_ (shows-call s) (in-turn-replies t ∙ ap (λ (v : Reply). repliesFrom call (v .book) xs) (shows-call s))
 
-pub in-turn-run : (n : ℕ) (b b′ : List ℕ) (xs : List Call) (ws : List Reply) → Did 0 b′ (openOn b n) → InTurn b′ xs ws → Opens n b × (ws ≡ run n b xs)
-in-turn-run n b b′ xs ws d t = (sym (d .answer), in-turn-replies t ∙ ap (λ (m : List ℕ). repliesFrom call m xs) (d .book))
+pub in-turn-run : (n : ℕ) (rows b b′ : List ℕ) (xs : List Call) (ws : List Reply) → Did 0 b′ (openOn b n rows) → InTurn b′ xs ws → Opens n rows b × (ws ≡ run n rows b xs)
+in-turn-run n rows b b′ xs ws d t = (sym (d .answer), in-turn-replies t ∙ ap (λ (m : List ℕ). repliesFrom call m xs) (d .book))

@@ -16,6 +16,8 @@ use Rattle.facts.proofs.Bools.{by-cases}
 use Rattle.words.specs.Host.{hostMax, badHost}
 use Rattle.classes.specs.declared.Shape.{Shape}
 use Rattle.classes.specs.Shape.{shapeOf}
+use Rattle.rules.specs.Rules.{rulesOf}
+use Rattle.rules.specs.declared.Limits.{Limits}
 use Rattle.model.specs.Calls as Calls
 use Rattle.model.specs.Calls.{Call, Named, names, wayOf, hostOf, Request, blocksOf, isRefused}
 use Rattle.model.specs.Page.{Page}
@@ -41,7 +43,7 @@ data Reaches (m : ℕ) (A : Type 0) : Ask → Type 0 where
   home : {r : Result} → (A → ⊥) → Reaches m A (done r)
   away : {k : Option ℕ → Result} → A → Reaches m A (asks m k)
 
-module _ (sh : Shape) (m : ℕ) (A : Type 0) (no : A → ⊥) where
+module _ (sh : Shape) (lim : Limits) (m : ℕ) (A : Type 0) (no : A → ⊥) where
   at-home : {r : Result} → Reaches m A (done r)
   at-home = home no
 
@@ -49,20 +51,20 @@ module _ (sh : Shape) (m : ℕ) (A : Type 0) (no : A → ⊥) where
   home-cond true x y p q = p
   home-cond false x y p q = q
 
-  page-home : (h : ℕ) (s : Class) (ws : List ℕ) (x : Option Site) → Reaches m A (onPage sh h s ws x)
+  page-home : (h : ℕ) (s : Class) (ws : List ℕ) (x : Option Site) → Reaches m A (onPage sh lim h s ws x)
   unfolding onPage
   page-home h s ws none = at-home
   page-home h s ws (some x) = search (home-cond, at-home)
 
-  list-home : (s : Class) (h : ℕ) (ws : List ℕ) → Reaches m A (answer sh s (Calls.giveBack h ws))
+  list-home : (s : Class) (h : ℕ) (ws : List ℕ) → Reaches m A (answer sh lim s (Calls.giveBack h ws))
   unfolding answer releaseList
   list-home s h ws = search (home-cond, at-home, page-home)
 
-  chunks-home : (s : Class) (h : ℕ) (ws gs fs : List ℕ) → Reaches m A (answer sh s (Calls.giveChunks h ws gs fs))
+  chunks-home : (s : Class) (h : ℕ) (ws gs fs : List ℕ) → Reaches m A (answer sh lim s (Calls.giveChunks h ws gs fs))
   unfolding answer releaseChunks
   chunks-home s h ws gs fs = search (home-cond, at-home) depth 9
 
-module _ (sh : Shape) where
+module _ (sh : Shape) (lim : Limits) where
   take-reaches : (A : Type 0) (l : List ℕ) (ps es : List Page) (cs : List Cold) (fs : List Page) → (A → (ps ≡ []) × (es ≡ []) × (cs ≡ [])) → (ps ≡ [] → es ≡ [] → cs ≡ [] → A)
       → Reaches (sh .pages) A (takeFrom sh l ps es cs fs)
   unfolding takeFrom
@@ -79,24 +81,24 @@ module _ (sh : Shape) where
   module _ (s : Class) (code : ℕ) (g : Option ℕ) where
     -- the number is 0 exactly if the class, given g, does not refuse
     record Codes (r : Request) : Type 0 where
-      unrefused : code ≡ 0 → isRefused (serve (answer sh s r) g .answer) ≡ false
-      zero : isRefused (serve (answer sh s r) g .answer) ≡ false → code ≡ 0
+      unrefused : code ≡ 0 → isRefused (serve (answer sh lim s r) g .answer) ≡ false
+      zero : isRefused (serve (answer sh lim s r) g .answer) ≡ false → code ≡ 0
 
     refused-home : (k : ℕ) (r : Request) → (code ≡ 0 → isRefused (serve (refuse s k) g .answer) ≡ false) → Reaches (sh .pages) (Asks s r code) (refuse s k)
     refused-home k r z = home (λ a. false≢true (sym (z (a .unrefused))))
 
-    take-home : (h : ℕ) (l : List ℕ) → (code ≡ 0 → isRefused (serve (answer sh s (Calls.take h l)) g .answer) ≡ false)
-        → (isRefused (serve (answer sh s (Calls.take h l)) g .answer) ≡ false → code ≡ 0) → Reaches (sh .pages) (Asks s (Calls.take h l) code) (answer sh s (Calls.take h l))
+    take-home : (h : ℕ) (l : List ℕ) → (code ≡ 0 → isRefused (serve (answer sh lim s (Calls.take h l)) g .answer) ≡ false)
+        → (isRefused (serve (answer sh lim s (Calls.take h l)) g .answer) ≡ false → code ≡ 0) → Reaches (sh .pages) (Asks s (Calls.take h l) code) (answer sh lim s (Calls.take h l))
     unfolding answer
     take-home h l z y =
         by-cases (ltb (length l) (sh .batch)) (λ u. rw u (refused-home 5 (Calls.take h l) (rw u at z)))
         (λ u. rw u (take-reaches (Asks s (Calls.take h l) code) l (s .partial) (s .empty) (s .cold) (s .full) (λ a. (a .spent .partial, a .spent .empty, a .spent .cold))
         (λ p q r. record { take = refl; unrefused = (rw (u, p, q, r) at y) (ask-unrefused l (s .full) g); spent = record { partial = p; empty = q; cold = r } })))
 
-    reaches : (r : Request) → Codes r → Reaches (sh .pages) (Asks s r code) (answer sh s r)
+    reaches : (r : Request) → Codes r → Reaches (sh .pages) (Asks s r code) (answer sh lim s r)
     reaches (Calls.take h l) z = take-home h l (z .unrefused) (z .zero)
-    reaches (Calls.giveBack h ws) z = list-home sh (sh .pages) _ (λ a. false≢true (a .take)) s h ws
-    reaches (Calls.giveChunks h ws gs fs) z = chunks-home sh (sh .pages) _ (λ a. false≢true (a .take)) s h ws gs fs
+    reaches (Calls.giveBack h ws) z = list-home sh lim (sh .pages) _ (λ a. false≢true (a .take)) s h ws
+    reaches (Calls.giveChunks h ws gs fs) z = chunks-home sh lim (sh .pages) _ (λ a. false≢true (a .take)) s h ws gs fs
 
 -- ---- what the arena answers it
 none-fits : {n h m : ℕ} {a : Arena} {r : Option ℕ} {f : Bool} → Commits n h m a r f → r ≡ none → Commits n h m a none false
@@ -129,76 +131,76 @@ module _ (n h m : ℕ) (a : Arena) (fits : Commits n h m a (Arenas.commit n h m 
   offer-yields (away {k} p) (asks-first y) u = elim (serve-yields (Arenas.commit n h m a .run) refl k y) [ inl z ↦ inl z | inr w ↦ inr (p, w) ]
 
 -- ---- after a history
-module _ (n : ℕ) (b : List ℕ) (o : Opens n b) (xs : List Call) where
-  loads : loadArena (bookAfter n b xs) ≡ heapAfter n xs .arena
-  loads = run-represents n b o xs .arena .loads
+module _ (n : ℕ) (rows b : List ℕ) (o : Opens n rows b) (xs : List Call) where
+  loads : loadArena (bookAfter n rows b xs) ≡ heapAfter n (rulesOf rows) xs .arena
+  loads = run-represents n rows b o xs .arena .loads
 
-  pub holes-counted : loadArena (bookAfter n b xs) .store .total ≡ total (λ x. x .pages) (loadArena (bookAfter n b xs) .store .holes)
-  holes-counted = rw loads (conserved n xs .holeTotal)
+  pub holes-counted : loadArena (bookAfter n rows b xs) .store .total ≡ total (λ x. x .pages) (loadArena (bookAfter n rows b xs) .store .holes)
+  holes-counted = rw loads (conserved n (rulesOf rows) xs .holeTotal)
 
-  pub commit-fits : (h m : ℕ) → h ≤ hostMax → badRun m ≡ false → CommitFits n h m (loadArena (bookAfter n b xs)) (next n b xs (Calls.commit h m) .answer)
+  pub commit-fits : (h m : ℕ) → h ≤ hostMax → badRun m ≡ false → CommitFits n h m (loadArena (bookAfter n rows b xs)) (next n rows b xs (Calls.commit h m) .answer)
   unfolding step wayOf directCall commitCall
   commit-fits h m low good = record {
-    run = Arenas.commit n h m (heapAfter n xs .arena) .run;
-    fresh = Arenas.commit n h m (heapAfter n xs .arena) .fresh;
-    fits = rw loads (best-fit n xs .commits h m);
-    answer = next-agrees n b o xs (Calls.commit h m) .answer ∙ rw (le-ltb hostMax h low, good);
+    run = Arenas.commit n h m (heapAfter n (rulesOf rows) xs .arena) .run;
+    fresh = Arenas.commit n h m (heapAfter n (rulesOf rows) xs .arena) .fresh;
+    fits = rw loads (best-fit n (rulesOf rows) xs .commits h m);
+    answer = next-agrees n rows b o xs (Calls.commit h m) .answer ∙ rw (le-ltb hostMax h low, good);
   }
 
   -- a call that names a class and passed number 3 is answered by the class, after what the arena gives it
   module _ (x : Call) (d : Named) (e : names x ≡ some d) where
     abbrev ask : Ask
-    ask = answer (shapeOf (d .class)) (heapAfter n xs .classes (d .class)) (d .request)
+    ask = answer (shapeOf (d .class)) (heapAfter n (rulesOf rows) xs .rules (d .class)) (heapAfter n (rulesOf rows) xs .classes (d .class)) (d .request)
 
     abbrev gives : Option ℕ
-    gives = offer n (hostOf (d .request)) (heapAfter n xs .arena) ask .run
+    gives = offer n (hostOf (d .request)) (heapAfter n (rulesOf rows) xs .arena) ask .run
 
     abbrev Asked : Type 0
-    Asked = Asks (heapAfter n xs .classes (d .class)) (d .request) (next n b xs x .code)
+    Asked = Asks (heapAfter n (rulesOf rows) xs .classes (d .class)) (d .request) (next n rows b xs x .code)
 
     module _ (host : badHost (hostOf (d .request)) ≡ false) where
-      codes : Codes (shapeOf (d .class)) (heapAfter n xs .classes (d .class)) (next n b xs x .code) gives (d .request)
+      codes : Codes (shapeOf (d .class)) (heapAfter n (rulesOf rows) xs .rules (d .class)) (heapAfter n (rulesOf rows) xs .classes (d .class)) (next n rows b xs x .code) gives (d .request)
       unfolding classCall interact finish
       codes = record {
-        unrefused = next-unrefused n b o xs x d e host;
-        zero = next-zero n b o xs x d e host;
+        unrefused = next-unrefused n rows b o xs x d e host;
+        zero = next-zero n rows b o xs x d e host;
       }
 
-      served : next n b xs x .answer ≡ serve ask gives .answer
+      served : next n rows b xs x .answer ≡ serve ask gives .answer
       unfolding classCall interact finish
-      served = next-answer n b o xs x d e host
+      served = next-answer n rows b o xs x d e host
 
       reached : Reaches (shapeOf (d .class) .pages) Asked ask
-      reached = reaches (shapeOf (d .class)) (heapAfter n xs .classes (d .class)) (next n b xs x .code) gives (d .request) codes
+      reached = reaches (shapeOf (d .class)) (heapAfter n (rulesOf rows) xs .rules (d .class)) (heapAfter n (rulesOf rows) xs .classes (d .class)) (next n rows b xs x .code) gives (d .request) codes
 
-      class-fits : RunFits n (hostOf (d .request)) (shapeOf (d .class) .pages) (loadArena (bookAfter n b xs)) Asked (classCall n (heapAfter n xs) (d .class) (d .request) .run)
+      class-fits : RunFits n (hostOf (d .request)) (shapeOf (d .class) .pages) (loadArena (bookAfter n rows b xs)) Asked (classCall n (heapAfter n (rulesOf rows) xs) (d .class) (d .request) .run)
       unfolding classCall interact finish
       class-fits =
           rw loads
-          (offer-fits n (hostOf (d .request)) (shapeOf (d .class) .pages) (heapAfter n xs .arena) (best-fit n xs .commits (hostOf (d .request)) (shapeOf (d .class) .pages)) reached)
+          (offer-fits n (hostOf (d .request)) (shapeOf (d .class) .pages) (heapAfter n (rulesOf rows) xs .arena) (best-fit n (rulesOf rows) xs .commits (hostOf (d .request)) (shapeOf (d .class) .pages)) reached)
 
-    no-run : badHost (hostOf (d .request)) ≡ true → step n (heapAfter n xs) x .run ≡ none
+    no-run : badHost (hostOf (d .request)) ≡ true → step n (heapAfter n (rulesOf rows) xs) x .run ≡ none
     unfolding step wayOf
     no-run t = rw (host-of x d e, t)
 
-    pub run-fits : RunFits n (hostOf (d .request)) (shapeOf (d .class) .pages) (loadArena (bookAfter n b xs)) Asked (step n (heapAfter n xs) x .run)
+    pub run-fits : RunFits n (hostOf (d .request)) (shapeOf (d .class) .pages) (loadArena (bookAfter n rows b xs)) Asked (step n (heapAfter n (rulesOf rows) xs) x .run)
     run-fits =
         by-cases (badHost (hostOf (d .request)))
-        (λ t. rw (no-run t) (unasked (λ a. false≢true (sym (next-host n b o xs x d e (a .unrefused)) ∙ t))))
-        (λ t. rw (next-step n b o xs x d e t) (class-fits t))
+        (λ t. rw (no-run t) (unasked (λ a. false≢true (sym (next-host n rows b o xs x d e (a .unrefused)) ∙ t))))
+        (λ t. rw (next-step n rows b o xs x d e t) (class-fits t))
 
   module _ (x : Call) (c h : ℕ) (l : List ℕ) (e : names x ≡ some (record { class = c; request = Calls.take h l })) where
     abbrev taking : Named
     taking = record { class = c; request = Calls.take h l }
 
-    spent : {A B : Type 0} → A ⊎ (Asked x taking e × B) → A ⊎ (Spent (heapAfter n xs .classes c) × B)
+    spent : {A B : Type 0} → A ⊎ (Asked x taking e × B) → A ⊎ (Spent (heapAfter n (rulesOf rows) xs .classes c) × B)
     spent (inl p) = inl p
     spent (inr p) = inr (p .0 .spent, p .1)
 
-    pub take-yields : next n b xs x .code ≡ 0
-        → (isNil (blocksOf (next n b xs x .answer)) ≡ false) ⊎ (Spent (heapAfter n xs .classes c) × Commits n h (shapeOf c .pages) (loadArena (bookAfter n b xs)) none false)
+    pub take-yields : next n rows b xs x .code ≡ 0
+        → (isNil (blocksOf (next n rows b xs x .answer)) ≡ false) ⊎ (Spent (heapAfter n (rulesOf rows) xs .classes c) × Commits n h (shapeOf c .pages) (loadArena (bookAfter n rows b xs)) none false)
     take-yields z =
-        let t = next-host n b o xs x taking e z in
+        let t = next-host n rows b o xs x taking e z in
         rw (loads, served x taking e t)
-        (spent (offer-yields n h (shapeOf c .pages) (heapAfter n xs .arena) (best-fit n xs .commits h (shapeOf c .pages)) (reached x taking e t) (yielding n xs .takes c h l)
+        (spent (offer-yields n h (shapeOf c .pages) (heapAfter n (rulesOf rows) xs .arena) (best-fit n (rulesOf rows) xs .commits h (shapeOf c .pages)) (reached x taking e t) (yielding n (rulesOf rows) xs .takes c h l)
         (codes x taking e t .unrefused z)))

@@ -13,6 +13,7 @@ use borrow.Author.Tests.{eq-eqb, le-leb}
 use Rattle.facts.proofs.Bools.{by-cases}
 use Rattle.classes.specs.Shape.{shapeOf}
 use Rattle.classes.proofs.Shapes.{shape-sound}
+use Rattle.rules.specs.Rules.{rulesOf}
 use Rattle.words.specs.Host.{badHost, commitGranted}
 use Rattle.model.specs.Calls as Calls
 use Rattle.model.specs.Calls.{Call, Named, names, wayOf, hostOf, isRefused}
@@ -90,48 +91,48 @@ module _ (n : ℕ) (H : Heap) (h : ℕ) where
       (λ v. by-cases (heldDirect n H q old) (λ w. (longer old new v, rw (t, v, w))) (λ w. absurd (false≢true (sym (rw (t, v, w) at u))))))
 
 -- ---- on the words
-module _ (n : ℕ) (b : List ℕ) (o : Opens n b) (xs : List Call) where
-  pub none-touch : NoTwoTouch (loadArena (bookAfter n b xs) .store .holes)
-  none-touch = rw (run-represents n b o xs .arena .loads) (joining n xs .noTwoTouch)
+module _ (n : ℕ) (rows b : List ℕ) (o : Opens n rows b) (xs : List Call) where
+  pub none-touch : NoTwoTouch (loadArena (bookAfter n rows b xs) .store .holes)
+  none-touch = rw (run-represents n rows b o xs .arena .loads) (joining n (rulesOf rows) xs .noTwoTouch)
 
-  pub run-given : (h q m : ℕ) → next n b xs (Calls.release h q m) .code ≡ 0 → GivenTo m q (loadArena (bookAfter n b xs)) (loadArena (next n b xs (Calls.release h q m) .book))
+  pub run-given : (h q m : ℕ) → next n rows b xs (Calls.release h q m) .code ≡ 0 → GivenTo m q (loadArena (bookAfter n rows b xs)) (loadArena (next n rows b xs (Calls.release h q m) .book))
   unfolding call
   run-given h q m e =
-      let z = next-agrees n b o xs (Calls.release h q m) in
-      let s = step-release n (heapAfter n xs) h q m (rw (z .answer) at (unrefused-of (releaseOn (bookAfter n b xs) h q m .code) Calls.released refl e)) in
-      rw (z .heap .arena .loads ∙ s .1, run-represents n b o xs .arena .loads) (give-given m q (s .0) (heapAfter n xs .arena))
+      let z = next-agrees n rows b o xs (Calls.release h q m) in
+      let s = step-release n (heapAfter n (rulesOf rows) xs) h q m (rw (z .answer) at (unrefused-of (releaseOn (bookAfter n rows b xs) h q m .code) Calls.released refl e)) in
+      rw (z .heap .arena .loads ∙ s .1, run-represents n rows b o xs .arena .loads) (give-given m q (s .0) (heapAfter n (rulesOf rows) xs .arena))
 
-  pub commit-given : (h m q : ℕ) → next n b xs (Calls.commit h m) .code ≡ 0 → usable h (loadArena (bookAfter n b xs) .status) ≡ true → commitGranted h ≡ false
-      → draw n m (withStatus ready (loadArena (bookAfter n b xs))) .run ≡ some q
-      → GivenTo m q (draw n m (withStatus ready (loadArena (bookAfter n b xs))) .arena) (loadArena (next n b xs (Calls.commit h m) .book))
+  pub commit-given : (h m q : ℕ) → next n rows b xs (Calls.commit h m) .code ≡ 0 → usable h (loadArena (bookAfter n rows b xs) .status) ≡ true → commitGranted h ≡ false
+      → draw n m (withStatus ready (loadArena (bookAfter n rows b xs))) .run ≡ some q
+      → GivenTo m q (draw n m (withStatus ready (loadArena (bookAfter n rows b xs))) .arena) (loadArena (next n rows b xs (Calls.commit h m) .book))
   unfolding call
   commit-given h m q e u c d =
-      let a = heapAfter n xs .arena in
-      let w = commitOn (bookAfter n b xs) h m in
-      let l = run-represents n b o xs .arena .loads in
-      let z = next-agrees n b o xs (Calls.commit h m) in
-      let s = step-commit n (heapAfter n xs) h m (rw (z .answer) at (unrefused-of (w .code) (answerRun (w .run) (w .fresh)) (run-answered (w .run) (w .fresh)) e)) in
+      let a = heapAfter n (rulesOf rows) xs .arena in
+      let w = commitOn (bookAfter n rows b xs) h m in
+      let l = run-represents n rows b o xs .arena .loads in
+      let z = next-agrees n rows b o xs (Calls.commit h m) in
+      let s = step-commit n (heapAfter n (rulesOf rows) xs) h m (rw (z .answer) at (unrefused-of (w .code) (answerRun (w .run) (w .fresh)) (run-answered (w .run) (w .fresh)) e)) in
       rw (z .heap .arena .loads ∙ s .1 ∙ commit-gives n h m q a c (rw l at u) (rw l at d), l) (give-given m q (s .0) (draw n m (withStatus ready a) .arena))
 
-  pub growth-given : (h q old new : ℕ) → next n b xs (Calls.growFrontier h q old new) .code ≡ 0
-      → loadArena (bookAfter n b xs) .frontier ≡ q + old → q + old + (new - old) ≤ n → commitGranted h ≡ false
-      → GivenTo (new - old) (q + old) (withFrontier (q + old + (new - old)) (loadArena (bookAfter n b xs))) (loadArena (next n b xs (Calls.growFrontier h q old new) .book))
+  pub growth-given : (h q old new : ℕ) → next n rows b xs (Calls.growFrontier h q old new) .code ≡ 0
+      → loadArena (bookAfter n rows b xs) .frontier ≡ q + old → q + old + (new - old) ≤ n → commitGranted h ≡ false
+      → GivenTo (new - old) (q + old) (withFrontier (q + old + (new - old)) (loadArena (bookAfter n rows b xs))) (loadArena (next n rows b xs (Calls.growFrontier h q old new) .book))
   unfolding call
   growth-given h q old new e f k c =
-      let a = heapAfter n xs .arena in
-      let w = growOn (bookAfter n b xs) h q old new in
-      let l = run-represents n b o xs .arena .loads in
-      let z = next-agrees n b o xs (Calls.growFrontier h q old new) in
-      let s = step-growth n (heapAfter n xs) h q old new (rw (z .answer) at (unrefused-of (w .code) (Calls.grown (w .yes)) refl e)) in
+      let a = heapAfter n (rulesOf rows) xs .arena in
+      let w = growOn (bookAfter n rows b xs) h q old new in
+      let l = run-represents n rows b o xs .arena .loads in
+      let z = next-agrees n rows b o xs (Calls.growFrontier h q old new) in
+      let s = step-growth n (heapAfter n (rulesOf rows) xs) h q old new (rw (z .answer) at (unrefused-of (w .code) (Calls.grown (w .yes)) refl e)) in
       rw (z .heap .arena .loads ∙ s .1 ∙ growth-gives n h (new - old) (q + old) a c (rw l at f) k, l) (give-given (new - old) (q + old) (s .0) (withFrontier (q + old + (new - old)) a))
 
-  pub class-given : (x : Call) (d : Named) → names x ≡ some d → next n b xs x .code ≡ 0
-      → (let q = answer (shapeOf (d .class)) (heapAfter n xs .classes (d .class)) (d .request) in
-      let g = offer n (hostOf (d .request)) (loadArena (bookAfter n b xs)) q in
-      GivenInTurn (shapeOf (d .class) .pages) (serve q (g .run) .gives) (g .arena) (loadArena (next n b xs x .book)))
+  pub class-given : (x : Call) (d : Named) → names x ≡ some d → next n rows b xs x .code ≡ 0
+      → (let q = answer (shapeOf (d .class)) (heapAfter n (rulesOf rows) xs .rules (d .class)) (heapAfter n (rulesOf rows) xs .classes (d .class)) (d .request) in
+      let g = offer n (hostOf (d .request)) (loadArena (bookAfter n rows b xs)) q in
+      GivenInTurn (shapeOf (d .class) .pages) (serve q (g .run) .gives) (g .arena) (loadArena (next n rows b xs x .book)))
   unfolding classCall interact finish
   class-given x d e z =
-      let q = answer (shapeOf (d .class)) (heapAfter n xs .classes (d .class)) (d .request) in
-      let g = offer n (hostOf (d .request)) (heapAfter n xs .arena) q in
-      let s = next-step n b o xs x d e (next-host n b o xs x d e z) in
-      rw (next-agrees n b o xs x .heap .arena .loads, s, run-represents n b o xs .arena .loads) (all-in-turn (shapeOf (d .class) .pages) (shape-sound (d .class) .paged) (serve q (g .run) .gives) (g .arena))
+      let q = answer (shapeOf (d .class)) (heapAfter n (rulesOf rows) xs .rules (d .class)) (heapAfter n (rulesOf rows) xs .classes (d .class)) (d .request) in
+      let g = offer n (hostOf (d .request)) (heapAfter n (rulesOf rows) xs .arena) q in
+      let s = next-step n rows b o xs x d e (next-host n rows b o xs x d e z) in
+      rw (next-agrees n rows b o xs x .heap .arena .loads, s, run-represents n rows b o xs .arena .loads) (all-in-turn (shapeOf (d .class) .pages) (shape-sound (d .class) .paged) (serve q (g .run) .gives) (g .arena))

@@ -6,6 +6,7 @@ use mathlib.Core.Path.{_≡_, refl, sym, ap, _∙_, subst}
 use lib.Dec.{eqb}
 use borrow.Author.Tests.{eqb-true}
 use Rattle.facts.proofs.Bools.{by-cases}
+use Rattle.rules.specs.Rules.{rulesOf}
 use Rattle.model.specs.declared.Figures.{Figures}
 use Rattle.model.specs.Calls as Calls
 use Rattle.model.specs.Calls.{Call, refused, reported, isRefused, wayOf}
@@ -27,15 +28,15 @@ report-answer n H = refl
 same-figures : (f g : Figures) → reported f ≡ reported g → f ≡ g
 same-figures f g e = cc
 
-module _ (n : ℕ) (b : List ℕ) (o : Opens n b) (xs : List Call) (r : ℕ) (fs fs′ : List ℕ) (e : ReportEnds (reportOn (bookAfter n b xs)) r fs fs′) where
-  seen : cond (eqb r 0) (reported (figuresIn fs′)) (refused r) ≡ reported (figures n (heapAfter n xs))
-  seen = ap (λ w. w .answer) (shows-call (Shows.report r fs fs′ e)) ∙ next-agrees n b o xs Calls.report .answer ∙ report-answer n (heapAfter n xs)
+module _ (n : ℕ) (rows b : List ℕ) (o : Opens n rows b) (xs : List Call) (r : ℕ) (fs fs′ : List ℕ) (e : ReportEnds (reportOn (bookAfter n rows b xs)) r fs fs′) where
+  seen : cond (eqb r 0) (reported (figuresIn fs′)) (refused r) ≡ reported (figures n (heapAfter n (rulesOf rows) xs))
+  seen = ap (λ w. w .answer) (shows-call (Shows.report r fs fs′ e)) ∙ next-agrees n rows b o xs Calls.report .answer ∙ report-answer n (heapAfter n (rulesOf rows) xs)
 
-  pub idle : Idle n xs r fs′
+  pub idle : Idle n (rulesOf rows) xs r fs′
   idle =
       by-cases (eqb r 0)
       (λ t. record {
         unrefused = eqb-true r 0 t;
-        figured = subst (λ f. Figured n xs f) (sym (same-figures (figuresIn fs′) (figures n (heapAfter n xs)) (rw t at seen))) (figured n xs);
+        figured = subst (λ f. Figured n (rulesOf rows) xs f) (sym (same-figures (figuresIn fs′) (figures n (heapAfter n (rulesOf rows) xs)) (rw t at seen))) (figured n (rulesOf rows) xs);
       })
       (λ t. absurd (false≢true (sym (ap isRefused (rw t at seen)))))

@@ -2,6 +2,7 @@
 use Prim.Native.Nat.{ℕ}
 use mathlib.Core.List.{List, [], _∷_, _++_, map}
 use mathlib.Core.Path.{_≡_, refl, sym, ap, ap₂, _∙_}
+use Rattle.rules.specs.Rules.{rulesOf}
 use Rattle.model.specs.Calls.{Call, Answer}
 use Rattle.model.specs.Heap.{Heap, newHeap}
 use Rattle.model.specs.History.{Event, eventsFrom, heapAfter}
@@ -18,17 +19,17 @@ book-next : (b : List ℕ) (xs : List Call) (x : Call) → bookFrom call b (xs +
 book-next b [] x = refl
 book-next b (y ∷ xs) x = book-next (call b y .book) xs x
 
-module _ (n : ℕ) (b : List ℕ) (o : Opens n b) where
-  answers-on : (zs xs : List Call) → answersIn (repliesFrom call (bookAfter n b xs) zs) ≡ map (λ (e : Event). e .answer) (eventsFrom n (heapAfter n xs) zs)
+module _ (n : ℕ) (rows b : List ℕ) (o : Opens n rows b) where
+  answers-on : (zs xs : List Call) → answersIn (repliesFrom call (bookAfter n rows b xs) zs) ≡ map (λ (e : Event). e .answer) (eventsFrom n (heapAfter n (rulesOf rows) xs) zs)
   answers-on [] xs = refl
   answers-on (z ∷ zs) xs =
-      ap₂ (λ (a : Answer) (s : List Answer). a ∷ s) (next-agrees n b o xs z .answer)
-      (ap (λ (d : List ℕ). answersIn (repliesFrom call d zs)) (sym (book-next (openOn b n .book) xs z))
+      ap₂ (λ (a : Answer) (s : List Answer). a ∷ s) (next-agrees n rows b o xs z .answer)
+      (ap (λ (d : List ℕ). answersIn (repliesFrom call d zs)) (sym (book-next (openOn b n rows .book) xs z))
       ∙ answers-on zs (xs ++ z ∷ [])
-      ∙ ap (λ (H : Heap). map (λ (e : Event). e .answer) (eventsFrom n H zs)) (heap-next n newHeap xs z))
+      ∙ ap (λ (H : Heap). map (λ (e : Event). e .answer) (eventsFrom n H zs)) (heap-next n (newHeap (rulesOf rows)) xs z))
 
 pub orderless : (n : ℕ) → Orderless n
 orderless n = record {
-  alike = λ b₁ b₂ o₁ o₂ xs ys s zs.
-      answers-on n b₁ o₁ zs xs ∙ ap (λ (vs : List Event). map (λ (e : Event). e .answer) vs) (Model.orderless n xs ys .alike s zs) ∙ sym (answers-on n b₂ o₂ zs ys);
+  alike = λ rows b₁ b₂ o₁ o₂ xs ys s zs.
+      answers-on n rows b₁ o₁ zs xs ∙ ap (λ (vs : List Event). map (λ (e : Event). e .answer) vs) (Model.orderless n (rulesOf rows) xs ys .alike s zs) ∙ sym (answers-on n rows b₂ o₂ zs ys);
 }

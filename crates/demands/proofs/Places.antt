@@ -20,6 +20,7 @@ use Rattle.classes.specs.Sizes.{pageBytes, granuleBytes}
 use Rattle.classes.specs.Shape.{shapeOf}
 use Rattle.classes.specs.Sound.{Sound}
 use Rattle.classes.proofs.Shapes.{shape-sound}
+use Rattle.rules.specs.Rules.{Rules}
 use Rattle.fields.specs.Ranges.{maxPages}
 use Rattle.model.specs.Cover.{covers}
 use Rattle.model.specs.Calls.{Call}
@@ -89,23 +90,23 @@ module _ (sh : Shape) (ok : Sound sh) (s : Class) (good : GoodClass sh s) where
       (omega (arith, out-first sh ok s x law once q w (eq-eqb q q refl), f, y .law .out-rest (outFrom sh q w), is-out sh ok w (y .site .page) (y .out)))
 
 -- ---- the heap after a history
-module _ (n : ℕ) (small : n ≤ maxPages) (xs : List Call) where
+module _ (n : ℕ) (small : n ≤ maxPages) (rules : Rules) (xs : List Call) where
   abbrev class : ℕ → Class
-  class c = heapAfter n xs .classes c
+  class c = heapAfter n rules xs .classes c
 
-  held-low : (c y : ℕ) → 1 ≤ heldBy c (heapAfter n xs .holder y) → y < maxPages
+  held-low : (c y : ℕ) → 1 ≤ heldBy c (heapAfter n rules xs .holder y) → y < maxPages
   held-low c y h =
-      let k = kept n xs in
-      let H = heapAfter n xs in
+      let k = kept n rules xs in
+      let H = heapAfter n rules xs in
       by-cases (ltb y (H .arena .frontier))
       (λ e. omega (arith, ltb-true y (H .arena .frontier) e, k .inv .bound))
       (λ e. absurd (omega (arith, held-le c (H .holder y), k .inv .one y, above-at (H .arena .frontier) y (ltb-false y (H .arena .frontier) e))))
 
   pub good-class : (c : ℕ) → GoodClass (shapeOf c) (class c)
-  good-class c = kept n xs .inv .good c
+  good-class c = kept n rules xs .inv .good c
 
   pub once-class : (c : ℕ) → Once (shapeOf c) (class c)
-  once-class c x = omega (arith, kept n xs .inv .mine c x, held-le c (heapAfter n xs .holder x), kept n xs .inv .one x)
+  once-class c x = omega (arith, kept n rules xs .inv .mine c x, held-le c (heapAfter n rules xs .holder x), kept n rules xs .inv .one x)
 
   pub low-site : (c : ℕ) (x : Site) → SiteLaw (shapeOf c) (class c) x → x .page .first + shapeOf c .pages ≤ maxPages
   low-site c x law =
@@ -113,13 +114,13 @@ module _ (n : ℕ) (small : n ≤ maxPages) (xs : List Call) where
       let paged = shape-sound c .paged in
       let y = x .page .first + sh .pages - 1 in
       let z = covers-in (sh .pages) (x .page .first) y (omega (arith, paged)) (omega (arith, paged)) in
-      omega (arith, paged, held-low c y (omega (arith, z, law .pages-rest y, kept n xs .inv .mine c y)))
+      omega (arith, paged, held-low c y (omega (arith, z, law .pages-rest y, kept n rules xs .inv .mine c y)))
 
-  pub byte-held : (e : Entry) → Live 0 (events n xs) e → (b : ℕ) → HasByte e b → 1 ≤ heldBy (e .class) (heapAfter n xs .holder (b / pageBytes))
+  pub byte-held : (e : Entry) → Live 0 (events n rules xs) e → (b : ℕ) → HasByte e b → 1 ≤ heldBy (e .class) (heapAfter n rules xs .holder (b / pageBytes))
   byte-held e l b h =
       let c = e .class in
       let sh = shapeOf c in
-      let o = outs n xs .out c (e .word) .1 (record { entry = e; live = l; class = refl; word = refl }) in
+      let o = outs n rules xs .out c (e .word) .1 (record { entry = e; live = l; class = refl; word = refl }) in
       let y = lies sh (shape-sound c) (class c) (good-class c) (e .word) o in
       let z = byte-on sh (shape-sound c) (y .site .page .first) (e .word) (low-site c (y .site) (y .law)) (lies-on sh (shape-sound c) (class c) (good-class c) (e .word) y) b (h .from) (h .to) in
-      omega (arith, z, y .law .pages-rest (b / pageBytes), conserved n xs .classes c (b / pageBytes))
+      omega (arith, z, y .law .pages-rest (b / pageBytes), conserved n rules xs .classes c (b / pageBytes))

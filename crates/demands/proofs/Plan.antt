@@ -8,6 +8,7 @@ use Rattle.facts.proofs.Bools.{by-cases}
 use Rattle.plan.specs.Plan.{planTotal, badPlan}
 use Rattle.plan.specs.Code.{PlanEnds}
 use Rattle.plan.proofs.Theorems.{planned}
+use Rattle.rules.specs.Rules.{rulesOf}
 use Rattle.demands.specs.Plan.{Fits, Plan}
 use Rattle.demands.proofs.Histories.{run-answers}
 
@@ -20,7 +21,7 @@ module _ (ks ts : List ℕ) (t t′ : ℕ) (e : PlanEnds ks ts 0 t t′) where
   total-is = e .total ∙ rw unrefused
 
   pub fits : Fits ks ts t′
-  fits = rw total-is (record { plan-fits = λ n b o xs g c. rw (run-answers n b o xs) (planned .fits n ks ts xs g c); carried = planned .carried ks ts unrefused })
+  fits = rw total-is (record { plan-fits = λ n rows b o xs g c. rw (run-answers n rows b o xs) (planned .fits n (rulesOf rows) ks ts xs g c); carried = planned .carried ks ts unrefused })
 
 pub plan : Plan
 plan = record {

@@ -29,7 +29,7 @@ use Rattle.calls.specs.Take.{pageReady, sound, walk, parkFair}
 use Rattle.calls.specs.Out.{startOf, outs, clean, unmarked}
 use Rattle.calls.specs.Release.{pageFair, rowFair, spotAt, spotFair, releaseFair}
 use Rattle.calls.specs.Chunks.{pagesGiven, chunksFair}
-use Rattle.demands.specs.Ranges.{Link, partialOf, emptyOf, coldOf, nextOf, prevOf, linkField, Use, stateKnown, frontierFits, holesFew, holePagesFew, heldFits, holeEnds, code, visited, emptyFew, emptyTaken, coldFew, coldTaken, ownerIs, firstIs, prevIs, listedFlag, listedYes, listedNo, freeFits, markClear, freeWith, carvedFits, virginFlag, inRange, fits, strays}
+use Rattle.demands.specs.Ranges.{Link, partialOf, emptyOf, coldOf, nextOf, prevOf, linkField, Use, stateKnown, frontierFits, holesFew, holePagesFew, heldFits, holeEnds, code, visited, emptyFew, emptyTaken, coldFew, coldTaken, ownerIs, firstIs, prevIs, listedFlag, listedYes, listedNo, freeFits, markClear, freeWith, carvedFits, virginFlag, inRange, fits, strays, emptyLimited, coldLimited}
 use Rattle.demands.specs.Number13.{takeFair, Number13}
 use Rattle.demands.specs.Reads.{countReads, recordReads, holeReads, commitReads, giveReads, parkedReads, reportReads, runReads, entryReads, pageReads, walkReads, walkVisits, parkReads, takeReads, takeVisits, supply, yields, yieldAll, barren, markReads, backReads, rowReads, releaseReads, backsReads, chunksReads, besideReads, givenReads, growReads}
 use Rattle.demands.proofs.RefusalsLaws.{not-and}
@@ -125,8 +125,8 @@ module _ (b : List ℕ) (c : ℕ) (sh : Shape) where
 back-as : (c f i l k : Bool) → ((c && (f && i)) && (l && k)) ≡ (c && (f && (l && (i && k))))
 back-as c f i l k = simp sorts
 
-row-as : (p e f c k : Bool) → (p && ((e && f) && (c && k))) ≡ (p && (e && (f && (c && (k && true)))))
-row-as p e f c k = rw (and-true k, and-assoc e f (c && k))
+row-as : (p e f c k l m : Bool) → (p && ((e && f) && ((c && k) && (l && m)))) ≡ (p && (e && (f && (c && (k && (l && (m && true)))))))
+row-as p e f c k l m = rw (and-true m, and-assoc e f ((c && k) && (l && m)), and-assoc c k (l && m))
 
 module _ (b : List ℕ) (c : ℕ) (sh : Shape) where
   back-ranges : (m q : ℕ) → pageFair b sh m q ≡ fits b (backReads b sh m q)
@@ -137,7 +137,9 @@ module _ (b : List ℕ) (c : ℕ) (sh : Shape) where
 
   row-ranges : rowFair b c ≡ fits b (rowReads c)
   unfolding rowFair fits rowReads
-  row-ranges = row-as (inRange b (code (partialOf c))) (inRange b (code (emptyOf c))) (inRange b (emptyFew c)) (inRange b (code (coldOf c))) (inRange b (coldFew c))
+  row-ranges =
+      row-as (inRange b (code (partialOf c))) (inRange b (code (emptyOf c))) (inRange b (emptyFew c)) (inRange b (code (coldOf c))) (inRange b (coldFew c))
+      (inRange b (emptyLimited c)) (inRange b (coldLimited c))
 
   given-ranges : (t : Bool) (m : ℕ) → cond t (giveFair (get b (arena size)) b m) true ≡ fits b (cond t (giveReads b m) [])
   given-ranges true m = give-ranges b m

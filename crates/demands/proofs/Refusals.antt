@@ -87,7 +87,7 @@ module _ {R : Type 0} (code : R → ℕ) (Same : R → Type 0) (rows : List Row)
 
 -- ---- the functions
 pub open-refuses : OpenRefuses
-open-refuses b n r b′ e = refuses _ _ _ _ (open-table b n) _ r refl (e .answer) λ d s. e .book ∙ s
+open-refuses b n ws r b′ e = refuses _ _ _ _ (open-table b n ws) _ r refl (e .answer) λ d s. e .book ∙ s
 
 pub commit-refuses : CommitRefuses
 commit-refuses b h m r b′ q q′ f f′ e =

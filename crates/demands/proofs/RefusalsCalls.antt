@@ -16,10 +16,12 @@ use Rattle.classes.specs.Shape.{shapeOf}
 use Rattle.tables.specs.Table.{badRate, badTop, badSlots, Tabled, classTable}
 use Rattle.game.specs.Game.{badGame, Played, askerWins, winsOut}
 use Rattle.listing.specs.Listing.{badListing, Listed, shortHistories, writtenOut}
+use Rattle.rules.specs.Rules.{badRows, twoRows, noRow, rowsFault, rulesOf}
+use Rattle.arena.specs.Open.{opened}
 use Rattle.fields.specs.Field.{arena, class, size, frontier, partial, empty, cold, get}
 use Rattle.fields.specs.Outcome.{Outcome}
 use Rattle.fields.specs.Outcome as Fields
-use Rattle.fields.specs.Ranges.{metaFault}
+use Rattle.fields.specs.Ranges.{metaFault, lengthFault}
 use Rattle.model.specs.Heap.{badRun, badGrowth}
 use Rattle.model.specs.Release.{ofKind}
 use Rattle.arena.specs.Fair.{commitFair, giveFair, growFair, reportFair}
@@ -37,7 +39,7 @@ use Rattle.direct.specs.declared.Report.{Report}
 use Rattle.direct.specs.Answer.{reportOf}
 use Rattle.vigbuso.specs.Faults.{callFault, classFault}
 use Rattle.vigbuso.specs.Direct as Direct
-use Rattle.vigbuso.specs.Direct.{openOn, commitOn, growOn, reportOn, reportCode, figuresOut}
+use Rattle.vigbuso.specs.Direct.{openFault, openOn, commitOn, growOn, reportOn, reportCode, figuresOut}
 use Rattle.vigbuso.specs.Blocks as Blocks
 use Rattle.vigbuso.specs.Blocks.{takeOn, chunksOn}
 use Rattle.trace.proofs.Refused.{give-zero}
@@ -47,9 +49,25 @@ use Rattle.demands.proofs.Ranges.{commit-strays, give-strays, report-st
 use Rattle.demands.proofs.RefusalsLaws.{not-and, le-not-lt, Ends, ends, turn, unless, out-turn, book-turn, chain, choose, before}
 
 -- ---- opening
-pub open-table : (b : List ℕ) (n : ℕ) → Ends {R = Outcome} (λ o. o .code) (λ o. o .book ≡ b) (openTable b n) (openOn b n)
-unfolding openOn
-open-table b n = book-turn _ _ _ (λ k. Fields.ends k b) _ (λ k. refl) (λ k. refl) (ends _ _ _ refl) n b
+module _ (b d : List ℕ) where
+  -- 19, 18 and 17 as one number, and as the chain
+  rows-turn : (i j k : Bool) → (let m : ℕ = cond i 19 (cond j 18 (cond k 17 0)) in
+      Ends {R = Outcome} (λ o. o .code) (λ o. o .book ≡ b) ((19, i) ∷ (18, j) ∷ (17, k) ∷ []) (cond (eqb m 0) (Fields.ends 0 d) (Fields.ends m b)))
+  rows-turn true j k = record { number = refl; kept = λ z. refl }
+  rows-turn false true k = record { number = refl; kept = λ z. refl }
+  rows-turn false false true = record { number = refl; kept = λ z. refl }
+  rows-turn false false false = record { number = refl; kept = λ z. absurd (z refl) }
+
+  -- a number of the rows after one of the length
+  after-length : (f m : ℕ) → cond (eqb (cond (eqb f 0) m f) 0) (Fields.ends 0 d) (Fields.ends (cond (eqb f 0) m f) b)
+      ≡ cond (eqb f 0) (cond (eqb m 0) (Fields.ends 0 d) (Fields.ends m b)) (Fields.ends f b)
+  after-length f m = by-cases (eqb f 0) (λ e. rw e) (λ e. rw (e, e))
+
+pub open-table : (b : List ℕ) (n : ℕ) (ws : List ℕ) → Ends {R = Outcome} (λ o. o .code) (λ o. o .book ≡ b) (openTable b n ws) (openOn b n ws)
+unfolding openOn openFault rowsFault
+open-table b n ws =
+    rw (after-length b (opened n (rulesOf ws) b) (lengthFault n (length b)) (rowsFault ws))
+    (book-turn _ _ _ (λ k. Fields.ends k b) _ (λ k. refl) (λ k. refl) (rows-turn b (opened n (rulesOf ws) b) (badRows ws) (twoRows ws) (noRow ws)) n b)
 
 -- ---- the direct calls
 pub commit-table : (b : List ℕ) (h m : ℕ) → Ends {R = Committed} (λ o. o .code) (λ o. o .book ≡ b) (commitTable b h m) (commitOn b h m)

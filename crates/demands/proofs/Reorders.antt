@@ -7,6 +7,7 @@ use mathlib.Core.Path.{_≡_, refl, sym, ap, _∙_}
 use lib.Dec.{eqb}
 use borrow.Author.Tests.{eqb-true, eqb-false, ne-eqb}
 use Rattle.facts.proofs.Bools.{by-cases}
+use Rattle.rules.specs.Rules.{rulesOf}
 use Rattle.model.specs.Calls.{Call, Answer, Named, names}
 use Rattle.model.specs.History.{Event, isOf, answersOf}
 use Rattle.vigbuso.specs.Direct.{openOn}
@@ -45,32 +46,32 @@ answers-swap c x y p q a d vs ex ey ne =
     (λ u. let other : eqb (q .class) c ≡ false = ne-eqb (q .class) c (λ z. eqb-false (p .class) (q .class) ne (eqb-true (p .class) c u ∙ sym z)) in rw (u, other))
     (λ u. by-cases (eqb (q .class) c) (λ v. rw (u, v)) (λ v. rw (u, v))))
 
-module _ (n : ℕ) (b : List ℕ) (xs : List Call) where
+module _ (n : ℕ) (rows b : List ℕ) (xs : List Call) where
   -- a call after one more, on the book that this one leaves
-  after-one : (x y : Call) → next n b (xs ++ x ∷ []) y .answer ≡ call (call (bookAfter n b xs) x .book) y .answer
-  after-one x y = ap (λ (m : List ℕ). call m y .answer) (book-split (openOn b n .book) xs (x ∷ []))
+  after-one : (x y : Call) → next n rows b (xs ++ x ∷ []) y .answer ≡ call (call (bookAfter n rows b xs) x .book) y .answer
+  after-one x y = ap (λ (m : List ℕ). call m y .answer) (book-split (openOn b n rows .book) xs (x ∷ []))
 
-  class-told : (c : ℕ) (ys : List Call) → answersOf c (told n b (xs ++ ys)) ≡ answersOf c (told n b xs) ++ answersOf c (toldFrom (bookAfter n b xs) ys)
-  class-told c ys = ap (answersOf c) (told-split (openOn b n .book) xs ys) ∙ answers-split c (told n b xs) (toldFrom (bookAfter n b xs) ys)
+  class-told : (c : ℕ) (ys : List Call) → answersOf c (told n rows b (xs ++ ys)) ≡ answersOf c (told n rows b xs) ++ answersOf c (toldFrom (bookAfter n rows b xs) ys)
+  class-told c ys = ap (answersOf c) (told-split (openOn b n rows .book) xs ys) ∙ answers-split c (told n rows b xs) (toldFrom (bookAfter n rows b xs) ys)
 
-  exchanged : (x y : Call) (p q : Named) (zs : List Call) → names x ≡ some p → names y ≡ some q → eqb (p .class) (q .class) ≡ false → Swapped n b xs x y
-      → (c : ℕ) → answersOf c (told n b (xs ++ x ∷ y ∷ zs)) ≡ answersOf c (told n b (xs ++ y ∷ x ∷ zs))
+  exchanged : (x y : Call) (p q : Named) (zs : List Call) → names x ≡ some p → names y ≡ some q → eqb (p .class) (q .class) ≡ false → Swapped n rows b xs x y
+      → (c : ℕ) → answersOf c (told n rows b (xs ++ x ∷ y ∷ zs)) ≡ answersOf c (told n rows b (xs ++ y ∷ x ∷ zs))
   exchanged x y p q zs ex ey ne s c =
-      let m = bookAfter n b xs in
+      let m = bookAfter n rows b xs in
       let first : call m x .answer ≡ call (call m y .book) x .answer = s .first ∙ after-one y x in
       let second : call (call m x .book) y .answer ≡ call m y .answer = sym (after-one x y) ∙ s .second in
       let books : call (call m x .book) y .book ≡ call (call m y .book) x .book
-      = sym (book-split (openOn b n .book) xs (x ∷ y ∷ [])) ∙ s .book [] ∙ book-split (openOn b n .book) xs (y ∷ x ∷ []) in
+      = sym (book-split (openOn b n rows .book) xs (x ∷ y ∷ [])) ∙ s .book [] ∙ book-split (openOn b n rows .book) xs (y ∷ x ∷ []) in
       rw (class-told c (x ∷ y ∷ zs), class-told c (y ∷ x ∷ zs))
-      (ap (λ (ws : List Answer). answersOf c (told n b xs) ++ ws)
+      (ap (λ (ws : List Answer). answersOf c (told n rows b xs) ++ ws)
       (ap (λ (d : Answer). answersOf c (event x (call m x .answer) ∷ event y d ∷ toldFrom (call (call m x .book) y .book) zs)) second
       ∙ ap (λ (a : Answer). answersOf c (event x a ∷ event y (call m y .answer) ∷ toldFrom (call (call m x .book) y .book) zs)) first
       ∙ ap (λ (k : List ℕ). answersOf c (event x (call (call m y .book) x .answer) ∷ event y (call m y .answer) ∷ toldFrom k zs)) books
       ∙ answers-swap c x y p q (call (call m y .book) x .answer) (call m y .answer) (toldFrom (call (call m y .book) x .book) zs) ex ey ne))
 
-pub reordered : (n : ℕ) (b : List ℕ) → Opens n b → (xs ys : List Call) → Reorders n xs ys → Reordered n b xs ys
-reordered n b o xs ys (same us) = record { book = refl; answers = λ c. refl }
-reordered n b o us ys (exchange xs x y p q zs ws ex ey ne one r) =
-    let s = change-places n b o xs x y p q ex ey ne one in
-    let ih = reordered n b o (xs ++ y ∷ x ∷ zs) ys r in
-    record { book = s .book zs ∙ ih .book; answers = λ c. exchanged n b xs x y p q zs ex ey ne s c ∙ ih .answers c }
+pub reordered : (n : ℕ) (rows b : List ℕ) → Opens n rows b → (xs ys : List Call) → Reorders n (rulesOf rows) xs ys → Reordered n rows b xs ys
+reordered n rows b o xs ys (same us) = record { book = refl; answers = λ c. refl }
+reordered n rows b o us ys (exchange xs x y p q zs ws ex ey ne one r) =
+    let s = change-places n rows b o xs x y p q ex ey ne one in
+    let ih = reordered n rows b o (xs ++ y ∷ x ∷ zs) ys r in
+    record { book = s .book zs ∙ ih .book; answers = λ c. exchanged n rows b xs x y p q zs ex ey ne s c ∙ ih .answers c }

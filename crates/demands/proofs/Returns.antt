@@ -22,6 +22,8 @@ use Rattle.classes.specs.declared.Shape.{Shape}
 use Rattle.classes.specs.Shape.{shapeOf}
 use Rattle.classes.specs.Sound.{Sound}
 use Rattle.classes.proofs.Shapes.{shape-sound}
+use Rattle.rules.specs.declared.Limits.{Limits}
+use Rattle.rules.specs.Rules.{Rules, rulesOf}
 use Rattle.fields.specs.Ranges.{maxPages}
 use Rattle.model.specs.Calls as Calls
 use Rattle.model.specs.Calls.{Call, names, isRefused}
@@ -77,21 +79,21 @@ passed s k true q g u = absurd (false≢true (sym u))
 passed s k false q g u = (refl, u)
 
 -- ---- a class, of whose words each is a block of one run only
-module _ (sh : Shape) (ok : Sound sh) (s : Class) (good : GoodClass sh s) (once : Once sh s) (one : (q q′ w : ℕ) → BlockOf sh q w → BlockOf sh q′ w → q ≡ q′) (h : ℕ) (g : Option ℕ) where
+module _ (sh : Shape) (ok : Sound sh) (lim : Limits) (s : Class) (good : GoodClass sh s) (once : Once sh s) (one : (q q′ w : ℕ) → BlockOf sh q w → BlockOf sh q′ w → q ≡ q′) (h : ℕ) (g : Option ℕ) where
   -- number 11
-  page-together : (ws : List ℕ) (o : Option Site) → SiteLaws sh s o → isRefused (serve (onPage sh h s ws o) g .answer) ≡ false → OneRun sh ws
+  page-together : (ws : List ℕ) (o : Option Site) → SiteLaws sh s o → isRefused (serve (onPage sh lim h s ws o) g .answer) ≡ false → OneRun sh ws
   unfolding onPage
   page-together ws none l u = absurd (false≢true (sym u))
   page-together ws (some x) l u =
       let e : every (λ w. isOut sh w (x .page)) ws ≡ true = by-cases (every (λ w. isOut sh w (x .page)) ws) (λ t. t) (λ t. absurd (false≢true (sym (rw t at u)))) in
       record { first = x .page .first; blocks = λ w m. out-block sh ok (x .page) w (l .page) (every-count (λ w. isOut sh w (x .page)) w ws e (elem-count w ws m)) }
 
-  page-unrefused : (ws : List ℕ) (x : Site) → every (λ w. isOut sh w (x .page)) ws ≡ true → isRefused (serve (onPage sh h s ws (some x)) g .answer) ≡ false
+  page-unrefused : (ws : List ℕ) (x : Site) → every (λ w. isOut sh w (x .page)) ws ≡ true → isRefused (serve (onPage sh lim h s ws (some x)) g .answer) ≡ false
   unfolding onPage
   page-unrefused ws x e = rw e
 
   together-page : (w : ℕ) (ws : List ℕ) → every (outHere sh s) (w ∷ ws) ≡ true → OneRun sh (w ∷ ws) → (o : Option Site) → SiteLaws sh s o → Tells (isOut sh w) s o → isSome o ≡ true
-      → isRefused (serve (onPage sh h s (w ∷ ws) o) g .answer) ≡ false
+      → isRefused (serve (onPage sh lim h s (w ∷ ws) o) g .answer) ≡ false
   together-page w ws out r none l t e = absurd (false≢true e)
   together-page w ws out r (some x) l t e =
       page-unrefused (w ∷ ws) x
@@ -105,7 +107,7 @@ module _ (sh : Shape) (ok : Sound sh) (s : Class) (good : GoodClass sh s) (once 
   first-laws [] = tt
   first-laws (w ∷ ws) = locate-law sh s good (isOut sh w)
 
-  first-unrefused : (ws : List ℕ) → isNil ws ≡ false → every (outHere sh s) ws ≡ true → OneRun sh ws → isRefused (serve (onPage sh h s ws (siteOfFirst sh s ws)) g .answer) ≡ false
+  first-unrefused : (ws : List ℕ) → isNil ws ≡ false → every (outHere sh s) ws ≡ true → OneRun sh ws → isRefused (serve (onPage sh lim h s ws (siteOfFirst sh s ws)) g .answer) ≡ false
   unfolding outHere
   first-unrefused [] e out r = absurd (false≢true (sym e))
   first-unrefused (w ∷ ws) e out r = together-page w ws out r (locate (isOut sh w) s) (locate-law sh s good (isOut sh w)) (locate-tells (isOut sh w) s) (and-left (isSome (locate (isOut sh w) s)) _ out)
@@ -118,7 +120,7 @@ module _ (sh : Shape) (ok : Sound sh) (s : Class) (good : GoodClass sh s) (once 
     single : distinct ws ≡ true
     together : OneRun sh ws
 
-  list-tests : (ws : List ℕ) → isRefused (serve (answer sh s (Calls.giveBack h ws)) g .answer) ≡ false → Tests ws
+  list-tests : (ws : List ℕ) → isRefused (serve (answer sh lim s (Calls.giveBack h ws)) g .answer) ≡ false → Tests ws
   unfolding answer releaseList
   list-tests ws u =
       let p7 = passed s 7 (isNil ws) _ g u in
@@ -134,21 +136,21 @@ module _ (sh : Shape) (ok : Sound sh) (s : Class) (good : GoodClass sh s) (once 
         together = page-together ws (siteOfFirst sh s ws) (first-laws ws) (p10 .1);
       }
 
-  tests-list : (ws : List ℕ) → Tests ws → isRefused (serve (answer sh s (Calls.giveBack h ws)) g .answer) ≡ false
+  tests-list : (ws : List ℕ) → Tests ws → isRefused (serve (answer sh lim s (Calls.giveBack h ws)) g .answer) ≡ false
   unfolding answer releaseList
   tests-list ws t = rw (t .listed, t .kinds, single-here sh s ws (t .out) (t .single), t .out) (first-unrefused ws (t .listed) (t .out) (t .together))
 
   -- one that fails the test of 15, or of 10, or passes both and fails that of 11
-  refused-fifteen : (ws : List ℕ) → isNil ws ≡ false → every (ofKind (sh .kind)) ws ≡ true → repeats sh s ws ≡ true → serve (answer sh s (Calls.giveBack h ws)) g .answer ≡ Calls.refused 15
+  refused-fifteen : (ws : List ℕ) → isNil ws ≡ false → every (ofKind (sh .kind)) ws ≡ true → repeats sh s ws ≡ true → serve (answer sh lim s (Calls.giveBack h ws)) g .answer ≡ Calls.refused 15
   unfolding answer releaseList
   refused-fifteen ws listed kinds t = rw (listed, kinds, t)
 
   refused-ten : (ws : List ℕ) → isNil ws ≡ false → every (ofKind (sh .kind)) ws ≡ true → repeats sh s ws ≡ false → every (outHere sh s) ws ≡ false
-      → serve (answer sh s (Calls.giveBack h ws)) g .answer ≡ Calls.refused 10
+      → serve (answer sh lim s (Calls.giveBack h ws)) g .answer ≡ Calls.refused 10
   unfolding answer releaseList
   refused-ten ws listed kinds u t = rw (listed, kinds, u, t)
 
-  page-eleven : (ws : List ℕ) (o : Option Site) → SiteLaws sh s o → isSome o ≡ true → (OneRun sh ws → ⊥) → serve (onPage sh h s ws o) g .answer ≡ Calls.refused 11
+  page-eleven : (ws : List ℕ) (o : Option Site) → SiteLaws sh s o → isSome o ≡ true → (OneRun sh ws → ⊥) → serve (onPage sh lim h s ws o) g .answer ≡ Calls.refused 11
   unfolding onPage
   page-eleven ws none l e r = absurd (false≢true e)
   page-eleven ws (some x) l e r =
@@ -160,7 +162,7 @@ module _ (sh : Shape) (ok : Sound sh) (s : Class) (good : GoodClass sh s) (once 
   first-found (w ∷ ws) e out = and-left (isSome (locate (isOut sh w) s)) _ out
 
   refused-eleven : (ws : List ℕ) → isNil ws ≡ false → every (ofKind (sh .kind)) ws ≡ true → every (outHere sh s) ws ≡ true → distinct ws ≡ true → (OneRun sh ws → ⊥)
-      → serve (answer sh s (Calls.giveBack h ws)) g .answer ≡ Calls.refused 11
+      → serve (answer sh lim s (Calls.giveBack h ws)) g .answer ≡ Calls.refused 11
   unfolding answer releaseList
   refused-eleven ws listed kinds out single r =
       rw (listed, kinds, single-here sh s ws out single, out) (page-eleven ws (siteOfFirst sh s ws) (first-laws ws) (first-found ws listed out) r)
@@ -172,126 +174,126 @@ word-kind sh ok q i low inside =
     let g : q * pageGranules + (sh .header + i * sh .block) < 2 ^ kindBits = omega (arith, mul-le-mul-right (sh .block) inside, ok .fits, ok .wide) in
     eq-eqb _ (sh .kind) (kind-block (sh .kind) g)
 
-module _ (n : ℕ) (small : n ≤ maxPages) (xs : List Call) (c : ℕ) where
+module _ (n : ℕ) (small : n ≤ maxPages) (rules : Rules) (xs : List Call) (c : ℕ) where
   abbrev class : Class
-  class = heapAfter n xs .classes c
+  class = heapAfter n rules xs .classes c
 
   abbrev lying : ℕ → Type 0
-  lying w = Lies (shapeOf c) (shape-sound c) class (good-class n small xs c) w
+  lying w = Lies (shapeOf c) (shape-sound c) class (good-class n small rules xs c) w
 
   out-kind : (w : ℕ) → lying w → ofKind (shapeOf c .kind) w ≡ true
   out-kind w y =
-      let s = lies-on (shapeOf c) (shape-sound c) class (good-class n small xs c) w y in
-      rw (s .word) (word-kind (shapeOf c) (shape-sound c) (y .site .page .first) (s .index) (low-site n small xs c (y .site) (y .law)) (s .inside))
+      let s = lies-on (shapeOf c) (shape-sound c) class (good-class n small rules xs c) w y in
+      rw (s .word) (word-kind (shapeOf c) (shape-sound c) (y .site .page .first) (s .index) (low-site n small rules xs c (y .site) (y .law)) (s .inside))
 
 -- ---- on the words
-module _ (n : ℕ) (b : List ℕ) (o : Opens n b) (xs : List Call) where
+module _ (n : ℕ) (rows b : List ℕ) (o : Opens n rows b) (xs : List Call) where
   abbrev small : n ≤ maxPages
-  small = room n b o .few-pages
+  small = room n rows b o .few-pages
 
   -- number 10's test, by the history
-  pub out-here : (c w : ℕ) → OutIn (told n b xs) c w → outHere (shapeOf c) (heapAfter n xs .classes c) w ≡ true
-  out-here c w p = outs n xs .out c w .1 (told-out n b o xs c w p)
+  pub out-here : (c w : ℕ) → OutIn (told n rows b xs) c w → outHere (shapeOf c) (heapAfter n (rulesOf rows) xs .classes c) w ≡ true
+  out-here c w p = outs n (rulesOf rows) xs .out c w .1 (told-out n rows b o xs c w p)
 
-  pub all-out : (c : ℕ) (ws : List ℕ) → every (outHere (shapeOf c) (heapAfter n xs .classes c)) ws ≡ true → distinct ws ≡ true → AllOut (told n b xs) c ws
+  pub all-out : (c : ℕ) (ws : List ℕ) → every (outHere (shapeOf c) (heapAfter n (rulesOf rows) xs .classes c)) ws ≡ true → distinct ws ≡ true → AllOut (told n rows b xs) c ws
   all-out c ws e u = record {
-    out = λ w m. out-told n b o xs c w (outs n xs .out c w .0 (every-count (outHere (shapeOf c) (heapAfter n xs .classes c)) w ws e (elem-count w ws m)));
+    out = λ w m. out-told n rows b o xs c w (outs n (rulesOf rows) xs .out c w .0 (every-count (outHere (shapeOf c) (heapAfter n (rulesOf rows) xs .classes c)) w ws e (elem-count w ws m)));
     once = u;
   }
 
-  pub out-all : (c : ℕ) (ws : List ℕ) → AllOut (told n b xs) c ws → every (outHere (shapeOf c) (heapAfter n xs .classes c)) ws ≡ true
-  out-all c ws p = every-elem (outHere (shapeOf c) (heapAfter n xs .classes c)) ws (λ w m. out-here c w (p .out w m))
+  pub out-all : (c : ℕ) (ws : List ℕ) → AllOut (told n rows b xs) c ws → every (outHere (shapeOf c) (heapAfter n (rulesOf rows) xs .classes c)) ws ≡ true
+  out-all c ws p = every-elem (outHere (shapeOf c) (heapAfter n (rulesOf rows) xs .classes c)) ws (λ w m. out-here c w (p .out w m))
 
   -- number 15's test, by the history
-  pub twice-repeats : (c : ℕ) (ws : List ℕ) → Twice (told n b xs) c ws → repeats (shapeOf c) (heapAfter n xs .classes c) ws ≡ true
+  pub twice-repeats : (c : ℕ) (ws : List ℕ) → Twice (told n rows b xs) c ws → repeats (shapeOf c) (heapAfter n (rulesOf rows) xs .classes c) ws ≡ true
   unfolding repeats
   twice-repeats c ws p =
-      let t = outHere (shapeOf c) (heapAfter n xs .classes c) in
+      let t = outHere (shapeOf c) (heapAfter n (rulesOf rows) xs .classes c) in
       let e = filter-keeps t (p .word) ws (out-here c (p .word) (p .out)) in
       by-cases (distinct (filter t ws)) (λ u. absurd (omega (arith, p .times, e, distinct-count (p .word) (filter t ws) u))) (λ u. rw u)
 
-  pub repeats-twice : (c : ℕ) (ws : List ℕ) → repeats (shapeOf c) (heapAfter n xs .classes c) ws ≡ true → Twice (told n b xs) c ws
+  pub repeats-twice : (c : ℕ) (ws : List ℕ) → repeats (shapeOf c) (heapAfter n (rulesOf rows) xs .classes c) ws ≡ true → Twice (told n rows b xs) c ws
   unfolding repeats
   repeats-twice c ws e =
-      let t = outHere (shapeOf c) (heapAfter n xs .classes c) in
+      let t = outHere (shapeOf c) (heapAfter n (rulesOf rows) xs .classes c) in
       let r = not-distinct (filter t ws) (not-true (distinct (filter t ws)) e) in
       let w = r .0 in
       record {
         word = w;
-        out = out-told n b o xs c w (outs n xs .out c w .0 (filter-passes t w ws (omega (arith, r .1))));
+        out = out-told n rows b o xs c w (outs n (rulesOf rows) xs .out c w .0 (filter-passes t w ws (omega (arith, r .1))));
         times = omega (arith, r .1, filter-le t w ws);
       }
 
   -- a list that 15 does not refuse, and whose blocks are not all out
-  pub not-all : (c : ℕ) (ws : List ℕ) → repeats (shapeOf c) (heapAfter n xs .classes c) ws ≡ false → (AllOut (told n b xs) c ws → ⊥) → every (outHere (shapeOf c) (heapAfter n xs .classes c)) ws ≡ false
+  pub not-all : (c : ℕ) (ws : List ℕ) → repeats (shapeOf c) (heapAfter n (rulesOf rows) xs .classes c) ws ≡ false → (AllOut (told n rows b xs) c ws → ⊥) → every (outHere (shapeOf c) (heapAfter n (rulesOf rows) xs .classes c)) ws ≡ false
   not-all c ws u r =
-      by-cases (every (outHere (shapeOf c) (heapAfter n xs .classes c)) ws) (λ t. absurd (r (all-out c ws t (once-here (shapeOf c) (heapAfter n xs .classes c) ws u t)))) (λ t. t)
+      by-cases (every (outHere (shapeOf c) (heapAfter n (rulesOf rows) xs .classes c)) ws) (λ t. absurd (r (all-out c ws t (once-here (shapeOf c) (heapAfter n (rulesOf rows) xs .classes c) ws u t)))) (λ t. t)
 
-  pub no-twice : (c : ℕ) (ws : List ℕ) → (Twice (told n b xs) c ws → ⊥) → repeats (shapeOf c) (heapAfter n xs .classes c) ws ≡ false
-  no-twice c ws r = by-cases (repeats (shapeOf c) (heapAfter n xs .classes c) ws) (λ t. absurd (r (repeats-twice c ws t))) (λ t. t)
+  pub no-twice : (c : ℕ) (ws : List ℕ) → (Twice (told n rows b xs) c ws → ⊥) → repeats (shapeOf c) (heapAfter n (rulesOf rows) xs .classes c) ws ≡ false
+  no-twice c ws r = by-cases (repeats (shapeOf c) (heapAfter n (rulesOf rows) xs .classes c) ws) (λ t. absurd (r (repeats-twice c ws t))) (λ t. t)
 
   module _ (c : ℕ) (x : Call) (h : ℕ) (ws : List ℕ) (d : names x ≡ some (record { class = c; request = Calls.giveBack h ws })) where
     abbrev gives : Option ℕ
-    gives = offer n h (heapAfter n xs .arena) (answer (shapeOf c) (heapAfter n xs .classes c) (Calls.giveBack h ws)) .run
+    gives = offer n h (heapAfter n (rulesOf rows) xs .arena) (answer (shapeOf c) (heapAfter n (rulesOf rows) xs .rules c) (heapAfter n (rulesOf rows) xs .classes c) (Calls.giveBack h ws)) .run
 
     abbrev Passes : Type 0
-    Passes = Tests (shapeOf c) (shape-sound c) (heapAfter n xs .classes c) (good-class n small xs c) (once-class n small xs c) (one-first c) h gives ws
+    Passes = Tests (shapeOf c) (shape-sound c) (heapAfter n (rulesOf rows) xs .rules c) (heapAfter n (rulesOf rows) xs .classes c) (good-class n small (rulesOf rows) xs c) (once-class n small (rulesOf rows) xs c) (one-first c) h gives ws
 
     module _ (host : badHost h ≡ false) where
-      passes : next n b xs x .code ≡ 0 → Passes
+      passes : next n rows b xs x .code ≡ 0 → Passes
       unfolding classCall interact finish
-      passes z = list-tests (shapeOf c) (shape-sound c) (heapAfter n xs .classes c) (good-class n small xs c) (once-class n small xs c) (one-first c) h gives ws (next-unrefused n b o xs x _ d host z)
+      passes z = list-tests (shapeOf c) (shape-sound c) (heapAfter n (rulesOf rows) xs .rules c) (heapAfter n (rulesOf rows) xs .classes c) (good-class n small (rulesOf rows) xs c) (once-class n small (rulesOf rows) xs c) (one-first c) h gives ws (next-unrefused n rows b o xs x _ d host z)
 
-      returned : Passes → next n b xs x .code ≡ 0
+      returned : Passes → next n rows b xs x .code ≡ 0
       unfolding classCall interact finish
-      returned t = next-zero n b o xs x _ d host (tests-list (shapeOf c) (shape-sound c) (heapAfter n xs .classes c) (good-class n small xs c) (once-class n small xs c) (one-first c) h gives ws t)
+      returned t = next-zero n rows b o xs x _ d host (tests-list (shapeOf c) (shape-sound c) (heapAfter n (rulesOf rows) xs .rules c) (heapAfter n (rulesOf rows) xs .classes c) (good-class n small (rulesOf rows) xs c) (once-class n small (rulesOf rows) xs c) (one-first c) h gives ws t)
 
-    pub list-returns : (next n b xs x .code ≡ 0) ↔ ListOut (told n b xs) c h ws
+    pub list-returns : (next n rows b xs x .code ≡ 0) ↔ ListOut (told n rows b xs) c h ws
     list-returns = (
-      λ z. let host = next-host n b o xs x _ d z in
+      λ z. let host = next-host n rows b o xs x _ d z in
           let t = passes host z in
           record { host = ltb-false hostMax h host; listed = t .listed; kinds = t .kinds; out = all-out c ws (t .out) (t .single); together = t .together },
       λ p. returned (le-ltb hostMax h (p .host)) (record { listed = p .listed; kinds = p .kinds; out = out-all c ws (p .out); single = p .out .once; together = p .together }),
     )
 
   module _ (c : ℕ) (x : Call) (h : ℕ) (ws : List ℕ) (low : h ≤ hostMax) (d : names x ≡ some (record { class = c; request = Calls.giveBack h ws })) where
-    abbrev class-answer : next n b xs x .answer ≡ classCall n (heapAfter n xs) c (Calls.giveBack h ws) .answer
-    class-answer = next-answer n b o xs x _ d (le-ltb hostMax h low)
+    abbrev class-answer : next n rows b xs x .answer ≡ classCall n (heapAfter n (rulesOf rows) xs) c (Calls.giveBack h ws) .answer
+    class-answer = next-answer n rows b o xs x _ d (le-ltb hostMax h low)
 
     module _ (listed : isNil ws ≡ false) (kinds : every (ofKind (shapeOf c .kind)) ws ≡ true) where
-      pub repeated : Twice (told n b xs) c ws → next n b xs x .answer ≡ Calls.refused 15
+      pub repeated : Twice (told n rows b xs) c ws → next n rows b xs x .answer ≡ Calls.refused 15
       unfolding classCall interact finish
       repeated p =
           class-answer
-          ∙ refused-fifteen (shapeOf c) (shape-sound c) (heapAfter n xs .classes c) (good-class n small xs c) (once-class n small xs c) (one-first c) h (gives c x h ws d) ws listed kinds (twice-repeats c ws p)
+          ∙ refused-fifteen (shapeOf c) (shape-sound c) (heapAfter n (rulesOf rows) xs .rules c) (heapAfter n (rulesOf rows) xs .classes c) (good-class n small (rulesOf rows) xs c) (once-class n small (rulesOf rows) xs c) (one-first c) h (gives c x h ws d) ws listed kinds (twice-repeats c ws p)
 
-      pub not-out : (Twice (told n b xs) c ws → ⊥) → (AllOut (told n b xs) c ws → ⊥) → next n b xs x .answer ≡ Calls.refused 10
+      pub not-out : (Twice (told n rows b xs) c ws → ⊥) → (AllOut (told n rows b xs) c ws → ⊥) → next n rows b xs x .answer ≡ Calls.refused 10
       unfolding classCall interact finish
       not-out p r =
           let u = no-twice c ws p in
           class-answer
-          ∙ refused-ten (shapeOf c) (shape-sound c) (heapAfter n xs .classes c) (good-class n small xs c) (once-class n small xs c) (one-first c) h (gives c x h ws d) ws listed kinds u (not-all c ws u r)
+          ∙ refused-ten (shapeOf c) (shape-sound c) (heapAfter n (rulesOf rows) xs .rules c) (heapAfter n (rulesOf rows) xs .classes c) (good-class n small (rulesOf rows) xs c) (once-class n small (rulesOf rows) xs c) (one-first c) h (gives c x h ws d) ws listed kinds u (not-all c ws u r)
 
-      pub not-together : AllOut (told n b xs) c ws → (OneRun (shapeOf c) ws → ⊥) → next n b xs x .answer ≡ Calls.refused 11
+      pub not-together : AllOut (told n rows b xs) c ws → (OneRun (shapeOf c) ws → ⊥) → next n rows b xs x .answer ≡ Calls.refused 11
       unfolding classCall interact finish
       not-together p r =
           class-answer
-          ∙ refused-eleven (shapeOf c) (shape-sound c) (heapAfter n xs .classes c) (good-class n small xs c) (once-class n small xs c) (one-first c) h (gives c x h ws d) ws listed kinds (out-all c ws p) (p .once) r
+          ∙ refused-eleven (shapeOf c) (shape-sound c) (heapAfter n (rulesOf rows) xs .rules c) (heapAfter n (rulesOf rows) xs .classes c) (good-class n small (rulesOf rows) xs c) (once-class n small (rulesOf rows) xs c) (one-first c) h (gives c x h ws d) ws listed kinds (out-all c ws p) (p .once) r
 
   -- a block alone
-  alone-out : (c w h : ℕ) → h ≤ hostMax → OutIn (told n b xs) c w → ListOut (told n b xs) c h (w ∷ [])
+  alone-out : (c w h : ℕ) → h ≤ hostMax → OutIn (told n rows b xs) c w → ListOut (told n rows b xs) c h (w ∷ [])
   alone-out c w h low p =
-      let y = lies (shapeOf c) (shape-sound c) (heapAfter n xs .classes c) (good-class n small xs c) w (out-here c w p) in
+      let y = lies (shapeOf c) (shape-sound c) (heapAfter n (rulesOf rows) xs .classes c) (good-class n small (rulesOf rows) xs c) w (out-here c w p) in
       record {
         host = low;
         listed = refl;
-        kinds = rw (out-kind n small xs c w y);
+        kinds = rw (out-kind n small (rulesOf rows) xs c w y);
         out = record { out = λ v m. rw (elem-only w v m) p; once = refl };
-        together = record { first = y .site .page .first; blocks = λ v m. rw (elem-only w v m) (lies-on (shapeOf c) (shape-sound c) (heapAfter n xs .classes c) (good-class n small xs c) w y) };
+        together = record { first = y .site .page .first; blocks = λ v m. rw (elem-only w v m) (lies-on (shapeOf c) (shape-sound c) (heapAfter n (rulesOf rows) xs .classes c) (good-class n small (rulesOf rows) xs c) w y) };
       }
 
   pub word-returns : (c w : ℕ) (x : Call) (h : ℕ) → h ≤ hostMax → names x ≡ some (record { class = c; request = Calls.giveBack h (w ∷ []) })
-      → (next n b xs x .code ≡ 0) ↔ OutIn (told n b xs) c w
+      → (next n rows b xs x .code ≡ 0) ↔ OutIn (told n rows b xs) c w
   word-returns c w x h low d = (
     λ z. list-returns c x h (w ∷ []) d .0 z .out .out w (elem-first w []),
     λ p. list-returns c x h (w ∷ []) d .1 (alone-out c w h low p),

@@ -12,13 +12,14 @@ use Rattle.words.specs.Word.{countOf, pageOf}
 use Rattle.classes.specs.declared.Shape.{Shape}
 use Rattle.classes.specs.Shape.{classCount}
 use Rattle.fields.specs.Field.{arena, class, page, size, frontier, holes, holePages, held, pages, partial, empty, emptyCount, cold, coldCount, free, carved, listed, get}
+use Rattle.rules.specs.declared.Limits.{Limits}
 use Rattle.model.specs.Spot.{spotOf, isEmpty, isCold, isArena}
 use Rattle.arena.specs.Load.{loadHoles, loadArena}
 use Rattle.arena.specs.Fair.{recordFair, holeEndsFair, holesEndFair, holeFair, holesFair, commitFair, giveFair, growGives, growFair, countsFair, allCountsFair, reportFair}
 use Rattle.pages.specs.Runs.{ofRun, whole}
 use Rattle.pages.specs.Stack.{tops, hasMore, indexOf}
 use Rattle.pages.specs.Links.{top, stored}
-use Rattle.pages.specs.Fair.{headerFair}
+use Rattle.pages.specs.Fair.{headerFair, limitsAt}
 use Rattle.pages.specs.declared.Park.{Park}
 use Rattle.pages.specs.declared.Park.the-variants.{Empty, Cold}
 use Rattle.calls.specs.Take.{pageReady, sound, walk, parkFair}
@@ -250,11 +251,11 @@ module _ (b b′ : List ℕ) where
 
       row-same : Same (rowReads c) → rowFair b c ≡ rowFair b′ c
       unfolding rowFair rowReads
-      row-same h = rw (h .0, h .1 .0, h .1 .1 .0, h .1 .1 .1 .0, h .1 .1 .1 .1 .0, low)
+      row-same h = rw (h .0, h .1 .0, h .1 .1 .0, h .1 .1 .1 .0, h .1 .1 .1 .1 .0, h .1 .1 .1 .1 .1 .0, h .1 .1 .1 .1 .1 .1 .0, low)
 
-      row-words : Same (rowReads c) → (get b (class emptyCount c) ≡ get b′ (class emptyCount c)) × (get b (class coldCount c) ≡ get b′ (class coldCount c))
+      row-words : Same (rowReads c) → (get b (class emptyCount c) ≡ get b′ (class emptyCount c)) × (get b (class coldCount c) ≡ get b′ (class coldCount c)) × (limitsAt b c ≡ limitsAt b′ c)
       unfolding rowReads
-      row-words h = (h .1 .1 .0, h .1 .1 .1 .1 .0)
+      row-words h = (h .1 .1 .0, h .1 .1 .1 .1 .0, rw (h .1 .1 .1 .1 .1 .0, h .1 .1 .1 .1 .1 .1 .0))
 
       given-same : (t : Bool) (m : ℕ) → Same (cond t (giveReads b m) []) → cond t (giveFair n b m) true ≡ cond t (giveFair n b′ m) true
       given-same true m h = give-same m h
@@ -270,7 +271,7 @@ module _ (b b′ : List ℕ) where
           let r = right ps (rowReads c ++ gs) (h .1) in
           let w = back-words m q p in
           let e = row-words (left (rowReads c) gs r) in
-          rw (back-same m q p, row-same (left (rowReads c) gs r), given-same t (sh .pages) (right (rowReads c) gs r), low, w .0, w .1, e .0, e .1)
+          rw (back-same m q p, row-same (left (rowReads c) gs r), given-same t (sh .pages) (right (rowReads c) gs r), low, w .0, w .1, e .0, e .1, e .2)
 
       -- ---- releases of chunks
       backs-same : (gs : List ℕ)
@@ -282,15 +283,15 @@ module _ (b b′ : List ℕ) where
           let ps = backReads b sh (countOf g) (pageOf g) in
           rw (back-same (countOf g) (pageOf g) (left ps (backsReads b sh gs) h), backs-same gs (right ps (backsReads b sh gs) h))
 
-      runs-same : (gs : List ℕ) (e k : ℕ) → Same (backsReads b sh gs) → runsGiven b sh gs e k ≡ runsGiven b′ sh gs e k
+      runs-same : (lim : Limits) (gs : List ℕ) (e k : ℕ) → Same (backsReads b sh gs) → runsGiven b sh lim gs e k ≡ runsGiven b′ sh lim gs e k
       unfolding runsGiven backsReads
-      runs-same [] e k h = refl
-      runs-same (g ∷ gs) e k h =
+      runs-same lim [] e k h = refl
+      runs-same lim (g ∷ gs) e k h =
           let ps = backReads b sh (countOf g) (pageOf g) in
           let w = back-words (countOf g) (pageOf g) (left ps (backsReads b sh gs) h) in
           let r = right ps (backsReads b sh gs) h in
-          let s = spotOf sh e k in
-          rw (w .0, w .1, runs-same gs (e + digit (isEmpty s)) (k + digit (isCold s)) r, runs-same gs e k r)
+          let s = spotOf sh lim e k in
+          rw (w .0, w .1, runs-same lim gs (e + digit (isEmpty s)) (k + digit (isCold s)) r, runs-same lim gs e k r)
 
       none-same : (t : Bool) (m : ℕ) → Same (cond t [] (giveReads b m)) → cond t true (giveFair n b m) ≡ cond t true (giveFair n b′ m)
       none-same true m h = refl
@@ -309,10 +310,11 @@ module _ (b b′ : List ℕ) where
             backs-same gs p,
             row-same (left (rowReads c) ms r),
             none-same (eqb m 0) m (right (rowReads c) ms r),
-            runs-same gs (get b (class emptyCount c)) (get b (class coldCount c)) p,
+            runs-same (limitsAt b c) gs (get b (class emptyCount c)) (get b (class coldCount c)) p,
             low,
             e .0,
             e .1,
+            e .2,
           )
 
 -- ---- with LENGTH as each book has it

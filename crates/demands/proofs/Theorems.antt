@@ -4,6 +4,7 @@ use mathlib.Core.List.{List, _∷_, _++_}
 use mathlib.Core.Logic.{_↔_}
 use mathlib.Core.Path.{_≡_, sym, subst}
 use Rattle.facts.specs.Lists.{All}
+use Rattle.rules.specs.Rules.{rulesOf}
 use Rattle.fields.specs.Ranges.{maxPages}
 use Rattle.fields.specs.Outcome.{Did}
 use Rattle.model.specs.declared.Hole.{Hole}
@@ -11,7 +12,7 @@ use Rattle.model.specs.Calls.{Call, Answer}
 use Rattle.model.specs.Heap.{Heap}
 use Rattle.model.specs.History.{answers, events, heapAfter, callsOf, answersOf, runsOf}
 use Rattle.model.specs.Entries.{Entry}
-use Rattle.model.specs.Examples.{history, onNewHeap}
+use Rattle.model.specs.Examples.{history, onRuled}
 use Rattle.model.proofs.Theorems as Model
 use Rattle.model.proofs.Alone as Alone
 use Rattle.arena.specs.Load.{loadArena}
@@ -22,7 +23,7 @@ use Rattle.refinement.specs.Run.{callReply, repliesFrom, answersIn}
 use Rattle.demands.specs.Call.{call}
 use Rattle.demands.specs.Run.{Opens, Room, run, bookAfter, next, told}
 use Rattle.demands.specs.Contracts.{Shows, InTurn}
-use Rattle.demands.specs.Start.{Start, pages, lent, Starts, calls, replies}
+use Rattle.demands.specs.Start.{Start, pages, ruleRows, rules, lent, Starts, calls, replies}
 use Rattle.demands.specs.Demands.{Demand2At, Demand2, Demand3, TableBytes}
 use Rattle.demands.proofs.Calls as Calls
 use Rattle.demands.proofs.Contracts as Contracts
@@ -41,19 +42,20 @@ use Rattle.demands.proofs.Starts.{as-opening, told-is}
 pub shows-call : {b : List ℕ} {x : Call} {w : Reply} → Shows b x w → w ≡ call b x
 shows-call = Contracts.shows-call
 
-pub in-turn-run : (n : ℕ) (b b′ : List ℕ) (xs : List Call) (ws : List Reply) → Did 0 b′ (openOn b n) → InTurn b′ xs ws → Opens n b × (ws ≡ run n b xs)
+pub in-turn-run : (n : ℕ) (rows b b′ : List ℕ) (xs : List Call) (ws : List Reply) → Did 0 b′ (openOn b n rows) → InTurn b′ xs ws → Opens n rows b × (ws ≡ run n rows b xs)
 in-turn-run = Contracts.in-turn-run
 
--- an opening is refused by numbers 1 and 2 alone: every book that is long enough can be opened, whatever it holds
-pub opens-exactly : (n : ℕ) (b : List ℕ) → Opens n b ↔ Room n b
-opens-exactly n b = (Calls.room n b, Calls.opens n b)
+-- an opening is refused by numbers 1, 2, 19, 18 and 17 alone: every book that is long enough can be opened, whatever it holds, with rows that
+-- cover the classes
+pub opens-exactly : (n : ℕ) (rows b : List ℕ) → Opens n rows b ↔ Room n rows b
+opens-exactly n rows b = (Calls.room n rows b, Calls.opens n rows b)
 
 -- a refused opening may stand anywhere: what follows it is answered as without it
-pub refused-opening-stays : (n : ℕ) (b : List ℕ) → (Opens n b → ⊥) → (xs : List Call) → repliesFrom call (openOn b n .book) xs ≡ repliesFrom call b xs
-refused-opening-stays n b r xs = rw (Calls.refused-book n b r)
+pub refused-opening-stays : (n : ℕ) (rows b : List ℕ) → (Opens n rows b → ⊥) → (xs : List Call) → repliesFrom call (openOn b n rows .book) xs ≡ repliesFrom call b xs
+refused-opening-stays n rows b r xs = rw (Calls.refused-book n rows b r)
 
 -- every call of a history is a call on the book that the calls before it left
-pub run-calls : (n : ℕ) (b : List ℕ) (xs : List Call) (x : Call) (ys : List Call) → run n b (xs ++ x ∷ ys) ≡ run n b xs ++ (next n b xs x ∷ repliesFrom call (next n b xs x .book) ys)
+pub run-calls : (n : ℕ) (rows b : List ℕ) (xs : List Call) (x : Call) (ys : List Call) → run n rows b (xs ++ x ∷ ys) ≡ run n rows b xs ++ (next n rows b xs x ∷ repliesFrom call (next n rows b xs x .book) ys)
 run-calls = Histories.run-calls
 
 -- on a book that stands for a heap, a call is the refinement's
@@ -61,53 +63,53 @@ pub call-is : (n : ℕ) (b : List ℕ) → 1 ≤ n → n ≤ maxPages → (H : H
 call-is = Calls.call-is
 
 -- the answers are the model's; number 13 is never among the codes; the book stands for the model's heap
-pub run-answers : (n : ℕ) (b : List ℕ) → Opens n b → (xs : List Call) → answersIn (run n b xs) ≡ answers n xs
+pub run-answers : (n : ℕ) (rows b : List ℕ) → Opens n rows b → (xs : List Call) → answersIn (run n rows b xs) ≡ answers n (rulesOf rows) xs
 run-answers = Histories.run-answers
 
-pub run-fair : (n : ℕ) (b : List ℕ) → Opens n b → (xs : List Call) → All (λ (r : Reply). r .code ≡ 13 → ⊥) (run n b xs)
+pub run-fair : (n : ℕ) (rows b : List ℕ) → Opens n rows b → (xs : List Call) → All (λ (r : Reply). r .code ≡ 13 → ⊥) (run n rows b xs)
 run-fair = Histories.run-fair
 
-pub run-represents : (n : ℕ) (b : List ℕ) → Opens n b → (xs : List Call) → Represents n (bookAfter n b xs) (heapAfter n xs)
+pub run-represents : (n : ℕ) (rows b : List ℕ) → Opens n rows b → (xs : List Call) → Represents n (bookAfter n rows b xs) (heapAfter n (rulesOf rows) xs)
 run-represents = Histories.run-represents
 
 -- an example of document 01 that is a history finds on the words what it finds on the model (`examples-hold`, crate model): each call's
--- answer, and the holes stored after the last
-pub examples-run : (b : List ℕ) → Opens 64 b → (xs : List Call) (zs : List Answer) (hs : List Hole)
-    → history (answersIn (run 64 b xs)) (loadArena (bookAfter 64 b xs) .store .holes) ≡ onNewHeap xs zs hs .found
-unfolding onNewHeap
-examples-run b o xs zs hs = rw (run-answers 64 b o xs, run-represents 64 b o xs .arena .loads)
+-- answer, and the holes stored after the last; with no rows the limits are document 01's (`plain-rules`, crate rules)
+pub examples-run : (rows b : List ℕ) → Opens 64 rows b → (xs : List Call) (zs : List Answer) (hs : List Hole)
+    → history (answersIn (run 64 rows b xs)) (loadArena (bookAfter 64 rows b xs) .store .holes) ≡ onRuled (rulesOf rows) xs zs hs .found
+unfolding onRuled
+examples-run rows b o xs zs hs = rw (run-answers 64 rows b o xs, run-represents 64 rows b o xs .arena .loads)
 
 -- after an opening
-at-opening : (n : ℕ) (b : List ℕ) → Opens n b → (xs : List Call) → Demand2At n (bookAfter n b xs) xs (run n b xs)
-at-opening n b o xs = record {
-  rules = run-answers n b o xs;
-  arena = run-represents n b o xs .arena .loads;
-  commits = commit-fits n b o xs;
-  runs = run-fits n b o xs;
-  takes = take-yields n b o xs;
-  returns = word-returns n b o xs;
-  returnsList = list-returns n b o xs;
-  returnsChunks = chunks-return n b o xs;
-  repeated = repeated n b o xs;
-  notOut = not-out n b o xs;
-  notTogether = not-together n b o xs;
-  repeatedChunks = chunks-repeated n b o xs;
-  notOutChunks = chunks-not-out n b o xs;
-  releases = held-releases n b o xs;
-  unheld = unheld-refused n b o xs;
-  holeTotal = holes-counted n b o xs;
-  noTwoTouch = none-touch n b o xs;
-  gives = run-given n b o xs;
-  givesBack = commit-given n b o xs;
-  givesGrowth = growth-given n b o xs;
-  givesOfClass = class-given n b o xs;
-  grows = held-grows n b o xs;
-  unheldGrowth = unheld-stays n b o xs;
-  growths = growth-fits n b o xs;
-  newRuns = commit-unused n b o xs;
-  newPages = growth-unused n b o xs;
-  newOfClass = class-unused n b o xs;
-  apart = told-iso n b o xs (Model.iso-disjoint n (Calls.room n b o .few-pages) xs);
+at-opening : (n : ℕ) (rows b : List ℕ) → Opens n rows b → (xs : List Call) → Demand2At n (rulesOf rows) (bookAfter n rows b xs) xs (run n rows b xs)
+at-opening n rows b o xs = record {
+  rules = run-answers n rows b o xs;
+  arena = run-represents n rows b o xs .arena .loads;
+  commits = commit-fits n rows b o xs;
+  runs = run-fits n rows b o xs;
+  takes = take-yields n rows b o xs;
+  returns = word-returns n rows b o xs;
+  returnsList = list-returns n rows b o xs;
+  returnsChunks = chunks-return n rows b o xs;
+  repeated = repeated n rows b o xs;
+  notOut = not-out n rows b o xs;
+  notTogether = not-together n rows b o xs;
+  repeatedChunks = chunks-repeated n rows b o xs;
+  notOutChunks = chunks-not-out n rows b o xs;
+  releases = held-releases n rows b o xs;
+  unheld = unheld-refused n rows b o xs;
+  holeTotal = holes-counted n rows b o xs;
+  noTwoTouch = none-touch n rows b o xs;
+  gives = run-given n rows b o xs;
+  givesBack = commit-given n rows b o xs;
+  givesGrowth = growth-given n rows b o xs;
+  givesOfClass = class-given n rows b o xs;
+  grows = held-grows n rows b o xs;
+  unheldGrowth = unheld-stays n rows b o xs;
+  growths = growth-fits n rows b o xs;
+  newRuns = commit-unused n rows b o xs;
+  newPages = growth-unused n rows b o xs;
+  newOfClass = class-unused n rows b o xs;
+  apart = told-iso n rows b o xs (Model.iso-disjoint n (Calls.room n rows b o .few-pages) (rulesOf rows) xs);
 }
 
 -- after a trace it is the same, with what the trace did in front
@@ -115,29 +117,29 @@ pub demand-2 : (s : Start) → Starts s → (xs : List Call) → Demand2 s xs
 demand-2 s o xs =
     let e = as-opening s o xs in
     let ys = calls s xs in
-    subst (λ (d : List ℕ). Demand2At (pages s) d ys (replies s xs)) (sym (e .book))
-    (subst (λ (rs : List Reply). Demand2At (pages s) (bookAfter (pages s) (lent s) ys) ys rs) (sym (e .answers)) (at-opening (pages s) (lent s) o ys))
+    subst (λ (d : List ℕ). Demand2At (pages s) (rules s) d ys (replies s xs)) (sym (e .book))
+    (subst (λ (rs : List Reply). Demand2At (pages s) (rules s) (bookAfter (pages s) (ruleRows s) (lent s) ys) ys rs) (sym (e .answers)) (at-opening (pages s) (ruleRows s) (lent s) o ys))
 
 -- the bytes of an entry, of `disjoint`, `apart` and `Unused`, are its class's size in document 01's tables
 pub block-bytes : (e : Entry) → TableBytes e
 block-bytes = Sizes.block-bytes
 
 -- a class's answers are the model's
-both : (n₁ n₂ : ℕ) (b₁ b₂ : List ℕ) → Opens n₁ b₁ → Opens n₂ b₂ → (c : ℕ) (xs ys : List Call)
-    → (answersOf c (events n₁ xs) ≡ answersOf c (events n₂ ys)) ↔ (runsOf c (events n₁ xs) ≡ runsOf c (events n₂ ys))
-    → (answersOf c (told n₁ b₁ xs) ≡ answersOf c (told n₂ b₂ ys)) ↔ (runsOf c (events n₁ xs) ≡ runsOf c (events n₂ ys))
-both n₁ n₂ b₁ b₂ o₁ o₂ c xs ys f = rw (told-answers n₁ b₁ o₁ c xs, told-answers n₂ b₂ o₂ c ys) f
+both : (n₁ n₂ : ℕ) (r₁ r₂ b₁ b₂ : List ℕ) → Opens n₁ r₁ b₁ → Opens n₂ r₂ b₂ → (c : ℕ) (xs ys : List Call)
+    → (answersOf c (events n₁ (rulesOf r₁) xs) ≡ answersOf c (events n₂ (rulesOf r₂) ys)) ↔ (runsOf c (events n₁ (rulesOf r₁) xs) ≡ runsOf c (events n₂ (rulesOf r₂) ys))
+    → (answersOf c (told n₁ r₁ b₁ xs) ≡ answersOf c (told n₂ r₂ b₂ ys)) ↔ (runsOf c (events n₁ (rulesOf r₁) xs) ≡ runsOf c (events n₂ (rulesOf r₂) ys))
+both n₁ n₂ r₁ r₂ b₁ b₂ o₁ o₂ c xs ys f = rw (told-answers n₁ r₁ b₁ o₁ c xs, told-answers n₂ r₂ b₂ o₂ c ys) f
 
 -- after an opening
-alone-at : (n₁ n₂ : ℕ) (b₁ b₂ : List ℕ) → Opens n₁ b₁ → Opens n₂ b₂ → (c : ℕ) (xs ys : List Call) → callsOf c xs ≡ callsOf c ys
-    → (answersOf c (told n₁ b₁ xs) ≡ answersOf c (told n₂ b₂ ys)) ↔ (runsOf c (events n₁ xs) ≡ runsOf c (events n₂ ys))
-alone-at n₁ n₂ b₁ b₂ o₁ o₂ c xs ys e = both n₁ n₂ b₁ b₂ o₁ o₂ c xs ys (Alone.alone n₁ n₂ c xs ys e)
+alone-at : (n₁ n₂ : ℕ) (r₁ r₂ b₁ b₂ : List ℕ) → Opens n₁ r₁ b₁ → Opens n₂ r₂ b₂ → (c : ℕ) (xs ys : List Call) → rulesOf r₁ c ≡ rulesOf r₂ c → callsOf c xs ≡ callsOf c ys
+    → (answersOf c (told n₁ r₁ b₁ xs) ≡ answersOf c (told n₂ r₂ b₂ ys)) ↔ (runsOf c (events n₁ (rulesOf r₁) xs) ≡ runsOf c (events n₂ (rulesOf r₂) ys))
+alone-at n₁ n₂ r₁ r₂ b₁ b₂ o₁ o₂ c xs ys lim e = both n₁ n₂ r₁ r₂ b₁ b₂ o₁ o₂ c xs ys (Alone.alone n₁ n₂ (rulesOf r₁) (rulesOf r₂) c xs ys lim e)
 
 pub demand-3 : Demand3
 demand-3 = record {
-  alone = λ s₁ s₂ o₁ o₂ c xs ys e.
-      rw (told-is s₁ o₁ xs, told-is s₂ o₂ ys) (alone-at (pages s₁) (pages s₂) (lent s₁) (lent s₂) o₁ o₂ c (calls s₁ xs) (calls s₂ ys) e);
+  alone = λ s₁ s₂ o₁ o₂ c lim xs ys e.
+      rw (told-is s₁ o₁ xs, told-is s₂ o₂ ys) (alone-at (pages s₁) (pages s₂) (ruleRows s₁) (ruleRows s₂) (lent s₁) (lent s₂) o₁ o₂ c (calls s₁ xs) (calls s₂ ys) lim e);
   disjoint = λ s o xs.
       let n = pages s in
-      rw (told-is s o xs) (told-disjoint n (lent s) o (calls s xs) (Model.demand-3 n (Calls.room n (lent s) o .few-pages) .disjoint (calls s xs)));
+      rw (told-is s o xs) (told-disjoint n (ruleRows s) (lent s) o (calls s xs) (Model.demand-3 n (Calls.room n (ruleRows s) (lent s) o .few-pages) .disjoint (rules s) (calls s xs)));
 }

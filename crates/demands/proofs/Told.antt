@@ -12,6 +12,7 @@ use mathlib.Core.Path.{_≡_, refl, sym, ap, ap₂, _∙_}
 use Rattle.facts.specs.Lists.{every}
 use Rattle.facts.proofs.Bools.{by-cases}
 use Rattle.classes.specs.Sizes.{pageBytes}
+use Rattle.rules.specs.Rules.{rulesOf}
 use Rattle.model.specs.Calls.{Call, Answer, names}
 use Rattle.model.specs.Heap.{Heap, step, newHeap}
 use Rattle.model.specs.History.{Event, eventsFrom, events, answersOf, isOf}
@@ -32,8 +33,8 @@ answered-is n H (x ∷ xs) [] e = cc
 answered-is n H (x ∷ xs) (r ∷ rs) e =
     ap₂ (λ (a : Answer) (vs : List Event). record { call = x; answer = a; run = none } ∷ vs) (head-eq-of-cons-eq e) (answered-is n (step n H x .heap) xs rs (tail-eq-of-cons-eq e))
 
-pub told-is : (n : ℕ) (b : List ℕ) → Opens n b → (xs : List Call) → told n b xs ≡ bare (events n xs)
-told-is n b o xs = answered-is n newHeap xs (run n b xs) (run-answers n b o xs)
+pub told-is : (n : ℕ) (rows b : List ℕ) → Opens n rows b → (xs : List Call) → told n rows b xs ≡ bare (events n (rulesOf rows) xs)
+told-is n rows b o xs = answered-is n (newHeap (rulesOf rows)) xs (run n rows b xs) (run-answers n rows b o xs)
 
 -- ---- a class's answers
 bare-answers : (c : ℕ) (vs : List Event) → answersOf c (bare vs) ≡ answersOf c vs
@@ -41,8 +42,8 @@ bare-answers c [] = refl
 bare-answers c (v ∷ vs) =
     by-cases (isOf c (names (v .call))) (λ e. rw e (ap (λ (ys : List Answer). v .answer ∷ ys) (bare-answers c vs))) (λ e. rw e (bare-answers c vs))
 
-pub told-answers : (n : ℕ) (b : List ℕ) → Opens n b → (c : ℕ) (xs : List Call) → answersOf c (told n b xs) ≡ answersOf c (events n xs)
-told-answers n b o c xs = ap (answersOf c) (told-is n b o xs) ∙ bare-answers c (events n xs)
+pub told-answers : (n : ℕ) (rows b : List ℕ) → Opens n rows b → (c : ℕ) (xs : List Call) → answersOf c (told n rows b xs) ≡ answersOf c (events n (rulesOf rows) xs)
+told-answers n rows b o c xs = ap (answersOf c) (told-is n rows b o xs) ∙ bare-answers c (events n (rulesOf rows) xs)
 
 -- ---- entries and holds
 bare-kept : (e : Entry) (vs : List Event)
@@ -76,21 +77,21 @@ bare-iso n vs d = record {
   noCommon = λ e e′ l l′. d .noCommon e e′ (bare-live 0 vs e l) (bare-live 0 vs e′ l′);
 }
 
-module _ (n : ℕ) (b : List ℕ) (o : Opens n b) (xs : List Call) where
-  pub told-live : (e : Entry) → Live 0 (told n b xs) e → Live 0 (events n xs) e
-  told-live e l = bare-live 0 (events n xs) e (rw (told-is n b o xs) at l)
+module _ (n : ℕ) (rows b : List ℕ) (o : Opens n rows b) (xs : List Call) where
+  pub told-live : (e : Entry) → Live 0 (told n rows b xs) e → Live 0 (events n (rulesOf rows) xs) e
+  told-live e l = bare-live 0 (events n (rulesOf rows) xs) e (rw (told-is n rows b o xs) at l)
 
-  pub told-out : (c w : ℕ) → OutIn (told n b xs) c w → OutIn (events n xs) c w
+  pub told-out : (c w : ℕ) → OutIn (told n rows b xs) c w → OutIn (events n (rulesOf rows) xs) c w
   told-out c w e = record { entry = e .entry; live = told-live (e .entry) (e .live); class = e .class; word = e .word }
 
-  pub out-told : (c w : ℕ) → OutIn (events n xs) c w → OutIn (told n b xs) c w
-  out-told c w e = rw (told-is n b o xs) (record { entry = e .entry; live = live-bare 0 (events n xs) (e .entry) (e .live); class = e .class; word = e .word })
+  pub out-told : (c w : ℕ) → OutIn (events n (rulesOf rows) xs) c w → OutIn (told n rows b xs) c w
+  out-told c w e = rw (told-is n rows b o xs) (record { entry = e .entry; live = live-bare 0 (events n (rulesOf rows) xs) (e .entry) (e .live); class = e .class; word = e .word })
 
-  pub told-direct : (x : ℕ) → directAfter (told n b xs) x ≡ directAfter (events n xs) x
-  told-direct x = ap (λ (vs : List Event). directAfter vs x) (told-is n b o xs) ∙ bare-direct (λ y. false) (events n xs) x
+  pub told-direct : (x : ℕ) → directAfter (told n rows b xs) x ≡ directAfter (events n (rulesOf rows) xs) x
+  told-direct x = ap (λ (vs : List Event). directAfter vs x) (told-is n rows b o xs) ∙ bare-direct (λ y. false) (events n (rulesOf rows) xs) x
 
-  pub told-disjoint : Disjoint (events n xs) → Disjoint (told n b xs)
-  told-disjoint d = rw (told-is n b o xs) (bare-disjoint (events n xs) d)
+  pub told-disjoint : Disjoint (events n (rulesOf rows) xs) → Disjoint (told n rows b xs)
+  told-disjoint d = rw (told-is n rows b o xs) (bare-disjoint (events n (rulesOf rows) xs) d)
 
-  pub told-iso : IsoDisjoint n (events n xs) → IsoDisjoint n (told n b xs)
-  told-iso d = rw (told-is n b o xs) (bare-iso n (events n xs) d)
+  pub told-iso : IsoDisjoint n (events n (rulesOf rows) xs) → IsoDisjoint n (told n rows b xs)
+  told-iso d = rw (told-is n rows b o xs) (bare-iso n (events n (rulesOf rows) xs) d)

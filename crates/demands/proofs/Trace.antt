@@ -10,6 +10,7 @@ use lib.ListN as ListN
 use lib.ListN.{length, length-map, getD}
 use borrow.Author.Tests.{eqb-true, eqb-false}
 use Rattle.facts.proofs.Bools.{by-cases}
+use Rattle.rules.specs.Rules.{rulesOf}
 use Rattle.fields.specs.Field.{words}
 use Rattle.fields.specs.Ranges.{maxPages, lengthFault}
 use Rattle.arena.specs.Open.{opened}
@@ -20,7 +21,7 @@ use Rattle.trace.specs.Words as Words
 use Rattle.trace.specs.Words.{Going, Traced, begins, roomOf, ending, traceOn}
 use Rattle.demands.specs.Run.{Opens, run}
 use Rattle.demands.specs.Trace.{reached, didCalls, handedBy, TraceOpens, TraceFigures, TraceStops, TraceOut, Trace}
-use Rattle.demands.proofs.Calls.{room, room-of, opens, fits-length, opened-by}
+use Rattle.demands.proofs.Calls.{room, room-plain, opens, fits-length, opened-by}
 use Rattle.demands.proofs.TraceMarks.{markOf, wordOf, straight-marks}
 use Rattle.demands.proofs.TraceWords.{standing, Whole, whole, good-start, good-bytes}
 use Rattle.demands.proofs.TraceReasons.{reason-stops, stops-reason, highest-is}
@@ -45,18 +46,18 @@ module _ (n : ℕ) (m : Room) where
       (λ e. let l : suc (carriedFrom n m (after n r w) ws) < suc (length ws) = rw e at h in rw e (ends-at ws (after n r w) (omega arith)))
 
 -- ---- from an opening
-module _ (n : ℕ) (b : List ℕ) (o : Opens n b) (ws bl fl dn : List ℕ) where
+module _ (n : ℕ) (b : List ℕ) (o : Opens n [] b) (ws bl fl dn : List ℕ) where
   all : Whole n b o (roomOf bl fl) atOpening ws
   all = whole n b o (roomOf bl fl) ws atOpening (good-start n b o)
 
-  start-is : begins (opened n b) ≡ standing n b o atOpening
-  start-is = ap begins (sym (opened-by n b o))
+  start-is : begins (opened n (rulesOf []) b) ≡ standing n b o atOpening
+  start-is = ap begins (sym (opened-by n [] b o))
 
   trace-is : traceOn b n ws bl fl dn ≡ ending (carried n (roomOf bl fl) ws) ws bl fl (standing n b o (reached n ws bl fl))
   unfolding traceOn
   trace-is =
-      let r = room n b o in
-      let c : Words.carried n (roomOf bl fl) (begins (opened n b)) ws ≡ carried n (roomOf bl fl) ws = ap (λ (g : Going). Words.carried n (roomOf bl fl) g ws) start-is ∙ all .carried in
+      let r = room n [] b o in
+      let c : Words.carried n (roomOf bl fl) (begins (opened n (rulesOf []) b)) ws ≡ carried n (roomOf bl fl) ws = ap (λ (g : Going). Words.carried n (roomOf bl fl) g ws) start-is ∙ all .carried in
       rw (fits-length n (length b) (r .some-pages) (r .few-pages) (r .long), c)
       (ap (λ (g : Going). ending (carried n (roomOf bl fl) ws) ws bl fl (Words.goes n g (ListN.take (carried n (roomOf bl fl) ws) ws))) start-is
       ∙ ap (ending (carried n (roomOf bl fl) ws) ws bl fl) (all .goes))
@@ -65,7 +66,7 @@ module _ (n : ℕ) (b : List ℕ) (o : Opens n b) (ws bl fl dn : List ℕ) where
   trace-opens =
       let hs = reached n ws bl fl .handed in
       let w = straight-marks hs (all .good .kinds) ∙ all .good .words in
-      let l : length (map markOf hs) ≡ length (handedBy (run n b (didCalls n ws bl fl))) = length-marks hs ∙ sym (length-map hs wordOf) ∙ ap length (all .good .words) in
+      let l : length (map markOf hs) ≡ length (handedBy (run n [] b (didCalls n ws bl fl))) = length-marks hs ∙ sym (length-map hs wordOf) ∙ ap length (all .good .words) in
       record {
         book = ap (λ (t : Traced). t .book) trace-is;
         blocks = ap (λ (t : Traced). t .blocks) trace-is ∙ (rw (w, l));
@@ -92,8 +93,8 @@ module _ (n : ℕ) (b : List ℕ) (o : Opens n b) (ws bl fl dn : List ℕ) where
   trace-out : TraceOut n ws bl fl
   trace-out = record {
     out = λ e. (
-      (λ i. in-live e (events n (didCalls n ws bl fl)) (rw (all .good .out) at i)),
-      (λ l. rw (all .good .out) (live-in 0 e [] (events n (didCalls n ws bl fl)) l)),
+      (λ i. in-live e (events n (rulesOf []) (didCalls n ws bl fl)) (rw (all .good .out) at i)),
+      (λ l. rw (all .good .out) (live-in 0 e [] (events n (rulesOf []) (didCalls n ws bl fl)) l)),
     );
   }
 
@@ -112,11 +113,11 @@ module _ (n : ℕ) (b ws bl fl dn : List ℕ) where
   fault = lengthFault n (length b)
 
   -- a number that is not 1 or 2
-  unfaulty : (r : ℕ) → r ≡ traceOn b n ws bl fl dn .code → (r ≡ 0) ⊎ (r ≡ 16) → Opens n b
+  unfaulty : (r : ℕ) → r ≡ traceOn b n ws bl fl dn .code → (r ≡ 0) ⊎ (r ≡ 16) → Opens n [] b
   unfolding traceOn
   unfaulty r e z =
       by-cases (eqb fault 0)
-      (λ u. opens n b (room-of n b (eqb-true fault 0 u)))
+      (λ u. opens n [] b (room-plain n b (eqb-true fault 0 u)))
       (λ u. let same : r ≡ fault = rw u at e in
       elim z [
         | inl y ↦ absurd (eqb-false fault 0 u (sym same ∙ y))

@@ -16,6 +16,7 @@ use Rattle.facts.specs.Lists.{total, filter}
 use Rattle.facts.proofs.Bools.{by-cases, and-no}
 use Rattle.classes.specs.Sizes.{pageBytes}
 use Rattle.classes.proofs.Shapes.{shape-sound}
+use Rattle.rules.specs.Rules.{rulesOf}
 use Rattle.fields.specs.Ranges.{maxPages}
 use Rattle.model.specs.Cover.{covers}
 use Rattle.model.specs.Calls.{Call, names}
@@ -40,12 +41,12 @@ live-from n k H es (y ∷ xs) x =
     ∙ ap (λ (j : ℕ). liveNext j (names x) (step n (heapFrom n (step n H y .heap) xs) x .answer) (liveFrom (suc k) (liveNext k (names y) (step n H y .answer) es) (eventsFrom n (step n H y .heap) xs))) e
 
 abbrev pub live : ℕ → List Call → List Entry
-live n xs = liveFrom 0 [] (events n xs)
+live n xs = liveFrom 0 [] (events n (rulesOf []) xs)
 
-pub live-next : (n : ℕ) (xs : List Call) (x : Call) → live n (xs ++ x ∷ []) ≡ liveNext (length xs) (names x) (step n (heapAfter n xs) x .answer) (live n xs)
+pub live-next : (n : ℕ) (xs : List Call) (x : Call) → live n (xs ++ x ∷ []) ≡ liveNext (length xs) (names x) (step n (heapAfter n (rulesOf []) xs) x .answer) (live n xs)
 live-next n xs x =
     let e : 0 + length xs ≡ length xs = omega arith in
-    live-from n 0 newHeap [] xs x ∙ ap (λ (j : ℕ). liveNext j (names x) (step n (heapAfter n xs) x .answer) (live n xs)) e
+    live-from n 0 (newHeap (rulesOf [])) [] xs x ∙ ap (λ (j : ℕ). liveNext j (names x) (step n (heapAfter n (rulesOf []) xs) x .answer) (live n xs)) e
 
 -- ---- a take
 filter-all : (f : Entry → Bool) (es : List Entry) → ((e : Entry) → In e es → f e ≡ true) → filter f es ≡ es
@@ -212,10 +213,10 @@ total-inside x (e ∷ es) h = omega (arith, under-all x e (omega (arith, h e (in
 module _ (n : ℕ) (small : n ≤ maxPages) (xs : List Call) where
   pub live-single : Single (live n xs)
   live-single = record {
-    once = kept n xs .inv .once;
-    twins = λ e e′ m m′ x h h′. demand-3 n small .disjoint xs .apart e e′ (in-live e (events n xs) m) (in-live e′ (events n xs) m′) .0 (x, h, h′);
+    once = kept n (rulesOf []) xs .inv .once;
+    twins = λ e e′ m m′ x h h′. demand-3 n small .disjoint (rulesOf []) xs .apart e e′ (in-live e (events n (rulesOf []) xs) m) (in-live e′ (events n (rulesOf []) xs) m′) .0 (x, h, h′);
   }
 
   pub live-bytes : total blockBytes (live n xs) ≤ n * pageBytes
   live-bytes =
-      omega (arith, total-inside (n * pageBytes) (live n xs) (λ e m. iso-disjoint n small xs .inArena e (in-live e (events n xs) m)), total-under (n * pageBytes) (live n xs) live-single)
+      omega (arith, total-inside (n * pageBytes) (live n xs) (λ e m. iso-disjoint n small (rulesOf []) xs .inArena e (in-live e (events n (rulesOf []) xs) m)), total-under (n * pageBytes) (live n xs) live-single)

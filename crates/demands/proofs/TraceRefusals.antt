@@ -13,7 +13,7 @@ use Rattle.trace.specs.Trace.{Room, Reach, atOpening, after, stops, carriedFrom
 use Rattle.trace.specs.Words.{Traced, roomOf, traceOn}
 use Rattle.demands.specs.Run.{Opens}
 use Rattle.demands.specs.Refusals.{Row, firstNumber, stopped, traceTable, TraceRefuses}
-use Rattle.demands.proofs.Calls.{room-of, opens}
+use Rattle.demands.proofs.Calls.{room-plain, opens}
 use Rattle.demands.proofs.RefusalsLaws.{Ends, book-turn}
 use Rattle.demands.proofs.Trace.{trace-stops}
 
@@ -48,8 +48,8 @@ module _ (n : ℕ) (b ws bl fl dn : List ℕ) where
   first-two : Ends (λ o. o .code) Same (traceTable b n ws bl fl) (cond (eqb fault 0) (kept (firstNumber last)) (kept fault))
   first-two = book-turn (λ o. o .code) Same last kept (kept (firstNumber last)) (λ k. refl) (λ k x. (refl, refl, refl, refl)) (record { number = refl; kept = λ d x. (refl, refl, refl, refl) }) n b
 
-  opening : eqb fault 0 ≡ true → Opens n b
-  opening e = opens n b (room-of n b (eqb-true fault 0 e))
+  opening : eqb fault 0 ≡ true → Opens n [] b
+  opening e = opens n [] b (room-plain n b (eqb-true fault 0 e))
 
   number-is : traceOn b n ws bl fl dn .code ≡ firstNumber (traceTable b n ws bl fl)
   unfolding traceOn

@@ -19,6 +19,8 @@ use Rattle.classes.specs.declared.Shape.{Shape}
 use Rattle.classes.specs.Sizes.{pageBytes}
 use Rattle.classes.specs.Shape.{shapeOf}
 use Rattle.classes.proofs.Shapes.{shape-sound}
+use Rattle.rules.specs.declared.Limits.{Limits}
+use Rattle.rules.specs.Rules.{rulesOf}
 use Rattle.model.specs.declared.Figures.{Figures}
 use Rattle.model.specs.Calls as Calls
 use Rattle.model.specs.Calls.{Call, Named, names, isRefused, wayOf, refused, reported}
@@ -61,8 +63,8 @@ use Rattle.demands.proofs.Returns.{list-returns, word-returns}
 use Rattle.demands.proofs.TraceLive.{live, own-byte}
 
 -- ---- the book after one call more
-book-next : (n : ℕ) (b : List ℕ) (xs : List Call) (x : Call) → bookAfter n b (xs ++ x ∷ []) ≡ next n b xs x .book
-book-next n b xs x = book-split (openOn b n .book) xs (x ∷ [])
+book-next : (n : ℕ) (b : List ℕ) (xs : List Call) (x : Call) → bookAfter n [] b (xs ++ x ∷ []) ≡ next n [] b xs x .book
+book-next n b xs x = book-split (openOn b n [] .book) xs (x ∷ [])
 
 -- ---- the class that a call of a trace names
 medium-id : (c : ℕ) → ltb c 76 ≡ true → ltb c 64 ≡ false → 64 + (c - 64) ≡ c
@@ -100,13 +102,13 @@ from-taken sh [] (e ∷ es) cs fs g = refl
 from-taken sh [] [] (c ∷ cs) fs g = refl
 from-taken sh [] [] [] fs g = run-taken sh fs g
 
-class-taken : (c : ℕ) (s : Class) (g : Option ℕ) → isRefused (serve (answer (shapeOf c) s (Calls.take hostMax blank)) g .answer) ≡ false
+class-taken : (lim : Limits) (c : ℕ) (s : Class) (g : Option ℕ) → isRefused (serve (answer (shapeOf c) lim s (Calls.take hostMax blank)) g .answer) ≡ false
 unfolding answer
-class-taken c s g = rw (le-ltb 64 (shapeOf c .batch) (shape-sound c .limited)) (from-taken (shapeOf c) (s .partial) (s .empty) (s .cold) (s .full) g)
+class-taken lim c s g = rw (le-ltb 64 (shapeOf c .batch) (shape-sound c .limited)) (from-taken (shapeOf c) (s .partial) (s .empty) (s .cold) (s .full) g)
 
 call-taken : (n : ℕ) (H : Heap) (c : ℕ) → isRefused (classCall n H c (Calls.take hostMax blank) .answer) ≡ false
 unfolding classCall interact finish
-call-taken n H c = class-taken c (H .classes c) _
+call-taken n H c = class-taken (H .rules c) c (H .classes c) _
 
 took-blocks : (t : Took) → t .code ≡ 0 → Calls.blocksOf (takeReply t .answer) ≡ Words.blocksOf t
 took-blocks t e = rw e
@@ -130,33 +132,33 @@ told-by true f g e = let z : f ≡ g = cc in ap Told z
 told-by false f g e = cc
 
 -- ---- after a history
-module _ (n : ℕ) (b : List ℕ) (o : Opens n b) (xs : List Call) where
+module _ (n : ℕ) (b : List ℕ) (o : Opens n [] b) (xs : List Call) where
   abbrev book : List ℕ
-  book = bookAfter n b xs
+  book = bookAfter n [] b xs
 
   abbrev heap : Heap
-  heap = heapAfter n xs
+  heap = heapAfter n (rulesOf []) xs
 
   -- a take
   pub record TakeStep (c : ℕ) : Type 0 where
     pub code : takeNow n book c .code ≡ 0
-    pub left : bookAfter n b (xs ++ takeOf c ∷ []) ≡ takeNow n book c .book
+    pub left : bookAfter n [] b (xs ++ takeOf c ∷ []) ≡ takeNow n book c .book
     pub model : Calls.blocksOf (step n heap (takeOf c) .answer) ≡ Words.blocksOf (takeNow n book c)
-    pub fine : next n b xs (takeOf c) .code ≡ 0
-    pub gave : Calls.blocksOf (next n b xs (takeOf c) .answer) ≡ Words.blocksOf (takeNow n book c)
+    pub fine : next n [] b xs (takeOf c) .code ≡ 0
+    pub gave : Calls.blocksOf (next n [] b xs (takeOf c) .answer) ≡ Words.blocksOf (takeNow n book c)
     pub counts : length (Words.blocksOf (takeNow n book c)) ≡ takeNow n book c .count
 
-  take-is : (c : ℕ) → ltb c 76 ≡ true → next n b xs (takeOf c) ≡ takeReply (takeNow n book c)
+  take-is : (c : ℕ) → ltb c 76 ≡ true → next n [] b xs (takeOf c) ≡ takeReply (takeNow n book c)
   unfolding takeNow
-  take-is c h = next-class n b o xs (takeOf c) (taking c) (names-take c h) refl
+  take-is c h = next-class n [] b o xs (takeOf c) (taking c) (names-take c h) refl
 
   pub take-step : (c : ℕ) → ltb c 76 ≡ true → TakeStep c
   take-step c h =
       let t = takeNow n book c in
       let i = take-is c h in
-      let f : next n b xs (takeOf c) .code ≡ 0 = next-zero n b o xs (takeOf c) (taking c) (names-take c h) refl (call-taken n heap c) in
+      let f : next n [] b xs (takeOf c) .code ≡ 0 = next-zero n [] b o xs (takeOf c) (taking c) (names-take c h) refl (call-taken n heap c) in
       let z : t .code ≡ 0 = ap (λ (r : Reply). r .code) (sym i) ∙ f in
-      let a : takeReply t .answer ≡ step n heap (takeOf c) .answer = ap (λ (r : Reply). r .answer) (sym i) ∙ next-agrees n b o xs (takeOf c) .answer in
+      let a : takeReply t .answer ≡ step n heap (takeOf c) .answer = ap (λ (r : Reply). r .answer) (sym i) ∙ next-agrees n [] b o xs (takeOf c) .answer in
       let g = took-blocks t z in
       record {
         code = z;
@@ -168,23 +170,23 @@ module _ (n : ℕ) (b : List ℕ) (o : Opens n b) (xs : List Call) where
       }
 
   -- a release: the page of the block is its class's
-  owner-is : (e : Entry) → Live 0 (events n xs) e → ownerAt n book (e .word) ≡ suc (e .class)
+  owner-is : (e : Entry) → Live 0 (events n (rulesOf []) xs) e → ownerAt n book (e .word) ≡ suc (e .class)
   unfolding ownerAt
   owner-is e l =
       let x = pageAt (e .word) in
       let p : firstByte e / pageBytes ≡ x = omega arith in
-      let k : 1 ≤ heldBy (e .class) (heap .holder x) = rw p at (byte-held n (room n b o .few-pages) xs e l (firstByte e) (own-byte e)) in
+      let k : 1 ≤ heldBy (e .class) (heap .holder x) = rw p at (byte-held n (room n [] b o .few-pages) (rulesOf []) xs e l (firstByte e) (own-byte e)) in
       let h : heap .holder x ≡ class (e .class) = owned (e .class) (heap .holder x) k in
       let one : isHeld (heap .holder x) ≡ 1 = ap isHeld h in
-      let below = held-below n heap (reached-after n xs) x (omega (arith, one)) in
-      rw (lt-ltb x n (omega (arith, below, reached-after n xs .bound))) (run-represents n b o xs .arena .owners x below ∙ ap ownerCode h)
+      let below = held-below n heap (reached-after n (rulesOf []) xs) x (omega (arith, one)) in
+      rw (lt-ltb x n (omega (arith, below, reached-after n (rulesOf []) xs .bound))) (run-represents n [] b o xs .arena .owners x below ∙ ap ownerCode h)
 
   pub record BackStep (e : Entry) : Type 0 where
     pub code : backNow n book (e .word) .code ≡ 0
     pub class : classAt n book (e .word) ≡ e .class
-    pub left : bookAfter n b (xs ++ backOf e ∷ []) ≡ backNow n book (e .word) .book
-    pub fine : next n b xs (backOf e) .code ≡ 0
-    pub gave : Calls.blocksOf (next n b xs (backOf e) .answer) ≡ []
+    pub left : bookAfter n [] b (xs ++ backOf e ∷ []) ≡ backNow n book (e .word) .book
+    pub fine : next n [] b xs (backOf e) .code ≡ 0
+    pub gave : Calls.blocksOf (next n [] b xs (backOf e) .answer) ≡ []
     pub model : isRefused (step n heap (backOf e) .answer) ≡ false
     pub none : Calls.blocksOf (step n heap (backOf e) .answer) ≡ []
     pub kind : ofKind (shapeOf (e .class) .kind) (e .word) ≡ true
@@ -195,14 +197,14 @@ module _ (n : ℕ) (b : List ℕ) (o : Opens n b) (xs : List Call) where
       let c = e .class in
       let d = names-back e h in
       let r = releaseBlocks n book c (shapeOf c) hostMax (w ∷ []) in
-      let l = in-live e (events n xs) m in
-      let out = out-told n b o xs c w (record { entry = e; live = l; class = refl; word = refl }) in
-      let f : next n b xs (backOf e) .code ≡ 0 = word-returns n b o xs c w (backOf e) hostMax (omega arith) d .1 out in
-      let i : next n b xs (backOf e) ≡ listReply r = next-class n b o xs (backOf e) (giving e) d refl in
+      let l = in-live e (events n (rulesOf []) xs) m in
+      let out = out-told n [] b o xs c w (record { entry = e; live = l; class = refl; word = refl }) in
+      let f : next n [] b xs (backOf e) .code ≡ 0 = word-returns n [] b o xs c w (backOf e) hostMax (omega arith) d .1 out in
+      let i : next n [] b xs (backOf e) ≡ listReply r = next-class n [] b o xs (backOf e) (giving e) d refl in
       let z : r .code ≡ 0 = ap (λ (x : Reply). x .code) (sym i) ∙ f in
       let k = owner-is e l in
       let j = back-now n book c w h k in
-      let a : listReply r .answer ≡ step n heap (backOf e) .answer = ap (λ (x : Reply). x .answer) (sym i) ∙ next-agrees n b o xs (backOf e) .answer in
+      let a : listReply r .answer ≡ step n heap (backOf e) .answer = ap (λ (x : Reply). x .answer) (sym i) ∙ next-agrees n [] b o xs (backOf e) .answer in
       let y : listReply r .answer ≡ Calls.fate (r .fate) = rw z in
       record {
         code = ap (λ (x : Released). x .code) j ∙ z;
@@ -212,10 +214,10 @@ module _ (n : ℕ) (b : List ℕ) (o : Opens n b) (xs : List Call) where
         gave = ap (λ (x : Reply). Calls.blocksOf (x .answer)) i ∙ ap Calls.blocksOf y;
         model = ap isRefused (sym a) ∙ ap isRefused y;
         none = ap Calls.blocksOf (sym a) ∙ ap Calls.blocksOf y;
-        kind = and-left (ofKind (shapeOf c .kind) w) (every (ofKind (shapeOf c .kind)) []) (list-returns n b o xs c (backOf e) hostMax (w ∷ []) d .0 f .kinds);
+        kind = and-left (ofKind (shapeOf c .kind) w) (every (ofKind (shapeOf c .kind)) []) (list-returns n [] b o xs c (backOf e) hostMax (w ∷ []) d .0 f .kinds);
       }
 
   -- a report
   pub report-is : reportOf n book ≡ Told (figures n heap)
   unfolding reportOf reportCode callReply wayOf directReply step directCall
-  report-is = told-by (reportFair n book) (Arena.figures n book) (figures n heap) (ap (λ (r : Reply). r .answer) (sym (next-is n b o xs Calls.report)) ∙ next-agrees n b o xs Calls.report .answer)
+  report-is = told-by (reportFair n book) (Arena.figures n book) (figures n heap) (ap (λ (r : Reply). r .answer) (sym (next-is n [] b o xs Calls.report)) ∙ next-agrees n [] b o xs Calls.report .answer)

@@ -19,6 +19,7 @@ use Rattle.words.specs.Word.{kindOf}
 use Rattle.classes.specs.Sizes.{pageBytes}
 use Rattle.classes.specs.Shape.{shapeOf}
 use Rattle.classes.proofs.Shapes.{shape-sound}
+use Rattle.rules.specs.Rules.{rulesOf}
 use Rattle.model.specs.Calls as Calls
 use Rattle.model.specs.Calls.{Call, Answer, isRefused}
 use Rattle.model.specs.Release.{ofKind}
@@ -63,7 +64,7 @@ abbrev Known : Entry → Type 0
 Known e = ltb (e .class) 76 ≡ true
 
 -- a block that is out has its class's kind, 1 or 2
-live-block : (n : ℕ) (b : List ℕ) → (o : Opens n b) → (xs : List Call) (e : Entry) → Known e → In e (live n xs) → Block e
+live-block : (n : ℕ) (b : List ℕ) → (o : Opens n [] b) → (xs : List Call) (e : Entry) → Known e → In e (live n xs) → Block e
 unfolding ofKind
 live-block n b o xs e h m =
     let s = shape-sound (e .class) in
@@ -79,21 +80,21 @@ handed-append (r ∷ s) t = ap (λ (x : List ℕ). Calls.blocksOf (r .answer) ++
 none-given : (a : Answer) → Calls.releasedBy (Calls.take 15 Trace.blank) a ≡ []
 none-given a = by-cases (isRefused a) (λ e. rw e) (λ e. rw e)
 
-module _ (n : ℕ) (b : List ℕ) (o : Opens n b) where
-  next-run : (xs : List Call) (x : Call) → run n b (xs ++ x ∷ []) ≡ run n b xs ++ (next n b xs x ∷ [])
-  next-run xs x = run-calls n b xs x []
+module _ (n : ℕ) (b : List ℕ) (o : Opens n [] b) where
+  next-run : (xs : List Call) (x : Call) → run n [] b (xs ++ x ∷ []) ≡ run n [] b xs ++ (next n [] b xs x ∷ [])
+  next-run xs x = run-calls n [] b xs x []
 
-  given-next : (xs : List Call) (x : Call) → handedBy (run n b (xs ++ x ∷ [])) ≡ handedBy (run n b xs) ++ Calls.blocksOf (next n b xs x .answer)
+  given-next : (xs : List Call) (x : Call) → handedBy (run n [] b (xs ++ x ∷ [])) ≡ handedBy (run n [] b xs) ++ Calls.blocksOf (next n [] b xs x .answer)
   given-next xs x =
-      ap handedBy (next-run xs x) ∙ handed-append (run n b xs) (next n b xs x ∷ []) ∙ ap (λ (t : List ℕ). handedBy (run n b xs) ++ t) (append-nil (Calls.blocksOf (next n b xs x .answer)))
+      ap handedBy (next-run xs x) ∙ handed-append (run n [] b xs) (next n [] b xs x ∷ []) ∙ ap (λ (t : List ℕ). handedBy (run n [] b xs) ++ t) (append-nil (Calls.blocksOf (next n [] b xs x .answer)))
 
-  fine-next : (xs : List Call) (x : Call) → All (λ (r : Reply). r .code ≡ 0) (run n b xs) → next n b xs x .code ≡ 0 → All (λ (r : Reply). r .code ≡ 0) (run n b (xs ++ x ∷ []))
-  fine-next xs x a z = rw (next-run xs x) (all-append (λ (r : Reply). r .code ≡ 0) (run n b xs) (next n b xs x ∷ []) a (z, tt))
+  fine-next : (xs : List Call) (x : Call) → All (λ (r : Reply). r .code ≡ 0) (run n [] b xs) → next n [] b xs x .code ≡ 0 → All (λ (r : Reply). r .code ≡ 0) (run n [] b (xs ++ x ∷ []))
+  fine-next xs x a z = rw (next-run xs x) (all-append (λ (r : Reply). r .code ≡ 0) (run n [] b xs) (next n [] b xs x ∷ []) a (z, tt))
 
   -- ---- where it is
   abbrev pub standing : Reach → Going
   standing r = record {
-    book = bookAfter n b (r .calls);
+    book = bookAfter n [] b (r .calls);
     marks = map markOf (r .handed);
     figures = r .figures;
     out = total isOut (r .handed);
@@ -104,12 +105,12 @@ module _ (n : ℕ) (b : List ℕ) (o : Opens n b) where
   pub record Good (r : Reach) : Type 0 where
     pub out : stillOut (r .handed) ≡ live n (r .calls)
     pub classes : All (λ (h : Handed). Known (h .entry)) (r .handed)
-    pub words : map wordOf (r .handed) ≡ handedBy (run n b (r .calls))
-    pub fine : All (λ (x : Reply). x .code ≡ 0) (run n b (r .calls))
+    pub words : map wordOf (r .handed) ≡ handedBy (run n [] b (r .calls))
+    pub fine : All (λ (x : Reply). x .code ≡ 0) (run n [] b (r .calls))
     pub kinds : All (λ (h : Handed). Block (h .entry)) (r .handed)
 
   pub good-bytes : (r : Reach) → Good r → total bytesOf (r .handed) ≤ n * pageBytes
-  good-bytes r g = let e = bytes-still (r .handed) ∙ ap (total blockBytes) (g .out) in omega (arith, e, live-bytes n (room n b o .few-pages) (r .calls))
+  good-bytes r g = let e = bytes-still (r .handed) ∙ ap (total blockBytes) (g .out) in omega (arith, e, live-bytes n (room n [] b o .few-pages) (r .calls))
 
   going-eq : {b₁ b₂ f₁ f₂ : List ℕ} {m₁ m₂ : List ℕ} {o₁ o₂ y₁ y₂ h₁ h₂ : ℕ} → b₁ ≡ b₂ → m₁ ≡ m₂ → f₁ ≡ f₂ → o₁ ≡ o₂ → y₁ ≡ y₂ → h₁ ≡ h₂
       → _≡_ {A = Going} (record { book = b₁; marks = m₁; figures = f₁; out = o₁; bytes = y₁; highest = h₁ }) (record { book = b₂; marks = m₂; figures = f₂; out = o₂; bytes = y₂; highest = h₂ })
@@ -125,10 +126,10 @@ module _ (n : ℕ) (b : List ℕ) (o : Opens n b) where
     -- a take
     module _ (c : ℕ) (hc : ltb c 76 ≡ true) where
       abbrev took : List ℕ
-      took = Words.blocksOf (takeNow n (bookAfter n b xs) c)
+      took = Words.blocksOf (takeNow n (bookAfter n [] b xs) c)
 
       abbrev many : ℕ
-      many = takeNow n (bookAfter n b xs) c .count
+      many = takeNow n (bookAfter n [] b xs) c .count
 
       many-is : length took ≡ many
       many-is = take-step n b o xs c hc .counts
@@ -149,7 +150,7 @@ module _ (n : ℕ) (b : List ℕ) (o : Opens n b) where
       -- neither is the take refused, nor are too many bytes out
       take-stops : (m : Room) → Words.stopsAs n m (standing r) (Trace.take c) ≡ stopsAs n m r (Trace.take c)
       take-stops m =
-          let few : ltb bytesMax (total bytesOf hs) ≡ false = le-ltb bytesMax (total bytesOf hs) (omega (arith, good-bytes r good, room n b o .few-pages)) in
+          let few : ltb bytesMax (total bytesOf hs) ≡ false = le-ltb bytesMax (total bytesOf hs) (omega (arith, good-bytes r good, room n [] b o .few-pages)) in
           rw (take-step n b o xs c hc .code, few)
           (ap₂ (λ (i j : ℕ). ltb (m .blocks) (i + j)) (length-map hs markOf) (sym (ap length offered-is ∙ entries-length (length xs) c 0 took ∙ many-is)))
 
@@ -157,7 +158,7 @@ module _ (n : ℕ) (b : List ℕ) (o : Opens n b) where
       take-good =
           let s = take-step n b o xs c hc in
           let e = ap (λ (es : List Entry). hs ++ map handed es) offered-is in
-          let a = step n (heapAfter n xs) (takeOf c) .answer in
+          let a = step n (heapAfter n (rulesOf []) xs) (takeOf c) .answer in
           let es = entriesFrom (length xs) c 0 took in
           let known : All (λ (h : Handed). Known (h .entry)) (map handed es) = all-more Known es (λ e m. rw (more-class e (length xs) c 0 took m) hc) in
           let l : live n (xs ++ takeOf c ∷ []) ≡ live n xs ++ entriesFrom (length xs) c 0 took =
@@ -186,7 +187,7 @@ module _ (n : ℕ) (b : List ℕ) (o : Opens n b) where
       back-does =
           let s = back-step n b o xs it it-known it-live in
           let i = placed p hs out in
-          let y : total bytesOf hs - sizeOf (Words.classAt n (bookAfter n b xs) (it .word)) ≡ total bytesOf (backAt p hs) = ap (λ (c : ℕ). total bytesOf hs - sizeOf c) (s .class) ∙ sym (i .bytes) in
+          let y : total bytesOf hs - sizeOf (Words.classAt n (bookAfter n [] b xs) (it .word)) ≡ total bytesOf (backAt p hs) = ap (λ (c : ℕ). total bytesOf hs - sizeOf c) (s .class) ∙ sym (i .bytes) in
           rw (i .word, i .call) (going-eq (sym (s .left)) (rw (i .word) at (back-mark p hs out)) refl (sym (i .out)) y (ap (max (r .highest)) y))
 
       back-goes : Words.stopsAs n (record { blocks = 0; figures = 0 }) (standing r) (Trace.back p) ≡ false
@@ -196,14 +197,14 @@ module _ (n : ℕ) (b : List ℕ) (o : Opens n b) where
       back-good =
           let s = back-step n b o xs it it-known it-live in
           let i = placed p hs out in
-          let one : Single (stillOut hs) = rw (good .out) (live-single n (room n b o .few-pages) xs) in
+          let one : Single (stillOut hs) = rw (good .out) (live-single n (room n [] b o .few-pages) xs) in
           let f : filter (keeps it) (live n xs) ≡ stillOut (backAt p hs) = rw (← good .out) (still-back p hs _ out one) in
           let l : live n (xs ++ backOf it ∷ []) ≡ stillOut (backAt p hs) =
           live-next n xs (backOf it) ∙ (rw (names-back it it-known, s .model, s .none) (append-nil (filter (keeps it) (live n xs)) ∙ f)) in
           record {
             out = rw (i .call) (sym l);
             classes = all-back Known p hs (good .classes);
-            words = rw (i .call) (back-words p hs ∙ good .words ∙ sym (append-nil _) ∙ ap (λ (t : List ℕ). handedBy (run n b xs) ++ t) (sym (s .gave)) ∙ sym (given-next xs (backOf it)));
+            words = rw (i .call) (back-words p hs ∙ good .words ∙ sym (append-nil _) ∙ ap (λ (t : List ℕ). handedBy (run n [] b xs) ++ t) (sym (s .gave)) ∙ sym (given-next xs (backOf it)));
             fine = rw (i .call) (fine-next xs (backOf it) (good .fine) (s .fine));
             kinds = all-back Block p hs (good .kinds);
           }

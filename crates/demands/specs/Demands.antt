@@ -10,6 +10,7 @@ use Rattle.facts.specs.Lists.{isNil, every, total}
 use Rattle.words.specs.Host.{hostMax, commitGranted}
 use Rattle.classes.specs.Sizes.{smallSizes, mediumSizes, pageBytes}
 use Rattle.classes.specs.Shape.{shapeOf}
+use Rattle.rules.specs.Rules.{Rules}
 use Rattle.model.specs.declared.Hole.{Hole}
 use Rattle.model.specs.Cover.{inRun}
 use Rattle.model.specs.Calls as Calls
@@ -30,15 +31,16 @@ use Rattle.refinement.specs.Direct.{Reply}
 use Rattle.refinement.specs.Run.{answersIn}
 use Rattle.demands.specs.Call.{call}
 use Rattle.demands.specs.Run.{answered}
-use Rattle.demands.specs.Start.{Start, pages, Starts, calls, bookAfter, replies, told}
+use Rattle.demands.specs.Start.{Start, pages, Starts, calls, bookAfter, replies, told, rules}
 use Rattle.demands.specs.Returns.{Twice, OneRun, ListOut, Plain, ChunksOut}
 
 -- ---- Demand 3, "one claim about whole histories, not one for each call"
 pub record Demand3 : Type 0 where
-  -- two starts, on books and arenas of whatever lengths, two histories, a class whose calls are equal: its answers are equal exactly when what
+  -- two starts, on books and arenas of whatever lengths, two histories, a class that has the same limits in both (document 02, A.9; the others
+  -- may have any) and whose calls are equal: its answers are equal exactly when what
   -- the arena gave it is, "worked from the opening over the arguments of all calls" (`events` sees no book)
-  pub alone : (s₁ s₂ : Start) → Starts s₁ → Starts s₂ → (c : ℕ) (xs ys : List Call) → callsOf c (calls s₁ xs) ≡ callsOf c (calls s₂ ys)
-      → (answersOf c (told s₁ xs) ≡ answersOf c (told s₂ ys)) ↔ (runsOf c (events (pages s₁) (calls s₁ xs)) ≡ runsOf c (events (pages s₂) (calls s₂ ys)))
+  pub alone : (s₁ s₂ : Start) → Starts s₁ → Starts s₂ → (c : ℕ) → rules s₁ c ≡ rules s₂ c → (xs ys : List Call) → callsOf c (calls s₁ xs) ≡ callsOf c (calls s₂ ys)
+      → (answersOf c (told s₁ xs) ≡ answersOf c (told s₂ ys)) ↔ (runsOf c (events (pages s₁) (rules s₁) (calls s₁ xs)) ≡ runsOf c (events (pages s₂) (rules s₂) (calls s₂ ys)))
   -- after every history, entries not yet released share a byte exactly when they are the same entry, and none has a byte of a page held
   -- by the direct calls
   pub disjoint : (s : Start) → Starts s → (xs : List Call) → Disjoint (told s xs)
@@ -111,19 +113,19 @@ pub record Unused (n : ℕ) (vs : List Event) (q m : ℕ) : Type 0 where
   pub offDirect : (k : ℕ) → k < m → directAfter vs (q + k) ≡ false
   pub offBlocks : (e : Entry) → Live 0 vs e → (b : ℕ) → HasByte e b → inRun m q (b / pageBytes) ≡ false
 
--- after the calls xs since an opening of n pages, answered rs, which left the book b; the arena, holes and all, is what the words of the book
+-- after the calls xs since an opening of n pages with these limits, answered rs, which left the book b; the arena, holes and all, is what the words of the book
 -- say it is
-pub record Demand2At (n : ℕ) (b : List ℕ) (xs : List Call) (rs : List Reply) : Type 0 where
+pub record Demand2At (n : ℕ) (limits : Rules) (b : List ℕ) (xs : List Call) (rs : List Reply) : Type 0 where
   -- each call answers what document 01's rules say, and the arena that the words hold is the one that they lead to
-  pub rules : answersIn rs ≡ answers n xs
-  pub arena : loadArena b ≡ heapAfter n xs .arena
+  pub rules : answersIn rs ≡ answers n limits xs
+  pub arena : loadArena b ≡ heapAfter n limits xs .arena
   pub commits : (h m : ℕ) → h ≤ hostMax → badRun m ≡ false → CommitFits n h m (loadArena b) (call b (Calls.commit h m) .answer)
   pub runs : (x : Call) (d : Named) → names x ≡ some d
-      → RunFits n (hostOf (d .request)) (shapeOf (d .class) .pages) (loadArena b) (Asks (heapAfter n xs .classes (d .class)) (d .request) (call b x .code))
-      (step n (heapAfter n xs) x .run)
+      → RunFits n (hostOf (d .request)) (shapeOf (d .class) .pages) (loadArena b) (Asks (heapAfter n limits xs .classes (d .class)) (d .request) (call b x .code))
+      (step n (heapAfter n limits xs) x .run)
   -- a take that is not refused answers a block, or its class has no page at hand and the arena no run for it
   pub takes : (x : Call) (c h : ℕ) (l : List ℕ) → names x ≡ some (record { class = c; request = Calls.take h l }) → call b x .code ≡ 0
-      → (isNil (blocksOf (call b x .answer)) ≡ false) ⊎ (Spent (heapAfter n xs .classes c) × Commits n h (shapeOf c .pages) (loadArena b) none false)
+      → (isNil (blocksOf (call b x .answer)) ≡ false) ⊎ (Spent (heapAfter n limits xs .classes c) × Commits n h (shapeOf c .pages) (loadArena b) none false)
   -- number 10 by the history: a release of one block is not refused exactly if the block is out in the class, which is that an entry of
   -- the class not yet released has its word
   pub returns : (c w : ℕ) (x : Call) (h : ℕ) → h ≤ hostMax → names x ≡ some (record { class = c; request = Calls.giveBack h (w ∷ []) })
@@ -167,7 +169,7 @@ pub record Demand2At (n : ℕ) (b : List ℕ) (xs : List Call) (rs : List Reply)
       → GivenTo (new - old) (q + old) (withFrontier (q + old + (new - old)) (loadArena b)) (loadArena (call b (Calls.growFrontier h q old new) .book))
   -- a call of a class that is not refused gives the class's runs in turn, after the commit that it asked for
   pub givesOfClass : (x : Call) (d : Named) → names x ≡ some d → call b x .code ≡ 0
-      → (let q = answer (shapeOf (d .class)) (heapAfter n xs .classes (d .class)) (d .request) in
+      → (let q = answer (shapeOf (d .class)) (heapAfter n limits xs .rules (d .class)) (heapAfter n limits xs .classes (d .class)) (d .request) in
       let g = offer n (hostOf (d .request)) (loadArena b) q in
       GivenInTurn (shapeOf (d .class) .pages) (serve q (g .run) .gives) (g .arena) (loadArena (call b x .book)))
   -- so with a growth, and one that is not refused is answered by `Grows`
@@ -181,13 +183,13 @@ pub record Demand2At (n : ℕ) (b : List ℕ) (xs : List Call) (rs : List Reply)
   -- what is given out lies in the arena and was nobody's: the run that a direct commit answers, the pages that a growth adds, the run that a class gets
   pub newRuns : (h m q : ℕ) (fresh : Bool) → call b (Calls.commit h m) .answer ≡ Calls.run q fresh → Unused n (answered xs rs) q m
   pub newPages : (h q old new : ℕ) → call b (Calls.growFrontier h q old new) .answer ≡ Calls.grown true → Unused n (answered xs rs) (q + old) (new - old)
-  pub newOfClass : (x : Call) (d : Named) (r : Hole) → names x ≡ some d → step n (heapAfter n xs) x .run ≡ some r → Unused n (answered xs rs) (r .first) (r .pages)
+  pub newOfClass : (x : Call) (d : Named) (r : Hole) → names x ≡ some d → step n (heapAfter n limits xs) x .run ≡ some r → Unused n (answered xs rs) (r .first) (r .pages)
   -- blocks not yet released lie in the arena and have no byte in common
   pub apart : IsoDisjoint n (answered xs rs)
 
 -- after the calls xs since a start, which is an opening or a trace
 abbrev pub Demand2 : Start → List Call → Type 0
-Demand2 s xs = Demand2At (pages s) (bookAfter s xs) (calls s xs) (replies s xs)
+Demand2 s xs = Demand2At (pages s) (rules s) (bookAfter s xs) (calls s xs) (replies s xs)
 
 -- an entry's bytes, which `HasByte` counts in granules, are its class's size in document 01's tables
 pub record TableBytes (e : Entry) : Type 0 where

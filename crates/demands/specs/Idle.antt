@@ -3,11 +3,12 @@
 use Prim.Native.Nat.{ℕ}
 use mathlib.Core.List.{List}
 use mathlib.Core.Path.{_≡_}
+use Rattle.rules.specs.Rules.{Rules}
 use Rattle.model.specs.Calls.{Call}
 use Rattle.model.specs.Demands.{Figured}
 use Rattle.vigbuso.specs.Direct.{figuresIn}
 
-pub record Idle (n : ℕ) (xs : List Call) (r : ℕ) (fs : List ℕ) : Type 0 where
+pub record Idle (n : ℕ) (rules : Rules) (xs : List Call) (r : ℕ) (fs : List ℕ) : Type 0 where
   pub unrefused : r ≡ 0
   -- pages held by the history and by pages, idle ones and their overlap by pages: `held-history`, `idle-counts`, `overlap-counts`
-  pub figured : Figured n xs (figuresIn fs)
+  pub figured : Figured n rules xs (figuresIn fs)

@@ -15,6 +15,7 @@ pub mod Game
 pub mod Listing
 pub mod Plan
 pub mod Idle
+pub mod Parking
 pub mod ChangePlaces
 pub mod Reorders
 pub mod Repeats

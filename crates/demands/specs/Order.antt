@@ -3,6 +3,7 @@
 use Prim.Native.Nat.{ℕ}
 use mathlib.Core.List.{List}
 use mathlib.Core.Path.{_≡_}
+use Rattle.rules.specs.Rules.{rulesOf}
 use Rattle.model.specs.Calls.{Call}
 use Rattle.model.specs.Order.{SameHeap}
 use Rattle.model.specs.History.{heapAfter}
@@ -12,5 +13,5 @@ use Rattle.demands.specs.Run.{Opens, bookAfter}
 
 -- two books, two histories that lead to heaps which differ in the order of their holes alone: all further calls are answered alike
 pub record Orderless (n : ℕ) : Type 0 where
-  pub alike : (b₁ b₂ : List ℕ) → Opens n b₁ → Opens n b₂ → (xs ys : List Call) → SameHeap (heapAfter n xs) (heapAfter n ys)
-      → (zs : List Call) → answersIn (repliesFrom call (bookAfter n b₁ xs) zs) ≡ answersIn (repliesFrom call (bookAfter n b₂ ys) zs)
+  pub alike : (rows b₁ b₂ : List ℕ) → Opens n rows b₁ → Opens n rows b₂ → (xs ys : List Call) → SameHeap (heapAfter n (rulesOf rows) xs) (heapAfter n (rulesOf rows) ys)
+      → (zs : List Call) → answersIn (repliesFrom call (bookAfter n rows b₁ xs) zs) ≡ answersIn (repliesFrom call (bookAfter n rows b₂ ys) zs)

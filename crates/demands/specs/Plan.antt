@@ -17,8 +17,8 @@ use Rattle.refinement.specs.Run.{answersIn}
 use Rattle.demands.specs.Run.{Opens, run}
 
 pub record Fits (ks ts : List ℕ) (total : ℕ) : Type 0 where
-  -- on every book that opens, the plan's takes made in whatever order: each answers a block exactly if the total is within the arena
-  pub plan-fits : (n : ℕ) (b : List ℕ) → Opens n b → (xs : List Call) → All Granted xs → Carries ks ts xs → All Gives (answersIn (run n b xs)) ↔ (total ≤ n)
+  -- on every book that opens, with whatever rule rows, the plan's takes made in whatever order: each answers a block exactly if the total is within the arena
+  pub plan-fits : (n : ℕ) (rows b : List ℕ) → Opens n rows b → (xs : List Call) → All Granted xs → Carries ks ts xs → All Gives (answersIn (run n rows b xs)) ↔ (total ≤ n)
   -- and there is such a history
   pub carried : Carried ks ts
 

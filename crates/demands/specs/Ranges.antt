@@ -11,7 +11,7 @@ use Prim.Native.Nat.{ℕ, suc}
 use mathlib.Core.Bool.{Bool, not}
 use mathlib.Core.List.{List}
 use Rattle.facts.specs.Lists.{every}
-use Rattle.fields.specs.Field.{ArenaField, Field, arena, mark, class, hole, page, slot, size, state, frontier, holes, holePages, held, start, pages, partial, empty, emptyCount, cold, coldCount, owner, first, next, prev, free, carved, listed, virgin, get}
+use Rattle.fields.specs.Field.{ArenaField, Field, arena, mark, class, hole, page, slot, size, state, frontier, holes, holePages, held, start, pages, partial, empty, emptyCount, cold, coldCount, owner, first, next, prev, free, carved, listed, virgin, get, emptyLimit, coldLimit}
 use Rattle.fields.specs.Ranges.{maxParked, Range, anyValue, upTo, between, exactly, below, endsBy, runsTo, within}
 use Rattle.model.specs.HoleStore.{holeSlots, holePagesMax}
 
@@ -53,6 +53,9 @@ pub data Use : Type 0 where
   emptyTaken : ℕ → Use
   coldFew : ℕ → Use
   coldTaken : ℕ → Use
+  -- the limits of its stores (document 02, A.9)
+  emptyLimited : ℕ → Use
+  coldLimited : ℕ → Use
   -- a take's page p: of class c, of the run at q, behind the page with code y, in the partial list or in a store
   ownerIs : ℕ → ℕ → Use
   firstIs : ℕ → ℕ → Use
@@ -88,6 +91,8 @@ field (emptyFew c) = class emptyCount c
 field (emptyTaken c) = class emptyCount c
 field (coldFew c) = class coldCount c
 field (coldTaken c) = class coldCount c
+field (emptyLimited c) = class emptyLimit c
+field (coldLimited c) = class coldLimit c
 field (ownerIs p c) = page owner p
 field (firstIs p q) = page first p
 field (prevIs p y) = page prev p
@@ -118,6 +123,8 @@ range b (emptyFew c) = upTo maxParked
 range b (emptyTaken c) = between 1 maxParked
 range b (coldFew c) = upTo maxParked
 range b (coldTaken c) = between 1 maxParked
+range b (emptyLimited c) = upTo maxParked
+range b (coldLimited c) = upTo maxParked
 range b (ownerIs p c) = exactly (suc c)
 range b (firstIs p q) = exactly q
 range b (prevIs p y) = exactly y

@@ -24,7 +24,7 @@ use Rattle.pages.specs.Stack.{indexOf}
 use Rattle.calls.specs.Out.{startOf, outs}
 use Rattle.calls.specs.Release.{spotAt}
 use Rattle.calls.specs.Chunks.{pagesGiven}
-use Rattle.demands.specs.Ranges.{Link, partialOf, emptyOf, coldOf, nextOf, prevOf, linkField, Use, stateKnown, frontierFits, holesFew, holePagesFew, heldFits, heldGives, counted, holeSome, holeEnds, code, visited, emptyFew, emptyTaken, coldFew, coldTaken, ownerIs, firstIs, prevIs, listedYes, listedNo, freeFits, entryCarved, markClear, freeWith, listedFlag, carvedFits, virginFlag, holeBeside}
+use Rattle.demands.specs.Ranges.{Link, partialOf, emptyOf, coldOf, nextOf, prevOf, linkField, Use, stateKnown, frontierFits, holesFew, holePagesFew, heldFits, heldGives, counted, holeSome, holeEnds, code, visited, emptyFew, emptyTaken, coldFew, coldTaken, ownerIs, firstIs, prevIs, listedYes, listedNo, freeFits, entryCarved, markClear, freeWith, listedFlag, carvedFits, virginFlag, holeBeside, emptyLimited, coldLimited}
 use Rattle.arena.specs.Fair.{growGives}
 
 -- ---- the arena
@@ -155,7 +155,7 @@ backReads b sh m q =
     ∷ cond (eqb (get b (page listed q)) 1) (code (nextOf q) ∷ code (prevOf q) ∷ []) []
 
 unfoldable pub rowReads : ℕ → List Use
-rowReads c = code (partialOf c) ∷ code (emptyOf c) ∷ emptyFew c ∷ code (coldOf c) ∷ coldFew c ∷ []
+rowReads c = code (partialOf c) ∷ code (emptyOf c) ∷ emptyFew c ∷ code (coldOf c) ∷ coldFew c ∷ emptyLimited c ∷ coldLimited c ∷ []
 
 unfoldable pub releaseReads : List ℕ → ℕ → Shape → ℕ → ℕ → List Use
 releaseReads b c sh m q =

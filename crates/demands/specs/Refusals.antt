@@ -23,6 +23,7 @@ use Rattle.classes.specs.Meaning.{FirstFit}
 use Rattle.classes.specs.Lookup.{sizeClass}
 use Rattle.tables.specs.Table.{badRate, badTop, badSlots, classTable, TableEnds}
 use Rattle.game.specs.Game.{badGame, askerWins, GameEnds}
+use Rattle.rules.specs.Rules.{badRows, twoRows, noRow}
 use Rattle.fields.specs.Field.{arena, size, words, get}
 use Rattle.fields.specs.Outcome.{Did}
 use Rattle.fields.specs.Ranges.{maxPages}
@@ -107,7 +108,7 @@ notHeld n b q m = not (heldDirect n b q m)
 abbrev pub stopped : ℕ → List ℕ → List ℕ → List ℕ → Bool
 stopped n ws bl fl = ltb (carried n (roomOf bl fl) ws) (length ws)
 
--- Document 02's others: 14 is `badPlan`; 20 is `badListing`; 21 is `badGame`; 22, 23 and 24 are `badRate`, `badTop` and `badSlots`.
+-- Document 02's others: 19, 18 and 17 are `badRows`, `twoRows` and `noRow`; 14 is `badPlan`; 20 is `badListing`; 21 is `badGame`; 22, 23 and 24 are `badRate`, `badTop` and `badSlots`.
 
 -- ---- a table's rows are a number and whether it applies
 abbrev pub Row : Type 0
@@ -129,9 +130,9 @@ inOrder [] (row ∷ rows) = false
 inOrder (k ∷ ks) (row ∷ rows) = cond (eqb k (row .0)) (inOrder ks rows) (inOrder ks (row ∷ rows))
 
 -- ---- the tables
--- vigbuso_open
-abbrev pub openTable : List ℕ → ℕ → List Row
-openTable b n = (1, badLength n) ∷ (2, tooShort n b) ∷ []
+-- vigbuso_open, with the rule rows ws
+abbrev pub openTable : List ℕ → ℕ → List ℕ → List Row
+openTable b n ws = (1, badLength n) ∷ (2, tooShort n b) ∷ (19, badRows ws) ∷ (18, twoRows ws) ∷ (17, noRow ws) ∷ []
 
 -- vigbuso_commit
 abbrev pub commitTable : List ℕ → ℕ → ℕ → List Row
@@ -242,7 +243,7 @@ pub record Refuses (rows : List Row) (r : ℕ) (Same : Type 0) : Type 0 where
 
 -- What the contract of the function says is the premise, word for word; a prime marks what stands there afterwards.
 abbrev pub OpenRefuses : Type 0
-OpenRefuses = (b : List ℕ) (n r : ℕ) (b′ : List ℕ) → Did r b′ (openOn b n) → Refuses (openTable b n) r (b′ ≡ b)
+OpenRefuses = (b : List ℕ) (n : ℕ) (ws : List ℕ) (r : ℕ) (b′ : List ℕ) → Did r b′ (openOn b n ws) → Refuses (openTable b n ws) r (b′ ≡ b)
 
 abbrev pub CommitRefuses : Type 0
 CommitRefuses =

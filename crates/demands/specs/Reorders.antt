@@ -7,16 +7,17 @@ use mathlib.Core.List.{List, _∷_, _++_}
 use mathlib.Core.Option.{some}
 use mathlib.Core.Path.{_≡_}
 use lib.Dec.{eqb}
+use Rattle.rules.specs.Rules.{Rules}
 use Rattle.model.specs.Calls.{Call, Named, names}
 use Rattle.model.specs.History.{answersOf}
 use Rattle.demands.specs.Run.{bookAfter, told}
 use Rattle.demands.specs.ChangePlaces.{reaches}
 
-pub data Reorders (n : ℕ) : List Call → List Call → Type 0 where
-  same : (xs : List Call) → Reorders n xs xs
+pub data Reorders (n : ℕ) (rules : Rules) : List Call → List Call → Type 0 where
+  same : (xs : List Call) → Reorders n rules xs xs
   exchange : (xs : List Call) (x y : Call) (p q : Named) (zs ys : List Call) → names x ≡ some p → names y ≡ some q → eqb (p .class) (q .class) ≡ false
-      → (reaches n xs x && reaches n xs y) ≡ false → Reorders n (xs ++ y ∷ x ∷ zs) ys → Reorders n (xs ++ x ∷ y ∷ zs) ys
+      → (reaches n rules xs x && reaches n rules xs y) ≡ false → Reorders n rules (xs ++ y ∷ x ∷ zs) ys → Reorders n rules (xs ++ x ∷ y ∷ zs) ys
 
-pub record Reordered (n : ℕ) (b : List ℕ) (xs ys : List Call) : Type 0 where
-  pub book : bookAfter n b xs ≡ bookAfter n b ys
-  pub answers : (c : ℕ) → answersOf c (told n b xs) ≡ answersOf c (told n b ys)
+pub record Reordered (n : ℕ) (rows b : List ℕ) (xs ys : List Call) : Type 0 where
+  pub book : bookAfter n rows b xs ≡ bookAfter n rows b ys
+  pub answers : (c : ℕ) → answersOf c (told n rows b xs) ≡ answersOf c (told n rows b ys)

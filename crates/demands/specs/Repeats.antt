@@ -94,8 +94,8 @@ pub record MarksAside : Type 0 where
   -- so A.2's claim is one about the calls as they are
   pub repeated : (b : List ℕ) (x : Call) → marksFirst b x ≡ false → (call b x ≡ callBy asIn01 b x → ⊥) ↔ (repeatsFirst b x ≡ true)
   -- from an opening on it is never 13, so that a history with A.2's test is the history
-  pub replies : (n : ℕ) (b : List ℕ) → Opens n b → (xs : List Call) → repliesFrom (callBy repeatFault) (openOn b n .book) xs ≡ run n b xs
-  pub book : (n : ℕ) (b : List ℕ) → Opens n b → (xs : List Call) → bookFrom (callBy repeatFault) (openOn b n .book) xs ≡ Opening.bookAfter n b xs
+  pub replies : (n : ℕ) (rows b : List ℕ) → Opens n rows b → (xs : List Call) → repliesFrom (callBy repeatFault) (openOn b n rows .book) xs ≡ run n rows b xs
+  pub book : (n : ℕ) (rows b : List ℕ) → Opens n rows b → (xs : List Call) → bookFrom (callBy repeatFault) (openOn b n rows .book) xs ≡ Opening.bookAfter n rows b xs
 
 -- "On a book reached from an opening every call, refused ones included, ends with no mark set": after the calls xs since a start, which is an
 -- opening or a trace, every word of marks of every run of every class is 0

@@ -1,5 +1,5 @@
 -- Histories on the words (document 01, "The histories of demand 3").
---     Opens       an arena of n pages is opened on the book b, and not refused; `Room` says when
+--     Opens       an arena of n pages is opened on the book b with these rule rows (document 02, A.9), and not refused; `Room` says when
 --     run         the replies to the calls of a history from that opening; `bookAfter` the book that it leaves
 --     next        the reply to one more call
 --     told        the calls with their answers, as the model's definitions of entries, holds and a class's answers read them
@@ -8,6 +8,7 @@ use mathlib.Core.List.{List, [], _∷_}
 use mathlib.Core.Option.{none}
 use mathlib.Core.Path.{_≡_}
 use lib.ListN.{length}
+use Rattle.rules.specs.Rules.{rowsFault}
 use Rattle.fields.specs.Field.{words}
 use Rattle.fields.specs.Ranges.{maxPages}
 use Rattle.model.specs.Calls.{Call}
@@ -18,24 +19,25 @@ use Rattle.refinement.specs.Run.{repliesFrom, bookFrom}
 use Rattle.demands.specs.Call.{call}
 
 -- "It starts from an unrefused opening"
-abbrev pub Opens : ℕ → List ℕ → Type 0
-Opens n b = openOn b n .code ≡ 0
+abbrev pub Opens : ℕ → List ℕ → List ℕ → Type 0
+Opens n rows b = openOn b n rows .code ≡ 0
 
--- what numbers 1 and 2 leave: opening asks no more of a book
-pub record Room (n : ℕ) (b : List ℕ) : Type 0 where
+-- what numbers 1, 2, 19, 18 and 17 leave: opening asks no more of a book and of rows
+pub record Room (n : ℕ) (rows b : List ℕ) : Type 0 where
   pub some-pages : 1 ≤ n
   pub few-pages : n ≤ maxPages
   pub long : words n ≤ length b
+  pub ruled : rowsFault rows ≡ 0
 
 -- "Each call gets the book as the last one left it"
-abbrev pub run : ℕ → List ℕ → List Call → List Reply
-run n b xs = repliesFrom call (openOn b n .book) xs
+abbrev pub run : ℕ → List ℕ → List ℕ → List Call → List Reply
+run n rows b xs = repliesFrom call (openOn b n rows .book) xs
 
-abbrev pub bookAfter : ℕ → List ℕ → List Call → List ℕ
-bookAfter n b xs = bookFrom call (openOn b n .book) xs
+abbrev pub bookAfter : ℕ → List ℕ → List ℕ → List Call → List ℕ
+bookAfter n rows b xs = bookFrom call (openOn b n rows .book) xs
 
-abbrev pub next : ℕ → List ℕ → List Call → Call → Reply
-next n b xs x = call (bookAfter n b xs) x
+abbrev pub next : ℕ → List ℕ → List ℕ → List Call → Call → Reply
+next n rows b xs x = call (bookAfter n rows b xs) x
 
 -- what the arena gives at a call is "never read from the book": it is not told here, and `none` stands in its place
 abbrev pub answered : List Call → List Reply → List Event
@@ -43,5 +45,5 @@ answered [] rs = []
 answered (x ∷ xs) [] = []
 answered (x ∷ xs) (r ∷ rs) = record { call = x; answer = r .answer; run = none } ∷ answered xs rs
 
-abbrev pub told : ℕ → List ℕ → List Call → List Event
-told n b xs = answered xs (run n b xs)
+abbrev pub told : ℕ → List ℕ → List ℕ → List Call → List Event
+told n rows b xs = answered xs (run n rows b xs)

@@ -7,6 +7,7 @@
 use Prim.Native.Nat.{ℕ}
 use mathlib.Core.List.{List, [], _++_}
 use mathlib.Core.Path.{_≡_}
+use Rattle.rules.specs.Rules.{Rules, rulesOf}
 use Rattle.model.specs.Calls.{Call}
 use Rattle.model.specs.History.{Event}
 use Rattle.vigbuso.specs.Direct.{openOn}
@@ -19,28 +20,36 @@ use Rattle.demands.specs.Run.{Opens, answered}
 use Rattle.demands.specs.Trace.{didCalls}
 
 pub data Start : Type 0 where
-  opening : (n : ℕ) (b : List ℕ) → Start
+  opening : (n : ℕ) (rows b : List ℕ) → Start
   trace : (n : ℕ) (b ws bl fl dn : List ℕ) → Start
 
 abbrev pub pages : Start → ℕ
-pages (opening n b) = n
+pages (opening n rows b) = n
 pages (trace n b ws bl fl dn) = n
 
 abbrev pub lent : Start → List ℕ
-lent (opening n b) = b
+lent (opening n rows b) = b
 lent (trace n b ws bl fl dn) = b
 
+-- the rule rows: a "trace opens without rows" (document 02, A.9); and the limits that they give each class
+abbrev pub ruleRows : Start → List ℕ
+ruleRows (opening n rows b) = rows
+ruleRows (trace n b ws bl fl dn) = []
+
+abbrev pub rules : Start → Rules
+rules s = rulesOf (ruleRows s)
+
 abbrev pub begun : Start → List ℕ
-begun (opening n b) = openOn b n .book
+begun (opening n rows b) = openOn b n rows .book
 begun (trace n b ws bl fl dn) = traceOn b n ws bl fl dn .book
 
 abbrev pub did : Start → List Call
-did (opening n b) = []
+did (opening n rows b) = []
 did (trace n b ws bl fl dn) = didCalls n ws bl fl
 
--- not refused by 1 or 2; a trace that stops at 16 is a start
+-- not refused by 1, 2, 19, 18 or 17; a trace that stops at 16 is a start
 abbrev pub Starts : Start → Type 0
-Starts s = Opens (pages s) (lent s)
+Starts s = Opens (pages s) (ruleRows s) (lent s)
 
 -- the history with what the start did in front
 abbrev pub calls : Start → List Call → List Call
@@ -51,12 +60,12 @@ abbrev pub bookAfter : Start → List Call → List ℕ
 bookAfter s xs = bookFrom call (begun s) xs
 
 abbrev pub replies : Start → List Call → List Reply
-replies s xs = Opening.run (pages s) (lent s) (did s) ++ repliesFrom call (begun s) xs
+replies s xs = Opening.run (pages s) (ruleRows s) (lent s) (did s) ++ repliesFrom call (begun s) xs
 
 abbrev pub told : Start → List Call → List Event
 told s xs = answered (calls s xs) (replies s xs)
 
 -- after a start, the book and each reply are those after an opening with the start's calls in front
 pub record AsOpening (s : Start) (xs : List Call) : Type 0 where
-  pub book : bookAfter s xs ≡ Opening.bookAfter (pages s) (lent s) (calls s xs)
-  pub answers : replies s xs ≡ Opening.run (pages s) (lent s) (calls s xs)
+  pub book : bookAfter s xs ≡ Opening.bookAfter (pages s) (ruleRows s) (lent s) (calls s xs)
+  pub answers : replies s xs ≡ Opening.run (pages s) (ruleRows s) (lent s) (calls s xs)

@@ -17,6 +17,7 @@ use lib.ListN as ListN
 use lib.ListN.{length, drop, getD}
 use Rattle.facts.specs.Lists.{All, total}
 use Rattle.classes.specs.Sizes.{pageBytes}
+use Rattle.rules.specs.Rules.{rulesOf}
 use Rattle.model.specs.Calls.{Call, blocksOf}
 use Rattle.model.specs.History.{events}
 use Rattle.model.specs.Entries.{Entry, In, Live}
@@ -47,10 +48,10 @@ abbrev pub over : List ℕ → List ℕ → List ℕ
 over xs l = xs ++ drop (length xs) l
 
 pub record TraceOpens (n : ℕ) (b ws bl fl b′ bl′ : List ℕ) : Type 0 where
-  pub book : b′ ≡ bookAfter n b (didCalls n ws bl fl)
-  pub blocks : bl′ ≡ over (handedBy (run n b (didCalls n ws bl fl))) bl
+  pub book : b′ ≡ bookAfter n [] b (didCalls n ws bl fl)
+  pub blocks : bl′ ≡ over (handedBy (run n [] b (didCalls n ws bl fl))) bl
   -- none of these takes and releases is refused
-  pub unrefused : All (λ (r : Reply). r .code ≡ 0) (run n b (didCalls n ws bl fl))
+  pub unrefused : All (λ (r : Reply). r .code ≡ 0) (run n [] b (didCalls n ws bl fl))
 
 -- ---- the figures
 -- "the highest bytes out so far": the maximum over the moments after each word, of which the first is the opening
@@ -90,7 +91,7 @@ stillOut [] = []
 stillOut (h ∷ hs) = cond (h .back) (stillOut hs) (h .entry ∷ stillOut hs)
 
 pub record TraceOut (n : ℕ) (ws bl fl : List ℕ) : Type 0 where
-  pub out : (e : Entry) → In e (stillOut (reached n ws bl fl .handed)) ↔ Live 0 (events n (didCalls n ws bl fl)) e
+  pub out : (e : Entry) → In e (stillOut (reached n ws bl fl .handed)) ↔ Live 0 (events n (rulesOf []) (didCalls n ws bl fl)) e
 
 pub record Traces (n : ℕ) (b ws bl fl : List ℕ) (r : ℕ) (b′ bl′ fl′ dn′ : List ℕ) : Type 0 where
   pub opens : TraceOpens n b ws bl fl b′ bl′
@@ -101,6 +102,6 @@ pub record Traces (n : ℕ) (b ws bl fl : List ℕ) (r : ℕ) (b′ bl′ fl′ 
 pub record Trace : Type 0 where
   -- "it is checked after 14", and so after 1 and 2
   pub starts : (n : ℕ) (b ws bl fl dn : List ℕ) (r : ℕ) (b′ bl′ fl′ dn′ : List ℕ) → TraceEnds (traceOn b n ws bl fl dn) r b′ bl′ fl′ dn′
-      → ((r ≡ 0) ⊎ (r ≡ 16)) ↔ Opens n b
+      → ((r ≡ 0) ⊎ (r ≡ 16)) ↔ Opens n [] b
   pub traces : (n : ℕ) (b ws bl fl dn : List ℕ) (r : ℕ) (b′ bl′ fl′ dn′ : List ℕ) → TraceEnds (traceOn b n ws bl fl dn) r b′ bl′ fl′ dn′
-      → Opens n b → Traces n b ws bl fl r b′ bl′ fl′ dn′
+      → Opens n [] b → Traces n b ws bl fl r b′ bl′ fl′ dn′

@@ -1,6 +1,7 @@
 -- The ways out of the direct calls, and what they ask of the steps.
 use Prim.Native.Nat.{ℕ, zero, suc, _+_, _-_, _*_, _^_, _≤_, _<_}
 use native.Mathlib.Omega.{arith}
+use native.Mathlib.Numerals.{add-one}
 use mathlib.Core.Bool.{Bool, true, false, _||_}
 use mathlib.Core.List.{List}
 use mathlib.Core.Option.{Option, none, some}
@@ -15,6 +16,11 @@ use Rattle.facts.proofs.Bools.{by-cases, and-left, and-right, and-no}
 use Rattle.words.specs.Limits.{maxPages}
 use Rattle.words.specs.Host.{commitGranted}
 use Rattle.fields.specs.Field.{arena, frontier, state, held, get}
+use Rattle.classes.specs.Shape.{classCount}
+use Rattle.rules.specs.declared.Limits.{Limits}
+use Rattle.rules.specs.Rules.{rulesOf}
+use Rattle.fields.proofs.Laws.{length-put}
+use Rattle.direct.specs.Asks.{RowIn}
 use Rattle.model.specs.Heap.{badRun, badGrowth, direct}
 use Rattle.model.specs.Arena as Model
 use Rattle.holes.specs.declared.Arena.{Arena}
@@ -25,7 +31,7 @@ use Rattle.arena.specs.Load.{statusOf, loadArena}
 use Rattle.arena.specs.Owners.{ownerCode}
 use Rattle.holes.specs.Record.{recordOf}
 use Rattle.arena.specs.Fair.{recordFair, holesEndFair, giveFair, growGives, growFair}
-use Rattle.arena.specs.Open.{cleared, headWords}
+use Rattle.arena.specs.Open.{cleared, headWords, limited, ruled}
 use Rattle.arena.specs.Calls.{commitFor, commitCall, given, heldDirect, releaseCall, growCall, containsCall}
 use Rattle.holes.specs.Act.{endNone, endRun, endGiven, settle, fromFrontier, growWith, growActs, clamped}
 use Rattle.runs.specs.Asks.{GiveIn, BookIn, EndsIn}
@@ -93,6 +99,32 @@ clear-again b₀ b i k l =
 pub clear-done : (b₀ b : List ℕ) (i : ℕ) → Clearing b₀ b i → 768 ≤ i → b ≡ cleared b₀ headWords
 unfolding headWords
 clear-done b₀ b i k l = let z : i ≡ 768 = (let y = k .within in omega arith) in rw z at (k .rest)
+
+-- ---- the limits of the first c classes
+module _ (b₀ rows : List ℕ) where
+  pub record Ruling (b : List ℕ) (c : ℕ) : Type 0 where
+    pub within : c ≤ classCount
+    pub long : length b ≡ length b₀
+    pub rest : b ≡ ruled b₀ (rulesOf rows) c
+
+  pub rule-start : Ruling b₀ 0
+  unfolding ruled
+  rule-start = record { within = omega arith; long = refl; rest = refl }
+
+  module _ (b : List ℕ) (c : ℕ) (k : Ruling b c) (l : c < classCount) where
+    pub rule-row : 40000 ≤ length b₀ → RowIn b c
+    rule-row h = record { known = l; long = omega (arith, k .long) }
+
+    pub rule-again : (lim : Limits) (b′ : List ℕ) → lim ≡ rulesOf rows c → b′ ≡ limited b c lim → Ruling b′ (c + 1)
+    unfolding ruled
+    rule-again lim b′ e z = record {
+      within = omega arith;
+      long = ap length z ∙ length-put _ _ _ ∙ length-put _ _ _ ∙ k .long;
+      rest = rw add-one (z ∙ rw (e, k .rest));
+    }
+
+  pub rule-done : (b : List ℕ) (c : ℕ) → Ruling b c → classCount ≤ c → b ≡ ruled b₀ (rulesOf rows) classCount
+  rule-done b c k l = let z : c ≡ classCount = (let y = k .within in omega arith) in rw z at (k .rest)
 
 -- ---- contains
 module _ (n : ℕ) (b : List ℕ) (o k : ℕ) where

@@ -1,8 +1,14 @@
-// Opening: 0 in the words before the holes, then the arena's length.
+// Opening: 0 in the words before the holes, then the arena's length and the limits of every class.
+ghost use mathlib.Core.List.{[]};
 ghost use mathlib.Core.Path.{_≡_};
 ghost use Prim.Native.Nat.{_≤_};
 ghost use lib.ListN.{length};
-ghost use Rattle.arena.specs.Open.{cleared, headWords, opened};
+ghost use Rattle.classes.specs.Shape.{classCount};
+ghost use Rattle.rules.specs.Rules.{rulesOf};
+ghost use Rattle.arena.specs.Open.{cleared, headWords, limited, ruled, opened};
+ghost use Rattle.direct.specs.Asks.{RowIn};
+use classes::CLASS_COUNT;
+use rules::Limits;
 
 fn clear_head(meta: &mut [u32])
     requires { ⌜ 40000 ≤ length (now meta) ⌝ }
@@ -15,10 +21,39 @@ fn clear_head(meta: &mut [u32])
     }
 }
 
-pub fn open(meta: &mut [u32], pages: u32)
+fn limit_class(meta: &mut [u32], c: u32, limits: Limits)
+    requires { ⌜ RowIn (now meta) c ⌝ }
+    ensures { λ _. ⌜ now (meta .exit) ≡ limited (now (meta .entry)) c limits ⌝ }
+{
+    fields::class::set_empty_limit(meta, c, limits.empty);
+    fields::class::set_cold_limit(meta, c, limits.cold);
+}
+
+fn set_rules(meta: &mut [u32], rows: &[u32])
     requires { ⌜ 40000 ≤ length (now meta) ⌝ }
-    ensures { λ _. ⌜ now (meta .exit) ≡ opened pages (now (meta .entry)) ⌝ }
+    ensures { λ _. ⌜ now (meta .exit) ≡ ruled (now (meta .entry)) (rulesOf (now (rows .entry))) classCount ⌝ }
+{
+    let mut c = 0;
+    while c < CLASS_COUNT {
+        limit_class(meta, c, rules::limits_of(rows, c));
+        c += 1;
+    }
+}
+
+pub fn open(meta: &mut [u32], pages: u32, rows: &[u32])
+    requires { ⌜ 40000 ≤ length (now meta) ⌝ }
+    ensures { λ _. ⌜ now (meta .exit) ≡ opened pages (rulesOf (now (rows .entry))) (now (meta .entry)) ⌝ }
 {
     clear_head(meta);
     fields::arena::set_size(meta, pages);
+    set_rules(meta, rows);
+}
+
+// Without rows.
+pub fn open_plain(meta: &mut [u32], pages: u32)
+    requires { ⌜ 40000 ≤ length (now meta) ⌝ }
+    ensures { λ _. ⌜ now (meta .exit) ≡ opened pages (rulesOf []) (now (meta .entry)) ⌝ }
+{
+    let none: [u32; 1] = [0; 1];
+    open(meta, pages, &none[..0]);
 }

@@ -11,7 +11,7 @@ use lib.Dec.{eqb}
 use lib.ListN.{length, getD}
 use borrow.Author.Tests.{eqb-true}
 use Rattle.facts.proofs.Bools.{and-left, and-right}
-use Rattle.fields.specs.Field.{Field, arena, mark, class, hole, page, out, slot, size, state, frontier, holes, holePages, commits, commitsHigh, reuses, reusesHigh, abandoned, abandonedHigh, held, partial, empty, emptyCount, cold, coldCount, start, pages, owner, first, next, prev, free, carved, listed, virgin, tally, region, off, block, row, get, put, same, ok}
+use Rattle.fields.specs.Field.{Field, arena, mark, class, hole, page, out, slot, size, state, frontier, holes, holePages, commits, commitsHigh, reuses, reusesHigh, abandoned, abandonedHigh, held, partial, empty, emptyCount, cold, coldCount, emptyLimit, coldLimit, start, pages, owner, first, next, prev, free, carved, listed, virgin, tally, region, off, block, row, get, put, same, ok}
 use Rattle.fields.proofs.Laws.{get-put-other, length-put}
 
 -- ---- a field from its four numbers
@@ -19,7 +19,7 @@ makers : List (List (ℕ → ℕ → Field))
 makers =
     map (λ k i r. arena k) (size ∷ state ∷ frontier ∷ holes ∷ holePages ∷ commits ∷ commitsHigh ∷ reuses ∷ reusesHigh ∷ abandoned ∷ abandonedHigh ∷ held ∷ [])
     ∷ ((λ i r. mark r i) ∷ [])
-    ∷ map (λ k i r. class k r) (partial ∷ empty ∷ emptyCount ∷ cold ∷ coldCount ∷ [])
+    ∷ map (λ k i r. class k r) (partial ∷ empty ∷ emptyCount ∷ cold ∷ coldCount ∷ emptyLimit ∷ coldLimit ∷ [])
     ∷ map (λ k i r. hole k r) (start ∷ pages ∷ [])
     ∷ map (λ k i r. page k r) (owner ∷ first ∷ next ∷ prev ∷ free ∷ carved ∷ listed ∷ virgin ∷ tally ∷ [])
     ∷ ((λ i r. out r i) ∷ [])
@@ -49,6 +49,8 @@ made (class empty c) = refl
 made (class emptyCount c) = refl
 made (class cold c) = refl
 made (class coldCount c) = refl
+made (class emptyLimit c) = refl
+made (class coldLimit c) = refl
 made (hole start i) = refl
 made (hole pages i) = refl
 made (page owner p) = refl

@@ -41,6 +41,8 @@ classOff-lt ClassField.empty = omega arith
 classOff-lt ClassField.emptyCount = omega arith
 classOff-lt ClassField.cold = omega arith
 classOff-lt ClassField.coldCount = omega arith
+classOff-lt ClassField.emptyLimit = omega arith
+classOff-lt ClassField.coldLimit = omega arith
 
 holeOff-lt : (k : HoleField) → holeOff k < 2
 holeOff-lt HoleField.start = omega arith

@@ -20,7 +20,7 @@ pub data ArenaField : Type 0 where
   size state frontier holes holePages commits commitsHigh reuses reusesHigh abandoned abandonedHigh held : ArenaField
 
 pub data ClassField : Type 0 where
-  partial empty emptyCount cold coldCount : ClassField
+  partial empty emptyCount cold coldCount emptyLimit coldLimit : ClassField
 
 pub data HoleField : Type 0 where
   start pages : HoleField
@@ -58,6 +58,8 @@ classOff empty = 1
 classOff emptyCount = 2
 classOff cold = 3
 classOff coldCount = 4
+classOff emptyLimit = 5
+classOff coldLimit = 6
 
 abbrev pub holeOff : HoleField → ℕ
 holeOff start = 0

@@ -1,7 +1,7 @@
-// A class's row: the partial list's head, the empty and the cold store with their counts.
+// A class's row: the partial list's head, the empty and the cold store with their counts, and the limits of these.
 ghost use mathlib.Core.Path.{_≡_};
 ghost use Prim.Native.Nat.{_+_, _*_, _<_};
-ghost use Rattle.fields.specs.Field.{class, partial, empty, emptyCount, cold, coldCount, Has, get, put};
+ghost use Rattle.fields.specs.Field.{class, partial, empty, emptyCount, cold, coldCount, emptyLimit, coldLimit, Has, get, put};
 
 // Word k of the row of class c.
 fn class_word(c: u32, k: usize) -> usize
@@ -79,4 +79,32 @@ pub fn set_cold_count(meta: &mut [u32], c: u32, v: u32)
     ensures { λ _. ⌜ now (meta .exit) ≡ put (now (meta .entry)) (class coldCount c) v ⌝ }
 {
     meta[class_word(c, 4)] = v;
+}
+
+pub fn empty_limit(meta: &[u32], c: u32) -> u32
+    requires { ⌜ Has (now meta) (class emptyLimit c) ⌝ }
+    ensures { λ r. ⌜ r ≡ get (now (meta .entry)) (class emptyLimit c) ⌝ }
+{
+    meta[class_word(c, 5)]
+}
+
+pub fn set_empty_limit(meta: &mut [u32], c: u32, v: u32)
+    requires { ⌜ Has (now meta) (class emptyLimit c) ⌝ }
+    ensures { λ _. ⌜ now (meta .exit) ≡ put (now (meta .entry)) (class emptyLimit c) v ⌝ }
+{
+    meta[class_word(c, 5)] = v;
+}
+
+pub fn cold_limit(meta: &[u32], c: u32) -> u32
+    requires { ⌜ Has (now meta) (class coldLimit c) ⌝ }
+    ensures { λ r. ⌜ r ≡ get (now (meta .entry)) (class coldLimit c) ⌝ }
+{
+    meta[class_word(c, 6)]
+}
+
+pub fn set_cold_limit(meta: &mut [u32], c: u32, v: u32)
+    requires { ⌜ Has (now meta) (class coldLimit c) ⌝ }
+    ensures { λ _. ⌜ now (meta .exit) ≡ put (now (meta .entry)) (class coldLimit c) v ⌝ }
+{
+    meta[class_word(c, 6)] = v;
 }

@@ -12,10 +12,12 @@ use Rattle.classes.specs.declared.Shape.{Shape}
 use Rattle.classes.specs.Shape.{shapeOf}
 use Rattle.classes.specs.Sound.{Sound}
 use Rattle.classes.proofs.Shapes.{shape-sound}
+use Rattle.rules.specs.declared.Limits.{Limits}
+use Rattle.rules.specs.Rules.{Rules}
 use Rattle.model.specs.Calls as Calls
 use Rattle.model.specs.Calls.{Call, Answer, Request, names, Way, turned, straight, toClass, wayOf, hostOf}
 use Rattle.model.specs.Page.{Page}
-use Rattle.model.specs.Class.{Class, Cold, Result, Ask, done, asks, serve, refuse, takeFrom}
+use Rattle.model.specs.Class.{Class, newClass, Cold, Result, Ask, done, asks, serve, refuse, takeFrom}
 use Rattle.model.specs.Release.{Site, onPage, releaseList}
 use Rattle.model.specs.Chunks.{releaseChunks, answer}
 use Rattle.model.specs.Heap.{Heap, Outcome, step, route, classCall, interact, directCall, finish, offer, newHeap, runWith, asked, commitCall, growCall, releaseCall}
@@ -33,7 +35,7 @@ shows-cond : (sh : Shape) (b : Bool) (x y : Ask) → Shows sh x → Shows sh y �
 shows-cond sh true x y p q = p
 shows-cond sh false x y p q = q
 
-module _ (sh : Shape) (ok : Sound sh) where
+module _ (sh : Shape) (ok : Sound sh) (lim : Limits) where
   take-shows : (l : List ℕ) (ps es : List Page) (cs : List Cold) (fs : List Page) → Shows sh (takeFrom sh l ps es cs fs)
   unfolding takeFrom
   take-shows l (p ∷ ps) es cs fs = is-done
@@ -41,12 +43,12 @@ module _ (sh : Shape) (ok : Sound sh) where
   take-shows l [] [] (c ∷ cs) fs = is-done
   take-shows l [] [] [] fs = is-asked (run-tells sh ok l fs)
 
-  page-shows : (h : ℕ) (s : Class) (ws : List ℕ) (x : Option Site) → Shows sh (onPage sh h s ws x)
+  page-shows : (h : ℕ) (s : Class) (ws : List ℕ) (x : Option Site) → Shows sh (onPage sh lim h s ws x)
   unfolding onPage
   page-shows h s ws none = is-done
   page-shows h s ws (some x) = search (shows-cond, is-done)
 
-  answer-shows : (s : Class) (r : Request) → Shows sh (answer sh s r)
+  answer-shows : (s : Class) (r : Request) → Shows sh (answer sh lim s r)
   unfolding answer releaseList releaseChunks
   answer-shows s (Calls.take h l) = search (shows-cond, is-done, take-shows)
   answer-shows s (Calls.giveBack h ws) = search (shows-cond, is-done, page-shows)
@@ -62,50 +64,51 @@ serve-tells g g′ is-done f f′ e = f ∙ sym f′
 serve-tells g g′ (is-asked s) f f′ e = s g g′ e
 
 -- a class by itself: its calls and what it is given
-abbrev ask : ℕ → Class → Way → Ask
-ask c s turned = refuse s 3
-ask c s straight = refuse s 4
-ask c s (toClass d) = answer (shapeOf c) s (d .request)
+abbrev ask : Limits → ℕ → Class → Way → Ask
+ask lim c s turned = refuse s 3
+ask lim c s straight = refuse s 4
+ask lim c s (toClass d) = answer (shapeOf c) lim s (d .request)
 
-abbrev reply : ℕ → Class → Call → Option ℕ → Result
-reply c s x g = serve (ask c s (wayOf x)) g
+abbrev reply : Limits → ℕ → Class → Call → Option ℕ → Result
+reply lim c s x g = serve (ask lim c s (wayOf x)) g
 
-abbrev replay : ℕ → Class → List Call → List (Option ℕ) → List Answer
-replay c s [] gs = []
-replay c s (x ∷ xs) [] = []
-replay c s (x ∷ xs) (g ∷ gs) = reply c s x g .answer ∷ replay c (reply c s x g .class) xs gs
+abbrev replay : Limits → ℕ → Class → List Call → List (Option ℕ) → List Answer
+replay lim c s [] gs = []
+replay lim c s (x ∷ xs) [] = []
+replay lim c s (x ∷ xs) (g ∷ gs) = reply lim c s x g .answer ∷ replay lim c (reply lim c s x g .class) xs gs
 
 -- one gift for each call, and none to a call that does not ask
-abbrev AllFit : ℕ → Class → List Call → List (Option ℕ) → Type 0
-AllFit c s [] gs = gs ≡ []
-AllFit c s (x ∷ xs) [] = ⊥
-AllFit c s (x ∷ xs) (g ∷ gs) = Fits (ask c s (wayOf x)) g × AllFit c (reply c s x g .class) xs gs
+abbrev AllFit : Limits → ℕ → Class → List Call → List (Option ℕ) → Type 0
+AllFit lim c s [] gs = gs ≡ []
+AllFit lim c s (x ∷ xs) [] = ⊥
+AllFit lim c s (x ∷ xs) (g ∷ gs) = Fits (ask lim c s (wayOf x)) g × AllFit lim c (reply lim c s x g .class) xs gs
 
-ask-shows : (c : ℕ) (s : Class) (w : Way) → Shows (shapeOf c) (ask c s w)
-ask-shows c s turned = is-done
-ask-shows c s straight = is-done
-ask-shows c s (toClass d) = answer-shows (shapeOf c) (shape-sound c) s (d .request)
+ask-shows : (lim : Limits) (c : ℕ) (s : Class) (w : Way) → Shows (shapeOf c) (ask lim c s w)
+ask-shows lim c s turned = is-done
+ask-shows lim c s straight = is-done
+ask-shows lim c s (toClass d) = answer-shows (shapeOf c) (shape-sound c) lim s (d .request)
 
 -- from answers to gifts
-replay-tells : (c : ℕ) (s : Class) (xs : List Call) (gs gs′ : List (Option ℕ)) → AllFit c s xs gs → AllFit c s xs gs′ → replay c s xs gs ≡ replay c s xs gs′ → gs ≡ gs′
-replay-tells c s [] gs gs′ f f′ e = f ∙ sym f′
-replay-tells c s (x ∷ xs) [] gs′ f f′ e = absurd f
-replay-tells c s (x ∷ xs) (g ∷ gs) [] f f′ e = absurd f′
-replay-tells c s (x ∷ xs) (g ∷ gs) (g′ ∷ gs′) f f′ e =
-    let same : g ≡ g′ = serve-tells g g′ (ask-shows c s (wayOf x)) (f .0) (f′ .0) (head-eq-of-cons-eq e) in
-    let rest = subst (λ z. AllFit c (reply c s x z .class) xs gs′ → replay c (reply c s x g .class) xs gs ≡ replay c (reply c s x z .class) xs gs′ → gs ≡ gs′)
-    same (replay-tells c (reply c s x g .class) xs gs gs′ (f .1)) in
+replay-tells : (lim : Limits) (c : ℕ) (s : Class) (xs : List Call) (gs gs′ : List (Option ℕ)) → AllFit lim c s xs gs → AllFit lim c s xs gs′ → replay lim c s xs gs ≡ replay lim c s xs gs′ → gs ≡ gs′
+replay-tells lim c s [] gs gs′ f f′ e = f ∙ sym f′
+replay-tells lim c s (x ∷ xs) [] gs′ f f′ e = absurd f
+replay-tells lim c s (x ∷ xs) (g ∷ gs) [] f f′ e = absurd f′
+replay-tells lim c s (x ∷ xs) (g ∷ gs) (g′ ∷ gs′) f f′ e =
+    let same : g ≡ g′ = serve-tells g g′ (ask-shows lim c s (wayOf x)) (f .0) (f′ .0) (head-eq-of-cons-eq e) in
+    let rest = subst (λ z. AllFit lim c (reply lim c s x z .class) xs gs′ → replay lim c (reply lim c s x g .class) xs gs ≡ replay lim c (reply lim c s x z .class) xs gs′ → gs ≡ gs′)
+    same (replay-tells lim c (reply lim c s x g .class) xs gs gs′ (f .1)) in
     ap₂ _∷_ same (rest (f′ .1) (tail-eq-of-cons-eq e))
 
--- a call that names no class leaves all classes
-pub record Keeps (C : ℕ → Class) (o : Outcome) : Type 0 where
+-- a call that names no class leaves all classes, and no call changes the rules
+pub record Keeps (C : ℕ → Class) (R : Rules) (o : Outcome) : Type 0 where
   pub kept : o .heap .classes ≡ C
+  pub ruled : o .heap .rules ≡ R
 
-keeps-cond : (C : ℕ → Class) (b : Bool) (x y : Outcome) → Keeps C x → Keeps C y → Keeps C (cond b x y)
-keeps-cond C true x y p q = p
-keeps-cond C false x y p q = q
+keeps-cond : (C : ℕ → Class) (R : Rules) (b : Bool) (x y : Outcome) → Keeps C R x → Keeps C R y → Keeps C R (cond b x y)
+keeps-cond C R true x y p q = p
+keeps-cond C R false x y p q = q
 
-pub direct-keeps : (size : ℕ) (H : Heap) (x : Call) → Keeps (H .classes) (directCall size H x)
+pub direct-keeps : (size : ℕ) (H : Heap) (x : Call) → Keeps (H .classes) (H .rules) (directCall size H x)
 unfolding directCall commitCall growCall releaseCall
 direct-keeps size H (Calls.takeBlocks c h l) = search
 direct-keeps size H (Calls.mediumTakeBlocks c h l) = search
@@ -142,42 +145,42 @@ module _ (size : ℕ) (H : Heap) where
   other c x (is-straight t n) e = ap (λ f. f c) (direct-keeps size H x .kept)
   other c x (is-class d t n) e = update-other (H .classes) (d .class) c _ (rw n at e)
 
-  own-call : (c : ℕ) (r : Request) → Own c (classCall size H c r) (answer (shapeOf c) (H .classes c) r)
+  own-call : (c : ℕ) (r : Request) → Own c (classCall size H c r) (answer (shapeOf c) (H .rules c) (H .classes c) r)
   unfolding classCall interact finish
   own-call c r =
-      let q = answer (shapeOf c) (H .classes c) r in
+      let q = answer (shapeOf c) (H .rules c) (H .classes c) r in
       let f = offer-fits size (hostOf r) H q in
       record {
         gift = offer size (hostOf r) (H .arena) q .run;
-        run = asked-pages (offer size (hostOf r) (H .arena) q .run) (answer-shows (shapeOf c) (shape-sound c) (H .classes c) r) f;
+        run = asked-pages (offer size (hostOf r) (H .arena) q .run) (answer-shows (shapeOf c) (shape-sound c) (H .rules c) (H .classes c) r) f;
         class = update-same (H .classes) c _;
         answer = refl;
         fits = f;
       }
 
-  own : (c : ℕ) (x : Call) {w : Way} → Goes x w → isOf c (names x) ≡ true → Own c (route size H x w) (ask c (H .classes c) w)
+  own : (c : ℕ) (x : Call) {w : Way} → Goes x w → isOf c (names x) ≡ true → Own c (route size H x w) (ask (H .rules c) c (H .classes c) w)
   own c x (is-turned t) e = record { gift = none; run = refl; class = refl; answer = refl; fits = refl }
   own c x (is-straight t n) e = absurd (false≢true (rw n at e))
   own c x (is-class d t n) e =
-      subst (λ k. Own c (classCall size H k (d .request)) (answer (shapeOf c) (H .classes c) (d .request))) (sym (eqb-true (d .class) c (rw n at e))) (own-call c (d .request))
+      subst (λ k. Own c (classCall size H k (d .request)) (answer (shapeOf c) (H .rules c) (H .classes c) (d .request))) (sym (eqb-true (d .class) c (rw n at e))) (own-call c (d .request))
 
 -- a class's answers are a replay of its calls with what it was given
-record Replayed (c : ℕ) (s : Class) (xs : List Call) (es : List Event) : Type 0 where
+record Replayed (lim : Limits) (c : ℕ) (s : Class) (xs : List Call) (es : List Event) : Type 0 where
   gifts : List (Option ℕ)
   runs : runsOf c es ≡ map (runWith (shapeOf c .pages)) gifts
-  answers : answersOf c es ≡ replay c s (callsOf c xs) gifts
-  fit : AllFit c s (callsOf c xs) gifts
+  answers : answersOf c es ≡ replay lim c s (callsOf c xs) gifts
+  fit : AllFit lim c s (callsOf c xs) gifts
 
-module _ (c : ℕ) (s : Class) (x : Call) (xs : List Call) (o : Outcome) (es : List Event) (ih : Replayed c (o .heap .classes c) xs es) where
-  replayed-own : isOf c (names x) ≡ true → Own c o (ask c s (wayOf x)) → Replayed c s (x ∷ xs) (eventOf x o ∷ es)
+module _ (lim : Limits) (c : ℕ) (s : Class) (x : Call) (xs : List Call) (o : Outcome) (es : List Event) (ih : Replayed lim c (o .heap .classes c) xs es) where
+  replayed-own : isOf c (names x) ≡ true → Own c o (ask lim c s (wayOf x)) → Replayed lim c s (x ∷ xs) (eventOf x o ∷ es)
   replayed-own e own = record {
     gifts = own .gift ∷ ih .gifts;
     runs = rw e (ap₂ _∷_ (own .run) (ih .runs));
-    answers = rw e (ap₂ _∷_ (own .answer) (ih .answers ∙ ap (λ z. replay c z (callsOf c xs) (ih .gifts)) (own .class)));
-    fit = rw e (own .fits, subst (λ z. AllFit c z (callsOf c xs) (ih .gifts)) (own .class) (ih .fit));
+    answers = rw e (ap₂ _∷_ (own .answer) (ih .answers ∙ ap (λ z. replay lim c z (callsOf c xs) (ih .gifts)) (own .class)));
+    fit = rw e (own .fits, subst (λ z. AllFit lim c z (callsOf c xs) (ih .gifts)) (own .class) (ih .fit));
   }
 
-  replayed-other : isOf c (names x) ≡ false → o .heap .classes c ≡ s → Replayed c s (x ∷ xs) (eventOf x o ∷ es)
+  replayed-other : isOf c (names x) ≡ false → o .heap .classes c ≡ s → Replayed lim c s (x ∷ xs) (eventOf x o ∷ es)
   replayed-other e kept = record {
     gifts = ih .gifts;
     runs = rw e (ih .runs);
@@ -185,14 +188,24 @@ module _ (c : ℕ) (s : Class) (x : Call) (xs : List Call) (o : Outcome) (es : L
     fit = rw e (rw kept at (ih .fit));
   }
 
-replayed : (size c : ℕ) (H : Heap) (xs : List Call) → Replayed c (H .classes c) xs (eventsFrom size H xs)
+pub step-rules : (size : ℕ) (H : Heap) (x : Call) → step size H x .heap .rules ≡ H .rules
+unfolding step classCall interact finish
+step-rules size H x = go (wayOf x)
+  where
+    go : (w : Way) → route size H x w .heap .rules ≡ H .rules
+    go turned = refl
+    go straight = direct-keeps size H x .ruled
+    go (toClass d) = refl
+
+replayed : (size c : ℕ) (H : Heap) (xs : List Call) → Replayed (H .rules c) c (H .classes c) xs (eventsFrom size H xs)
 unfolding step
 replayed size c H [] = record { gifts = []; runs = refl; answers = refl; fit = refl }
 replayed size c H (x ∷ xs) =
-    let ih = replayed size c (step size H x .heap) xs in
+    let o = step size H x in
+    let ih = subst (λ (r : Rules). Replayed (r c) c (o .heap .classes c) xs (eventsFrom size (o .heap) xs)) (step-rules size H x) (replayed size c (o .heap) xs) in
     by-cases (isOf c (names x))
-    (λ e. replayed-own c (H .classes c) x xs (step size H x) _ ih e (own size H c x (goes x) e))
-    (λ e. replayed-other c (H .classes c) x xs (step size H x) _ ih e (other size H c x (goes x) e))
+    (λ e. replayed-own (H .rules c) c (H .classes c) x xs o _ ih e (own size H c x (goes x) e))
+    (λ e. replayed-other (H .rules c) c (H .classes c) x xs o _ ih e (other size H c x (goes x) e))
 
 -- from runs to gifts
 run-first : (n : ℕ) (g g′ : Option ℕ) → runWith n g ≡ runWith n g′ → g ≡ g′
@@ -207,12 +220,13 @@ runs-first n [] (g ∷ gs) e = cc
 runs-first n (g ∷ gs) [] e = cc
 runs-first n (g ∷ gs) (g′ ∷ gs′) e = ap₂ _∷_ (run-first n g g′ (head-eq-of-cons-eq e)) (runs-first n gs gs′ (tail-eq-of-cons-eq e))
 
--- The two arenas need not have one length.
-pub alone : (size₁ size₂ c : ℕ) (xs ys : List Call) → callsOf c xs ≡ callsOf c ys
-    → (answersOf c (events size₁ xs) ≡ answersOf c (events size₂ ys)) ↔ (runsOf c (events size₁ xs) ≡ runsOf c (events size₂ ys))
-alone size₁ size₂ c xs ys same =
-    let a = replayed size₁ c newHeap xs in
-    let b = replayed size₂ c newHeap ys in (
-      (λ e. a .runs ∙ ap (map (runWith (shapeOf c .pages))) (replay-tells c (newHeap .classes c) (callsOf c xs) (a .gifts) (b .gifts) (a .fit) (rw same (b .fit)) (sym (a .answers) ∙ e ∙ rw same (b .answers))) ∙ sym (b .runs)),
+-- The two arenas need not have one length, and the other classes may have other limits.
+pub alone : (size₁ size₂ : ℕ) (rules₁ rules₂ : Rules) (c : ℕ) (xs ys : List Call) → rules₁ c ≡ rules₂ c → callsOf c xs ≡ callsOf c ys
+    → (answersOf c (events size₁ rules₁ xs) ≡ answersOf c (events size₂ rules₂ ys)) ↔ (runsOf c (events size₁ rules₁ xs) ≡ runsOf c (events size₂ rules₂ ys))
+unfolding newHeap
+alone size₁ size₂ rules₁ rules₂ c xs ys lim same =
+    let a = replayed size₁ c (newHeap rules₁) xs in
+    let b = subst (λ (l : Limits). Replayed l c newClass ys (events size₂ rules₂ ys)) (sym lim) (replayed size₂ c (newHeap rules₂) ys) in (
+      (λ e. a .runs ∙ ap (map (runWith (shapeOf c .pages))) (replay-tells (rules₁ c) c newClass (callsOf c xs) (a .gifts) (b .gifts) (a .fit) (rw same (b .fit)) (sym (a .answers) ∙ e ∙ rw same (b .answers))) ∙ sym (b .runs)),
       (λ e. a .answers ∙ rw (same, runs-first (shapeOf c .pages) (a .gifts) (b .gifts) (sym (a .runs) ∙ e ∙ b .runs)) (sym (b .answers))),
     )

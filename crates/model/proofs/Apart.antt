@@ -17,6 +17,7 @@ use Rattle.classes.specs.Shape.{shapeOf}
 use Rattle.classes.specs.Sizes.{granuleBytes, pageBytes}
 use Rattle.classes.specs.Sound.{Sound}
 use Rattle.classes.proofs.Shapes.{shape-sound}
+use Rattle.rules.specs.Rules.{Rules}
 use Rattle.model.specs.Calls.{Call}
 use Rattle.model.specs.Page.{Page, wordOf, wordsFrom, pageGranules, carvedWords}
 use Rattle.model.specs.Heap.{Heap}
@@ -228,27 +229,27 @@ module _ (size n : ℕ) (H : Heap) (es : List Entry) (f : ℕ → Bool) (l : ℕ
       let h : HasByte e (firstByte e) = record { from = omega arith; to = omega (arith, shape-sound (e .class) .wide) } in
       (firstByte e, h, subst (λ z. HasByte z (firstByte e)) same h)
 
-module _ (size : ℕ) (small : size ≤ maxPages) (xs : List Call) where
-  live : (e : Entry) → Live 0 (events size xs) e → In e (liveFrom 0 [] (events size xs))
-  live e o = live-in 0 e [] (events size xs) o
+module _ (size : ℕ) (small : size ≤ maxPages) (rules : Rules) (xs : List Call) where
+  live : (e : Entry) → Live 0 (events size rules xs) e → In e (liveFrom 0 [] (events size rules xs))
+  live e o = live-in 0 e [] (events size rules xs) o
 
-  same : (e e′ : Entry) → Live 0 (events size xs) e → Live 0 (events size xs) e′ → (b : ℕ) → HasByte e b → HasByte e′ b → e ≡ e′
-  same e e′ o o′ = let k = kept size xs in entry-same size (k .number) _ _ _ _ (k .inv) small e e′ (live e o) (live e′ o′)
+  same : (e e′ : Entry) → Live 0 (events size rules xs) e → Live 0 (events size rules xs) e′ → (b : ℕ) → HasByte e b → HasByte e′ b → e ≡ e′
+  same e e′ o o′ = let k = kept size rules xs in entry-same size (k .number) _ _ _ _ (k .inv) small e e′ (live e o) (live e′ o′)
 
-  pub disjoint : Disjoint (events size xs)
+  pub disjoint : Disjoint (events size rules xs)
   disjoint =
-      let k = kept size xs in
+      let k = kept size rules xs in
       record {
         apart = λ e e′ o o′. (
           (λ s. let p = same e e′ o o′ (s .0) (s .1) (s .2) in (ap (λ z. z .call) p, ap (λ z. z .place) p)),
           (λ p. entry-shares size (k .number) _ _ _ _ (k .inv) small e e′ (live e o) (live e′ o′) p),
         );
-        offDirect = λ e o b h. k .inv .directs (b / pageBytes) ∙ not-direct (e .class) (heapAfter size xs .holder (b / pageBytes)) (entry-held size (k .number) _ _ _ _ (k .inv) small e (live e o) b h);
+        offDirect = λ e o b h. k .inv .directs (b / pageBytes) ∙ not-direct (e .class) (heapAfter size rules xs .holder (b / pageBytes)) (entry-held size (k .number) _ _ _ _ (k .inv) small e (live e o) b h);
       }
 
-  pub iso-disjoint : IsoDisjoint size (events size xs)
+  pub iso-disjoint : IsoDisjoint size (events size rules xs)
   iso-disjoint =
-      let k = kept size xs in
+      let k = kept size rules xs in
       record {
         inArena = λ e o. entry-inside size (k .number) _ _ _ _ (k .inv) small e (live e o);
         noCommon = λ e e′ o o′ other i j h h′ p.

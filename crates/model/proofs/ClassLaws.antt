@@ -11,6 +11,7 @@ use lib.Seq.{take-append-seam}
 use borrow.Author.Tests.{eqb-true, eq-eqb, leb-true, leb-false, not-false}
 use Rattle.facts.specs.Lists.{every, All, total, elem, distinct, count}
 use Rattle.facts.proofs.Bools.{by-cases, and-right}
+use Rattle.rules.specs.declared.Limits.{Limits}
 use Rattle.model.specs.Cover.{covers, coversAll, coversRun}
 use Rattle.words.specs.Word.{pageOf}
 use Rattle.classes.specs.declared.Shape.{Shape}
@@ -54,7 +55,7 @@ module _ (sh : Shape) (s : Class) (good : GoodClass sh s) where
   lawful-refuse : (a : Request) (n : ℕ) → Lawful sh s a (refuse s n)
   lawful-refuse a n = lawful-done (refuse-moves n)
 
-module _ (sh : Shape) (ok : Sound sh) where
+module _ (sh : Shape) (ok : Sound sh) (lim : Limits) where
   -- takes: what is served from pages ps, with the others es, cs, fs
   served-moves : (s : Class) (g : Option ℕ) (l : List ℕ) (ps es : List Page) (cs : List Cold) (fs : List Page) (f : Filled)
       → Fills sh ok ps f → All (EmptyPage sh) es → All (GoodPage sh) fs
@@ -120,9 +121,9 @@ module _ (sh : Shape) (ok : Sound sh) where
     park-in ToCold = record { good = record { partial = gs .partial; empty = gs .empty; full = gs .full }; pages = λ z. omega arith; out = λ f. omega arith }
     park-in ToArena = record { good = record { partial = gs .partial; empty = gs .empty; full = gs .full }; pages = λ z. omega arith; out = λ f. omega arith }
 
-    park-law : ParkLaw s p (park sh h s p)
+    park-law : ParkLaw s p (park sh lim h s p)
     unfolding park
-    park-law = park-in (spotIn sh s)
+    park-law = park-in (spotIn sh lim s)
 
   module _ (h : ℕ) (s : Class) (ws : List ℕ) (x : Site) (law : SiteLaw sh s x) (once : (w : ℕ) → count w ws ≤ 1) (outs : (w : ℕ) → 1 ≤ count w ws → isOut sh w (x .page) ≡ true) where
     back-good : GoodPage sh (returned ws (x .page))
@@ -142,7 +143,7 @@ module _ (sh : Shape) (ok : Sound sh) where
     none-at : noneOut sh (returned ws (x .page)) ≡ true → (q w : ℕ) → gone q w ≡ outFrom sh q w (x .page)
     none-at e q w = by-cases (startsAt q (x .page)) (λ d. rw d (omega (arith, none-out-of sh ok w (returned ws (x .page)) e, back-moves w))) (λ d. rw d)
 
-    parked : (p : Page) → ((z : ℕ) → on sh z p ≡ on sh z (x .page)) → EmptyPage sh p → noneOut sh (returned ws (x .page)) ≡ true → SettleLaw s (x .page .first) ws (park sh h (x .without) p)
+    parked : (p : Page) → ((z : ℕ) → on sh z p ≡ on sh z (x .page)) → EmptyPage sh p → noneOut sh (returned ws (x .page)) ≡ true → SettleLaw s (x .page .first) ws (park sh lim h (x .without) p)
     parked p same gp e =
         let k = park-law h (x .without) p (law .rest) gp in
         record {
@@ -156,11 +157,11 @@ module _ (sh : Shape) (ok : Sound sh) where
     mark-law b k = record { good = k .good; pages = k .pages; out = k .out; out-at = k .out-at }
 
     leave : (retires : Bool) → noneOut sh (returned ws (x .page)) ≡ true
-        → SettleLaw s (x .page .first) ws (cond retires (markRetired (park sh h (x .without) (retire (x .page)))) (park sh h (x .without) (returned ws (x .page))))
+        → SettleLaw s (x .page .first) ws (cond retires (markRetired (park sh lim h (x .without) (retire (x .page)))) (park sh lim h (x .without) (returned ws (x .page))))
     leave true e = mark-law _ (parked (retire (x .page)) (λ z. retire-on sh z (x .page)) (retire-empty sh ok (x .page)) e)
     leave false e = parked (returned ws (x .page)) (λ z. return-on sh z ws (x .page)) (record { good = back-good; none-out = λ w. none-out-of sh ok w (returned ws (x .page)) e }) e
 
-    settle-law : (retires : Bool) → SettleLaw s (x .page .first) ws (settle sh h retires ws x)
+    settle-law : (retires : Bool) → SettleLaw s (x .page .first) ws (settle sh lim h retires ws x)
     unfolding settle
     settle-law retires =
         by-cases (noneOut sh (returned ws (x .page)))
@@ -184,11 +185,11 @@ module _ (sh : Shape) (ok : Sound sh) where
 
   module _ (h : ℕ) (s : Class) (ws : List ℕ) (good : GoodClass sh s) (one : Once sh s) (d : distinct ws ≡ true) where
     settle-lawful : (x : Site) → SiteLaw sh s x → every (λ w. isOut sh w (x .page)) ws ≡ true
-        → (let b = settle sh h false ws x in Lawful sh s (giveBack h ws) (done (record { class = b .class; answer = fate (b .fate); gives = b .gives })))
+        → (let b = settle sh lim h false ws x in Lawful sh s (giveBack h ws) (done (record { class = b .class; answer = fate (b .fate); gives = b .gives })))
     settle-lawful x law e =
-        lawful-done (settled-moves s (x .page .first) ws (settle sh h false ws x) good one (settle-law h s ws x law (λ w. distinct-count w ws d) (λ w. every-count (λ v. isOut sh v (x .page)) w ws e) false))
+        lawful-done (settled-moves s (x .page .first) ws (settle sh lim h false ws x) good one (settle-law h s ws x law (λ w. distinct-count w ws d) (λ w. every-count (λ v. isOut sh v (x .page)) w ws e) false))
 
-    page-lawful : (o : Option Site) → SiteLaws sh s o → Lawful sh s (giveBack h ws) (onPage sh h s ws o)
+    page-lawful : (o : Option Site) → SiteLaws sh s o → Lawful sh s (giveBack h ws) (onPage sh lim h s ws o)
     unfolding onPage
     page-lawful none law = lawful-refuse sh s good (giveBack h ws) 10
     page-lawful (some x) law = search (lawful-cond sh s good, lawful-refuse sh s good, settle-lawful x law)
@@ -233,7 +234,7 @@ module _ (sh : Shape) (ok : Sound sh) where
           (λ u. omega (arith, out-le sh ok w (x .page), blocks-all ws (x .page) w (out-is sh ok w (x .page) (leb-true 1 (outOf sh w (x .page)) u))))
           (λ u. omega (arith, leb-false 1 (outOf sh w (x .page)) u))
 
-      chunk-law : (o : Option Site) → SiteLaws sh s o → Tells (startsAt q) s o → ChunkLaw s ws (q ∷ []) (settleChunk sh h s ws o .class) (settleChunk sh h s ws o .gives)
+      chunk-law : (o : Option Site) → SiteLaws sh s o → Tells (startsAt q) s o → ChunkLaw s ws (q ∷ []) (settleChunk sh lim h s ws o .class) (settleChunk sh lim h s ws o .gives)
       unfolding settleChunk
       chunk-law none law tells = record {
         good = good;
@@ -254,7 +255,7 @@ module _ (sh : Shape) (ok : Sound sh) where
             back = λ r w e n. rw (only r q e) (chunk-back x _ law tells k w n);
           }
 
-    chunks-law : (s : Class) (gs : List ℕ) → GoodClass sh s → Once sh s → ChunkLaw s ws (map pageOf gs) (settleChunks sh h ws s gs .class) (settleChunks sh h ws s gs .gives)
+    chunks-law : (s : Class) (gs : List ℕ) → GoodClass sh s → Once sh s → ChunkLaw s ws (map pageOf gs) (settleChunks sh lim h ws s gs .class) (settleChunks sh lim h ws s gs .gives)
     unfolding settleChunks
     chunks-law s [] good one = record {
       good = good;
@@ -267,7 +268,7 @@ module _ (sh : Shape) (ok : Sound sh) where
     chunks-law s (g ∷ gs) good one =
         let t = startsAt (pageOf g) in
         let k = chunk-law s good one (pageOf g) (locate t s) (locate-law sh s good t) (locate-tells t s) in
-        let r = chunks-law (settleChunk sh h s ws (locate t s) .class) gs (k .good) (λ z. omega (arith, k .pages z, one z)) in
+        let r = chunks-law (settleChunk sh lim h s ws (locate t s) .class) gs (k .good) (λ z. omega (arith, k .pages z, one z)) in
         record {
           good = r .good;
           pages = λ z. rw total-append (omega (arith, k .pages z, r .pages z));
@@ -320,17 +321,17 @@ module _ (sh : Shape) (ok : Sound sh) where
     unfolding repeats
     once = each-once (outHere sh s) ws single (not-false (every (outHere sh s) ws) out)
 
-    list-lawful : Lawful sh s (giveBack h ws) (onPage sh h s ws (siteOfFirst sh s ws))
+    list-lawful : Lawful sh s (giveBack h ws) (onPage sh lim h s ws (siteOfFirst sh s ws))
     list-lawful = page-lawful h s ws good one once (siteOfFirst sh s ws) (first-law s ws good)
 
     chunks-lawful : (gs fs l : List ℕ) → not (distinct (map pageOf gs) && (every (chunkFits sh s ws) gs && every (chunked sh s gs) ws)) ≡ false
-        → Lawful sh s (giveChunks h ws gs fs) (done (record { class = settleChunks sh h ws s gs .class; answer = fates l; gives = settleChunks sh h ws s gs .gives }))
+        → Lawful sh s (giveChunks h ws gs fs) (done (record { class = settleChunks sh lim h ws s gs .class; answer = fates l; gives = settleChunks sh lim h ws s gs .gives }))
     chunks-lawful gs fs l placed =
         let every-one = and-right (every (chunkFits sh s ws) gs) (every (chunked sh s gs) ws) (second (distinct (map pageOf gs)) (every (chunkFits sh s ws) gs && every (chunked sh s gs) ws) placed) in
-        lawful-done (chunks-moves s ws gs l (settleChunks sh h ws s gs .class) (settleChunks sh h ws s gs .gives) good one every-one (chunks-law h ws once s gs good one))
+        lawful-done (chunks-moves s ws gs l (settleChunks sh lim h ws s gs .class) (settleChunks sh lim h ws s gs .gives) good one every-one (chunks-law h ws once s gs good one))
 
   -- every request of a class is lawful
-  pub answer-lawful : (s : Class) → GoodClass sh s → Once sh s → (a : Request) → Lawful sh s a (answer sh s a)
+  pub answer-lawful : (s : Class) → GoodClass sh s → Once sh s → (a : Request) → Lawful sh s a (answer sh lim s a)
   unfolding answer releaseList releaseChunks
   answer-lawful s good one (take h l) = search (lawful-cond sh s good, lawful-refuse sh s good, take-lawful h l (s .partial) (s .empty) (s .cold) (s .full) good)
   answer-lawful s good one (giveBack h ws) = search (lawful-cond sh s good, lawful-refuse sh s good, list-lawful s good one h ws)

@@ -11,6 +11,7 @@ use Rattle.facts.specs.Lists.{total, every}
 use Rattle.facts.proofs.Bools.{by-cases}
 use Rattle.words.specs.Word.{pageOf}
 use Rattle.classes.specs.declared.Shape.{Shape}
+use Rattle.rules.specs.declared.Limits.{Limits}
 use Rattle.model.specs.declared.Spot.{Spot}
 use Rattle.model.specs.declared.Spot.the-variants.{ToEmpty, ToCold, ToArena}
 use Rattle.model.specs.Calls as Calls
@@ -44,15 +45,15 @@ tells-cond r false x y p q = q
 tells-refuse : (r : Request) (s : Class) (n : ℕ) → Tells r (refuse s n)
 tells-refuse r s n = tells-done (record { told = refl })
 
-module _ (sh : Shape) (h : ℕ) where
+module _ (sh : Shape) (lim : Limits) (h : ℕ) where
   parked-fated : (s : Class) (p : Page) (t : Spot) → Fated (parkIn sh h s p t)
   parked-fated s p ToEmpty = record { fated = refl }
   parked-fated s p ToCold = record { fated = by-cases (isMedium sh) (λ e. rw e refl) (λ e. rw e refl) }
   parked-fated s p ToArena = record { fated = refl }
 
-  park-fated : (s : Class) (p : Page) → Fated (park sh h s p)
+  park-fated : (s : Class) (p : Page) → Fated (park sh lim h s p)
   unfolding park
-  park-fated s p = parked-fated s p (spotIn sh s)
+  park-fated s p = parked-fated s p (spotIn sh lim s)
 
   mark-fated : (b : Settled) → Fated b → Fated (markRetired b)
   mark-fated b k = record { fated = rw (again (b .fate)) (k .fated) }
@@ -63,25 +64,25 @@ module _ (sh : Shape) (h : ℕ) where
   stay-fated : (s : Class) → Fated (record { class = s; fate = 0; gives = [] })
   stay-fated s = record { fated = refl }
 
-  settle-fated : (t : Bool) (ws : List ℕ) (x : Site) → Fated (settle sh h t ws x)
+  settle-fated : (t : Bool) (ws : List ℕ) (x : Site) → Fated (settle sh lim h t ws x)
   unfolding settle
   settle-fated t ws x = search (fated-cond, mark-fated, park-fated, stay-fated)
 
-  chunk-fated : (s : Class) (ws : List ℕ) (o : Option Site) → Fated (settleChunk sh h s ws o)
+  chunk-fated : (s : Class) (ws : List ℕ) (o : Option Site) → Fated (settleChunk sh lim h s ws o)
   unfolding settleChunk
   chunk-fated s ws none = stay-fated s
   chunk-fated s ws (some x) = settle-fated true _ x
 
   record AllFated (ws gs : List ℕ) (s : Class) : Type 0 where
-    many : length (settleChunks sh h ws s gs .fates) ≡ length gs
-    fates : total toArena (settleChunks sh h ws s gs .fates) ≡ length (settleChunks sh h ws s gs .gives)
+    many : length (settleChunks sh lim h ws s gs .fates) ≡ length gs
+    fates : total toArena (settleChunks sh lim h ws s gs .fates) ≡ length (settleChunks sh lim h ws s gs .gives)
 
   chunks-fated : (ws gs : List ℕ) (s : Class) → AllFated ws gs s
   unfolding settleChunks
   chunks-fated ws [] s = record { many = refl; fates = refl }
   chunks-fated ws (g ∷ gs) s =
       let o = locate (startsAt (pageOf g)) s in
-      let ih = chunks-fated ws gs (settleChunk sh h s ws o .class) in
+      let ih = chunks-fated ws gs (settleChunk sh lim h s ws o .class) in
       record { many = omega (arith, ih .many); fates = rw length-append (omega (arith, chunk-fated s ws o .fated, ih .fates)) }
 
   take-tells : (l : List ℕ) (ps es : List Page) (cs : List Cold) (fs : List Page) → Tells (Calls.take h l) (takeFrom sh l ps es cs fs)
@@ -95,7 +96,7 @@ module _ (sh : Shape) (h : ℕ) where
       given-told none = record { told = refl }
       given-told (some q) = record { told = refl }
 
-  page-tells : (s : Class) (ws : List ℕ) (o : Option Site) → Tells (Calls.giveBack h ws) (onPage sh h s ws o)
+  page-tells : (s : Class) (ws : List ℕ) (o : Option Site) → Tells (Calls.giveBack h ws) (onPage sh lim h s ws o)
   unfolding onPage
   page-tells s ws none = tells-refuse _ s 10
   page-tells s ws (some x) =
@@ -104,21 +105,21 @@ module _ (sh : Shape) (h : ℕ) where
       (tells-refuse _ s 11)
 
   chunks-tell : (s : Class) (ws gs fs : List ℕ)
-      → Tells (Calls.giveChunks h ws gs fs) (let b = settleChunks sh h ws s gs in done (record { class = b .class; answer = Calls.fates (b .fates ++ drop (length gs) fs); gives = b .gives }))
+      → Tells (Calls.giveChunks h ws gs fs) (let b = settleChunks sh lim h ws s gs in done (record { class = b .class; answer = Calls.fates (b .fates ++ drop (length gs) fs); gives = b .gives }))
   chunks-tell s ws gs fs =
       let k = chunks-fated ws gs s in
-      let b = settleChunks sh h ws s gs in
+      let b = settleChunks sh lim h ws s gs in
       let t : total toArena (take (length gs) (b .fates ++ drop (length gs) fs)) ≡ length (b .gives) = rw (sym (k .many), take-append-seam) (k .fates) in
       tells-done (record { told = t })
 
-answer-tells : (sh : Shape) (s : Class) (r : Request) → Tells r (answer sh s r)
+answer-tells : (sh : Shape) (lim : Limits) (s : Class) (r : Request) → Tells r (answer sh lim s r)
 unfolding answer releaseList releaseChunks
-answer-tells sh s (Calls.take h l) = search (tells-cond, tells-refuse, take-tells sh h)
-answer-tells sh s (Calls.giveBack h ws) = search (tells-cond, tells-refuse, page-tells sh h) depth 9
-answer-tells sh s (Calls.giveChunks h ws gs fs) = search (tells-cond, tells-refuse, chunks-tell sh h) depth 9
+answer-tells sh lim s (Calls.take h l) = search (tells-cond, tells-refuse, take-tells sh lim h)
+answer-tells sh lim s (Calls.giveBack h ws) = search (tells-cond, tells-refuse, page-tells sh lim h) depth 9
+answer-tells sh lim s (Calls.giveChunks h ws gs fs) = search (tells-cond, tells-refuse, chunks-tell sh lim h) depth 9
 
-pub runs-told : (sh : Shape) (s : Class) (r : Request) (g : Option ℕ) → runsBack r (serve (answer sh s r) g .answer) ≡ length (serve (answer sh s r) g .gives)
-runs-told sh s r g = go (answer sh s r) (answer-tells sh s r)
+pub runs-told : (sh : Shape) (lim : Limits) (s : Class) (r : Request) (g : Option ℕ) → runsBack r (serve (answer sh lim s r) g .answer) ≡ length (serve (answer sh lim s r) g .gives)
+runs-told sh lim s r g = go (answer sh lim s r) (answer-tells sh lim s r)
   where
     go : (q : Ask) → Tells r q → runsBack r (serve q g .answer) ≡ length (serve q g .gives)
     go q (tells-done k) = k .told

@@ -10,6 +10,7 @@ use borrow.Author.Tests.{leb-true, leb-false, ltb-true, eqb-true, eqb-false, ne-
 use Rattle.facts.specs.Lists.{filter, every, total, update, count, below}
 use Rattle.facts.proofs.Bools.{by-cases, and-left, and-right, and-no}
 use Rattle.facts.proofs.Lists.{every-at}
+use Rattle.rules.specs.Rules.{Rules}
 use Rattle.model.specs.Cover.{inRun, covers, coversAll, coversRun}
 use Rattle.classes.specs.declared.Shape.{Shape}
 use Rattle.classes.specs.Shape.{shapeOf}
@@ -54,9 +55,9 @@ pub record Inv (size n : ℕ) (H : Heap) (es : List Entry) (f : ℕ → Bool) (l
   pub once : (k i : ℕ) → total (at k i) es ≤ 1
   pub past : (k i : ℕ) → n ≤ k → total (at k i) es ≡ 0
 
-pub start : (size : ℕ) → Inv size 0 newHeap [] (λ x. false) (λ x. 0)
+pub start : (size : ℕ) (rules : Rules) → Inv size 0 (newHeap rules) [] (λ x. false) (λ x. 0)
 unfolding newHeap
-start size = record {
+start size rules = record {
   one = λ x. omega (arith, above-at 0 x (omega arith));
   bound = omega arith;
   good = λ c. record { partial = tt; empty = tt; full = tt };
@@ -167,7 +168,7 @@ module _ (size n : ℕ) (H : Heap) (es : List Entry) (f : ℕ → Bool) (l : ℕ
   -- the other calls, page by page
   direct-inv : (a : Arena) (w : ℕ → Holder) (f′ : ℕ → Bool) (l′ : ℕ → ℕ) → a .frontier ≤ size
       → ((y : ℕ) → Passes (H .holder y) (w y) (idle y (H .arena)) (idle y a) (l y) (l′ y) (f y) (f′ y))
-      → Inv size (suc n) (record { arena = a; holder = w; classes = H .classes }) es f′ l′
+      → Inv size (suc n) (record { arena = a; holder = w; classes = H .classes; rules = H .rules }) es f′ l′
   direct-inv a w f′ l′ b h = record {
     one = λ y. omega (arith, h y .one);
     bound = b;
@@ -294,9 +295,9 @@ module _ (size n : ℕ) (H : Heap) (es : List Entry) (f : ℕ → Bool) (l : ℕ
   route-inv x (is-class d t e) =
       let c = d .class in
       let h = hostOf (d .request) in
-      let q = answer (shapeOf c) (H .classes c) (d .request) in
+      let q = answer (shapeOf c) (H .rules c) (H .classes c) (d .request) in
       rw e (restate (class-inv c (d .request) q (offer size h (H .arena) q) (offerAbandons size h (H .arena) q)
-      (offered size h (shapeOf c) (H .classes c) (d .request) (H .arena) q (answer-lawful (shapeOf c) (shape-sound c) (H .classes c) (inv .good c) (λ y. omega (arith, inv .mine c y, held-le c (H .holder y), inv .one y)) (d .request))))
+      (offered size h (shapeOf c) (H .classes c) (d .request) (H .arena) q (answer-lawful (shapeOf c) (shape-sound c) (H .rules c) (H .classes c) (inv .good c) (λ y. omega (arith, inv .mine c y, held-le c (H .holder y), inv .one y)) (d .request))))
       (λ y. class-quiet x d e (classCall size H c (d .request) .answer) y)
       (λ y. refl))
 
@@ -318,5 +319,5 @@ history-inv size n H es f l inv [] = record { number = n; inv = restate inv (λ 
 history-inv size n H es f l inv (x ∷ xs) =
     keep (history-inv size (suc n) (step size H x .heap) _ _ _ (step-inv size n H es f l inv x) xs) (λ y. omega arith)
 
-pub kept : (size : ℕ) (xs : List Call) → Kept size (heapFrom size newHeap xs) (liveFrom 0 [] (eventsFrom size newHeap xs)) (directFrom (λ x. false) (eventsFrom size newHeap xs)) (abandonedFrom size newHeap xs)
-kept size xs = keep (history-inv size 0 newHeap [] (λ x. false) (λ x. 0) (start size) xs) (λ x. omega arith)
+pub kept : (size : ℕ) (rules : Rules) (xs : List Call) → Kept size (heapFrom size (newHeap rules) xs) (liveFrom 0 [] (eventsFrom size (newHeap rules) xs)) (directFrom (λ x. false) (eventsFrom size (newHeap rules) xs)) (abandonedFrom size (newHeap rules) xs)
+kept size rules xs = keep (history-inv size 0 (newHeap rules) [] (λ x. false) (λ x. 0) (start size rules) xs) (λ x. omega arith)

@@ -13,6 +13,7 @@ use Rattle.facts.proofs.Bools.{and-left}
 use Rattle.classes.specs.declared.Shape.{Shape}
 use Rattle.classes.specs.Shape.{shapeOf}
 use Rattle.classes.proofs.Shapes.{shape-sound}
+use Rattle.rules.specs.Rules.{Rules}
 use Rattle.model.specs.Cover.{covers, coversAll, coversRun}
 use Rattle.model.specs.Calls as Calls
 use Rattle.model.specs.Calls.{Call, Answer, Named, names, Way, hostOf, isRefused, Request}
@@ -70,8 +71,8 @@ module _ (size n : ℕ) (H : Heap) (es : List Entry) (f : ℕ → Bool) (l : ℕ
     abbrev sh : Shape
     sh = shapeOf c
 
-    lawful : Lawful sh (H .classes c) r (answer sh (H .classes c) r)
-    lawful = answer-lawful sh (shape-sound c) (H .classes c) (inv .good c) (λ y. omega (arith, inv .mine c y, held-le c (H .holder y), inv .one y)) r
+    lawful : Lawful sh (H .classes c) r (answer sh (H .rules c) (H .classes c) r)
+    lawful = answer-lawful sh (shape-sound c) (H .rules c) (H .classes c) (inv .good c) (λ y. omega (arith, inv .mine c y, held-le c (H .holder y), inv .one y)) r
 
     record Offers (q : Ask) (g : Given) (a : ℕ → ℕ) : Type 0 where
       pages : (x : ℕ) → idle x (g .arena) + coversRun (sh .pages) (g .run) x + a x ≡ idle x (H .arena)
@@ -96,7 +97,7 @@ module _ (size n : ℕ) (H : Heap) (es : List Entry) (f : ℕ → Bool) (l : ℕ
       let c = d .class in
       let r = d .request in
       let m = shapeOf c .pages in
-      let q = answer (shapeOf c) (H .classes c) r in
+      let q = answer (shapeOf c) (H .rules c) (H .classes c) r in
       let g = offer size (hostOf r) (H .arena) q in
       let vs = serve q (g .run) .gives in
       let s = offers c r (hostOf r) q (lawful c r) in
@@ -104,7 +105,7 @@ module _ (size n : ℕ) (H : Heap) (es : List Entry) (f : ℕ → Bool) (l : ℕ
       let went : total (coversAll m vs) (below size) ≡ length vs * m = runs-sum size (g .arena .frontier) (s .bound) (λ v. v) m vs (λ y. omega (arith, one y, give-all-law m y vs (g .arena), top)) in
       let sums = total-balance (λ y. isHeld (H .holder y)) (λ y. isHeld (route size H x (Calls.toClass d) .heap .holder y)) (coversRun m (g .run)) (coversAll m vs) (below size)
       (λ y. omega (arith, one y, give-all-law m y vs (g .arena), s .pages y, inv .one y)) in
-      let told = runs-told (shapeOf c) (H .classes c) r (g .run) in
+      let told = runs-told (shapeOf c) (H .rules c) (H .classes c) r (g .run) in
       let a = serve q (g .run) .answer in
       let hands = class-hands x d e in
       let gain : directGains x a ≡ 0 = rw (hands .0) (cond-none (isSome (runOf a) || isGrown a)) in
@@ -205,6 +206,6 @@ held-from size n H es f l inv [] = omega arith
 held-from size n H es f l inv (x ∷ xs) =
     omega (arith, step-keeps size n H es f l inv x, held-from size (suc n) (step size H x .heap) _ _ _ (step-inv size n H es f l inv x) xs)
 
-pub held-history : (size : ℕ) (xs : List Call) → gained (events size xs) ≡ heldPages size (heapAfter size xs) + lost (events size xs)
+pub held-history : (size : ℕ) (rules : Rules) (xs : List Call) → gained (events size rules xs) ≡ heldPages size (heapAfter size rules xs) + lost (events size rules xs)
 unfolding newHeap
-held-history size xs = omega (arith, held-from size 0 newHeap [] (λ x. false) (λ x. 0) (start size) xs, zeros (below size))
+held-history size rules xs = omega (arith, held-from size 0 (newHeap rules) [] (λ x. false) (λ x. 0) (start size rules) xs, zeros (below size))

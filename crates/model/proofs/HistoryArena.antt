@@ -12,6 +12,8 @@ use Rattle.facts.proofs.Bools.{by-cases}
 use Rattle.classes.specs.declared.Shape.{Shape}
 use Rattle.classes.specs.Shape.{shapeOf}
 use Rattle.classes.proofs.Shapes.{shape-sound}
+use Rattle.rules.specs.declared.Limits.{Limits}
+use Rattle.rules.specs.Rules.{Rules}
 use Rattle.model.specs.Calls as Calls
 use Rattle.model.specs.Calls.{Call, Request, Way, turned, straight, toClass, wayOf, hostOf}
 use Rattle.model.specs.Arena.{Arena}
@@ -41,7 +43,7 @@ asks-cond : (sh : Shape) (b : Bool) (x y : Ask) → AsksRun sh x → AsksRun sh 
 asks-cond sh true x y p q = p
 asks-cond sh false x y p q = q
 
-module _ (sh : Shape) where
+module _ (sh : Shape) (lim : Limits) where
   take-asks : (l : List ℕ) (ps es : List Page) (cs : List Cold) (fs : List Page) → AsksRun sh (takeFrom sh l ps es cs fs)
   unfolding takeFrom
   take-asks l (p ∷ ps) es cs fs = is-done
@@ -49,12 +51,12 @@ module _ (sh : Shape) where
   take-asks l [] [] (c ∷ cs) fs = is-done
   take-asks l [] [] [] fs = is-asked
 
-  page-asks : (h : ℕ) (s : Class) (ws : List ℕ) (x : Option Site) → AsksRun sh (onPage sh h s ws x)
+  page-asks : (h : ℕ) (s : Class) (ws : List ℕ) (x : Option Site) → AsksRun sh (onPage sh lim h s ws x)
   unfolding onPage
   page-asks h s ws none = is-done
   page-asks h s ws (some x) = search (asks-cond, is-done)
 
-  pub answer-asks : (s : Class) (r : Request) → AsksRun sh (answer sh s r)
+  pub answer-asks : (s : Class) (r : Request) → AsksRun sh (answer sh lim s r)
   unfolding answer releaseList releaseChunks
   answer-asks s (Calls.take h l) = search (asks-cond, is-done, take-asks)
   answer-asks s (Calls.giveBack h ws) = search (asks-cond, is-done, page-asks)
@@ -90,9 +92,9 @@ module _ (size : ℕ) (H : Heap) (once : Once (H .arena)) (k : Tidy (H .arena .s
   tidy-class c r =
       let sh = shapeOf c in
       let one = shape-sound c .paged in
-      let q = answer sh (H .classes c) r in
+      let q = answer sh (H .rules c) (H .classes c) r in
       let g = offer size (hostOf r) (H .arena) q in
-      record { tidy = tidy-give-all (sh .pages) one (serve q (g .run) .gives) (g .arena) (tidy-offer (hostOf r) sh one q (answer-asks sh (H .classes c) r)) }
+      record { tidy = tidy-give-all (sh .pages) one (serve q (g .run) .gives) (g .arena) (tidy-offer (hostOf r) sh one q (answer-asks sh (H .rules c) (H .classes c) r)) }
 
   same : (x : Calls.Answer) → TidyAfter (unchanged H x)
   same x = record { tidy = k }
@@ -139,20 +141,20 @@ tidy-from : (size n : ℕ) (H : Heap) (es : List Entry) (f : ℕ → Bool) (l : 
 tidy-from size n H es f l inv [] k = k
 tidy-from size n H es f l inv (x ∷ xs) k = tidy-from size (suc n) (step size H x .heap) _ _ _ (step-inv size n H es f l inv x) xs (tidy-step size H (once-inv inv) k x)
 
-module _ (size : ℕ) (xs : List Call) where
+module _ (size : ℕ) (rules : Rules) (xs : List Call) where
   abbrev arena : Arena
-  arena = heapAfter size xs .arena
+  arena = heapAfter size rules xs .arena
 
   pub tidy-after : Tidy (arena .store)
   unfolding newHeap
-  tidy-after = tidy-from size 0 newHeap [] (λ x. false) (λ x. 0) (start size) xs tidy-new
+  tidy-after = tidy-from size 0 (newHeap rules) [] (λ x. false) (λ x. 0) (start size rules) xs tidy-new
 
   -- demand 2's choice of a run
-  pub best-fit : BestFit size xs
+  pub best-fit : BestFit size rules xs
   best-fit = record { commits = λ h n. commits size h n arena }
 
   -- no two holes touch, and a given run stands where document 02 says
-  pub joining : Joining size xs
+  pub joining : Joining size rules xs
   joining = record { noTwoTouch = no-two-touch (arena .store .holes) (tidy-after .touch); stored = λ n q. stored n q (arena .store); joinedWhere = λ n q one e. joined-where n q one arena e }
 
   -- the report's figures
@@ -160,10 +162,10 @@ module _ (size : ℕ) (xs : List Call) where
   hole-total = tidy-after .sum
 
   idle-once : (x : ℕ) → idle x arena ≤ 1
-  idle-once x = omega (arith, kept size xs .inv .one x)
+  idle-once x = omega (arith, kept size rules xs .inv .one x)
 
   pub idle-after : arena .store .total + (size - arena .frontier) ≡ total (λ x. idle x arena) (below size)
-  idle-after = idle-figure size arena tidy-after (kept size xs .inv .bound) idle-once
+  idle-after = idle-figure size arena tidy-after (kept size rules xs .inv .bound) idle-once
 
   -- every hole lies below the frontier
   pub holes-after : HolesBelow (arena .frontier) (arena .store .holes)

@@ -16,6 +16,8 @@ use Rattle.words.specs.Word.{chunkKind}
 use Rattle.classes.specs.declared.Shape.{Shape}
 use Rattle.classes.specs.Shape.{shapeOf}
 use Rattle.classes.proofs.Shapes.{shape-sound}
+use Rattle.rules.specs.declared.Limits.{Limits}
+use Rattle.rules.specs.Rules.{Rules}
 use Rattle.model.specs.Calls.{Call, Named, names, hostIn, wayOf, Request, take, giveBack, giveChunks, listOf, hostOf, isRefused}
 use Rattle.model.specs.Class.{Class, Ask, serve, refuse}
 use Rattle.model.specs.Release.{ofKind, outHere, repeats, releaseList}
@@ -43,7 +45,7 @@ record Tested (sh : Shape) (s : Class) (ws : List ℕ) : Type 0 where
   out : every (outHere sh s) ws ≡ true
   once : distinct ws ≡ true
 
-module _ (sh : Shape) (s : Class) (g : Option ℕ) where
+module _ (sh : Shape) (lim : Limits) (s : Class) (g : Option ℕ) where
   out-tested : (ws : List ℕ) (q : Ask) → isRefused (serve (cond (repeats sh s ws) (refuse s 15) (cond (not (every (outHere sh s) ws)) (refuse s 10) q)) g .answer) ≡ false → Tested sh s ws
   unfolding repeats
   out-tested ws q u =
@@ -51,14 +53,14 @@ module _ (sh : Shape) (s : Class) (g : Option ℕ) where
       let o = not-false (every (outHere sh s) ws) (passed s 10 (not (every (outHere sh s) ws)) q g (p15 .on) .not-so) in
       record { out = o; once = each-once (outHere sh s) ws (p15 .not-so) o }
 
-  list-tested : (h : ℕ) (ws : List ℕ) → isRefused (serve (answer sh s (giveBack h ws)) g .answer) ≡ false → Tested sh s ws
+  list-tested : (h : ℕ) (ws : List ℕ) → isRefused (serve (answer sh lim s (giveBack h ws)) g .answer) ≡ false → Tested sh s ws
   unfolding answer releaseList
   list-tested h ws u =
       let p7 = passed s 7 (isNil ws) _ g u in
       let p9 = passed s 9 (not (every (ofKind (sh .kind)) ws)) _ g (p7 .on) in
       out-tested ws _ (p9 .on)
 
-  chunks-tested : (h : ℕ) (ws gs fs : List ℕ) → isRefused (serve (answer sh s (giveChunks h ws gs fs)) g .answer) ≡ false → Tested sh s ws
+  chunks-tested : (h : ℕ) (ws gs fs : List ℕ) → isRefused (serve (answer sh lim s (giveChunks h ws gs fs)) g .answer) ≡ false → Tested sh s ws
   unfolding answer releaseChunks
   chunks-tested h ws gs fs u =
       let p7 = passed s 7 (isNil ws || isNil gs) _ g u in
@@ -66,42 +68,42 @@ module _ (sh : Shape) (s : Class) (g : Option ℕ) where
       let p9 = passed s 9 (not (every (ofKind (sh .kind)) ws && every (ofKind chunkKind) gs)) _ g (p8 .on) in
       out-tested ws _ (p9 .on)
 
-  tested : (a : Request) → isRefused (serve (answer sh s a) g .answer) ≡ false → Tested sh s (listOf a)
+  tested : (a : Request) → isRefused (serve (answer sh lim s a) g .answer) ≡ false → Tested sh s (listOf a)
   tested (take h l) u = record { out = refl; once = refl }
   tested (giveBack h ws) u = list-tested h ws u
   tested (giveChunks h ws gs fs) u = chunks-tested h ws gs fs u
 
-module _ (size : ℕ) (xs : List Call) where
+module _ (size : ℕ) (rules : Rules) (xs : List Call) where
   abbrev class : ℕ → Class
-  class c = heapAfter size xs .classes c
+  class c = heapAfter size rules xs .classes c
 
-  out-told : (c w : ℕ) → outHere (shapeOf c) (class c) w ≡ true → OutIn (events size xs) c w
+  out-told : (c w : ℕ) → outHere (shapeOf c) (class c) w ≡ true → OutIn (events size rules xs) c w
   out-told c w e =
-      let k = kept size xs in
+      let k = kept size rules xs in
       let o = here-out (shapeOf c) (shape-sound c) (class c) (k .inv .good c) w e in
-      let r = counted c w (liveFrom 0 [] (events size xs)) (omega (arith, k .inv .outs c w)) in
-      record { entry = r .entry; live = in-live (r .entry) (events size xs) (r .member); class = r .of-class; word = r .of-word }
+      let r = counted c w (liveFrom 0 [] (events size rules xs)) (omega (arith, k .inv .outs c w)) in
+      record { entry = r .entry; live = in-live (r .entry) (events size rules xs) (r .member); class = r .of-class; word = r .of-word }
 
-  told-out : (c w : ℕ) → OutIn (events size xs) c w → outHere (shapeOf c) (class c) w ≡ true
+  told-out : (c w : ℕ) → OutIn (events size rules xs) c w → outHere (shapeOf c) (class c) w ≡ true
   told-out c w o =
-      let k = kept size xs in
+      let k = kept size rules xs in
       let e = o .entry in
-      let m = in-total (is c w) e (liveFrom 0 [] (events size xs)) (live-in 0 e [] (events size xs) (o .live)) in
+      let m = in-total (is c w) e (liveFrom 0 [] (events size rules xs)) (live-in 0 e [] (events size rules xs) (o .live)) in
       let one : is c w e ≡ 1 = rw (← o .class, ← o .word) (is-self e) in
       out-here (shapeOf c) (shape-sound c) (class c) (k .inv .good c) w (omega (arith, k .inv .outs c w))
 
-  release-told : (x : Call) (d : Named) → names x ≡ some d → isRefused (step size (heapAfter size xs) x .answer) ≡ false → AllOut (events size xs) (d .class) (listOf (d .request))
+  release-told : (x : Call) (d : Named) → names x ≡ some d → isRefused (step size (heapAfter size rules xs) x .answer) ≡ false → AllOut (events size rules xs) (d .class) (listOf (d .request))
   unfolding step wayOf classCall interact finish
   release-told x d e u =
       by-cases (badHost (hostIn x)) (λ h. absurd (true≢false (rw h at u))) λ h.
       let c = d .class in
       let ws = listOf (d .request) in
-      let q = answer (shapeOf c) (class c) (d .request) in
-      let t = tested (shapeOf c) (class c) (offer size (hostOf (d .request)) (heapAfter size xs .arena) q .run) (d .request) (rw (h, e) at u) in
+      let q = answer (shapeOf c) (heapAfter size rules xs .rules c) (class c) (d .request) in
+      let t = tested (shapeOf c) (heapAfter size rules xs .rules c) (class c) (offer size (hostOf (d .request)) (heapAfter size rules xs .arena) q .run) (d .request) (rw (h, e) at u) in
       record {
         out = λ w m. out-told c w (every-count (outHere (shapeOf c) (class c)) w ws (t .out) (elem-count w ws m));
         once = t .once;
       }
 
-  pub outs : Outs size xs
+  pub outs : Outs size rules xs
   outs = record { out = λ c w. (out-told c w, told-out c w); released = release-told }

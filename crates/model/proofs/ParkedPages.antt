@@ -8,6 +8,7 @@ use borrow.Author.Tests.{eqb-true}
 use Rattle.facts.specs.Lists.{total, below}
 use Rattle.facts.proofs.Bools.{by-cases}
 use Rattle.classes.specs.Shape.{shapeOf, classCount}
+use Rattle.rules.specs.Rules.{Rules}
 use Rattle.model.specs.Cover.{covers}
 use Rattle.model.specs.Calls.{Call}
 use Rattle.model.specs.Page.{Page}
@@ -34,16 +35,16 @@ holder-once nobody m = omega (arith, zeros (below m))
 holder-once direct m = omega (arith, zeros (below m))
 holder-once (class d) m = class-once d m .0
 
-module _ (size : ℕ) (xs : List Call) where
+module _ (size : ℕ) (rules : Rules) (xs : List Call) where
   abbrev H : Heap
-  H = heapAfter size xs
+  H = heapAfter size rules xs
 
   parked-below : (x m : ℕ) → total (λ c. parkedWith (shapeOf c) x (H .classes c)) (below m) ≤ isHeld (H .holder x)
   parked-below x m =
       omega (
         arith,
         holder-once (H .holder x) m,
-        total-less (λ c. parkedWith (shapeOf c) x (H .classes c)) (λ c. heldBy c (H .holder x)) (below m) (λ c. omega (arith, kept size xs .inv .mine c x)),
+        total-less (λ c. parkedWith (shapeOf c) x (H .classes c)) (λ c. heldBy c (H .holder x)) (below m) (λ c. omega (arith, kept size rules xs .inv .mine c x)),
       )
 
   pub parked-held : (x : ℕ) → parkedAt H x ≤ isHeld (H .holder x)
@@ -55,12 +56,12 @@ module _ (size : ℕ) (xs : List Call) where
       let s = H .classes c in
       let m = shapeOf c .pages in
       let f = H .arena .frontier in
-      let low : (x : ℕ) → parkedWith (shapeOf c) x s + above f x ≤ 1 = λ x. omega (arith, kept size xs .inv .mine c x, held-le c (H .holder x), kept size xs .inv .one x) in
+      let low : (x : ℕ) → parkedWith (shapeOf c) x s + above f x ≤ 1 = λ x. omega (arith, kept size rules xs .inv .mine c x, held-le c (H .holder x), kept size rules xs .inv .one x) in
       omega (
         arith,
         total-plus (λ x. total (λ (p : Page). covers m (p .first) x) (s .empty)) (λ x. total (λ (p : Cold). covers m (p .first) x) (s .cold)) (below size),
-        runs-sum size f (kept size xs .inv .bound) (λ (p : Page). p .first) m (s .empty) (λ x. omega (arith, low x)),
-        runs-sum size f (kept size xs .inv .bound) (λ (p : Cold). p .first) m (s .cold) (λ x. omega (arith, low x)),
+        runs-sum size f (kept size rules xs .inv .bound) (λ (p : Page). p .first) m (s .empty) (λ x. omega (arith, low x)),
+        runs-sum size f (kept size rules xs .inv .bound) (λ (p : Cold). p .first) m (s .cold) (λ x. omega (arith, low x)),
       )
 
   pub parked-sum : parkedPages (λ c. parkedRuns (H .classes c)) ≡ total (parkedAt H) (below size)

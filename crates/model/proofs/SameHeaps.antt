@@ -8,6 +8,7 @@ use native.Mathlib.Omega.{arith}
 use Rattle.classes.specs.declared.Shape.{Shape}
 use Rattle.classes.specs.Shape.{shapeOf}
 use Rattle.classes.proofs.Shapes.{shape-sound}
+use Rattle.rules.specs.Rules.{Rules}
 use Rattle.model.specs.Cover.{covers, coversRun, coversAll}
 use Rattle.model.specs.Calls as Calls
 use Rattle.model.specs.Calls.{Call, Answer, Request, Way, hostOf}
@@ -34,14 +35,14 @@ same-cond false o p o′ p′ f g = g refl
 
 -- the heap with another arena
 abbrev with : Arena → Heap → Heap
-with b H = record { arena = b; holder = H .holder; classes = H .classes }
+with b H = record { arena = b; holder = H .holder; classes = H .classes; rules = H .rules }
 
 module _ (size : ℕ) (H : Heap) (b : Arena) (s : SameArena (H .arena) b) (k : Sound (H .arena)) where
   abbrev K : Heap
   K = with b H
 
   same-unchanged : (x y : Answer) → x ≡ y → SameOutcome (unchanged H x) (unchanged K y)
-  same-unchanged x y e = record { heap = record { arena = s; holder = refl; classes = refl }; answer = e; run = refl }
+  same-unchanged x y e = record { heap = record { arena = s; holder = refl; classes = refl; rules = refl }; answer = e; run = refl }
 
   same : (x : Answer) → SameOutcome (unchanged H x) (unchanged K x)
   same x = same-unchanged x x refl
@@ -55,21 +56,21 @@ module _ (size : ℕ) (H : Heap) (b : Arena) (s : SameArena (H .arena) b) (k : S
   finish-same : (c : ℕ) (sh : Shape) (m : ℕ) (a a′ : Arena) (o : Option ℕ) (f f′ : Bool) (r : Result) → SameArena (giveAll (sh .pages) (r .gives) a) (giveAll (sh .pages) (r .gives) a′)
       → SameOutcome (finish H c sh m (given a o f) r) (finish K c sh m (given a′ o f′) r)
   unfolding finish
-  finish-same c sh m a a′ o f f′ r w = record { heap = record { arena = w; holder = refl; classes = refl }; answer = refl; run = refl }
+  finish-same c sh m a a′ o f f′ r w = record { heap = record { arena = w; holder = refl; classes = refl; rules = refl }; answer = refl; run = refl }
 
   class-same : (c : ℕ) (r : Request)
-      → Tidy (offer size (hostOf r) (H .arena) (answer (shapeOf c) (H .classes c) r) .arena .store)
-      → ((x : ℕ) → idle x (offer size (hostOf r) (H .arena) (answer (shapeOf c) (H .classes c) r) .arena)
-      + coversAll (shapeOf c .pages) (serve (answer (shapeOf c) (H .classes c) r) (offer size (hostOf r) (H .arena) (answer (shapeOf c) (H .classes c) r) .run) .gives) x ≤ 1)
+      → Tidy (offer size (hostOf r) (H .arena) (answer (shapeOf c) (H .rules c) (H .classes c) r) .arena .store)
+      → ((x : ℕ) → idle x (offer size (hostOf r) (H .arena) (answer (shapeOf c) (H .rules c) (H .classes c) r) .arena)
+      + coversAll (shapeOf c .pages) (serve (answer (shapeOf c) (H .rules c) (H .classes c) r) (offer size (hostOf r) (H .arena) (answer (shapeOf c) (H .rules c) (H .classes c) r) .run) .gives) x ≤ 1)
       → SameOutcome (classCall size H c r) (classCall size K c r)
   unfolding classCall interact
   class-same c r t u =
       let sh = shapeOf c in
       let one = shape-sound c .paged in
-      let q = answer sh (H .classes c) r in
+      let q = answer sh (H .rules c) (H .classes c) r in
       let g = offer size (hostOf r) (H .arena) q in
       let d = offer size (hostOf r) b q in
-      let w = offer-same (hostOf r) sh one q (answer-asks sh (H .classes c) r) in
+      let w = offer-same (hostOf r) sh one q (answer-asks sh (H .rules c) (H .classes c) r) in
       subst (λ o. SameOutcome (finish H c sh (asked q) g (serve q (g .run))) (finish K c sh (asked q) (given (d .arena) o (d .fresh)) (serve q o))) (w .run)
       (finish-same c sh (asked q) (g .arena) (d .arena) (g .run) (g .fresh) (d .fresh) (serve q (g .run)) (give-all-same (sh .pages) one (serve q (g .run) .gives) (g .arena) (d .arena) (w .arena) t u))
 
@@ -78,17 +79,17 @@ module _ (size : ℕ) (H : Heap) (b : Arena) (s : SameArena (H .arena) b) (k : S
   unfolding commitCall
   commit-call h n e =
       let w = commit-same size h n (good-run n e) (H .arena) b s k in
-      record { heap = record { arena = w .arena; holder = ap (λ o. passTo direct (coversRun n o) (H .holder)) (w .run); classes = refl }; answer = ap₂ answerRun (w .run) (w .fresh); run = refl }
+      record { heap = record { arena = w .arena; holder = ap (λ o. passTo direct (coversRun n o) (H .holder)) (w .run); classes = refl; rules = refl }; answer = ap₂ answerRun (w .run) (w .fresh); run = refl }
 
   grow-call : (h q old new : ℕ) → badGrowth old new ≡ false → SameOutcome (growCall size H h q old new) (growCall size K h q old new)
   unfolding growCall
   grow-call h q old new e =
       let w = grow-same size h (q + old) (new - old) (longer old new e) (H .arena) b s k in
-      record { heap = record { arena = w .arena; holder = ap (λ t. passTo direct (λ x. cond t (covers (new - old) (q + old) x) 0) (H .holder)) (w .grew); classes = refl }; answer = ap Calls.grown (w .grew); run = refl }
+      record { heap = record { arena = w .arena; holder = ap (λ t. passTo direct (λ x. cond t (covers (new - old) (q + old) x) 0) (H .holder)) (w .grew); classes = refl; rules = refl }; answer = ap Calls.grown (w .grew); run = refl }
 
   release-call : (q n : ℕ) → badRun n ≡ false → SameOutcome (releaseCall H q n) (releaseCall K q n)
   unfolding releaseCall
-  release-call q n e = record { heap = record { arena = give-same n q (good-run n e) (H .arena) b s k; holder = refl; classes = refl }; answer = refl; run = refl }
+  release-call q n e = record { heap = record { arena = give-same n q (good-run n e) (H .arena) b s k; holder = refl; classes = refl; rules = refl }; answer = refl; run = refl }
 
   figures-same : figures size H ≡ figures size K
   figures-same = let c = s .commits in let r = s .reuses in let n = s .abandoned in let t = s .total in let f = s .frontier in cc
@@ -123,12 +124,12 @@ module _ (size n : ℕ) (H : Heap) (es : List Entry) (f : ℕ → Bool) (l : ℕ
     route-same x (is-class d e i) =
         let c = d .class in
         let sh = shapeOf c in
-        let q = answer sh (H .classes c) (d .request) in
+        let q = answer sh (H .rules c) (H .classes c) (d .request) in
         let h = hostOf (d .request) in
         let g = offer size h (H .arena) q in
         let after = route-inv size n H es f l inv x (is-class d e i) in
         class-same size H b s sound c (d .request)
-        (tidy-offer size H (once-inv inv) t h sh (shape-sound c .paged) q (answer-asks sh (H .classes c) (d .request)))
+        (tidy-offer size H (once-inv inv) t h sh (shape-sound c .paged) q (answer-asks sh (H .rules c) (H .classes c) (d .request)))
         (λ y. omega (arith, after .one y, give-all-law (sh .pages) y (serve q (g .run) .gives) (g .arena)))
 
     step-with : (x : Call) → SameOutcome (step size H x) (step size (with b H) x)
@@ -137,9 +138,10 @@ module _ (size n : ℕ) (H : Heap) (es : List Entry) (f : ℕ → Bool) (l : ℕ
 
   step-same : (K : Heap) → SameHeap H K → (x : Call) → SameOutcome (step size H x) (step size K x)
   step-same K k x =
-      subst (λ w. SameOutcome (step size H x) (step size (record { arena = K .arena; holder = w; classes = K .classes }) x)) (k .holder)
-      (subst (λ c. SameOutcome (step size H x) (step size (record { arena = K .arena; holder = H .holder; classes = c }) x)) (k .classes)
-      (step-with (K .arena) (k .arena) x))
+      subst (λ w. SameOutcome (step size H x) (step size (record { arena = K .arena; holder = w; classes = K .classes; rules = K .rules }) x)) (k .holder)
+      (subst (λ c. SameOutcome (step size H x) (step size (record { arena = K .arena; holder = H .holder; classes = c; rules = K .rules }) x)) (k .classes)
+      (subst (λ r. SameOutcome (step size H x) (step size (record { arena = K .arena; holder = H .holder; classes = H .classes; rules = r }) x)) (k .rules)
+      (step-with (K .arena) (k .arena) x)))
 
 -- along a history
 module _ (size : ℕ) where
@@ -151,10 +153,10 @@ module _ (size : ℕ) where
       let ih = events-same (suc n) (step size H z .heap) _ _ _ (step-inv size n H es f l inv z) (tidy-step size H (once-inv inv) t z) (step size K z .heap) (w .heap) zs in
       (ap₂ _∷_ (ap₂ (λ a r. record { call = z; answer = a; run = r }) (w .answer) (w .run)) (ih .0), ih .1)
 
-  pub orderless : (xs ys : List Call) → Orderless size xs ys
-  orderless xs ys =
-      let i = kept size xs .inv in
+  pub orderless : (rules : Rules) (xs ys : List Call) → Orderless size rules xs ys
+  orderless rules xs ys =
+      let i = kept size rules xs .inv in
       record {
-        alike = λ k zs. events-same _ (heapAfter size xs) _ _ _ i (tidy-after size xs) (heapAfter size ys) k zs .0;
-        stays = λ k zs. events-same _ (heapAfter size xs) _ _ _ i (tidy-after size xs) (heapAfter size ys) k zs .1;
+        alike = λ k zs. events-same _ (heapAfter size rules xs) _ _ _ i (tidy-after size rules xs) (heapAfter size rules ys) k zs .0;
+        stays = λ k zs. events-same _ (heapAfter size rules xs) _ _ _ i (tidy-after size rules xs) (heapAfter size rules ys) k zs .1;
       }

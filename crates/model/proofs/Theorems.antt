@@ -7,6 +7,7 @@ use mathlib.Core.Bool.{false}
 use lib.Dec.{eqb}
 use Rattle.words.specs.Limits.{maxPages}
 use Rattle.classes.specs.Shape.{shapeOf}
+use Rattle.rules.specs.Rules.{Rules}
 use Rattle.model.specs.Calls.{Call, Request}
 use Rattle.model.specs.Chunks.{answer}
 use Rattle.model.specs.Heap.{Heap, figures}
@@ -23,35 +24,35 @@ use Rattle.model.proofs.Outs as Blocks
 use Rattle.model.proofs.Commute as Calls
 
 -- Demand 2
-pub best-fit : (size : ℕ) (xs : List Call) → BestFit size xs
+pub best-fit : (size : ℕ) (rules : Rules) (xs : List Call) → BestFit size rules xs
 best-fit = Arenas.best-fit
 
 -- document 02, A.4: touching holes are one
-pub joining : (size : ℕ) (xs : List Call) → Joining size xs
+pub joining : (size : ℕ) (rules : Rules) (xs : List Call) → Joining size rules xs
 joining = Arenas.joining
 
 -- the order of the holes shows in no answer
-pub orderless : (size : ℕ) (xs ys : List Call) → Orderless size xs ys
+pub orderless : (size : ℕ) (rules : Rules) (xs ys : List Call) → Orderless size rules xs ys
 orderless = Orders.orderless
 
-pub yielding : (size : ℕ) (xs : List Call) → Yielding size xs
+pub yielding : (size : ℕ) (rules : Rules) (xs : List Call) → Yielding size rules xs
 yielding = Yields.yielding
 
 -- number 10 by the history
-pub outs : (size : ℕ) (xs : List Call) → Outs size xs
+pub outs : (size : ℕ) (rules : Rules) (xs : List Call) → Outs size rules xs
 outs = Blocks.outs
 
 -- every page is in exactly one place
-pub conserved : (size : ℕ) (xs : List Call) → Conserved size xs
-conserved size xs = record {
-  one = Pages.one-place size xs;
-  classes = Pages.one-run size xs;
-  direct = Pages.told-direct size xs;
-  holeTotal = Arenas.hole-total size xs;
+pub conserved : (size : ℕ) (rules : Rules) (xs : List Call) → Conserved size rules xs
+conserved size rules xs = record {
+  one = Pages.one-place size rules xs;
+  classes = Pages.one-run size rules xs;
+  direct = Pages.told-direct size rules xs;
+  holeTotal = Arenas.hole-total size rules xs;
 }
 
 -- document 02, A.5: a report's figures
-pub figured : (size : ℕ) (xs : List Call) → Figured size xs (figures size (heapAfter size xs))
+pub figured : (size : ℕ) (rules : Rules) (xs : List Call) → Figured size rules xs (figures size (heapAfter size rules xs))
 figured = Figures.figured
 
 -- Demand 3, both halves; a word has room for the granules of no longer arena
@@ -59,10 +60,10 @@ pub demand-3 : (size : ℕ) → size ≤ maxPages → Demand3 size
 demand-3 size small = record { alone = Alone.alone size size; disjoint = Apart.disjoint size small }
 
 -- the second half in ISO C's words
-pub iso-disjoint : (size : ℕ) → size ≤ maxPages → (xs : List Call) → IsoDisjoint size (events size xs)
+pub iso-disjoint : (size : ℕ) → size ≤ maxPages → (rules : Rules) (xs : List Call) → IsoDisjoint size (events size rules xs)
 iso-disjoint = Apart.iso-disjoint
 
 -- calls of two classes, one of which does not reach the arena, on any heap
 pub commute : (size : ℕ) (H : Heap) (c d : ℕ) (x y : Request) → eqb c d ≡ false
-    → StaysHome (answer (shapeOf c) (H .classes c) x) ⊎ StaysHome (answer (shapeOf d) (H .classes d) y) → Commute size H c d x y
+    → StaysHome (answer (shapeOf c) (H .rules c) (H .classes c) x) ⊎ StaysHome (answer (shapeOf d) (H .rules d) (H .classes d) y) → Commute size H c d x y
 commute = Calls.commute

@@ -16,6 +16,8 @@ use Rattle.classes.specs.declared.Shape.{Shape}
 use Rattle.classes.specs.Shape.{shapeOf}
 use Rattle.classes.specs.Sound.{Sound}
 use Rattle.classes.proofs.Shapes.{shape-sound}
+use Rattle.rules.specs.declared.Limits.{Limits}
+use Rattle.rules.specs.Rules.{Rules}
 use Rattle.model.specs.declared.Spot.{Spot}
 use Rattle.model.specs.declared.Spot.the-variants.{ToEmpty, ToCold, ToArena}
 use Rattle.model.specs.Calls as Calls
@@ -41,7 +43,7 @@ length-nil : (l : List ℕ) → 1 ≤ length l → isNil l ≡ false
 length-nil [] h = absurd (omega arith)
 length-nil (x ∷ l) h = refl
 
-module _ (sh : Shape) (ok : Sound sh) where
+module _ (sh : Shape) (ok : Sound sh) (lim : Limits) where
   abbrev More : Page → Type 0
   More p = hasMore sh p ≡ true
 
@@ -120,7 +122,7 @@ module _ (sh : Shape) (ok : Sound sh) where
   refuse-yields : (s : Class) (n : ℕ) → TakeYields (refuse s n)
   refuse-yields s n = refuses refl
 
-  pub answer-yields : (s : Class) (h : ℕ) (l : List ℕ) → Listed sh s → TakeYields (answer sh s (Calls.take h l))
+  pub answer-yields : (s : Class) (h : ℕ) (l : List ℕ) → Listed sh s → TakeYields (answer sh lim s (Calls.take h l))
   unfolding answer
   answer-yields s h l y = search (yields-cond, refuse-yields, take-yields l (s .partial) (s .empty) (s .cold) (s .full) y)
 
@@ -201,9 +203,9 @@ module _ (sh : Shape) (ok : Sound sh) where
     park-in ToCold = record { listed = record { partial = y .partial; empty = y .empty }; skip = λ u. refl }
     park-in ToArena = record { listed = y; skip = λ u. refl }
 
-    parked : Parked s (park sh h s p)
+    parked : Parked s (park sh lim h s p)
     unfolding park
-    parked = park-in (spotIn sh s)
+    parked = park-in (spotIn sh lim s)
 
   -- one page's release, of at least one block: every other page is found as before
   record SettledLaw (s : Class) (q : ℕ) (b : Settled) : Type 0 where
@@ -218,7 +220,7 @@ module _ (sh : Shape) (ok : Sound sh) where
     unfolding returned
     back-at r = refl
 
-    parked-law : (p : Page) → Again p → SettledLaw s (x .page .first) (park sh h (x .without) p)
+    parked-law : (p : Page) → Again p → SettledLaw s (x .page .first) (park sh lim h (x .without) p)
     parked-law p m =
         let l = parked h (x .without) p (k .rest) m in
         record { listed = l .listed; skip = λ r e. l .skip (startsAt r) ∙ k .skips .without (startsAt r) e }
@@ -226,24 +228,24 @@ module _ (sh : Shape) (ok : Sound sh) where
     marked-law : (b : Settled) → SettledLaw s (x .page .first) b → SettledLaw s (x .page .first) (markRetired b)
     marked-law b l = record { listed = l .listed; skip = l .skip }
 
-    leave-law : (retires : Bool) → SettledLaw s (x .page .first) (cond retires (markRetired (park sh h (x .without) (retire (x .page)))) (park sh h (x .without) back))
+    leave-law : (retires : Bool) → SettledLaw s (x .page .first) (cond retires (markRetired (park sh lim h (x .without) (retire (x .page)))) (park sh lim h (x .without) back))
     leave-law true = marked-law _ (parked-law (retire (x .page)) (retire-again (x .page)))
     leave-law false = parked-law back (return-again w ws (x .page))
 
-    settle-law : (retires : Bool) → SettledLaw s (x .page .first) (settle sh h retires (w ∷ ws) x)
+    settle-law : (retires : Bool) → SettledLaw s (x .page .first) (settle sh lim h retires (w ∷ ws) x)
     unfolding settle
     settle-law retires =
         by-cases (noneOut sh back)
         (λ e. rw e (leave-law retires))
         (λ e. rw e (record { listed = k .put back (return-more w ws (x .page)); skip = λ r n. k .skips .with (startsAt r) back n (back-at r ∙ n) }))
 
-  page-keeps : (h : ℕ) (s : Class) (w : ℕ) (ws : List ℕ) → Listed sh s → (o : Option Site) → SiteLaws (isOut sh w) s o → KeepsListed (onPage sh h s (w ∷ ws) o)
+  page-keeps : (h : ℕ) (s : Class) (w : ℕ) (ws : List ℕ) → Listed sh s → (o : Option Site) → SiteLaws (isOut sh w) s o → KeepsListed (onPage sh lim h s (w ∷ ws) o)
   unfolding onPage
   page-keeps h s w ws y none k = keeps-refuse s 10 y
   page-keeps h s w ws y (some x) k =
       keeps-cond (every (λ v. isOut sh v (x .page)) (w ∷ ws)) _ _ (λ e. keeps-done (settle-law h (isOut sh w) s x k w ws false .listed)) (λ e. keeps-refuse s 11 y)
 
-  list-keeps : (h : ℕ) (s : Class) (ws : List ℕ) → Listed sh s → isNil ws ≡ false → KeepsListed (onPage sh h s ws (siteOfFirst sh s ws))
+  list-keeps : (h : ℕ) (s : Class) (ws : List ℕ) → Listed sh s → isNil ws ≡ false → KeepsListed (onPage sh lim h s ws (siteOfFirst sh s ws))
   list-keeps h s [] y n = absurd (true≢false n)
   list-keeps h s (w ∷ ws) y n = page-keeps h s w ws y (locate (isOut sh w) s) (located (isOut sh w) s y)
 
@@ -270,33 +272,33 @@ module _ (sh : Shape) (ok : Sound sh) where
       (λ e. absurd (true≢false (rw e at n)))
       (λ e. rw (fits-still ws s s′ g (same (pageOf g) e) a) (all-fit ws q s s′ same gs (rw e at n) b))
 
-  chunk-law : (h : ℕ) (s : Class) (ws : List ℕ) (g : ℕ) (o : Option Site) → SiteLaws (startsAt (pageOf g)) s o → fitsOn sh ws g o ≡ true → SettledLaw s (pageOf g) (settleChunk sh h s ws o)
+  chunk-law : (h : ℕ) (s : Class) (ws : List ℕ) (g : ℕ) (o : Option Site) → SiteLaws (startsAt (pageOf g)) s o → fitsOn sh ws g o ≡ true → SettledLaw s (pageOf g) (settleChunk sh lim h s ws o)
   unfolding settleChunk
   chunk-law h s ws g none k f = absurd (false≢true f)
   chunk-law h s ws g (some x) k f = go (blocksOn sh ws (x .page)) f
     where
-      go : (bs : List ℕ) → (not (eqb (countOf g) 0) && eqb (countOf g) (length bs)) ≡ true → SettledLaw s (pageOf g) (settle sh h true bs x)
+      go : (bs : List ℕ) → (not (eqb (countOf g) 0) && eqb (countOf g) (length bs)) ≡ true → SettledLaw s (pageOf g) (settle sh lim h true bs x)
       go [] f = absurd (true≢false (sym (and-right (not (eqb (countOf g) 0)) (eqb (countOf g) 0) f) ∙ not-true (eqb (countOf g) 0) (and-left (not (eqb (countOf g) 0)) (eqb (countOf g) 0) f)))
-      go (w ∷ bs) f = subst (λ q. SettledLaw s q (settle sh h true (w ∷ bs) x)) (eqb-true (x .page .first) (pageOf g) (k .passes)) (settle-law h (startsAt (pageOf g)) s x k w bs true)
+      go (w ∷ bs) f = subst (λ q. SettledLaw s q (settle sh lim h true (w ∷ bs) x)) (eqb-true (x .page .first) (pageOf g) (k .passes)) (settle-law h (startsAt (pageOf g)) s x k w bs true)
 
-  chunks-listed : (h : ℕ) (ws : List ℕ) (s : Class) (gs : List ℕ) → Listed sh s → distinct (map pageOf gs) ≡ true → every (chunkFits sh s ws) gs ≡ true → Listed sh (settleChunks sh h ws s gs .class)
+  chunks-listed : (h : ℕ) (ws : List ℕ) (s : Class) (gs : List ℕ) → Listed sh s → distinct (map pageOf gs) ≡ true → every (chunkFits sh s ws) gs ≡ true → Listed sh (settleChunks sh lim h ws s gs .class)
   unfolding settleChunks chunkFits
   chunks-listed h ws s [] y d f = y
   chunks-listed h ws s (g ∷ gs) y d f =
       let o = locate (startsAt (pageOf g)) s in
       let k = chunk-law h s ws g o (located (startsAt (pageOf g)) s y) (and-left (chunkFits sh s ws g) (every (chunkFits sh s ws) gs) f) in
-      chunks-listed h ws (settleChunk sh h s ws o .class) gs (k .listed) (and-right (not (elem (pageOf g) (map pageOf gs))) (distinct (map pageOf gs)) d)
+      chunks-listed h ws (settleChunk sh lim h s ws o .class) gs (k .listed) (and-right (not (elem (pageOf g) (map pageOf gs))) (distinct (map pageOf gs)) d)
       (all-fit ws (pageOf g) s _ (k .skip) gs (not-true (elem (pageOf g) (map pageOf gs)) (and-left (not (elem (pageOf g) (map pageOf gs))) (distinct (map pageOf gs)) d)) (and-right (chunkFits sh s ws g) (every (chunkFits sh s ws) gs) f))
 
   chunks-keep : (h : ℕ) (s : Class) (ws gs l : List ℕ) (c : Bool) → Listed sh s → not (distinct (map pageOf gs) && (every (chunkFits sh s ws) gs && c)) ≡ false
-      → KeepsListed (done (record { class = settleChunks sh h ws s gs .class; answer = fates l; gives = settleChunks sh h ws s gs .gives }))
+      → KeepsListed (done (record { class = settleChunks sh lim h ws s gs .class; answer = fates l; gives = settleChunks sh lim h ws s gs .gives }))
   chunks-keep h s ws gs l c y n =
       let a = distinct (map pageOf gs) in
       let b = every (chunkFits sh s ws) gs in
       let p = not-false (a && (b && c)) n in
       keeps-done (chunks-listed h ws s gs y (and-left a (b && c) p) (and-left b c (and-right a (b && c) p)))
 
-  pub answer-keeps : (s : Class) → Listed sh s → (r : Request) → KeepsListed (answer sh s r)
+  pub answer-keeps : (s : Class) → Listed sh s → (r : Request) → KeepsListed (answer sh lim s r)
   unfolding answer releaseList releaseChunks
   answer-keeps s y (Calls.take h l) = search (keeps-cond, keeps-refuse, take-keeps l (s .partial) (s .empty) (s .cold) (s .full) y)
   answer-keeps s y (Calls.giveBack h ws) = search (keeps-cond, keeps-refuse, list-keeps) depth 9
@@ -317,7 +319,7 @@ route-listed size H y x straight c = rw (direct-keeps size H x .kept) (y c)
 route-listed size H y x (toClass d) c =
     let k = d .class in
     update-all (H .classes) (λ j s. Listed (shapeOf j) s) k _
-    (serve-keeps (shapeOf k) (shape-sound k) (answer (shapeOf k) (H .classes k) (d .request)) _ (answer-keeps (shapeOf k) (shape-sound k) (H .classes k) (y k) (d .request)))
+    (serve-keeps (shapeOf k) (shape-sound k) (H .rules k) (answer (shapeOf k) (H .rules k) (H .classes k) (d .request)) _ (answer-keeps (shapeOf k) (shape-sound k) (H .rules k) (H .classes k) (y k) (d .request)))
     y c
 
 pub history-listed : (size : ℕ) (H : Heap) → AllListed H → (xs : List Call) → AllListed (heapFrom size H xs)
@@ -325,12 +327,12 @@ unfolding step
 history-listed size H y [] = y
 history-listed size H y (x ∷ xs) = history-listed size (step size H x .heap) (route-listed size H y x (wayOf x)) xs
 
-after-listed : (size : ℕ) (xs : List Call) → AllListed (heapAfter size xs)
+after-listed : (size : ℕ) (rules : Rules) (xs : List Call) → AllListed (heapAfter size rules xs)
 unfolding newHeap
-after-listed size xs = history-listed size newHeap (λ c. record { partial = tt; empty = tt }) xs
+after-listed size rules xs = history-listed size (newHeap rules) (λ c. record { partial = tt; empty = tt }) xs
 
-pub yielding : (size : ℕ) (xs : List Call) → Yielding size xs
-yielding size xs = record {
-  listed = after-listed size xs;
-  takes = λ c h l. answer-yields (shapeOf c) (shape-sound c) _ h l (after-listed size xs c);
+pub yielding : (size : ℕ) (rules : Rules) (xs : List Call) → Yielding size rules xs
+yielding size rules xs = record {
+  listed = after-listed size rules xs;
+  takes = λ c h l. answer-yields (shapeOf c) (shape-sound c) _ _ h l (after-listed size rules xs c);
 }

@@ -8,6 +8,7 @@ use mathlib.Core.Option.{some}
 use Rattle.facts.specs.Lists.{total, below}
 use Rattle.classes.specs.Sizes.{pageBytes}
 use Rattle.classes.specs.Shape.{shapeOf}
+use Rattle.rules.specs.Rules.{Rules}
 use Rattle.model.specs.declared.Figures.{Figures}
 use Rattle.model.specs.Calls.{Call, Named, names, Request, take, listOf, Answer, isRefused}
 use Rattle.model.specs.Arena as Arenas
@@ -27,54 +28,54 @@ use Rattle.model.specs.Yields.{Listed, TakeYields}
 use Rattle.model.specs.Heap.{newHeap}
 
 -- Demand 2: a commit on the heap after a history answers by best fit, or none with its reason
-pub record BestFit (size : ℕ) (xs : List Call) : Type 0 where
-  pub commits : (h n : ℕ) → Commits size h n (heapAfter size xs .arena) (Arenas.commit size h n (heapAfter size xs .arena) .run) (Arenas.commit size h n (heapAfter size xs .arena) .fresh)
+pub record BestFit (size : ℕ) (rules : Rules) (xs : List Call) : Type 0 where
+  pub commits : (h n : ℕ) → Commits size h n (heapAfter size rules xs .arena) (Arenas.commit size h n (heapAfter size rules xs .arena) .run) (Arenas.commit size h n (heapAfter size rules xs .arena) .fresh)
 
 -- Document 02, A.4: after every history no two holes touch; a run that is then given is stored, not abandoned, exactly if there is room,
 -- and stands where the request says
-pub record Joining (size : ℕ) (xs : List Call) : Type 0 where
-  pub noTwoTouch : NoTwoTouch (heapAfter size xs .arena .store .holes)
-  pub stored : (n q : ℕ) → (accepts n q (heapAfter size xs .arena .store) ≡ true) ↔ HasRoom n q (heapAfter size xs .arena .store)
-  pub joinedWhere : (n q : ℕ) → 1 ≤ n → accepts n q (heapAfter size xs .arena .store) ≡ true
-      → JoinedWhere n q (heapAfter size xs .arena .store .holes) (Arenas.give n q (heapAfter size xs .arena) .store .holes)
+pub record Joining (size : ℕ) (rules : Rules) (xs : List Call) : Type 0 where
+  pub noTwoTouch : NoTwoTouch (heapAfter size rules xs .arena .store .holes)
+  pub stored : (n q : ℕ) → (accepts n q (heapAfter size rules xs .arena .store) ≡ true) ↔ HasRoom n q (heapAfter size rules xs .arena .store)
+  pub joinedWhere : (n q : ℕ) → 1 ≤ n → accepts n q (heapAfter size rules xs .arena .store) ≡ true
+      → JoinedWhere n q (heapAfter size rules xs .arena .store .holes) (Arenas.give n q (heapAfter size rules xs .arena) .store .holes)
 
 -- Document 02, A.8: where two histories lead to heaps that differ in the order of their holes alone, every further history is answered
 -- alike, with the same runs, and they go on differing in it alone
-pub record Orderless (size : ℕ) (xs ys : List Call) : Type 0 where
-  pub alike : SameHeap (heapAfter size xs) (heapAfter size ys) → (zs : List Call) → eventsFrom size (heapAfter size xs) zs ≡ eventsFrom size (heapAfter size ys) zs
-  pub stays : SameHeap (heapAfter size xs) (heapAfter size ys) → (zs : List Call) → SameHeap (heapFrom size (heapAfter size xs) zs) (heapFrom size (heapAfter size ys) zs)
+pub record Orderless (size : ℕ) (rules : Rules) (xs ys : List Call) : Type 0 where
+  pub alike : SameHeap (heapAfter size rules xs) (heapAfter size rules ys) → (zs : List Call) → eventsFrom size (heapAfter size rules xs) zs ≡ eventsFrom size (heapAfter size rules ys) zs
+  pub stays : SameHeap (heapAfter size rules xs) (heapAfter size rules ys) → (zs : List Call) → SameHeap (heapFrom size (heapAfter size rules xs) zs) (heapFrom size (heapAfter size rules ys) zs)
 
 -- Demand 2: "Each source is tried only if the earlier gave no block", so a take is empty only if the arena was asked and gave none
-pub record Yielding (size : ℕ) (xs : List Call) : Type 0 where
-  pub listed : (c : ℕ) → Listed (shapeOf c) (heapAfter size xs .classes c)
-  pub takes : (c h : ℕ) (l : List ℕ) → TakeYields (answer (shapeOf c) (heapAfter size xs .classes c) (take h l))
+pub record Yielding (size : ℕ) (rules : Rules) (xs : List Call) : Type 0 where
+  pub listed : (c : ℕ) → Listed (shapeOf c) (heapAfter size rules xs .classes c)
+  pub takes : (c h : ℕ) (l : List ℕ) → TakeYields (answer (shapeOf c) (heapAfter size rules xs .rules c) (heapAfter size rules xs .classes c) (take h l))
 
 -- Demand 2: number 10's "out in this class" is what the history tells, and a release that is not refused, by list or by groups, has no
 -- other word
-pub record Outs (size : ℕ) (xs : List Call) : Type 0 where
-  pub out : (c w : ℕ) → (outHere (shapeOf c) (heapAfter size xs .classes c) w ≡ true) ↔ OutIn (events size xs) c w
-  pub released : (x : Call) (d : Named) → names x ≡ some d → isRefused (step size (heapAfter size xs) x .answer) ≡ false → AllOut (events size xs) (d .class) (listOf (d .request))
+pub record Outs (size : ℕ) (rules : Rules) (xs : List Call) : Type 0 where
+  pub out : (c w : ℕ) → (outHere (shapeOf c) (heapAfter size rules xs .classes c) w ≡ true) ↔ OutIn (events size rules xs) c w
+  pub released : (x : Call) (d : Named) → names x ≡ some d → isRefused (step size (heapAfter size rules xs) x .answer) ≡ false → AllOut (events size rules xs) (d .class) (listOf (d .request))
 
 -- Conservation: every page is in exactly one place
-pub record Conserved (size : ℕ) (xs : List Call) : Type 0 where
-  pub one : (x : ℕ) → isHeld (heapAfter size xs .holder x) + inHoles x (heapAfter size xs .arena) + above (heapAfter size xs .arena .frontier) x + abandonedFrom size newHeap xs x ≡ 1
-  pub classes : (c x : ℕ) → runsWith (shapeOf c) x (heapAfter size xs .classes c) ≡ heldBy c (heapAfter size xs .holder x)
-  pub direct : (x : ℕ) → directAfter (events size xs) x ≡ isDirect (heapAfter size xs .holder x)
-  pub holeTotal : heapAfter size xs .arena .store .total ≡ total (λ h. h .pages) (heapAfter size xs .arena .store .holes)
+pub record Conserved (size : ℕ) (rules : Rules) (xs : List Call) : Type 0 where
+  pub one : (x : ℕ) → isHeld (heapAfter size rules xs .holder x) + inHoles x (heapAfter size rules xs .arena) + above (heapAfter size rules xs .arena .frontier) x + abandonedFrom size (newHeap rules) xs x ≡ 1
+  pub classes : (c x : ℕ) → runsWith (shapeOf c) x (heapAfter size rules xs .classes c) ≡ heldBy c (heapAfter size rules xs .holder x)
+  pub direct : (x : ℕ) → directAfter (events size rules xs) x ≡ isDirect (heapAfter size rules xs .holder x)
+  pub holeTotal : heapAfter size rules xs .arena .store .total ≡ total (λ h. h .pages) (heapAfter size rules xs .arena .store .holes)
 
 -- Document 02, A.5: the figures of a report after the history count pages
-pub record Figured (size : ℕ) (xs : List Call) (f : Figures) : Type 0 where
+pub record Figured (size : ℕ) (rules : Rules) (xs : List Call) (f : Figures) : Type 0 where
   -- those held, by the history: commits answered and growths answered yes add, gives take off, for classes and direct calls alike
-  pub held-history : gained (events size xs) ≡ f .held + lost (events size xs)
-  pub held-counts : f .held ≡ total (λ x. isHeld (heapAfter size xs .holder x)) (below size)
+  pub held-history : gained (events size rules xs) ≡ f .held + lost (events size rules xs)
+  pub held-counts : f .held ≡ total (λ x. isHeld (heapAfter size rules xs .holder x)) (below size)
   -- those idle, each once
-  pub idle-counts : f .idle ≡ total (idleAt (heapAfter size xs)) (below size)
-  pub idle-once : (x : ℕ) → idleAt (heapAfter size xs) x ≤ 1
+  pub idle-counts : f .idle ≡ total (idleAt (heapAfter size rules xs)) (below size)
+  pub idle-once : (x : ℕ) → idleAt (heapAfter size rules xs) x ≤ 1
   -- those parked: a page is held and idle exactly if it is one of them
-  pub overlap-counts : f .overlap ≡ total (parkedAt (heapAfter size xs)) (below size)
-  pub overlap-both : (x : ℕ) → ((isHeld (heapAfter size xs .holder x) ≡ 1) × (idleAt (heapAfter size xs) x ≡ 1)) ↔ (parkedAt (heapAfter size xs) x ≡ 1)
+  pub overlap-counts : f .overlap ≡ total (parkedAt (heapAfter size rules xs)) (below size)
+  pub overlap-both : (x : ℕ) → ((isHeld (heapAfter size rules xs .holder x) ≡ 1) × (idleAt (heapAfter size rules xs) x ≡ 1)) ↔ (parkedAt (heapAfter size rules xs) x ≡ 1)
   -- the pages held or idle, and those abandoned, are the arena's
-  pub arena-whole : f .held + f .idle + total (abandonedFrom size newHeap xs) (below size) ≡ size + f .overlap
+  pub arena-whole : f .held + f .idle + total (abandonedFrom size (newHeap rules) xs) (below size) ≡ size + f .overlap
 
 -- Demand 3, second half: two entries not yet released share a byte exactly when they are the same entry, and none has a byte of a
 -- page held by the direct calls
@@ -84,9 +85,11 @@ pub record Disjoint (vs : List Event) : Type 0 where
 
 -- Demand 3, "one claim about whole histories"
 pub record Demand3 (size : ℕ) : Type 0 where
-  -- where a class's calls are equal, its answers are equal exactly when what the arena gave it is
-  pub alone : (c : ℕ) (xs ys : List Call) → callsOf c xs ≡ callsOf c ys → (answersOf c (events size xs) ≡ answersOf c (events size ys)) ↔ (runsOf c (events size xs) ≡ runsOf c (events size ys))
-  pub disjoint : (xs : List Call) → Disjoint (events size xs)
+  -- where a class's calls are equal, its answers are equal exactly when what the arena gave it is; document 02, A.9: "Two histories compared
+  -- for one class give it the same limits", and the others' may differ
+  pub alone : (rules rules′ : Rules) (c : ℕ) (xs ys : List Call) → rules c ≡ rules′ c → callsOf c xs ≡ callsOf c ys
+      → (answersOf c (events size rules xs) ≡ answersOf c (events size rules′ ys)) ↔ (runsOf c (events size rules xs) ≡ runsOf c (events size rules′ ys))
+  pub disjoint : (rules : Rules) (xs : List Call) → Disjoint (events size rules xs)
 
 -- Demand 2 in ISO C's words (C11 7.22.3): each allocation that is not yet freed yields an object disjoint from any other. An
 -- allocation's bytes lie in the arena, from its first byte on, as many as its class's block size; two have no byte in common.

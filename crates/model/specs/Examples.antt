@@ -11,6 +11,8 @@ use Rattle.classes.specs.declared.Sized.{Sized}
 use Rattle.classes.specs.Sizes.{granuleBytes}
 use Rattle.classes.specs.Shape.{shapeOf}
 use Rattle.classes.specs.Examples as Lookups
+use Rattle.rules.specs.declared.Limits.{Limits}
+use Rattle.rules.specs.Rules.{Rules, limits, plainRules}
 use Rattle.model.specs.declared.Hole.{Hole}
 use Rattle.model.specs.Calls.{Call, takeBlocks, mediumTakeBlocks, releaseBlocks, mediumReleaseBlocks, releaseBinChunks, commit, growFrontier, release, contains, report, Answer, refused, taken, fate, fates, run, noRun, released, grown, contained, reported}
 use Rattle.model.specs.HoleStore.{HoleStore, hole, store, takeAt, accepts}
@@ -36,18 +38,24 @@ pub record Example : Type 0 where
 abbrev pub ofSize : Lookups.Example → Example
 ofSize e = record { found = lookup (Lookups.answer e); expected = lookup (Lookups.expected e) }
 
-unfoldable pub onNewHeap : List Call → List Answer → List Hole → Example
-onNewHeap xs zs hs = record { found = history (answers 64 xs) (heapAfter 64 xs .arena .store .holes); expected = history zs hs }
+unfoldable pub onRuled : Rules → List Call → List Answer → List Hole → Example
+onRuled r xs zs hs = record { found = history (answers 64 r xs) (heapAfter 64 r xs .arena .store .holes); expected = history zs hs }
 
--- a run of class c is empty, where e empty ones and k cold ones are kept
+abbrev pub onNewHeap : List Call → List Answer → List Hole → Example
+onNewHeap xs zs hs = onRuled plainRules xs zs hs
+
+-- a run of class c is empty, where e empty ones and k cold ones are kept; with these limits, and with document 01's
 abbrev countParked : Settled → Told
 countParked b = parked (b .fate) (length (b .class .empty)) (length (b .class .cold))
 
-unfoldable pub onPark : ℕ → ℕ → ℕ → Told → Example
-onPark c e k t = record {
-  found = countParked (park (shapeOf c) 15 (lists [] (replicate e (carveAs (shapeOf c) false 0 true)) (replicate k (record { first = 0; zeroed = true })) []) (carveAs (shapeOf c) false 0 true));
+unfoldable pub onLimits : Limits → ℕ → ℕ → ℕ → Told → Example
+onLimits lim c e k t = record {
+  found = countParked (park (shapeOf c) lim 15 (lists [] (replicate e (carveAs (shapeOf c) false 0 true)) (replicate k (record { first = 0; zeroed = true })) []) (carveAs (shapeOf c) false 0 true));
   expected = t;
 }
+
+abbrev pub onPark : ℕ → ℕ → ℕ → Told → Example
+onPark c e k t = onLimits (plainRules c) c e k t
 
 -- n pages from q on are given to a store; so many holes, each of page 4, with so many pages in all
 unfoldable pub onGive : ℕ → ℕ → HoleStore → Bool → Example
@@ -213,9 +221,18 @@ rules =
     -- "it comes between 9 and 10", so before 11: a repeat on two pages; in groups whose counts are not the list's, and whose page is missing
     ∷ onNewHeap (take45 ∷ take45 ∷ give45 15 (smalls (2051 ∷ 6147 ∷ 2051 ∷ [])) ∷ give45 15 (smalls (2051 ∷ 6147 ∷ [])) ∷ releaseBinChunks 45 15 (smalls (2051 ∷ 2051 ∷ [])) (chunkWord 1 0 ∷ []) (9 ∷ []) ∷ releaseBinChunks 45 15 (smalls (2051 ∷ 2051 ∷ [])) (chunkWord 2 1 ∷ []) (9 ∷ []) ∷ releaseBinChunks 45 15 (smalls (2051 ∷ [])) (chunkWord 2 0 ∷ []) (9 ∷ []) ∷ [])
     (taken45 0 true ∷ taken45 4096 true ∷ refused 15 ∷ refused 11 ∷ refused 15 ∷ refused 15 ∷ refused 11 ∷ []) []
+    -- "empty limit 0 to 256 and cold limit 0 to 256" (document 02, A.9): 256 empty pages of a small class; "each medium class's own 8 MiB stays
+    -- beside them", 16 spans of 8 pages; limit 0 keeps nothing
+    ∷ onLimits (limits 256 0) 45 255 0 (parked 0 256 0)
+    ∷ onLimits (limits 256 0) 45 256 0 (parked 2 256 0)
+    ∷ onLimits (limits 256 256) 75 15 0 (parked 0 16 0)
+    ∷ onLimits (limits 256 256) 75 16 0 (parked 0 16 1)
+    ∷ onLimits (limits 0 256) 45 0 0 (parked 1 0 1)
+    ∷ onRuled (λ c. limits 0 0) (take45 ∷ give45 15 three ∷ take45 ∷ releaseBinChunks 45 15 three (chunkWord 3 0 ∷ []) (9 ∷ 9 ∷ []) ∷ mediumTakeBlocks 0 15 (lent 10) ∷ mediumReleaseBlocks 0 15 (mediums (rising 65600 18432 10)) ∷ [])
+    (taken45 0 true ∷ fate 2 ∷ taken45 0 true ∷ fates (6 ∷ 9 ∷ []) ∷ taken 10 (mediums (rising 65600 18432 10)) true ∷ fate 2 ∷ []) (hole 0 4 ∷ [])
     -- "2,056 groups pass, 2,057 give 8": none of these is of a page that is there
-    ∷ onClass (releaseChunks (shapeOf 45) 15 newClass three (replicate 2056 (chunkWord 1 0)) (lent 2056)) (refused 10)
-    ∷ onClass (releaseChunks (shapeOf 45) 15 newClass three (replicate 2057 (chunkWord 1 0)) (lent 2057)) (refused 8)
+    ∷ onClass (releaseChunks (shapeOf 45) (plainRules 45) 15 newClass three (replicate 2056 (chunkWord 1 0)) (lent 2056)) (refused 10)
+    ∷ onClass (releaseChunks (shapeOf 45) (plainRules 45) 15 newClass three (replicate 2057 (chunkWord 1 0)) (lent 2057)) (refused 8)
     ∷ []
 
 unfoldable pub examples : List Example

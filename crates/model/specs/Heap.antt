@@ -8,6 +8,7 @@ use Rattle.facts.specs.Lists.{every, total, update, below}
 use Rattle.model.specs.Cover.{covers, coversAll, coversRun}
 use Rattle.classes.specs.declared.Shape.{Shape}
 use Rattle.classes.specs.Shape.{shapeOf, classCount}
+use Rattle.rules.specs.Rules.{Rules}
 use Rattle.model.specs.declared.Hole.{Hole}
 use Rattle.model.specs.declared.Figures.{Figures}
 use Rattle.model.specs.Calls as Calls
@@ -27,9 +28,10 @@ pub record Heap : Type 0 where
   pub arena : Arena
   pub holder : ℕ → Holder
   pub classes : ℕ → Class
+  pub rules : Rules  -- the limits of each class, as the opening gave them
 
-unfoldable pub newHeap : Heap
-newHeap = record { arena = newArena; holder = λ x. nobody; classes = λ c. newClass }
+unfoldable pub newHeap : Rules → Heap
+newHeap rules = record { arena = newArena; holder = λ x. nobody; classes = λ c. newClass; rules = rules }
 
 -- the heap after a call, the answer, and what the arena gave at it: a run by its first page and length, or none
 pub record Outcome : Type 0 where
@@ -60,6 +62,7 @@ finish H c sh n g r = record {
     arena = giveAll (sh .pages) (r .gives) (g .arena);
     holder = passTo nobody (coversAll (sh .pages) (r .gives)) (passTo (class c) (coversRun (sh .pages) (g .run)) (H .holder));
     classes = update (H .classes) c (r .class);
+    rules = H .rules;
   };
   answer = r .answer;
   run = runWith n (g .run);
@@ -69,7 +72,7 @@ unfoldable pub interact : ℕ → Heap → ℕ → ℕ → Ask → Outcome
 interact size H c h q = let g = offer size h (H .arena) q in finish H c (shapeOf c) (asked q) g (serve q (g .run))
 
 unfoldable pub classCall : ℕ → Heap → ℕ → Request → Outcome
-classCall size H c r = interact size H c (hostOf r) (answer (shapeOf c) (H .classes c) r)
+classCall size H c r = interact size H c (hostOf r) (answer (shapeOf c) (H .rules c) (H .classes c) r)
 
 -- the other calls
 abbrev pub unchanged : Heap → Answer → Outcome
@@ -90,7 +93,7 @@ unfoldable pub heldDirect : ℕ → Heap → ℕ → ℕ → Bool
 heldDirect size H q n = leb (q + n) size && every (λ k. isDirect (H .holder (q + k))) (below n)
 
 abbrev pub withPages : Arena → (ℕ → Holder) → Heap → Heap
-withPages a w H = record { arena = a; holder = w; classes = H .classes }
+withPages a w H = record { arena = a; holder = w; classes = H .classes; rules = H .rules }
 
 -- number 6: "A run has 0 pages or 2 to the 48th or more"
 unfoldable pub badRun : ℕ → Bool

@@ -1,11 +1,12 @@
 -- Histories from an opening: what was called and answered, and what a class saw of it (document 01, "The histories of demand 3").
--- All is told from the arena's length and the calls' arguments.
+-- All is told from the arena's length, the opening's rules and the calls' arguments.
 use Prim.Native.Nat.{ℕ}
 use mathlib.Core.List.{List, [], _∷_, map}
 use mathlib.Core.Option.{Option, none, some}
 use mathlib.Core.Bool.{Bool, false}
 use lib.Dec.{eqb}
 use Rattle.facts.specs.Lists.{filter}
+use Rattle.rules.specs.Rules.{Rules}
 use Rattle.model.specs.declared.Hole.{Hole}
 use Rattle.model.specs.Calls.{Call, Answer, Named, names}
 use Rattle.model.specs.Heap.{Heap, Outcome, step, newHeap}
@@ -28,15 +29,15 @@ abbrev pub heapFrom : ℕ → Heap → List Call → Heap
 heapFrom size H [] = H
 heapFrom size H (x ∷ xs) = heapFrom size (step size H x .heap) xs
 
--- from an opening
-abbrev pub events : ℕ → List Call → List Event
-events size xs = eventsFrom size newHeap xs
+-- from an opening with these rules
+abbrev pub events : ℕ → Rules → List Call → List Event
+events size rules xs = eventsFrom size (newHeap rules) xs
 
-abbrev pub heapAfter : ℕ → List Call → Heap
-heapAfter size xs = heapFrom size newHeap xs
+abbrev pub heapAfter : ℕ → Rules → List Call → Heap
+heapAfter size rules xs = heapFrom size (newHeap rules) xs
 
-abbrev pub answers : ℕ → List Call → List Answer
-answers size xs = map (λ e. e .answer) (events size xs)
+abbrev pub answers : ℕ → Rules → List Call → List Answer
+answers size rules xs = map (λ e. e .answer) (events size rules xs)
 
 -- "A class's calls are the takes and releases, groups too, that name it."
 abbrev pub isOf : ℕ → Option Named → Bool

@@ -87,7 +87,7 @@ directAbandons size H Calls.report x = 0
 abbrev pub callAbandons : ℕ → Heap → Call → Way → ℕ → ℕ
 callAbandons size H y turned x = 0
 callAbandons size H y straight x = cond (isRefused (directCall size H y .answer)) 0 (directAbandons size H y x)
-callAbandons size H y (toClass d) x = classAbandons size H (d .class) (hostOf (d .request)) (answer (shapeOf (d .class)) (H .classes (d .class)) (d .request)) x
+callAbandons size H y (toClass d) x = classAbandons size H (d .class) (hostOf (d .request)) (answer (shapeOf (d .class)) (H .rules (d .class)) (H .classes (d .class)) (d .request)) x
 
 -- over a history: how often page x was abandoned
 abbrev pub abandonedFrom : ℕ → Heap → List Call → ℕ → ℕ

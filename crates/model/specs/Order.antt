@@ -30,6 +30,7 @@ pub record SameHeap (H K : Heap) : Type 0 where
   pub arena : SameArena (H .arena) (K .arena)
   pub holder : H .holder ≡ K .holder
   pub classes : H .classes ≡ K .classes
+  pub rules : H .rules ≡ K .rules
 
 -- two commits, two growths, two calls that are answered alike, and differ afterwards in the order of holes alone
 pub record SameGiven (g d : Given) : Type 0 where

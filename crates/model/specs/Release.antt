@@ -9,6 +9,7 @@ use Rattle.facts.specs.Lists.{isNil, filter, every, isSome, distinct}
 use Rattle.words.specs.Word.{kindOf}
 use Rattle.words.specs.Host.{discardZeroed}
 use Rattle.classes.specs.declared.Shape.{Shape}
+use Rattle.rules.specs.declared.Limits.{Limits}
 use Rattle.model.specs.declared.Spot.{Spot}
 use Rattle.model.specs.declared.Spot.the-variants.{ToEmpty, ToCold, ToArena}
 use Rattle.model.specs.Calls.{fate}
@@ -82,20 +83,20 @@ parkIn sh h s p ToEmpty = parkEmpty sh s p
 parkIn sh h s p ToCold = parkCold sh h s p
 parkIn sh h s p ToArena = letGo sh s p
 
-abbrev pub spotIn : Shape → Class → Spot
-spotIn sh s = spotOf sh (length (s .empty)) (length (s .cold))
+abbrev pub spotIn : Shape → Limits → Class → Spot
+spotIn sh lim s = spotOf sh lim (length (s .empty)) (length (s .cold))
 
-unfoldable pub park : Shape → ℕ → Class → Page → Settled
-park sh h s p = parkIn sh h s p (spotIn sh s)
+unfoldable pub park : Shape → Limits → ℕ → Class → Page → Settled
+park sh lim h s p = parkIn sh h s p (spotIn sh lim s)
 
 abbrev pub markRetired : Settled → Settled
 markRetired b = record { class = b .class; fate = retired (b .fate); gives = b .gives }
 
 -- blocks come back to a page: one with none out is parked, retired first if a chunk returned them all
-unfoldable pub settle : Shape → ℕ → Bool → List ℕ → Site → Settled
-settle sh h retires ws x =
+unfoldable pub settle : Shape → Limits → ℕ → Bool → List ℕ → Site → Settled
+settle sh lim h retires ws x =
     cond (noneOut sh (returned ws (x .page)))
-    (cond retires (markRetired (park sh h (x .without) (retire (x .page)))) (park sh h (x .without) (returned ws (x .page))))
+    (cond retires (markRetired (park sh lim h (x .without) (retire (x .page)))) (park sh lim h (x .without) (returned ws (x .page))))
     (record { class = x .with (returned ws (x .page)); fate = keptFate; gives = [] })
 
 -- the tests of numbers 9, 15 and 10
@@ -110,21 +111,21 @@ unfoldable pub repeats : Shape → Class → List ℕ → Bool
 repeats sh s ws = not (distinct (filter (outHere sh s) ws))
 
 -- `release_blocks_with_tail`: numbers 7, 9, 15, 10, 11, each over the whole list
-unfoldable pub onPage : Shape → ℕ → Class → List ℕ → Option Site → Ask
-onPage sh h s ws none = refuse s 10
-onPage sh h s ws (some x) =
+unfoldable pub onPage : Shape → Limits → ℕ → Class → List ℕ → Option Site → Ask
+onPage sh lim h s ws none = refuse s 10
+onPage sh lim h s ws (some x) =
     cond (every (λ w. isOut sh w (x .page)) ws)
-    (let b = settle sh h false ws x in done (record { class = b .class; answer = fate (b .fate); gives = b .gives }))
+    (let b = settle sh lim h false ws x in done (record { class = b .class; answer = fate (b .fate); gives = b .gives }))
     (refuse s 11)
 
 abbrev pub siteOfFirst : Shape → Class → List ℕ → Option Site
 siteOfFirst sh s [] = none
 siteOfFirst sh s (w ∷ ws) = locate (isOut sh w) s
 
-unfoldable pub releaseList : Shape → ℕ → Class → List ℕ → Ask
-releaseList sh h s ws =
+unfoldable pub releaseList : Shape → Limits → ℕ → Class → List ℕ → Ask
+releaseList sh lim h s ws =
     cond (isNil ws) (refuse s 7)
     (cond (not (every (ofKind (sh .kind)) ws)) (refuse s 9)
     (cond (repeats sh s ws) (refuse s 15)
     (cond (not (every (outHere sh s) ws)) (refuse s 10)
-    (onPage sh h s ws (siteOfFirst sh s ws)))))
+    (onPage sh lim h s ws (siteOfFirst sh s ws)))))

@@ -1,21 +1,23 @@
 -- Where a run with no block out goes, and the fate that says so (document 01, "Blocks out and back").
---     spotOf       the spot, by the counts of the class's empty and cold runs
+--     spotOf       the spot, by the class's limits and the counts of its empty and cold runs
 --     fateOf       the run's fate
 --     retired      the fate of a run that was retired
 use Prim.Native.Nat.{ℕ, suc, _+_, _*_}
 use mathlib.Core.Bool.{Bool, true, false, cond, _&&_}
 use lib.Dec.{leb, ltb}
 use Rattle.classes.specs.declared.Shape.{Shape}
+use Rattle.rules.specs.declared.Limits.{Limits}
 use Rattle.model.specs.declared.Spot.{Spot}
 use Rattle.model.specs.declared.Spot.the-variants.{ToEmpty, ToCold, ToArena}
 use Rattle.model.specs.Page.{isMedium}
 
--- "at most 4 empty, last in first out, then 256 cold, then given to the arena"; for spans "32 and 8 MiB"
-abbrev pub keepsEmpty : Shape → ℕ → Bool
-keepsEmpty sh e = ltb e (sh .empties) && leb (suc e * sh .pages) (sh .emptypages)
+-- "at most 4 empty, last in first out, then 256 cold, then given to the arena"; for spans "32 and 8 MiB". Since document 02, A.9, the
+-- two counts are the limits of the class
+abbrev pub keepsEmpty : Shape → Limits → ℕ → Bool
+keepsEmpty sh lim e = ltb e (lim .empty) && leb (suc e * sh .pages) (sh .emptypages)
 
-unfoldable pub spotOf : Shape → ℕ → ℕ → Spot
-spotOf sh e k = cond (keepsEmpty sh e) ToEmpty (cond (ltb k (sh .colds)) ToCold ToArena)
+unfoldable pub spotOf : Shape → Limits → ℕ → ℕ → Spot
+spotOf sh lim e k = cond (keepsEmpty sh lim e) ToEmpty (cond (ltb k (lim .cold)) ToCold ToArena)
 
 abbrev pub isEmpty : Spot → Bool
 isEmpty ToEmpty = true

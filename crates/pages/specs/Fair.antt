@@ -2,12 +2,14 @@
 --     headerFair    CARVED, FREE and VIRGIN of page q, which has m blocks out or more
 --     linksFair     NEXT and PREV, which are read only where the page is listed
 --     storeFair     a store's newest page and its count
+--     limitsAt      the limits of the stores, in the class's own row; limitsFair
 use Prim.Native.Nat.{ℕ, _+_}
 use mathlib.Core.Bool.{Bool, true, cond, _&&_}
 use mathlib.Core.List.{List}
 use lib.Dec.{eqb, leb}
 use Rattle.classes.specs.declared.Shape.{Shape}
-use Rattle.fields.specs.Field.{arena, class, page, frontier, next, prev, free, carved, listed, virgin, get}
+use Rattle.fields.specs.Field.{arena, class, page, frontier, emptyLimit, coldLimit, next, prev, free, carved, listed, virgin, get}
+use Rattle.rules.specs.declared.Limits.{Limits}
 use Rattle.fields.specs.Ranges.{maxParked}
 use Rattle.pages.specs.declared.Park.{Park}
 use Rattle.pages.specs.Links.{top, stored}
@@ -22,3 +24,10 @@ linksFair b q = cond (eqb (get b (page listed q)) 1) (leb (get b (page next q)) 
 
 abbrev pub storeFair : List ℕ → ℕ → Park → Bool
 storeFair b c k = leb (get b (class (top k) c)) (get b (arena frontier)) && leb (get b (class (stored k) c)) maxParked
+
+-- a release reads them, a take does not
+abbrev pub limitsAt : List ℕ → ℕ → Limits
+limitsAt b c = record { empty = get b (class emptyLimit c); cold = get b (class coldLimit c) }
+
+abbrev pub limitsFair : List ℕ → ℕ → Bool
+limitsFair b c = leb (get b (class emptyLimit c)) maxParked && leb (get b (class coldLimit c)) maxParked

@@ -12,6 +12,7 @@ use Rattle.facts.proofs.Bools.{by-cases}
 use Rattle.words.specs.Host.{hostMax, reservationGranted, commitGranted}
 use Rattle.classes.specs.Shape.{shapeOf}
 use Rattle.classes.proofs.Shapes.{shape-sound}
+use Rattle.rules.specs.Rules.{Rules}
 use Rattle.model.specs.Calls as Calls
 use Rattle.model.specs.Calls.{Call, names, blocksOf, toClass, wayOf}
 use Rattle.model.specs.Arena.{Given}
@@ -84,9 +85,9 @@ unfolding step classCall
 step-is n f H w x g =
     rw (g .way)
     (asked-is n f H w (g .class) (g .known) (g .host) (g .asks .reserves) (g .asks .commits) _
-    (take-stands (shapeOf (g .class)) (shape-sound (g .class)) (f (g .class)) (g .host) (g .list) (H .classes (g .class)) (g .asks .long) (w .classes (g .class))))
+    (take-stands (shapeOf (g .class)) (shape-sound (g .class)) (H .rules (g .class)) (f (g .class)) (g .host) (g .list) (H .classes (g .class)) (g .asks .long) (w .classes (g .class))))
 
 -- a new heap
-pub new-at : (n : ℕ) → HeapAt n (λ c. 0) newHeap
+pub new-at : (n : ℕ) (rules : Rules) → HeapAt n (λ c. 0) (newHeap rules)
 unfolding newHeap
-new-at n = record { classes = λ c. spent 0 (omega arith); fresh = record { holes = refl; usable = refl }; frontier = sym pages-none; within = omega arith }
+new-at n rules = record { classes = λ c. spent 0 (omega arith); fresh = record { holes = refl; usable = refl }; frontier = sym pages-none; within = omega arith }

@@ -11,6 +11,7 @@ use borrow.Author.Tests.{ne-eqb, lt-ltb, le-ltb}
 use Rattle.classes.specs.declared.Shape.{Shape}
 use Rattle.classes.specs.Sound.{Sound}
 use Rattle.facts.specs.Lists.{All, isNil}
+use Rattle.rules.specs.declared.Limits.{Limits}
 use Rattle.model.specs.Calls as Calls
 use Rattle.model.specs.Calls.{blocksOf}
 use Rattle.model.specs.Page.{Page, isMedium, carve, carveAs, hasMore, carvedNow, pop, reused}
@@ -99,9 +100,9 @@ module _ (sh : Shape) where
     from-lists l t ps es cs fs (partly p r v e k a b) (refuses x) = absurd (false≢true x)
     from-lists l t ps es cs fs (partly p r v e k a b) (yields x) = serves r v e k x refl (page-after l p fs t r v e (omega arith) a b)
 
-    pub take-stands : (t h : ℕ) (l : List ℕ) (s : Class) → sh .batch ≤ length l → At t s → Takes t (answer sh s (Calls.take h l))
+    pub take-stands : (lim : Limits) (t h : ℕ) (l : List ℕ) (s : Class) → sh .batch ≤ length l → At t s → Takes t (answer sh lim s (Calls.take h l))
     unfolding answer
-    take-stands t h l s long a =
+    take-stands lim t h l s long a =
         let y = stands-listed t (s .partial) (s .empty) (s .cold) a in
-        let g = answer-yields sh ok s h l (record { partial = y .0; empty = y .1 }) in
+        let g = answer-yields sh ok lim s h l (record { partial = y .0; empty = y .1 }) in
         rw (le-ltb (length l) (sh .batch) long) (from-lists l t (s .partial) (s .empty) (s .cold) (s .full) a (rw (le-ltb (length l) (sh .batch) long) at g))

@@ -11,6 +11,7 @@ use lib.ListN.{length}
 use borrow.Author.Tests.{eqb-true, eq-eqb}
 use Rattle.facts.specs.Lists.{All}
 use Rattle.facts.proofs.Bools.{by-cases}
+use Rattle.rules.specs.Rules.{Rules}
 use Rattle.model.specs.Calls as Calls
 use Rattle.model.specs.Calls.{Call, names}
 use Rattle.model.specs.Heap.{Heap, newHeap, step}
@@ -55,11 +56,11 @@ fits-from n f H w (x ∷ xs) g =
     let d = granted-names x (g .0) in
     fits-next n f H x xs d (λ z. fits-from n (bump f (d .class)) (step n H x .heap) z xs (g .1)) (step-is n f H w x d)
 
-plan-fits : (n : ℕ) (ks ts : List ℕ) (xs : List Call) → All Granted xs → Carries ks ts xs → All Gives (answers n xs) ↔ (planTotal ks ts ≤ n)
+plan-fits : (n : ℕ) (rules : Rules) (ks ts : List ℕ) (xs : List Call) → All Granted xs → Carries ks ts xs → All Gives (answers n rules xs) ↔ (planTotal ks ts ≤ n)
 unfolding planTotal
-plan-fits n ks ts xs g e =
+plan-fits n rules ks ts xs g e =
     let same : all (λ c. 0) xs ≡ takesOf ks ts = fun-ext (λ c. omega (arith, e c)) in
-    subst (λ f. All Gives (answers n xs) ↔ (pagesOf f ≤ n)) same (fits-from n (λ c. 0) newHeap (new-at n) xs g)
+    subst (λ f. All Gives (answers n rules xs) ↔ (pagesOf f ≤ n)) same (fits-from n (λ c. 0) (newHeap rules) (new-at n rules) xs g)
 
 plan-one-more : (c : ℕ) (ks ts ks′ ts′ : List ℕ) → OneMore c ks ts ks′ ts′ → Moves c (planTotal ks ts) (planTotal ks′ ts′)
 unfolding planTotal

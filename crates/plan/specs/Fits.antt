@@ -9,6 +9,7 @@ use lib.ListN.{length}
 use Rattle.facts.specs.Lists.{All, isNil}
 use Rattle.words.specs.Host.{hostMax, reservationGranted, commitGranted}
 use Rattle.classes.specs.Shape.{shapeOf}
+use Rattle.rules.specs.Rules.{Rules}
 use Rattle.model.specs.Calls.{Call, Answer, takeBlocks, mediumTakeBlocks, blocksOf}
 use Rattle.model.specs.History.{answers, callsOf}
 use Rattle.plan.specs.Plan.{classOf, takesOf, planTotal, badPlan}
@@ -44,8 +45,8 @@ pub record Carried (ks ts : List ℕ) : Type 0 where
   pub carries : Carries ks ts calls
 
 pub record Planned : Type 0 where
-  -- "all takes succeed, in whatever order, exactly when the total is within the arena"
-  pub fits : (n : ℕ) (ks ts : List ℕ) (xs : List Call) → All Granted xs → Carries ks ts xs → All Gives (answers n xs) ↔ (planTotal ks ts ≤ n)
+  -- "all takes succeed, in whatever order, exactly when the total is within the arena"; whatever the parking rules, since nothing is released
+  pub fits : (n : ℕ) (rules : Rules) (ks ts : List ℕ) (xs : List Call) → All Granted xs → Carries ks ts xs → All Gives (answers n rules xs) ↔ (planTotal ks ts ≤ n)
   -- "One more take moves the total by no more than one run of that class": by none, or by just one run
   pub one-more : (c : ℕ) (ks ts ks′ ts′ : List ℕ) → OneMore c ks ts ks′ ts′
       → (planTotal ks′ ts′ ≡ planTotal ks ts) ⊎ (planTotal ks′ ts′ ≡ planTotal ks ts + shapeOf c .pages)

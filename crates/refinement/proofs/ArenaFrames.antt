@@ -15,12 +15,13 @@ use borrow.Author.Tests.{lt-ltb, ltb-true, ltb-false, le-leb, leb-true, leb-fals
 use Rattle.facts.specs.Lists.{every, below}
 use Rattle.facts.proofs.Bools.{by-cases, and-left, and-right, or-left, or-right}
 use Rattle.facts.proofs.Lists.{every-at, every-cong}
+use Rattle.rules.specs.declared.Limits.{Limits}
 use Rattle.model.specs.Cover.{inRun}
 use Rattle.model.specs.Heap.{direct}
 use Rattle.arena.specs.Owners.{ownerCode}
 use Rattle.words.specs.Limits.{holeSlots}
 use Rattle.classes.specs.declared.Shape.{Shape}
-use Rattle.fields.specs.Field.{Field, arena, class, hole, page, mark, out, slot, ClassField, PageField, owner, first, frontier, held, arenaOff, pageOff, get, put, words}
+use Rattle.fields.specs.Field.{Field, arena, class, hole, page, mark, out, slot, ClassField, PageField, owner, first, frontier, held, arenaOff, pageOff, get, put, words, emptyLimit, coldLimit}
 use Rattle.fields.proofs.Laws.{get-put-same, length-put}
 use Rattle.fields.proofs.Changes.{Changes, changes-none, changes-put, changes-trans, changes-mono}
 use Rattle.model.specs.Arena.{Arena}
@@ -32,6 +33,8 @@ use Rattle.arena.specs.Owners.{own, ownRun}
 use Rattle.arena.specs.Calls.{advance, passedTo, committed, commitBook, given, grownBy, grownBook, growBook}
 use Rattle.arena.proofs.Frames.{isStored, arena-changes}
 use Rattle.refinement.proofs.ArenaStored.{Few, commit-stored, grow-stored, stored-changes}
+use Rattle.refinement.specs.Represents.{RuleRep}
+use Rattle.refinement.proofs.Frames.{rule-kept}
 
 -- ---- which words
 abbrev pub isOwner : (ℕ → Bool) → Field → Bool
@@ -60,6 +63,9 @@ inRunOf m (some q) x = inRun m q x
 module _ (t : ℕ → Bool) (b b′ : List ℕ) (h : Changes (isStep t) b b′) where
   pub step-row : (k : ClassField) (c : ℕ) → ltb c 76 ≡ true → get b′ (class k c) ≡ get b (class k c)
   step-row k c o = h .kept (class k c) o refl
+
+  pub step-rule : (c : ℕ) {lim : Limits} → ltb c 76 ≡ true → RuleRep b c lim → RuleRep b′ c lim
+  step-rule c o = rule-kept (step-row emptyLimit c o) (step-row coldLimit c o)
 
   pub step-page : (k : PageField) (p : ℕ) → eqb (pageOff k) 0 ≡ false → get b′ (page k p) ≡ get b (page k p)
   step-page k p e = h .kept (page k p) refl (rw e)

@@ -8,6 +8,7 @@ use mathlib.Core.Path.{_≡_, refl, sym, ap}
 use lib.Dec.{eqb, ltb}
 use borrow.Author.Tests.{ltb-true, lt-ltb}
 use Rattle.facts.proofs.Bools.{by-cases}
+use Rattle.rules.specs.Rules.{Rules}
 use Rattle.model.specs.Cover.{covers, coversAll, coversRun}
 use Rattle.classes.specs.Shape.{shapeOf}
 use Rattle.model.specs.Calls as Calls
@@ -98,7 +99,7 @@ module _ (n : ℕ) (H : Heap) (k : Known (H .holder)) where
   unfolding classCall interact finish
   class-known c r e =
       let sh = shapeOf c in
-      let q = answer sh (H .classes c) r in
+      let q = answer sh (H .rules c) (H .classes c) r in
       let g = offer n (hostOf r) (H .arena) q in
       let w = passTo (class c) (coversRun (sh .pages) (g .run)) (H .holder) in
       record { known = known-passed nobody (coversAll (sh .pages) (serve q (g .run) .gives)) w refl (known-passed (class c) (coversRun (sh .pages) (g .run)) (H .holder) e k) }
@@ -116,6 +117,6 @@ known-from : (n : ℕ) (H : Heap) (xs : List Call) → Known (H .holder) → Kno
 known-from n H [] k = k
 known-from n H (x ∷ xs) k = known-from n (step n H x .heap) xs (known-step n H k x)
 
-pub known-after : (n : ℕ) (xs : List Call) → Known (heapAfter n xs .holder)
+pub known-after : (n : ℕ) (rules : Rules) (xs : List Call) → Known (heapAfter n rules xs .holder)
 unfolding newHeap
-known-after n xs = known-from n newHeap xs (record { at = λ y. refl })
+known-after n rules xs = known-from n (newHeap rules) xs (record { at = λ y. refl })

@@ -11,6 +11,7 @@ use lib.Dec.{eqb, ltb}
 use borrow.Author.Tests.{ltb-true, ltb-false, eqb-true, eqb-false}
 use Rattle.facts.specs.Lists.{total, below}
 use Rattle.facts.proofs.Bools.{by-cases}
+use Rattle.rules.specs.Rules.{Rules}
 use Rattle.model.specs.Cover.{covers, coversRun}
 use Rattle.model.specs.Calls.{Call}
 use Rattle.model.specs.Arena.{Arena, commit, grow, give}
@@ -34,12 +35,12 @@ pub record Reached (n : ℕ) (H : Heap) : Type 0 where
   -- by nobody, the direct calls or one of the 76 classes
   pub known : Known (H .holder)
 
-pub reached-after : (n : ℕ) (xs : List Call) → Reached n (heapAfter n xs)
-reached-after n xs = record {
-  tidy = tidy-after n xs;
-  bound = kept n xs .inv .bound;
-  apart = λ x. omega (arith, kept n xs .inv .one x);
-  known = known-after n xs;
+pub reached-after : (n : ℕ) (rules : Rules) (xs : List Call) → Reached n (heapAfter n rules xs)
+reached-after n rules xs = record {
+  tidy = tidy-after n rules xs;
+  bound = kept n rules xs .inv .bound;
+  apart = λ x. omega (arith, kept n rules xs .inv .one x);
+  known = known-after n rules xs;
 }
 
 -- one call more
@@ -48,8 +49,8 @@ heap-next n H [] x = refl
 heap-next n H (y ∷ xs) x = heap-next n (step n H y .heap) xs x
 
 -- the arena's part does not look at the classes, so they may be any
-abbrev pub heapOf : Arena → (ℕ → Holder) → (ℕ → Class) → Heap
-heapOf a w cs = record { arena = a; holder = w; classes = cs }
+abbrev pub heapOf : Rules → Arena → (ℕ → Holder) → (ℕ → Class) → Heap
+heapOf rules a w cs = record { arena = a; holder = w; classes = cs; rules = rules }
 
 pub not-held : (w : Holder) → isHeld w ≡ 0 → w ≡ nobody
 not-held nobody e = refl
@@ -57,7 +58,7 @@ not-held direct e = absurd (omega arith)
 not-held (class c) e = absurd (omega arith)
 
 module _ (n : ℕ) (H : Heap) (r : Reached n H) where
-  pub reached-classes : (cs : ℕ → Class) → Reached n (heapOf (H .arena) (H .holder) cs)
+  pub reached-classes : (cs : ℕ → Class) → Reached n (heapOf (H .rules) (H .arena) (H .holder) cs)
   reached-classes cs = record { tidy = r .tidy; bound = r .bound; apart = r .apart; known = r .known }
 
   pub idle-once : (x : ℕ) → idle x (H .arena) ≤ 1
@@ -100,7 +101,7 @@ one-held direct = omega arith
 one-held (class c) = omega arith
 
 module _ (n : ℕ) (H : Heap) (r : Reached n H) (h m : ℕ) (one : 1 ≤ m) (who : Holder) (ours : isKnown who ≡ true) (cs : ℕ → Class) where
-  pub reached-commit : Reached n (heapOf (commit n h m (H .arena) .arena) (passTo who (coversRun m (commit n h m (H .arena) .run)) (H .holder)) cs)
+  pub reached-commit : Reached n (heapOf (H .rules) (commit n h m (H .arena) .arena) (passTo who (coversRun m (commit n h m (H .arena) .run)) (H .holder)) cs)
   reached-commit =
       let g = commit n h m (H .arena) in
       let law = commit-law n h m (H .arena) in
@@ -111,7 +112,7 @@ module _ (n : ℕ) (H : Heap) (r : Reached n H) (h m : ℕ) (one : 1 ≤ m) (who
         known = known-passed who (coversRun m (g .run)) (H .holder) ours (r .known);
       }
 
-  pub reached-grow : (e : ℕ) → Reached n (heapOf (grow n h e m (H .arena) .arena) (passTo who (λ x. cond (grow n h e m (H .arena) .grew) (covers m e x) 0) (H .holder)) cs)
+  pub reached-grow : (e : ℕ) → Reached n (heapOf (H .rules) (grow n h e m (H .arena) .arena) (passTo who (λ x. cond (grow n h e m (H .arena) .grew) (covers m e x) 0) (H .holder)) cs)
   reached-grow e =
       let g = grow n h e m (H .arena) in
       record {
@@ -127,7 +128,7 @@ gives o i i′ g a l h = by-cases (eqb g 0) (λ e. rw e (let z = eqb-true g 0 e 
 
 -- a run that is held is given
 pub reached-give : (n : ℕ) (H : Heap) → Reached n H → (q m : ℕ) → 1 ≤ m → ((x : ℕ) → covers m q x ≤ isHeld (H .holder x)) → (cs : ℕ → Class)
-    → Reached n (heapOf (give m q (H .arena)) (passTo nobody (covers m q) (H .holder)) cs)
+    → Reached n (heapOf (H .rules) (give m q (H .arena)) (passTo nobody (covers m q) (H .holder)) cs)
 reached-give n H r q m one k cs =
     record {
       tidy = tidy-give m one q (H .arena) (r .tidy);

@@ -84,34 +84,34 @@ module _ (n : ℕ) (b b′ : List ℕ) (H H′ : Heap) (rep : ArenaRep n b H) (r
 
 -- ---- pages that were nobody's pass to a holder: commits and growths
 module _ (n : ℕ) (b b′ : List ℕ) (H : Heap) (r : Reached n H) (rep : ArenaRep n b H) (a : Arena) (g : ℕ → ℕ) (who : Holder) (cs : ℕ → Class)
-    (rep′ : ArenaRep n b′ (heapOf a (passTo who g (H .holder)) cs)) (rises : H .arena .frontier ≤ a .frontier)
+    (rep′ : ArenaRep n b′ (heapOf (H .rules) a (passTo who g (H .holder)) cs)) (rises : H .arena .frontier ≤ a .frontier)
     (drawn : (x : ℕ) → idle x a + g x ≤ idle x (H .arena)) where
   drawn-nobody : (y : ℕ) → eqb (g y) 0 ≡ false → H .holder y ≡ nobody
   drawn-nobody y e = let z : g y ≡ 0 → ⊥ = eqb-false (g y) 0 e in idle-nobody n H r y (omega (arith, z, drawn y))
 
   module _ (starts : (y : ℕ) → eqb (g y) 0 ≡ true → get b′ (page first y) ≡ get b (page first y)) where
     -- a page that did not pass
-    page-left : (d x y : ℕ) → y < a .frontier → eqb (g y) 0 ≡ true → Page n b b′ H (heapOf a (passTo who g (H .holder)) cs) rep rep′ rises d x y
+    page-left : (d x y : ℕ) → y < a .frontier → eqb (g y) 0 ≡ true → Page n b b′ H (heapOf (H .rules) a (passTo who g (H .holder)) cs) rep rep′ rises d x y
     page-left d x y l e =
         let h : passTo who g (H .holder) y ≡ H .holder y = rw e in
         by-cases (ltb y (H .arena .frontier))
         (λ u. same (ltb-true y (H .arena .frontier) u) h (starts y e))
         (λ u. let z = ltb-false y (H .arena .frontier) u in
-        page-free n b b′ H (heapOf a (passTo who g (H .holder)) cs) rep rep′ rises d x y l (rw (h, above-nobody n H r y z) (nobody-other d)) (λ v. absurd (omega arith)))
+        page-free n b b′ H (heapOf (H .rules) a (passTo who g (H .holder)) cs) rep rep′ rises d x y l (rw (h, above-nobody n H r y z) (nobody-other d)) (λ v. absurd (omega arith)))
 
     -- a class that is not the holder
     pub drawn-whole : (sh : Shape) (d x : ℕ) → 1 ≤ sh .pages → isOf d who ≡ false → whole n b′ sh d x ≡ whole n b sh d x
     drawn-whole sh d x one o =
-        pages-whole n b b′ H (heapOf a (passTo who g (H .holder)) cs) rep rep′ rises sh d x one
+        pages-whole n b b′ H (heapOf (H .rules) a (passTo who g (H .holder)) cs) rep rep′ rises sh d x one
         (λ y l. by-cases (eqb (g y) 0)
         (λ e. page-left d x y l e)
-        (λ e. page-free n b b′ H (heapOf a (passTo who g (H .holder)) cs) rep rep′ rises d x y l (rw e o) (λ u. rw (drawn-nobody y e) (nobody-other d))))
+        (λ e. page-free n b b′ H (heapOf (H .rules) a (passTo who g (H .holder)) cs) rep rep′ rises d x y l (rw e o) (λ u. rw (drawn-nobody y e) (nobody-other d))))
 
     -- the holder's class, once the pages name q: its other runs
     pub claimed-others : (q : ℕ) → ((y : ℕ) → eqb (g y) 0 ≡ false → get b′ (page first y) ≡ q) → (sh : Shape) (d x : ℕ) → 1 ≤ sh .pages → (x ≡ q → ⊥)
         → whole n b′ sh d x ≡ whole n b sh d x
     claimed-others q fs sh d x one ne =
-        pages-whole n b b′ H (heapOf a (passTo who g (H .holder)) cs) rep rep′ rises sh d x one
+        pages-whole n b b′ H (heapOf (H .rules) a (passTo who g (H .holder)) cs) rep rep′ rises sh d x one
         (λ y l. by-cases (eqb (g y) 0)
         (λ e. page-left d x y l e)
         (λ e. free (and-false-r (eqb (get b′ (page owner y)) (suc d)) _ (rw (fs y e) (ne-eqb q x (λ z. ne (sym z))))) (λ u. rw (rep .owners y u, drawn-nobody y e) (and-false-l _ _ (nobody-other d)))))
@@ -131,12 +131,12 @@ module _ (n : ℕ) (b : List ℕ) (H : Heap) (rep : ArenaRep n b H) (r : Reached
   pub given-step : Changes (isStep (inRun m q)) b (given b q m)
   given-step = given-changes b q m (rw (rep .loads) (tidy-give m one q (H .arena) (r .tidy) .slots))
 
-  given-rep : ArenaRep n (given b q m) (heapOf (give m q (H .arena)) (passTo nobody (covers m q) (H .holder)) (H .classes))
+  given-rep : ArenaRep n (given b q m) (heapOf (H .rules) (give m q (H .arena)) (passTo nobody (covers m q) (H .holder)) (H .classes))
   given-rep = give-rep n b H rep r q m one holds (H .classes)
 
   given-pages : (sh : Shape) (d x : ℕ) → 1 ≤ sh .pages → ((y : ℕ) → inRun m q y ≡ true → names b d x y ≡ false) → whole n (given b q m) sh d x ≡ whole n b sh d x
   given-pages sh d x some-page k =
-      let H′ = heapOf (give m q (H .arena)) (passTo nobody (covers m q) (H .holder)) (H .classes) in
+      let H′ = heapOf (H .rules) (give m q (H .arena)) (passTo nobody (covers m q) (H .holder)) (H .classes) in
       pages-whole n b (given b q m) H H′ rep given-rep (omega (arith, give-frontier m q (H .arena))) sh d x some-page
       (λ y l. by-cases (inRun m q y)
       (λ e. let o : get (given b q m) (page owner y) ≡ 0 = rw e at (given-rep .owners y l) in free (rw (o, eqb·zero-suc d)) (λ u. k y e))

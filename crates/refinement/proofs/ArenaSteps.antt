@@ -10,6 +10,7 @@ use lib.Dec.{eqb, ltb, leb}
 use lib.ListN.{length}
 use borrow.Author.Tests.{ltb-true, ltb-false, le-leb, lt-ltb, lt-leb}
 use Rattle.facts.proofs.Bools.{by-cases}
+use Rattle.rules.specs.Rules.{Rules}
 use Rattle.model.specs.Cover.{inRun, covers}
 use Rattle.words.specs.Limits.{holeSlots}
 use Rattle.fields.specs.Field.{Field, arena, class, hole, page, mark, out, slot, owner, size, state, held, holes, pageOff, get, put, ok, words}
@@ -41,10 +42,10 @@ pub record Stands (n : ℕ) (b : List ℕ) (a : Arena) (w : ℕ → Holder) (f k
 pub rep-stands : (n : ℕ) (b : List ℕ) (H : Heap) → ArenaRep n b H → Stands n b (H .arena) (H .holder) (H .arena .frontier) (heldPages n H)
 rep-stands n b H r = record { long = r .long; length = r .length; loads = r .loads; state = r .state; held = r .held; owners = r .owners }
 
-pub stands-rep : (n : ℕ) (b : List ℕ) (a : Arena) (w : ℕ → Holder) (k : ℕ) (cs : ℕ → Class) → k ≡ heldOf n w → Stands n b a w (a .frontier) k → ArenaRep n b (heapOf a w cs)
+pub stands-rep : {rules : Rules} (n : ℕ) (b : List ℕ) (a : Arena) (w : ℕ → Holder) (k : ℕ) (cs : ℕ → Class) → k ≡ heldOf n w → Stands n b a w (a .frontier) k → ArenaRep n b (heapOf rules a w cs)
 stands-rep n b a w k cs e s = record { long = s .long; length = s .length; loads = s .loads; state = s .state; held = s .held ∙ e; owners = s .owners }
 
-pub rep-classes : (n : ℕ) (b : List ℕ) (H : Heap) (cs : ℕ → Class) → ArenaRep n b H → ArenaRep n b (heapOf (H .arena) (H .holder) cs)
+pub rep-classes : (n : ℕ) (b : List ℕ) (H : Heap) (cs : ℕ → Class) → ArenaRep n b H → ArenaRep n b (heapOf (H .rules) (H .arena) (H .holder) cs)
 rep-classes n b H cs r = stands-rep n b (H .arena) (H .holder) (heldPages n H) cs refl (rep-stands n b H r)
 
 -- the words that the arena's part reads: what keeps them keeps it

@@ -21,7 +21,7 @@ use Rattle.refinement.proofs.ArenaFair.{loads-frontier}
 use Rattle.refinement.proofs.ArenaSteps.{rep-classes}
 use Rattle.refinement.proofs.GiveClass.{arena-only}
 use Rattle.refinement.proofs.Basics.{Setting}
-use Rattle.refinement.proofs.Frames.{Only}
+use Rattle.refinement.proofs.Frames.{Only, only-rule}
 use Rattle.refinement.proofs.Kept.{class-beside}
 
 -- every class but c, and c
@@ -47,8 +47,9 @@ module _ (n : ℕ) (b : List ℕ) (H : Heap) (R : Represents n b H) where
     frontier-in = le-ltb n (get b (arena frontier)) (omega (arith, loads-frontier b (H .arena) (R .arena .loads), ok .bound))
 
     pub represents-class : (b′ : List ℕ) (c : ℕ) (s : Class) → Only c b b′ → StateRep n b′ c (shapeOf c) s
-        → Represents n b′ (heapOf (H .arena) (H .holder) (update (H .classes) c s))
+        → Represents n b′ (heapOf (H .rules) (H .arena) (H .holder) (update (H .classes) c s))
     represents-class b′ c s h new = record {
       arena = rep-classes n b′ H (update (H .classes) c s) (arena-only n b b′ H c ok h (R .arena));
       classes = classes-with n b′ H c s new (λ d hd ne. class-beside d c (shape-sound d) hd ne h (R .classes d hd));
+      rules = λ d hd. only-rule c h d hd (R .rules d hd);
     }

@@ -14,6 +14,7 @@ use lib.Dec.{eqb, ltb}
 use borrow.Author.Tests.{eqb-true}
 use Rattle.words.specs.Host.{badHost}
 use Rattle.classes.specs.Shape.{shapeOf}
+use Rattle.rules.specs.Rules.{Rules}
 use Rattle.fields.specs.Ranges.{maxPages}
 use Rattle.model.specs.Calls as Calls
 use Rattle.model.specs.Calls.{Call, Named, named, names, hostIn, wayOf, Request, take, giveBack, giveChunks, hostOf}
@@ -108,16 +109,16 @@ module _ (n : ℕ) (x : Call) (p : Named) (good : badHost (hostIn x) ≡ false) 
   unfolding step wayOf
   step-is H = rw (good, e)
 
-module _ (n : ℕ) (hn : n ≤ maxPages) (xs : List Call) (b : List ℕ) (R : Represents n b (heapAfter n xs)) where
+module _ (n : ℕ) (hn : n ≤ maxPages) (rules : Rules) (xs : List Call) (b : List ℕ) (R : Represents n b (heapAfter n rules xs)) where
   abbrev H : Heap
-  H = heapAfter n xs
+  H = heapAfter n rules xs
 
   -- the heap after one more call, as a history's
-  next-rep : (x : Call) → Represents n (callReply n b x .book) (heapAfter n (xs ++ x ∷ []))
-  next-rep x = subst (λ (h : Heap). Represents n (callReply n b x .book) h) (sym (heap-next n newHeap xs x)) (call-whole n hn xs b R x .heap)
+  next-rep : (x : Call) → Represents n (callReply n b x .book) (heapAfter n rules (xs ++ x ∷ []))
+  next-rep x = subst (λ (h : Heap). Represents n (callReply n b x .book) h) (sym (heap-next n (newHeap rules) xs x)) (call-whole n hn rules xs b R x .heap)
 
-  next-is : (x : Call) (p : Named) → badHost (hostIn x) ≡ false → names x ≡ some p → heapAfter n (xs ++ x ∷ []) ≡ classCall n (heapAfter n xs) (p .class) (p .request) .heap
-  next-is x p good e = heap-next n newHeap xs x ∙ ap (λ o. o .heap) (step-is n x p good e (heapAfter n xs))
+  next-is : (x : Call) (p : Named) → badHost (hostIn x) ≡ false → names x ≡ some p → heapAfter n rules (xs ++ x ∷ []) ≡ classCall n (heapAfter n rules xs) (p .class) (p .request) .heap
+  next-is x p good e = heap-next n (newHeap rules) xs x ∙ ap (λ o. o .heap) (step-is n x p good e (heapAfter n rules xs))
 
   module _ (x y : Call) (p q : Named) (gx : badHost (hostIn x) ≡ false) (gy : badHost (hostIn y) ≡ false) (ex : names x ≡ some p) (ey : names y ≡ some q) (ne : eqb (p .class) (q .class) ≡ false) where
     abbrev c : ℕ
@@ -126,25 +127,25 @@ module _ (n : ℕ) (hn : n ≤ maxPages) (xs : List Call) (b : List ℕ) (R : Re
     abbrev d : ℕ
     d = q .class
 
-    first-home : StaysHome (answer (shapeOf (p .class)) (heapAfter n xs .classes (p .class)) (p .request)) → Swap n b x y
+    first-home : StaysHome (answer (shapeOf (p .class)) (heapAfter n rules xs .rules (p .class)) (heapAfter n rules xs .classes (p .class)) (p .request)) → Swap n b x y
     unfolding classCall
     first-home home =
         let law = commute n H c d (p .request) (q .request) ne (inl home) in
         let ix = next-is x p gx ex in
         let iy = next-is y q gy ey in
-        let Rx : Represents n (classReply n b c (p .request) .book) (heapAfter n (xs ++ x ∷ []))
-        = subst (λ (r : Reply). Represents n (r .book) (heapAfter n (xs ++ x ∷ []))) (reply-is n x p gx ex b) (next-rep x) in
-        let Ry : Represents n (classReply n b d (q .request) .book) (heapAfter n (xs ++ y ∷ []))
-        = subst (λ (r : Reply). Represents n (r .book) (heapAfter n (xs ++ y ∷ []))) (reply-is n y q gy ey b) (next-rep y) in
-        let books₁ = books n hn b H R (reached-after n xs) c d (p .request) (q .request) (ours x p ex) (ours y q ey) ne (yielding n xs .listed c) (yielding n xs .listed d) home
-        (heapAfter n (xs ++ x ∷ [])) (heapAfter n (xs ++ y ∷ [])) Rx (reached-after n (xs ++ x ∷ [])) Ry (reached-after n (xs ++ y ∷ []))
+        let Rx : Represents n (classReply n b c (p .request) .book) (heapAfter n rules (xs ++ x ∷ []))
+        = subst (λ (r : Reply). Represents n (r .book) (heapAfter n rules (xs ++ x ∷ []))) (reply-is n x p gx ex b) (next-rep x) in
+        let Ry : Represents n (classReply n b d (q .request) .book) (heapAfter n rules (xs ++ y ∷ []))
+        = subst (λ (r : Reply). Represents n (r .book) (heapAfter n rules (xs ++ y ∷ []))) (reply-is n y q gy ey b) (next-rep y) in
+        let books₁ = books n hn b H R (reached-after n rules xs) c d (p .request) (q .request) (ours x p ex) (ours y q ey) ne (yielding n rules xs .listed c) (yielding n rules xs .listed d) home
+        (heapAfter n rules (xs ++ x ∷ [])) (heapAfter n rules (xs ++ y ∷ [])) Rx (reached-after n rules (xs ++ x ∷ [])) Ry (reached-after n rules (xs ++ y ∷ []))
         (ap (λ (h : Heap). h .arena) ix ∙ home-arena n H c (hostOf (p .request)) home)
         (ap (λ (h : Heap). h .classes d) ix ∙ other-class n H d c (p .request) (other-way c d ne))
         (ap (λ (h : Heap). h .classes c) iy ∙ other-class n H c d (q .request) ne) in
-        let first₁ = answers x p gx ex H (call-whole n hn xs b R x .answer) ∙ law .first
-        ∙ ap (λ (h : Heap). classCall n h c (p .request) .answer) (sym iy) ∙ sym (answers x p gx ex _ (call-whole n hn (xs ++ y ∷ []) (callReply n b y .book) (next-rep y) x .answer)) in
-        let second₁ = answers y q gy ey _ (call-whole n hn (xs ++ x ∷ []) (callReply n b x .book) (next-rep x) y .answer)
-        ∙ ap (λ (h : Heap). classCall n h d (q .request) .answer) ix ∙ law .second ∙ sym (answers y q gy ey H (call-whole n hn xs b R y .answer)) in
+        let first₁ = answers x p gx ex H (call-whole n hn rules xs b R x .answer) ∙ law .first
+        ∙ ap (λ (h : Heap). classCall n h c (p .request) .answer) (sym iy) ∙ sym (answers x p gx ex _ (call-whole n hn rules (xs ++ y ∷ []) (callReply n b y .book) (next-rep y) x .answer)) in
+        let second₁ = answers y q gy ey _ (call-whole n hn rules (xs ++ x ∷ []) (callReply n b x .book) (next-rep x) y .answer)
+        ∙ ap (λ (h : Heap). classCall n h d (q .request) .answer) ix ∙ law .second ∙ sym (answers y q gy ey H (call-whole n hn rules xs b R y .answer)) in
         record {
           book = simp (reply-is n x p gx ex, reply-is n y q gy ey) (sym books₁);
           first = first₁;
@@ -161,17 +162,17 @@ module _ (n : ℕ) (hn : n ≤ maxPages) (xs : List Call) (b : List ℕ) (R : Re
 
 -- a call that does not reach the arena: refused by number 3, or done by its class alone
 abbrev pub AtHome : Heap → Call → Named → Type 0
-AtHome H x p = (badHost (hostIn x) ≡ true) ⊎ StaysHome (answer (shapeOf (p .class)) (H .classes (p .class)) (p .request))
+AtHome H x p = (badHost (hostIn x) ≡ true) ⊎ StaysHome (answer (shapeOf (p .class)) (H .rules (p .class)) (H .classes (p .class)) (p .request))
 
 -- the two orders, where one of the calls stays at home
-pub change-places : (n : ℕ) → n ≤ maxPages → (xs : List Call) (b : List ℕ) → Represents n b (heapAfter n xs) → (x y : Call) (p q : Named) → names x ≡ some p → names y ≡ some q
-    → eqb (p .class) (q .class) ≡ false → AtHome (heapAfter n xs) x p ⊎ AtHome (heapAfter n xs) y q → Swap n b x y
-change-places n hn xs b R x y p q ex ey ne home =
+pub change-places : (n : ℕ) → n ≤ maxPages → (rules : Rules) (xs : List Call) (b : List ℕ) → Represents n b (heapAfter n rules xs) → (x y : Call) (p q : Named) → names x ≡ some p → names y ≡ some q
+    → eqb (p .class) (q .class) ≡ false → AtHome (heapAfter n rules xs) x p ⊎ AtHome (heapAfter n rules xs) y q → Swap n b x y
+change-places n hn rules xs b R x y p q ex ey ne home =
     by-cases (badHost (hostIn x)) (turned-first n b x y)
     (λ gx. by-cases (badHost (hostIn y)) (λ e. mirrored (turned-first n b y x e)) (λ gy. go gx gy home))
   where
-    go : badHost (hostIn x) ≡ false → badHost (hostIn y) ≡ false → AtHome (heapAfter n xs) x p ⊎ AtHome (heapAfter n xs) y q → Swap n b x y
+    go : badHost (hostIn x) ≡ false → badHost (hostIn y) ≡ false → AtHome (heapAfter n rules xs) x p ⊎ AtHome (heapAfter n rules xs) y q → Swap n b x y
     go gx gy (inl (inl e)) = turned-first n b x y e
-    go gx gy (inl (inr h)) = first-home n hn xs b R x y p q gx gy ex ey ne h
+    go gx gy (inl (inr h)) = first-home n hn rules xs b R x y p q gx gy ex ey ne h
     go gx gy (inr (inl e)) = mirrored (turned-first n b y x e)
-    go gx gy (inr (inr h)) = mirrored (first-home n hn xs b R y x q p gy gx ey ex (other-way (p .class) (q .class) ne) h)
+    go gx gy (inr (inr h)) = mirrored (first-home n hn rules xs b R y x q p gy gx ey ex (other-way (p .class) (q .class) ne) h)

@@ -16,6 +16,7 @@ use Rattle.facts.specs.Lists.{isNil, every, All, distinct}
 use Rattle.facts.proofs.Bools.{by-cases, bool-eq, and-left, and-right}
 use Rattle.words.specs.Word.{chunkKind, countOf, pageOf}
 use Rattle.classes.specs.Shape.{smallShape, shapeOf}
+use Rattle.rules.specs.Rules.{Rules}
 use Rattle.fields.specs.Field.{arena, class, page, free, carved, get}
 use Rattle.fields.specs.Ranges.{maxPages}
 use Rattle.fields.proofs.Changes.{changes-none}
@@ -44,7 +45,7 @@ use Rattle.refinement.proofs.Book.{setting-of, represents-class}
 use Rattle.refinement.proofs.Found.{Located, located, located-passes, At, found-at, placed-rep, outs-here}
 use Rattle.refinement.proofs.OutTests.{once-here, fault-same}
 use Rattle.refinement.proofs.Returned.{none-count, return-only, return-rep, return-room}
-use Rattle.refinement.proofs.Release.{shape-limits, length-firsts}
+use Rattle.refinement.proofs.Release.{length-firsts}
 use Rattle.refinement.proofs.ReleaseFair.{row-fair, page-fair, frontier-fair}
 use Rattle.refinement.proofs.ReleaseGives.{all-held, all-given}
 use Rattle.refinement.proofs.ChunkTests.{same-blocks, chunks-same}
@@ -134,16 +135,16 @@ module _ (n : ℕ) (hn : n ≤ maxPages) (b : List ℕ) (H : Heap) (R : Represen
         (waits g (fitting g (and-left (t g) (every t gs) e)), all-wait gs (and-right (t g) (every t gs) e))
 
     module _ (h : ℕ) (gs : List ℕ) (fits : every (Model.chunkFits (shapeOf c) (H .classes c) ws) gs ≡ true) (apart : distinct (map pageOf gs) ≡ true) where
-      pub all-settled : ChunksRep n c (shapeOf c) b [] (settleChunks b c (shapeOf c) h ws gs) (Model.settleChunks (shapeOf c) h ws (H .classes c) gs)
-          (runsGiven b (shapeOf c) gs (length (H .classes c .empty)) (length (H .classes c .cold)))
-      all-settled = chunks-rep hn (shape-limits c) (small-shape c hs) h ws once b s gs apart b (H .classes c) [] (changes-none (ofClass b c) b) (R .classes c hc) (all-wait gs fits)
+      pub all-settled : ChunksRep n c (shapeOf c) b [] (settleChunks b c (shapeOf c) h ws gs) (Model.settleChunks (shapeOf c) (H .rules c) h ws (H .classes c) gs)
+          (runsGiven b (shapeOf c) (H .rules c) gs (length (H .classes c .empty)) (length (H .classes c .cold)))
+      all-settled = chunks-rep hn (H .rules c) (small-shape c hs) h ws once b s (R .rules c hc) gs apart b (H .classes c) [] (changes-none (ofClass b c) b) (R .classes c hc) (all-wait gs fits)
 
       given-held : pagesGiven b c (shapeOf c) gs ≤ heldPages n H
       given-held =
           let r = R .classes c hc in
           let w = all-settled in
-          rw (r .store .number, length-firsts (reused (shapeOf c)) (H .classes c .empty), r .beside .number, length-firsts (thawed (shapeOf c)) (H .classes c .cold), w .number)
-          (all-held n b H R ok c hc (settleChunks b c (shapeOf c) h ws gs .book) (w .only) (Model.settleChunks (shapeOf c) h ws (H .classes c) gs .class) (w .pages) (w .rep))
+          rw (R .rules c hc .same, r .store .number, length-firsts (reused (shapeOf c)) (H .classes c .empty), r .beside .number, length-firsts (thawed (shapeOf c)) (H .classes c .cold), w .number)
+          (all-held n b H R ok c hc (settleChunks b c (shapeOf c) h ws gs .book) (w .only) (Model.settleChunks (shapeOf c) (H .rules c) h ws (H .classes c) gs .class) (w .pages) (w .rep))
 
       pub chunks-fair : chunksFair n b c (shapeOf c) gs ≡ true
       unfolding chunksFair
@@ -151,14 +152,14 @@ module _ (n : ℕ) (hn : n ≤ maxPages) (b : List ℕ) (H : Heap) (R : Represen
           rw (
             frontier-fair n b H R ok c,
             all-fair gs fits,
-            row-fair s (R .classes c hc),
+            row-fair s (R .classes c hc) (R .rules c hc),
             give-passes n b H (R .arena) ok (pagesGiven b c (shapeOf c) gs) given-held,
           )
           (by-cases (eqb (pagesGiven b c (shapeOf c) gs) 0) (λ e. rw e) (λ e. rw e))
 
       settled-agrees : (fs : List ℕ)
           → (let w = settleChunks b c (shapeOf c) h ws gs in
-          let x = Model.settleChunks (shapeOf c) h ws (H .classes c) gs in
+          let x = Model.settleChunks (shapeOf c) (H .rules c) h ws (H .classes c) gs in
           Agrees (Represents n) (chunksReply (record { code = 0; book = giveRuns (w .book) (shapeOf c .pages) (w .gives); fates = w .fates ++ drop (length gs) fs }))
           (interact n H c h (done (record { class = x .class; answer = fates (x .fates ++ drop (length gs) fs); gives = x .gives }))))
       unfolding interact offer finish
@@ -168,8 +169,8 @@ module _ (n : ℕ) (hn : n ≤ maxPages) (b : List ℕ) (H : Heap) (R : Represen
             answer = ap (λ l. fates (l ++ drop (length gs) fs)) (w .fates);
             fair = λ e. omega arith;
             heap = rw (w .gives)
-                (all-given n b H R ok c hc (settleChunks b c (shapeOf c) h ws gs .book) (w .only) (Model.settleChunks (shapeOf c) h ws (H .classes c) gs .class) (w .pages) (w .rep)
-                (Model.settleChunks (shapeOf c) h ws (H .classes c) gs .gives) (w .named));
+                (all-given n b H R ok c hc (settleChunks b c (shapeOf c) h ws gs .book) (w .only) (Model.settleChunks (shapeOf c) (H .rules c) h ws (H .classes c) gs .class) (w .pages) (w .rep)
+                (Model.settleChunks (shapeOf c) (H .rules c) h ws (H .classes c) gs .gives) (w .named));
           }
 
   -- ---- the whole call
@@ -196,7 +197,7 @@ module _ (n : ℕ) (hn : n ≤ maxPages) (b : List ℕ) (H : Heap) (R : Represen
         record { code = 0; book = giveRuns (w .book) (shapeOf c .pages) (w .gives); fates = w .fates ++ drop (length gs) fs }))))
         (interact n H c h
         (cond (not (distinct (map pageOf gs) && (every (Model.chunkFits (shapeOf c) (H .classes c) ws) gs && every (chunked (shapeOf c) (H .classes c) gs) ws))) (refuse (H .classes c) 11)
-        (let x = Model.settleChunks (shapeOf c) h ws (H .classes c) gs in
+        (let x = Model.settleChunks (shapeOf c) (H .rules c) h ws (H .classes c) gs in
         done (record { class = x .class; answer = fates (x .fates ++ drop (length gs) fs); gives = x .gives }))))
     past-ten k o once =
         let t₁ = distinct (map pageOf gs) in
@@ -209,7 +210,7 @@ module _ (n : ℕ) (hn : n ≤ maxPages) (b : List ℕ) (H : Heap) (R : Represen
         let apart = and-left t₁ (t₂ && t₃) u in
         rw (chunks-fair ws k o once h gs fits apart) (settled-agrees ws k o once h gs fits apart fs)))
 
-    chunks-agree : Agrees (Represents n) (chunksReply (releaseChunks n b c (shapeOf c) h ws gs fs)) (interact n H c h (Model.releaseChunks (shapeOf c) h (H .classes c) ws gs fs))
+    chunks-agree : Agrees (Represents n) (chunksReply (releaseChunks n b c (shapeOf c) h ws gs fs)) (interact n H c h (Model.releaseChunks (shapeOf c) (H .rules c) h (H .classes c) ws gs fs))
     unfolding releaseChunks Model.releaseChunks
     chunks-agree =
         let sh = shapeOf c in
@@ -231,6 +232,6 @@ module _ (n : ℕ) (hn : n ≤ maxPages) (b : List ℕ) (H : Heap) (R : Represen
     chunks-whole = chunks-agree
 
 -- after every history on an arena of n pages
-pub chunks-after : (n : ℕ) → n ≤ maxPages → (xs : List Call) (b : List ℕ) → Represents n b (heapAfter n xs) → (c : ℕ) → ltb c 64 ≡ true → (h : ℕ) (ws gs fs : List ℕ)
-    → Agrees (Represents n) (chunksReply (releaseChunks n b c (shapeOf c) h ws gs fs)) (classCall n (heapAfter n xs) c (Calls.giveChunks h ws gs fs))
-chunks-after n hn xs b R c hs h ws gs fs = chunks-whole n hn b (heapAfter n xs) R (reached-after n xs) c hs h ws gs fs
+pub chunks-after : (n : ℕ) → n ≤ maxPages → (rules : Rules) (xs : List Call) (b : List ℕ) → Represents n b (heapAfter n rules xs) → (c : ℕ) → ltb c 64 ≡ true → (h : ℕ) (ws gs fs : List ℕ)
+    → Agrees (Represents n) (chunksReply (releaseChunks n b c (shapeOf c) h ws gs fs)) (classCall n (heapAfter n rules xs) c (Calls.giveChunks h ws gs fs))
+chunks-after n hn rules xs b R c hs h ws gs fs = chunks-whole n hn b (heapAfter n rules xs) R (reached-after n rules xs) c hs h ws gs fs

@@ -16,6 +16,7 @@ use Rattle.facts.specs.Lists.{filter, every, All, elem, distinct, count}
 use Rattle.facts.proofs.Bools.{by-cases, and-left, and-right}
 use Rattle.words.specs.Word.{pageOf}
 use Rattle.classes.specs.declared.Shape.{Shape}
+use Rattle.rules.specs.declared.Limits.{Limits}
 use Rattle.fields.specs.Ranges.{maxPages}
 use Rattle.model.specs.Page.{Page, isMedium, isOut, noneOut, returned, retire}
 use Rattle.model.specs.Class.{Class}
@@ -34,12 +35,12 @@ use Rattle.calls.specs.Out.{startOf}
 use Rattle.calls.specs.Release.{Released}
 use Rattle.calls.specs.Chunks as Words
 use Rattle.calls.specs.Chunks.{blocksOn, returnsAll, runsGiven, chunkBackAt, givesOf, settleChunks}
-use Rattle.refinement.specs.Represents.{firsts}
+use Rattle.refinement.specs.Represents.{firsts, RuleRep}
 use Rattle.refinement.proofs.Basics.{Setting, setting-kept}
-use Rattle.refinement.proofs.Frames.{Only, only-owns, only-trans}
+use Rattle.refinement.proofs.Frames.{Only, only-owns, only-trans, only-rule}
 use Rattle.refinement.proofs.Moves.{full-in}
 use Rattle.refinement.proofs.Found.{Located, inList, inNone, located, located-passes, Away, found-at}
-use Rattle.refinement.proofs.Release.{Limits, SettledRep, stays, goes, settle-chunk}
+use Rattle.refinement.proofs.Release.{SettledRep, stays, goes, settle-chunk}
 
 -- what settling a page adds, where e empty and k cold pages were: a page to the store that the spot names, or a run for the arena
 record Adds (e k : ℕ) (spot : Spot) (gone : Bool) (y : Settled) : Type 0 where
@@ -48,22 +49,22 @@ record Adds (e k : ℕ) (spot : Spot) (gone : Bool) (y : Settled) : Type 0 where
   gives : length (y .gives) ≡ cond gone (digit (isArena spot)) 0
 
 -- ---- the model's settling of one page
-module _ (sh : Shape) (h : ℕ) where
+module _ (sh : Shape) (lim : Limits) (h : ℕ) where
   in-skips : (s : Class) (p : Page) (u : Page → Bool) (t : Spot) → firstOf u (parkIn sh h s p t .class) ≡ firstOf u s
   in-skips s p u ToEmpty = refl
   in-skips s p u ToCold = refl
   in-skips s p u ToArena = refl
 
-  park-skips : (s : Class) (p : Page) (u : Page → Bool) → firstOf u (park sh h s p .class) ≡ firstOf u s
+  park-skips : (s : Class) (p : Page) (u : Page → Bool) → firstOf u (park sh lim h s p .class) ≡ firstOf u s
   unfolding park
-  park-skips s p u = in-skips s p u (spotIn sh s)
+  park-skips s p u = in-skips s p u (spotIn sh lim s)
 
   skips : {t : Page → Bool} {s : Class} {x : Site} → Located t s (some x) → Skips s x
   skips {t} {s} (inList f k) = partial-skips t s f k
   skips {t} {s} (inNone f k) = full-skips t s f k
 
   pub settle-skips : {t : Page → Bool} {s : Class} {x : Site} → Located t s (some x) → (ws : List ℕ) (r : ℕ) → eqb (x .page .first) r ≡ false
-      → firstOf (startsAt r) (settle sh h true ws x .class) ≡ firstOf (startsAt r) s
+      → firstOf (startsAt r) (settle sh lim h true ws x .class) ≡ firstOf (startsAt r) s
   unfolding settle returned
   settle-skips {s = s} {x = x} y ws r ne =
       let k = skips y in
@@ -76,12 +77,12 @@ module _ (sh : Shape) (h : ℕ) where
   in-adds s p ToCold = record { empty = omega arith; cold = omega arith; gives = refl }
   in-adds s p ToArena = record { empty = omega arith; cold = omega arith; gives = refl }
 
-  park-adds : (s : Class) (p : Page) → Adds (length (s .empty)) (length (s .cold)) (spotIn sh s) true (Release.markRetired (park sh h s p))
+  park-adds : (s : Class) (p : Page) → Adds (length (s .empty)) (length (s .cold)) (spotIn sh lim s) true (Release.markRetired (park sh lim h s p))
   unfolding park
-  park-adds s p = in-adds s p (spotIn sh s)
+  park-adds s p = in-adds s p (spotIn sh lim s)
 
   settle-adds : {t : Page → Bool} {s : Class} {x : Site} → Located t s (some x) → (ws : List ℕ)
-      → Adds (length (s .empty)) (length (s .cold)) (spotIn sh s) (noneOut sh (returned ws (x .page))) (settle sh h true ws x)
+      → Adds (length (s .empty)) (length (s .cold)) (spotIn sh lim s) (noneOut sh (returned ws (x .page))) (settle sh lim h true ws x)
   unfolding settle inPartial inFull
   settle-adds {s = s} (inList f k) ws =
       by-cases (noneOut sh (returned ws (f .page))) (λ e. rw e (park-adds (inPartial s f .without) (retire (f .page))))
@@ -183,13 +184,13 @@ first-then {n} {c} {sh} zs q k o₀ (goes {b′ = b′} {s = s} p e r o) rest =
     let r₁ : Away n b′ c sh s (zs ++ (p ∷ [])) = rw (append-assoc zs (p ∷ []) (s .full)) (full-in zs p (s .full) r) in
     goes-then zs q p k e (rest (zs ++ (p ∷ [])) (only-trans c o₀ o) r₁)
 
-module _ {n c : ℕ} {sh : Shape} (hn : n ≤ maxPages) (lim : Limits sh) (small : isMedium sh ≡ false) (h : ℕ) (ws : List ℕ) (once : distinct ws ≡ true)
-    (b₀ : List ℕ) (s₀ : Setting n b₀ c sh) where
+module _ {n c : ℕ} {sh : Shape} (hn : n ≤ maxPages) (lim : Limits) (small : isMedium sh ≡ false) (h : ℕ) (ws : List ℕ) (once : distinct ws ≡ true)
+    (b₀ : List ℕ) (s₀ : Setting n b₀ c sh) (rl₀ : RuleRep b₀ c lim) where
   -- the chunks gs, of any book after the first ones
   Rest : List ℕ → Type 0
   Rest gs =
       (b : List ℕ) (t : Class) (zs : List Page) → Only c b₀ b → Away n b c sh t zs → All (Waits sh ws b₀ t) gs
-      → ChunksRep n c sh b₀ zs (settleChunks b c sh h ws gs) (Model.settleChunks sh h ws t gs) (runsGiven b₀ sh gs (length (t .empty)) (length (t .cold)))
+      → ChunksRep n c sh b₀ zs (settleChunks b c sh h ws gs) (Model.settleChunks sh lim h ws t gs) (runsGiven b₀ sh lim gs (length (t .empty)) (length (t .cold)))
 
   module _ (g : ℕ) (gs : List ℕ) (rest : Rest gs) (new : elem (pageOf g) (map pageOf gs) ≡ false) (b : List ℕ) (t : Class) (zs : List Page) (o : Only c b₀ b) (r : Away n b c sh t zs)
       (wait : Waits sh ws b₀ t g) (waits : All (Waits sh ws b₀ t) gs) where
@@ -200,11 +201,11 @@ module _ {n c : ℕ} {sh : Shape} (hn : n ≤ maxPages) (lim : Limits sh) (small
     s = setting-kept b (o .long) s₀
 
     runs-are : (x : Site) → Located (startsAt (pageOf g)) t (some x) → x .page ≡ wait .page
-        → (let y = settle sh h true (Model.blocksOn sh ws (x .page)) x in
-        runsGiven b₀ sh (g ∷ gs) (length (t .empty)) (length (t .cold)) ≡ length (y .gives) + runsGiven b₀ sh gs (length (y .class .empty)) (length (y .class .cold)))
+        → (let y = settle sh lim h true (Model.blocksOn sh ws (x .page)) x in
+        runsGiven b₀ sh lim (g ∷ gs) (length (t .empty)) (length (t .cold)) ≡ length (y .gives) + runsGiven b₀ sh lim gs (length (y .class .empty)) (length (y .class .cold)))
     unfolding runsGiven
     runs-are x y e =
-        let a = settle-adds sh h y (Model.blocksOn sh ws (x .page)) in
+        let a = settle-adds sh lim h y (Model.blocksOn sh ws (x .page)) in
         let all : returnsAll b₀ g ≡ noneOut sh (returned (Model.blocksOn sh ws (x .page)) (x .page)) = rw e (wait .all) in
         by-cases (noneOut sh (returned (Model.blocksOn sh ws (x .page)) (x .page)))
         (λ u. rw (all, u, a .empty, a .cold, a .gives, u))
@@ -212,7 +213,7 @@ module _ {n c : ℕ} {sh : Shape} (hn : n ≤ maxPages) (lim : Limits sh) (small
 
     step : (x : Option Site) → Located (startsAt (pageOf g)) t x → pageIn x ≡ some (wait .page)
         → ChunksRep n c sh b₀ zs (thenWords (pageOf g) (outcome .fate) (settleChunks (outcome .book) c sh h ws gs))
-        (thenModel (settleChunk sh h t ws x .fate) (settleChunk sh h t ws x .gives) (Model.settleChunks sh h ws (settleChunk sh h t ws x .class) gs)) (runsGiven b₀ sh (g ∷ gs) (length (t .empty)) (length (t .cold)))
+        (thenModel (settleChunk sh lim h t ws x .fate) (settleChunk sh lim h t ws x .gives) (Model.settleChunks sh lim h ws (settleChunk sh lim h t ws x .class) gs)) (runsGiven b₀ sh lim (g ∷ gs) (length (t .empty)) (length (t .cold)))
     unfolding settleChunk outcome Rest
     step none y e = absurd (Option·none-ne-some (wait .page) e)
     step (some x) y e =
@@ -222,16 +223,16 @@ module _ {n c : ℕ} {sh : Shape} (hn : n ≤ maxPages) (lim : Limits sh) (small
         let eq : x .page .first ≡ pageOf g = eqb-true (x .page .first) (pageOf g) (located-passes y) in
         let eb : Model.blocksOn sh ws (x .page) ≡ blocksOn b ws (pageOf g)
         = ap (Model.blocksOn sh ws) ep ∙ wait .blocks ∙ sym (blocks-kept b₀ b (start-kept c o) ws (pageOf g)) in
-        let y₁ = settle sh h true (Model.blocksOn sh ws (x .page)) x in
-        let settled = settle-chunk s hn lim h x (found-at {zs = zs} r y .placed) (Model.blocksOn sh ws (x .page)) (every-blocks sh ws (x .page)) (once-blocks sh ws once (x .page)) small in
+        let y₁ = settle sh lim h true (Model.blocksOn sh ws (x .page)) x in
+        let settled = settle-chunk s hn (only-rule c o c (s₀ .row) rl₀) h x (found-at {zs = zs} r y .placed) (Model.blocksOn sh ws (x .page)) (every-blocks sh ws (x .page)) (once-blocks sh ws once (x .page)) small in
         let settled₁ = subst (λ (z : ℕ). SettledRep n b c sh zs 6 z (chunkBackAt b c sh h z (map (indexOf sh z) bs)) y₁) eq settled in
         let settled₂ = subst (λ (l : List ℕ). SettledRep n b c sh zs 6 q (chunkBackAt b c sh h q (map (indexOf sh q) l)) y₁) eb settled₁ in
         rw (runs-are x y ep)
         (first-then zs (pageOf g) _ o settled₂
-        (λ zs′ o′ r′. rest _ (y₁ .class) zs′ o′ r′ (waits-next sh ws b₀ t (y₁ .class) q (λ z ne. settle-skips sh h y bs z (ap (λ v. eqb v z) eq ∙ ne)) gs new waits)))
+        (λ zs′ o′ r′. rest _ (y₁ .class) zs′ o′ r′ (waits-next sh ws b₀ t (y₁ .class) q (λ z ne. settle-skips sh lim h y bs z (ap (λ v. eqb v z) eq ∙ ne)) gs new waits)))
 
   pub chunks-rep : (gs : List ℕ) → distinct (map pageOf gs) ≡ true → (b : List ℕ) (t : Class) (zs : List Page) → Only c b₀ b → Away n b c sh t zs → All (Waits sh ws b₀ t) gs
-      → ChunksRep n c sh b₀ zs (settleChunks b c sh h ws gs) (Model.settleChunks sh h ws t gs) (runsGiven b₀ sh gs (length (t .empty)) (length (t .cold)))
+      → ChunksRep n c sh b₀ zs (settleChunks b c sh h ws gs) (Model.settleChunks sh lim h ws t gs) (runsGiven b₀ sh lim gs (length (t .empty)) (length (t .cold)))
   unfolding settleChunks Model.settleChunks runsGiven Rest outcome
   chunks-rep [] d b t zs o r a = record { pages = []; rep = rw (append-nil zs) r; only = o; fates = refl; gives = refl; named = refl; number = refl }
   chunks-rep (g ∷ gs) d b t zs o r a =

@@ -41,7 +41,7 @@ module _ (n : ℕ) (b : List ℕ) (H : Heap) (rep : ArenaRep n b H) (r : Reached
     -- a run that nobody held passes to a holder, and counts as held
     passed-rep : (o : Option ℕ) (m : ℕ) (who : Holder) → isHeld who ≡ 1 → ((x : ℕ) → coversRun m o x + isHeld (H .holder x) ≤ 1)
         → ((q : ℕ) → o ≡ some q → q + m ≤ n) → (cs : ℕ → Class)
-        → ArenaRep n (passedTo b x (a .frontier) o m (ownerCode who)) (heapOf a (passTo who (coversRun m o) (H .holder)) cs)
+        → ArenaRep n (passedTo b x (a .frontier) o m (ownerCode who)) (heapOf (H .rules) a (passTo who (coversRun m o) (H .holder)) cs)
     unfolding passedTo
     passed-rep none m who one free low cs =
         stands-rep n _ a (H .holder) (get b (arena held)) cs (rep .held)
@@ -60,7 +60,7 @@ module _ (n : ℕ) (b : List ℕ) (H : Heap) (rep : ArenaRep n b H) (r : Reached
 
     module _ (one : 1 ≤ m) (who : Holder) (holds : isHeld who ≡ 1) (cs : ℕ → Class) where
       pub commit-rep : ArenaRep n (commitBook n b h m (H .arena) (ownerCode who))
-          (heapOf (commit n h m (H .arena) .arena) (passTo who (coversRun m (commit n h m (H .arena) .run)) (H .holder)) cs)
+          (heapOf (H .rules) (commit n h m (H .arena) .arena) (passTo who (coversRun m (commit n h m (H .arena) .run)) (H .holder)) cs)
       unfolding committed
       commit-rep =
           let g = commit n h m (H .arena) in
@@ -72,13 +72,13 @@ module _ (n : ℕ) (b : List ℕ) (H : Heap) (rep : ArenaRep n b H) (r : Reached
 
     -- a growth of the run that ends at e is for the direct calls alone
     pub grow-rep : 1 ≤ m → (e : ℕ) (cs : ℕ → Class) → ArenaRep n (growBook n b h e m (H .arena))
-        (heapOf (grow n h e m (H .arena) .arena) (passTo direct (λ x. cond (grow n h e m (H .arena) .grew) (covers m e x) 0) (H .holder)) cs)
+        (heapOf (H .rules) (grow n h e m (H .arena) .arena) (passTo direct (λ x. cond (grow n h e m (H .arena) .grew) (covers m e x) 0) (H .holder)) cs)
     unfolding grownBook
     grow-rep one e cs =
         let g = grow n h e m (H .arena) in
         let bound = grow-bound n h e m (H .arena) (r .bound) in
         let same : coversRun m (grownBy (g .grew) e) ≡ (λ x. cond (g .grew) (covers m e x) 0) = fun-ext (grown-covers m (g .grew) e) in
-        subst (λ k. ArenaRep n (growBook n b h e m (H .arena)) (heapOf (g .arena) (passTo direct k (H .holder)) cs)) same
+        subst (λ k. ArenaRep n (growBook n b h e m (H .arena)) (heapOf (H .rules) (g .arena) (passTo direct k (H .holder)) cs)) same
         (passed-rep (g .arena) _ (grow-stored h m b n e (H .arena) (r .tidy .slots)) (grow-rises n h e m (H .arena)) bound (grownBy (g .grew) e) m direct refl
         (λ x. omega (arith, grown-covers m (g .grew) e x, grow-law n h e m (H .arena) x, r .apart x))
         (λ q d. omega (arith, bound, inside (g .grew) e q d (g .arena .frontier) (λ x. omega (arith, grow-law n h e m (H .arena) x, idle-once n H r x))))

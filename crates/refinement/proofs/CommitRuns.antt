@@ -47,7 +47,7 @@ module _ (n : ℕ) (b : List ℕ) (H : Heap) (rep : ArenaRep n b H) (r : Reached
       (λ e. e)
 
   module _ (c : ℕ) (cs : ℕ → Class) (b′ : List ℕ)
-      (rep′ : ArenaRep n b′ (heapOf (commit n h m (H .arena) .arena) (passTo (class c) (coversRun m (commit n h m (H .arena) .run)) (H .holder)) cs))
+      (rep′ : ArenaRep n b′ (heapOf (H .rules) (commit n h m (H .arena) .arena) (passTo (class c) (coversRun m (commit n h m (H .arena) .run)) (H .holder)) cs))
       (inside : (y : ℕ) → inRun m q y ≡ true → get b′ (page first y) ≡ q) (outside : (y : ℕ) → inRun m q y ≡ false → get b′ (page first y) ≡ get b (page first y)) where
     passed-in : (y : ℕ) → eqb (coversRun m (commit n h m (H .arena) .run) y) 0 ≡ false → inRun m q y ≡ true
     passed-in y e = by-cases (inRun m q y) (λ t. t) (λ t. absurd (eqb-false (coversRun m (commit n h m (H .arena) .run) y) 0 e (run-covers y ∙ rw t)))

@@ -33,7 +33,7 @@ use Rattle.refinement.specs.Direct.{Reply, reply, commitReply, growReply
 use Rattle.refinement.proofs.ArenaHolders.{isKnown}
 use Rattle.refinement.proofs.ArenaReached.{Reached, held-below}
 use Rattle.refinement.proofs.ArenaFair.{loads-frontier, record-passes, grow-passes}
-use Rattle.refinement.proofs.ArenaFrames.{isStep, inRunOf, either, passed, committed-changes, grown-changes}
+use Rattle.refinement.proofs.ArenaFrames.{isStep, inRunOf, either, passed, committed-changes, grown-changes, step-rule}
 use Rattle.refinement.proofs.CommitRep.{commit-for, commit-rep, grow-rep}
 use Rattle.refinement.proofs.GiveRep.{give-fair, give-rep}
 use Rattle.refinement.proofs.ArenaRuns.{isOf, direct-other, commit-whole, grow-whole, given-step, give-whole}
@@ -101,6 +101,7 @@ module _ (n : ℕ) (b : List ℕ) (H : Heap) (rep : ArenaRep n b H) (r : Reached
     agrees : Agrees (ArenaRep n) w o
     beside : Beside n b (w .book)
     classes : o .heap .classes ≡ H .classes
+    rules : o .heap .rules ≡ H .rules
 
   -- tests before a call, on both sides
   settle-cond : {W : Type 0} (f : W → Reply) (t : Bool) (w w′ : W) (o o′ : Outcome) → (t ≡ true → Settled (f w) o) → (t ≡ false → Settled (f w′) o′)
@@ -114,6 +115,7 @@ module _ (n : ℕ) (b : List ℕ) (H : Heap) (rep : ArenaRep n b H) (r : Reached
     agrees = record { answer = refl; fair = ne; heap = rep };
     beside = record { pages = λ x. false; changes = changes-none (isStep (λ x. false)) b; runs = λ sh d x l hd. refl };
     classes = refl;
+    rules = refl;
   }
 
   settle-refused : (k : ℕ) → (k ≡ 13 → ⊥) → Settled (record { code = k; answer = refused k; book = b }) (unchanged H (refused k))
@@ -135,6 +137,7 @@ module _ (n : ℕ) (b : List ℕ) (H : Heap) (rep : ArenaRep n b H) (r : Reached
           runs = λ sh d x l hd. commit-whole n b H rep r h m one direct refl sh d x l (direct-other d hd);
         };
         classes = refl;
+        rules = refl;
       }))
 
   settle-grow : (h q old new : ℕ) → Settled (growReply (growCall n b h q old new)) (directCall n H (Calls.growFrontier h q old new))
@@ -154,6 +157,7 @@ module _ (n : ℕ) (b : List ℕ) (H : Heap) (rep : ArenaRep n b H) (r : Reached
           runs = λ sh d x l hd. grow-whole n b H rep r h (new - old) one (q + old) sh d x l hd;
         };
         classes = refl;
+        rules = refl;
       }))))
 
   direct-not : (d : ℕ) (w : Holder) → ltb d 76 ≡ true → isDirect w ≡ true → isOf d w ≡ false
@@ -179,6 +183,7 @@ module _ (n : ℕ) (b : List ℕ) (H : Heap) (rep : ArenaRep n b H) (r : Reached
           runs = λ sh d x l hd. give-whole n b H rep r q m one k sh d x l (λ y e. direct-not d (H .holder y) hd (run-direct q m one t y e));
         };
         classes = refl;
+        rules = refl;
       }))))
 
   settle-contains : (o k : ℕ) → Settled (reply 0 (Calls.contained (containsCall n b o k)) b) (directCall n H (Calls.contains o k))
@@ -215,5 +220,6 @@ direct-represents n b H rep r x =
         arena = s .agrees .heap;
         classes = λ d hd. rw (s .classes)
             (step-class (e .pages) b c (e .changes) (shape-sound d) hd (λ y. e .runs (shapeOf d) d y (shape-sound d .paged) hd) (rep .classes d hd));
+        rules = λ d hd. rw (s .rules) (step-rule (e .pages) b c (e .changes) d hd (rep .rules d hd));
       };
     }

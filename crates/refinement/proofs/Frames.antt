@@ -1,6 +1,7 @@
 -- Whose a run is, which fields are whose, and what depends on which.
 --     Whole        what `whole` says, page by page
---     home b f     the class, and one, to which a field belongs; 0 for the arena's. OWNER and FIRST are the arena's
+--     home b f     the class, and one, to which a field belongs; 0 for the arena's. OWNER and FIRST are the arena's, and a class's limits are
+--                  counted so too: no call of the class writes them
 --     Only         a change of one class's fields only
 --     isData q     the fields that say what the blocks of the run at q are
 use Prim.Native.Nat.{ℕ, suc, _+_, _≤_, _<_}
@@ -17,11 +18,12 @@ use Rattle.facts.proofs.Bools.{by-cases, bool-eq, and-left, and-right}
 use Rattle.facts.proofs.Lists.{every-at, every-of}
 use Rattle.classes.specs.declared.Shape.{Shape}
 use Rattle.classes.specs.Sound.{Sound}
-use Rattle.fields.specs.Field.{Field, arena, class, hole, page, mark, slot, out, owner, first, frontier, pageOff, get, ok}
+use Rattle.fields.specs.Field.{Field, arena, class, hole, page, mark, slot, out, owner, first, frontier, pageOff, get, ok, emptyLimit, coldLimit, classOff}
+use Rattle.rules.specs.declared.Limits.{Limits}
 use Rattle.fields.proofs.Changes.{Changes, changes-trans, changes-mono}
 use Rattle.pages.specs.Runs.{ofRun, whole}
 use Rattle.pages.specs.Stack.{marked}
-use Rattle.refinement.specs.Represents.{Slots}
+use Rattle.refinement.specs.Represents.{Slots, RuleRep}
 
 -- ---- runs
 pub record Whole (n : ℕ) (b : List ℕ) (sh : Shape) (c q : ℕ) : Type 0 where
@@ -98,7 +100,7 @@ module _ {b b′ : List ℕ} (k : Owns b b′) (n : ℕ) (sh : Shape) (c q : ℕ
 abbrev pub home : List ℕ → Field → ℕ
 home b (arena k) = 0
 home b (mark p j) = get b (page owner p)
-home b (class k c) = suc c
+home b (class k c) = cond (leb (classOff k) 4) (suc c) 0
 home b (hole k i) = 0
 home b (page k p) = cond (leb (pageOff k) 1) 0 (get b (page owner p))
 home b (slot p i) = get b (page owner p)
@@ -130,6 +132,13 @@ pub only-trans : (c : ℕ) {b₁ b₂ b₃ : List ℕ} → Only c b₁ b₂ → 
 only-trans c {b₁} {b₂} {b₃} h k =
     changes-trans (ofClass b₁ c) b₁ b₂ b₃ h
     (changes-mono (ofClass b₂ c) (ofClass b₁ c) b₂ b₃ (λ g e. rw (home-kept b₁ b₂ (only-owns c h) g) at e) k)
+
+pub rule-kept : {b b′ : List ℕ} {c : ℕ} {lim : Limits} → get b′ (class emptyLimit c) ≡ get b (class emptyLimit c) → get b′ (class coldLimit c) ≡ get b (class coldLimit c)
+    → RuleRep b c lim → RuleRep b′ c lim
+rule-kept e k r = record { same = rw (e, k) (r .same); fit = r .fit }
+
+pub only-rule : (d : ℕ) {b b′ : List ℕ} → Only d b b′ → (c : ℕ) {lim : Limits} → ltb c 76 ≡ true → RuleRep b c lim → RuleRep b′ c lim
+only-rule d h c hc = rule-kept (h .kept (class emptyLimit c) hc (eqb·zero-suc d)) (h .kept (class coldLimit c) hc (eqb·zero-suc d))
 
 -- FREE, CARVED and VIRGIN, the stack and the out bits
 abbrev pub isData : ℕ → Field → Bool

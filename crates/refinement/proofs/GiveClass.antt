@@ -28,12 +28,13 @@ use Rattle.arena.specs.Owners.{ownerCode}
 use Rattle.arena.specs.Calls.{given}
 use Rattle.arena.specs.Represents.{ArenaRep}
 use Rattle.refinement.specs.Represents.{ClassRep, StateRep, Represents}
-use Rattle.refinement.proofs.Frames.{ofClass, Only}
+use Rattle.refinement.proofs.Frames.{ofClass, Only, only-rule}
 use Rattle.refinement.proofs.Kept.{class-beside}
 use Rattle.refinement.proofs.ArenaReached.{Reached, heapOf}
 use Rattle.refinement.proofs.ArenaFair.{loads-frontier}
-use Rattle.refinement.proofs.ArenaFrames.{whole-names, whole-ends}
+use Rattle.refinement.proofs.ArenaFrames.{whole-names, whole-ends, step-rule}
 use Rattle.refinement.proofs.ArenaSteps.{isArenas, rep-kept}
+use Rattle.refinement.proofs.ArenaRuns.{given-step}
 use Rattle.refinement.proofs.ArenaKeeps.{class-left, class-beside-left}
 use Rattle.refinement.proofs.GiveRep.{give-rep}
 
@@ -87,7 +88,7 @@ module _ (n : ℕ) (b₀ : List ℕ) (H : Heap) (rep : Represents n b₀ H) (r :
   page-held = run-held n b H rep′ (shapeOf c) c (p .first) (cr .fulls .0 .holds .run)
 
   pub give-represents : Represents n (given b (p .first) (shapeOf c .pages))
-      (heapOf (give (shapeOf c .pages) (p .first) (H .arena)) (passTo nobody (covers (shapeOf c .pages) (p .first)) (H .holder)) (update (H .classes) c s))
+      (heapOf (H .rules) (give (shapeOf c .pages) (p .first) (H .arena)) (passTo nobody (covers (shapeOf c .pages) (p .first)) (H .holder)) (update (H .classes) c s))
   give-represents =
       let m = shapeOf c .pages in
       record {
@@ -98,4 +99,5 @@ module _ (n : ℕ) (b₀ : List ℕ) (H : Heap) (rep : Represents n b₀ H) (r :
           | no e ↦ rw (ne-eqb d c e) (class-beside-left n b H rep′ r c hc (shape-sound c) p cr page-held d (shape-sound d) hd e
               (class-beside d c (shape-sound d) hd e only (rep .classes d hd)))
         ];
+        rules = λ d hd. step-rule (inRun m (p .first)) b (given b (p .first) m) (given-step n b H rep′ r (p .first) m (shape-sound c .paged) page-held) d hd (only-rule c only d hd (rep .rules d hd));
       }

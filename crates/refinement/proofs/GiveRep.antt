@@ -38,7 +38,7 @@ module _ (n : ℕ) (b : List ℕ) (H : Heap) (rep : ArenaRep n b H) (r : Reached
   pub give-fair : giveFair n b m ≡ true
   give-fair = give-passes n b H rep r m (omega (arith, held-is))
 
-  pub give-rep : (cs : ℕ → Class) → ArenaRep n (given b q m) (heapOf (give m q (H .arena)) (passTo nobody (covers m q) (H .holder)) cs)
+  pub give-rep : (cs : ℕ → Class) → ArenaRep n (given b q m) (heapOf (H .rules) (give m q (H .arena)) (passTo nobody (covers m q) (H .holder)) cs)
   unfolding given
   give-rep cs =
       let a = give m q (H .arena) in

@@ -11,6 +11,7 @@ use lib.Dec.{eqb, ltb, leb}
 use lib.ListN.{length}
 use borrow.Author.Tests.{eq-eqb, ne-eqb, le-leb, leb-true, ltb-true, lt-ltb}
 use Rattle.facts.proofs.Bools.{and-left, and-right}
+use Rattle.rules.specs.declared.Limits.{Limits}
 use Rattle.model.specs.Cover.{inRun, covers, coversRun}
 use Rattle.words.specs.Limits.{holeSlots}
 use Rattle.classes.specs.declared.Shape.{Shape}
@@ -33,10 +34,10 @@ use Rattle.arena.specs.Calls.{commitBook}
 use Rattle.arena.specs.Represents.{ArenaRep}
 use Rattle.refinement.proofs.ArenaKeeps.{step-class}
 use Rattle.refinement.proofs.CommitRuns.{claim-none, claim-others, claim-new}
-use Rattle.refinement.specs.Represents.{ClassRep, Represents}
+use Rattle.refinement.specs.Represents.{ClassRep, Represents, RuleRep}
 use Rattle.refinement.proofs.ArenaStored.{commit-stored, stored-few}
 use Rattle.refinement.proofs.ArenaReached.{Reached, heapOf, idle-once, reached-commit}
-use Rattle.refinement.proofs.ArenaFrames.{isStep, inRunOf, either, passed, step-row, step-page, step-first, step-out, step-mark, step-slot, committed-changes}
+use Rattle.refinement.proofs.ArenaFrames.{isStep, inRunOf, either, passed, step-row, step-page, step-first, step-out, step-mark, step-slot, committed-changes, step-rule}
 use Rattle.refinement.proofs.ArenaSteps.{isArenas, rep-kept}
 use Rattle.refinement.proofs.ArenaRuns.{nobody-other, drawn-whole}
 use Rattle.refinement.proofs.CommitRep.{commit-rep}
@@ -44,6 +45,7 @@ use Rattle.refinement.proofs.Basics.{Setting, setting-kept}
 use Rattle.refinement.proofs.Kept.{Keeps, class-now, class-kept, listed-whole}
 use Rattle.refinement.proofs.Pushes.{carve-first}
 use Rattle.refinement.proofs.NewRun.{LetsNew, new-changes, new-names, new-rep}
+use Rattle.refinement.proofs.Frames.{rule-kept}
 
 -- ---- what a new run of m pages at q writes
 -- the words of page q but OWNER, and FIRST of the run's pages
@@ -100,13 +102,16 @@ module _ (n : ℕ) (b : List ℕ) (H : Heap) (R : Represents n b H) (ok : Reache
   pub changes : Changes (isStep owned) b after
   changes = committed-changes n b h pages (H .arena) (ok .tidy .slots) (suc c)
 
-  rep₁ : (cs : ℕ → Class) → ArenaRep n after (heapOf (grant .arena) (passTo (class c) (coversRun pages (grant .run)) (H .holder)) cs)
+  rep₁ : (cs : ℕ → Class) → ArenaRep n after (heapOf (H .rules) (grant .arena) (passTo (class c) (coversRun pages (grant .run)) (H .holder)) cs)
   rep₁ cs = commit-rep n b H (R .arena) ok h pages one (class c) refl cs
 
   -- ---- no run
   module _ (e : commit n h (shapeOf c .pages) (H .arena) .run ≡ none) where
-    pub none-arena : (cs : ℕ → Class) → ArenaRep n after (heapOf (grant .arena) (H .holder) cs)
-    none-arena cs = subst (λ (o : Option ℕ). ArenaRep n after (heapOf (grant .arena) (passTo (class c) (coversRun pages o) (H .holder)) cs)) e (rep₁ cs)
+    pub none-arena : (cs : ℕ → Class) → ArenaRep n after (heapOf (H .rules) (grant .arena) (H .holder) cs)
+    none-arena cs = subst (λ (o : Option ℕ). ArenaRep n after (heapOf (H .rules) (grant .arena) (passTo (class c) (coversRun pages o) (H .holder)) cs)) e (rep₁ cs)
+
+    pub none-rule : (d : ℕ) {lim : Limits} → ltb d 76 ≡ true → RuleRep b d lim → RuleRep after d lim
+    none-rule = step-rule owned b after changes
 
     pub none-stays : (d : ℕ) → ltb d 76 ≡ true → {k : Park} {ps xs ys fs : List Page} → ClassRep n b d (shapeOf d) k ps xs ys fs → ClassRep n after d (shapeOf d) k ps xs ys fs
     none-stays d hd r =
@@ -132,16 +137,16 @@ module _ (n : ℕ) (b : List ℕ) (H : Heap) (R : Represents n b H) (ok : Reache
     pub new-setting : Setting n new c (shapeOf c)
     new-setting = setting-kept new (written .long) s₁
 
-    rep₂ : (cs : ℕ → Class) → ArenaRep n new (heapOf (grant .arena) (passTo (class c) (coversRun pages (grant .run)) (H .holder)) cs)
+    rep₂ : (cs : ℕ → Class) → ArenaRep n new (heapOf (H .rules) (grant .arena) (passTo (class c) (coversRun pages (grant .run)) (H .holder)) cs)
     rep₂ cs =
         let ch = new-changes s₁ q (λ g. not (isArenas g)) (arena-lets q pages) in
-        rep-kept n after new (heapOf (grant .arena) (passTo (class c) (coversRun pages (grant .run)) (H .holder)) cs) few (ch .long) (λ g o t. ch .kept g o (rw t)) (rep₁ cs)
+        rep-kept n after new (heapOf (H .rules) (grant .arena) (passTo (class c) (coversRun pages (grant .run)) (H .holder)) cs) few (ch .long) (λ g o t. ch .kept g o (rw t)) (rep₁ cs)
 
-    pub new-arena : (cs : ℕ → Class) → ArenaRep n new (heapOf (grant .arena) (passTo (class c) (covers pages q) (H .holder)) cs)
-    new-arena cs = subst (λ (o : Option ℕ). ArenaRep n new (heapOf (grant .arena) (passTo (class c) (coversRun pages o) (H .holder)) cs)) e (rep₂ cs)
+    pub new-arena : (cs : ℕ → Class) → ArenaRep n new (heapOf (H .rules) (grant .arena) (passTo (class c) (covers pages q) (H .holder)) cs)
+    new-arena cs = subst (λ (o : Option ℕ). ArenaRep n new (heapOf (H .rules) (grant .arena) (passTo (class c) (coversRun pages o) (H .holder)) cs)) e (rep₂ cs)
 
-    pub new-reached : (cs : ℕ → Class) → Reached n (heapOf (grant .arena) (passTo (class c) (covers pages q) (H .holder)) cs)
-    new-reached cs = subst (λ (o : Option ℕ). Reached n (heapOf (grant .arena) (passTo (class c) (coversRun pages o) (H .holder)) cs)) e (reached-commit n H ok h pages one (class c) hc cs)
+    pub new-reached : (cs : ℕ → Class) → Reached n (heapOf (H .rules) (grant .arena) (passTo (class c) (covers pages q) (H .holder)) cs)
+    new-reached cs = subst (λ (o : Option ℕ). Reached n (heapOf (H .rules) (grant .arena) (passTo (class c) (coversRun pages o) (H .holder)) cs)) e (reached-commit n H ok h pages one (class c) hc cs)
 
     inside : (y : ℕ) → inRun (shapeOf c .pages) q y ≡ true → get new (page first y) ≡ q
     inside y i =
@@ -184,6 +189,9 @@ module _ (n : ℕ) (b : List ℕ) (H : Heap) (R : Represents n b H) (ok : Reache
 
     row : (f : Field.ClassField) (d : ℕ) → ltb d 76 ≡ true → get new (Field.class f d) ≡ get b (Field.class f d)
     row f d hd = written .kept (Field.class f d) hd refl ∙ step-row owned b after changes f d hd
+
+    pub new-rule : (d : ℕ) {lim : Limits} → ltb d 76 ≡ true → RuleRep b d lim → RuleRep new d lim
+    new-rule d hd = rule-kept (row Field.emptyLimit d hd) (row Field.coldLimit d hd)
 
     pub others-stay : (d : ℕ) → ltb d 76 ≡ true → (d ≡ c → ⊥) → {k : Park} {ps xs ys fs : List Page} → ClassRep n b d (shapeOf d) k ps xs ys fs
         → ClassRep n new d (shapeOf d) k ps xs ys fs

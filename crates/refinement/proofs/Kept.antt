@@ -6,16 +6,17 @@
 --     class-beside    what changes only words of class d leaves every other class alone
 use Prim.Native.Nat.{ℕ, suc, _+_, _≤_}
 use native.Mathlib.Omega.{arith}
-use mathlib.Core.Bool.{Bool, true, false}
+use mathlib.Core.Bool.{Bool, true, false, cond}
 use mathlib.Core.List.{List, [], _∷_, _++_}
 use mathlib.Core.Logic.{inl, inr}
 use mathlib.Core.Path.{_≡_, refl, ap, _∙_}
-use lib.Dec.{eqb, ltb}
+use lib.Dec.{eqb, ltb, leb, eqb·zero-suc}
 use borrow.Author.Tests.{ne-eqb, lt-ltb, ltb-true}
+use Rattle.facts.proofs.Bools.{by-cases}
 use Rattle.facts.specs.Lists.{All, count}
 use Rattle.classes.specs.declared.Shape.{Shape}
 use Rattle.classes.specs.Sound.{Sound}
-use Rattle.fields.specs.Field.{ClassField, class, page, mark, slot, out, partial, owner, next, prev, free, carved, listed, virgin, get}
+use Rattle.fields.specs.Field.{ClassField, class, page, mark, slot, out, partial, owner, next, prev, free, carved, listed, virgin, get, classOff}
 use Rattle.model.specs.Page.{Page}
 use Rattle.model.proofs.Pages.{all-append}
 use Rattle.words.specs.Host.{digit}
@@ -156,5 +157,8 @@ pub class-beside : {n : ℕ} {b b′ : List ℕ} (c d : ℕ) {sh : Shape} {k : P
     → Only d b b′ → ClassRep n b c sh k ps xs ys fs → ClassRep n b′ c sh k ps xs ys fs
 class-beside {n} {b} c d {sh} sound row ne h r =
     let own = only-owns d h in
-    class-kept sound r (λ f. h .kept (class f c) row (ne-eqb (suc c) (suc d) (λ z. ne (omega arith)))) (whole-kept own n sh c)
+    class-kept sound r (λ f. h .kept (class f c) row (not-its f)) (whole-kept own n sh c)
     (λ x e. keeps-far c d ne h x (whole-owner n b sound c x e) (whole-kept own n sh c x ∙ e))
+  where
+    not-its : (f : ClassField) → eqb (cond (leb (classOff f) 4) (suc c) 0) (suc d) ≡ false
+    not-its f = by-cases (leb (classOff f) 4) (λ e. rw e (ne-eqb (suc c) (suc d) (λ z. ne (omega arith)))) (λ e. rw e (eqb·zero-suc d))

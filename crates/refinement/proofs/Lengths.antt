@@ -116,7 +116,7 @@ module _ (n : ℕ) (hn : n ≤ maxPages) (b : List ℕ) (H : Heap) (R : Represen
         let t₁ = distinct (map pageOf gs) in
         let t₂ = every (Model.chunkFits (shapeOf c) (H .classes c) ws) gs in
         let t₃ = every (chunked (shapeOf c) (H .classes c) gs) ws in
-        let x = Model.settleChunks (shapeOf c) h ws (H .classes c) gs in
+        let x = Model.settleChunks (shapeOf c) (H .rules c) h ws (H .classes c) gs in
         long-cond (isNil ws || isNil gs) _ _ (λ e. refl)
         (λ e. long-cond (ltb chunksMax (length gs) || ltb (length fs) (length gs)) _ _ (λ e. refl)
         (λ e. long-cond (not (k₁ && k₂)) _ _ (λ e. refl)

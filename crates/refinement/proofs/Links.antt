@@ -121,7 +121,8 @@ stow-lets Empty c q = record { newest = eq-eqb c c refl; number = eq-eqb c c ref
 stow-lets Cold c q = record { newest = eq-eqb c c refl; number = eq-eqb c c refl; fore = eq-eqb q q refl }
 
 pub class-lets-stow : (b : List ℕ) (k : Park) (c q : ℕ) → get b (page owner q) ≡ suc c → LetsStow (ofClass b c) k c q
-class-lets-stow b k c q o = record { newest = eq-eqb (suc c) (suc c) refl; number = eq-eqb (suc c) (suc c) refl; fore = eq-eqb _ _ o }
+class-lets-stow b Empty c q o = record { newest = eq-eqb (suc c) (suc c) refl; number = eq-eqb (suc c) (suc c) refl; fore = eq-eqb _ _ o }
+class-lets-stow b Cold c q o = record { newest = eq-eqb (suc c) (suc c) refl; number = eq-eqb (suc c) (suc c) refl; fore = eq-eqb _ _ o }
 
 module _ (t : Field → Bool) (b : List ℕ) (c q : ℕ) (row : ltb c 76 ≡ true) (k : Park) (l : LetsStow t k c q) where
   pub stow-changes : Changes t b (stow b c k q)

@@ -7,7 +7,7 @@ use mathlib.Core.Path.{_≡_, refl, ap}
 use lib.Dec.{eqb}
 use Rattle.words.specs.Host.{discardZeroed}
 use Rattle.classes.specs.declared.Shape.{Shape}
-use Rattle.fields.specs.Field.{class, page, partial, emptyCount, coldCount, next, prev, free, carved, listed, get}
+use Rattle.fields.specs.Field.{class, page, partial, emptyCount, coldCount, emptyLimit, coldLimit, next, prev, free, carved, listed, get}
 use Rattle.fields.specs.Ranges.{maxPages}
 use Rattle.fields.proofs.Laws.{get-put-other}
 use Rattle.facts.specs.Lists.{every, count}
@@ -47,7 +47,7 @@ module _ {S : ℕ → Bool} {c q : ℕ} (r : RowIn S c) (p : PageIn S q) (sh : S
 
   pub park-in : (b : List ℕ) → TiesIn S b q → parkAt (mix S b d) c sh h q ≡ besideR S d (parkAt b c sh h q)
   unfolding parkAt
-  park-in b t = rw (get-row r b d emptyCount, get-row r b d coldCount, unlisted-in r p b d t) (as-in (unlisted b c q) (spotAt b c sh))
+  park-in b t = rw (get-row r b d emptyCount, get-row r b d coldCount, get-row r b d emptyLimit, get-row r b d coldLimit, unlisted-in r p b d t) (as-in (unlisted b c q) (spotAt b c sh))
 
 module _ {S : ℕ → Bool} {n : ℕ} {b : List ℕ} {c : ℕ} {sh : Shape} {zs : List Page} (s : Setting n b c sh) (hn : n ≤ maxPages) (hm : Home S n b c sh) (h : ℕ) (d : List ℕ)
     {l : ℕ} (x : Site) (pl : Placed n b c sh zs l (x .page) x) (ws : List ℕ) (outs : every (λ w. isOut sh w (x .page)) ws ≡ true) (once : (w : ℕ) → count w ws ≤ 1) where

@@ -14,6 +14,7 @@ use borrow.Author.Tests.{eqb-true, not-true, leb-true, ltb-true}
 use Rattle.words.specs.Word.{chunkKind, pageOf}
 use Rattle.classes.specs.declared.Shape.{Shape}
 use Rattle.classes.specs.Shape.{smallShape, shapeOf}
+use Rattle.rules.specs.declared.Limits.{Limits}
 use Rattle.fields.specs.Field.{page, first}
 use Rattle.fields.specs.Ranges.{maxPages}
 use Rattle.fields.proofs.Changes.{changes-none}
@@ -34,14 +35,14 @@ use Rattle.calls.specs.Out.{startOf, inRunOf, outAt}
 use Rattle.calls.specs.Release.{Released}
 use Rattle.calls.specs.Chunks as Words
 use Rattle.calls.specs.Chunks.{blocksOn, chunksMatch, chunksFair, chunkBackAt, givesOf, settleChunks, giveRuns, chunksNone, releaseChunks}
-use Rattle.refinement.specs.Represents.{StateRep, Represents}
+use Rattle.refinement.specs.Represents.{StateRep, RuleRep, Represents}
 use Rattle.refinement.proofs.Basics.{Setting, setting-kept}
-use Rattle.refinement.proofs.Frames.{ofClass, Only, only-trans}
+use Rattle.refinement.proofs.Frames.{ofClass, Only, only-trans, only-rule}
 use Rattle.refinement.proofs.ArenaReached.{Reached}
 use Rattle.refinement.proofs.Book.{setting-of, state-as}
 use Rattle.refinement.proofs.Found.{Located, located, located-passes, Away, found-at, outs-here}
 use Rattle.refinement.proofs.OutTests.{once-here, fault-same}
-use Rattle.refinement.proofs.Release.{Limits, shape-limits, SettledRep, stays, goes, settle-chunk}
+use Rattle.refinement.proofs.Release.{SettledRep, stays, goes, settle-chunk}
 use Rattle.refinement.proofs.LocalGives.{all-local}
 use Rattle.refinement.proofs.ChunkTests.{chunks-same}
 use Rattle.refinement.proofs.Chunks.{every-blocks, once-blocks, settle-skips, Waits, waits-next, blocks-kept, start-kept}
@@ -71,8 +72,8 @@ after : {n : ℕ} {b : List ℕ} {c : ℕ} {sh : Shape} {zs : List Page} {k q : 
 after {zs = zs} (stays ne r o) = record { pages = zs; only = o; rep = r }
 after {zs = zs} (goes p e r o) = record { pages = p ∷ zs; only = o; rep = r }
 
-module _ (S : ℕ → Bool) {n c : ℕ} {sh : Shape} (hn : n ≤ maxPages) (lim : Limits sh) (small : isMedium sh ≡ false) (h : ℕ) (ws : List ℕ) (once : distinct ws ≡ true)
-    (b₀ : List ℕ) (s₀ : Setting n b₀ c sh) (d : List ℕ) (homes : All (λ w. PageIn S (pageAt w)) ws) where
+module _ (S : ℕ → Bool) {n c : ℕ} {sh : Shape} (hn : n ≤ maxPages) (lim : Limits) (small : isMedium sh ≡ false) (h : ℕ) (ws : List ℕ) (once : distinct ws ≡ true)
+    (b₀ : List ℕ) (s₀ : Setting n b₀ c sh) (rl₀ : RuleRep b₀ c lim) (d : List ℕ) (homes : All (λ w. PageIn S (pageAt w)) ws) where
   Rest : List ℕ → Type 0
   Rest gs =
       (b : List ℕ) (t : Class) (zs : List Page) → Only c b₀ b → Home S n b c sh → Away n b c sh t zs → All (Waits sh ws b₀ t) gs
@@ -98,11 +99,11 @@ module _ (S : ℕ → Bool) {n c : ℕ} {sh : Shape} (hn : n ≤ maxPages) (lim 
       let eq : x .page .first ≡ pageOf g = eqb-true (x .page .first) (pageOf g) (located-passes y) in
       let eb : Model.blocksOn sh ws (x .page) ≡ blocksOn b ws (pageOf g)
       = ap (Model.blocksOn sh ws) ep ∙ wait .blocks ∙ sym (blocks-kept b₀ b (start-kept c o) ws (pageOf g)) in
-      let y₁ = settle sh h true (Model.blocksOn sh ws (x .page)) x in
+      let y₁ = settle sh lim h true (Model.blocksOn sh ws (x .page)) x in
       let pl = found-at {zs = zs} r y .placed in
       let outs = every-blocks sh ws (x .page) in
       let few = once-blocks sh ws once (x .page) in
-      let settled = settle-chunk s hn lim h x pl (Model.blocksOn sh ws (x .page)) outs few small in
+      let settled = settle-chunk s hn (only-rule c o c (s₀ .row) rl₀) h x pl (Model.blocksOn sh ws (x .page)) outs few small in
       let settled₁ = subst (λ (z : ℕ). SettledRep n b c sh zs 6 z (chunkBackAt b c sh h z (map (indexOf sh z) bs)) y₁) eq settled in
       let settled₂ = subst (λ (l : List ℕ). SettledRep n b c sh zs 6 q (chunkBackAt b c sh h q (map (indexOf sh q) l)) y₁) eb settled₁ in
       let a = after settled₂ in
@@ -111,7 +112,7 @@ module _ (S : ℕ → Bool) {n c : ℕ} {sh : Shape} (hn : n ≤ maxPages) (lim 
       let one₂ : chunkBackAt (mix S b d) c sh h (pageOf g) (map (indexOf sh (pageOf g)) (blocksOn b ws (pageOf g))) ≡ besideR S d (chunk b (pageOf g))
       = subst (λ (l : List ℕ). chunkBackAt (mix S b d) c sh h q (map (indexOf sh q) l) ≡ besideR S d (chunkBackAt b c sh h q (map (indexOf sh q) l))) eb one₁ in
       let ih = rest (chunk b q .book) (y₁ .class) (a .pages) (only-trans c o (a .only)) (home-only (a .only) hm) (a .rep)
-      (waits-next sh ws b₀ t (y₁ .class) q (λ z ne. settle-skips sh h y bs z (ap (λ v. eqb v z) eq ∙ ne)) gs new waits) in
+      (waits-next sh ws b₀ t (y₁ .class) q (λ z ne. settle-skips sh lim h y bs z (ap (λ v. eqb v z) eq ∙ ne)) gs new waits) in
       ap (λ (l : List ℕ). thenAll q (chunkBackAt (mix S b d) c sh h q (map (indexOf sh q) l)) (settleChunks (chunkBackAt (mix S b d) c sh h q (map (indexOf sh q) l) .book) c sh h ws gs))
       (blocks-in S b d q ws homes)
       ∙ ap (λ (v : Released). thenAll q v (settleChunks (v .book) c sh h ws gs)) one₂
@@ -175,8 +176,8 @@ module _ {S : ℕ → Bool} (n : ℕ) (hn : n ≤ maxPages) (b : List ℕ) (H : 
 
     reached : (isNil ws || isNil gs) ≡ false → (ltb chunksMax (length gs) || ltb (length fs) (length gs)) ≡ false → (every (ofKind (shapeOf c .kind)) ws && every (ofKind chunkKind) gs) ≡ true
         → repeats (shapeOf c) (H .classes c) ws ≡ false → every (outHere (shapeOf c) (H .classes c)) ws ≡ true → fit ≡ true
-        → Model.releaseChunks (shapeOf c) h (H .classes c) ws gs fs
-        ≡ (let x = Model.settleChunks (shapeOf c) h ws (H .classes c) gs in done (record { class = x .class; answer = fates (x .fates ++ drop (length gs) fs); gives = x .gives }))
+        → Model.releaseChunks (shapeOf c) (H .rules c) h (H .classes c) ws gs fs
+        ≡ (let x = Model.settleChunks (shapeOf c) (H .rules c) h ws (H .classes c) gs in done (record { class = x .class; answer = fates (x .fates ++ drop (length gs) fs); gives = x .gives }))
     unfolding Model.releaseChunks
     reached e₁ e₂ e₃ e₄ e₅ u = rw (e₁, e₂, e₃, e₄, e₅, u)
 
@@ -197,25 +198,25 @@ module _ {S : ℕ → Bool} (n : ℕ) (hn : n ≤ maxPages) (b : List ℕ) (H : 
       apart : fit ≡ true → distinct (map pageOf gs) ≡ true
       apart u = and-left (distinct (map pageOf gs)) (every (Model.chunkFits (shapeOf c) (H .classes c) ws) gs && every (chunked (shapeOf c) (H .classes c) gs) ws) u
 
-      given-local : fit ≡ true → (Model.settleChunks (shapeOf c) h ws (H .classes c) gs .gives ≡ []) ⊎ Roams S H c
+      given-local : fit ≡ true → (Model.settleChunks (shapeOf c) (H .rules c) h ws (H .classes c) gs .gives ≡ []) ⊎ Roams S H c
           → (let w = settleChunks b c (shapeOf c) h ws gs in giveRuns (mix S (w .book) d) (shapeOf c .pages) (w .gives) ≡ mix S (giveRuns (w .book) (shapeOf c .pages) (w .gives)) d)
       given-local u (inl z) =
           let w = all-settled n hn b H R ok c hs ws k outs once h gs (fitting u) (apart u) in
           rw (w .gives ∙ z)
       given-local u (inr a) =
           let w = all-settled n hn b H R ok c hs ws k outs once h gs (fitting u) (apart u) in
-          let x = Model.settleChunks (shapeOf c) h ws (H .classes c) gs in
+          let x = Model.settleChunks (shapeOf c) (H .rules c) h ws (H .classes c) gs in
           rw (w .gives) (all-local n b H R ok c hc (settleChunks b c (shapeOf c) h ws gs .book) (w .only) (x .class) (w .pages) (w .rep) (a .arena) d (a .kin) (x .gives) (w .named))
 
-      acts-local : fit ≡ true → (Model.settleChunks (shapeOf c) h ws (H .classes c) gs .gives ≡ []) ⊎ Roams S H c
+      acts-local : fit ≡ true → (Model.settleChunks (shapeOf c) (H .rules c) h ws (H .classes c) gs .gives ≡ []) ⊎ Roams S H c
           → (let w = settleChunks b c (shapeOf c) h ws gs in let w′ = settleChunks (mix S b d) c (shapeOf c) h ws gs in
           giveRuns (w′ .book) (shapeOf c .pages) (w′ .gives) ≡ mix S (giveRuns (w .book) (shapeOf c .pages) (w .gives)) d)
       acts-local u a =
-          rw (chunks-in S hn (shape-limits c) (small-shape c hs) h ws once b s d (homes-of ws outs) gs (apart u) b (H .classes c) [] (changes-none (ofClass b c) b) hm (R .classes c hc)
+          rw (chunks-in S hn (H .rules c) (small-shape c hs) h ws once b s (R .rules c hc) d (homes-of ws outs) gs (apart u) b (H .classes c) [] (changes-none (ofClass b c) b) hm (R .classes c hc)
           (all-wait n hn b H R ok c hs ws k outs once gs (fitting u)))
           (given-local u a)
 
-      ends-local : (fit ≡ true → (Model.settleChunks (shapeOf c) h ws (H .classes c) gs .gives ≡ []) ⊎ Roams S H c) → ends (mix S b d) .book ≡ mix S (ends b .book) d
+      ends-local : (fit ≡ true → (Model.settleChunks (shapeOf c) (H .rules c) h ws (H .classes c) gs .gives ≡ []) ⊎ Roams S H c) → ends (mix S b d) .book ≡ mix S (ends b .book) d
       ends-local a =
           rw (chunks-same s hn (H .classes c) (R .classes c hc) ws k outs gs, chunks-same s′ hn (H .classes c) r′ ws k outs′ gs)
           (by-cases fit
@@ -225,7 +226,7 @@ module _ {S : ℕ → Bool} (n : ℕ) (hn : n ≤ maxPages) (b : List ℕ) (H : 
           fair′ : fit ≡ true → chunksFair n (mix S b d) c (shapeOf c) gs ≡ true
           fair′ u = chunks-fair n hn (mix S b d) H′ R′ ok′ c hs ws k outs′ once h gs (rw et (fitting u)) (apart u)
 
-    pub group-local : StaysHome (Model.releaseChunks (shapeOf c) h (H .classes c) ws gs fs) ⊎ Roams S H c
+    pub group-local : StaysHome (Model.releaseChunks (shapeOf c) (H .rules c) h (H .classes c) ws gs fs) ⊎ Roams S H c
         → releaseChunks n (mix S b d) c (shapeOf c) h ws gs fs .book ≡ mix S (releaseChunks n b c (shapeOf c) h ws gs fs .book) d
     unfolding releaseChunks
     group-local a =
@@ -245,9 +246,9 @@ module _ {S : ℕ → Bool} (n : ℕ) (hn : n ≤ maxPages) (b : List ℕ) (H : 
         (λ e₃. rw (e₁, e₂, e₃))))
       where
         allowed : (isNil ws || isNil gs) ≡ false → (ltb chunksMax (length gs) || ltb (length fs) (length gs)) ≡ false → (every (ofKind (shapeOf c .kind)) ws && every (ofKind chunkKind) gs) ≡ true
-            → repeats (shapeOf c) (H .classes c) ws ≡ false → every (outHere (shapeOf c) (H .classes c)) ws ≡ true → StaysHome (Model.releaseChunks (shapeOf c) h (H .classes c) ws gs fs) ⊎ Roams S H c
-            → fit ≡ true → (Model.settleChunks (shapeOf c) h ws (H .classes c) gs .gives ≡ []) ⊎ Roams S H c
+            → repeats (shapeOf c) (H .classes c) ws ≡ false → every (outHere (shapeOf c) (H .classes c)) ws ≡ true → StaysHome (Model.releaseChunks (shapeOf c) (H .rules c) h (H .classes c) ws gs fs) ⊎ Roams S H c
+            → fit ≡ true → (Model.settleChunks (shapeOf c) (H .rules c) h ws (H .classes c) gs .gives ≡ []) ⊎ Roams S H c
         allowed e₁ e₂ e₃ e₄ e₅ (inl z) u =
-            let x = Model.settleChunks (shapeOf c) h ws (H .classes c) gs in
+            let x = Model.settleChunks (shapeOf c) (H .rules c) h ws (H .classes c) gs in
             inl (home-gives (record { class = x .class; answer = fates (x .fates ++ drop (length gs) fs); gives = x .gives }) z (reached e₁ e₂ e₃ e₄ e₅ u))
         allowed e₁ e₂ e₃ e₄ e₅ (inr z) u = inr z

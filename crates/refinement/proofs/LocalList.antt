@@ -33,7 +33,7 @@ use Rattle.refinement.proofs.Book.{setting-of, state-as}
 use Rattle.refinement.proofs.Found.{At, found-at, placed-rep, same-pages, outs-here}
 use Rattle.refinement.proofs.OutTests.{once-here, fault-same}
 use Rattle.refinement.proofs.Returned.{return-room}
-use Rattle.refinement.proofs.Release.{shape-limits, SettledRep, stays, goes, settle-list}
+use Rattle.refinement.proofs.Release.{SettledRep, stays, goes, settle-list}
 use Rattle.refinement.proofs.ReleaseFair.{release-fair}
 use Rattle.refinement.proofs.LocalGives.{all-local}
 use Rattle.refinement.proofs.ChunkTests.{SiteOf, site-of}
@@ -71,7 +71,7 @@ module _ {S : ℕ → Bool} (n : ℕ) (hn : n ≤ maxPages) (b : List ℕ) (H : 
     r′ = state-as R′ hc et
 
     abbrev ask : List ℕ → Ask
-    ask ws = releaseList (shapeOf c) h (H .classes c) ws
+    ask ws = releaseList (shapeOf c) (H .rules c) h (H .classes c) ws
 
     abbrev rest : List ℕ → List ℕ → ℕ → Released
     rest b ws q =
@@ -79,7 +79,7 @@ module _ {S : ℕ → Bool} (n : ℕ) (hn : n ≤ maxPages) (b : List ℕ) (H : 
         (cond (not (releaseFair n b c (shapeOf c) (length ws) q)) (releasedNone b 13)
         (lastStep (shapeOf c) q (giveBackAt b c (shapeOf c) h q (map (indexOf (shapeOf c) q) ws))))
 
-    module _ (w : ℕ) (ws : List ℕ) (a : StaysHome (releaseList (shapeOf c) h (H .classes c) (w ∷ ws)) ⊎ Roams S H c)
+    module _ (w : ℕ) (ws : List ℕ) (a : StaysHome (releaseList (shapeOf c) (H .rules c) h (H .classes c) (w ∷ ws)) ⊎ Roams S H c)
         (k : every (ofKind (shapeOf c .kind)) (w ∷ ws) ≡ true) (single : repeats (shapeOf c) (H .classes c) (w ∷ ws) ≡ false) (o : every (outHere (shapeOf c) (H .classes c)) (w ∷ ws) ≡ true) where
       abbrev us : List ℕ
       us = w ∷ ws
@@ -112,14 +112,14 @@ module _ {S : ℕ → Bool} (n : ℕ) (hn : n ≤ maxPages) (b : List ℕ) (H : 
       few v = distinct-count v us (once-here (shapeOf c) (H .classes c) us single o)
 
       asked : every (λ v. isOut (shapeOf c) v (x .site .page)) (w ∷ ws) ≡ true
-          → ask (w ∷ ws) ≡ (let y = settle (shapeOf c) h false (w ∷ ws) (x .site) in done (record { class = y .class; answer = fate (y .fate); gives = y .gives }))
+          → ask (w ∷ ws) ≡ (let y = settle (shapeOf c) (H .rules c) h false (w ∷ ws) (x .site) in done (record { class = y .class; answer = fate (y .fate); gives = y .gives }))
       unfolding releaseList onPage
       asked u = rw (k, single, o, x .is, u)
 
-      allowed : every (λ v. isOut (shapeOf c) v (x .site .page)) (w ∷ ws) ≡ true → StaysHome (releaseList (shapeOf c) h (H .classes c) (w ∷ ws)) ⊎ Roams S H c
-          → (settle (shapeOf c) h false (w ∷ ws) (x .site) .gives ≡ []) ⊎ Roams S H c
+      allowed : every (λ v. isOut (shapeOf c) v (x .site .page)) (w ∷ ws) ≡ true → StaysHome (releaseList (shapeOf c) (H .rules c) h (H .classes c) (w ∷ ws)) ⊎ Roams S H c
+          → (settle (shapeOf c) (H .rules c) h false (w ∷ ws) (x .site) .gives ≡ []) ⊎ Roams S H c
       allowed u (inl z) =
-          let y = settle (shapeOf c) h false (w ∷ ws) (x .site) in
+          let y = settle (shapeOf c) (H .rules c) h false (w ∷ ws) (x .site) in
           inl (home-gives (record { class = y .class; answer = fate (y .fate); gives = y .gives }) z (asked u))
       allowed u (inr z) = inr z
 
@@ -127,7 +127,7 @@ module _ {S : ℕ → Bool} (n : ℕ) (hn : n ≤ maxPages) (b : List ℕ) (H : 
       settled-local u =
           let room = return-room s hn (placed-rep (p .placed)) us u few in
           let room′ = return-room s′ hn (placed-rep (p′ .placed)) us u few in
-          let y = settle (shapeOf c) h false us (x .site) in
+          let y = settle (shapeOf c) (H .rules c) h false us (x .site) in
           rw (
             sym (same-pages s hn (placed-rep (p .placed)) us k outs) ∙ u,
             sym (same-pages s′ hn (placed-rep (p′ .placed)) us k outs′) ∙ u,
@@ -135,7 +135,7 @@ module _ {S : ℕ → Bool} (n : ℕ) (hn : n ≤ maxPages) (b : List ℕ) (H : 
             release-fair n (mix S b d) H′ R′ ok′ c s′ (length us) (omega arith) (p′ .placed),
             One.list-local s hn hm h d (x .site) (p .placed) us u few,
           )
-          (last-local (x .site .page .first) (settle-list s hn (shape-limits c) h (x .site) (p .placed) us u few) (allowed u a))
+          (last-local (x .site .page .first) (settle-list s hn (R .rules c hc) h (x .site) (p .placed) us u few) (allowed u a))
 
       at-start : (q q′ : ℕ) → q ≡ x .site .page .first → q′ ≡ x .site .page .first → rest (mix S b d) us q′ .book ≡ mix S (rest b us q .book) d
       at-start q q′ e e′ =
@@ -146,7 +146,7 @@ module _ {S : ℕ → Bool} (n : ℕ) (hn : n ≤ maxPages) (b : List ℕ) (H : 
       page-local : rest (mix S b d) us (startOf (mix S b d) w) .book ≡ mix S (rest b us (startOf b w) .book) d
       page-local = at-start (startOf b w) (startOf (mix S b d) w) (x .start) (x′ .start ∙ ap (λ (y : Site). y .page .first) one)
 
-    pub list-local : (ws : List ℕ) → StaysHome (releaseList (shapeOf c) h (H .classes c) ws) ⊎ Roams S H c
+    pub list-local : (ws : List ℕ) → StaysHome (releaseList (shapeOf c) (H .rules c) h (H .classes c) ws) ⊎ Roams S H c
         → releaseBlocks n (mix S b d) c (shapeOf c) h ws .book ≡ mix S (releaseBlocks n b c (shapeOf c) h ws .book) d
     unfolding releaseBlocks
     list-local [] a = refl

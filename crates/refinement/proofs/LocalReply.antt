@@ -60,26 +60,26 @@ record Abroad (S : ℕ → Bool) (H H′ : Heap) (c : ℕ) : Type 0 where
 
 module _ {S : ℕ → Bool} (n : ℕ) (hn : n ≤ maxPages) (b : List ℕ) (H : Heap) (R : Represents n b H) (ok : Reached n H) (d : List ℕ) (H′ : Heap) (R′ : Represents n (mix S b d) H′) (ok′ : Reached n H′)
     (c : ℕ) (listed : Listed (shapeOf c) (H .classes c)) (et : H′ .classes c ≡ H .classes c) (hm : Home S n b c (shapeOf c)) where
-  reply-local : (x : Request) → Ours c x → StaysHome (answer (shapeOf c) (H .classes c) x) ⊎ Abroad S H H′ c
+  reply-local : (x : Request) → Ours c x → StaysHome (answer (shapeOf c) (H .rules c) (H .classes c) x) ⊎ Abroad S H H′ c
       → classReply n (mix S b d) c x .book ≡ mix S (classReply n b c x .book) d
   unfolding answer
   reply-local (take h l) hc a =
       take-local d (setting-of n b H R c hc) (setting-of n (mix S b d) H′ R′ c hc) hm (frontier-in n b H R ok) (frontier-in n (mix S b d) H′ R′ ok′) h l (H .classes c)
       (λ u. go u a) (listed .partial) (R .classes c hc) (state-as R′ hc et)
     where
-      go : ltb (length l) (shapeOf c .batch) ≡ false → StaysHome (answer (shapeOf c) (H .classes c) (take h l)) ⊎ Abroad S H H′ c
+      go : ltb (length l) (shapeOf c .batch) ≡ false → StaysHome (answer (shapeOf c) (H .rules c) (H .classes c) (take h l)) ⊎ Abroad S H H′ c
           → StaysHome (takeFrom (shapeOf c) l (H .classes c .partial) (H .classes c .empty) (H .classes c .cold) (H .classes c .full))
           ⊎ ((fs : List Page) → StateRep n b c (shapeOf c) (lists [] [] [] fs) → takeNew n (mix S b d) c (shapeOf c) h l .book ≡ mix S (takeNew n b c (shapeOf c) h l .book) d)
       go u (inl z) = inl (rw u at z)
       go u (inr z) = inr (λ fs r. new-local n b H R ok c hc hm d (z .roams .arena) (z .idle) h l fs r H′ R′ ok′ (z .arena))
   reply-local (giveBack h ws) hc a = list-local n hn b H R ok c hc hm d H′ R′ ok′ et h ws (go a)
     where
-      go : StaysHome (answer (shapeOf c) (H .classes c) (giveBack h ws)) ⊎ Abroad S H H′ c → StaysHome (releaseList (shapeOf c) h (H .classes c) ws) ⊎ Roams S H c
+      go : StaysHome (answer (shapeOf c) (H .rules c) (H .classes c) (giveBack h ws)) ⊎ Abroad S H H′ c → StaysHome (releaseList (shapeOf c) (H .rules c) h (H .classes c) ws) ⊎ Roams S H c
       go (inl z) = inl z
       go (inr z) = inr (z .roams)
   reply-local (giveChunks h ws gs fs) hs a = group-local n hn b H R ok c hs hm d H′ R′ ok′ et h ws gs fs (go a)
     where
-      go : StaysHome (answer (shapeOf c) (H .classes c) (giveChunks h ws gs fs)) ⊎ Abroad S H H′ c → StaysHome (Chunks.releaseChunks (shapeOf c) h (H .classes c) ws gs fs) ⊎ Roams S H c
+      go : StaysHome (answer (shapeOf c) (H .rules c) (H .classes c) (giveChunks h ws gs fs)) ⊎ Abroad S H H′ c → StaysHome (Chunks.releaseChunks (shapeOf c) (H .rules c) h (H .classes c) ws gs fs) ⊎ Roams S H c
       go (inl z) = inl z
       go (inr z) = inr (z .roams)
 
@@ -94,7 +94,7 @@ home-arena n H c h (stays s a) = refl
 
 -- ---- two calls, the first of which stays at home; Hx and Hy are the heaps after each alone
 module _ (n : ℕ) (hn : n ≤ maxPages) (b : List ℕ) (H : Heap) (R : Represents n b H) (ok : Reached n H) (c d : ℕ) (x y : Request) (ox : Ours c x) (oy : Ours d y) (ne : eqb c d ≡ false)
-    (lc : Listed (shapeOf c) (H .classes c)) (ld : Listed (shapeOf d) (H .classes d)) (home : StaysHome (answer (shapeOf c) (H .classes c) x))
+    (lc : Listed (shapeOf c) (H .classes c)) (ld : Listed (shapeOf d) (H .classes d)) (home : StaysHome (answer (shapeOf c) (H .rules c) (H .classes c) x))
     (Hx Hy : Heap) (Rx : Represents n (classReply n b c x .book) Hx) (okx : Reached n Hx) (Ry : Represents n (classReply n b d y .book) Hy) (oky : Reached n Hy)
     (arena : Hx .arena ≡ H .arena) (sameD : Hx .classes d ≡ H .classes d) (sameC : Hy .classes c ≡ H .classes c) where
   row : ltb c 76 ≡ true

@@ -124,6 +124,8 @@ module _ {S : ℕ → Bool} {c : ℕ} (r : RowIn S c) (b d : List ℕ) where
       off-lt ClassField.emptyCount = omega arith
       off-lt ClassField.cold = omega arith
       off-lt ClassField.coldCount = omega arith
+      off-lt ClassField.emptyLimit = omega arith
+      off-lt ClassField.coldLimit = omega arith
 
   pub get-row : (k : ClassField) → get (mix S b d) (class k c) ≡ get b (class k c)
   get-row k = get-in S b d (class k c) (in-row k)

@@ -1,28 +1,32 @@
--- An opened book stands for the new heap, whatever its words were before.
+-- An opened book stands for the new heap with the opening's rules, whatever its words were before.
 --     opened-rep           the arena's part
 --     opened-class         the part of every class
 --     opened-represents    the whole
 use Prim.Native.Nat.{ℕ, zero, suc, _+_, _≤_, _<_}
 use native.Mathlib.Omega.{arith}
-use mathlib.Core.Bool.{true, false}
+use mathlib.Core.Bool.{Bool, true, false, _&&_}
 use mathlib.Core.List.{List}
 use mathlib.Core.Path.{_≡_, refl, sym, ap, _∙_}
 use lib.Dec.{eqb, ltb, leb}
 use lib.ListN.{length, getD, length-set}
 use lib.Seq.{getD-set-same, getD-set-other}
-use borrow.Author.Tests.{eqb-true, eqb-false, leb-true, lt-leb, ltb-true}
+use borrow.Author.Tests.{eqb-true, eqb-false, leb-true, lt-leb, ltb-true, lt-ltb}
 use Rattle.facts.specs.Lists.{total, below}
 use Rattle.facts.proofs.Bools.{by-cases, and-no}
 use Rattle.classes.specs.Shape.{shapeOf}
 use Rattle.classes.proofs.Shapes.{shape-sound}
-use Rattle.fields.specs.Field.{Field, arena, class, ClassField, partial, empty, emptyCount, cold, coldCount, size, state, frontier, holes, holePages, commits, commitsHigh, reuses, reusesHigh, abandoned, abandonedHigh, held, classOff, word, part, read, get, same, ok, words}
+use Rattle.rules.specs.declared.Limits.{Limits}
+use Rattle.rules.specs.Rules.{Rules, Fit}
+use Rattle.fields.specs.Field.{Field, arena, class, ClassField, partial, empty, emptyCount, cold, coldCount, emptyLimit, coldLimit, size, state, frontier, holes, holePages, commits, commitsHigh, reuses, reusesHigh, abandoned, abandonedHigh, held, classOff, region, off, word, part, read, get, put, same, ok, words}
 use Rattle.fields.proofs.Laws.{get-put-same, get-put-other, length-put}
+use Rattle.fields.proofs.Changes.{Changes, changes-none, changes-put}
+use Rattle.pages.specs.Fair.{limitsAt}
 use Rattle.model.specs.Arena.{newArena}
 use Rattle.model.specs.Class.{newClass}
 use Rattle.model.specs.Heap.{newHeap}
 use Rattle.pages.specs.Runs as Runs
 use Rattle.arena.specs.Load.{loadHoles}
-use Rattle.arena.specs.Open.{cleared, headWords, opened}
+use Rattle.arena.specs.Open.{cleared, headWords, limited, ruled, opened}
 use Rattle.arena.specs.Represents.{ArenaRep}
 use Rattle.refinement.specs.Represents.{StateRep, Represents}
 use Rattle.refinement.proofs.ArenaStore.{load-written}
@@ -41,62 +45,116 @@ cleared-at b (suc k) i l u =
     (λ e. rw (eqb-true i k e) (getD-set-same (cleared b k) k 0 0 (rw (cleared-length b k) (omega arith))))
     (λ e. let z : i ≡ k → ⊥ = eqb-false i k e in getD-set-other (cleared b k) k i 0 0 z ∙ cleared-at b k i (omega arith) (omega (arith, z)))
 
-module _ (n : ℕ) (b : List ℕ) (long : leb (words n) (length b) ≡ true) where
+-- ---- the limits
+abbrev isRule : Field → Bool
+isRule g = eqb (region g) 2 && leb 5 (off g)
+
+ruled-changes : (b : List ℕ) (rules : Rules) (k : ℕ) → k ≤ 76 → Changes isRule b (ruled b rules k)
+unfolding ruled
+ruled-changes b rules zero l = changes-none isRule b
+ruled-changes b rules (suc k) l =
+    let o = lt-ltb k 76 (omega arith) in
+    let b₁ = ruled b rules k in
+    changes-put isRule b (put b₁ (class emptyLimit k) (rules k .empty)) (class coldLimit k) (rules k .cold) o refl
+    (changes-put isRule b b₁ (class emptyLimit k) (rules k .empty) o refl (ruled-changes b rules k (omega arith)))
+
+limited-here : (n : ℕ) (b : List ℕ) → leb (words n) (length b) ≡ true → (c : ℕ) (lim : Limits) → ltb c 76 ≡ true → limitsAt (limited b c lim) c ≡ lim
+limited-here n b hb c lim hc =
+    let b₁ = put b (class emptyLimit c) (lim .empty) in
+    rw (
+      get-put-other b₁ (class coldLimit c) (class emptyLimit c) (lim .cold) hc hc refl,
+      get-put-same n b (class emptyLimit c) (lim .empty) hb hc refl,
+      get-put-same n b₁ (class coldLimit c) (lim .cold) (rw (length-put b (class emptyLimit c) (lim .empty)) hb) hc refl,
+    )
+
+limited-there : (b : List ℕ) (k c : ℕ) (lim : Limits) → ltb k 76 ≡ true → ltb c 76 ≡ true → eqb k c ≡ false → limitsAt (limited b k lim) c ≡ limitsAt b c
+limited-there b k c lim hk hc ne =
+    let b₁ = put b (class emptyLimit k) (lim .empty) in
+    rw (
+      get-put-other b₁ (class coldLimit k) (class emptyLimit c) (lim .cold) hk hc refl,
+      get-put-other b (class emptyLimit k) (class emptyLimit c) (lim .empty) hk hc ne,
+      get-put-other b₁ (class coldLimit k) (class coldLimit c) (lim .cold) hk hc ne,
+      get-put-other b (class emptyLimit k) (class coldLimit c) (lim .empty) hk hc refl,
+    )
+
+ruled-at : (n : ℕ) (b : List ℕ) → leb (words n) (length b) ≡ true → (rules : Rules) (k c : ℕ) → k ≤ 76 → c < k → limitsAt (ruled b rules k) c ≡ rules c
+unfolding ruled
+ruled-at n b hb rules zero c l u = absurd (omega arith)
+ruled-at n b hb rules (suc k) c l u =
+    let b₁ = ruled b rules k in
+    let hk = lt-ltb k 76 (omega arith) in
+    by-cases (eqb k c)
+    (λ e. let z : k ≡ c = eqb-true k c e in
+    rw (← z) (limited-here n b₁ (rw (ruled-changes b rules k (omega arith) .long) hb) k (rules k) hk))
+    (λ e. let z : k ≡ c → ⊥ = eqb-false k c e in
+    limited-there b₁ k c (rules k) hk (lt-ltb c 76 (omega arith)) e ∙ ruled-at n b hb rules k c (omega arith) (omega (arith, z)))
+
+module _ (n : ℕ) (rules : Rules) (b : List ℕ) (long : leb (words n) (length b) ≡ true) where
   enough : headWords ≤ length b
   unfolding headWords
   enough = omega (arith, leb-true (words n) (length b) long)
 
-  -- every field before the holes but LENGTH
-  opened-zero : (g : Field) → ok g ≡ true → same (arena size) g ≡ false → word g < 768 → get (opened n b) g ≡ read (part g) 0
-  unfolding opened headWords get
-  opened-zero g o d l = get-put-other (cleared b 768) (arena size) g n refl o d ∙ ap (read (part g)) (cleared-at b 768 (word g) enough l)
+  head : List ℕ
+  head = put (cleared b headWords) (arena size) n
 
-  opened-row : (k : ClassField) (c : ℕ) → ltb c 76 ≡ true → classOff k < 8 → get (opened n b) (class k c) ≡ 0
-  opened-row k c o l = opened-zero (class k c) o refl (omega (arith, ltb-true c 76 o))
+  head-long : leb (words n) (length head) ≡ true
+  unfolding head
+  head-long = rw (length-put (cleared b headWords) (arena size) n, cleared-length b headWords) long
 
-  opened-long : leb (words n) (length (opened n b)) ≡ true
-  unfolding opened
-  opened-long = rw (length-put (cleared b headWords) (arena size) n, cleared-length b headWords) long
+  limiting : Changes isRule head (opened n rules b)
+  unfolding opened head
+  limiting = ruled-changes (put (cleared b headWords) (arena size) n) rules 76 (omega arith)
 
-  opened-size : get (opened n b) (arena size) ≡ n
-  unfolding opened
-  opened-size = get-put-same n (cleared b headWords) (arena size) n (rw (cleared-length b headWords) long) refl refl
+  -- every field before the holes but LENGTH and the limits
+  opened-zero : (g : Field) → ok g ≡ true → isRule g ≡ false → same (arena size) g ≡ false → word g < 768 → get (opened n rules b) g ≡ read (part g) 0
+  unfolding head headWords get
+  opened-zero g o r d l = limiting .kept g o r ∙ get-put-other (cleared b 768) (arena size) g n refl o d ∙ ap (read (part g)) (cleared-at b 768 (word g) enough l)
+
+  opened-row : (k : ClassField) (c : ℕ) → ltb c 76 ≡ true → isRule (class k c) ≡ false → classOff k < 8 → get (opened n rules b) (class k c) ≡ 0
+  opened-row k c o r l = opened-zero (class k c) o r refl (omega (arith, ltb-true c 76 o))
+
+  opened-long : leb (words n) (length (opened n rules b)) ≡ true
+  opened-long = rw (limiting .long) head-long
+
+  opened-size : get (opened n rules b) (arena size) ≡ n
+  unfolding head
+  opened-size = limiting .kept (arena size) refl refl ∙ get-put-same n (cleared b headWords) (arena size) n (rw (cleared-length b headWords) long) refl refl
 
   none-held : (k : ℕ) → total (λ (x : ℕ). 0) (below k) ≡ 0
   none-held zero = refl
   none-held (suc k) = omega (arith, none-held k)
 
-  pub opened-rep : ArenaRep n (opened n b) newHeap
+  pub opened-rep : ArenaRep n (opened n rules b) (newHeap rules)
   unfolding newHeap loadHoles
   opened-rep = record {
     long = opened-long;
     length = opened-size;
-    loads = load-written (opened n b) newArena (record {
-      status = opened-zero (arena state) refl refl (omega arith);
-      frontier = opened-zero (arena frontier) refl refl (omega arith);
-      number = opened-zero (arena holes) refl refl (omega arith);
-      total = opened-zero (arena holePages) refl refl (omega arith);
+    loads = load-written (opened n rules b) newArena (record {
+      status = opened-zero (arena state) refl refl refl (omega arith);
+      frontier = opened-zero (arena frontier) refl refl refl (omega arith);
+      number = opened-zero (arena holes) refl refl refl (omega arith);
+      total = opened-zero (arena holePages) refl refl refl (omega arith);
       holes = refl;
-      commits = rw (opened-zero (arena commits) refl refl (omega arith), opened-zero (arena commitsHigh) refl refl (omega arith));
-      reuses = rw (opened-zero (arena reuses) refl refl (omega arith), opened-zero (arena reusesHigh) refl refl (omega arith));
-      abandoned = rw (opened-zero (arena abandoned) refl refl (omega arith), opened-zero (arena abandonedHigh) refl refl (omega arith));
+      commits = rw (opened-zero (arena commits) refl refl refl (omega arith), opened-zero (arena commitsHigh) refl refl refl (omega arith));
+      reuses = rw (opened-zero (arena reuses) refl refl refl (omega arith), opened-zero (arena reusesHigh) refl refl refl (omega arith));
+      abandoned = rw (opened-zero (arena abandoned) refl refl refl (omega arith), opened-zero (arena abandonedHigh) refl refl refl (omega arith));
     });
-    state = opened-zero (arena state) refl refl (omega arith);
-    held = opened-zero (arena held) refl refl (omega arith) ∙ sym (none-held n);
+    state = opened-zero (arena state) refl refl refl (omega arith);
+    held = opened-zero (arena held) refl refl refl (omega arith) ∙ sym (none-held n);
     owners = λ x l. absurd (omega arith);
   }
 
   -- the frontier is 0, so no run is whole
-  none-whole : (c q : ℕ) → Runs.whole n (opened n b) (shapeOf c) c q ≡ false
+  none-whole : (c q : ℕ) → Runs.whole n (opened n rules b) (shapeOf c) c q ≡ false
   unfolding Runs.whole
   none-whole c q =
-      rw (opened-zero (arena frontier) refl refl (omega arith), lt-leb (q + shapeOf c .pages) 0 (omega (arith, shape-sound c .paged))) (and-no (leb (q + shapeOf c .pages) n))
+      rw (opened-zero (arena frontier) refl refl refl (omega arith), lt-leb (q + shapeOf c .pages) 0 (omega (arith, shape-sound c .paged))) (and-no (leb (q + shapeOf c .pages) n))
 
-  pub opened-class : (c : ℕ) → ltb c 76 ≡ true → StateRep n (opened n b) c (shapeOf c) newClass
+  pub opened-class : (c : ℕ) → ltb c 76 ≡ true → StateRep n (opened n rules b) c (shapeOf c) newClass
   opened-class c hc = record {
-    chain = record { links = opened-row partial c hc (omega arith); distinct = tt; below = λ x i. absurd i };
-    store = record { line = opened-row empty c hc (omega arith); number = opened-row emptyCount c hc (omega arith); few = omega arith };
-    beside = record { line = opened-row cold c hc (omega arith); number = opened-row coldCount c hc (omega arith); few = omega arith };
+    chain = record { links = opened-row partial c hc refl (omega arith); distinct = tt; below = λ x i. absurd i };
+    store = record { line = opened-row empty c hc refl (omega arith); number = opened-row emptyCount c hc refl (omega arith); few = omega arith };
+    beside = record { line = opened-row cold c hc refl (omega arith); number = opened-row coldCount c hc refl (omega arith); few = omega arith };
     partials = tt;
     parked = tt;
     parkeds = tt;
@@ -104,6 +162,10 @@ module _ (n : ℕ) (b : List ℕ) (long : leb (words n) (length b) ≡ true) whe
     runs = λ q. rw (none-whole c q);
   }
 
-  pub opened-represents : Represents n (opened n b) newHeap
+  opened-rule : (c : ℕ) → ltb c 76 ≡ true → limitsAt (opened n rules b) c ≡ rules c
+  unfolding opened head
+  opened-rule c hc = ruled-at n (put (cleared b headWords) (arena size) n) head-long rules 76 c (omega arith) (ltb-true c 76 hc)
+
+  pub opened-represents : ((c : ℕ) → Fit (rules c)) → Represents n (opened n rules b) (newHeap rules)
   unfolding newHeap
-  opened-represents = record { arena = opened-rep; classes = opened-class }
+  opened-represents fit = record { arena = opened-rep; classes = opened-class; rules = λ c hc. record { same = opened-rule c hc; fit = fit c } }

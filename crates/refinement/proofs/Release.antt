@@ -15,7 +15,8 @@ use Rattle.facts.specs.Lists.{every, count}
 use Rattle.facts.proofs.Bools.{by-cases, and-left}
 use Rattle.words.specs.Host.{discardZeroed}
 use Rattle.classes.specs.declared.Shape.{Shape}
-use Rattle.classes.specs.Shape.{smallShape, mediumShape, shapeOf}
+use Rattle.rules.specs.declared.Limits.{Limits}
+use Rattle.rules.specs.Rules.{Fit}
 use Rattle.fields.specs.Field.{class, page, emptyCount, coldCount, free, carved, get}
 use Rattle.fields.specs.Ranges.{maxPages}
 use Rattle.fields.proofs.Changes.{changes-none}
@@ -31,22 +32,13 @@ use Rattle.model.specs.declared.Spot.the-variants.{ToCold}
 use Rattle.model.specs.Spot.{keepsEmpty, spotOf, arenaFate, fateOf}
 use Rattle.calls.specs.Release.{Released, released, unlisted, relisted, parkCold, parkAs, parkAt, giveBackAt, emptied, markRetired}
 use Rattle.calls.specs.Chunks.{chunkBackAt}
-use Rattle.refinement.specs.Represents.{PageRep, firsts, ClassRep}
+use Rattle.refinement.specs.Represents.{PageRep, firsts, ClassRep, RuleRep}
 use Rattle.refinement.proofs.Basics.{Setting, setting-kept}
-use Rattle.refinement.proofs.Frames.{ofClass, Only, only-trans, data-owns, whole-kept, whole-in, whole-owner}
+use Rattle.refinement.proofs.Frames.{ofClass, Only, only-trans, only-rule, data-owns, whole-kept, whole-in, whole-owner}
 use Rattle.refinement.proofs.Moves.{swap, at-full, to-store, stow-only}
 use Rattle.refinement.proofs.Pushes.{anew-data, anew-only, anew-marked, anew-holds, carve-first, carve-rep}
 use Rattle.refinement.proofs.Found.{Away, Placed, among, aside, placed-rep, placed-data, placed-out, out-only, placed-in, in-only}
 use Rattle.refinement.proofs.Returned.{none-is, none-idle, return-data, return-only, return-rep, blank, emptied-data, emptied-only, emptied-rep}
-
--- the stores' limits fit their counts
-pub record Limits (sh : Shape) : Type 0 where
-  pub empty : sh .empties ≤ 256
-  pub cold : sh .colds ≤ 256
-
-pub shape-limits : (c : ℕ) → Limits (shapeOf c)
-unfolding shapeOf smallShape mediumShape
-shape-limits c = by-cases (ltb c 64) (λ e. rw e (record { empty = omega arith; cold = omega arith })) (λ e. rw e (record { empty = omega arith; cold = omega arith }))
 
 -- page q stays with the class, or waits in no list to be given; `given` is the fate that says so. Pages zs waited before
 pub data SettledRep (n : ℕ) (b : List ℕ) (c : ℕ) (sh : Shape) (zs : List Page) (given q : ℕ) : Released → Settled → Type 0 where
@@ -85,7 +77,7 @@ cold-stays sh = go (isMedium sh)
     go false e = omega arith
 
 -- ---- a page in no list that has no block out; m is the model's, which comes back as p
-module _ {n : ℕ} {b : List ℕ} {c : ℕ} {sh : Shape} (s : Setting n b c sh) (lim : Limits sh) (h : ℕ) (t : Class) (zs : List Page) (m p : Page)
+module _ {n : ℕ} {b : List ℕ} {c : ℕ} {sh : Shape} (s : Setting n b c sh) (lim : Limits) (fit : Fit lim) (h : ℕ) (t : Class) (zs : List Page) (m p : Page)
     (same : reused sh m ≡ p) (mf : m .first ≡ p .first) (idle : (i : ℕ) → marked b sh (p .first) i ≡ 0) (r : Away n b c sh t (p ∷ zs)) where
   in-empty : length (t .empty) < 256 → SettledRep n b c sh zs 2 (p .first) (released (stow b c Empty (p .first)) 0) (parkEmpty sh t m)
   in-empty few =
@@ -119,18 +111,18 @@ module _ {n : ℕ} {b : List ℕ} {c : ℕ} {sh : Shape} (s : Setting n b c sh) 
   away : SettledRep n b c sh zs 2 (p .first) (released b 2) (letGo sh t m)
   away = subst (λ z. SettledRep n b c sh zs 2 (p .first) (released b 2) (record { class = t; fate = 2; gives = z ∷ [] })) (sym mf) (goes p refl r (changes-none (ofClass b c) b))
 
-  park-rep : SettledRep n b c sh zs 2 (p .first) (parkAs b c sh h (p .first) (spotIn sh t)) (park sh h t m)
+  park-rep : SettledRep n b c sh zs 2 (p .first) (parkAs b c sh h (p .first) (spotIn sh lim t)) (park sh lim h t m)
   unfolding spotOf park
   park-rep =
-      by-cases (keepsEmpty sh (length (t .empty)))
+      by-cases (keepsEmpty sh lim (length (t .empty)))
       (λ e. rw e (in-empty (omega (
         arith,
-        lim .empty,
-        ltb-true (length (t .empty)) (sh .empties)
-            (and-left (ltb (length (t .empty)) (sh .empties)) (leb (suc (length (t .empty)) * sh .pages) (sh .emptypages)) e),
+        fit .empty,
+        ltb-true (length (t .empty)) (lim .empty)
+            (and-left (ltb (length (t .empty)) (lim .empty)) (leb (suc (length (t .empty)) * sh .pages) (sh .emptypages)) e),
       ))))
-      (λ e. by-cases (ltb (length (t .cold)) (sh .colds))
-      (λ u. rw (e, u) (in-cold (omega (arith, lim .cold, ltb-true (length (t .cold)) (sh .colds) u))))
+      (λ e. by-cases (ltb (length (t .cold)) (lim .cold))
+      (λ u. rw (e, u) (in-cold (omega (arith, fit .cold, ltb-true (length (t .cold)) (lim .cold) u))))
       (λ u. rw (e, u) away))
 
 -- ---- a page at its site
@@ -145,18 +137,18 @@ module _ {n : ℕ} {b : List ℕ} {c : ℕ} {sh : Shape} {zs : List Page} where
   cold-number (among t f r) = r .beside .number ∙ length-firsts (thawed sh) (t .cold)
   cold-number (aside t f r) = r .beside .number ∙ length-firsts (thawed sh) (t .cold)
 
-  parked-rep : Setting n b c sh → n ≤ maxPages → Limits sh → (h : ℕ) {l : ℕ} (m p : Page) {x : Site} → reused sh m ≡ p → m .first ≡ p .first → noneOut sh p ≡ true
-      → Placed n b c sh zs l p x → SettledRep n b c sh zs 2 (p .first) (parkAt b c sh h (p .first)) (park sh h (x .without) m)
+  parked-rep : Setting n b c sh → n ≤ maxPages → {lim : Limits} → RuleRep b c lim → (h : ℕ) {l : ℕ} (m p : Page) {x : Site} → reused sh m ≡ p → m .first ≡ p .first → noneOut sh p ≡ true
+      → Placed n b c sh zs l p x → SettledRep n b c sh zs 2 (p .first) (parkAt b c sh h (p .first)) (park sh lim h (x .without) m)
   unfolding parkAt
-  parked-rep s hn lim h m p {x} same mf none pl =
+  parked-rep s hn {lim} rl h m p {x} same mf none pl =
       let b₁ = unlisted b c (p .first) in
       let o = out-only s pl in
       let s₁ = setting-kept b₁ (o .long) s in
       let r = placed-out s pl in
-      rw (empty-number pl, cold-number pl) (settled-from o (park-rep s₁ lim h (x .without) zs m p same mf (none-idle s₁ hn (r .fulls .0) none) r))
+      rw (rl .same, empty-number pl, cold-number pl) (settled-from o (park-rep s₁ lim (rl .fit) h (x .without) zs m p same mf (none-idle s₁ hn (r .fulls .0) none) r))
 
 -- ---- blocks ws of the page come back
-module _ {n : ℕ} {b : List ℕ} {c : ℕ} {sh : Shape} {zs : List Page} (s : Setting n b c sh) (hn : n ≤ maxPages) (lim : Limits sh) (h : ℕ)
+module _ {n : ℕ} {b : List ℕ} {c : ℕ} {sh : Shape} {zs : List Page} (s : Setting n b c sh) (hn : n ≤ maxPages) {lim : Limits} (rl : RuleRep b c lim) (h : ℕ)
     {l : ℕ} (x : Site) (pl : Placed n b c sh zs l (x .page) x) (ws : List ℕ) (outs : every (λ w. isOut sh w (x .page)) ws ≡ true) (once : (w : ℕ) → count w ws ≤ 1) where
   d : List ℕ
   d = back b (x .page .first) (map (indexOf sh (x .page .first)) ws)
@@ -167,6 +159,9 @@ module _ {n : ℕ} {b : List ℕ} {c : ℕ} {sh : Shape} {zs : List Page} (s : S
 
   s₁ : Setting n d c sh
   s₁ = setting-kept d (o .long) s
+
+  rl₁ : RuleRep d c lim
+  rl₁ = only-rule c o c (s .row) rl
 
   back-rep : PageRep n sh d c l (returned ws (x .page))
   unfolding d
@@ -186,9 +181,9 @@ module _ {n : ℕ} {b : List ℕ} {c : ℕ} {sh : Shape} {zs : List Page} (s : S
   none-back = sym (none-is s₁ hn back-rep)
 
   module _ (e : noneOut sh (returned ws (x .page)) ≡ true) where
-    parked-back : SettledRep n d c sh zs 2 (x .page .first) (parkAt d c sh h (x .page .first)) (park sh h (x .without) (returned ws (x .page)))
+    parked-back : SettledRep n d c sh zs 2 (x .page .first) (parkAt d c sh h (x .page .first)) (park sh lim h (x .without) (returned ws (x .page)))
     unfolding returned reused
-    parked-back = parked-rep s₁ hn lim h (returned ws (x .page)) (returned ws (x .page)) refl refl e placed-back
+    parked-back = parked-rep s₁ hn rl₁ h (returned ws (x .page)) (returned ws (x .page)) refl refl e placed-back
 
     -- the words forget a retired page's blocks at once, the model when it comes back; a small class's page only
     module _ (small : isMedium sh ≡ false) where
@@ -208,17 +203,17 @@ module _ {n : ℕ} {b : List ℕ} {c : ℕ} {sh : Shape} {zs : List Page} (s : S
       unfolding returned
       placed-empty = placed-data s₁ (blank (x .page .first)) refl (emptied-data s₁ (back-rep .holds)) (emptied-rep s₁ (back-rep .holds) idle) placed-back
 
-      retired-back : SettledRep n d c sh zs 6 (x .page .first) (markRetired (parkAt (emptied d (x .page .first)) c sh h (x .page .first))) (Model.markRetired (park sh h (x .without) (retire (x .page))))
+      retired-back : SettledRep n d c sh zs 6 (x .page .first) (markRetired (parkAt (emptied d (x .page .first)) c sh h (x .page .first))) (Model.markRetired (park sh lim h (x .without) (retire (x .page))))
       unfolding returned retire noneOut carvedWords
       retired-back =
           settled-from (emptied-only s₁ (back-rep .holds))
-          (retired-settled (parked-rep s₂ hn lim h (retire (x .page)) (blank (x .page .first)) retired-same refl refl placed-empty))
+          (retired-settled (parked-rep s₂ hn (only-rule c (emptied-only s₁ (back-rep .holds)) c (s .row) rl₁) h (retire (x .page)) (blank (x .page .first)) retired-same refl refl placed-empty))
 
-  pub settle-list : SettledRep n b c sh zs 2 (x .page .first) (giveBackAt b c sh h (x .page .first) (map (indexOf sh (x .page .first)) ws)) (settle sh h false ws x)
+  pub settle-list : SettledRep n b c sh zs 2 (x .page .first) (giveBackAt b c sh h (x .page .first) (map (indexOf sh (x .page .first)) ws)) (settle sh lim h false ws x)
   unfolding giveBackAt settle d
   settle-list = rw none-back (settled-cond (noneOut sh (returned ws (x .page))) (λ e. settled-from o (parked-back e)) (λ e. kept 2 not-given))
 
-  pub settle-chunk : isMedium sh ≡ false → SettledRep n b c sh zs 6 (x .page .first) (chunkBackAt b c sh h (x .page .first) (map (indexOf sh (x .page .first)) ws)) (settle sh h true ws x)
+  pub settle-chunk : isMedium sh ≡ false → SettledRep n b c sh zs 6 (x .page .first) (chunkBackAt b c sh h (x .page .first) (map (indexOf sh (x .page .first)) ws)) (settle sh lim h true ws x)
   unfolding chunkBackAt settle d
   settle-chunk small =
       rw none-back

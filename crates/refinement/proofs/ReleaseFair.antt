@@ -7,14 +7,15 @@ use native.Mathlib.Omega.{arith}
 use mathlib.Core.Bool.{Bool, true, false, cond, _&&_}
 use mathlib.Core.List.{List, [], _∷_, _++_}
 use mathlib.Core.Logic.{inl}
-use mathlib.Core.Path.{_≡_, refl}
+use mathlib.Core.Path.{_≡_, refl, ap}
 use lib.Dec.{eqb, leb}
 use lib.ListN.{length}
 use borrow.Author.Tests.{le-leb}
 use Rattle.classes.specs.declared.Shape.{Shape}
 use Rattle.classes.specs.Shape.{shapeOf}
 use Rattle.classes.proofs.Shapes.{shape-sound}
-use Rattle.fields.specs.Field.{arena, class, page, partial, empty, emptyCount, cold, coldCount, next, prev, free, carved, frontier, get}
+use Rattle.rules.specs.declared.Limits.{Limits}
+use Rattle.fields.specs.Field.{arena, class, page, partial, empty, emptyCount, cold, coldCount, emptyLimit, coldLimit, next, prev, free, carved, frontier, get}
 use Rattle.model.specs.Page.{Page}
 use Rattle.model.specs.Heap.{Heap}
 use Rattle.model.specs.Release.{Site}
@@ -25,7 +26,7 @@ use Rattle.model.specs.Spot.{isArena}
 use Rattle.pages.specs.Fair.{headerFair}
 use Rattle.calls.specs.Release.{pageFair, rowFair, spotAt, spotFair, releaseFair}
 use Rattle.refinement.specs.Chain.{In, Line}
-use Rattle.refinement.specs.Represents.{firsts, heads, ClassRep, Represents}
+use Rattle.refinement.specs.Represents.{firsts, heads, ClassRep, RuleRep, Represents}
 use Rattle.refinement.proofs.Basics.{Setting, digit-small}
 use Rattle.refinement.proofs.Lists.{in-count}
 use Rattle.refinement.proofs.Frames.{whole-below}
@@ -50,9 +51,9 @@ module _ {n : ℕ} {b : List ℕ} {c : ℕ} {sh : Shape} (s : Setting n b c sh) 
   under : (z : ℕ) → 1 ≤ heads z ps + heads z xs + heads z ys + heads z fs → suc z ≤ get b (arena frontier)
   under z h = each-listed (s .shape) (λ z. suc z ≤ get b (arena frontier)) (whole-below n b (s .shape) c) z r h
 
-  pub row-fair : rowFair b c ≡ true
+  pub row-fair : {lim : Limits} → RuleRep b c lim → rowFair b c ≡ true
   unfolding rowFair
-  row-fair =
+  row-fair rl =
       let f = get b (arena frontier) in
       rw (
         code-fair (get b (class partial c)) f (each-head (s .shape) (λ z. suc z ≤ get b (arena frontier)) (whole-below n b (s .shape) c) r),
@@ -60,6 +61,8 @@ module _ {n : ℕ} {b : List ℕ} {c : ℕ} {sh : Shape} (s : Setting n b c sh) 
         le-leb (get b (class emptyCount c)) 256 (omega (arith, r .store .number, r .store .few)),
         code-fair (get b (class cold c)) f (λ z e. under z (omega (arith, in-count z (firsts ys) (line-page b (get b (class cold c)) (firsts ys) z (r .beside .line) e)))),
         le-leb (get b (class coldCount c)) 256 (omega (arith, r .beside .number, r .beside .few)),
+        le-leb (get b (class emptyLimit c)) 256 (rw (ap (λ l. l .empty) (rl .same)) (rl .fit .empty)),
+        le-leb (get b (class coldLimit c)) 256 (rw (ap (λ l. l .cold) (rl .same)) (rl .fit .cold)),
       )
 
 -- the links of a page of the partial list
@@ -100,9 +103,9 @@ module _ {n : ℕ} {b : List ℕ} {c : ℕ} {sh : Shape} (s : Setting n b c sh) 
         digit-small (p .virgin),
       )
 
-  pub placed-row : {l : ℕ} {p : Page} {x : Site} → Placed n b c sh zs l p x → rowFair b c ≡ true
-  placed-row (among t f r) = row-fair s r
-  placed-row (aside t f r) = row-fair s r
+  pub placed-row : {lim : Limits} → RuleRep b c lim → {l : ℕ} {p : Page} {x : Site} → Placed n b c sh zs l p x → rowFair b c ≡ true
+  placed-row rl (among t f r) = row-fair s r rl
+  placed-row rl (aside t f r) = row-fair s r rl
 
 if-true : (t u : Bool) → u ≡ true → cond t u true ≡ true
 if-true true u e = e
@@ -124,7 +127,7 @@ module _ (n : ℕ) (b : List ℕ) (H : Heap) (R : Represents n b H) (ok : Reache
       rw (
         frontier-fair,
         page-fair s m room pl,
-        placed-row s pl,
+        placed-row s (R .rules c (s .row)) pl,
         if-true (eqb (get b (page free (p .first)) + m) (get b (page carved (p .first))) && isArena (spotAt b c sh)) (giveFair n b (sh .pages))
             (run-fair (p .first) (placed-rep pl .holds .run)),
       )

@@ -56,7 +56,7 @@ module _ (n c : ℕ) (hc : ltb c 76 ≡ true) where
     held = run-held n b H (R .arena) (shapeOf c) c (p .first) (state .fulls .0 .holds .run)
 
     unfoldable pub next : Heap
-    next = heapOf (give (shapeOf c .pages) (p .first) (H .arena)) (passTo nobody (covers (shapeOf c .pages) (p .first)) (H .holder)) (update (H .classes) c s)
+    next = heapOf (H .rules) (give (shapeOf c .pages) (p .first) (H .arena)) (passTo nobody (covers (shapeOf c .pages) (p .first)) (H .holder)) (update (H .classes) c s)
 
     pub next-reached : Reached n next
     unfolding next
@@ -87,11 +87,12 @@ module _ (n c : ℕ) (hc : ltb c 76 ≡ true) where
 
   gives-represent : (ps : List Page) (s : Class) (b : List ℕ) (H : Heap) → Reached n H → Represents n b H → H .classes c ≡ waiting s ps
       → Represents n (giveRuns b (shapeOf c .pages) (firsts ps))
-      (heapOf (giveAll (shapeOf c .pages) (firsts ps) (H .arena)) (passTo nobody (coversAll (shapeOf c .pages) (firsts ps)) (H .holder)) (update (H .classes) c s))
+      (heapOf (H .rules) (giveAll (shapeOf c .pages) (firsts ps) (H .arena)) (passTo nobody (coversAll (shapeOf c .pages) (firsts ps)) (H .holder)) (update (H .classes) c s))
   unfolding next
   gives-represent [] s b H ok R e = record {
     arena = rep-classes n b H (update (H .classes) c s) (R .arena);
     classes = classes-with n b H c s (subst (λ (t : Class). StateRep n b c (shapeOf c) t) e (R .classes c hc)) (λ d hd ne. R .classes d hd);
+    rules = R .rules;
   }
   gives-represent (p ∷ ps) s b H ok R e =
       let t = waiting s ps in
@@ -101,15 +102,15 @@ module _ (n c : ℕ) (hc : ltb c 76 ≡ true) where
       let a₁ = giveAll (shapeOf c .pages) (firsts ps) (give (shapeOf c .pages) (p .first) (H .arena)) in
       let w₁ = passTo nobody (coversAll (shapeOf c .pages) (firsts ps)) (passTo nobody (covers (shapeOf c .pages) (p .first)) (H .holder)) in
       let ih = gives-represent ps s b₁ (next p (waiting s ps) b H ok R e) (next-reached p t b H ok R e) (next-represents p t b H ok R e) (next-class p t b H ok R e) in
-      subst (λ (w : ℕ → Holder). Represents n (giveRuns b₁ m qs) (heapOf a₁ w (update (H .classes) c s)))
+      subst (λ (w : ℕ → Holder). Represents n (giveRuns b₁ m qs) (heapOf (H .rules) a₁ w (update (H .classes) c s)))
       (fun-ext (λ x. passed-twice (covers m (p .first) x) (coversAll m qs x) (H .holder x)))
-      (subst (λ (f : ℕ → Class). Represents n (giveRuns b₁ m qs) (heapOf a₁ w₁ f)) (updated-twice (H .classes) c (waiting s ps) s) ih)
+      (subst (λ (f : ℕ → Class). Represents n (giveRuns b₁ m qs) (heapOf (H .rules) a₁ w₁ f)) (updated-twice (H .classes) c (waiting s ps) s) ih)
 
 -- ---- after a call changed words of class c only, which is left with the pages ps that go to the arena; qs are their runs
 module _ (n : ℕ) (b : List ℕ) (H : Heap) (R : Represents n b H) (ok : Reached n H) (c : ℕ) (hc : ltb c 76 ≡ true) (b′ : List ℕ) (only : Only c b b′) (s : Class) (ps : List Page)
     (rep : StateRep n b′ c (shapeOf c) (waiting s ps)) where
   unfoldable pub left : Heap
-  left = heapOf (H .arena) (H .holder) (update (H .classes) c (waiting s ps))
+  left = heapOf (H .rules) (H .arena) (H .holder) (update (H .classes) c (waiting s ps))
 
   pub left-represents : Represents n b′ left
   unfolding left
@@ -129,10 +130,10 @@ module _ (n : ℕ) (b : List ℕ) (H : Heap) (R : Represents n b H) (ok : Reache
 
   pub all-given : (qs : List ℕ) → firsts ps ≡ qs
       → Represents n (giveRuns b′ (shapeOf c .pages) qs)
-      (heapOf (giveAll (shapeOf c .pages) qs (H .arena)) (passTo nobody (coversAll (shapeOf c .pages) qs) (H .holder)) (update (H .classes) c s))
+      (heapOf (H .rules) (giveAll (shapeOf c .pages) qs (H .arena)) (passTo nobody (coversAll (shapeOf c .pages) qs) (H .holder)) (update (H .classes) c s))
   unfolding left
   all-given qs e =
       let m = shapeOf c .pages in
-      subst (λ (l : List ℕ). Represents n (giveRuns b′ m l) (heapOf (giveAll m l (H .arena)) (passTo nobody (coversAll m l) (H .holder)) (update (H .classes) c s))) e
-      (subst (λ (f : ℕ → Class). Represents n (giveRuns b′ m (firsts ps)) (heapOf (giveAll m (firsts ps) (H .arena)) (passTo nobody (coversAll m (firsts ps)) (H .holder)) f))
+      subst (λ (l : List ℕ). Represents n (giveRuns b′ m l) (heapOf (H .rules) (giveAll m l (H .arena)) (passTo nobody (coversAll m l) (H .holder)) (update (H .classes) c s))) e
+      (subst (λ (f : ℕ → Class). Represents n (giveRuns b′ m (firsts ps)) (heapOf (H .rules) (giveAll m (firsts ps) (H .arena)) (passTo nobody (coversAll m (firsts ps)) (H .holder)) f))
       (updated-twice (H .classes) c (waiting s ps) s) (gives-represent n c hc ps s b′ left left-reached left-represents left-class))

@@ -15,6 +15,7 @@ use borrow.Author.Tests.{eqb-true, ne-eqb}
 use Rattle.facts.specs.Lists.{every, isSome, distinct, count}
 use Rattle.facts.proofs.Bools.{by-cases, and-left}
 use Rattle.classes.specs.Shape.{shapeOf}
+use Rattle.rules.specs.Rules.{Rules}
 use Rattle.fields.specs.Ranges.{maxPages}
 use Rattle.fields.proofs.Changes.{changes-none}
 use Rattle.model.specs.Calls as Calls
@@ -39,7 +40,7 @@ use Rattle.refinement.proofs.Book.{setting-of, represents-class}
 use Rattle.refinement.proofs.Found.{Located, located, located-passes, At, found-at, placed-rep, same-page, same-pages, outs-here}
 use Rattle.refinement.proofs.OutTests.{once-here, fault-same}
 use Rattle.refinement.proofs.Returned.{return-room}
-use Rattle.refinement.proofs.Release.{shape-limits, SettledRep, stays, goes, settle-list}
+use Rattle.refinement.proofs.Release.{SettledRep, stays, goes, settle-list}
 use Rattle.refinement.proofs.ReleaseFair.{release-fair}
 use Rattle.refinement.proofs.ReleaseGives.{all-given}
 
@@ -62,19 +63,19 @@ module _ (n : ℕ) (hn : n ≤ maxPages) (b : List ℕ) (H : Heap) (R : Represen
 
   at-page : (x : Site) → At n b c (shapeOf c) [] x → (q : ℕ) → q ≡ x .page .first → (ws : List ℕ) → distinct ws ≡ true
       → every (λ v. isOut (shapeOf c) v (x .page)) ws ≡ every (λ v. eqb (startOf b v) (x .page .first)) ws
-      → ReleaseRep (rest q ws) (onPage (shapeOf c) h (H .classes c) ws (some x))
+      → ReleaseRep (rest q ws) (onPage (shapeOf c) (H .rules c) h (H .classes c) ws (some x))
   unfolding rest onPage
   at-page x a q e ws once same =
       by-cases (every (λ v. isOut (shapeOf c) v (x .page)) ws)
       (λ u. let few : (w : ℕ) → count w ws ≤ 1 = λ w. distinct-count w ws once in
       let room = return-room s hn (placed-rep (a .placed)) ws u few in
       rw (e, sym same ∙ u, u, release-fair n b H R ok c s (length ws) (omega arith) (a .placed))
-      (did (x .page .first) (settle-list s hn (shape-limits c) h x (a .placed) ws u few)))
+      (did (x .page .first) (settle-list s hn (R .rules c hc) h x (a .placed) ws u few)))
       (λ u. rw (e, sym same ∙ u, u) (denied 11 refl (λ z. omega arith)))
 
   module _ (w : ℕ) (ws : List ℕ) (k : every (ofKind (shapeOf c .kind)) (w ∷ ws) ≡ true) (o : every (outAt n b c (shapeOf c)) (w ∷ ws) ≡ true) (once : distinct (w ∷ ws) ≡ true) where
     on-page : (x : Option Site) → Located (isOut (shapeOf c) w) (H .classes c) x → isSome x ≡ true
-        → ReleaseRep (rest (startOf b w) (w ∷ ws)) (onPage (shapeOf c) h (H .classes c) (w ∷ ws) x)
+        → ReleaseRep (rest (startOf b w) (w ∷ ws)) (onPage (shapeOf c) (H .rules c) h (H .classes c) (w ∷ ws) x)
     on-page none y e = absurd (false≢true e)
     on-page (some x) y e =
         let sh = shapeOf c in
@@ -90,7 +91,7 @@ module _ (n : ℕ) (hn : n ≤ maxPages) (b : List ℕ) (H : Heap) (R : Represen
       → ReleaseRep (cond (not (eqb (outFault n b c (shapeOf c) (w ∷ ws)) 0)) (releasedNone b (outFault n b c (shapeOf c) (w ∷ ws))) (rest (startOf b w) (w ∷ ws)))
       (cond (repeats (shapeOf c) (H .classes c) (w ∷ ws)) (refuse (H .classes c) 15)
       (cond (not (every (outHere (shapeOf c) (H .classes c)) (w ∷ ws))) (refuse (H .classes c) 10)
-      (onPage (shapeOf c) h (H .classes c) (w ∷ ws) (locate (isOut (shapeOf c) w) (H .classes c)))))
+      (onPage (shapeOf c) (H .rules c) h (H .classes c) (w ∷ ws) (locate (isOut (shapeOf c) w) (H .classes c)))))
   unfolding outHere
   past-ten w ws k =
       let sh = shapeOf c in
@@ -102,7 +103,7 @@ module _ (n : ℕ) (hn : n ≤ maxPages) (b : List ℕ) (H : Heap) (R : Represen
       (λ o. rw (u, o) (on-page w ws k (same ∙ o) (once-here sh t (w ∷ ws) u o) (locate (isOut sh w) t) (located (isOut sh w) t) (and-left (outHere sh t w) (every (outHere sh t) ws) o)))
       (λ o. rw (u, o) (denied 10 refl (λ z. omega arith)))))
 
-  pub release-rep : (ws : List ℕ) → ReleaseRep (releaseBlocks n b c (shapeOf c) h ws) (releaseList (shapeOf c) h (H .classes c) ws)
+  pub release-rep : (ws : List ℕ) → ReleaseRep (releaseBlocks n b c (shapeOf c) h ws) (releaseList (shapeOf c) (H .rules c) h (H .classes c) ws)
   unfolding releaseBlocks releaseList rest
   release-rep [] = denied 7 refl (λ z. omega arith)
   release-rep (w ∷ ws) =
@@ -128,6 +129,6 @@ module _ (n : ℕ) (hn : n ≤ maxPages) (b : List ℕ) (H : Heap) (R : Represen
   release-whole ws = list-agrees _ _ (release-rep ws)
 
 -- after every history on an arena of n pages
-pub release-after : (n : ℕ) → n ≤ maxPages → (xs : List Call) (b : List ℕ) → Represents n b (heapAfter n xs) → (c : ℕ) → ltb c 76 ≡ true → (h : ℕ) (ws : List ℕ)
-    → Agrees (Represents n) (listReply (releaseBlocks n b c (shapeOf c) h ws)) (classCall n (heapAfter n xs) c (Calls.giveBack h ws))
-release-after n hn xs b R c hc h ws = release-whole n hn b (heapAfter n xs) R (reached-after n xs) c hc h ws
+pub release-after : (n : ℕ) → n ≤ maxPages → (rules : Rules) (xs : List Call) (b : List ℕ) → Represents n b (heapAfter n rules xs) → (c : ℕ) → ltb c 76 ≡ true → (h : ℕ) (ws : List ℕ)
+    → Agrees (Represents n) (listReply (releaseBlocks n b c (shapeOf c) h ws)) (classCall n (heapAfter n rules xs) c (Calls.giveBack h ws))
+release-after n hn rules xs b R c hc h ws = release-whole n hn b (heapAfter n rules xs) R (reached-after n rules xs) c hc h ws

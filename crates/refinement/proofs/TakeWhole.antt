@@ -14,6 +14,7 @@ use lib.ListN.{length}
 use borrow.Author.Tests.{lt-ltb}
 use Rattle.facts.specs.Lists.{isNil, update}
 use Rattle.facts.proofs.Bools.{by-cases}
+use Rattle.rules.specs.Rules.{Rules}
 use Rattle.model.specs.Cover.{covers}
 use Rattle.classes.specs.declared.Shape.{Shape}
 use Rattle.classes.specs.Shape.{shapeOf}
@@ -43,14 +44,14 @@ use Rattle.refinement.specs.Direct.{Agrees}
 use Rattle.refinement.proofs.ArenaReached.{Reached, heapOf, reached-after}
 use Rattle.refinement.proofs.CommitRep.{commit-for}
 use Rattle.refinement.proofs.Basics.{Setting, setting-kept}
-use Rattle.refinement.proofs.Frames.{ofClass, Only, only-trans}
+use Rattle.refinement.proofs.Frames.{ofClass, Only, only-trans, only-rule}
 use Rattle.refinement.proofs.Kept.{class-beside}
 use Rattle.refinement.proofs.Moves.{to-partial, link-only}
 use Rattle.refinement.proofs.Fill.{FillRep, fills}
 use Rattle.refinement.proofs.Take.{TookRep, TakeRep, did, asked, take-own}
 use Rattle.refinement.proofs.Pushes.{carve-first}
 use Rattle.refinement.proofs.Book.{setting-of, frontier-in, classes-with, represents-class}
-use Rattle.refinement.proofs.Join.{none-arena, none-stays, new-setting, new-arena, new-reached, others-stay, class-joins}
+use Rattle.refinement.proofs.Join.{none-arena, none-rule, none-stays, new-rule, new-setting, new-arena, new-reached, others-stay, class-joins}
 
 -- a run just carved has a block
 carve-more : (sh : Shape) (q : ℕ) → 1 ≤ sh .capacity → (t : Bool) → Page.hasMore sh (carveAs sh t q true) ≡ true
@@ -83,6 +84,7 @@ module _ (n : ℕ) (b : List ℕ) (H : Heap) (R : Represents n b H) (ok : Reache
       heap = record {
         arena = none-arena n b H R ok c hc h e (update (H .classes) c (lists [] [] [] fs));
         classes = classes-with n after H c (lists [] [] [] fs) (none-stays n b H R ok c hc h e c hc z) (λ d hd ne. none-stays n b H R ok c hc h e d hd (R .classes d hd));
+        rules = λ d hd. none-rule n b H R ok c hc h e d hd (R .rules d hd);
       };
     }
 
@@ -126,10 +128,11 @@ module _ (n : ℕ) (b : List ℕ) (H : Heap) (R : Represents n b H) (ok : Reache
           answer = rw (f .blocks, f .virgin);
           fair = λ t. omega arith;
           heap = record {
-            arena = arena-only n b₂ _ (heapOf (grant .arena) (passTo (class c) (covers (sh .pages) q) (H .holder)) cs) c (new-reached n b H R ok c hc h q e cs) only
+            arena = arena-only n b₂ _ (heapOf (H .rules) (grant .arena) (passTo (class c) (covers (sh .pages) q) (H .holder)) cs) c (new-reached n b H R ok c hc h q e cs) only
                 (new-arena n b H R ok c hc h q e cs);
             classes = classes-with n _ H c s′ (f .rep)
                 (λ d hd ne. class-beside d c (shape-sound d) hd ne only (others-stay n b H R ok c hc h q e d hd ne (R .classes d hd)));
+            rules = λ d hd. only-rule c only d hd (new-rule n b H R ok c hc h q e d hd (R .rules d hd));
           };
         }
 
@@ -173,6 +176,6 @@ module _ (n : ℕ) (b : List ℕ) (H : Heap) (R : Represents n b H) (ok : Reache
       (frontier-in n b H R ok) (y .partial) (R .classes c hc))))
 
 -- after every history on an arena of n pages
-pub take-after : (n : ℕ) (xs : List Call) (b : List ℕ) → Represents n b (heapAfter n xs) → (c : ℕ) → ltb c 76 ≡ true → (h : ℕ) (l : List ℕ)
-    → Agrees (Represents n) (takeReply (takeCall n b c (shapeOf c) h l)) (classCall n (heapAfter n xs) c (Calls.take h l))
-take-after n xs b R c hc h l = take-whole n b (heapAfter n xs) R (reached-after n xs) c hc (yielding n xs .listed c) h l
+pub take-after : (n : ℕ) (rules : Rules) (xs : List Call) (b : List ℕ) → Represents n b (heapAfter n rules xs) → (c : ℕ) → ltb c 76 ≡ true → (h : ℕ) (l : List ℕ)
+    → Agrees (Represents n) (takeReply (takeCall n b c (shapeOf c) h l)) (classCall n (heapAfter n rules xs) c (Calls.take h l))
+take-after n rules xs b R c hc h l = take-whole n b (heapAfter n rules xs) R (reached-after n rules xs) c hc (yielding n rules xs .listed c) h l

@@ -2,6 +2,7 @@
 --     Holds        the words of one run
 --     PageRep      they stand for a page of the model
 --     ClassRep     the words of one class
+--     RuleRep      its limits
 --     Represents   the whole book
 use Prim.Native.Nat.{ℕ, _+_, _≤_, _<_}
 use mathlib.Core.Bool.{Bool, true}
@@ -13,6 +14,8 @@ use Rattle.facts.specs.Lists.{All, count}
 use Rattle.classes.specs.declared.Shape.{Shape}
 use Rattle.classes.specs.Shape.{shapeOf}
 use Rattle.fields.specs.Field.{page, mark, slot, free, carved, listed, virgin, get}
+use Rattle.rules.specs.declared.Limits.{Limits}
+use Rattle.rules.specs.Rules.{Fit}
 use Rattle.model.specs.Page.{Page, wordOf, reused}
 use Rattle.model.specs.Class.{Class, thawed}
 use Rattle.model.specs.Heap.{Heap}
@@ -20,6 +23,7 @@ use Rattle.arena.specs.Represents.{ArenaRep}
 use Rattle.words.specs.Host.{digit}
 use Rattle.pages.specs.Runs.{whole}
 use Rattle.pages.specs.Stack.{marked}
+use Rattle.pages.specs.Fair.{limitsAt}
 use Rattle.pages.specs.declared.Park.{Park}
 use Rattle.pages.specs.declared.Park.the-variants.{Empty}
 use Rattle.pages.specs.Links.{other}
@@ -78,6 +82,12 @@ pub record ClassRep (n : ℕ) (b : List ℕ) (c : ℕ) (sh : Shape) (k : Park) (
 abbrev pub StateRep : ℕ → List ℕ → ℕ → Shape → Class → Type 0
 StateRep n b c sh s = ClassRep n b c sh Empty (s .partial) (map (reused sh) (s .empty)) (map (thawed sh) (s .cold)) (s .full)
 
+-- the limits in a class's row are these, and in their range
+pub record RuleRep (b : List ℕ) (c : ℕ) (lim : Limits) : Type 0 where
+  pub same : limitsAt b c ≡ lim
+  pub fit : Fit lim
+
 pub record Represents (n : ℕ) (b : List ℕ) (H : Heap) : Type 0 where
   pub arena : ArenaRep n b H
   pub classes : (c : ℕ) → ltb c 76 ≡ true → StateRep n b c (shapeOf c) (H .classes c)
+  pub rules : (c : ℕ) → ltb c 76 ≡ true → RuleRep b c (H .rules c)

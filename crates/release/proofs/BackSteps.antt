@@ -10,7 +10,7 @@ use borrow.Author.Tests.{leb-true, eqb-true, le-leb, lt-ltb, eq-eqb, ne-eqb}
 use Rattle.facts.proofs.Bools.{and-left, and-right}
 use Rattle.classes.specs.declared.Shape.{Shape}
 use Rattle.classes.specs.Sound.{Sound}
-use Rattle.fields.specs.Field.{Field, arena, class, hole, page, region, off, frontier, partial, empty, emptyCount, cold, coldCount, next, prev, free, carved, listed, virgin, get, put, words, ok}
+use Rattle.fields.specs.Field.{Field, arena, class, hole, page, region, off, frontier, partial, empty, emptyCount, cold, coldCount, next, prev, free, carved, listed, virgin, get, put, words, ok, emptyLimit, coldLimit}
 use Rattle.fields.proofs.Laws.{get-put-same, length-put}
 use Rattle.fields.proofs.Changes.{Changes}
 use Rattle.model.specs.declared.Spot.{Spot}
@@ -60,13 +60,13 @@ module _ (b : List ℕ) (q : ℕ) (is : List ℕ) (l : get b (page free q) + len
     row-kept =
         let k = push-changes .kept in
         let o = lt-ltb c 76 hc in
-        rw (k (class partial c) o refl, k (class empty c) o refl, k (class emptyCount c) o refl, k (class cold c) o refl, k (class coldCount c) o refl, k (arena frontier) refl refl)
+        rw (k (class partial c) o refl, k (class empty c) o refl, k (class emptyCount c) o refl, k (class cold c) o refl, k (class coldCount c) o refl, k (class emptyLimit c) o refl, k (class coldLimit c) o refl, k (arena frontier) refl refl)
 
     spot-kept : (sh : Shape) → spotAt (pushed b q is) c sh ≡ spotAt b c sh
     spot-kept sh =
         let k = push-changes .kept in
         let o = lt-ltb c 76 hc in
-        rw (k (class emptyCount c) o refl, k (class coldCount c) o refl)
+        rw (k (class emptyCount c) o refl, k (class coldCount c) o refl, k (class emptyLimit c) o refl, k (class coldLimit c) o refl)
 
 module _ (b : List ℕ) (c : ℕ) (sh : Shape) (h q : ℕ) (ws : List ℕ) where
   slots-left : BackAsks b c sh q ws → get b (page free q) + length (map (indexOf sh q) ws) ≤ 4096

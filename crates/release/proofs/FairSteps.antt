@@ -12,7 +12,9 @@ use lib.Dec.{leb}
 use borrow.Author.Tests.{le-leb, lt-leb, lt-ltb, le-ltb, eq-eqb, ne-eqb, leb-true}
 use Rattle.facts.proofs.Bools.{and-left, and-right}
 use Rattle.classes.specs.declared.Shape.{Shape}
-use Rattle.fields.specs.Field.{arena, class, page, frontier, partial, free, carved, listed, get}
+use Rattle.rules.specs.declared.Limits.{Limits}
+use Rattle.rules.specs.Rules.{limits, Fit}
+use Rattle.fields.specs.Field.{arena, class, page, frontier, partial, emptyLimit, coldLimit, free, carved, listed, get}
 use Rattle.fields.specs.Ranges.{maxParked}
 use Rattle.model.specs.declared.Spot.{Spot}
 use Rattle.model.specs.declared.Spot.the-variants.{ToEmpty, ToCold, ToArena}
@@ -21,7 +23,7 @@ use Rattle.arena.specs.Fair.{giveFair}
 use Rattle.pages.specs.declared.Park.{Park}
 use Rattle.pages.specs.declared.Park.the-variants.{Empty, Cold}
 use Rattle.pages.specs.Links.{top, stored}
-use Rattle.pages.specs.Fair.{headerFair, linksFair, storeFair}
+use Rattle.pages.specs.Fair.{headerFair, linksFair, storeFair, limitsAt, limitsFair}
 use Rattle.pages.proofs.FairLaws.{carved-low, room-left}
 use Rattle.calls.specs.Release.{pageFair, rowFair, spotAt, spotFair, releaseFair}
 use Rattle.release.specs.Fair.{FairAsks, SpotFairAsks}
@@ -59,7 +61,7 @@ module _ (b : List ℕ) (sh : Shape) (m q : ℕ) where
 
 -- ---- a row
 module _ (b : List ℕ) (c : ℕ) where
-  stores-fair : rowFair b c ≡ true → (storeFair b c Empty && storeFair b c Cold) ≡ true
+  stores-fair : rowFair b c ≡ true → (storeFair b c Empty && (storeFair b c Cold && limitsFair b c)) ≡ true
   unfolding rowFair
   stores-fair e = and-right (leb (get b (class partial c)) (get b (arena frontier))) _ e
 
@@ -68,7 +70,15 @@ module _ (b : List ℕ) (c : ℕ) where
 
   pub count-low : (p : Park) → rowFair b c ≡ true → get b (class (stored p) c) ≤ maxParked
   count-low Empty e = count-of Empty (and-left (storeFair b c Empty) _ (stores-fair e))
-  count-low Cold e = count-of Cold (and-right (storeFair b c Empty) _ (stores-fair e))
+  count-low Cold e = count-of Cold (and-left (storeFair b c Cold) _ (and-right (storeFair b c Empty) _ (stores-fair e)))
+
+  pub limits-low : rowFair b c ≡ true → Fit (limitsAt b c)
+  limits-low e =
+      let l = and-right (storeFair b c Cold) _ (and-right (storeFair b c Empty) _ (stores-fair e)) in
+      record {
+        empty = leb-true (get b (class emptyLimit c)) maxParked (and-left (leb (get b (class emptyLimit c)) maxParked) _ l);
+        cold = leb-true (get b (class coldLimit c)) maxParked (and-right (leb (get b (class emptyLimit c)) maxParked) _ l);
+      }
 
   pub head-low : rowFair b c ≡ true → get b (class partial c) ≤ get b (arena frontier)
   unfolding rowFair
@@ -83,9 +93,23 @@ module _ (b : List ℕ) (c : ℕ) where
     unfolding rowFair
     no-empty r k h = rw (← k, h) (simp and-false)
 
-    pub cold-last : (r s : Bool) → x ≤ f → r ≡ storeFair b c Empty → r ≡ true → s ≡ storeFair b c Cold → s ≡ rowFair b c
+    pub no-cold : (r s : Bool) → r ≡ storeFair b c Empty → r ≡ true → s ≡ storeFair b c Cold → s ≡ false → false ≡ rowFair b c
     unfolding rowFair
-    cold-last r s l k h j = rw (← k, h, ← j, ← e, ← u, le-leb x f l)
+    no-cold r s k h j i = rw (← k, h, ← j, i) (simp and-false)
+
+    pub limits-last : (r s t : Bool) → x ≤ f → r ≡ storeFair b c Empty → r ≡ true → s ≡ storeFair b c Cold → s ≡ true → t ≡ limitsFair b c → t ≡ rowFair b c
+    unfolding rowFair
+    limits-last r s t l k h j i m = rw (← k, h, ← j, i, ← m, ← e, ← u, le-leb x f l)
+
+  module _ (x : ℕ) (e : x ≡ get b (class emptyLimit c)) where
+    pub high-empty : maxParked < x → false ≡ limitsFair b c
+    high-empty h = rw (← e, lt-leb x maxParked h)
+
+    pub limits-there : (y : ℕ) → y ≡ get b (class coldLimit c) → limits x y ≡ limitsAt b c
+    limits-there y k = rw (e, k)
+
+    pub limits-told : (y : ℕ) → x ≤ maxParked → y ≡ get b (class coldLimit c) → leb y maxParked ≡ limitsFair b c
+    limits-told y h k = rw (← e, ← k, le-leb x maxParked h)
 
 -- ---- where a page with none out goes
 pub spot-fits : (e p : ℕ) → e ≤ maxParked → p ≤ 8 → Fits w32 ((e + 1) * p)
@@ -93,28 +117,28 @@ spot-fits e p h l =
     let m : (e + 1) * p ≤ 257 * 8 = mul-le-mul {n₁ = e + 1} {n₂ = 257} (omega arith) l in
     record { fits = omega arith }
 
-module _ (sh : Shape) (e : ℕ) where
-  pub many-empty : sh .empties ≤ e → false ≡ keepsEmpty sh e
-  many-empty h = rw (le-ltb e (sh .empties) h)
+module _ (sh : Shape) (lim : Limits) (e : ℕ) where
+  pub many-empty : lim .empty ≤ e → false ≡ keepsEmpty sh lim e
+  many-empty h = rw (le-ltb e (lim .empty) h)
 
-  pub pages-left : e < sh .empties → leb ((e + 1) * sh .pages) (sh .emptypages) ≡ keepsEmpty sh e
-  pages-left h = rw (lt-ltb e (sh .empties) h, add-one e)
+  pub pages-left : e < lim .empty → leb ((e + 1) * sh .pages) (sh .emptypages) ≡ keepsEmpty sh lim e
+  pages-left h = rw (lt-ltb e (lim .empty) h, add-one e)
 
-  module _ (r : Bool) (x : r ≡ keepsEmpty sh e) (k : ℕ) where
-    pub spot-empty : r ≡ true → ToEmpty ≡ spotOf sh e k
+  module _ (r : Bool) (x : r ≡ keepsEmpty sh lim e) (k : ℕ) where
+    pub spot-empty : r ≡ true → ToEmpty ≡ spotOf sh lim e k
     unfolding spotOf
     spot-empty h = rw (← x, h)
 
-    pub spot-cold : r ≡ false → k < sh .colds → ToCold ≡ spotOf sh e k
+    pub spot-cold : r ≡ false → k < lim .cold → ToCold ≡ spotOf sh lim e k
     unfolding spotOf
-    spot-cold h l = rw (← x, h, lt-ltb k (sh .colds) l)
+    spot-cold h l = rw (← x, h, lt-ltb k (lim .cold) l)
 
-    pub spot-arena : r ≡ false → sh .colds ≤ k → ToArena ≡ spotOf sh e k
+    pub spot-arena : r ≡ false → lim .cold ≤ k → ToArena ≡ spotOf sh lim e k
     unfolding spotOf
-    spot-arena h l = rw (← x, h, le-ltb k (sh .colds) l)
+    spot-arena h l = rw (← x, h, le-ltb k (lim .cold) l)
 
-pub spot-there : (b : List ℕ) (c : ℕ) (sh : Shape) (x y : ℕ) → x ≡ get b (class (stored Empty) c) → y ≡ get b (class (stored Cold) c) → (r : Spot) → r ≡ spotOf sh x y → r ≡ spotAt b c sh
-spot-there b c sh x y e k r h = h ∙ rw (e, k)
+pub spot-there : (b : List ℕ) (c : ℕ) (sh : Shape) (lim : Limits) (x y : ℕ) → lim ≡ limitsAt b c → x ≡ get b (class (stored Empty) c) → y ≡ get b (class (stored Cold) c) → (r : Spot) → r ≡ spotOf sh lim x y → r ≡ spotAt b c sh
+spot-there b c sh lim x y l e k r h = h ∙ rw (l, e, k)
 
 pub empties-low : (b : List ℕ) (c x : ℕ) → x ≡ get b (class (stored Empty) c) → rowFair b c ≡ true → x ≤ maxParked
 empties-low b c x e h = rw e (count-low b c Empty h)

@@ -15,7 +15,7 @@ use Rattle.facts.proofs.Bools.{and-left, and-right}
 use Rattle.classes.specs.declared.Shape.{Shape}
 use Rattle.classes.specs.Sound.{Sound}
 use Rattle.fields.specs.Clear.{clearMarks}
-use Rattle.fields.specs.Field.{arena, class, page, frontier, partial, empty, emptyCount, cold, coldCount, first, next, prev, free, carved, listed, virgin, get, words, Has, hole}
+use Rattle.fields.specs.Field.{arena, class, page, frontier, partial, empty, emptyCount, cold, coldCount, first, next, prev, free, carved, listed, virgin, get, words, Has, hole, emptyLimit, coldLimit}
 use Rattle.fields.proofs.Changes.{Changes}
 use Rattle.model.specs.Release.{ofKind}
 use Rattle.arena.proofs.Frames.{give-kept}
@@ -73,6 +73,8 @@ module _ (b b′ : List ℕ) (h : Changes isBit b b′) where
         k (class emptyCount c) o refl,
         k (class cold c) o refl,
         k (class coldCount c) o refl,
+        k (class emptyLimit c) o refl,
+        k (class coldLimit c) o refl,
       )
 
 -- ---- what a release answers

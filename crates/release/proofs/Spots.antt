@@ -9,28 +9,29 @@ use lib.Dec.{ltb}
 use borrow.Author.Tests.{ltb-true}
 use Rattle.facts.proofs.Bools.{and-left}
 use Rattle.classes.specs.declared.Shape.{Shape}
+use Rattle.rules.specs.declared.Limits.{Limits}
 use Rattle.model.specs.declared.Spot.{Spot}
 use Rattle.model.specs.declared.Spot.the-variants.{ToEmpty, ToCold, ToArena}
 use Rattle.model.specs.Page.{isMedium}
 use Rattle.model.specs.Spot.{keepsEmpty, spotOf, isEmpty, isCold, isArena, keptFate, arenaFate, fateOf}
 
-module _ (sh : Shape) (e k : ℕ) where
-  pub empty-room : isEmpty (spotOf sh e k) ≡ true → e < sh .empties
+module _ (sh : Shape) (lim : Limits) (e k : ℕ) where
+  pub empty-room : isEmpty (spotOf sh lim e k) ≡ true → e < lim .empty
   unfolding spotOf
-  empty-room h = by (keepsEmpty sh e) refl (ltb k (sh .colds)) h
+  empty-room h = by (keepsEmpty sh lim e) refl (ltb k (lim .cold)) h
     where
-      by : (t : Bool) → keepsEmpty sh e ≡ t → (u : Bool) → isEmpty (cond t ToEmpty (cond u ToCold ToArena)) ≡ true → e < sh .empties
-      by true z u h = ltb-true e (sh .empties) (and-left _ _ z)
+      by : (t : Bool) → keepsEmpty sh lim e ≡ t → (u : Bool) → isEmpty (cond t ToEmpty (cond u ToCold ToArena)) ≡ true → e < lim .empty
+      by true z u h = ltb-true e (lim .empty) (and-left _ _ z)
       by false z true h = absurd (let z : _≡_ {A = ℕ} 0 1 = cc in omega arith)
       by false z false h = absurd (let z : _≡_ {A = ℕ} 0 1 = cc in omega arith)
 
-  pub cold-room : isCold (spotOf sh e k) ≡ true → k < sh .colds
+  pub cold-room : isCold (spotOf sh lim e k) ≡ true → k < lim .cold
   unfolding spotOf
-  cold-room h = by (keepsEmpty sh e) (ltb k (sh .colds)) refl h
+  cold-room h = by (keepsEmpty sh lim e) (ltb k (lim .cold)) refl h
     where
-      by : (t u : Bool) → ltb k (sh .colds) ≡ u → isCold (cond t ToEmpty (cond u ToCold ToArena)) ≡ true → k < sh .colds
+      by : (t u : Bool) → ltb k (lim .cold) ≡ u → isCold (cond t ToEmpty (cond u ToCold ToArena)) ≡ true → k < lim .cold
       by true u z h = absurd (let z : _≡_ {A = ℕ} 0 1 = cc in omega arith)
-      by false true z h = ltb-true k (sh .colds) z
+      by false true z h = ltb-true k (lim .cold) z
       by false false z h = absurd (let z : _≡_ {A = ℕ} 0 1 = cc in omega arith)
 
 cold-low : (t : Bool) → cond t keptFate 1 ≤ 1

@@ -5,12 +5,15 @@ ghost use Prim.Native.Nat.{_≤_, _<_};
 ghost use Rattle.classes.specs.Sound.{Sound};
 ghost use Rattle.fields.specs.Ranges.{maxParked};
 ghost use Rattle.pages.specs.Asks.{PageAsks, RowAsks};
+ghost use Rattle.pages.specs.Fair.{limitsAt, limitsFair};
 ghost use Rattle.model.specs.Spot.{keepsEmpty, spotOf};
 ghost use Rattle.calls.specs.Release.{pageFair, rowFair, spotAt, spotFair, releaseFair};
 ghost use Rattle.release.specs.Fair.{SpotAsks, FairAsks, SpotFairAsks};
 use classes::Shape;
 use model::Spot;
 use pages::Park;
+use rules::Limits;
+use words::limits::MAX_PARKED;
 
 // The page to which m blocks come back.
 pub fn page_fair(meta: &[u32], shape: Shape, m: usize, q: u32) -> bool
@@ -33,33 +36,56 @@ pub fn row_fair(meta: &[u32], c: u32) -> bool
         return false;
     }
     if lists::store_fair(meta, c, Park::Empty) {
-        return lists::store_fair(meta, c, Park::Cold);
+        if lists::store_fair(meta, c, Park::Cold) {
+            return limits_fair(meta, c);
+        }
     }
     false
 }
 
+// The class's limits.
+fn limits_fair(meta: &[u32], c: u32) -> bool
+    requires { ⌜ RowAsks (now meta) c ⌝ }
+    ensures { λ r. ⌜ r ≡ limitsFair (now (meta .entry)) c ⌝ }
+{
+    if fields::class::empty_limit(meta, c) > MAX_PARKED {
+        return false;
+    }
+    fields::class::cold_limit(meta, c) <= MAX_PARKED
+}
+
+pub fn limits_at(meta: &[u32], c: u32) -> Limits
+    requires { ⌜ RowAsks (now meta) c ⌝ }
+    ensures { λ r. ⌜ r ≡ limitsAt (now (meta .entry)) c ⌝ }
+{
+    Limits {
+        empty: fields::class::empty_limit(meta, c),
+        cold: fields::class::cold_limit(meta, c),
+    }
+}
+
 // The empty store has room for one more run.
-fn keeps_empty(shape: Shape, empties: u32) -> bool
+fn keeps_empty(shape: Shape, limits: Limits, empties: u32) -> bool
     requires { ⌜ Sound shape ⌝ }
     requires { ⌜ empties ≤ maxParked ⌝ }
-    ensures { λ r. ⌜ r ≡ keepsEmpty shape empties ⌝ }
+    ensures { λ r. ⌜ r ≡ keepsEmpty shape limits empties ⌝ }
 {
-    if empties >= shape.empties {
+    if empties >= limits.empty {
         return false;
     }
     (empties + 1) * shape.pages <= shape.emptypages
 }
 
-// Where a page with none out goes, by the counts of the two stores.
-pub fn spot_of(shape: Shape, empties: u32, colds: u32) -> Spot
+// Where a page with none out goes, by the class's limits and the counts of its two stores.
+pub fn spot_of(shape: Shape, limits: Limits, empties: u32, colds: u32) -> Spot
     requires { ⌜ Sound shape ⌝ }
     requires { ⌜ empties ≤ maxParked ⌝ }
-    ensures { λ r. ⌜ r ≡ spotOf shape empties colds ⌝ }
+    ensures { λ r. ⌜ r ≡ spotOf shape limits empties colds ⌝ }
 {
-    if keeps_empty(shape, empties) {
+    if keeps_empty(shape, limits, empties) {
         return Spot::ToEmpty;
     }
-    if colds < shape.colds {
+    if colds < limits.cold {
         Spot::ToCold
     } else {
         Spot::ToArena
@@ -72,6 +98,7 @@ pub fn spot_at(meta: &[u32], c: u32, shape: Shape) -> Spot
 {
     spot_of(
         shape,
+        limits_at(meta, c),
         lists::store_count(meta, c, Park::Empty),
         lists::store_count(meta, c, Park::Cold),
     )

@@ -7,6 +7,7 @@ mod park;
 mod release;
 mod tests;
 
+pub use fair::limits_at;
 pub use fair::page_fair;
 pub use fair::row_fair;
 pub use fair::spot_of;

@@ -1,11 +1,21 @@
 // The calls that go straight to the arena: each is made with the numbers of its line, and what it answers is put down.
 use super::line::Numbers;
 use super::line::Words;
+use super::line::end;
 use super::line::low;
 
-// An opening has no answer stored: it must return 0.
-pub fn open(meta: &mut [u32], line: &Numbers, mut answers: Words) -> Words {
-    answers[0] = vigbuso::arena_calls::vigbuso_open(meta, line[1]);
+// An opening has no answer stored: it must return 0. Its rule rows come after their number; a line of two words has none.
+pub fn open(
+    meta: &mut [u32],
+    line: &Numbers,
+    words: &Words,
+    count: usize,
+    mut answers: Words,
+) -> Words {
+    let rows = if count < 2 { 0 } else { words[2] };
+    let e = end(3, rows, 4096);
+    let w = &words[..];
+    answers[0] = vigbuso::arena_calls::vigbuso_open(meta, line[1], &w[3..e]);
     answers
 }
 

@@ -1,15 +1,6 @@
 // The takes and releases of blocks: each is made with the numbers of its line, and what it answers is put down.
 use super::line::Words;
-ghost use Prim.Native.Nat.{_≤_};
-
-// The end of so many words from `from` on, at `most` where there are not so many.
-fn end(from: usize, count: u32, most: usize) -> usize
-    requires { ⌜ from ≤ most ⌝ }
-    ensures { λ r. ⌜ (from ≤ r) × (r ≤ most) ⌝ }
-{
-    let n = count as usize;
-    if n < most - from { from + n } else { most }
-}
+use super::line::end;
 
 pub fn take(meta: &mut [u32], words: &Words, mut answers: Words) -> Words {
     let mut count = answers[1];

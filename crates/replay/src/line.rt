@@ -1,4 +1,5 @@
 // A line as it is read: a number for each of its words. The name has one too, and stands first.
+ghost use Prim.Native.Nat.{_≤_};
 
 // A line's numbers, and its answers or the low halves of its numbers.
 pub type Numbers = [u64; 4096];
@@ -44,4 +45,13 @@ pub fn same(words: &Words, equals: usize, count: usize, answers: &Words, fill: u
         }
     }
     true
+}
+
+// The end of so many words from `from` on, at `most` where there are not so many.
+pub fn end(from: usize, count: u32, most: usize) -> usize
+    requires { ⌜ from ≤ most ⌝ }
+    ensures { λ r. ⌜ (from ≤ r) × (r ≤ most) ⌝ }
+{
+    let n = count as usize;
+    if n < most - from { from + n } else { most }
 }

@@ -13,9 +13,9 @@ ghost use lib.ListN.{length};
 
 // Makes the call of a line: a name's number is its first letter's byte, then in two digits how many letters follow. A comment and an
 // empty line make none, and a name that is not known answers what no line tells.
-fn call(meta: &mut [u32], line: &Numbers, words: &Words, answers: Words) -> Words {
+fn call(meta: &mut [u32], line: &Numbers, words: &Words, count: usize, answers: Words) -> Words {
     match line[0] {
-        11_103 => arena_calls::open(meta, line, answers),
+        11_103 => arena_calls::open(meta, line, words, count, answers),
         9_905 => arena_calls::commit(meta, line, words, answers),
         10_312 => arena_calls::grow(meta, line, words, answers),
         11_406 => arena_calls::release(meta, line, words, answers),
@@ -35,7 +35,7 @@ fn call(meta: &mut [u32], line: &Numbers, words: &Words, answers: Words) -> Word
 // it. A line with no `=` tells nothing: all places keep a 0, an opening's return value too.
 fn replayed(meta: &mut [u32], line: &Numbers, words: &Words, equals: usize, count: usize) -> bool {
     let fill = words[std::num::wrapping_sub_usize(equals, 1) % 4096];
-    let answers = call(meta, line, words, [fill; 4096]);
+    let answers = call(meta, line, words, count, [fill; 4096]);
     let told = if equals == 0 { 0 } else { count };
     line::same(words, equals, told, &answers, fill)
 }

@@ -16,6 +16,7 @@ use Rattle.trace.specs.Trace.{Room, sayOf}
 use Rattle.trace.specs.Words.{Going, straight, begins, goes, after, stops, carried, roomOf}
 use Rattle.trace.specs.Asks.{BookAsks, straightened}
 use Rattle.trace.specs.Steps.{Lent, lent, goingOf, TallyAsks, Stopped, Went, Carried}
+use Rattle.rules.specs.Rules.{rulesOf}
 use Rattle.arena.specs.Open.{opened}
 use Rattle.trace.specs.Course.{Coursed, Ran}
 
@@ -124,12 +125,12 @@ module _ (n : ℕ) (x : Lent) (ws : List ℕ) (y : Lent) (t : Tally) (i : ℕ) (
         }
 
 -- ---- the whole trace, from the book as it was lent
-pub ran : (n : ℕ) (b b₁ bl fl ws : List ℕ) (r : Course) (b′ bl′ fl′ bl″ : List ℕ) → b₁ ≡ opened n b → Coursed r n (lent b₁ bl fl) (lent b′ bl′ fl′) ws → bl″ ≡ straightened bl′ (r .tally .at)
+pub ran : (n : ℕ) (b b₁ bl fl ws : List ℕ) (r : Course) (b′ bl′ fl′ bl″ : List ℕ) → b₁ ≡ opened n (rulesOf []) b → Coursed r n (lent b₁ bl fl) (lent b′ bl′ fl′) ws → bl″ ≡ straightened bl′ (r .tally .at)
     → Ran r n (lent b bl fl) (lent b′ bl″ fl′) ws
 unfolding straightened
 ran n b b₁ bl fl ws r b′ bl′ fl′ bl″ e c s =
-    let k : r .carried ≡ carried n (roomOf bl fl) (begins (opened n b)) ws = rw (← e) (c .carried) in
-    let g : goingOf (lent b′ bl′ fl′) (r .tally) ≡ goes n (begins (opened n b)) (ListN.take (carried n (roomOf bl fl) (begins (opened n b)) ws) ws) = rw (← k, ← e) (c .goes) in
+    let k : r .carried ≡ carried n (roomOf bl fl) (begins (opened n (rulesOf []) b)) ws = rw (← e) (c .carried) in
+    let g : goingOf (lent b′ bl′ fl′) (r .tally) ≡ goes n (begins (opened n (rulesOf []) b)) (ListN.take (carried n (roomOf bl fl) (begins (opened n (rulesOf []) b)) ws) ws) = rw (← k, ← e) (c .goes) in
     let at : length (ListN.take (r .tally .at) bl′) ≡ r .tally .at = length-take-le (r .tally .at) bl′ (c .handed) in
     let told : length (ListN.take (r .tally .told) fl′) ≡ r .tally .told = length-take-le (r .tally .told) fl′ (c .written) in
     let blocks : straightened bl′ (r .tally .at) ≡ map straight (ListN.take (r .tally .at) bl′) ++ drop (length (ListN.take (r .tally .at) bl′)) bl = rw (at, c .blocks) in
@@ -138,5 +139,5 @@ ran n b b₁ bl fl ws r b′ bl′ fl′ bl″ e c s =
       book = ap (λ (x : Going). x .book) g;
       blocks = s ∙ blocks ∙ ap (λ (x : Going). map straight (x .marks) ++ drop (length (x .marks)) bl) g;
       figures = figures ∙ ap (λ (x : Going). x .figures ++ drop (length (x .figures)) fl) g;
-      done = rw (k, ← at, ← told) (ap (λ (x : Going). carried n (roomOf bl fl) (begins (opened n b)) ws ∷ length (x .marks) ∷ length (x .figures) ∷ []) g);
+      done = rw (k, ← at, ← told) (ap (λ (x : Going). carried n (roomOf bl fl) (begins (opened n (rulesOf []) b)) ws ∷ length (x .marks) ∷ length (x .figures) ∷ []) g);
     }

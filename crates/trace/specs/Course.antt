@@ -4,6 +4,7 @@ use mathlib.Core.List.{List, [], _∷_}
 use mathlib.Core.Path.{_≡_}
 use lib.ListN as ListN
 use lib.ListN.{length, drop}
+use Rattle.rules.specs.Rules.{rulesOf}
 use Rattle.arena.specs.Open.{opened}
 use Rattle.trace.specs.declared.course.Course.{Course}
 use Rattle.trace.specs.Words.{begins, goes, carried, roomOf, Traced, ending}
@@ -21,8 +22,8 @@ pub record Coursed (r : Course) (n : ℕ) (x y : Lent) (ws : List ℕ) : Type 0 
 -- what the words carried out come to, from x as it was lent
 abbrev pub endOf : ℕ → Lent → List ℕ → Traced
 endOf n x ws =
-    let k = carried n (roomOf (x .blocks) (x .figures)) (begins (opened n (x .book))) ws in
-    ending k ws (x .blocks) (x .figures) (goes n (begins (opened n (x .book))) (ListN.take k ws))
+    let k = carried n (roomOf (x .blocks) (x .figures)) (begins (opened n (rulesOf []) (x .book))) ws in
+    ending k ws (x .blocks) (x .figures) (goes n (begins (opened n (rulesOf []) (x .book))) (ListN.take k ws))
 
 pub record Ran (r : Course) (n : ℕ) (x y : Lent) (ws : List ℕ) : Type 0 where
   pub book : y .book ≡ endOf n x ws .book

@@ -12,6 +12,7 @@ use mathlib.Core.Bool.{Bool, true, false, cond, not, _&&_}
 use lib.Dec.{eqb, ltb}
 use lib.ListN.{length, replicate}
 use Rattle.facts.specs.Lists.{total}
+use Rattle.rules.specs.Rules.{rulesOf}
 use Rattle.model.specs.Calls as Calls
 use Rattle.model.specs.Calls.{Call, names}
 use Rattle.words.specs.Host.{hostMax}
@@ -91,7 +92,7 @@ abbrev pub atOpening : Reach
 atOpening = record { calls = []; handed = []; figures = []; highest = 0 }
 
 abbrev pub heapOf : ℕ → Reach → Heap
-heapOf n r = heapAfter n (r .calls)
+heapOf n r = heapAfter n (rulesOf []) (r .calls)
 
 abbrev pub max : ℕ → ℕ → ℕ
 max a b = cond (ltb a b) b a

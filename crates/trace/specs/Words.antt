@@ -13,6 +13,7 @@ use lib.ListN.{length, drop, getD, set}
 use Rattle.words.specs.Word.{kindOf}
 use Rattle.classes.specs.Sizes.{granuleBytes}
 use Rattle.classes.specs.Shape.{shapeOf}
+use Rattle.rules.specs.Rules.{rulesOf}
 use Rattle.fields.specs.Field.{page, owner, get}
 use Rattle.fields.specs.Ranges.{lengthFault}
 use Rattle.words.specs.Host.{hostMax}
@@ -165,7 +166,7 @@ ending k ws bl fl g = record {
 -- numbers 1 and 2 first, by which nothing is changed; then it opens, and goes on from the opened book
 unfoldable pub traceOn : List ℕ → ℕ → List ℕ → List ℕ → List ℕ → List ℕ → Traced
 traceOn b n ws bl fl dn =
-    let k = carried n (roomOf bl fl) (begins (opened n b)) ws in
+    let k = carried n (roomOf bl fl) (begins (opened n (rulesOf []) b)) ws in
     cond (eqb (lengthFault n (length b)) 0)
-    (ending k ws bl fl (goes n (begins (opened n b)) (ListN.take k ws)))
+    (ending k ws bl fl (goes n (begins (opened n (rulesOf []) b)) (ListN.take k ws)))
     (record { code = lengthFault n (length b); book = b; blocks = bl; figures = fl; done = dn })

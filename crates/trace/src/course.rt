@@ -60,7 +60,7 @@ pub fn run(
     requires { ⌜ BookAsks n (now meta) ⌝ }
     ensures { λ r. ⌜ Ran r n (lent (now (meta .entry)) (now (blocks .entry)) (now (figures .entry))) (lent (now (meta .exit)) (now (blocks .exit)) (now (figures .exit))) (now (trace .entry)) ⌝ }
 {
-    direct::open::open(meta, n);
+    direct::open::open_plain(meta, n);
     let course = carry_out(meta, n, trace, blocks, figures);
     straighten(blocks, course.tally.at);
     course

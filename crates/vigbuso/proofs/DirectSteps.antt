@@ -5,13 +5,14 @@ use mathlib.Core.Bool.{Bool, true, false}
 use mathlib.Core.List.{List}
 use mathlib.Core.Option.{none}
 use mathlib.Core.Path.{_≡_, refl, sym, _∙_}
-use lib.Dec.{leb}
+use lib.Dec.{eqb, leb}
 use lib.ListN.{length}
 use mir.Val.{Fits, boolByte}
 use mir.Syntax.{w32}
-use borrow.Author.Tests.{leb-true, eq-eqb, ne-eqb}
-use Rattle.facts.proofs.Bools.{and-right}
+use borrow.Author.Tests.{leb-true, eqb-true, eq-eqb, ne-eqb}
+use Rattle.facts.proofs.Bools.{by-cases, and-right}
 use Rattle.words.specs.Host.{digit}
+use Rattle.rules.specs.Rules.{rowsFault, rulesOf}
 use Rattle.fields.specs.Field.{arena, size, get, Has, words}
 use Rattle.fields.specs.Outcome.{Did}
 use Rattle.fields.specs.Ranges.{within, between, maxPages, lengthFault, metaFault}
@@ -29,7 +30,7 @@ use Rattle.runs.specs.Asks.{BookIn}
 use Rattle.runs.specs.Answer.{answerOf, Answers}
 use Rattle.direct.specs.Answer.{grownAs, Grew, Releases, reportOf}
 use Rattle.vigbuso.specs.Faults.{callFault}
-use Rattle.vigbuso.specs.Direct.{openOn, noPage, commitOn, CommitEnds, growOn, GrowEnds, releaseOn, containsOn, reportOn, figuresOut, ReportEnds}
+use Rattle.vigbuso.specs.Direct.{openFault, openOn, noPage, commitOn, CommitEnds, growOn, GrowEnds, releaseOn, containsOn, reportOn, figuresOut, ReportEnds}
 
 -- ---- numbers 1 and 2
 pub none-before : (b : List ℕ) (r : ℕ) → r ≡ metaFault b → r ≡ 0 → metaFault b ≡ 0
@@ -58,10 +59,6 @@ grow-refusal (suc k) d = refl
 -- ---- opening
 
 module _ (b : List ℕ) (n r : ℕ) (e : r ≡ lengthFault n (length b)) where
-  pub open-refused : (r ≡ 0 → ⊥) → Did r b (openOn b n)
-  unfolding openOn
-  open-refused d = rw (← e, ne-eqb r 0 d) (record { answer = refl; book = refl })
-
   module _ (z : r ≡ 0) where
     pub sides : (within (between 1 maxPages) n ≡ true) × (leb (words n) (length b) ≡ true)
     sides = both _ _ r e z
@@ -72,7 +69,35 @@ module _ (b : List ℕ) (n r : ℕ) (e : r ≡ lengthFault n (length b)) where
     pub open-long : 40000 ≤ length b
     open-long = let k = leb-true (words n) (length b) (sides .1) in omega arith
 
-    pub open-done : (x : List ℕ) → x ≡ opened n b → Did 0 x (openOn b n)
+  module _ (ws : List ℕ) where
+    pub length-refused : (r ≡ 0 → ⊥) → r ≡ openFault n ws b
+    unfolding openFault
+    length-refused d = rw (← e, ne-eqb r 0 d)
+
+    pub rows-last : (k : ℕ) → r ≡ 0 → k ≡ rowsFault ws → k ≡ openFault n ws b
+    unfolding openFault
+    rows-last k z f = rw (← e, eq-eqb r 0 z) f
+
+module _ (b : List ℕ) (n : ℕ) (ws : List ℕ) (r : ℕ) (e : r ≡ openFault n ws b) where
+  pub open-refused : (r ≡ 0 → ⊥) → Did r b (openOn b n ws)
+  unfolding openOn
+  open-refused d = rw (← e, ne-eqb r 0 d) (record { answer = refl; book = refl })
+
+  module _ (z : r ≡ 0) where
+    no-fault : lengthFault n (length b) ≡ 0
+    unfolding openFault
+    no-fault =
+        by-cases (eqb (lengthFault n (length b)) 0)
+        (λ t. eqb-true (lengthFault n (length b)) 0 t)
+        (λ t. sym (rw t at e) ∙ z)
+
+    pub ruled-fits : Fits w32 n
+    ruled-fits = open-fits b n (lengthFault n (length b)) refl no-fault
+
+    pub ruled-long : 40000 ≤ length b
+    ruled-long = open-long b n (lengthFault n (length b)) refl no-fault
+
+    pub open-done : (x : List ℕ) → x ≡ opened n (rulesOf ws) b → Did 0 x (openOn b n ws)
     unfolding openOn
     open-done x f = rw (← e, eq-eqb r 0 z) (record { answer = refl; book = f })
 

@@ -6,6 +6,7 @@ use lib.Dec.{leb}
 use lib.ListN.{length}
 use borrow.Author.Tests.{leb-true, eq-eqb, ne-eqb}
 use Rattle.facts.proofs.Bools.{and-right}
+use Rattle.rules.specs.Rules.{rulesOf}
 use Rattle.fields.specs.Field.{words}
 use Rattle.fields.specs.Ranges.{maxPages, lengthFault}
 use Rattle.arena.specs.Open.{opened}
@@ -29,7 +30,7 @@ module _ (b : List ℕ) (n k : ℕ) (e : k ≡ lengthFault n (length b)) where
     trace-refused d = rw (← e, ne-eqb k 0 d) (record { code = refl; book = refl; blocks = refl; figures = refl; done = refl })
 
     module _ (z : k ≡ 0) (r : Course) (b′ bl′ fl′ : List ℕ) (x : Ran r n (lent b bl fl) (lent b′ bl′ fl′) ws) where
-      came : r .carried ≡ carried n (roomOf bl fl) (begins (opened n b)) ws
+      came : r .carried ≡ carried n (roomOf bl fl) (begins (opened n (rulesOf []) b)) ws
       came = let h = x .done in cc
 
       ended : (c : ℕ) → c ≡ endOf n (lent b bl fl) ws .code → TraceEnds (traceOn b n ws bl fl dn) c b′ bl′ fl′ (r .carried ∷ r .tally .at ∷ r .tally .told ∷ [])

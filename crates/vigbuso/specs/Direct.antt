@@ -7,6 +7,7 @@ use mathlib.Core.Path.{_≡_}
 use lib.Dec.{eqb}
 use lib.ListN.{length, getD}
 use Rattle.words.specs.Host.{digit}
+use Rattle.rules.specs.Rules.{rowsFault, rulesOf}
 use Rattle.fields.specs.Field.{arena, size, get}
 use Rattle.fields.specs.Outcome.{Outcome, ends}
 use Rattle.fields.specs.Ranges.{lengthFault, metaFault}
@@ -24,8 +25,12 @@ use Rattle.direct.specs.Answer.{grownAs, growCode, reportOf}
 use Rattle.vigbuso.specs.Faults.{callFault}
 
 -- ---- opening
-unfoldable pub openOn : List ℕ → ℕ → Outcome
-openOn b n = cond (eqb (lengthFault n (length b)) 0) (ends 0 (opened n b)) (ends (lengthFault n (length b)) b)
+-- numbers 1 and 2, then those of the rule rows ws
+unfoldable pub openFault : ℕ → List ℕ → List ℕ → ℕ
+openFault n ws b = cond (eqb (lengthFault n (length b)) 0) (rowsFault ws) (lengthFault n (length b))
+
+unfoldable pub openOn : List ℕ → ℕ → List ℕ → Outcome
+openOn b n ws = cond (eqb (openFault n ws b) 0) (ends 0 (opened n (rulesOf ws) b)) (ends (openFault n ws b) b)
 
 -- ---- commit: for none, the first page is the greatest number
 unfoldable pub commitOn : List ℕ → ℕ → ℕ → Committed

@@ -8,7 +8,7 @@ ghost use Rattle.words.specs.Host.{digit};
 ghost use Rattle.fields.specs.Outcome.{Did};
 ghost use Rattle.runs.specs.Answer.{Answers};
 ghost use Rattle.direct.specs.Answer.{Grew, Releases};
-ghost use Rattle.vigbuso.specs.Direct.{openOn, commitOn, CommitEnds, growOn, GrowEnds, releaseOn, containsOn, reportOn, ReportEnds};
+ghost use Rattle.vigbuso.specs.Direct.{openFault, openOn, commitOn, CommitEnds, growOn, GrowEnds, releaseOn, containsOn, reportOn, ReportEnds};
 
 // The first page of no run.
 const NO_PAGE: u32 = 4_294_967_295;
@@ -16,15 +16,26 @@ const NO_PAGE: u32 = 4_294_967_295;
 // How many figures a report has.
 pub const FIGURES: usize = 6;
 
-#[no_mangle]
-pub extern "C" fn vigbuso_open(meta: &mut [u32], pages: u64) -> u32
-    ensures { λ r. ⌜ Did r (now (meta .exit)) (openOn (now (meta .entry)) pages) ⌝ }
+// Numbers 1 and 2, then 19, 18 and 17.
+fn open_fault(meta: &[u32], pages: u64, rows: &[u32]) -> u32
+    ensures { λ r. ⌜ r ≡ openFault pages (now (rows .entry)) (now (meta .entry)) ⌝ }
 {
     let fault = fields::fault::length_fault(pages, meta.len());
     if fault != 0 {
         return fault;
     }
-    direct::open::open(meta, pages as u32);
+    rules::rows_fault(rows)
+}
+
+#[no_mangle]
+pub extern "C" fn vigbuso_open(meta: &mut [u32], pages: u64, rows: &[u32]) -> u32
+    ensures { λ r. ⌜ Did r (now (meta .exit)) (openOn (now (meta .entry)) pages (now (rows .entry))) ⌝ }
+{
+    let fault = open_fault(meta, pages, rows);
+    if fault != 0 {
+        return fault;
+    }
+    direct::open::open(meta, pages as u32, rows);
     0
 }
 

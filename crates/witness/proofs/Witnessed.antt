@@ -30,10 +30,16 @@ use Rattle.demands.proofs.Plan.{fits}
 use Rattle.demands.proofs.Idle.{idle}
 use Rattle.demands.proofs.Trace.{trace}
 use Rattle.demands.proofs.TraceRefusals.{trace-refuses}
+use Rattle.demands.proofs.Parking.{parking}
 
 module _ (b : List ℕ) (r : ℕ) (b′ : List ℕ) where
-  pub open-seen : (n : ℕ) → Did r b′ (openOn b n) → Opened n r b b′
-  open-seen n e = record { number = open-refuses b n r b′ e; opens = (λ z. sym (e .answer) ∙ z, λ z. e .answer ∙ z); book = e .book }
+  pub open-seen : (n : ℕ) (ws : List ℕ) → Did r b′ (openOn b n ws) → Opened n ws r b b′
+  open-seen n ws e = record {
+    number = open-refuses b n ws r b′ e;
+    opens = (λ z. sym (e .answer) ∙ z, λ z. e .answer ∙ z);
+    book = e .book;
+    parks = λ z. parking n ws b (sym (e .answer) ∙ z);
+  }
 
   pub commit-seen : (h m q q′ f f′ : ℕ) → CommitEnds (commitOn b h m) r b′ q q′ f f′ → CommitSeen (Calls.commit h m) r b b′ q q′ f f′
   commit-seen h m q q′ f f′ e = record { number = commit-refuses b h m r b′ q q′ f f′ e; replies = shows-call (Shows.commit h m r q q′ f f′ b′ e) }
@@ -71,7 +77,7 @@ module _ (b : List ℕ) (r : ℕ) where
   pub report-seen : (fs fs′ : List ℕ) → ReportEnds (reportOn b) r fs fs′ → ReportSeen r b fs fs′
   report-seen fs fs′ e = record {
     seen = record { number = report-refuses b r fs fs′ e; replies = shows-call (Shows.report r fs fs′ e) };
-    idle = λ n b₀ o xs d. idle n b₀ o xs r fs fs′ (subst (λ c. ReportEnds (reportOn c) r fs fs′) d e);
+    idle = λ n ws b₀ o xs d. idle n ws b₀ o xs r fs fs′ (subst (λ c. ReportEnds (reportOn c) r fs fs′) d e);
   }
 
 module _ (r : ℕ) (l l′ : List ℕ) where

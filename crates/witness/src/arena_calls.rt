@@ -3,10 +3,10 @@ use vigbuso::arena_calls::FIGURES;
 ghost use Rattle.model.specs.Calls as Calls;
 ghost use Rattle.witness.specs.Seen.{Opened, CommitSeen, GrowSeen, GiveSeen, ContainsSeen, ReportSeen};
 
-pub fn open(meta: &mut [u32], pages: u64) -> u32
-    ensures { λ r. ⌜ Opened pages r (now (meta .entry)) (now (meta .exit)) ⌝ }
+pub fn open(meta: &mut [u32], pages: u64, rows: &[u32]) -> u32
+    ensures { λ r. ⌜ Opened pages (now (rows .entry)) r (now (meta .entry)) (now (meta .exit)) ⌝ }
 {
-    vigbuso::arena_calls::vigbuso_open(meta, pages)
+    vigbuso::arena_calls::vigbuso_open(meta, pages, rows)
 }
 
 pub fn commit(meta: &mut [u32], host: u32, pages: u64, first: &mut u32, fresh: &mut u32) -> u32

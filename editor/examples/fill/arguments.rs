@@ -1,13 +1,15 @@
 //! What the command line asks for.
 
 pub const USAGE: &str = "\
-usage: fill [--grid FILE] [--words FILE] [--pages N] [--turns N] [--draw] [--svg FILE] [--plot FILE]
-            [--trace FILE]
+usage: fill [--grid FILE] [--words FILE] [--pages N] [--turns N] [--keep N] [--draw] [--svg FILE]
+            [--plot FILE] [--trace FILE]
 
   --grid FILE   the grid: a row a line, a dot for a letter and # for a block, spaces between (9 x 9 by default)
   --words FILE  the words: one a line, with a score after it or not (a list of 3 to 15 letters by default)
   --pages N     pages of the arena, 64 KiB each (32 by default)
   --turns N     how often the search turns back before it is content with its best fill (20000 by default)
+  --keep N      parking rules of its own: the class of the search's records keeps up to N empty pages, 0 to 256, and
+                others keep none
   --draw        print the arena's pages by holder
   --svg FILE    draw them as a picture
   --plot FILE   draw pages held and blocks out over the search
@@ -25,12 +27,13 @@ pub struct Arguments {
     pub words: Option<String>,
     pub pages: usize,
     pub turns: usize,
+    pub keep: Option<u32>,
 }
 
 impl Default for Arguments {
     fn default() -> Arguments {
         let (svg, plot, trace, grid, words) = (None, None, None, None, None);
-        Arguments { help: false, draw: false, svg, plot, trace, grid, words, pages: 32, turns: 20_000 }
+        Arguments { help: false, draw: false, svg, plot, trace, grid, words, pages: 32, turns: 20_000, keep: None }
     }
 }
 
@@ -49,6 +52,7 @@ impl Arguments {
                 "--words" => found.words = Some(next()?),
                 "--pages" => found.pages = number(&word, &next()?)?,
                 "--turns" => found.turns = number(&word, &next()?)?,
+                "--keep" => found.keep = Some(next()?.parse().map_err(|_| "--keep wants a number")?),
                 _ => return Err(format!("`{word}` is no option\n\n{USAGE}")),
             }
         }

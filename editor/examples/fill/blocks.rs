@@ -1,6 +1,6 @@
 //! The heap's blocks one by one, and runs of pages: all that the example uses of the crate.
 
-use vigbuso::{AllocError, Kind, Pool, Trace};
+use vigbuso::{AllocError, Kind, Pool, Rules, Trace};
 
 pub use vigbuso::{Block, Class, Report, Run, PAGE_BYTES};
 
@@ -19,8 +19,8 @@ pub struct Blocks {
 }
 
 impl Blocks {
-    pub fn open(pages: usize) -> Outcome<Blocks> {
-        Ok(Blocks { pool: Pool::open(pages as u64)?, recorder: None })
+    pub fn open(pages: usize, rules: &Rules) -> Outcome<Blocks> {
+        Ok(Blocks { pool: Pool::open_with(pages as u64, rules)?, recorder: None })
     }
 
     /// From now on a trace is written.

@@ -2,7 +2,7 @@
 
 use std::fs;
 
-use vigbuso::Trace;
+use vigbuso::{Rules, Trace};
 
 use super::arguments::Arguments;
 use super::blocks::Report;
@@ -23,6 +23,8 @@ pub struct Job {
     pub words: Words,
     pub pages: usize,
     pub turns: usize,
+    /// Empty pages that the class of the search's records keeps, where others keep none.
+    pub keep: Option<u32>,
     /// Whether a trace of the blocks is written.
     pub traced: bool,
 }
@@ -53,12 +55,13 @@ impl Job {
         if let Some(slot) = grid.slots().iter().find(|slot| words.of_length(slot.len()).is_empty()) {
             return Err(format!("the grid wants a word of {} letters, and the list has none", slot.len()).into());
         }
-        Ok(Job { grid, words, pages: arguments.pages, turns: arguments.turns, traced: arguments.trace.is_some() })
+        let Arguments { pages, turns, keep, .. } = *arguments;
+        Ok(Job { grid, words, pages, turns, keep, traced: arguments.trace.is_some() })
     }
 
     /// Searches, reads back what was kept, and gives everything back. That this is not refused shows that just this was out.
     pub fn run(&self, watch: &mut dyn FnMut(&Progress)) -> Outcome<Done> {
-        let mut store = Store::open(self.pages)?;
+        let mut store = Store::open(self.pages, self.rules())?;
         if self.traced {
             store.record(self.pages)?;
         }
@@ -82,6 +85,14 @@ impl Job {
         let done = Done { trace: store.trace().cloned(), ..done };
         store.close()?;
         Ok(done)
+    }
+
+    /// How much each class parks.
+    fn rules(&self) -> Rules {
+        match (self.keep, Search::class(&self.grid, &self.words)) {
+            (Some(pages), Some(class)) => Rules::every(0, 0).class(class, pages, 0),
+            _ => Rules::default(),
+        }
     }
 
     /// The best fill and the figures, as text.

@@ -3,6 +3,8 @@
 use std::collections::BTreeSet;
 use std::ops::Range;
 
+use vigbuso::Rules;
+
 use super::blocks::{self, Block, Class, Report, PAGE_BYTES};
 use super::Outcome;
 
@@ -66,6 +68,7 @@ impl Pages {
         &self,
         records: impl Iterator<Item = Range<usize>>,
         stock: impl Iterator<Item = Block>,
+        rules: &Rules,
         report: Report,
     ) -> Outcome<Pages> {
         let mut pages = self.clone();
@@ -78,7 +81,7 @@ impl Pages {
                 pages.0[page].in_use += end - bytes.start.max(page * PAGE_BYTES);
             }
         }
-        pages.park(stock);
+        pages.park(stock, rules);
         let busy = pages.0.iter().filter(|page| page.holder.is_busy()).count() as u64;
         let parked = pages.0.iter().filter(|page| matches!(page.holder, Holder::Parked(_))).count() as u64;
         match (report.held - report.overlap, report.overlap) {
@@ -87,14 +90,14 @@ impl Pages {
         }
     }
 
-    /// The runs of a class without a byte in use and without one of these blocks are parked.
-    fn park(&mut self, stock: impl Iterator<Item = Block>) {
+    /// The runs of a class without a byte in use and without one of these blocks are parked, or holes if the class keeps none.
+    fn park(&mut self, stock: impl Iterator<Item = Block>, rules: &Rules) {
         let stocked = stock.map(|block| self.0[block.page() as usize].first);
         let used = self.0.iter().filter(|page| page.in_use > 0).map(|page| page.first);
         let out: BTreeSet<usize> = stocked.chain(used).collect();
         for page in self.0.iter_mut().filter(|page| !out.contains(&page.first)) {
             if let Holder::Class(class) = page.holder {
-                page.holder = Holder::Parked(class);
+                page.holder = if rules.limits(class) == (0, 0) { Holder::Hole } else { Holder::Parked(class) };
             }
         }
     }

@@ -8,6 +8,7 @@
 use std::ops::ControlFlow;
 
 use super::bits::Bits;
+use super::blocks::Class;
 use super::candidates::{self, Candidate};
 use super::grid::{Crossing, Grid};
 use super::history::{History, Sample};
@@ -109,6 +110,12 @@ impl<'a> Search<'a> {
             tries: 0,
             cut_short: false,
         }))
+    }
+
+    /// The class of most of its records: the words that still fit into a slot, of which a length has the most.
+    pub fn class(grid: &Grid, words: &Words) -> Option<Class> {
+        let lists = grid.slots().iter().map(|slot| words.of_length(slot.len()).len());
+        Class::for_size(Bits::bytes_for(lists.max()?))
     }
 
     /// Searches until it has turned back so many times, tried everything or has no room left. Answers why it came to an

@@ -4,7 +4,7 @@ use std::cell::Cell;
 use std::collections::{HashMap, HashSet};
 use std::ops::Range;
 
-use vigbuso::Trace;
+use vigbuso::{Rules, Trace};
 
 use super::blocks::{Block, Blocks, Class, Report, Run, PAGE_BYTES};
 use super::pages::{Holder, Pages};
@@ -69,6 +69,7 @@ impl Tally {
 
 pub struct Store {
     blocks: Blocks,
+    rules: Rules,
     arena: Vec<u8>,
     /// By its first byte what was written into each record, kept apart from the arena: were two records to share a byte,
     /// or a block to be handed out twice, a read would show it.
@@ -79,9 +80,10 @@ pub struct Store {
 }
 
 impl Store {
-    pub fn open(pages: usize) -> Outcome<Store> {
+    pub fn open(pages: usize, rules: Rules) -> Outcome<Store> {
         Ok(Store {
-            blocks: Blocks::open(pages)?,
+            blocks: Blocks::open(pages, &rules)?,
+            rules,
             arena: vec![0; pages * PAGE_BYTES],
             written: HashMap::new(),
             pages: Pages::new(pages),
@@ -214,7 +216,7 @@ impl Store {
     /// Whose each page is, as the calls have told, and how many of its bytes are in use.
     pub fn pages(&self) -> Outcome<Pages> {
         let records = self.written.values().map(|(record, _)| record.range(0..self.room(*record)));
-        self.pages.with(records, self.blocks.stock(), self.blocks.report()?)
+        self.pages.with(records, self.blocks.stock(), &self.rules, self.blocks.report()?)
     }
 
     /// All bytes of the block that a record stands in. A run's pages are in use whole, records or not.

@@ -17,7 +17,7 @@ pub enum Family {
 // The folder is the build script's.
 #[link(name = "vigbuso")]
 extern "C" {
-    fn vigbuso_open(book: *mut u32, book_len: usize, pages: u64) -> u32;
+    fn vigbuso_open(book: *mut u32, book_len: usize, pages: u64, rows: *const u32, rows_len: usize) -> u32;
     fn vigbuso_commit(book: *mut u32, book_len: usize, host: u32, pages: u64, first: *mut u32, fresh: *mut u32) -> u32;
     fn vigbuso_grow_frontier(
         book: *mut u32,
@@ -108,10 +108,20 @@ pub struct Heap {
 impl Heap {
     /// The book's words are zero until they are written, so most of a long one costs no memory.
     pub fn open(pages: u64) -> Heap {
+        Heap::open_with(pages, &[])
+    }
+
+    /// With parking rules that are not refused.
+    pub fn open_with(pages: u64, rows: &[u32]) -> Heap {
         let words = usize::try_from(40_000 + 4_112 * pages).expect("64 bits");
-        let mut book = vec![0; words];
-        assert_eq!(unsafe { vigbuso_open(book.as_mut_ptr(), book.len(), pages) }, 0);
-        Heap { book }
+        let mut heap = Heap { book: vec![0; words] };
+        assert_eq!(heap.reopen(pages, rows), Ok(()));
+        heap
+    }
+
+    pub fn reopen(&mut self, pages: u64, rows: &[u32]) -> Answer<()> {
+        let (book, words) = (self.book.as_mut_ptr(), self.book.len());
+        answered(unsafe { vigbuso_open(book, words, pages, rows.as_ptr(), rows.len()) }, ())
     }
 
     /// The run's first page and whether it is fresh, or none.

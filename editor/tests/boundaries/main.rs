@@ -11,4 +11,5 @@ mod marks;
 mod parks;
 mod ranges;
 mod repeats;
+mod rules;
 mod runs;

@@ -9,6 +9,8 @@ const CLASS: u32 = 45;
 const PARTIAL: usize = 160 + 8 * 45;
 const EMPTY_COUNT: usize = PARTIAL + 2;
 const COLD_COUNT: usize = PARTIAL + 4;
+const EMPTY_LIMIT: usize = PARTIAL + 5;
+const COLD_LIMIT: usize = PARTIAL + 6;
 /// Words of a page.
 const FREE: usize = 4;
 const CARVED: usize = 5;
@@ -147,4 +149,54 @@ fn a_classs_row() {
     }
     up_to(EMPTY_COUNT, 256, give(&[2_051, 1_027, 3]));
     up_to(COLD_COUNT, 256, give(&[2_051, 1_027, 3]));
+}
+
+/// A release reads its class's limits, by list or by chunks, whether a page is emptied or not; no other call does, nor another class's.
+#[test]
+fn a_classs_limits() {
+    let chunks = |heap: &mut Heap| heap.give_chunks(CLASS, &[3, 4_099], &[(1, 0), (1, 1)], 2);
+    for limit in [EMPTY_LIMIT, COLD_LIMIT] {
+        up_to(limit, 256, give(&[2_051, 1_027, 3]));
+        up_to(limit, 256, give(&[3]));
+        up_to(limit, 256, chunks);
+        for value in [257, u32::MAX] {
+            with(limit, value, false, take);
+            with(limit, value, false, report);
+            with(limit, value, false, commit(1));
+            with(limit, value, false, |heap: &mut Heap| heap.release(ALL, 4, 1));
+            with(limit, value, false, |heap: &mut Heap| heap.grow(ALL, 4, 1, 2));
+            with(limit - 8, value, false, give(&[2_051, 1_027, 3]));
+            with(limit + 8, value, false, chunks);
+        }
+    }
+}
+
+/// A span's class alike.
+#[test]
+fn a_medium_classs_limits() {
+    for limit in [160 + 8 * 64 + 5, 160 + 8 * 64 + 6] {
+        for (value, number) in [(256, None), (257, Some(13)), (u32::MAX, Some(13))] {
+            let mut heap = Heap::open(8);
+            let (blocks, _) = heap.take(Family::Medium, 0, ALL).expect("medium class 0");
+            heap.book[limit] = value;
+            let before = heap.book.clone();
+            assert_eq!(heap.give(Family::Medium, 0, ALL, &blocks).err(), number);
+            assert_eq!(heap.book == before, number.is_some());
+        }
+    }
+}
+
+/// The limits stand in the class's row: document 01's where no rows are given, else each row's.
+#[test]
+fn limits_in_the_book() {
+    let words = |heap: &Heap, class: usize| [heap.book[160 + 8 * class + 5], heap.book[160 + 8 * class + 6]];
+    let heap = Heap::open(1);
+    assert!(
+        (0..64).all(|class| words(&heap, class) == [4, 256]) && (64..76).all(|class| words(&heap, class) == [32, 256])
+    );
+    let heap = Heap::open_with(1, &[70, 75, 1, 2, 0, 63, 3, 4, 64, 69, 0, 256]);
+    assert!((0..64).all(|class| words(&heap, class) == [3, 4]));
+    assert!(
+        (64..70).all(|class| words(&heap, class) == [0, 256]) && (70..76).all(|class| words(&heap, class) == [1, 2])
+    );
 }

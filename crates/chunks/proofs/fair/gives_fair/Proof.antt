@@ -7,5 +7,5 @@ pub gives-fair-spec : {M : Type 1} → statement M
 gives-fair-spec =
     tie.close
     (tie.spec
-    (λ c κs. search needs) (λ c κs. search needs) (λ c κs. search runs-asks) (λ c. search given-fits) (λ c. search none-given) (λ c κs. search needs)
+    (λ c κs. search needs) (λ c κs. search needs) (λ c κs. search needs) (λ c κs. search runs-asks) (λ c. search given-fits) (λ c. search none-given) (λ c κs. search needs)
     (λ c. search some-given))

@@ -6,10 +6,10 @@ use Rattle.chunks.proofs.fair.runs_given.Statement.{statement}
 use Rattle.chunks.proofs.fair.runs_given.Tie as tie
 
 abbrev Inv-loop : tie.InvT-loop
-Inv-loop meta n shape chunks empties colds s₀ i₀ s i = Counting meta shape chunks empties colds s i
+Inv-loop meta n shape limits chunks empties colds s₀ i₀ s i = Counting meta shape limits chunks empties colds s i
 
 abbrev μ-loop : tie.MeasureT-loop
-μ-loop meta n shape chunks empties colds s₀ i₀ s i = length chunks - i
+μ-loop meta n shape limits chunks empties colds s₀ i₀ s i = length chunks - i
 
 pub runs-given-spec : {M : Type 1} → statement M
 runs-given-spec =

@@ -1,4 +1,4 @@
-use Rattle.release.proofs.FairSteps.{far-partial, cold-last, no-empty}
+use Rattle.release.proofs.FairSteps.{far-partial, limits-last, no-cold, no-empty}
 use borrow.Author.Needs.{needs}
 use Rattle.release.proofs.fair.row_fair.Statement.{statement}
 use Rattle.release.proofs.fair.row_fair.Tie as tie
@@ -7,5 +7,5 @@ pub row-fair-spec : {M : Type 1} → statement M
 row-fair-spec =
     tie.close
     (tie.spec
-    (λ c κs. search needs) (λ c κs. search needs) (λ c. search far-partial) (λ c κs. search needs) (λ c κs. search needs) (λ c. search cold-last)
-    (λ c. search no-empty))
+    (λ c κs. search needs) (λ c κs. search needs) (λ c. search far-partial) (λ c κs. search needs) (λ c κs. search needs) (λ c κs. search needs)
+    (λ c. search limits-last) (λ c. search no-cold) (λ c. search no-empty))

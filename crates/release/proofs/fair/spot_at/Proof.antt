@@ -7,4 +7,4 @@ pub spot-at-spec : {M : Type 1} → statement M
 spot-at-spec =
     tie.close
     (tie.spec
-    (λ c κs. search needs) (λ c κs. search needs) (λ c κs. (search needs, search empties-low)) (λ c. search spot-there))
+    (λ c κs. search needs) (λ c κs. search needs) (λ c κs. search needs) (λ c κs. (search needs, search empties-low)) (λ c. search spot-there))

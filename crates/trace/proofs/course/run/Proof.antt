@@ -3,8 +3,8 @@ use borrow.Author.Needs.{needs}
 use Rattle.trace.proofs.course.run.Statement.{statement}
 use Rattle.trace.proofs.course.run.Tie as tie
 
-open-requires : tie.Need-open-requires
-open-requires c κs = search needs
+open-plain-requires : tie.Need-open-plain-requires
+open-plain-requires c κs = search needs
 
 carry-out-requires : tie.Need-carry-out-requires
 carry-out-requires c κs = search needs
@@ -28,7 +28,7 @@ pub run-spec : {M : Type 1} → statement M
 run-spec =
     tie.close
     (tie.spec
-    open-requires
+    open-plain-requires
     carry-out-requires
     straighten-requires
     same-length

@@ -1,0 +1,194 @@
+-- Document 02, A.9, holds of the exported calls: rows that are not refused cover the classes, their limits stand in the book, and no class
+-- ever has more runs parked than they allow.
+use Prim.Native.Nat.{ℕ, suc, _*_}
+use native.Mathlib.Omega.{arith}
+use mathlib.Core.Bool.{Bool, true, false, cond, false≢true}
+use mathlib.Core.List.{List, [], _∷_}
+use mathlib.Core.Option.{Option, none, some}
+use mathlib.Core.Path.{_≡_, refl, _∙_, subst}
+use lib.Dec.{ltb}
+use lib.ListN.{length}
+use borrow.Author.Tests.{ltb-true, leb-true, lt-ltb}
+use Rattle.facts.specs.Lists.{isNil, every}
+use Rattle.facts.proofs.Bools.{by-cases, and-left, and-right}
+use Rattle.words.specs.Word.{pageOf}
+use Rattle.classes.specs.declared.Shape.{Shape}
+use Rattle.classes.specs.Shape.{shapeOf}
+use Rattle.rules.specs.declared.Limits.{Limits}
+use Rattle.rules.specs.Rules.{Rules, plainRules, rulesOf}
+use Rattle.rules.proofs.Cover.{rows-cover, rules-fit, plain-rules}
+use Rattle.model.specs.Calls as Calls
+use Rattle.model.specs.Calls.{Call, Request, Way, turned, straight, toClass, wayOf}
+use Rattle.model.specs.Page.{Page, isOut, returned, retire, noneOut}
+use Rattle.model.specs.Class.{Class, Cold, lists, Result, Ask, done, asks, serve, refuse, served, onRun, takeFrom}
+use Rattle.model.specs.Spot.{keepsEmpty, spotOf}
+use Rattle.model.specs.Release as Release
+use Rattle.model.specs.Release.{Site, inPartial, inFull, locate, park, settle, onPage, siteOfFirst, releaseList}
+use Rattle.model.specs.Chunks.{startsAt, settleChunk, settleChunks, releaseChunks, answer}
+use Rattle.model.specs.Heap.{Heap, newHeap, step, route, classCall, interact, finish}
+use Rattle.model.specs.History.{heapFrom, heapAfter}
+use Rattle.model.proofs.Update.{update-all}
+use Rattle.model.proofs.Alone.{direct-keeps, step-rules}
+use Rattle.refinement.proofs.Found.{Located, inList, inNone, located}
+use Rattle.demands.specs.Run.{Opens}
+use Rattle.demands.specs.Parking.{Within, Parking}
+use Rattle.demands.proofs.Calls.{room}
+use Rattle.demands.proofs.Histories.{run-represents}
+
+-- ---- one request of a class
+module _ (sh : Shape) (lim : Limits) where
+  abbrev In : Class → Type 0
+  In s = Within sh lim s
+
+  -- what comes of a request, whatever run it is given
+  data Keeps : Ask → Type 0 where
+    over : {r : Result} → In (r .class) → Keeps (done r)
+    away : {n : ℕ} {k : Option ℕ → Result} → ((g : Option ℕ) → In (k g .class)) → Keeps (asks n k)
+
+  keeps-cond : (t : Bool) (x y : Ask) → Keeps x → Keeps y → Keeps (cond t x y)
+  keeps-cond true x y p q = p
+  keeps-cond false x y p q = q
+
+  keeps-refuse : (s : Class) (n : ℕ) → In s → Keeps (refuse s n)
+  keeps-refuse s n y = over y
+
+  -- ---- takes only have runs out of the stores
+  fewer : (ps : List Page) (e : Page) (es : List Page) (cs : List Cold) (fs ps′ fs′ : List Page) → In (lists ps (e ∷ es) cs fs) → In (lists ps′ es cs fs′)
+  fewer ps e es cs fs ps′ fs′ y = record { empty = omega (arith, y .empty); cold = y .cold; pages = omega (arith, y .pages) }
+
+  colder : (ps es : List Page) (c : Cold) (cs : List Cold) (fs ps′ fs′ : List Page) → In (lists ps es (c ∷ cs) fs) → In (lists ps′ es cs fs′)
+  colder ps es c cs fs ps′ fs′ y = record { empty = y .empty; cold = omega (arith, y .cold); pages = y .pages }
+
+  as-were : (ps es : List Page) (cs : List Cold) (fs ps′ fs′ : List Page) → In (lists ps es cs fs) → In (lists ps′ es cs fs′)
+  as-were ps es cs fs ps′ fs′ y = record { empty = y .empty; cold = y .cold; pages = y .pages }
+
+  take-keeps : (l : List ℕ) (ps es : List Page) (cs : List Cold) (fs : List Page) → In (lists ps es cs fs) → Keeps (takeFrom sh l ps es cs fs)
+  unfolding takeFrom served onRun
+  take-keeps l (p ∷ ps) es cs fs y = over (as-were (p ∷ ps) es cs fs _ _ y)
+  take-keeps l [] (e ∷ es) cs fs y = over (fewer [] e es cs fs _ _ y)
+  take-keeps l [] [] (c ∷ cs) fs y = over (colder [] [] c cs fs _ _ y)
+  take-keeps l [] [] [] fs y = away {k = onRun sh l fs} (λ g. run-keeps g)
+    where
+      run-keeps : (g : Option ℕ) → In (onRun sh l fs g .class)
+      run-keeps none = as-were [] [] [] fs [] fs y
+      run-keeps (some q) = as-were [] [] [] fs _ _ y
+
+  -- ---- a run is parked where there is room
+  park-keeps : (h : ℕ) (s : Class) (p : Page) → In s → In (park sh lim h s p .class)
+  unfolding park spotOf
+  park-keeps h s p y =
+      by-cases (keepsEmpty sh lim (length (s .empty)))
+      (λ t. rw t (record {
+        empty = ltb-true (length (s .empty)) (lim .empty) (and-left (ltb (length (s .empty)) (lim .empty)) _ t);
+        cold = y .cold;
+        pages = leb-true (suc (length (s .empty)) * sh .pages) (sh .emptypages) (and-right (ltb (length (s .empty)) (lim .empty)) _ t);
+      }))
+      (λ t. by-cases (ltb (length (s .cold)) (lim .cold))
+      (λ u. rw (t, u) (record { empty = y .empty; cold = ltb-true (length (s .cold)) (lim .cold) u; pages = y .pages }))
+      (λ u. rw (t, u) y))
+
+  -- a page with blocks out leaves the stores alone
+  record Beside (x : Site) : Type 0 where
+    rest : In (x .without)
+    put : (p : Page) → In (x .with p)
+
+  beside : {t : Page → Bool} {s : Class} {x : Site} → In s → Located t s (some x) → Beside x
+  unfolding inPartial inFull
+  beside y (inList f k) = record { rest = record { empty = y .empty; cold = y .cold; pages = y .pages }; put = λ p. record { empty = y .empty; cold = y .cold; pages = y .pages } }
+  beside y (inNone f k) = record { rest = record { empty = y .empty; cold = y .cold; pages = y .pages }; put = λ p. record { empty = y .empty; cold = y .cold; pages = y .pages } }
+
+  settle-keeps : (h : ℕ) (retires : Bool) (ws : List ℕ) (x : Site) → Beside x → In (settle sh lim h retires ws x .class)
+  unfolding settle
+  settle-keeps h retires ws x y =
+      by-cases (noneOut sh (returned ws (x .page)))
+      (λ t. rw t (leaves retires))
+      (λ t. rw t (y .put (returned ws (x .page))))
+    where
+      leaves : (u : Bool) → In (cond u (Release.markRetired (park sh lim h (x .without) (retire (x .page)))) (park sh lim h (x .without) (returned ws (x .page))) .class)
+      leaves true = park-keeps h (x .without) (retire (x .page)) (y .rest)
+      leaves false = park-keeps h (x .without) (returned ws (x .page)) (y .rest)
+
+  page-keeps : (h : ℕ) {t : Page → Bool} (s : Class) (ws : List ℕ) → In s → (o : Option Site) → Located t s o → Keeps (onPage sh lim h s ws o)
+  unfolding onPage
+  page-keeps h s ws y none l = over y
+  page-keeps h s ws y (some x) l =
+      by-cases (every (λ w. isOut sh w (x .page)) ws) (λ t. rw t (over (settle-keeps h false ws x (beside y l)))) (λ t. rw t (over y))
+
+  first-keeps : (h : ℕ) (s : Class) (ws : List ℕ) → In s → Keeps (onPage sh lim h s ws (siteOfFirst sh s ws))
+  unfolding onPage
+  first-keeps h s [] y = over y
+  first-keeps h s (w ∷ ws) y = page-keeps h s (w ∷ ws) y _ (located _ s)
+
+  chunk-keeps : (h : ℕ) {t : Page → Bool} (s : Class) (ws : List ℕ) → In s → (o : Option Site) → Located t s o → In (settleChunk sh lim h s ws o .class)
+  unfolding settleChunk
+  chunk-keeps h s ws y none l = y
+  chunk-keeps h s ws y (some x) l = settle-keeps h true _ x (beside y l)
+
+  chunks-keep : (h : ℕ) (ws : List ℕ) (s : Class) (gs : List ℕ) → In s → In (settleChunks sh lim h ws s gs .class)
+  unfolding settleChunks
+  chunks-keep h ws s [] y = y
+  chunks-keep h ws s (g ∷ gs) y =
+      chunks-keep h ws (settleChunk sh lim h s ws (locate (startsAt (pageOf g)) s) .class) gs
+      (chunk-keeps h s ws y (locate (startsAt (pageOf g)) s) (located (startsAt (pageOf g)) s))
+
+  chunks-over : (h : ℕ) (ws : List ℕ) (s : Class) (gs l : List ℕ) → In s → (let b = settleChunks sh lim h ws s gs in Keeps (done (record { class = b .class; answer = Calls.fates l; gives = b .gives })))
+  chunks-over h ws s gs l y = over (chunks-keep h ws s gs y)
+
+  answer-keeps : (s : Class) → In s → (r : Request) → Keeps (answer sh lim s r)
+  unfolding answer releaseList releaseChunks
+  answer-keeps s y (Calls.take h l) = search (keeps-cond, keeps-refuse, take-keeps l (s .partial) (s .empty) (s .cold) (s .full) (as-were (s .partial) (s .empty) (s .cold) (s .full) (s .partial) (s .full) y)) depth 9
+  answer-keeps s y (Calls.giveBack h ws) = search (keeps-cond, keeps-refuse, first-keeps) depth 9
+  answer-keeps s y (Calls.giveChunks h ws gs fs) = search (keeps-cond, keeps-refuse, chunks-over) depth 9
+
+  serve-keeps : (q : Ask) (g : Option ℕ) → Keeps q → In (serve q g .class)
+  serve-keeps q g (over y) = y
+  serve-keeps q g (away y) = y g
+
+-- ---- after every history
+abbrev AllWithin : Heap → Type 0
+AllWithin H = (c : ℕ) → Within (shapeOf c) (H .rules c) (H .classes c)
+
+route-within : (n : ℕ) (H : Heap) → AllWithin H → (x : Call) (w : Way) → AllWithin (route n H x w .heap)
+unfolding classCall interact finish
+route-within n H y x turned c = y c
+route-within n H y x straight c = rw (direct-keeps n H x .kept, direct-keeps n H x .ruled) (y c)
+route-within n H y x (toClass d) c =
+    let k = d .class in
+    let lim = H .rules k in
+    update-all (H .classes) (λ j s. Within (shapeOf j) (H .rules j) s) k _
+    (serve-keeps (shapeOf k) lim (answer (shapeOf k) lim (H .classes k) (d .request)) _ (answer-keeps (shapeOf k) lim (H .classes k) (y k) (d .request)))
+    y c
+
+within-from : (n : ℕ) (H : Heap) → AllWithin H → (xs : List Call) → AllWithin (heapFrom n H xs)
+unfolding step
+within-from n H y [] = y
+within-from n H y (x ∷ xs) = within-from n (step n H x .heap) (route-within n H y x (wayOf x)) xs
+
+rules-from : (n : ℕ) (H : Heap) (xs : List Call) → heapFrom n H xs .rules ≡ H .rules
+rules-from n H [] = refl
+rules-from n H (x ∷ xs) = rw (rules-from n (step n H x .heap) xs) (step-rules n H x)
+
+pub rules-after : (n : ℕ) (rules : Rules) (xs : List Call) → heapAfter n rules xs .rules ≡ rules
+unfolding newHeap
+rules-after n rules xs = rules-from n (newHeap rules) xs
+
+within-after : (n : ℕ) (rules : Rules) (xs : List Call) (c : ℕ) → Within (shapeOf c) (rules c) (heapAfter n rules xs .classes c)
+unfolding newHeap
+within-after n rules xs c =
+    subst (λ (r : Rules). Within (shapeOf c) (r c) (heapAfter n rules xs .classes c)) (rules-after n rules xs)
+    (within-from n (newHeap rules) (λ k. record { empty = omega arith; cold = omega arith; pages = omega arith }) xs c)
+
+nil-rules : (rows : List ℕ) → isNil rows ≡ true → rulesOf rows ≡ plainRules
+nil-rules [] e = plain-rules
+nil-rules (x ∷ rows) e = absurd (false≢true e)
+
+pub parking : (n : ℕ) (rows b : List ℕ) → Opens n rows b → Parking n rows b
+parking n rows b o =
+    let r = room n rows b o .ruled in
+    record {
+      rows-cover = rows-cover rows r;
+      no-rows = nil-rules rows;
+      fit = rules-fit rows r;
+      stand = λ xs c h. run-represents n rows b o xs .rules c (lt-ltb c 76 h) .same ∙ rw (rules-after n (rulesOf rows) xs);
+      within = within-after n (rulesOf rows);
+    }

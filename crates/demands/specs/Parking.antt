@@ -1,0 +1,35 @@
+-- Document 02, A.9, of an unrefused opening of n pages on the book b with these rule rows. proofs/Parking proves it.
+--     Within     a class has parked no more runs than its limits allow
+--     Parking    what the rows say, and that it holds after every history
+use Prim.Native.Nat.{ℕ, _*_, _≤_, _<_}
+use mathlib.Core.Bool.{true, false}
+use mathlib.Core.List.{List}
+use mathlib.Core.Path.{_≡_}
+use lib.ListN.{length}
+use Rattle.facts.specs.Lists.{isNil}
+use Rattle.classes.specs.declared.Shape.{Shape}
+use Rattle.classes.specs.Shape.{shapeOf, classCount}
+use Rattle.rules.specs.declared.Limits.{Limits}
+use Rattle.rules.specs.Rules.{plainRules, rowsIn, rulesOf, RowsCover, Fit}
+use Rattle.model.specs.Calls.{Call}
+use Rattle.model.specs.Class.{Class}
+use Rattle.model.specs.History.{heapAfter}
+use Rattle.pages.specs.Fair.{limitsAt}
+use Rattle.demands.specs.Run.{bookAfter}
+
+pub record Within (sh : Shape) (lim : Limits) (s : Class) : Type 0 where
+  pub empty : length (s .empty) ≤ lim .empty
+  pub cold : length (s .cold) ≤ lim .cold
+  -- "each medium class's own 8 MiB stays beside them"; it does not bind a small class
+  pub pages : length (s .empty) * sh .pages ≤ sh .emptypages
+
+pub record Parking (n : ℕ) (rows b : List ℕ) : Type 0 where
+  -- rows "must cover 0 to 75 without gap or overlap. A row's limits hold for each of its classes"
+  pub rows-cover : isNil rows ≡ false → RowsCover (rowsIn rows) (rulesOf rows)
+  -- "With no rows, 01's limits hold"
+  pub no-rows : isNil rows ≡ true → rulesOf rows ≡ plainRules
+  pub fit : (c : ℕ) → Fit (rulesOf rows c)
+  -- each class's limits stand in its own row of the book: no call changes them
+  pub stand : (xs : List Call) (c : ℕ) → c < classCount → limitsAt (bookAfter n rows b xs) c ≡ rulesOf rows c
+  -- and its stores keep to them, "alone": the class's own runs are counted
+  pub within : (xs : List Call) (c : ℕ) → Within (shapeOf c) (rulesOf rows c) (heapAfter n (rulesOf rows) xs .classes c)

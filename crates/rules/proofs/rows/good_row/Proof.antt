@@ -1,0 +1,7 @@
+use borrow.Author.Needs.{needs}
+use Rattle.rules.proofs.rows.good_row.Statement.{statement}
+use Rattle.rules.proofs.rows.good_row.Tie as tie
+use Rattle.rules.proofs.RowSteps.{good-ends, good-turned, good-unfit}
+
+pub good-row-spec : {M : Type 1} → statement M
+good-row-spec = tie.close (tie.spec (λ c κs. search needs) (λ c. search needs) (λ c. search needs) (λ c. search needs) (λ c. search needs) (λ c. search needs) (λ c. search needs) (λ c. search needs) (λ c. search needs) (λ c. search good-ends) (λ c. search good-turned) (λ c. search good-unfit))
