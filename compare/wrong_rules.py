@@ -51,6 +51,9 @@ SHAPE_CODE = "crates/classes/src/runs.rt"
 PARKING = "compare/src/parking.rs"
 ROWS = "crates/rules/specs/Rules.antt"
 ROWS_CODE = "crates/rules/src/rows.rt"
+# The tests of 15 and 10, in both of a class's releases.
+REPEATED = "(cond (repeats sh s ws) (refuse s 15)"
+FOREIGN = "(cond (not (every (outHere sh s) ws)) (refuse s 10)"
 # The boundary tests that look into the book.
 BOOK_TESTS = ["ranges::", "marks::", "joins::stands", "holes::a_cut_hole_keeps_its_index", "holes::the_last_hole_takes_a_used_up_ones_place"]
 
@@ -254,14 +257,14 @@ RULES = [
                 CHUNKS,
                 at(
                     4,
-                    "let b = settleChunk sh h s ws (locate (startsAt (pageOf g)) s) in",
-                    "let r = settleChunks sh h ws (b .class) gs in",
+                    "let b = settleChunk sh lim h s ws (locate (startsAt (pageOf g)) s) in",
+                    "let r = settleChunks sh lim h ws (b .class) gs in",
                     "record { class = r .class;",
                 ),
                 at(
                     4,
-                    "let r = settleChunks sh h ws s gs in",
-                    "let b = settleChunk sh h (r .class) ws (locate (startsAt (pageOf g)) (r .class)) in",
+                    "let r = settleChunks sh lim h ws s gs in",
+                    "let b = settleChunk sh lim h (r .class) ws (locate (startsAt (pageOf g)) (r .class)) in",
                     "record { class = b .class;",
                 ),
             )
@@ -496,14 +499,37 @@ RULES = [
     Rule(
         "a repeat is 10",
         heap=[(LEDGER, "return Some(15);", "return Some(10);")],
+        model=[(file, REPEATED, "(cond (repeats sh s ws) (refuse s 10)") for file in (RELEASE, CHUNKS)],
     ),
     Rule(
         "a block that is not out comes before a repeat",
         heap=[(LEDGER, "if self.count_out(id, &twice) > 0 {", "if self.count_out(id, &twice) > 0 && words.iter().all(|&word| self.count_out(id, &[word]) == 1) {")],
+        model=[(file, f"{REPEATED}\n    {FOREIGN}", f"{FOREIGN}\n    {REPEATED}") for file in (RELEASE, CHUNKS)],
     ),
     Rule(
         "a repeat of a block that is not out is 15",
         heap=[(LEDGER, "if self.count_out(id, &twice) > 0 {", "if !twice.is_empty() {")],
+        model=[(RELEASE, "not (distinct (filter (outHere sh s) ws))", "not (distinct ws)")],
+    ),
+    Rule(
+        "a repeat comes after 11",
+        heap=[
+            (
+                LEDGER,
+                "self.block_refusal(family, class, list)\n",
+                "self.block_refusal(family, class, list)\n"
+                ".map(|number| match list.iter().all(|word| self.run.get(page_of(*word) as usize) == self.run.get(page_of(list[0]) as usize)) {\n"
+                "    true => number,\n"
+                "    false => number.min(11),\n"
+                "})\n",
+            )
+        ],
+        model=[
+            (RELEASE, f"    {REPEATED}\n", ""),
+            (RELEASE, "(onPage sh lim h s ws (siteOfFirst sh s ws)))))", "(onPage sh lim h s ws (siteOfFirst sh s ws))))"),
+            (RELEASE, "    (let b = settle sh lim h false ws x in done", f"    {REPEATED}\n    (let b = settle sh lim h false ws x in done"),
+            (RELEASE, "gives = b .gives }))\n    (refuse s 11)", "gives = b .gives })))\n    (refuse s 11)"),
+        ],
     ),
     Rule(
         "holes that touch stay apart",

@@ -285,7 +285,7 @@ uint32_t vigbuso_medium_take_blocks(uint32_t *book, size_t book_len, uint32_t si
  *   book   book_len words, written
  *   list   list_len block words, read; 1 at least
  *   fate   the page's: VIGBUSO_KEPT, VIGBUSO_COLD or VIGBUSO_TO_ARENA
- * Returns 0, or 1, 2, 3, 4, 7, 9, 15, 10, 11, 13.
+ * Returns 0, or 1, 2, 3, 4, 7, 9, 13 (a mark), 15, 10, 11, 13.
  */
 uint32_t vigbuso_release_blocks(uint32_t *book, size_t book_len, uint32_t size_class, uint32_t host, const uint32_t *list,
                                 size_t list_len, uint32_t *fate);
@@ -295,7 +295,7 @@ uint32_t vigbuso_release_blocks(uint32_t *book, size_t book_len, uint32_t size_c
  *   book   book_len words, written
  *   list   list_len block words, read; 1 at least
  *   fate   the span's: VIGBUSO_KEPT, for cold too, or VIGBUSO_TO_ARENA
- * Returns 0, or 1, 2, 3, 4, 7, 9, 15, 10, 11, 13.
+ * Returns 0, or 1, 2, 3, 4, 7, 9, 13 (a mark), 15, 10, 11, 13.
  */
 uint32_t vigbuso_medium_release_blocks(uint32_t *book, size_t book_len, uint32_t size_class, uint32_t host,
                                        const uint32_t *list, size_t list_len, uint32_t *fate);
@@ -306,7 +306,7 @@ uint32_t vigbuso_medium_release_blocks(uint32_t *book, size_t book_len, uint32_t
  *   list    list_len block words, read; 1 at least
  *   chunks  chunks_len chunk words, read; 1 to 2,056
  *   fates   fates_len words, chunks_len at least; the first chunks_len are written, in the chunks' order, the others kept
- * Returns 0, or 1, 2, 3, 4, 7, 8, 9, 15, 10, 11, 13.
+ * Returns 0, or 1, 2, 3, 4, 7, 8, 9, 13 (a mark), 15, 10, 11, 13.
  */
 uint32_t vigbuso_release_bin_chunks(uint32_t *book, size_t book_len, uint32_t size_class, uint32_t host,
                                     const uint32_t *list, size_t list_len, const uint32_t *chunks, size_t chunks_len,

@@ -1,7 +1,8 @@
 //! Marks that are not clear (document 02, A.3), on the port: at each release and take of a random history some mark words of a
 //! second book hold anything. Where one is the word of a listed block that is out, the call is refused as 13, after 9 and before 15;
 //! otherwise it answers as on the book without them, which answers as the judge does. What is refused changes no word, and what is
-//! carried out leaves the same book, the marks aside, which it does not touch but on a new run.
+//! carried out leaves the same book, the marks aside, which it does not touch but on a new run. On the book without marks no page has one
+//! after any call.
 
 use std::collections::BTreeMap;
 
@@ -28,7 +29,8 @@ const SCENARIOS: [&str; 3] = ["mixed", "exhaustion", "chunks"];
 struct Tally {
     calls: u64,
     marked: u64,
-    refused: BTreeMap<u32, u64>,
+    /// Of the book without marks, and of the one with them.
+    refused: [BTreeMap<u32, u64>; 2],
 }
 
 pub fn run(words: &[String]) -> Result<bool, String> {
@@ -44,8 +46,12 @@ pub fn run(words: &[String]) -> Result<bool, String> {
         progress.show(tally.marked, calls, "calls");
     }
     println!("{} calls, {} of them also on a book with marks", tally.calls, tally.marked);
-    for (number, times) in &tally.refused {
-        println!("  {times:>12} refused as {number}");
+    for (refused, book) in tally.refused.iter().zip(["without", "with"]) {
+        let all: u64 = refused.values().sum();
+        println!("{all} refused on the book {book} marks, every word of it as it was");
+        for (number, times) in refused {
+            println!("  {times:>12} refused as {number}");
+        }
     }
     println!("{:.1} s", progress.seconds());
     println!("0 differences");
@@ -71,6 +77,16 @@ fn play(random: &mut Random, tally: &mut Tally) -> Result<(), String> {
         if port::ask(&mut plain, &mut room, &call) != answer {
             return Err(wrong("another answer than the judge's"));
         }
+        if let Answer::Refused(number) = answer {
+            // The second book is as the first was before the call.
+            if plain != marked {
+                return Err(wrong(&format!("refused as {number}, and the book changed")));
+            }
+            *tally.refused[0].entry(number).or_default() += 1;
+        }
+        if (0..pages).any(|page| plain[page_words(page)..][..MARK_WORDS].iter().any(|&mark| mark != 0)) {
+            return Err(wrong("a mark is left"));
+        }
         marks.iter().for_each(|(&word, &mark)| marked[word] = mark);
         let before = marked.clone();
         let got = port::ask(&mut marked, &mut room, &call);
@@ -92,7 +108,7 @@ fn play(random: &mut Random, tally: &mut Tally) -> Result<(), String> {
         }
         if !marks.is_empty() {
             tally.marked += 1;
-            number.into_iter().for_each(|number| *tally.refused.entry(number).or_default() += 1);
+            number.into_iter().for_each(|number| *tally.refused[1].entry(number).or_default() += 1);
         }
     }
     Ok(())

@@ -5,8 +5,8 @@ use core::fmt;
 /// What the arena has done, and whose its pages are. It prints as a line of status. Later versions may have more figures.
 ///
 /// A page or span whose blocks are all back is parked: its class holds it, yet it is idle, so it counts as both, and
-/// `held + idle - overlap` is the arena's pages but those abandoned. A run that was given back while 4,096 holes or 65,536
-/// pages of holes were stored is abandoned: its pages are neither held nor idle.
+/// `held + idle - overlap` is the arena's pages but those abandoned. A run that is given back is abandoned where the holes would
+/// have more than 65,536 pages with it, or where 4,096 holes are stored and it touches none: its pages are neither held nor idle.
 ///
 /// ```
 /// use vigbuso::{Class, Heap, Report};

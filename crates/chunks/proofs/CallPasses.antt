@@ -1,6 +1,6 @@
 -- The passes of a group release, once its listed blocks are taken.
 --     match-asks, fair-asks, settle-asks    what each pass asks follows from the tests before it
---     mismatch, unfair, settled             the ways out of the passes
+--     mismatch, unfair, taken               numbers 11 and 13, and the taking
 use Prim.Native.Nat.{ℕ, _+_, _≤_, _<_}
 use native.Mathlib.Omega.{arith}
 use mathlib.Core.Bool.{Bool, true, false, cond, _&&_, _||_}
@@ -26,17 +26,17 @@ use Rattle.pages.specs.Fair.{linksFair, limitsAt}
 use Rattle.release.proofs.Bits.{isBit, in-run-kept}
 use Rattle.release.proofs.FairSteps.{links-fair}
 use Rattle.release.proofs.OutLaws.{run-of-out, index-of-out, page-of-out}
-use Rattle.tally.specs.Match.{MatchAsks, Matched}
+use Rattle.tally.specs.Match.{wordsOn, MatchAsks, Matched}
 use Rattle.chunks.specs.Pass.{cleared, pushOne, pushAll, givesIn}
-use Rattle.chunks.specs.PushAsks.{wordsOn, PushAllAsks}
+use Rattle.chunks.specs.PushAsks.{PushAllAsks}
 use Rattle.chunks.specs.FairAsks.{ChunksFairAsks}
 use Rattle.chunks.specs.PlaceAsks.{placeFair, PlaceAsks, Placed}
 use Rattle.chunks.specs.GiveAsks.{givesFair, GiveChunksAsks}
-use Rattle.chunks.specs.CallAsks.{allPlaced, settledTo, passes, hasBit, PassAsks, TakenAsks, BitsAsks, SettleAsks, ChunksAnswered}
+use Rattle.chunks.specs.CallAsks.{allPlaced, settledTo, passFault, hasBit, PassAsks, TakenAsks, BitsAsks, SettleAsks, TakenBy, ChunksAnswered}
 use Rattle.chunks.proofs.PushLaws.{push-free, on-here, on-more}
 use Rattle.chunks.proofs.Gather.{page-start}
 use Rattle.chunks.proofs.GatherGives.{idle, ofClass, gives-count, gives-in, fates-length, all-changes}
-use Rattle.chunks.proofs.CallTests.{match-kept, chunks-fair-kept, fair-pages, words-on, fits-count, fits-lands, match-apart, match-fits, chunks-below, slots-left, page-there}
+use Rattle.chunks.proofs.CallTests.{match-kept, match-is, chunks-fair-kept, fair-pages, words-on, fits-count, fits-lands, match-apart, match-fits, chunks-below, slots-left, page-there}
 
 -- ---- the blocks back on their stacks: of the words that are tested, only FREE is another
 abbrev stacked : Field → Bool
@@ -66,7 +66,7 @@ every-both t u v k (g ∷ gs) e f =
     rw (k g (and-left (t g) (every t gs) e) (and-left (u g) (every u gs) f)) (every-both t u v k gs (and-right (t g) (every t gs) e) (and-right (u g) (every u gs) f))
 
 -- ---- what the passes ask
-module _ (n : ℕ) (b : List ℕ) (c : ℕ) (sh : Shape) (ws gs fs : List ℕ) (a : TakenAsks n b c sh ws gs fs) where
+module _ (n : ℕ) (b : List ℕ) (c : ℕ) (sh : Shape) (ws gs : List ℕ) (a : TakenAsks n b c sh ws gs) where
   pub match-asks : MatchAsks n b ws gs
   match-asks = record { few = a .call .class .few; long = a .call .class .long; chunks = a .chunks; pages = words-on n b c sh (a .call .single) ws (a .runs) }
 
@@ -74,7 +74,7 @@ module _ (n : ℕ) (b : List ℕ) (c : ℕ) (sh : Shape) (ws gs fs : List ℕ) (
     pub fair-asks : ChunksFairAsks n b c sh gs
     fair-asks = record { class = a .call .class; below = chunks-below n b c sh (a .call .single) ws gs (a .runs) m; chunks = a .chunks }
 
-    module _ (f : chunksFair n b c sh gs ≡ true) (h : ℕ) where
+    module _ (f : chunksFair n b c sh gs ≡ true) (fs : List ℕ) (enough : length gs ≤ length fs) (h : ℕ) where
       fair-low : get b (arena frontier) ≤ n
       unfolding chunksFair
       fair-low = leb-true (get b (arena frontier)) n (and-left (leb (get b (arena frontier)) n) _ f)
@@ -137,7 +137,7 @@ module _ (n : ℕ) (b : List ℕ) (c : ℕ) (sh : Shape) (ws gs fs : List ℕ) (
             pages = every-both (chunkFits b ws) (λ g. pageFair b sh (countOf g) (pageOf g)) (λ g. placeFair (pushAll b sh ws) (pageOf g))
                 (λ g i j. rw (links-kept (pageOf g), e, lt-ltb (pageOf g) (get b (arena frontier)) (fits-lands n b c sh (a .call .single) ws gs (a .runs) m g i .low)) (links-fair b sh (countOf g) (pageOf g) j))
                 gs (match-fits n b c sh (a .call .single) ws gs (a .runs) m) pages;
-            room = a .fates;
+            room = enough;
           }
 
       -- a page has no block out after the passes exactly if its chunk returned all that it had
@@ -207,7 +207,7 @@ module _ (b : List ℕ) (sh : Shape) where
       (changes-put isBit b d (out (pageAt w) (indexOf sh (pageAt w) w)) 0 (and-right (ltb (pageAt w) n) _ u) refl h)
 
 -- ---- the ways out of the passes
-module _ (n : ℕ) (b : List ℕ) (c : ℕ) (sh : Shape) (ws gs fs : List ℕ) (a : PassAsks n b c sh ws gs fs) where
+module _ (n : ℕ) (b : List ℕ) (c : ℕ) (sh : Shape) (ws gs : List ℕ) (a : PassAsks n b c sh ws gs) where
   in-runs : (vs : List ℕ) → every (outAt n b c sh) vs ≡ true → every (inRunOf n b sh c) vs ≡ true
   in-runs [] o = refl
   in-runs (v ∷ vs) o =
@@ -230,10 +230,10 @@ module _ (n : ℕ) (b : List ℕ) (c : ℕ) (sh : Shape) (ws gs fs : List ℕ) (
   changes : Changes isBit b (cleared b sh ws)
   changes = cleared-changes b sh n ws b bits (changes-none isBit b)
 
-  as-before : TakenAsks n b c sh ws gs fs
-  as-before = record { call = a .call; runs = in-runs ws (a .out); chunks = a .chunks; fates = a .fates }
+  as-before : TakenAsks n b c sh ws gs
+  as-before = record { call = a .call; runs = in-runs ws (a .out); chunks = a .chunks }
 
-  taken-asks : TakenAsks n (cleared b sh ws) c sh ws gs fs
+  taken-asks : TakenAsks n (cleared b sh ws) c sh ws gs
   taken-asks = record {
     call = record {
       class = record { known = a .call .class .known; sound = a .call .class .sound; few = a .call .class .few; long = omega (arith, changes .long, a .call .class .long) };
@@ -241,48 +241,46 @@ module _ (n : ℕ) (b : List ℕ) (c : ℕ) (sh : Shape) (ws gs fs : List ℕ) (
     };
     runs = every-same (inRunOf n (cleared b sh ws) sh c) (inRunOf n b sh c) ws (in-run-kept b (cleared b sh ws) changes n sh c) ∙ in-runs ws (a .out);
     chunks = a .chunks;
-    fates = a .fates;
   }
 
-  pub match-first : MatchAsks n b ws gs
-  match-first = match-asks n b c sh ws gs fs as-before
+  pub settle-next : chunksMatch b ws gs ≡ true → chunksFair n b c sh gs ≡ true → (fs : List ℕ) → length gs ≤ length fs → (h : ℕ) → SettleAsks n (cleared b sh ws) c sh h ws gs fs
+  settle-next m f fs l h =
+      settle-asks n (cleared b sh ws) c sh ws gs taken-asks (match-kept b (cleared b sh ws) changes ws gs ∙ m)
+      (chunks-fair-kept b (cleared b sh ws) changes c (lt-ltb c 76 (a .call .class .known)) n sh gs ∙ f) fs l h
 
-  module _ (h : ℕ) (t : Bool) (b′ : List ℕ) (k : Matched t b′ b ws gs) where
-    pub mismatch : t ≡ false → ChunksAnswered 11 b′ fs (passes n b c sh h ws gs fs)
-    unfolding passes
-    mismatch e = rw (sym (k .answer) ∙ e) (record { answer = refl; left = k .left; fates = refl })
+  pub match-first : MatchAsks n b ws gs
+  match-first = match-asks n b c sh ws gs as-before
+
+  module _ (t : Bool) (b′ : List ℕ) (k : Matched t b′ b ws gs) where
+    told : chunksMatch b ws gs ≡ t
+    told = match-is n b c sh (a .call .single) ws gs (in-runs ws (a .out)) ∙ sym (k .answer)
+
+    pub mismatch : t ≡ false → TakenBy 11 b′ (passFault n b c sh ws gs) b sh ws
+    unfolding passFault
+    mismatch e = rw (told ∙ e) (record { answer = refl; left = k .left })
 
     module _ (e : t ≡ true) where
       matches : chunksMatch b ws gs ≡ true
-      matches = sym (k .answer) ∙ e
+      matches = told ∙ e
 
       pub fair-next : ChunksFairAsks n b′ c sh gs
-      fair-next = rw (k .left) (fair-asks n b c sh ws gs fs as-before matches)
+      fair-next = rw (k .left) (fair-asks n b c sh ws gs as-before matches)
 
       module _ (u : Bool) (j : u ≡ chunksFair n b′ c sh gs) where
         fairs : chunksFair n b c sh gs ≡ u
         fairs = rw (← (k .left)) (sym j)
 
-        pub unfair : u ≡ false → ChunksAnswered 13 b′ fs (passes n b c sh h ws gs fs)
-        unfolding passes
-        unfair x = rw (matches, fairs ∙ x) (record { answer = refl; left = k .left; fates = refl })
+        pub unfair : u ≡ false → TakenBy 13 b′ (passFault n b c sh ws gs) b sh ws
+        unfolding passFault
+        unfair x = rw (matches, fairs ∙ x) (record { answer = refl; left = k .left })
 
         module _ (x : u ≡ true) where
           pub clear-next : BitsAsks n b′ sh ws
           clear-next = rw (k .left) (record { sound = a .call .class .sound; few = a .call .class .few; long = a .call .class .long; bits = bits })
 
-          module _ (d : List ℕ) (l : d ≡ cleared b′ sh ws) where
-            cleared-is : d ≡ cleared b sh ws
-            cleared-is = l ∙ rw (k .left)
-
-            pub settle-next : SettleAsks n d c sh h ws gs fs
-            settle-next =
-                rw cleared-is (settle-asks n (cleared b sh ws) c sh ws gs fs taken-asks (match-kept b (cleared b sh ws) changes ws gs ∙ matches)
-                (chunks-fair-kept b (cleared b sh ws) changes c (lt-ltb c 76 (a .call .class .known)) n sh gs ∙ fairs ∙ x) h)
-
-            pub settled : (b″ fs″ : List ℕ) → ChunksAnswered 0 b″ fs″ (settledTo (allPlaced d c sh h ws gs) sh gs fs) → ChunksAnswered 0 b″ fs″ (passes n b c sh h ws gs fs)
-            unfolding passes
-            settled b″ fs″ p = rw (matches, fairs ∙ x) (rw cleared-is at p)
+          pub taken : (d : List ℕ) → d ≡ cleared b′ sh ws → TakenBy 0 d (passFault n b c sh ws gs) b sh ws
+          unfolding passFault
+          taken d l = rw (matches, fairs ∙ x) (record { answer = refl; left = l ∙ rw (k .left) })
 
 -- ---- one pass after the other
 module _ (n : ℕ) (b : List ℕ) (c : ℕ) (sh : Shape) (h : ℕ) (ws gs fs : List ℕ) (a : SettleAsks n b c sh h ws gs fs) (b₁ : List ℕ) (e : b₁ ≡ pushAll b sh ws) where

@@ -1,5 +1,6 @@
 -- The ways through a group release.
---     faulted, passed-on         numbers 13 for a mark, 15 and 10, and what the passes answered
+--     faulted .. tested          the numbers of the taking, each over the whole list or at once
+--     refused, settled           what the call answers
 --     no-list .. bad-host        numbers 7, 8, 9 and 3
 --     small-asks                 what the call asks holds of every small class
 use Prim.Native.Nat.{ℕ, _≤_, _<_}
@@ -9,7 +10,7 @@ use mathlib.Core.List.{List, [], _∷_}
 use mathlib.Core.Path.{_≡_, refl, sym, _∙_}
 use lib.Dec.{eqb, ltb, leb}
 use lib.ListN.{length}
-use borrow.Author.Tests.{lt-ltb, le-ltb, le-leb, ne-eqb}
+use borrow.Author.Tests.{lt-ltb, le-ltb, le-leb, ne-eqb, eqb-true, eqb-false}
 use Rattle.facts.specs.Lists.{isNil, every}
 use Rattle.facts.proofs.Bools.{by-cases, and-left}
 use Rattle.words.specs.Word.{chunkKind}
@@ -23,27 +24,55 @@ use Rattle.model.specs.Release.{ofKind}
 use Rattle.model.specs.Chunks.{chunksMax}
 use Rattle.calls.specs.Out.{outAt, outFault}
 use Rattle.calls.proofs.Out.{passed}
-use Rattle.calls.specs.Chunks.{chunksMatch, chunksFair, settleChunks, ChunksReleased, chunksNone, releaseChunks}
+use Rattle.calls.specs.Chunks.{chunksMatch, chunksFair, settleChunks, chunksNone, releaseChunks}
 use Rattle.release.specs.MarkAsks.{FaultAsks, Faulted}
 use Rattle.chunks.specs.Pass.{cleared}
-use Rattle.chunks.specs.CallAsks.{allPlaced, settledTo, passes, CallAsks, ListedAsks, PassAsks, ChunksAnswered}
+use Rattle.chunks.specs.CallAsks.{allPlaced, settledTo, passFault, testFault, CallAsks, ListedAsks, TestAsks, PassAsks, SettleAsks, TakenBy, ChunksAnswered}
+use Rattle.chunks.specs.MarkAsks.{TryAsks, Tried}
 use Rattle.chunks.proofs.Gather.{gathered}
 use Rattle.chunks.proofs.CallTests.{fair-pages}
+use Rattle.chunks.proofs.CallPasses.{settle-next}
 
--- from number 11 on, as the definition has it
-abbrev from11 : ℕ → List ℕ → ℕ → Shape → ℕ → List ℕ → List ℕ → List ℕ → ChunksReleased
-from11 n b c sh h ws gs fs =
-    cond (not (chunksMatch b ws gs)) (chunksNone b fs 11) (cond (not (chunksFair n b c sh gs)) (chunksNone b fs 13) (settledTo (settleChunks b c sh h ws gs) sh gs fs))
+-- ---- the numbers of the taking
+module _ (n : ℕ) (b : List ℕ) (c : ℕ) (sh : Shape) (ws gs : List ℕ) where
+  -- none applies
+  record NoFault : Type 0 where
+    fault : outFault n b c sh ws ≡ 0
+    matches : chunksMatch b ws gs ≡ true
+    fair : chunksFair n b c sh gs ≡ true
 
-module _ (n : ℕ) (b : List ℕ) (c : ℕ) (sh : Shape) (ws gs fs : List ℕ) (a : ListedAsks n b c sh ws gs fs) where
+  no-fault : testFault n b c sh ws gs ≡ 0 → NoFault
+  unfolding testFault passFault
+  no-fault e =
+      by-cases (eqb (outFault n b c sh ws) 0)
+      (λ o. by-cases (chunksMatch b ws gs)
+      (λ m. by-cases (chunksFair n b c sh gs)
+      (λ f. record { fault = eqb-true (outFault n b c sh ws) 0 o; matches = m; fair = f })
+      (λ f. absurd (none 13 (λ z. omega arith) (rw (o, m, f) at e))))
+      (λ m. absurd (none 11 (λ z. omega arith) (rw (o, m) at e))))
+      (λ o. absurd (eqb-false (outFault n b c sh ws) 0 o (rw o at e)))
+    where
+      none : (k : ℕ) → (k ≡ 0 → ⊥) → k ≡ 0 → ⊥
+      none k f e = f e
+
+  module _ (h : ℕ) (fs : List ℕ) where
+    pub by-fault : cond (not (eqb (outFault n b c sh ws) 0)) (chunksNone b fs (outFault n b c sh ws))
+        (cond (not (chunksMatch b ws gs)) (chunksNone b fs 11) (cond (not (chunksFair n b c sh gs)) (chunksNone b fs 13) (settledTo (settleChunks b c sh h ws gs) sh gs fs)))
+        ≡ cond (not (eqb (testFault n b c sh ws gs) 0)) (chunksNone b fs (testFault n b c sh ws gs)) (settledTo (settleChunks b c sh h ws gs) sh gs fs)
+    unfolding testFault passFault
+    by-fault =
+        by-cases (eqb (outFault n b c sh ws) 0)
+        (λ o. by-cases (chunksMatch b ws gs)
+        (λ m. by-cases (chunksFair n b c sh gs) (λ f. rw (o, m, f)) (λ f. rw (o, m, f)))
+        (λ m. rw (o, m)))
+        (λ o. rw (o, o))
+
+module _ (n : ℕ) (b : List ℕ) (c : ℕ) (sh : Shape) (ws gs : List ℕ) (a : ListedAsks n b c sh ws gs) where
   sound : Sound sh
   sound = a .call .class .sound
 
   hb : leb (words n) (length b) ≡ true
   hb = le-leb (words n) (length b) (a .call .class .long)
-
-  lengths : (ltb chunksMax (length gs) || ltb (length fs) (length gs)) ≡ false
-  lengths = rw (le-ltb chunksMax (length gs) (a .chunks), le-ltb (length fs) (length gs) (a .fates))
 
   hc : ltb c 76 ≡ true
   hc = lt-ltb c 76 (a .call .class .known)
@@ -51,44 +80,79 @@ module _ (n : ℕ) (b : List ℕ) (c : ℕ) (sh : Shape) (ws gs fs : List ℕ) (
   pub fault-asks : FaultAsks n b c sh ws
   fault-asks = record { class = a .call .class; kinds = and-left (every (ofKind (sh .kind)) ws) (every (ofKind chunkKind) gs) (a .kinds) }
 
-  at-fault : (h : ℕ) → eqb (outFault n b c sh ws) 0 ≡ false → releaseChunks n b c sh h ws gs fs ≡ chunksNone b fs (outFault n b c sh ws)
-  unfolding releaseChunks
-  at-fault h o = rw (a .some, lengths, a .kinds, o)
-
-  no-fault : (h : ℕ) → outFault n b c sh ws ≡ 0 → releaseChunks n b c sh h ws gs fs ≡ from11 n b c sh h ws gs fs
-  unfolding releaseChunks
-  no-fault h o = rw (a .some, lengths, a .kinds, o)
-
+  -- ---- each number over the whole list
   module _ (k : ℕ) (d : List ℕ) (z : Faulted k d n b c sh ws) where
-    pub faulted : (h : ℕ) → (k ≡ 0 → ⊥) → ChunksAnswered k d fs (releaseChunks n b c sh h ws gs fs)
-    faulted h x =
-        let e = z .answer in
-        rw (at-fault h (ne-eqb (outFault n b c sh ws) 0 (λ y. x (e ∙ y)))) (record { answer = e; left = z .left; fates = refl })
+    pub faulted : (k ≡ 0 → ⊥) → TakenBy k d (testFault n b c sh ws gs) b sh ws
+    unfolding testFault
+    faulted x =
+        let o : eqb (outFault n b c sh ws) 0 ≡ false = ne-eqb (outFault n b c sh ws) 0 (λ y. x (z .answer ∙ y)) in
+        rw o (record { answer = z .answer; left = rw o (z .left) })
 
     module _ (e : k ≡ 0) where
       none : outFault n b c sh ws ≡ 0
       none = sym (z .answer) ∙ e
 
+      pub pass-asks : PassAsks n d c sh ws gs
+      pass-asks = rw (z .left) (record { call = a .call; out = passed n b c sh ws none .out; chunks = a .chunks })
+
+      pub passed-on : (r : ℕ) (b′ : List ℕ) → TakenBy r b′ (passFault n d c sh ws gs) d sh ws → TakenBy r b′ (testFault n b c sh ws gs) b sh ws
+      unfolding testFault
+      passed-on r b′ p = rw none (rw (z .left) at p)
+
+  -- ---- at once
+  pub try-asks : TryAsks n b c sh gs
+  try-asks = record { call = a .call; chunks = a .chunks }
+
+  module _ (t : Bool) (b′ : List ℕ) (z : Tried t b′ n b c sh ws gs) where
+    pub at-once : t ≡ true → TakenBy 0 b′ (testFault n b c sh ws gs) b sh ws
+    at-once e = rw (z .passed e) (record { answer = refl; left = rw e at (z .left) })
+
+    module _ (e : t ≡ false) where
+      as-it-was : b′ ≡ b
+      as-it-was = rw e at (z .left)
+
+      pub test-asks : ListedAsks n b′ c sh ws gs
+      test-asks = rw as-it-was a
+
+      pub tested : (r : ℕ) (b″ : List ℕ) → TakenBy r b″ (testFault n b′ c sh ws gs) b′ sh ws → TakenBy r b″ (testFault n b c sh ws gs) b sh ws
+      tested r b″ p = rw as-it-was at p
+
+  -- ---- what the call answers
+  module _ (fs : List ℕ) (v : length gs ≤ length fs) (h : ℕ) where
+    lengths : (ltb chunksMax (length gs) || ltb (length fs) (length gs)) ≡ false
+    lengths = rw (le-ltb chunksMax (length gs) (a .chunks), le-ltb (length fs) (length gs) v)
+
+    answers : releaseChunks n b c sh h ws gs fs ≡ cond (not (eqb (testFault n b c sh ws gs) 0)) (chunksNone b fs (testFault n b c sh ws gs)) (settledTo (settleChunks b c sh h ws gs) sh gs fs)
+    unfolding releaseChunks
+    answers = rw (a .some, lengths, a .kinds) (by-fault n b c sh ws gs h fs)
+
+  module _ (k : ℕ) (d : List ℕ) (z : TakenBy k d (testFault n b c sh ws gs) b sh ws) (fs : List ℕ) (v : length gs ≤ length fs) (h : ℕ) where
+    pub refused : (k ≡ 0 → ⊥) → ChunksAnswered k d fs (releaseChunks n b c sh h ws gs fs)
+    refused x =
+        let o : eqb (testFault n b c sh ws gs) 0 ≡ false = ne-eqb (testFault n b c sh ws gs) 0 (λ y. x (z .answer ∙ y)) in
+        rw (answers fs v h, o) (record { answer = z .answer; left = rw o at (z .left); fates = refl })
+
+    module _ (e : k ≡ 0) where
+      nothing : testFault n b c sh ws gs ≡ 0
+      nothing = sym (z .answer) ∙ e
+
+      clear : NoFault n b c sh ws gs
+      clear = no-fault n b c sh ws gs nothing
+
+      cleared-is : d ≡ cleared b sh ws
+      cleared-is = rw nothing at (z .left)
+
       every-out : every (outAt n b c sh) ws ≡ true
-      every-out = passed n b c sh ws none .out
+      every-out = passed n b c sh ws (clear .fault) .out
 
-      pub pass-asks : PassAsks n d c sh ws gs fs
-      pass-asks = rw (z .left) (record { call = a .call; out = every-out; chunks = a .chunks; fates = a .fates })
+      pub settle-asks : SettleAsks n d c sh h ws gs fs
+      settle-asks = rw cleared-is (settle-next n b c sh ws gs (record { call = a .call; out = every-out; chunks = a .chunks }) (clear .matches) (clear .fair) fs v h)
 
-      placed-is : (h : ℕ) → chunksMatch b ws gs ≡ true → chunksFair n b c sh gs ≡ true → allPlaced (cleared b sh ws) c sh h ws gs ≡ settleChunks b c sh h ws gs
-      placed-is h m f = gathered n b c sh ws sound (a .call .single) hb every-out h gs hc m (fair-pages n b c sh gs f)
+      placed-is : allPlaced (cleared b sh ws) c sh h ws gs ≡ settleChunks b c sh h ws gs
+      placed-is = gathered n b c sh ws sound (a .call .single) hb every-out h gs hc (clear .matches) (fair-pages n b c sh gs (clear .fair))
 
-      passes-are : (h : ℕ) → passes n b c sh h ws gs fs ≡ from11 n b c sh h ws gs fs
-      unfolding passes
-      passes-are h =
-          by-cases (chunksMatch b ws gs)
-          (λ m. by-cases (chunksFair n b c sh gs)
-          (λ f. rw (m, f, placed-is h m f))
-          (λ f. rw (m, f)))
-          (λ m. rw m)
-
-      pub passed-on : (h r : ℕ) (b′ fs′ : List ℕ) → ChunksAnswered r b′ fs′ (passes n d c sh h ws gs fs) → ChunksAnswered r b′ fs′ (releaseChunks n b c sh h ws gs fs)
-      passed-on h r b′ fs′ p = rw (no-fault h none, ← (passes-are h)) (rw (z .left) at p)
+      pub settled : (b′ fs′ : List ℕ) → ChunksAnswered 0 b′ fs′ (settledTo (allPlaced d c sh h ws gs) sh gs fs) → ChunksAnswered 0 b′ fs′ (releaseChunks n b c sh h ws gs fs)
+      settled b′ fs′ p = rw (answers fs v h, nothing) (rw (cleared-is, placed-is) at p)
 
 -- ---- numbers 3, 7, 8 and 9
 module _ (n : ℕ) (b : List ℕ) (c : ℕ) (sh : Shape) (h : ℕ) where
@@ -135,8 +199,8 @@ module _ (n : ℕ) (b : List ℕ) (c : ℕ) (sh : Shape) (h : ℕ) where
               pub wrong-chunks : t ≡ false → ChunksAnswered 9 b fs (releaseChunks n b c sh h ws gs fs)
               wrong-chunks e = wrong (rw (← i, p, ← j, e))
 
-              pub listed-asks : t ≡ true → CallAsks n b c sh → ListedAsks n b c sh ws gs fs
-              listed-asks e a = record { call = a; some = both-some x y; chunks = u; fates = v; kinds = rw (← i, p, ← j, e) }
+              pub listed-asks : t ≡ true → CallAsks n b c sh → TestAsks n b c sh ws gs fs
+              listed-asks e a = record { listed = record { call = a; some = both-some x y; chunks = u; kinds = rw (← i, p, ← j, e) }; fates = v }
 
 -- ---- the classes that have group releases
 pub small-asks : (n : ℕ) (b : List ℕ) (c : ℕ) → c < 64 → n ≤ maxPages → words n ≤ length b → CallAsks n b c (shapeOf c)

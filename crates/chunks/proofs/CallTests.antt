@@ -1,6 +1,7 @@
 -- Numbers 11 and 13 of a group release once the blocks are taken: no test reads an out bit. And what the tests tell of the pages.
 --     match-kept, chunks-fair-kept    the tests are those of the book before
 --     lands                           the first page of a word's run, and of a chunk's, is the page itself, below the frontier
+--     match-is                        number 11, by the words' own pages
 --     chunks-land                     number 11 passed: the chunks' pages are pages of listed words
 --     slots-left                      number 13 passed: the pages' stacks have room for the listed blocks
 use Prim.Native.Nat.{ℕ, zero, suc, _+_, _≤_, _<_}
@@ -10,7 +11,7 @@ use mathlib.Core.List.{List, [], _∷_, map}
 use mathlib.Core.Path.{_≡_, refl, ap, _∙_}
 use lib.Dec.{eqb, ltb, leb}
 use lib.ListN.{length}
-use borrow.Author.Tests.{ltb-true, lt-ltb, leb-true, eq-eqb, eqb-true, not-true}
+use borrow.Author.Tests.{ltb-true, lt-ltb, leb-true, eqb-true, not-true}
 use Rattle.facts.specs.Lists.{every, elem, distinct}
 use Rattle.facts.proofs.Bools.{by-cases, and-left, and-right}
 use Rattle.facts.proofs.Lists.{every-same}
@@ -29,8 +30,8 @@ use Rattle.calls.specs.Release.{pageFair, rowFair}
 use Rattle.calls.specs.Chunks.{blocksOn, chunkFits, chunksMatch, returnsAll, runsGiven, pagesGiven, chunksFair}
 use Rattle.release.proofs.Bits.{isBit, start-kept}
 use Rattle.release.proofs.FairSteps.{page-room, page-carved}
-use Rattle.tally.specs.Match.{onPage}
-use Rattle.chunks.specs.PushAsks.{wordsOn}
+use Rattle.pages.proofs.Downs.{every-mono}
+use Rattle.tally.specs.Match.{wordsOn, pageFits, hasPage, pagesMatch, inArena}
 
 -- ---- the tests read no out bit
 module _ (b b′ : List ℕ) (h : Changes isBit b b′) where
@@ -128,13 +129,9 @@ module _ (n : ℕ) (b : List ℕ) (c : ℕ) (sh : Shape) (one : sh .pages ≡ 1)
     pub below : q < n
     pub low : q < get b (arena frontier)
 
-  pub words-on : (ws : List ℕ) → every (inRunOf n b sh c) ws ≡ true → every (onPage n b) ws ≡ true
-  unfolding onPage
-  words-on [] r = refl
-  words-on (w ∷ ws) r =
-      let t = inRunOf n b sh c in
-      let u = and-left (t w) (every t ws) r in
-      rw (lt-ltb (pageAt w) n (run-below w u), eq-eqb (startOf b w) (pageAt w) (run-start w u)) (words-on ws (and-right (t w) (every t ws) r))
+  pub words-on : (ws : List ℕ) → every (inRunOf n b sh c) ws ≡ true → every (inArena n) ws ≡ true
+  unfolding inArena
+  words-on = every-mono (inRunOf n b sh c) (λ w. ltb (pageAt w) n) (λ w r. lt-ltb (pageAt w) n (run-below w r))
 
   pub on-words : (ws : List ℕ) → every (inRunOf n b sh c) ws ≡ true → (q : ℕ) → length (blocksOn b ws q) ≡ wordsOn ws q
   unfolding blocksOn wordsOn
@@ -146,6 +143,19 @@ module _ (n : ℕ) (b : List ℕ) (c : ℕ) (sh : Shape) (one : sh .pages ≡ 1)
       by-cases (eqb (pageAt w) q)
       (λ d. rw (e, d) (ap suc ih))
       (λ d. rw (e, d) ih)
+
+  -- number 11 goes by the words' own pages
+  fits-is : (ws : List ℕ) → every (inRunOf n b sh c) ws ≡ true → (g : ℕ) → chunkFits b ws g ≡ pageFits ws g
+  unfolding chunkFits pageFits
+  fits-is ws r g = rw (on-words ws r (pageOf g))
+
+  has-is : (gs ws : List ℕ) → every (inRunOf n b sh c) ws ≡ true → every (λ w. elem (startOf b w) (map pageOf gs)) ws ≡ every (hasPage gs) ws
+  has-is gs [] r = refl
+  has-is gs (w ∷ ws) r = rw (run-start w (and-left (inRunOf n b sh c w) _ r), has-is gs ws (and-right (inRunOf n b sh c w) _ r))
+
+  pub match-is : (ws gs : List ℕ) → every (inRunOf n b sh c) ws ≡ true → chunksMatch b ws gs ≡ pagesMatch ws gs
+  unfolding chunksMatch pagesMatch
+  match-is ws gs r = rw (every-same (chunkFits b ws) (pageFits ws) gs (fits-is ws r), has-is gs ws r)
 
   some-lands : (ws : List ℕ) → every (inRunOf n b sh c) ws ≡ true → (q : ℕ) → 1 ≤ wordsOn ws q → Lands q
   unfolding wordsOn

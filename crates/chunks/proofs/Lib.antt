@@ -7,6 +7,8 @@ pub mod GiveLaws
 pub mod FairSteps
 pub mod PlaceKept
 pub mod PlaceSteps
+pub mod PageMarks
 pub mod CallTests
+pub mod MarkSteps
 pub mod CallPasses
 pub mod CallSteps

@@ -22,7 +22,8 @@ use Rattle.pages.specs.Asks.{IndexAsks}
 use Rattle.pages.specs.Stack.{indexOf, pageAt}
 use Rattle.chunks.specs.CallAsks.{hasBit, BitsAsks}
 use Rattle.chunks.specs.Pass.{cleared, pushOne, pushAll}
-use Rattle.chunks.specs.PushAsks.{wordsOn, PushOneAsks, PushAllAsks}
+use Rattle.chunks.specs.PushAsks.{PushOneAsks, PushAllAsks}
+use Rattle.tally.specs.Match.{wordsOn}
 
 -- ---- one block
 pub one-length : (b : List ℕ) (q i : ℕ) → length (pushOne b q i) ≡ length b

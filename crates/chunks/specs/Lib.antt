@@ -4,3 +4,5 @@ pub mod GiveAsks
 pub mod FairAsks
 pub mod PlaceAsks
 pub mod CallAsks
+pub mod Marks
+pub mod MarkAsks

@@ -1,17 +1,12 @@
 -- What pushing the listed blocks asks: the page of every listed word is there, and its stack has room for the words on it.
 use Prim.Native.Nat.{ℕ, _+_, _<_, _≤_}
 use mathlib.Core.List.{List}
-use lib.Dec.{eqb}
 use lib.ListN.{length}
-use Rattle.facts.specs.Lists.{filter}
 use Rattle.classes.specs.declared.Shape.{Shape}
 use Rattle.classes.specs.Sound.{Sound}
 use Rattle.fields.specs.Field.{page, free, words, get}
 use Rattle.pages.specs.Stack.{pageAt, pageSlots}
-
--- how many listed words have their granule on page q
-unfoldable pub wordsOn : List ℕ → ℕ → ℕ
-wordsOn ws q = length (filter (λ w. eqb (pageAt w) q) ws)
+use Rattle.tally.specs.Match.{wordsOn}
 
 pub record PushOneAsks (b : List ℕ) (sh : Shape) (w : ℕ) : Type 0 where
   pub sound : Sound sh

@@ -1,11 +1,12 @@
 // A group release: the numbers in their order, each over both lists, and then the passes. A refusal leaves every word as it was.
 ghost use Rattle.calls.specs.Chunks.{releaseChunks};
-ghost use Rattle.chunks.specs.CallAsks.{allPlaced, settledTo, passes, CallAsks, ListedAsks, PassAsks, SettleAsks, ChunksAnswered};
+ghost use Rattle.chunks.specs.CallAsks.{allPlaced, settledTo, passFault, testFault, CallAsks, ListedAsks, TestAsks, PassAsks, SettleAsks, TakenBy, ChunksAnswered};
 use super::fair::chunks_fair;
 use super::gives::give_chunks;
 use super::place::place_chunks;
 use super::push::push_blocks;
 use super::push::take_blocks;
+use super::quick::try_take;
 use classes::Shape;
 use release::all_of_kind;
 use release::out_fault;
@@ -32,24 +33,14 @@ fn settle_chunks(
     give_chunks(meta, n, shape, chunks, fates);
 }
 
-// Numbers 11 and 13, and the passes.
-fn pass_chunks(
-    meta: &mut [u32],
-    n: u32,
-    c: u32,
-    shape: Shape,
-    host: u32,
-    list: &[u32],
-    chunks: &[u32],
-    fates: &mut [u32],
-) -> u32
-    requires { ⌜ PassAsks n (now meta) c shape (now list) (now chunks) (now fates) ⌝ }
-    ensures { λ r. ⌜ ChunksAnswered r (now (meta .exit)) (now (fates .exit)) (passes n (now (meta .entry)) c shape host (now (list .entry)) (now (chunks .entry)) (now (fates .entry))) ⌝ }
+// Numbers 11 and 13, or 0: the listed blocks are out no longer.
+fn pass_chunks(meta: &mut [u32], n: u32, c: u32, shape: Shape, list: &[u32], chunks: &[u32]) -> u32
+    requires { ⌜ PassAsks n (now meta) c shape (now list) (now chunks) ⌝ }
+    ensures { λ r. ⌜ TakenBy r (now (meta .exit)) (passFault n (now (meta .entry)) c shape (now (list .entry)) (now (chunks .entry))) (now (meta .entry)) shape (now (list .entry)) ⌝ }
 {
     if chunks_match(meta, n, list, chunks) {
         if chunks_fair(meta, n, c, shape, chunks) {
             take_blocks(meta, n, shape, list);
-            settle_chunks(meta, n, c, shape, host, list, chunks, fates);
             return 0;
         }
         return 13;
@@ -57,7 +48,30 @@ fn pass_chunks(
     11
 }
 
-// Numbers 13 for a mark, 15 and 10, and those after them.
+// Each number over the whole list, from 13 for a mark on.
+fn take_tested(meta: &mut [u32], n: u32, c: u32, shape: Shape, list: &[u32], chunks: &[u32]) -> u32
+    requires { ⌜ ListedAsks n (now meta) c shape (now list) (now chunks) ⌝ }
+    ensures { λ r. ⌜ TakenBy r (now (meta .exit)) (testFault n (now (meta .entry)) c shape (now (list .entry)) (now (chunks .entry))) (now (meta .entry)) shape (now (list .entry)) ⌝ }
+{
+    let fault = out_fault(meta, n, c, shape, list);
+    if fault != 0 {
+        return fault;
+    }
+    pass_chunks(meta, n, c, shape, list, chunks)
+}
+
+// The same, at once where that goes.
+fn take_listed(meta: &mut [u32], n: u32, c: u32, shape: Shape, list: &[u32], chunks: &[u32]) -> u32
+    requires { ⌜ ListedAsks n (now meta) c shape (now list) (now chunks) ⌝ }
+    ensures { λ r. ⌜ TakenBy r (now (meta .exit)) (testFault n (now (meta .entry)) c shape (now (list .entry)) (now (chunks .entry))) (now (meta .entry)) shape (now (list .entry)) ⌝ }
+{
+    if try_take(meta, n, c, shape, list, chunks) {
+        return 0;
+    }
+    take_tested(meta, n, c, shape, list, chunks)
+}
+
+// The numbers from 13 for a mark on, and the passes.
 fn test_chunks(
     meta: &mut [u32],
     n: u32,
@@ -68,14 +82,15 @@ fn test_chunks(
     chunks: &[u32],
     fates: &mut [u32],
 ) -> u32
-    requires { ⌜ ListedAsks n (now meta) c shape (now list) (now chunks) (now fates) ⌝ }
+    requires { ⌜ TestAsks n (now meta) c shape (now list) (now chunks) (now fates) ⌝ }
     ensures { λ r. ⌜ ChunksAnswered r (now (meta .exit)) (now (fates .exit)) (releaseChunks n (now (meta .entry)) c shape host (now (list .entry)) (now (chunks .entry)) (now (fates .entry))) ⌝ }
 {
-    let fault = out_fault(meta, n, c, shape, list);
+    let fault = take_listed(meta, n, c, shape, list, chunks);
     if fault != 0 {
         return fault;
     }
-    pass_chunks(meta, n, c, shape, host, list, chunks, fates)
+    settle_chunks(meta, n, c, shape, host, list, chunks, fates);
+    0
 }
 
 // Numbers 7, 8 and 9, and those after them.

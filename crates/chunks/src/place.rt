@@ -13,7 +13,7 @@ use release::park_empty_page;
 use release::relist;
 use words::Word;
 
-fn page_of(chunk: u32) -> u32
+pub fn page_of(chunk: u32) -> u32
     ensures { λ r. ⌜ r ≡ pageOf chunk ⌝ }
 {
     Word::of(chunk).page()

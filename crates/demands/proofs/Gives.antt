@@ -42,7 +42,9 @@ give-given : (m q : ℕ) → 1 ≤ m → (a : Arena) → GivenTo m q a (give m q
 unfolding give
 give-given m q one a = record {
   joined = λ r. joined-where m q one a (stored m q (a .store) .1 r);
+  uncounted = λ r. rw (stored m q (a .store) .1 r);
   abandoned = λ f. by-cases (accepts m q (a .store)) (λ e. absurd (f (stored m q (a .store) .0 e))) (λ e. rw e (record { holes = refl; counted = refl }));
+  frontier = by-cases (accepts m q (a .store)) (λ e. rw e) (λ e. rw e);
 }
 
 all-in-turn : (m : ℕ) → 1 ≤ m → (qs : List ℕ) (a : Arena) → GivenInTurn m qs a (giveAll m qs a)

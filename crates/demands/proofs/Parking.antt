@@ -1,21 +1,21 @@
 -- Document 02, A.9, holds of the exported calls: rows that are not refused cover the classes, their limits stand in the book, and no class
 -- ever has more runs parked than they allow.
-use Prim.Native.Nat.{ℕ, suc, _*_}
+use Prim.Native.Nat.{ℕ, suc, _*_, _≤_, _<_}
 use native.Mathlib.Omega.{arith}
-use mathlib.Core.Bool.{Bool, true, false, cond, false≢true}
+use mathlib.Core.Bool.{Bool, true, false, cond, _&&_, false≢true}
 use mathlib.Core.List.{List, [], _∷_}
 use mathlib.Core.Option.{Option, none, some}
 use mathlib.Core.Path.{_≡_, refl, _∙_, subst}
-use lib.Dec.{ltb}
+use lib.Dec.{leb, ltb}
 use lib.ListN.{length}
-use borrow.Author.Tests.{ltb-true, leb-true, lt-ltb}
+use borrow.Author.Tests.{ltb-true, leb-true, le-leb, lt-ltb, le-ltb}
 use Rattle.facts.specs.Lists.{isNil, every}
 use Rattle.facts.proofs.Bools.{by-cases, and-left, and-right}
 use Rattle.words.specs.Word.{pageOf}
 use Rattle.classes.specs.declared.Shape.{Shape}
-use Rattle.classes.specs.Shape.{shapeOf}
+use Rattle.classes.specs.Shape.{shapeOf, smallShape, mediumShape}
 use Rattle.rules.specs.declared.Limits.{Limits}
-use Rattle.rules.specs.Rules.{Rules, plainRules, rulesOf}
+use Rattle.rules.specs.Rules.{Rules, plainRules, rulesOf, Fit}
 use Rattle.rules.proofs.Cover.{rows-cover, rules-fit, plain-rules}
 use Rattle.model.specs.Calls as Calls
 use Rattle.model.specs.Calls.{Call, Request, Way, turned, straight, toClass, wayOf}
@@ -31,7 +31,7 @@ use Rattle.model.proofs.Update.{update-all}
 use Rattle.model.proofs.Alone.{direct-keeps, step-rules}
 use Rattle.refinement.proofs.Found.{Located, inList, inNone, located}
 use Rattle.demands.specs.Run.{Opens}
-use Rattle.demands.specs.Parking.{Within, Parking}
+use Rattle.demands.specs.Parking.{Within, goesTo, Parking}
 use Rattle.demands.proofs.Calls.{room}
 use Rattle.demands.proofs.Histories.{run-represents}
 
@@ -178,6 +178,19 @@ within-after n rules xs c =
     subst (λ (r : Rules). Within (shapeOf c) (r c) (heapAfter n rules xs .classes c)) (rules-after n rules xs)
     (within-from n (newHeap rules) (λ k. record { empty = omega arith; cold = omega arith; pages = omega arith }) xs c)
 
+-- ---- where an emptied run goes
+module _ (c : ℕ) (lim : Limits) (e k : ℕ) where
+  small-goes : Fit lim → c < 64 → spotOf (shapeOf c) lim e k ≡ goesTo (ltb e (lim .empty)) (ltb k (lim .cold))
+  unfolding spotOf shapeOf smallShape
+  small-goes f h =
+      by-cases (ltb e (lim .empty))
+      (λ t. let l : suc e * 1 ≤ 256 = omega (arith, ltb-true e (lim .empty) t, f .empty) in rw (lt-ltb c 64 h, t, le-leb (suc e * 1) 256 l))
+      (λ t. rw (lt-ltb c 64 h, t))
+
+  medium-goes : 64 ≤ c → spotOf (shapeOf c) lim e k ≡ goesTo (ltb e (lim .empty) && leb (suc e * shapeOf c .pages) 128) (ltb k (lim .cold))
+  unfolding spotOf shapeOf mediumShape
+  medium-goes h = rw (le-ltb c 64 h)
+
 nil-rules : (rows : List ℕ) → isNil rows ≡ true → rulesOf rows ≡ plainRules
 nil-rules [] e = plain-rules
 nil-rules (x ∷ rows) e = absurd (false≢true e)
@@ -191,4 +204,6 @@ parking n rows b o =
       fit = rules-fit rows r;
       stand = λ xs c h. run-represents n rows b o xs .rules c (lt-ltb c 76 h) .same ∙ rw (rules-after n (rulesOf rows) xs);
       within = within-after n (rulesOf rows);
+      kept = λ c e k h. small-goes c (rulesOf rows c) e k (rules-fit rows r c) h;
+      keptSpans = λ c e k h. medium-goes c (rulesOf rows c) e k h;
     }

@@ -75,7 +75,7 @@ run-represents = Histories.run-represents
 -- an example of document 01 that is a history finds on the words what it finds on the model (`examples-hold`, crate model): each call's
 -- answer, and the holes stored after the last; with no rows the limits are document 01's (`plain-rules`, crate rules)
 pub examples-run : (rows b : List ℕ) → Opens 64 rows b → (xs : List Call) (zs : List Answer) (hs : List Hole)
-    → history (answersIn (run 64 rows b xs)) (loadArena (bookAfter 64 rows b xs) .store .holes) ≡ onRuled (rulesOf rows) xs zs hs .found
+    → history (answersIn (run 64 rows b xs)) (loadArena (bookAfter 64 rows b xs) .store .holes) ≡ onRuled rows xs zs hs .found
 unfolding onRuled
 examples-run rows b o xs zs hs = rw (run-answers 64 rows b o xs, run-represents 64 rows b o xs .arena .loads)
 

@@ -99,7 +99,11 @@ pub record Abandoned (a a′ : Arena) : Type 0 where
 -- is free, they are joined to the holes that they touch, or appended; else they are abandoned
 pub record GivenTo (m q : ℕ) (a a′ : Arena) : Type 0 where
   pub joined : HasRoom m q (a .store) → JoinedWhere m q (a .store .holes) (a′ .store .holes)
+  -- where they are stored, no run is counted as abandoned
+  pub uncounted : HasRoom m q (a .store) → a′ .abandoned ≡ a .abandoned
   pub abandoned : (HasRoom m q (a .store) → ⊥) → Abandoned a a′
+  -- a give never moves the frontier
+  pub frontier : a′ .frontier ≡ a .frontier
 
 -- runs of m pages, given one after the other
 pub data GivenInTurn (m : ℕ) : List ℕ → Arena → Arena → Type 0 where

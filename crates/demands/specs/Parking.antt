@@ -1,18 +1,23 @@
 -- Document 02, A.9, of an unrefused opening of n pages on the book b with these rule rows. proofs/Parking proves it.
 --     Within     a class has parked no more runs than its limits allow
+--     goesTo     the store that an emptied run goes to, or the arena
 --     Parking    what the rows say, and that it holds after every history
-use Prim.Native.Nat.{ℕ, _*_, _≤_, _<_}
-use mathlib.Core.Bool.{true, false}
+use Prim.Native.Nat.{ℕ, suc, _*_, _≤_, _<_}
+use mathlib.Core.Bool.{Bool, true, false, cond, _&&_}
 use mathlib.Core.List.{List}
 use mathlib.Core.Path.{_≡_}
+use lib.Dec.{leb, ltb}
 use lib.ListN.{length}
 use Rattle.facts.specs.Lists.{isNil}
 use Rattle.classes.specs.declared.Shape.{Shape}
 use Rattle.classes.specs.Shape.{shapeOf, classCount}
 use Rattle.rules.specs.declared.Limits.{Limits}
-use Rattle.rules.specs.Rules.{plainRules, rowsIn, rulesOf, RowsCover, Fit}
+use Rattle.rules.specs.Rules.{plainRules, rulesOf, RowsCover, Fit}
+use Rattle.model.specs.declared.Spot.{Spot}
+use Rattle.model.specs.declared.Spot.the-variants.{ToEmpty, ToCold, ToArena}
 use Rattle.model.specs.Calls.{Call}
 use Rattle.model.specs.Class.{Class}
+use Rattle.model.specs.Spot.{spotOf}
 use Rattle.model.specs.History.{heapAfter}
 use Rattle.pages.specs.Fair.{limitsAt}
 use Rattle.demands.specs.Run.{bookAfter}
@@ -23,9 +28,13 @@ pub record Within (sh : Shape) (lim : Limits) (s : Class) : Type 0 where
   -- "each medium class's own 8 MiB stays beside them"; it does not bind a small class
   pub pages : length (s .empty) * sh .pages ≤ sh .emptypages
 
+-- the empty store has room, else the cold one, else the run is the arena's
+abbrev pub goesTo : Bool → Bool → Spot
+goesTo empty cold = cond empty ToEmpty (cond cold ToCold ToArena)
+
 pub record Parking (n : ℕ) (rows b : List ℕ) : Type 0 where
   -- rows "must cover 0 to 75 without gap or overlap. A row's limits hold for each of its classes"
-  pub rows-cover : isNil rows ≡ false → RowsCover (rowsIn rows) (rulesOf rows)
+  pub rows-cover : isNil rows ≡ false → RowsCover rows (rulesOf rows)
   -- "With no rows, 01's limits hold"
   pub no-rows : isNil rows ≡ true → rulesOf rows ≡ plainRules
   pub fit : (c : ℕ) → Fit (rulesOf rows c)
@@ -33,3 +42,7 @@ pub record Parking (n : ℕ) (rows b : List ℕ) : Type 0 where
   pub stand : (xs : List Call) (c : ℕ) → c < classCount → limitsAt (bookAfter n rows b xs) c ≡ rulesOf rows c
   -- and its stores keep to them, "alone": the class's own runs are counted
   pub within : (xs : List Call) (c : ℕ) → Within (shapeOf c) (rulesOf rows c) (heapAfter n (rulesOf rows) xs .classes c)
+  -- where an emptied run goes, e empty ones and k cold ones being kept: a small class has no other limit than its row's
+  pub kept : (c e k : ℕ) → c < 64 → spotOf (shapeOf c) (rulesOf rows c) e k ≡ goesTo (ltb e (rulesOf rows c .empty)) (ltb k (rulesOf rows c .cold))
+  -- a medium one has 8 MiB, 128 pages, of empty spans beside it
+  pub keptSpans : (c e k : ℕ) → 64 ≤ c → spotOf (shapeOf c) (rulesOf rows c) e k ≡ goesTo (ltb e (rulesOf rows c .empty) && leb (suc e * shapeOf c .pages) 128) (ltb k (rulesOf rows c .cold))

@@ -32,9 +32,9 @@ use Rattle.arena.specs.Owners.{ownerCode}
 use Rattle.holes.specs.Record.{recordOf}
 use Rattle.arena.specs.Fair.{recordFair, holesEndFair, giveFair, growGives, growFair}
 use Rattle.arena.specs.Open.{cleared, headWords, limited, ruled}
-use Rattle.arena.specs.Calls.{commitFor, commitCall, given, heldDirect, releaseCall, growCall, containsCall}
+use Rattle.arena.specs.Calls.{commitFor, commitCall, heldDirect, releaseCall, growCall, containsCall}
 use Rattle.holes.specs.Act.{endNone, endRun, endGiven, settle, fromFrontier, growWith, growActs, clamped}
-use Rattle.runs.specs.Asks.{GiveIn, BookIn, EndsIn}
+use Rattle.runs.specs.Asks.{GivenIf, BookIn, EndsIn}
 use Rattle.runs.specs.Answer.{answerOf, Answers}
 use Rattle.direct.specs.Answer.{grownAs, growCommit, Grew, Grows, fairGrow, Releases, heldRelease}
 use Rattle.holes.proofs.Acts.{fair-record, grow-acts}
@@ -173,16 +173,13 @@ module _ (n : ℕ) (b : List ℕ) (q m : ℕ) (t : Bool) (k : BookIn b n) (e : t
 
 -- ---- release
 module _ (n : ℕ) (b : List ℕ) (q m : ℕ) where
-  pub give-in : (t : Bool) → BookIn b n → q + m ≤ n → t ≡ giveFair n b m → t ≡ true → GiveIn b n q m
-  give-in t k l e v = record { long = k .long; small = k .small; inside = l; fair = sym e ∙ v }
-
-  pub released : (t : Bool) (x : List ℕ) → t ≡ giveFair n b m → t ≡ true → x ≡ given b q m → Releases 0 x (heldRelease n b q m)
+  pub released : (t : Bool) (x : List ℕ) → GivenIf t x b n q m → t ≡ true → Releases 0 x (heldRelease n b q m)
   unfolding heldRelease
-  released t x e v f = rw (← e, v) (record { code = refl; book = f })
+  released t x k v = let z : giveFair n b m ≡ true = sym (k .told) ∙ v in rw z (record { code = refl; book = rw z at (k .book) })
 
-  pub released-not : (t : Bool) → t ≡ giveFair n b m → t ≡ false → Releases 13 b (heldRelease n b q m)
+  pub released-not : (t : Bool) (x : List ℕ) → GivenIf t x b n q m → t ≡ false → Releases 13 x (heldRelease n b q m)
   unfolding heldRelease
-  released-not t e v = rw (← e, v) (record { code = refl; book = refl })
+  released-not t x k v = let z : giveFair n b m ≡ false = sym (k .told) ∙ v in rw z (record { code = refl; book = rw z at (k .book) })
 
   pub release-bad : (t : Bool) → t ≡ badRun m → t ≡ true → Releases 6 b (releaseCall n b q m)
   unfolding releaseCall

@@ -5,7 +5,7 @@ use Rattle.classes.specs.Sizes.{smallSizes, mediumSizes}
 use Rattle.classes.specs.Shape.{smallShape, mediumShape, shapeOf}
 use Rattle.classes.specs.Lookup.{firstFit, sizeClass}
 use Rattle.classes.specs.Examples as Lookups
-use Rattle.rules.specs.Rules.{plainRules}
+use Rattle.rules.specs.Rules.{plainRules, rowsIn, rulesOf}
 use Rattle.model.specs.Calls as Calls
 use Rattle.model.specs.HoleStore as Holes
 use Rattle.model.specs.Arena as Arenas
@@ -18,5 +18,5 @@ use Rattle.model.specs.Heap as Heaps
 use Rattle.model.specs.Examples.{Example, onRuled, onLimits, onGive, onClass, rules, examples}
 
 pub examples-hold : map (λ (e : Example). e .found) examples ≡ map (λ (e : Example). e .expected) examples
-unfolding smallSizes mediumSizes smallShape mediumShape shapeOf firstFit sizeClass Lookups.examples Holes.leastFit Holes.cutFrom Holes.lowestThat Holes.place Holes.insert Holes.accepts Arenas.give Arenas.drawFrom Arenas.draw Arenas.grant Arenas.commitReady Arenas.commitAs Arenas.commit Arenas.grow Arenas.contains Pages.wordOf Pages.carveAs Pages.carvedWords Pages.isOut Pages.noneOut Pages.hasMore Pages.carvedNow Pages.pop Pages.returned Pages.retire Pages.reused Classes.after Classes.fillFromList Classes.served Classes.thawed Classes.onRun Classes.takeFrom Releases.find Releases.inPartial Releases.inFull Releases.locate Spots.spotOf Releases.park Releases.settle Releases.ofKind Releases.outHere Releases.repeats Releases.onPage Releases.releaseList Chunks.blocksOn Chunks.chunkFits Chunks.chunked Chunks.settleChunk Chunks.settleChunks Chunks.releaseChunks Chunks.answer Heaps.newHeap Heaps.offer Heaps.finish Heaps.interact Heaps.classCall Heaps.heldDirect Heaps.badRun Heaps.parkedPages Heaps.commitCall Heaps.growCall Heaps.releaseCall Heaps.directCall Heaps.step Calls.wayOf onRuled onLimits plainRules onGive onClass rules examples
+unfolding smallSizes mediumSizes smallShape mediumShape shapeOf firstFit sizeClass Lookups.examples Holes.leastFit Holes.cutFrom Holes.lowestThat Holes.place Holes.insert Holes.accepts Arenas.give Arenas.drawFrom Arenas.draw Arenas.grant Arenas.commitReady Arenas.commitAs Arenas.commit Arenas.grow Arenas.contains Pages.wordOf Pages.carveAs Pages.carvedWords Pages.isOut Pages.noneOut Pages.hasMore Pages.carvedNow Pages.pop Pages.returned Pages.retire Pages.reused Classes.after Classes.fillFromList Classes.served Classes.thawed Classes.onRun Classes.takeFrom Releases.find Releases.inPartial Releases.inFull Releases.locate Spots.spotOf Releases.park Releases.settle Releases.ofKind Releases.outHere Releases.repeats Releases.onPage Releases.releaseList Chunks.blocksOn Chunks.chunkFits Chunks.chunked Chunks.settleChunk Chunks.settleChunks Chunks.releaseChunks Chunks.answer Heaps.newHeap Heaps.offer Heaps.finish Heaps.interact Heaps.classCall Heaps.heldDirect Heaps.badRun Heaps.parkedPages Heaps.commitCall Heaps.growCall Heaps.releaseCall Heaps.directCall Heaps.step Calls.wayOf onRuled onLimits plainRules rowsIn rulesOf onGive onClass rules examples
 examples-hold = refl

@@ -12,7 +12,7 @@ use Rattle.classes.specs.Sizes.{granuleBytes}
 use Rattle.classes.specs.Shape.{shapeOf}
 use Rattle.classes.specs.Examples as Lookups
 use Rattle.rules.specs.declared.Limits.{Limits}
-use Rattle.rules.specs.Rules.{Rules, limits, plainRules}
+use Rattle.rules.specs.Rules.{limits, plainRules, rulesOf}
 use Rattle.model.specs.declared.Hole.{Hole}
 use Rattle.model.specs.Calls.{Call, takeBlocks, mediumTakeBlocks, releaseBlocks, mediumReleaseBlocks, releaseBinChunks, commit, growFrontier, release, contains, report, Answer, refused, taken, fate, fates, run, noRun, released, grown, contained, reported}
 use Rattle.model.specs.HoleStore.{HoleStore, hole, store, takeAt, accepts}
@@ -38,11 +38,12 @@ pub record Example : Type 0 where
 abbrev pub ofSize : Lookups.Example → Example
 ofSize e = record { found = lookup (Lookups.answer e); expected = lookup (Lookups.expected e) }
 
-unfoldable pub onRuled : Rules → List Call → List Answer → List Hole → Example
-onRuled r xs zs hs = record { found = history (answers 64 r xs) (heapAfter 64 r xs .arena .store .holes); expected = history zs hs }
+-- from an opening with these rule rows, and with none
+unfoldable pub onRuled : List ℕ → List Call → List Answer → List Hole → Example
+onRuled rows xs zs hs = record { found = history (answers 64 (rulesOf rows) xs) (heapAfter 64 (rulesOf rows) xs .arena .store .holes); expected = history zs hs }
 
 abbrev pub onNewHeap : List Call → List Answer → List Hole → Example
-onNewHeap xs zs hs = onRuled plainRules xs zs hs
+onNewHeap xs zs hs = onRuled [] xs zs hs
 
 -- a run of class c is empty, where e empty ones and k cold ones are kept; with these limits, and with document 01's
 abbrev countParked : Settled → Told
@@ -94,6 +95,10 @@ take0 = takeBlocks 0 15 (lent 64)
 
 abbrev take45 : Call
 take45 = takeBlocks 45 15 (lent 64)
+
+-- a class with blocks of the same size
+abbrev take46 : Call
+take46 = takeBlocks 46 15 (lent 64)
 
 -- the three blocks of class 45's page, as first taken
 abbrev three : List ℕ
@@ -178,6 +183,9 @@ rules =
     ∷ givenInTurn (hole 0 2 ∷ hole 4 2 ∷ hole 8 2 ∷ hole 12 2 ∷ hole 2 2 ∷ []) (hole 0 6 ∷ hole 12 2 ∷ hole 8 2 ∷ [])
     ∷ givenInTurn (hole 0 2 ∷ hole 8 2 ∷ hole 4 2 ∷ hole 2 2 ∷ []) (hole 0 6 ∷ hole 8 2 ∷ [])
     ∷ givenInTurn (hole 8 2 ∷ hole 4 2 ∷ hole 12 2 ∷ hole 0 2 ∷ hole 2 2 ∷ []) (hole 8 2 ∷ hole 0 6 ∷ hole 12 2 ∷ [])
+    -- what joins is idle, and no run is counted as abandoned
+    ∷ onNewHeap (commit 15 16 ∷ release 15 0 2 ∷ release 15 4 2 ∷ release 15 2 2 ∷ report ∷ [])
+    (run 0 true ∷ released ∷ released ∷ released ∷ reported (record { commits = 1; reuses = 0; abandoned = 0; held = 10; idle = 54; overlap = 0 }) ∷ []) (hole 0 6 ∷ [])
     -- a growth that is not granted joins, too
     ∷ onNewHeap (commit 15 4 ∷ release 15 2 2 ∷ commit 15 2 ∷ growFrontier 13 2 2 4 ∷ release 15 2 2 ∷ []) (run 0 true ∷ released ∷ run 2 false ∷ grown false ∷ released ∷ []) (hole 2 4 ∷ [])
     -- "puts the list before the page's free list"
@@ -228,8 +236,11 @@ rules =
     ∷ onLimits (limits 256 256) 75 15 0 (parked 0 16 0)
     ∷ onLimits (limits 256 256) 75 16 0 (parked 0 16 1)
     ∷ onLimits (limits 0 256) 45 0 0 (parked 1 0 1)
-    ∷ onRuled (λ c. limits 0 0) (take45 ∷ give45 15 three ∷ take45 ∷ releaseBinChunks 45 15 three (chunkWord 3 0 ∷ []) (9 ∷ 9 ∷ []) ∷ mediumTakeBlocks 0 15 (lent 10) ∷ mediumReleaseBlocks 0 15 (mediums (rising 65600 18432 10)) ∷ [])
+    ∷ onRuled (0 ∷ 75 ∷ 0 ∷ 0 ∷ []) (take45 ∷ give45 15 three ∷ take45 ∷ releaseBinChunks 45 15 three (chunkWord 3 0 ∷ []) (9 ∷ 9 ∷ []) ∷ mediumTakeBlocks 0 15 (lent 10) ∷ mediumReleaseBlocks 0 15 (mediums (rising 65600 18432 10)) ∷ [])
     (taken45 0 true ∷ fate 2 ∷ taken45 0 true ∷ fates (6 ∷ 9 ∷ []) ∷ taken 10 (mediums (rising 65600 18432 10)) true ∷ fate 2 ∷ []) (hole 0 4 ∷ [])
+    -- "A row's limits hold for each of its classes alone", the empty one before the cold one: rows in any order, two pages of each of two classes
+    ∷ onRuled (45 ∷ 45 ∷ 1 ∷ 0 ∷ 0 ∷ 44 ∷ 0 ∷ 0 ∷ 46 ∷ 75 ∷ 0 ∷ 1 ∷ []) (take45 ∷ take45 ∷ take46 ∷ take46 ∷ map (λ q. give45 15 (threeOf (q * 4096))) (0 ∷ 1 ∷ []) ++ map (λ q. releaseBlocks 46 15 (threeOf (q * 4096))) (2 ∷ 3 ∷ []))
+    (map (λ q. taken45 (q * 4096) true) (0 ∷ 1 ∷ 2 ∷ 3 ∷ []) ++ fate 0 ∷ fate 2 ∷ fate 1 ∷ fate 2 ∷ []) (hole 1 1 ∷ hole 3 1 ∷ [])
     -- "2,056 groups pass, 2,057 give 8": none of these is of a page that is there
     ∷ onClass (releaseChunks (shapeOf 45) (plainRules 45) 15 newClass three (replicate 2056 (chunkWord 1 0)) (lent 2056)) (refused 10)
     ∷ onClass (releaseChunks (shapeOf 45) (plainRules 45) 15 newClass three (replicate 2057 (chunkWord 1 0)) (lent 2057)) (refused 8)

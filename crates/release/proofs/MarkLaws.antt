@@ -195,6 +195,13 @@ module _ (n c : ℕ) (sh : Shape) (s : Sound sh) where
           ∙ rw (outs-kept b (marked b sh w) g ws, all-after b hb w o k ws (kind-of k w (and-left _ _ h)) h′)
           (regroup (not (elem w (outs n b c sh ws))) (every (free b sh) (outs n b c sh ws)) (distinct (outs n b c sh ws))))
 
+  -- all words were passed: none that is out stands twice
+  pub all-single : (b : List ℕ) (k : ℕ) (ws : List ℕ) → leb (words n) (length b) ≡ true → every (ofKind k) ws ≡ true → markCount n b c sh ws ≡ length ws → repeats n b c sh ws ≡ false
+  unfolding repeats
+  all-single b k ws hb kinds l =
+      let e = sym (marks-all b k ws hb kinds) ∙ eq-eqb (markCount n b c sh ws) (length ws) l in
+      rw (and-right (every (free b sh) (outs n b c sh ws)) (distinct (outs n b c sh ws)) e)
+
   pub repeats-found : (b : List ℕ) (k : ℕ) (ws : List ℕ) → leb (words n) (length b) ≡ true → every (ofKind k) ws ≡ true → unmarked n b c sh ws ≡ true
       → eqb (markCount n b c sh ws) (length ws) ≡ not (repeats n b c sh ws)
   unfolding unmarked repeats

@@ -1,5 +1,5 @@
 -- `mark_block`, `mark_one` and `ready_by`: their ways out; and the loop of `mark_run`.
-use Prim.Native.Nat.{ℕ, suc, _+_, _*_, _/_, _≤_, _<_}
+use Prim.Native.Nat.{ℕ, suc, _+_, _*_, _/_, _%_, _^_, _≤_, _<_}
 use native.Mathlib.Omega.{arith}
 use native.Mathlib.Numerals.{add-one}
 use mathlib.Core.Bool.{Bool, true, false, cond, _&&_, and-assoc}
@@ -13,7 +13,8 @@ use lib.Seq.{drop-cons}
 use borrow.Author.Tests.{eq-eqb, ne-eqb}
 use Rattle.classes.specs.declared.Shape.{Shape}
 use Rattle.classes.specs.Sound.{Sound}
-use Rattle.fields.specs.Field.{mark, out, get, words, Has}
+use Rattle.fields.specs.Field.{bits, mark, out, read, place, get, put, words, Has}
+use Rattle.fields.proofs.Parts.{read-place, place-read}
 use Rattle.model.specs.Release.{ofKind}
 use Rattle.pages.specs.Stack.{indexOf, isBlock}
 use Rattle.calls.specs.Out.{outIn, markIn}
@@ -38,19 +39,25 @@ module _ (b : List ℕ) (q i : ℕ) where
         let y : eqb (get b (out q i)) 1 ≡ false = rw (← k) (ne-eqb x 1 d) in
         record { answer = rw y; left = rw y }
 
-    module _ (o : x ≡ 1) (y : ℕ) (j : y ≡ markAt b q i) where
+    module _ (o : x ≡ 1) (m p : ℕ) (j : m ≡ get b (mark q (i / 32))) (e : p ≡ place (bits (i % 32) 1) m 1) where
       out-here : eqb (get b (out q i)) 1 ≡ true
       out-here = rw (← k) (eq-eqb x 1 o)
 
-      pub was-marked : y ≡ 1 → MarkedBlock false b b q i
+      mark-is : markAt b q i ≡ read (bits (i % 32) 1) m
+      mark-is = rw (← j)
+
+      pub was-marked : p ≡ m → MarkedBlock false b b q i
       was-marked d =
-          let z : freshAt b q i ≡ false = rw (out-here, ← j, eq-eqb y 1 d) in
+          let l : 1 < 2 ^ 1 = omega arith in
+          let y : markAt b q i ≡ 1 = mark-is ∙ ap (read (bits (i % 32) 1)) (sym d ∙ e) ∙ read-place (bits (i % 32) 1) m 1 l in
+          let z : freshAt b q i ≡ false = rw (out-here, y) in
           record { answer = sym z; left = rw z }
 
-      pub now-marked : (y ≡ 1 → ⊥) → (b′ : List ℕ) → b′ ≡ setMark b q i → MarkedBlock true b′ b q i
+      pub now-marked : (p ≡ m → ⊥) → (b′ : List ℕ) → b′ ≡ put b (mark q (i / 32)) p → MarkedBlock true b′ b q i
       now-marked d b′ l =
-          let z : freshAt b q i ≡ true = rw (out-here, ← j, ne-eqb y 1 d) in
-          record { answer = sym z; left = rw z l }
+          let y : markAt b q i ≡ 1 → ⊥ = λ u. d (e ∙ ap (place (bits (i % 32) 1) m) (sym (sym mark-is ∙ u)) ∙ place-read (bits (i % 32) 1) m) in
+          let z : freshAt b q i ≡ true = rw (out-here, ne-eqb (markAt b q i) 1 y) in
+          record { answer = sym z; left = rw z (l ∙ rw (e, j)) }
 
 -- ---- one word
 module _ (b : List ℕ) (sh : Shape) (q w : ℕ) where

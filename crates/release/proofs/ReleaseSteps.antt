@@ -1,10 +1,10 @@
 -- The ways out of a release.
 --     fair-kept        number 13's last test reads no out bit and no mark
---     act-takes ..     a list that is carried out: its blocks are taken, and come back
---     one-passes, run-passes    what the shorter ways tell: none of numbers 9, 13 for a mark, 15, 10 and 11 applies
+--     one-ready, all-ready    what the shorter ways tell: none of numbers 9, 13 for a mark, 15, 10 and 11 applies
+--     finished         13's last test, and the act
 use Prim.Native.Nat.{ℕ, zero, suc, _+_, _*_, _≤_, _<_}
 use native.Mathlib.Omega.{arith}
-use mathlib.Core.Bool.{Bool, true, false, cond, _&&_}
+use mathlib.Core.Bool.{Bool, true, false, cond, _&&_, true≢false}
 use mathlib.Core.List.{List, [], _∷_, map}
 use mathlib.Core.Path.{_≡_, refl, sym, ap, _∙_}
 use lib.Dec.{eqb, ltb, leb}
@@ -34,14 +34,16 @@ use Rattle.release.specs.declared.Found.{Found}
 use Rattle.release.specs.declared.Found.the-variants.{At}
 use Rattle.release.specs.declared.Released.{Released}
 use Rattle.release.specs.declared.Released.the-variants.{Refused, Fate}
-use Rattle.release.specs.declared.Tried.{Tried}
-use Rattle.release.specs.declared.Tried.the-variants.{Done, Not}
+use Rattle.release.specs.declared.Ready.{Ready}
+use Rattle.release.specs.declared.Ready.the-variants.{No, In}
+use Rattle.release.specs.declared.Marked.{Marked}
+use Rattle.release.specs.declared.Marked.the-variants.{Run, Not}
 use Rattle.release.specs.Asks.{ClassAsks, StartAsks, TakeAsks}
 use Rattle.release.specs.Blocks.{runAt}
 use Rattle.release.specs.Fair.{FairAsks}
 use Rattle.release.specs.Marks.{readyIn, freshCount, freshBook, noMarks, takeMarks}
 use Rattle.release.specs.MarkAsks.{FieldAsks, MarkedIn, FaultAsks, Faulted}
-use Rattle.release.specs.Act.{settleAt, answerAs, SettleAsks, ActAsks, ListAsks, RunAsks, MarkedAsks, PassedAsks, Parked, Answered, Taken, Attempted}
+use Rattle.release.specs.Act.{settleAt, takenBy, answerAs, SettleAsks, ListAsks, RunAsks, MarkedAsks, PassedAsks, Parked, Answered, PreparedAt, Prepared, Attempted, MarkedAll, Finished}
 use Rattle.release.proofs.Bits.{isBit}
 use Rattle.release.proofs.BlockSteps.{found-at}
 use Rattle.release.proofs.RunSteps.{run-found}
@@ -49,7 +51,6 @@ use Rattle.release.proofs.OutLaws.{page-of-out, run-within-out}
 use Rattle.release.proofs.RunLaws.{within-arena, run-start, run-out, out-here, in-low}
 use Rattle.release.proofs.MarkLaws.{mark-bits}
 use Rattle.release.proofs.Testing.{fault-none}
-use Rattle.release.proofs.TakeMarks.{lengths}
 use Rattle.release.proofs.RunMarks.{fresh-changes, takes-all, clears-run, AllFresh, all-fresh, not-repeated, not-marked}
 
 -- ---- number 13's last test reads no out bit and no mark
@@ -139,29 +140,13 @@ smalls : (sh : Shape) (q : ℕ) (ws : List ℕ) → every (λ w. ltb (indexOf sh
 smalls sh q [] e = refl
 smalls sh q (w ∷ ws) e = rw (and-left (ltb (indexOf sh q w) 4096) _ e) (smalls sh q ws (and-right (ltb (indexOf sh q w) 4096) _ e))
 
-module _ (n : ℕ) (b : List ℕ) (c : ℕ) (sh : Shape) (q : ℕ) (ws : List ℕ) (a : ActAsks n b c sh q ws) where
+-- all words are out in the run at q: its blocks' bits, and that 13's last test does not see them taken
+module _ (n : ℕ) (b : List ℕ) (c : ℕ) (sh : Shape) (s : Sound sh) (q : ℕ) (ws : List ℕ) (o : every (outIn b sh q) ws ≡ true) where
   bits-low : every (λ w. ltb (indexOf sh q w) 4096) ws ≡ true
-  bits-low = lows sh (a .class .sound) q b ws (a .out)
+  bits-low = lows sh s q b ws o
 
-  pub act-takes : TakeAsks b sh q ws
-  act-takes = record {
-    run = record { sound = a .class .sound; below = omega (arith, a .inside, a .class .sound .paged, a .class .few); there = omega (arith, a .inside, a .class .sound .paged, a .class .long) };
-    bits = bits-low;
-  }
-
-  changes : Changes isBit b (marks b q 0 (map (indexOf sh q) ws))
-  changes = marks-changes b q 0 isBit (λ i. refl) (map (indexOf sh q) ws) (smalls sh q ws bits-low)
-
-  module _ (b′ : List ℕ) (e : b′ ≡ marks b q 0 (map (indexOf sh q) ws)) where
-    pub act-settles : SettleAsks n b′ c sh q ws
-    act-settles = rw e (record {
-      class = record { known = a .class .known; sound = a .class .sound; few = a .class .few; long = omega (arith, changes .long, a .class .long) };
-      inside = a .inside;
-      fair = fair-kept b _ changes n c sh (length ws) q (a .class .known) ∙ a .fair;
-    })
-
-    pub act-done : (h r : ℕ) (b″ : List ℕ) → Parked r b″ (lastStep sh q (settleAt b′ c sh h q (map (indexOf sh q) ws))) → Parked r b″ (lastStep sh q (giveBackAt b c sh h q (map (indexOf sh q) ws)))
-    act-done h r b″ p = rw (give-back-settles b c sh h q (map (indexOf sh q) ws)) (rw e at p)
+  taken-changes : Changes isBit b (marks b q 0 (map (indexOf sh q) ws))
+  taken-changes = marks-changes b q 0 isBit (λ i. refl) (map (indexOf sh q) ws) (smalls sh q ws bits-low)
 
 -- ---- a list that no number before 11 refuses
 first-is : (ws : List ℕ) → isNil ws ≡ false → firstOf ws ≡ getD ws 0 0
@@ -171,6 +156,11 @@ first-is (w ∷ ws) z = refl
 pub some-listed : (ws : List ℕ) → isNil ws ≡ false → 0 < length ws
 some-listed [] z = let e : _≡_ {A = Bool} true false = z in let y : _≡_ {A = ℕ} 0 1 = cc in absurd (omega arith)
 some-listed (w ∷ ws) z = omega arith
+
+not-marked-at : (n : ℕ) (b : List ℕ) (c : ℕ) (sh : Shape) (ws : List ℕ) → PassedAsks n b c sh ws → (q : ℕ) → startOf b (firstOf ws) ≡ q → every (λ w. eqb (startOf b w) q) ws ≡ true
+    → PreparedAt q 0 b n b c sh ws
+unfolding clearMarks
+not-marked-at n b c sh ws a q e u = record { passed = a; start = e; alone = u; few = omega arith; long = refl; same = refl; taken = refl; cleared = refl }
 
 module _ (n : ℕ) (b : List ℕ) (c : ℕ) (sh : Shape) (ws : List ℕ) (a : PassedAsks n b c sh ws) where
   out : every (outAt n b c sh) ws ≡ true
@@ -197,44 +187,56 @@ module _ (n : ℕ) (b : List ℕ) (c : ℕ) (sh : Shape) (ws : List ℕ) (a : Pa
     unfolding startOf
     start-is = rw (first-is ws (a .some), ← e) (sym y)
 
-    module _ (h : ℕ) (t : Bool) (x : t ≡ every (λ w. eqb (startOf b w) q) ws) where
-      pub other-run : t ≡ false → Answered (Refused 11) b (releaseBlocks n b c sh h ws)
-      other-run d = two-runs n b c sh h ws (a .some) (a .kinds) (a .passed) q start-is (sym x ∙ d)
+    module _ (t : Bool) (x : t ≡ every (λ w. eqb (startOf b w) q) ws) where
+      pub other-run : t ≡ false → Prepared (No 11) b n b c sh ws
+      unfolding Prepared
+      other-run d h = two-runs n b c sh h ws (a .some) (a .kinds) (a .passed) q start-is (sym x ∙ d)
 
-      module _ (d : t ≡ true) where
-        starts : every (λ w. eqb (startOf b w) q) ws ≡ true
-        starts = sym x ∙ d
+      pub this-run : t ≡ true → Prepared (In q 0) b n b c sh ws
+      unfolding Prepared
+      this-run d = not-marked-at n b c sh ws a q start-is (sym x ∙ d)
 
-        first-out : outAt n b c sh (getD ws 0 0) ≡ true
-        first-out = by ws out (a .some)
-          where
-            by : (vs : List ℕ) → every (outAt n b c sh) vs ≡ true → isNil vs ≡ false → outAt n b c sh (getD vs 0 0) ≡ true
-            by [] x y = let e : _≡_ {A = Bool} true false = y in let y : _≡_ {A = ℕ} 0 1 = cc in absurd (omega arith)
-            by (v ∷ vs) x y = and-left (outAt n b c sh v) _ x
+-- ---- the run at q has all listed blocks, in a book where they are marked or not
+module _ (n : ℕ) (b : List ℕ) (c : ℕ) (sh : Shape) (ws : List ℕ) (q m : ℕ) (b′ : List ℕ) (p : PreparedAt q m b′ n b c sh ws) where
+  out-all : every (outAt n b c sh) ws ≡ true
+  out-all = passed n b c sh ws (p .passed .passed) .out
 
-        within : q + sh .pages ≤ n
-        within =
-            let z : startOf b (getD ws 0 0) ≡ q = ap (startOf b) (sym (first-is ws (a .some))) ∙ start-is in
-            rw (← z) (run-within-out n c sh (a .class .sound) b (getD ws 0 0) first-out)
+  sound-of : Sound sh
+  sound-of = p .passed .class .sound
 
-        all-here : (vs : List ℕ) → every (λ w. eqb (startOf b w) q) vs ≡ true → every (outAt n b c sh) vs ≡ true → every (outIn b sh q) vs ≡ true
-        all-here [] i j = refl
-        all-here (v ∷ vs) i j =
-            rw (out-here n c sh (a .class .sound) q b v (eqb-true (startOf b v) q (and-left (eqb (startOf b v) q) _ i)) (and-left (outAt n b c sh v) _ j))
-            (all-here vs (and-right (eqb (startOf b v) q) _ i) (and-right (outAt n b c sh v) _ j))
+  within : q + sh .pages ≤ n
+  within = by ws out-all (p .passed .some) (p .start)
+    where
+      by : (vs : List ℕ) → every (outAt n b c sh) vs ≡ true → isNil vs ≡ false → startOf b (firstOf vs) ≡ q → q + sh .pages ≤ n
+      by [] x y z = let e : _≡_ {A = Bool} true false = y in let y : _≡_ {A = ℕ} 0 1 = cc in absurd (omega arith)
+      by (v ∷ vs) x y z = rw (← z) (run-within-out n c sh sound-of b v (and-left (outAt n b c sh v) _ x))
 
-        pub fair-asks : FairAsks b c sh q
-        fair-asks = record { known = a .class .known; sound = a .class .sound; there = omega (arith, within, a .class .sound .paged, a .class .long) }
+  here : every (outIn b sh q) ws ≡ true
+  here = by ws (p .alone) out-all
+    where
+      by : (vs : List ℕ) → every (λ w. eqb (startOf b w) q) vs ≡ true → every (outAt n b c sh) vs ≡ true → every (outIn b sh q) vs ≡ true
+      by [] i j = refl
+      by (v ∷ vs) i j =
+          rw (out-here n c sh sound-of q b v (eqb-true (startOf b v) q (and-left (eqb (startOf b v) q) _ i)) (and-left (outAt n b c sh v) _ j))
+          (by vs (and-right (eqb (startOf b v) q) _ i) (and-right (outAt n b c sh v) _ j))
 
-        module _ (u : Bool) (f : u ≡ releaseFair n b c sh (length ws) q) where
-          pub unfair : u ≡ false → Answered (Refused 13) b (releaseBlocks n b c sh h ws)
-          unfair i = not-fair n b c sh h ws (a .some) (a .kinds) (a .passed) q start-is starts (sym f ∙ i)
+  finish-asks : MarkedAsks n b′ c sh q m ws
+  finish-asks = record {
+    class = record { known = p .passed .class .known; sound = sound-of; few = p .passed .class .few; long = omega (arith, p .long, p .passed .class .long) };
+    inside = within;
+    few = p .few;
+    bits = bits-low n b c sh sound-of q ws here;
+    same = rw (p .taken) (fair-kept b _ (taken-changes n b c sh sound-of q ws here) n c sh (length ws) q (p .passed .class .known) ∙ sym (p .same));
+  }
 
-          pub act-asks : u ≡ true → ActAsks n b c sh q ws
-          act-asks i = record { class = a .class; inside = within; out = all-here ws starts out; fair = sym f ∙ i }
-
-          pub acted : u ≡ true → (r : ℕ) (b′ : List ℕ) → Parked r b′ (lastStep sh q (giveBackAt b c sh h q (map (indexOf sh q) ws))) → Answered (Fate r) b′ (releaseBlocks n b c sh h ws)
-          acted i r b′ k = carried-out n b c sh h ws (a .some) (a .kinds) (a .passed) q start-is starts r b′ (sym f ∙ i) (give-back-code b c sh h q (map (indexOf sh q) ws)) k
+  finished : (h : ℕ) (r : Released) (b″ : List ℕ) → Finished r b″ n b′ c sh h q m ws → Answered r b″ (releaseBlocks n b c sh h ws)
+  unfolding Finished
+  finished h (Fate f) b″ z =
+      let is = map (indexOf sh q) ws in
+      let u : settleAt (takenBy b′ sh q m ws) c sh h q is ≡ giveBackAt b c sh h q is = rw (p .taken) (sym (give-back-settles b c sh h q is)) in
+      carried-out n b c sh h ws (p .passed .some) (p .passed .kinds) (p .passed .passed) q (p .start) (p .alone) f b″ (sym (p .same) ∙ z .fair) (give-back-code b c sh h q is) (rw u at (z .act))
+  finished h (Refused k) b″ z =
+      rw (z .left, p .cleared, z .number) (not-fair n b c sh h ws (p .passed .some) (p .passed .kinds) (p .passed .passed) q (p .start) (p .alone) (sym (p .same) ∙ z .unfair))
 
 -- ---- numbers 7, 9, and what `out_fault` says
 module _ (n : ℕ) (b : List ℕ) (c : ℕ) (sh : Shape) (h : ℕ) where
@@ -247,44 +249,78 @@ module _ (n : ℕ) (b : List ℕ) (c : ℕ) (sh : Shape) (h : ℕ) where
   list-asks [] a d = absurd (d refl)
   list-asks (w ∷ ws) a d = record { class = a; some = refl }
 
+module _ (n : ℕ) (b : List ℕ) (c : ℕ) (sh : Shape) where
   module _ (ws : List ℕ) (a : ListAsks n b c sh ws) (t : Bool) (k : t ≡ every (ofKind (sh .kind)) ws) where
-    pub bad-kind : t ≡ false → Answered (Refused 9) b (releaseBlocks n b c sh h ws)
-    bad-kind x = wrong-kind n b c sh h ws (a .some) (sym k ∙ x)
+    pub bad-kind : t ≡ false → Prepared (No 9) b n b c sh ws
+    unfolding Prepared
+    bad-kind x h = wrong-kind n b c sh h ws (a .some) (sym k ∙ x)
 
     module _ (x : t ≡ true) where
       pub fault-asks : FaultAsks n b c sh ws
       fault-asks = record { class = a .class; kinds = sym k ∙ x }
 
       module _ (r : ℕ) (b′ : List ℕ) (f : Faulted r b′ n b c sh ws) where
-        pub faulted : (r ≡ 0 → ⊥) → Answered (Refused r) b′ (releaseBlocks n b c sh h ws)
-        faulted d = at-fault n b c sh h ws (a .some) (sym k ∙ x) r b′ (f .answer) d (f .left)
+        pub faulted : (r ≡ 0 → ⊥) → Prepared (No r) b′ n b c sh ws
+        unfolding Prepared
+        faulted d h = at-fault n b c sh h ws (a .some) (sym k ∙ x) r b′ (f .answer) d (f .left)
 
         pub passed-asks : r ≡ 0 → PassedAsks n b′ c sh ws
         passed-asks d = rw (f .left) (record { class = a .class; some = a .some; kinds = sym k ∙ x; passed = sym (f .answer) ∙ d })
 
-        pub passed-on : (o : Released) (b″ : List ℕ) → Answered o b″ (releaseBlocks n b′ c sh h ws) → Answered o b″ (releaseBlocks n b c sh h ws)
-        passed-on o b″ i = rw (f .left) at i
+        pub passed-on : (o : Ready) → Prepared o b′ n b′ c sh ws → Prepared o b′ n b c sh ws
+        passed-on o i = rw (f .left) (rw (f .left) at i)
 
-  -- ---- what was not carried out at once
-  pub tried-again : (ws : List ℕ) (r : Tried) (b′ : List ℕ) (o : Released) (b″ : List ℕ) → Attempted r b′ b (releaseBlocks n b c sh h ws) → r ≡ Not
-      → Answered o b″ (releaseBlocks n b′ c sh h ws) → Answered o b″ (releaseBlocks n b c sh h ws)
-  unfolding Attempted
-  tried-again ws (Done f) b′ o b″ t e i = let z : _≡_ {A = ℕ} 0 1 = cc in absurd (omega arith)
-  tried-again ws Not b′ o b″ t e i = rw t at i
+  -- ---- what was prepared at once
+  module _ (ws : List ℕ) where
+    pub not-attempted : Attempted Not b n b c sh ws
+    unfolding Attempted
+    not-attempted = refl
 
-  pub not-tried : (ws : List ℕ) (r : Tried) (b′ : List ℕ) → Attempted r b′ b (releaseBlocks n b c sh h ws) → r ≡ Not → ClassAsks n b c sh → (length ws ≡ 0 → ⊥) → ListAsks n b′ c sh ws
-  unfolding Attempted
-  not-tried ws (Done f) b′ t e a d = let z : _≡_ {A = ℕ} 0 1 = cc in absurd (omega arith)
-  not-tried ws Not b′ t e a d = rw t (list-asks ws a d)
+    module _ (q m : ℕ) (r : Bool) (b′ : List ℕ) (z : MarkedAll r b′ n b c sh q m ws) where
+      pub all-were : r ≡ true → Attempted (Run q m) b′ n b c sh ws
+      unfolding Attempted
+      all-were e = z .ready e
 
-  pub tried-done : (ws : List ℕ) (r : Tried) (f : ℕ) (b′ : List ℕ) → Attempted r b′ b (releaseBlocks n b c sh h ws) → r ≡ Done f → Answered (Fate f) b′ (releaseBlocks n b c sh h ws)
-  unfolding Attempted
-  tried-done ws (Done g) f b′ t e = let z : g ≡ f = cc in rw (← z) t
-  tried-done ws Not f b′ t e = let z : _≡_ {A = ℕ} 0 1 = cc in absurd (omega arith)
+      pub not-all-were : r ≡ false → Attempted Not b′ n b c sh ws
+      unfolding Attempted
+      not-all-were e = z .left e
 
-  pub not-attempted : (ws : List ℕ) → Attempted Not b b (releaseBlocks n b c sh h ws)
-  unfolding Attempted
-  not-attempted ws = refl
+    pub ready-at-once : (o : Marked) (q m : ℕ) (b′ : List ℕ) → Attempted o b′ n b c sh ws → o ≡ Run q m → Prepared (In q m) b′ n b c sh ws
+    unfolding Attempted Prepared
+    ready-at-once (Run p l) q m b′ t e = let x : p ≡ q = cc in let y : l ≡ m = cc in rw (← x, ← y) t
+    ready-at-once Not q m b′ t e = let z : _≡_ {A = ℕ} 0 1 = cc in absurd (omega arith)
+
+    as-it-was : (o : Marked) (b′ : List ℕ) → Attempted o b′ n b c sh ws → o ≡ Not → b′ ≡ b
+    unfolding Attempted
+    as-it-was (Run p l) b′ t e = let z : _≡_ {A = ℕ} 0 1 = cc in absurd (omega arith)
+    as-it-was Not b′ t e = t
+
+    module _ (o : Marked) (b′ : List ℕ) (t : Attempted o b′ n b c sh ws) (e : o ≡ Not) where
+      pub test-asks : ListAsks n b c sh ws → ListAsks n b′ c sh ws
+      test-asks a = rw (as-it-was o b′ t e) a
+
+      pub tested : (r : Ready) (b″ : List ℕ) → Prepared r b″ n b′ c sh ws → Prepared r b″ n b c sh ws
+      tested r b″ i = rw (as-it-was o b′ t e) at i
+
+  pub told-no : (h : ℕ) (ws : List ℕ) (o : Ready) (k : ℕ) (b′ : List ℕ) → Prepared o b′ n b c sh ws → o ≡ No k → Answered (Refused k) b′ (releaseBlocks n b c sh h ws)
+  unfolding Prepared
+  told-no h ws (No j) k b′ p e = let z : j ≡ k = cc in rw (← z) (p h)
+  told-no h ws (In q m) k b′ p e = let z : _≡_ {A = ℕ} 0 1 = cc in absurd (omega arith)
+
+  told-in : (ws : List ℕ) (o : Ready) (q m : ℕ) (b′ : List ℕ) → Prepared o b′ n b c sh ws → o ≡ In q m → PreparedAt q m b′ n b c sh ws
+  unfolding Prepared
+  told-in ws (No j) q m b′ p e = let z : _≡_ {A = ℕ} 0 1 = cc in absurd (omega arith)
+  told-in ws (In r l) q m b′ p e = let x : r ≡ q = cc in let y : l ≡ m = cc in rw (← x, ← y) p
+
+  module _ (ws : List ℕ) (o : Ready) (q m : ℕ) (b′ : List ℕ) (p : Prepared o b′ n b c sh ws) (e : o ≡ In q m) where
+    prepared-in : PreparedAt q m b′ n b c sh ws
+    prepared-in = told-in ws o q m b′ p e
+
+    pub finish-told : MarkedAsks n b′ c sh q m ws
+    finish-told = finish-asks n b c sh ws q m b′ prepared-in
+
+    pub finished-told : (h : ℕ) (r : Released) (b″ : List ℕ) → Finished r b″ n b′ c sh h q m ws → Answered r b″ (releaseBlocks n b c sh h ws)
+    finished-told = finished n b c sh ws q m b′ prepared-in
 
   pub run-asks : (ws : List ℕ) (f : Found) (q : ℕ) → ListAsks n b c sh ws → f ≡ runAt n b sh c (getD ws 0 0) → f ≡ At q → RunAsks n b c sh q ws
   run-asks ws f q a e y =
@@ -301,20 +337,6 @@ module _ (n : ℕ) (b : List ℕ) (c : ℕ) (sh : Shape) (q : ℕ) (ws : List �
 
   pub field-asks : FieldAsks b sh q
   field-asks = record { sound = sound; below = omega (arith, below-n, a .class .few); there = omega (arith, below-n, sound .paged, a .class .long) }
-
-  pub run-fair : FairAsks b c sh q
-  run-fair = record { known = a .class .known; sound = sound; there = field-asks .there }
-
-  -- what passes every number before 13's last
-  record Passes : Type 0 where
-    kinds : every (ofKind (sh .kind)) ws ≡ true
-    fault : outFault n b c sh ws ≡ 0
-    start : every (λ w. eqb (startOf b w) q) ws ≡ true
-    out : every (outIn b sh q) ws ≡ true
-
-  done : (h r : ℕ) (b′ : List ℕ) → Passes → releaseFair n b c sh (length ws) q ≡ true → Parked r b′ (lastStep sh q (giveBackAt b c sh h q (map (indexOf sh q) ws)))
-      → Answered (Fate r) b′ (releaseBlocks n b c sh h ws)
-  done h r b′ p f k = carried-out n b c sh h ws (a .some) (p .kinds) (p .fault) q (a .start) (p .start) r b′ f (give-back-code b c sh h q (map (indexOf sh q) ws)) k
 
   -- ---- one block
   module _ (one : length ws ≡ 1) (t : Bool) (e : t ≡ readyIn b sh q (getD ws 0 0)) (x : t ≡ true) where
@@ -356,21 +378,12 @@ module _ (n : ℕ) (b : List ℕ) (c : ℕ) (sh : Shape) (q : ℕ) (ws : List �
     every-one : (t : ℕ → Bool) → t (getD ws 0 0) ≡ true → every t ws ≡ true
     every-one t h = ap (every t) the-one ∙ rw h
 
-    one-passes : Passes
-    one-passes = record {
-      kinds = every-one (ofKind (sh .kind)) one-kind;
-      fault = ap (outFault n b c sh) the-one ∙ one-fault;
-      start = every-one (λ w. eqb (startOf b w) q) (eq-eqb (startOf b (getD ws 0 0)) q one-start);
-      out = every-one (outIn b sh q) one-in;
-    }
-
-    pub one-acts : (u : Bool) → u ≡ releaseFair n b c sh (length ws) q → u ≡ true → ActAsks n b c sh q ws
-    one-acts u f y = record { class = a .class; inside = below-n; out = one-passes .out; fair = sym f ∙ y }
-
-    pub one-done : (h : ℕ) (u : Bool) (r : ℕ) (b′ : List ℕ) → u ≡ releaseFair n b c sh (length ws) q → u ≡ true → Parked r b′ (lastStep sh q (giveBackAt b c sh h q (map (indexOf sh q) ws)))
-        → Attempted (Done r) b′ b (releaseBlocks n b c sh h ws)
+    pub one-ready : Attempted (Run q 0) b n b c sh ws
     unfolding Attempted
-    one-done h u r b′ f y k = done h r b′ one-passes (sym f ∙ y) k
+    one-ready =
+        not-marked-at n b c sh ws
+        (record { class = a .class; some = a .some; kinds = every-one (ofKind (sh .kind)) one-kind; passed = ap (outFault n b c sh) the-one ∙ one-fault })
+        q (a .start) (every-one (λ w. eqb (startOf b w) q) (eq-eqb (startOf b (getD ws 0 0)) q one-start))
 
   -- ---- by words of marks
   module _ (m : ℕ) (i : m ≡ outWords sh) where
@@ -396,9 +409,8 @@ module _ (n : ℕ) (b : List ℕ) (c : ℕ) (sh : Shape) (q : ℕ) (ws : List �
       pub clear-asks : ClearAsks b′ q m
       clear-asks = rw marked-is (record { few = few-words; there = omega (arith, marked-changes .long, field-asks .there) })
 
-      pub cleared : (h : ℕ) (b″ : List ℕ) → b″ ≡ clearMarks b′ q m → Attempted Not b″ b (releaseBlocks n b c sh h ws)
-      unfolding Attempted
-      cleared h b″ l = l ∙ rw marked-is (clears-run sh sound q m few-words all-words b ws none-set)
+      pub cleared : (b″ : List ℕ) → b″ ≡ clearMarks b′ q m → MarkedAll false b″ n b c sh q m ws
+      cleared b″ l = record { ready = λ z. absurd (true≢false (sym z)); left = λ z. l ∙ rw marked-is (clears-run sh sound q m few-words all-words b ws none-set) }
 
       module _ (y : k ≡ length ws) where
         all-marked : freshCount b sh q ws ≡ length ws
@@ -410,45 +422,43 @@ module _ (n : ℕ) (b : List ℕ) (c : ℕ) (sh : Shape) (q : ℕ) (ws : List �
         hb : leb (words n) (length b) ≡ true
         hb = le-leb (words n) (length b) (a .class .long)
 
-        run-passes : Passes
-        run-passes = record {
-          kinds = fresh .kinds;
-          fault = fault-none n b c sh ws (not-marked sh sound q m few-words all-words n c b ws none-set fresh) (not-repeated sh sound q m few-words all-words n c b ws fresh hb) (fresh .out);
-          start = fresh .start;
-          out = all-here ws (fresh .start) (fresh .out);
+        taken-is : takenBy (freshBook b sh q ws) sh q m ws ≡ marks b q 0 (map (indexOf sh q) ws)
+        taken-is = rw (ne-eqb m 0 (λ z. omega (arith, sound .blocks))) (takes-all sh sound q m few-words all-words b ws (field-asks .there) none-set all-marked)
+
+        pub all-ready : MarkedAll true b′ n b c sh q m ws
+        all-ready = record {
+          ready = λ z. rw marked-is (record {
+            passed = record {
+              class = a .class;
+              some = a .some;
+              kinds = fresh .kinds;
+              passed = fault-none n b c sh ws (not-marked sh sound q m few-words all-words n c b ws none-set fresh) (not-repeated sh sound q m few-words all-words n c b ws fresh hb) (fresh .out);
+            };
+            start = a .start;
+            alone = fresh .start;
+            few = few-words;
+            long = marked-changes .long;
+            same = fair-kept b _ marked-changes n c sh (length ws) q (a .class .known);
+            taken = taken-is;
+            cleared = clears-run sh sound q m few-words all-words b ws none-set;
+          });
+          left = λ z. absurd (true≢false z);
         }
-          where
-            all-here : (vs : List ℕ) → every (λ w. eqb (startOf b w) q) vs ≡ true → every (outAt n b c sh) vs ≡ true → every (outIn b sh q) vs ≡ true
-            all-here [] i j = refl
-            all-here (v ∷ vs) i j =
-                rw (out-here n c sh sound q b v (eqb-true (startOf b v) q (and-left (eqb (startOf b v) q) _ i)) (and-left (outAt n b c sh v) _ j))
-                (all-here vs (and-right (eqb (startOf b v) q) _ i) (and-right (outAt n b c sh v) _ j))
 
-        taken-is : takeMarks (freshBook b sh q ws) q m ≡ marks b q 0 (map (indexOf sh q) ws)
-        taken-is = takes-all sh sound q m few-words all-words b ws (field-asks .there) none-set all-marked
-
-        taken-changes : Changes isBit b (marks b q 0 (map (indexOf sh q) ws))
-        taken-changes = marks-changes b q 0 isBit (λ i. refl) (map (indexOf sh q) ws) (smalls sh q ws (lows sh sound q b ws (run-passes .out)))
-
-        pub marked-asks : MarkedAsks n b′ c sh q m ws
-        marked-asks = rw marked-is (record {
-          class = record { known = a .class .known; sound = sound; few = a .class .few; long = omega (arith, marked-changes .long, a .class .long) };
-          inside = below-n;
-          few = few-words;
-          same = rw taken-is (fair-kept b _ taken-changes n c sh (length ws) q (a .class .known) ∙ sym (fair-kept b _ marked-changes n c sh (length ws) q (a .class .known)));
-        })
-
-        pub taken : (h : ℕ) (r : Tried) (b″ : List ℕ) → Taken r b″ n b′ c sh h q m ws → Attempted r b″ b (releaseBlocks n b c sh h ws)
-        unfolding Attempted Taken
-        taken h (Done f) b″ p =
-            let is = map (indexOf sh q) ws in
-            let g : releaseFair n b c sh (length ws) q ≡ true = sym (fair-kept b _ marked-changes n c sh (length ws) q (a .class .known)) ∙ rw marked-is at (p .fair) in
-            let u : settleAt (takeMarks b′ q m) c sh h q is ≡ giveBackAt b c sh h q is =
-            rw (marked-is, taken-is) (sym (give-back-settles b c sh h q is)) in
-            done h f b″ run-passes g (rw u at (p .act))
-        taken h Not b″ p = cleared h b″ p
+  pub not-all : (m : ℕ) → MarkedAll false b n b c sh q m ws
+  not-all m = record { ready = λ z. absurd (true≢false (sym z)); left = λ z. refl }
 
 -- ---- from the marked book on
+module _ (b : List ℕ) (sh : Shape) (q m : ℕ) (ws b′ : List ℕ) where
+  pub by-list : m ≡ 0 → b′ ≡ marks b q 0 (map (indexOf sh q) ws) → b′ ≡ takenBy b sh q m ws
+  by-list z e = rw z e
+
+  pub by-words : (m ≡ 0 → ⊥) → b′ ≡ takeMarks b q m → b′ ≡ takenBy b sh q m ws
+  by-words z e = rw (ne-eqb m 0 z) e
+
+pub sweep-asks : (b : List ℕ) (sh : Shape) (q m : ℕ) (ws : List ℕ) → TakeAsks b sh q ws → m ≤ 128 → ClearAsks b q m
+sweep-asks b sh q m ws a l = record { few = l; there = a .run .there }
+
 module _ (n : ℕ) (b : List ℕ) (c : ℕ) (sh : Shape) (q m : ℕ) (ws : List ℕ) (a : MarkedAsks n b c sh q m ws) where
   pub marked-there : ClearAsks b q m
   marked-there = record { few = a .few; there = omega (arith, a .inside, a .class .sound .paged, a .class .long) }
@@ -456,18 +466,25 @@ module _ (n : ℕ) (b : List ℕ) (c : ℕ) (sh : Shape) (q m : ℕ) (ws : List 
   pub marked-fair : FairAsks b c sh q
   marked-fair = record { known = a .class .known; sound = a .class .sound; there = marked-there .there }
 
-  module _ (t : Bool) (f : t ≡ releaseFair n b c sh (length ws) q) (x : t ≡ true) (b′ : List ℕ) (e : b′ ≡ takeMarks b q m) where
-    pub marked-settles : SettleAsks n b′ c sh q ws
-    marked-settles = rw e (record {
-      class = record { known = a .class .known; sound = a .class .sound; few = a .class .few; long = omega (arith, lengths q m b, a .class .long) };
-      inside = a .inside;
-      fair = a .same ∙ sym f ∙ x;
-    })
+  pub marked-takes : TakeAsks b sh q ws
+  marked-takes = record {
+    run = record { sound = a .class .sound; below = omega (arith, a .inside, a .class .sound .paged, a .class .few); there = marked-there .there };
+    bits = a .bits;
+  }
 
-    pub marked-taken : (h r : ℕ) (b″ : List ℕ) → Parked r b″ (lastStep sh q (settleAt b′ c sh h q (map (indexOf sh q) ws))) → Taken (Done r) b″ n b c sh h q m ws
-    unfolding Taken
-    marked-taken h r b″ p = record { fair = sym f ∙ x; act = rw e at p }
+  module _ (t : Bool) (f : t ≡ releaseFair n b c sh (length ws) q) where
+    module _ (x : t ≡ true) (b′ : List ℕ) (l : length b′ ≡ length b) (e : b′ ≡ takenBy b sh q m ws) where
+      pub marked-settles : SettleAsks n b′ c sh q ws
+      marked-settles = record {
+        class = record { known = a .class .known; sound = a .class .sound; few = a .class .few; long = omega (arith, a .class .long) };
+        inside = a .inside;
+        fair = rw e (a .same) ∙ sym f ∙ x;
+      }
 
-  pub marked-cleared : (h : ℕ) (b′ : List ℕ) → b′ ≡ clearMarks b q m → Taken Not b′ n b c sh h q m ws
-  unfolding Taken
-  marked-cleared h b′ e = e
+      pub marked-taken : (h r : ℕ) (b″ : List ℕ) → Parked r b″ (lastStep sh q (settleAt b′ c sh h q (map (indexOf sh q) ws))) → Finished (Fate r) b″ n b c sh h q m ws
+      unfolding Finished
+      marked-taken h r b″ p = record { fair = sym f ∙ x; act = rw e at p }
+
+    pub marked-cleared : t ≡ false → (h : ℕ) (b′ : List ℕ) → b′ ≡ clearMarks b q m → Finished (Refused 13) b′ n b c sh h q m ws
+    unfolding Finished
+    marked-cleared x h b′ e = record { number = refl; unfair = sym f ∙ x; left = e }

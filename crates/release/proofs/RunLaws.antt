@@ -40,10 +40,10 @@ low-marks b q v i (j ∷ js) h l =
 module _ (n c : ℕ) (sh : Shape) (s : Sound sh) (q : ℕ) where
   -- ---- the run's pages hold its blocks
   module _ (w : ℕ) (e : isBlock sh q w ≡ true) where
-    not-before : q ≤ pageAt w
+    pub not-before : q ≤ pageAt w
     not-before = omega (arith, from-block sh q w e)
 
-    not-behind : pageAt w < q + sh .pages
+    pub not-behind : pageAt w < q + sh .pages
     not-behind =
         let m : suc (indexOf sh q w) * sh .block ≤ sh .capacity * sh .block = mul-le-mul-right (sh .block) (below-capacity sh q w e) in
         omega (arith, suc-mul (indexOf sh q w) (sh .block), from-block sh q w e, at-block sh q w e, s .fits, s .wide)

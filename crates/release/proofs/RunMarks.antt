@@ -5,7 +5,7 @@
 use Prim.Native.Nat.{ℕ, zero, suc, _+_, _*_, _/_, _%_, _≤_, _<_}
 use native.Mathlib.Omega.{arith}
 use native.Mathlib.Decide.{ℕ-discrete}
-use mathlib.Core.Bool.{Bool, true, false, not, _&&_}
+use mathlib.Core.Bool.{Bool, true, false, not, _&&_, and-false}
 use mathlib.Core.List.{List, [], _∷_, map}
 use mathlib.Core.Path.{_≡_, refl, sym, ap, _∙_}
 use lib.Bits.{bitXor, xor-zero-r}
@@ -20,7 +20,7 @@ use Rattle.facts.proofs.Bools.{and-left, and-right}
 use Rattle.fields.proofs.Laws.{length-put, put-comm, put-get}
 use Rattle.fields.proofs.Changes.{Changes, changes-none, changes-trans}
 use Rattle.fields.proofs.Parts.{read-small}
-use Rattle.facts.specs.Lists.{every, distinct}
+use Rattle.facts.specs.Lists.{every}
 use Rattle.model.specs.Release.{ofKind}
 use Rattle.pages.specs.Runs.{whole}
 use Rattle.pages.specs.Stack.{marks, indexOf, isBlock}
@@ -31,7 +31,7 @@ use Rattle.facts.proofs.Lists.{every-same}
 use Rattle.release.proofs.Bits.{out-in, below-capacity, whole-kept, start-kept}
 use Rattle.release.proofs.RunLaws.{low-marks, run-out, run-start}
 use Rattle.release.proofs.OutLaws.{block-of-out}
-use Rattle.release.proofs.MarkLaws.{isMarkWord, mark-bits, put-mark, out-kept, marks-all, free}
+use Rattle.release.proofs.MarkLaws.{isMarkWord, mark-bits, put-mark, out-kept, all-single}
 use Rattle.release.proofs.TakeMarks.{takes-marked}
 
 -- a mark is 0 or 1
@@ -41,7 +41,7 @@ not-one (suc zero) h e = let z : _≡_ {A = Bool} false true = e in cc
 not-one (suc (suc x)) h e = absurd (omega arith)
 
 -- ---- words that are 0
-clean-at : (b : List ℕ) (q m j : ℕ) → noMarks b q m ≡ true → j < m → get b (mark q j) ≡ 0
+pub clean-at : (b : List ℕ) (q m j : ℕ) → noMarks b q m ≡ true → j < m → get b (mark q j) ≡ 0
 clean-at b q zero j e h = absurd (omega arith)
 clean-at b q (suc m) j e h =
     elim (ℕ-discrete j m) [
@@ -59,13 +59,13 @@ take-same b q j e =
     ap (set b (outWord q j)) (ap (bitXor (getD b (outWord q j) 0)) e ∙ xor-zero-r (getD b (outWord q j) 0)) ∙ set-getD b (outWord q j) 0 in
     ap (λ d. put d (mark q j) 0) x ∙ clear-same b q j e
 
-none-taken : (b : List ℕ) (q m : ℕ) → noMarks b q m ≡ true → takeMarks b q m ≡ b
+pub none-taken : (b : List ℕ) (q m : ℕ) → noMarks b q m ≡ true → takeMarks b q m ≡ b
 unfolding takeMarks
 none-taken b q zero e = refl
 none-taken b q (suc m) e =
     ap (λ d. takeWord d q m) (none-taken b q m (and-right (eqb (get b (mark q m)) 0) _ e)) ∙ take-same b q m (eqb-true (get b (mark q m)) 0 (and-left _ _ e))
 
-none-cleared : (b : List ℕ) (q m : ℕ) → noMarks b q m ≡ true → clearMarks b q m ≡ b
+pub none-cleared : (b : List ℕ) (q m : ℕ) → noMarks b q m ≡ true → clearMarks b q m ≡ b
 unfolding clearMarks
 none-cleared b q zero e = refl
 none-cleared b q (suc m) e =
@@ -86,7 +86,7 @@ clear-later b q (suc m) j v h l =
     apart : (x y : ℕ) → (x ≡ y → ⊥) → (eqb x y && eqb q q) ≡ false
     apart x y d = rw (ne-eqb x y d)
 
-clear-past : (b : List ℕ) (q m j v : ℕ) → j < m → m ≤ 128 → clearMarks (put b (mark q j) v) q m ≡ clearMarks b q m
+pub clear-past : (b : List ℕ) (q m j v : ℕ) → j < m → m ≤ 128 → clearMarks (put b (mark q j) v) q m ≡ clearMarks b q m
 unfolding clearMarks
 clear-past b q zero j v h l = absurd (omega arith)
 clear-past b q (suc m) j v h l =
@@ -95,10 +95,18 @@ clear-past b q (suc m) j v h l =
       | no z ↦ ap (λ d. put d (mark q m) 0) (clear-past b q m j v (omega arith) (omega arith))
     ]
 
+-- a mark of another page
+pub clear-away : (b : List ℕ) (q m p j v : ℕ) → (p ≡ q → ⊥) → m ≤ 128 → j < 128 → clearMarks (put b (mark p j) v) q m ≡ put (clearMarks b q m) (mark p j) v
+unfolding clearMarks
+clear-away b q zero p j v d h l = refl
+clear-away b q (suc m) p j v d h l =
+    ap (λ z. put z (mark q m) 0) (clear-away b q m p j v d (omega arith) l)
+    ∙ put-comm (clearMarks b q m) (mark p j) (mark q m) v 0 (lt-ltb j 128 l) (lt-ltb m 128 (omega arith)) (rw (ne-eqb p q d) (and-false (eqb j m)))
+
 module _ (sh : Shape) (s : Sound sh) (q m : ℕ) (few : m ≤ 128) (all : sh .capacity ≤ 32 * m) where
   -- ---- a word that is out and not marked
   module _ (b : List ℕ) (w : ℕ) (o : freshIn b sh q w ≡ true) where
-    fresh-kind : ofKind (sh .kind) w ≡ true
+    pub fresh-kind : ofKind (sh .kind) w ≡ true
     unfolding freshIn
     fresh-kind = and-left (ofKind (sh .kind) w) _ o
 
@@ -106,22 +114,22 @@ module _ (sh : Shape) (s : Sound sh) (q m : ℕ) (few : m ≤ 128) (all : sh .ca
     unfolding freshIn
     fresh-rest = and-right (ofKind (sh .kind) w) _ o
 
-    fresh-block : isBlock sh q w ≡ true
+    pub fresh-block : isBlock sh q w ≡ true
     fresh-block = and-left (isBlock sh q w) _ fresh-rest
 
     fresh-at : freshAt b q (indexOf sh q w) ≡ true
     fresh-at = and-right (isBlock sh q w) _ fresh-rest
 
-    fresh-low : indexOf sh q w < 4096
+    pub fresh-low : indexOf sh q w < 4096
     fresh-low = omega (arith, below-capacity sh q w fresh-block, s .few)
 
-    fresh-word : indexOf sh q w / 32 < m
+    pub fresh-word : indexOf sh q w / 32 < m
     fresh-word = omega (arith, below-capacity sh q w fresh-block)
 
-    fresh-out : get b (out q (indexOf sh q w)) ≡ 1
+    pub fresh-out : get b (out q (indexOf sh q w)) ≡ 1
     fresh-out = eqb-true _ 1 (and-left (eqb (get b (out q (indexOf sh q w))) 1) _ fresh-at)
 
-    fresh-mark : markAt b q (indexOf sh q w) ≡ 0
+    pub fresh-mark : markAt b q (indexOf sh q w) ≡ 0
     fresh-mark = not-one _ (read-small (indexOf sh q w % 32) 1 (get b (mark q (indexOf sh q w / 32)))) (and-right (eqb (get b (out q (indexOf sh q w))) 1) _ fresh-at)
 
     clear-one : clearMarks (markedIn b sh q w) q m ≡ clearMarks b q m
@@ -143,7 +151,7 @@ module _ (sh : Shape) (s : Sound sh) (q m : ℕ) (few : m ≤ 128) (all : sh .ca
   clears-run b ws e = clears-fresh b ws ∙ none-cleared b q m e
 
   -- ---- nothing but marks is changed
-  fresh-put : (b : List ℕ) (w : ℕ) → freshIn b sh q w ≡ true → Changes isMarkWord b (markedIn b sh q w)
+  pub fresh-put : (b : List ℕ) (w : ℕ) → freshIn b sh q w ≡ true → Changes isMarkWord b (markedIn b sh q w)
   unfolding markedIn
   fresh-put b w o = put-mark b q (indexOf sh q w / 32) _ (omega (arith, fresh-word b w o))
 
@@ -201,7 +209,7 @@ module _ (sh : Shape) (s : Sound sh) (q m : ℕ) (few : m ≤ 128) (all : sh .ca
     pub fresh-is-out : (b : List ℕ) (w : ℕ) → freshIn b sh q w ≡ true → outIn b sh q w ≡ true
     fresh-is-out b w o = out-in b sh q w ∙ rw (fresh-block b w o, fresh-out b w o)
 
-    fresh-is-free : (b : List ℕ) (w : ℕ) → freshIn b sh q w ≡ true → isMarkedIn b sh q w ≡ false
+    pub fresh-is-free : (b : List ℕ) (w : ℕ) → freshIn b sh q w ≡ true → isMarkedIn b sh q w ≡ false
     unfolding isMarkedIn
     fresh-is-free b w o = rw (fresh-mark b w o)
 
@@ -238,10 +246,7 @@ module _ (sh : Shape) (s : Sound sh) (q m : ℕ) (few : m ≤ 128) (all : sh .ca
     -- ---- the numbers: none of 13 (a mark), 15, 10, 11 applies to a list that is all marked
     module _ (b : List ℕ) (ws : List ℕ) (r : AllFresh b ws) where
       pub not-repeated : leb (words n) (length b) ≡ true → repeats n b c sh ws ≡ false
-      unfolding repeats
-      not-repeated hb =
-          let e = sym (marks-all n c sh s b (sh .kind) ws hb (r .kinds)) ∙ eq-eqb (markCount n b c sh ws) (length ws) (r .counted) in
-          rw (and-right (every (free b sh) (outs n b c sh ws)) (distinct (outs n b c sh ws)) e)
+      not-repeated hb = all-single n c sh s b (sh .kind) ws hb (r .kinds) (r .counted)
 
     clean-of : (b : List ℕ) (w : ℕ) → noMarks b q m ≡ true → eqb (startOf b w) q ≡ true → outAt n b c sh w ≡ true → clean b sh w ≡ true
     clean-of b w e y o =

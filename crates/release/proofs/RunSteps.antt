@@ -100,22 +100,22 @@ pub kind-test : (v k w kind : ℕ) → v ≡ w → k ≡ kindOf v → eqb (bitXo
 unfolding ofKind
 kind-test v k w kind e h = xor-none k kind ∙ rw (h, e)
 
--- d has the bits by which the kinds before place i differ
-pub record KindInv (k : ℕ) (ws : List ℕ) (d i : ℕ) : Type 0 where
+-- d is 0 if the words before place i have passed a test
+pub record GatherInv (t : ℕ → Bool) (ws : List ℕ) (d i : ℕ) : Type 0 where
   pub within : i ≤ length ws
-  pub rest : (eqb d 0 && every (ofKind k) (drop i ws)) ≡ every (ofKind k) ws
+  pub rest : (eqb d 0 && every t (drop i ws)) ≡ every t ws
 
-module _ (k : ℕ) (ws : List ℕ) where
-  pub kind-starts : KindInv k ws 0 0
-  kind-starts = record { within = omega arith; rest = refl }
+module _ (t : ℕ → Bool) (ws : List ℕ) where
+  pub gather-starts : GatherInv t ws 0 0
+  gather-starts = record { within = omega arith; rest = refl }
 
-  pub kind-goes-on : (d i r : ℕ) → KindInv k ws d i → i < length ws → eqb r 0 ≡ ofKind k (getD ws i 0) → KindInv k ws (bitOr d r) (i + 1)
-  kind-goes-on d i r v l e =
-      let z : every (ofKind k) (drop i ws) ≡ (eqb r 0 && every (ofKind k) (drop (i + 1) ws)) = rw (add-one, e, drop-cons ws i 0 l) in
+  pub gather-goes-on : (d i r : ℕ) → GatherInv t ws d i → i < length ws → eqb r 0 ≡ t (getD ws i 0) → GatherInv t ws (bitOr d r) (i + 1)
+  gather-goes-on d i r v l e =
+      let z : every t (drop i ws) ≡ (eqb r 0 && every t (drop (i + 1) ws)) = rw (add-one, e, drop-cons ws i 0 l) in
       record {
         within = omega arith;
         rest = rw (or-none d r) (and-assoc (eqb d 0) (eqb r 0) _ ∙ ap (λ t. eqb d 0 && t) (sym z) ∙ v .rest);
       }
 
-  pub kind-ends : (d i : ℕ) → KindInv k ws d i → length ws ≤ i → eqb d 0 ≡ every (ofKind k) ws
-  kind-ends d i v l = sym (and-true (eqb d 0)) ∙ (rw (drop-past ws i l) at (v .rest))
+  pub gather-ends : (d i : ℕ) → GatherInv t ws d i → length ws ≤ i → eqb d 0 ≡ every t ws
+  gather-ends d i v l = sym (and-true (eqb d 0)) ∙ (rw (drop-past ws i l) at (v .rest))

@@ -1,6 +1,7 @@
 -- The marks of a run taken away a word at a time: each marked block's out bit is cleared.
 --     word-taken      in one word
 --     takes-marked    a block marked before: its out bit is cleared, and nothing else is changed
+--     out-past ..     a block of another page: nothing of it is read or changed
 use Prim.Native.Nat.{ℕ, zero, suc, _+_, _-_, _*_, _/_, _%_, _^_, _≤_, _<_}
 use native.Mathlib.Omega.{arith}
 use native.Mathlib.Decide.{ℕ-discrete}
@@ -94,43 +95,32 @@ module _ (q : ℕ) where
       → takeWord (setMark b q i) q j ≡ put (takeWord b q j) (out q i) 0
   take-at b i j z h l e f = rw (← z) (take-one b i h l e f)
 
-  -- another word
-  take-other : (b : List ℕ) (i j : ℕ) → i < 4096 → j < 128 → (i / 32 ≡ j → ⊥) → takeWord (put b (out q i) 0) q j ≡ put (takeWord b q j) (out q i) 0
+  -- a word elsewhere
+  take-set : (b : List ℕ) (j t v : ℕ) → t ≢ outWord q j → t ≢ markWord j → takeWord (set b t v) q j ≡ set (takeWord b q j) t v
   unfolding takeWord get put
-  take-other b i j h k n =
-      let s = i % 32 in
-      let t = outWord q (i / 32) in
-      let x = outWord q j in
-      let y = markWord j in
-      let v = place (bits s 1) (getD b t 0) 0 in
-      let u = bitXor (getD b x 0) (getD b y 0) in
-      let xt : x ≢ t = λ z. n (omega arith) in
-      let tx : t ≢ x = λ z. n (omega arith) in
-      let yt : y ≢ t = λ z. omega arith in
-      let ty : t ≢ y = λ z. omega arith in
-      let a : getD (set b t v) x 0 ≡ getD b x 0 = getD-set-other b t x v 0 xt in
-      let c : getD (set b t v) y 0 ≡ getD b y 0 = getD-set-other b t y v 0 yt in
-      let g : getD (set (set b x u) y 0) t 0 ≡ getD b t 0 = getD-set-other (set b x u) y t 0 0 ty ∙ getD-set-other b x t u 0 tx in
-      rw (a, c, g) (ap (λ z. set z y 0) (set-comm b t x v u tx) ∙ set-comm (set b x u) t y v 0 ty)
-
-  take-later : (b : List ℕ) (i j v : ℕ) → i < 128 → j < 128 → (i ≡ j → ⊥) → takeWord (put b (mark q i) v) q j ≡ put (takeWord b q j) (mark q i) v
-  unfolding takeWord get put
-  take-later b i j v h k n =
-      let t = markWord i in
+  take-set b j t v tx ty =
       let x = outWord q j in
       let y = markWord j in
       let u = bitXor (getD b x 0) (getD b y 0) in
-      let xt : x ≢ t = λ z. omega arith in
-      let tx : t ≢ x = λ z. omega arith in
-      let yt : y ≢ t = λ z. n (omega arith) in
-      let ty : t ≢ y = λ z. n (omega arith) in
-      let a : getD (set b t v) x 0 ≡ getD b x 0 = getD-set-other b t x v 0 xt in
-      let c : getD (set b t v) y 0 ≡ getD b y 0 = getD-set-other b t y v 0 yt in
+      let a : getD (set b t v) x 0 ≡ getD b x 0 = getD-set-other b t x v 0 (λ z. tx (sym z)) in
+      let c : getD (set b t v) y 0 ≡ getD b y 0 = getD-set-other b t y v 0 (λ z. ty (sym z)) in
       rw (a, c) (ap (λ z. set z y 0) (set-comm b t x v u tx) ∙ set-comm (set b x u) t y v 0 ty)
 
   read-other : (b : List ℕ) (j a : ℕ) → a ≢ outWord q j → a ≢ markWord j → getD (takeWord b q j) a 0 ≡ getD b a 0
   unfolding takeWord get put
   read-other b j a x y = getD-set-other (set b (outWord q j) _) (markWord j) a 0 0 y ∙ getD-set-other b (outWord q j) a _ 0 x
+
+  take-other : (b : List ℕ) (i j : ℕ) → i < 4096 → j < 128 → (i / 32 ≡ j → ⊥) → takeWord (put b (out q i) 0) q j ≡ put (takeWord b q j) (out q i) 0
+  unfolding put
+  take-other b i j h k n =
+      let t = outWord q (i / 32) in
+      let x : t ≢ outWord q j = λ z. n (omega arith) in
+      let y : t ≢ markWord j = λ z. omega arith in
+      take-set b j t _ x y ∙ ap (λ o. set (takeWord b q j) t (place (bits (i % 32) 1) o 0)) (sym (read-other b j t x y))
+
+  take-later : (b : List ℕ) (i j v : ℕ) → i < 128 → j < 128 → (i ≡ j → ⊥) → takeWord (put b (mark q i) v) q j ≡ put (takeWord b q j) (mark q i) v
+  unfolding put
+  take-later b i j v h k n = take-set b j (markWord i) v (λ z. omega arith) (λ z. n (omega arith))
 
   length-take : (b : List ℕ) (j : ℕ) → length (takeWord b q j) ≡ length b
   unfolding takeWord put
@@ -184,3 +174,41 @@ module _ (q : ℕ) where
             ∙ take-at (takeMarks b q m) i m z h (rw (lengths m b) l) (out-same m b i h g ∙ e) (mark-same m b i h g ∙ f)
         | no z ↦ ap (λ d. takeWord d q m) (takes-marked m b i h (omega arith) (omega arith) l e f) ∙ take-other (takeMarks b q m) i m h (omega arith) z
       ]
+
+  -- ---- the blocks of another page
+  module _ (p : ℕ) (d : p ≢ q) where
+    abbrev Away : ℕ → Type 0
+    Away t = (j : ℕ) → j < 128 → (t ≢ outWord q j) × (t ≢ markWord j)
+
+    away-set : (m : ℕ) (b : List ℕ) (t v : ℕ) → m ≤ 128 → Away t → takeMarks (set b t v) q m ≡ set (takeMarks b q m) t v
+    unfolding takeMarks
+    away-set zero b t v h a = refl
+    away-set (suc m) b t v h a = let z = a m (omega arith) in ap (λ z. takeWord z q m) (away-set m b t v (omega arith) a) ∙ take-set (takeMarks b q m) m t v (z .0) (z .1)
+
+    away-read : (m : ℕ) (b : List ℕ) (t : ℕ) → m ≤ 128 → Away t → getD (takeMarks b q m) t 0 ≡ getD b t 0
+    unfolding takeMarks
+    away-read zero b t h a = refl
+    away-read (suc m) b t h a = let z = a m (omega arith) in read-other (takeMarks b q m) m t (z .0) (z .1) ∙ away-read m b t (omega arith) a
+
+    module _ (m : ℕ) (few : m ≤ 128) (b : List ℕ) (i : ℕ) (h : i < 4096) where
+      out-away : Away (outWord p (i / 32))
+      out-away j l = ((λ z. d (omega arith)), (λ z. d (omega arith)))
+
+      mark-away : Away (40144 + 4112 * p + i / 32)
+      mark-away j l = ((λ z. d (omega arith)), (λ z. d (omega arith)))
+
+      pub out-past : takeMarks (put b (out p i) 0) q m ≡ put (takeMarks b q m) (out p i) 0
+      unfolding put
+      out-past = away-set m b _ _ few out-away ∙ ap (λ o. set (takeMarks b q m) (outWord p (i / 32)) (place (bits (i % 32) 1) o 0)) (sym (away-read m b (outWord p (i / 32)) few out-away))
+
+      pub mark-past : takeMarks (setMark b p i) q m ≡ setMark (takeMarks b q m) p i
+      unfolding get put
+      mark-past = away-set m b _ _ few mark-away ∙ ap (λ o. set (takeMarks b q m) (40144 + 4112 * p + i / 32) (place (bits (i % 32) 1) o 1)) (sym (away-read m b (40144 + 4112 * p + i / 32) few mark-away))
+
+      pub out-still : get (takeMarks b q m) (out p i) ≡ get b (out p i)
+      unfolding get
+      out-still = ap (λ w. w / 2 ^ (i % 32) % 2 ^ 1) (away-read m b (outWord p (i / 32)) few out-away)
+
+      pub mark-still : markAt (takeMarks b q m) p i ≡ markAt b p i
+      unfolding get
+      mark-still = ap (λ w. w / 2 ^ (i % 32) % 2 ^ 1) (away-read m b (40144 + 4112 * p + i / 32) few mark-away)

@@ -2,11 +2,15 @@
 --     settleAt     the listed blocks come back to the page: `giveBackAt` once their out bits are 0
 --     Parked       a function answered a fate and left the book, as the outcome says
 --     Answered     a call answered a fate or a refusal's number, and left the book
---     Attempted    a call answered a fate and left the book, or it did nothing
+--     takenBy      the listed blocks out no longer, by words of their marks or by the list
+--     Prepared     the tests before 13's last gave a refusal's number, or the run, with the listed blocks marked or not
+--     Attempted    the same where only a list that passes is told: else the book is as it was
+--     Finished     13's last test, and the act
 use Prim.Native.Nat.{ℕ, zero, suc, _+_, _<_, _≤_}
-use mathlib.Core.Bool.{Bool, true, false, not, _&&_}
+use mathlib.Core.Bool.{Bool, true, false, cond, not, _&&_}
 use mathlib.Core.List.{List, map}
 use mathlib.Core.Path.{_≡_}
+use lib.Dec.{eqb, ltb}
 use lib.ListN.{length}
 use Rattle.facts.specs.Lists.{isNil, every}
 use Rattle.words.specs.Host.{discardZeroed}
@@ -20,20 +24,25 @@ use Rattle.model.specs.Release.{ofKind}
 use Rattle.pages.specs.declared.Park.{Park}
 use Rattle.pages.specs.Links.{stored}
 use Rattle.pages.specs.Runs.{whole}
-use Rattle.pages.specs.Stack.{pushed, indexOf}
+use Rattle.pages.specs.Stack.{marks, pushed, indexOf, pageSlots}
 use Rattle.calls.specs.Release as Heap
-use Rattle.calls.specs.Out.{startOf, outIn, outFault}
+use Rattle.calls.specs.Out.{startOf, outFault}
 use Rattle.calls.specs.Release.{firstOf, pageFair, rowFair, releaseFair, placed, lastStep}
 use Rattle.release.specs.declared.Released.{Released}
 use Rattle.release.specs.declared.Released.the-variants.{Refused, Fate}
-use Rattle.release.specs.declared.Tried.{Tried}
-use Rattle.release.specs.declared.Tried.the-variants.{Done, Not}
+use Rattle.release.specs.declared.Ready.{Ready}
+use Rattle.release.specs.declared.Ready.the-variants.{No, In}
+use Rattle.release.specs.declared.Marked.{Marked}
+use Rattle.release.specs.declared.Marked.the-variants.{Run, Not}
 use Rattle.release.specs.Asks.{ClassAsks}
 use Rattle.release.specs.Marks.{takeMarks}
 use Rattle.pages.specs.Fair.{linksFair}
 
 unfoldable pub settleAt : List ℕ → ℕ → Shape → ℕ → ℕ → List ℕ → Heap.Released
 settleAt b c sh h q is = placed false (pushed b q is) c sh h q
+
+abbrev pub takenBy : List ℕ → Shape → ℕ → ℕ → List ℕ → List ℕ
+takenBy b sh q m ws = cond (eqb m 0) (marks b q 0 (map (indexOf sh q) ws)) (takeMarks b q m)
 
 abbrev pub coldVirgin : Shape → ℕ → Bool
 coldVirgin sh h = discardZeroed h && not (isMedium sh)
@@ -79,13 +88,6 @@ pub record SettleAsks (n : ℕ) (b : List ℕ) (c : ℕ) (sh : Shape) (q : ℕ) 
   pub inside : q + sh .pages ≤ n
   pub fair : releaseFair n b c sh (length ws) q ≡ true
 
--- the same, before the blocks are taken; all are out in the run
-pub record ActAsks (n : ℕ) (b : List ℕ) (c : ℕ) (sh : Shape) (q : ℕ) (ws : List ℕ) : Type 0 where
-  pub class : ClassAsks n b c sh
-  pub inside : q + sh .pages ≤ n
-  pub out : every (outIn b sh q) ws ≡ true
-  pub fair : releaseFair n b c sh (length ws) q ≡ true
-
 -- after number 7
 pub record ListAsks (n : ℕ) (b : List ℕ) (c : ℕ) (sh : Shape) (ws : List ℕ) : Type 0 where
   pub class : ClassAsks n b c sh
@@ -98,12 +100,13 @@ pub record RunAsks (n : ℕ) (b : List ℕ) (c : ℕ) (sh : Shape) (q : ℕ) (ws
   pub run : whole n b sh c q ≡ true
   pub start : startOf b (firstOf ws) ≡ q
 
--- the run at q, with all listed blocks marked in words 0 to m - 1; taking them is nothing to number 13's last test
+-- the run at q, with all listed blocks marked in words 0 to m - 1, or m is 0; taking them is nothing to number 13's last test
 pub record MarkedAsks (n : ℕ) (b : List ℕ) (c : ℕ) (sh : Shape) (q m : ℕ) (ws : List ℕ) : Type 0 where
   pub class : ClassAsks n b c sh
   pub inside : q + sh .pages ≤ n
   pub few : m ≤ 128
-  pub same : releaseFair n (takeMarks b q m) c sh (length ws) q ≡ releaseFair n b c sh (length ws) q
+  pub bits : every (λ w. ltb (indexOf sh q w) pageSlots) ws ≡ true
+  pub same : releaseFair n (takenBy b sh q m ws) c sh (length ws) q ≡ releaseFair n b c sh (length ws) q
 
 -- after numbers 9, 13 for a mark, 15 and 10
 pub record PassedAsks (n : ℕ) (b : List ℕ) (c : ℕ) (sh : Shape) (ws : List ℕ) : Type 0 where
@@ -125,15 +128,40 @@ pub record Answered (r : Released) (b : List ℕ) (o : Heap.Released) : Type 0 w
   pub answer : r ≡ answerAs (o .code) (o .fate)
   pub left : b ≡ o .book
 
-unfoldable pub Attempted : Tried → List ℕ → List ℕ → Heap.Released → Type 0
-Attempted (Done f) b′ b o = Answered (Fate f) b′ o
-Attempted Not b′ b o = b′ ≡ b
+-- the tests before 13's last have passed: the run at q has all listed blocks, marked in words 0 to m - 1, or m is 0
+pub record PreparedAt (q m : ℕ) (b′ : List ℕ) (n : ℕ) (b : List ℕ) (c : ℕ) (sh : Shape) (ws : List ℕ) : Type 0 where
+  pub passed : PassedAsks n b c sh ws
+  pub start : startOf b (firstOf ws) ≡ q
+  pub alone : every (λ w. eqb (startOf b w) q) ws ≡ true
+  pub few : m ≤ 128
+  pub long : length b′ ≡ length b
+  pub same : releaseFair n b′ c sh (length ws) q ≡ releaseFair n b c sh (length ws) q
+  pub taken : takenBy b′ sh q m ws ≡ marks b q 0 (map (indexOf sh q) ws)
+  pub cleared : clearMarks b′ q m ≡ b
 
--- from the marked book on: number 13's last test has passed, and the marked blocks were taken; or the marks were cleared
+unfoldable pub Prepared : Ready → List ℕ → ℕ → List ℕ → ℕ → Shape → List ℕ → Type 0
+Prepared (No k) b′ n b c sh ws = (h : ℕ) → Answered (Refused k) b′ (Heap.releaseBlocks n b c sh h ws)
+Prepared (In q m) b′ n b c sh ws = PreparedAt q m b′ n b c sh ws
+
+unfoldable pub Attempted : Marked → List ℕ → ℕ → List ℕ → ℕ → Shape → List ℕ → Type 0
+Attempted (Run q m) b′ n b c sh ws = PreparedAt q m b′ n b c sh ws
+Attempted Not b′ n b c sh ws = b′ ≡ b
+
+-- all were marked, or the book is as it was
+pub record MarkedAll (r : Bool) (b′ : List ℕ) (n : ℕ) (b : List ℕ) (c : ℕ) (sh : Shape) (q m : ℕ) (ws : List ℕ) : Type 0 where
+  pub ready : r ≡ true → PreparedAt q m b′ n b c sh ws
+  pub left : r ≡ false → b′ ≡ b
+
+-- from the marked book on: number 13's last test has passed, and the blocks were taken; or the marks were cleared
 pub record TakenTo (f : ℕ) (b′ : List ℕ) (n : ℕ) (b : List ℕ) (c : ℕ) (sh : Shape) (h q m : ℕ) (ws : List ℕ) : Type 0 where
   pub fair : releaseFair n b c sh (length ws) q ≡ true
-  pub act : Parked f b′ (lastStep sh q (settleAt (takeMarks b q m) c sh h q (map (indexOf sh q) ws)))
+  pub act : Parked f b′ (lastStep sh q (settleAt (takenBy b sh q m ws) c sh h q (map (indexOf sh q) ws)))
 
-unfoldable pub Taken : Tried → List ℕ → ℕ → List ℕ → ℕ → Shape → ℕ → ℕ → ℕ → List ℕ → Type 0
-Taken (Done f) b′ n b c sh h q m ws = TakenTo f b′ n b c sh h q m ws
-Taken Not b′ n b c sh h q m ws = b′ ≡ clearMarks b q m
+pub record UnfairTo (k : ℕ) (b′ : List ℕ) (n : ℕ) (b : List ℕ) (c : ℕ) (sh : Shape) (q m : ℕ) (ws : List ℕ) : Type 0 where
+  pub number : k ≡ 13
+  pub unfair : releaseFair n b c sh (length ws) q ≡ false
+  pub left : b′ ≡ clearMarks b q m
+
+unfoldable pub Finished : Released → List ℕ → ℕ → List ℕ → ℕ → Shape → ℕ → ℕ → ℕ → List ℕ → Type 0
+Finished (Fate f) b′ n b c sh h q m ws = TakenTo f b′ n b c sh h q m ws
+Finished (Refused k) b′ n b c sh h q m ws = UnfairTo k b′ n b c sh q m ws

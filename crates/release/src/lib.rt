@@ -12,6 +12,10 @@ pub use fair::page_fair;
 pub use fair::row_fair;
 pub use fair::spot_of;
 pub use kinds::all_of_kind;
+pub use marks::clear_marks;
+pub use marks::mark_run;
+pub use marks::no_marks;
+pub use marks::take_marks;
 pub use park::park_empty_page;
 pub use park::relist;
 pub use release::release_blocks;
@@ -23,9 +27,16 @@ pub enum Released {
     Fate(u32),
 }
 
-// Whether a release was carried out, with the page's fate; if not, nothing was changed.
-pub enum Tried {
-    Done(u32),
+// What the tests before 13's last come to: a refusal's number; or the run that has all listed blocks, and in how many words of its marks
+// they are marked, 0 for none.
+pub enum Ready {
+    No(u32),
+    In(u32, u32),
+}
+
+// The same where only a list that passes is told at once.
+pub enum Marked {
+    Run(u32, u32),
     Not,
 }
 

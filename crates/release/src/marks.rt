@@ -30,7 +30,8 @@ pub fn set_mark(meta: &mut [u32], q: u32, i: u32)
     fields::marks::set_word(meta, q, i / 32, fields::bits::set_ones(marks, i % 32, 1));
 }
 
-// Whether block i of the run at q is out and not marked; it then is marked.
+// Whether block i of the run at q is out and not marked; it then is marked. A mark that was there is seen by the word with it set, which is
+// the same then.
 fn mark_block(meta: &mut [u32], q: u32, i: u32) -> bool
     requires { ⌜ Has (now meta) (mark q (i / 32)) ⌝ }
     ensures { λ r. ⌜ MarkedBlock r (now (meta .exit)) (now (meta .entry)) q i ⌝ }
@@ -38,10 +39,12 @@ fn mark_block(meta: &mut [u32], q: u32, i: u32) -> bool
     if fields::out::bit(meta, q, i) != 1 {
         return false;
     }
-    if mark_bit(meta, q, i) == 1 {
+    let marks = fields::marks::word(meta, q, i / 32);
+    let more = fields::bits::set_ones(marks, i % 32, 1);
+    if more == marks {
         return false;
     }
-    set_mark(meta, q, i);
+    fields::marks::set_word(meta, q, i / 32, more);
     true
 }
 

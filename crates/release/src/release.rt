@@ -9,12 +9,14 @@ ghost use lib.ListN.{length};
 ghost use Rattle.fields.specs.Field.{words};
 ghost use Rattle.pages.specs.Stack.{marks, indexOf, pageAt};
 ghost use Rattle.calls.specs.Out.{startOf};
-ghost use Rattle.calls.specs.Release.{giveBackAt, lastStep, releaseBlocks};
+ghost use Rattle.calls.specs.Release.{releaseBlocks};
 ghost use Rattle.release.specs.Asks.{ClassAsks, StartAsks, TakeAsks};
-ghost use Rattle.release.specs.Act.{ActAsks, RunAsks, MarkedAsks, PassedAsks, ListAsks, Parked, Answered, Taken, Attempted};
+ghost use Rattle.pages.specs.Carve.{outWords};
+ghost use Rattle.release.specs.Act.{takenBy, RunAsks, MarkedAsks, PassedAsks, ListAsks, Answered, MarkedAll, Attempted, Prepared, Finished};
 use super::Found;
+use super::Marked;
+use super::Ready;
 use super::Released;
-use super::Tried;
 use super::blocks::run_of;
 use super::fair::release_fair;
 use super::kinds::all_of_kind;
@@ -67,76 +69,21 @@ fn take_list(meta: &mut [u32], shape: Shape, q: u32, list: &[u32])
     }
 }
 
-// They come back to their page.
-fn release_list(
-    meta: &mut [u32],
-    n: u32,
-    c: u32,
-    shape: Shape,
-    host: u32,
-    q: u32,
-    list: &[u32],
-) -> u32
-    requires { ⌜ ActAsks n (now meta) c shape q (now list) ⌝ }
-    ensures { λ r. ⌜ Parked r (now (meta .exit)) (lastStep shape q (giveBackAt (now (meta .entry)) c shape host q (map (indexOf shape q) (now (list .entry))))) ⌝ }
+// They are, by m words of their marks, or by the list where they are not marked.
+fn take_all(meta: &mut [u32], shape: Shape, q: u32, m: u32, list: &[u32])
+    requires { ⌜ TakeAsks (now meta) shape q (now list) ⌝ }
+    requires { ⌜ m ≤ 128 ⌝ }
+    ensures { λ _. ⌜ now (meta .exit) ≡ takenBy (now (meta .entry)) shape q m (now (list .entry)) ⌝ }
 {
-    take_list(meta, shape, q, list);
-    settle(meta, n, c, shape, host, q, list)
-}
-
-// Numbers 11 and 13, of words that are out, and the act.
-fn release_out(meta: &mut [u32], n: u32, c: u32, shape: Shape, host: u32, list: &[u32]) -> Released
-    requires { ⌜ PassedAsks n (now meta) c shape (now list) ⌝ }
-    ensures { λ r. ⌜ Answered r (now (meta .exit)) (releaseBlocks n (now (meta .entry)) c shape host (now (list .entry))) ⌝ }
-{
-    let q = fields::page::first(meta, page_at(list[0]));
-    if of_one_run(meta, n, q, list) {
-        if release_fair(meta, n, c, shape, list.len(), q) {
-            return Released::Fate(release_list(meta, n, c, shape, host, q, list));
-        }
-        return Released::Refused(13);
+    if m == 0 {
+        take_list(meta, shape, q, list);
+        return;
     }
-    Released::Refused(11)
+    take_marks(meta, q, m);
 }
 
-// Each number over the whole list, from number 9 on.
-fn release_tested(
-    meta: &mut [u32],
-    n: u32,
-    c: u32,
-    shape: Shape,
-    host: u32,
-    list: &[u32],
-) -> Released
-    requires { ⌜ ListAsks n (now meta) c shape (now list) ⌝ }
-    ensures { λ r. ⌜ Answered r (now (meta .exit)) (releaseBlocks n (now (meta .entry)) c shape host (now (list .entry))) ⌝ }
-{
-    if all_of_kind(list, shape.kind) {
-        let fault = out_fault(meta, n, c, shape, list);
-        if fault != 0 {
-            return Released::Refused(fault);
-        }
-        return release_out(meta, n, c, shape, host, list);
-    }
-    Released::Refused(9)
-}
-
-// A list of one block of the run at q, which repeats nothing: no mark is set.
-fn try_one(meta: &mut [u32], n: u32, c: u32, shape: Shape, host: u32, q: u32, list: &[u32]) -> Tried
-    requires { ⌜ RunAsks n (now meta) c shape q (now list) ⌝ }
-    requires { ⌜ length (now list) ≡ 1 ⌝ }
-    ensures { λ r. ⌜ Attempted r (now (meta .exit)) (now (meta .entry)) (releaseBlocks n (now (meta .entry)) c shape host (now (list .entry))) ⌝ }
-{
-    if ready_one(meta, shape, q, list[0]) {
-        if release_fair(meta, n, c, shape, list.len(), q) {
-            return Tried::Done(release_list(meta, n, c, shape, host, q, list));
-        }
-    }
-    Tried::Not
-}
-
-// All listed blocks are marked, in words 0 to m - 1: they are taken, or else the marks are.
-fn take_marked(
+// 13's last test, and the act; else the marks are cleared.
+fn finish(
     meta: &mut [u32],
     n: u32,
     c: u32,
@@ -145,48 +92,110 @@ fn take_marked(
     q: u32,
     m: u32,
     list: &[u32],
-) -> Tried
+) -> Released
     requires { ⌜ MarkedAsks n (now meta) c shape q m (now list) ⌝ }
-    ensures { λ r. ⌜ Taken r (now (meta .exit)) n (now (meta .entry)) c shape host q m (now (list .entry)) ⌝ }
+    ensures { λ r. ⌜ Finished r (now (meta .exit)) n (now (meta .entry)) c shape host q m (now (list .entry)) ⌝ }
 {
     if release_fair(meta, n, c, shape, list.len(), q) {
-        take_marks(meta, q, m);
-        return Tried::Done(settle(meta, n, c, shape, host, q, list));
+        take_all(meta, shape, q, m, list);
+        return Released::Fate(settle(meta, n, c, shape, host, q, list));
     }
     clear_marks(meta, q, m);
-    Tried::Not
+    Released::Refused(13)
 }
 
-// A list whose words are all blocks out in the run at q, no mark of which is set: they are marked, and taken by whole words of marks.
-fn try_run(meta: &mut [u32], n: u32, c: u32, shape: Shape, host: u32, q: u32, list: &[u32]) -> Tried
-    requires { ⌜ RunAsks n (now meta) c shape q (now list) ⌝ }
-    ensures { λ r. ⌜ Attempted r (now (meta .exit)) (now (meta .entry)) (releaseBlocks n (now (meta .entry)) c shape host (now (list .entry))) ⌝ }
+// Number 11, of words that are out.
+fn one_run(meta: &[u32], n: u32, c: u32, shape: Shape, list: &[u32]) -> Ready
+    requires { ⌜ PassedAsks n (now meta) c shape (now list) ⌝ }
+    ensures { λ r. ⌜ Prepared r (now (meta .entry)) n (now (meta .entry)) c shape (now (list .entry)) ⌝ }
 {
-    let m = (shape.capacity + 31) / 32;
+    let q = fields::page::first(meta, page_at(list[0]));
+    if of_one_run(meta, n, q, list) {
+        return Ready::In(q, 0);
+    }
+    Ready::No(11)
+}
+
+// Each number over the whole list, from number 9 on.
+fn test_list(meta: &mut [u32], n: u32, c: u32, shape: Shape, list: &[u32]) -> Ready
+    requires { ⌜ ListAsks n (now meta) c shape (now list) ⌝ }
+    ensures { λ r. ⌜ Prepared r (now (meta .exit)) n (now (meta .entry)) c shape (now (list .entry)) ⌝ }
+{
+    if all_of_kind(list, shape.kind) {
+        let fault = out_fault(meta, n, c, shape, list);
+        if fault != 0 {
+            return Ready::No(fault);
+        }
+        return one_run(meta, n, c, shape, list);
+    }
+    Ready::No(9)
+}
+
+// A list of one block of the run at q, which repeats nothing: no mark is set.
+fn try_one(meta: &[u32], n: u32, c: u32, shape: Shape, q: u32, list: &[u32]) -> Marked
+    requires { ⌜ RunAsks n (now meta) c shape q (now list) ⌝ }
+    requires { ⌜ length (now list) ≡ 1 ⌝ }
+    ensures { λ r. ⌜ Attempted r (now (meta .entry)) n (now (meta .entry)) c shape (now (list .entry)) ⌝ }
+{
+    if ready_one(meta, shape, q, list[0]) {
+        return Marked::Run(q, 0);
+    }
+    Marked::Not
+}
+
+// A list whose words are all blocks out in the run at q, no mark of which is set: they are marked, in words 0 to m - 1. Else the book is as
+// it was.
+fn mark_all(meta: &mut [u32], n: u32, c: u32, shape: Shape, q: u32, m: u32, list: &[u32]) -> bool
+    requires { ⌜ RunAsks n (now meta) c shape q (now list) ⌝ }
+    requires { ⌜ m ≡ outWords shape ⌝ }
+    ensures { λ r. ⌜ MarkedAll r (now (meta .exit)) n (now (meta .entry)) c shape q m (now (list .entry)) ⌝ }
+{
     if no_marks(meta, q, m) {
         let count = mark_run(meta, shape, q, list, 0);
         if count == list.len() {
-            return take_marked(meta, n, c, shape, host, q, m, list);
+            return true;
         }
         clear_marks(meta, q, m);
-        return Tried::Not;
+        return false;
     }
-    Tried::Not
+    false
 }
 
-// A list of blocks of one run, in as few passes as there can be. Where there is a doubt the book is as it was.
-fn try_release(meta: &mut [u32], n: u32, c: u32, shape: Shape, host: u32, list: &[u32]) -> Tried
+fn try_run(meta: &mut [u32], n: u32, c: u32, shape: Shape, q: u32, list: &[u32]) -> Marked
+    requires { ⌜ RunAsks n (now meta) c shape q (now list) ⌝ }
+    ensures { λ r. ⌜ Attempted r (now (meta .exit)) n (now (meta .entry)) c shape (now (list .entry)) ⌝ }
+{
+    let m = (shape.capacity + 31) / 32;
+    if mark_all(meta, n, c, shape, q, m, list) {
+        return Marked::Run(q, m);
+    }
+    Marked::Not
+}
+
+// In as few passes as there can be, where all words are blocks of the run of the first. Where there is a doubt the book is as it was.
+fn try_list(meta: &mut [u32], n: u32, c: u32, shape: Shape, list: &[u32]) -> Marked
     requires { ⌜ ListAsks n (now meta) c shape (now list) ⌝ }
-    ensures { λ r. ⌜ Attempted r (now (meta .exit)) (now (meta .entry)) (releaseBlocks n (now (meta .entry)) c shape host (now (list .entry))) ⌝ }
+    ensures { λ r. ⌜ Attempted r (now (meta .exit)) n (now (meta .entry)) c shape (now (list .entry)) ⌝ }
 {
     let run = run_of(meta, n, c, shape, list[0]);
     let Found::At(q) = run else {
-        return Tried::Not;
+        return Marked::Not;
     };
     if list.len() == 1 {
-        return try_one(meta, n, c, shape, host, q, list);
+        return try_one(meta, n, c, shape, q, list);
     }
-    try_run(meta, n, c, shape, host, q, list)
+    try_run(meta, n, c, shape, q, list)
+}
+
+fn prepare(meta: &mut [u32], n: u32, c: u32, shape: Shape, list: &[u32]) -> Ready
+    requires { ⌜ ListAsks n (now meta) c shape (now list) ⌝ }
+    ensures { λ r. ⌜ Prepared r (now (meta .exit)) n (now (meta .entry)) c shape (now (list .entry)) ⌝ }
+{
+    let tried = try_list(meta, n, c, shape, list);
+    let Marked::Run(q, m) = tried else {
+        return test_list(meta, n, c, shape, list);
+    };
+    Ready::In(q, m)
 }
 
 // From number 7 on.
@@ -204,9 +213,9 @@ pub fn release_blocks(
     if list.len() == 0 {
         return Released::Refused(7);
     }
-    let tried = try_release(meta, n, c, shape, host, list);
-    let Tried::Done(fate) = tried else {
-        return release_tested(meta, n, c, shape, host, list);
-    };
-    Released::Fate(fate)
+    let ready = prepare(meta, n, c, shape, list);
+    match ready {
+        Ready::No(k) => Released::Refused(k),
+        Ready::In(q, m) => finish(meta, n, c, shape, host, q, m, list),
+    }
 }

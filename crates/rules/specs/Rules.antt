@@ -3,15 +3,15 @@
 --     rowsIn               the rows of a list
 --     rowsFault            number 19, 18 or 17 of a list, in that order, or 0
 --     rulesOf              the limits that a list gives each class
---     RowsCover            each class has just one row
+--     RowOf, RowsCover     row i of the list is one of class c; each class has just one, and its limits
 -- A run is a page of a small class, a span of a medium one. Classes are numbered 0 to 75.
-use Prim.Native.Nat.{ℕ, _%_, _≤_, _<_}
-use mathlib.Core.Bool.{Bool, true, cond, not, _&&_}
+use Prim.Native.Nat.{ℕ, _+_, _*_, _%_, _≤_, _<_}
+use mathlib.Core.Bool.{Bool, cond, not, _&&_}
 use mathlib.Core.List.{List, [], _∷_}
 use mathlib.Core.Path.{_≡_}
 use lib.Dec.{eqb, leb, ltb}
-use lib.ListN.{length}
-use Rattle.facts.specs.Lists.{isNil, every, All, total, below}
+use lib.ListN.{length, getD}
+use Rattle.facts.specs.Lists.{isNil, every, total, below}
 use Rattle.words.specs.Host.{digit}
 use Rattle.words.specs.Limits.{maxParked}
 use Rattle.classes.specs.Shape.{classCount}
@@ -84,10 +84,22 @@ limitsIn (r ∷ rs) c = cond (spans r c) (rowLimits r) (limitsIn rs c)
 unfoldable pub rulesOf : List ℕ → Rules
 rulesOf ws c = limitsIn (rowsIn ws) c
 
--- Rows "must cover 0 to 75 without gap or overlap": each class has just one of the rows rs, and its limits are that row's
-pub record RowsCover (rs : List RuleRow) (rules : Rules) : Type 0 where
-  pub one : (c : ℕ) → c < classCount → rowsOn rs c ≡ 1
-  pub theirs : (c : ℕ) → c < classCount → All (λ r. spans r c ≡ true → rules c ≡ rowLimits r) rs
+-- Of the list's words, four to a row: "first class, last class .., empty limit .. and cold limit"
+pub record RowOf (ws : List ℕ) (c i : ℕ) : Type 0 where
+  pub there : i * 4 + 4 ≤ length ws
+  pub first : getD ws (i * 4) 0 ≤ c
+  pub last : c ≤ getD ws (i * 4 + 1) 0
+
+pub record ItsRow (ws : List ℕ) (c : ℕ) : Type 0 where
+  pub row : ℕ
+  pub is : RowOf ws c row
+
+-- Rows "must cover 0 to 75 without gap or overlap": each class has just one, and its limits are that row's
+pub record RowsCover (ws : List ℕ) (rules : Rules) : Type 0 where
+  pub one : (c : ℕ) → c < classCount → ItsRow ws c
+  pub only : (c i j : ℕ) → c < classCount → RowOf ws c i → RowOf ws c j → i ≡ j
+  pub empty : (c i : ℕ) → c < classCount → RowOf ws c i → rules c .empty ≡ getD ws (i * 4 + 2) 0
+  pub cold : (c i : ℕ) → c < classCount → RowOf ws c i → rules c .cold ≡ getD ws (i * 4 + 3) 0
 
 -- no limit exceeds 256
 pub record Fit (l : Limits) : Type 0 where

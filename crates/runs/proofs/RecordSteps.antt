@@ -31,7 +31,7 @@ use Rattle.model.proofs.Placing.{Found, found, not-found, finds}
 use Rattle.holes.specs.Act.{withHoles, bothWords, placeWords, placeRecord, Places, edges, touching, giveWords, giveRecord, Gives}
 use Rattle.holes.proofs.StoreLaws.{loaded-at}
 use Rattle.holes.proofs.EndsFair.{ends-at}
-use Rattle.runs.specs.Asks.{StoreIn, SlotIn, StoredIn, TouchIn}
+use Rattle.runs.specs.Asks.{StoreIn, SlotIn, StoredIn, TouchIn, LookIn}
 
 -- ---- the record's test: one failing word is enough
 module _ (n : ℕ) (b : List ℕ) where
@@ -154,19 +154,23 @@ module _ (b : List ℕ) (a : Arena) (m q : ℕ) where
   unfolding giveWords giveRecord
   gives-over r l e = let z = lt-leb (a .total + m) holePagesMax l in record { book = rw z; top = rw z e }
 
-  pub gives-first : (x : List ℕ) (r : Arena) → a .total + m ≤ holePagesMax → a .count ≡ 0 → Places b a m q 0 0 x r → Gives b a m q x r
-  unfolding giveWords giveRecord touching neighboursOf loadHoles lowestThat
-  gives-first x r l z k =
-      let y = le-leb (a .total + m) holePagesMax l in
-      let e : loadHoles b 0 (a .count) ≡ [] = ap (loadHoles b 0) z in
-      record { book = rw (y, e) (k .book); top = rw (y, e) (k .top) }
+  pub look-in : StoreIn b a q m → LookIn b a q m
+  look-in s = record { long = s .long; few = s .few; near = s .near }
+
+  pub looks-none : a .count ≡ 0 → record { fair = true; before = 0; after = 0 } ≡ touching b a m q
+  unfolding touching neighboursOf loadHoles lowestThat
+  looks-none z = let e : loadHoles b 0 (a .count) ≡ [] = ap (loadHoles b 0) z in rw e
+
+  pub looks-through : (t : Neighbours) → t ≡ neighboursOf (loadHoles b 0 (a .count)) (a .frontier) (edges m q) → t ≡ touching b a m q
+  unfolding touching
+  looks-through t e = e
 
   pub slot-in : StoreIn b a q m → SlotIn b a m
   slot-in s = record { long = s .long; few = s .few; short = s .short; near = let z = s .near in omega arith }
 
-  module _ (t : Neighbours) (e : t ≡ neighboursOf (loadHoles b 0 (a .count)) (a .frontier) (edges m q)) where
+  module _ (t : Neighbours) (e : t ≡ touching b a m q) where
     pub gives-placed : (x : List ℕ) (r : Arena) → a .total + m ≤ holePagesMax → Places b a m q (t .before) (t .after) x r → Gives b a m q x r
-    unfolding giveWords giveRecord touching
+    unfolding giveWords giveRecord
     gives-placed x r l k =
         let y = le-leb (a .total + m) holePagesMax l in
         record { book = rw (y, ← e) (k .book); top = rw (y, ← e) (k .top) }
@@ -190,9 +194,9 @@ module _ (b : List ℕ) (a : Arena) (m q : ℕ) where
       found-in u (found i l h) d = let z : suc i - 1 ≡ i = omega arith in rw z (stored-at i l)
 
       pub before-in : TouchIn b a (t .before)
-      unfolding neighboursOf HS
+      unfolding touching neighboursOf HS
       before-in = let z : t .before ≡ indexCode (holeBefore q HS) = ap (λ y. y .before) e in subst (TouchIn b a) (sym z) (found-in (endsAt q) (finds (endsAt q) HS))
 
       pub after-in : TouchIn b a (t .after)
-      unfolding neighboursOf HS
+      unfolding touching neighboursOf HS
       after-in = let z : t .after ≡ indexCode (holeAfter (q + m) HS) = ap (λ y. y .after) e in subst (TouchIn b a) (sym z) (found-in (startsAt (q + m)) (finds (startsAt (q + m)) HS))

@@ -1,18 +1,19 @@
 -- What the steps of a commit ask of the book, the record and the plan.
 use Prim.Native.Nat.{ℕ, _+_, _-_, _≤_, _<_}
 use mathlib.Core.List.{List}
-use mathlib.Core.Bool.{true, false}
+use mathlib.Core.Bool.{Bool, true, false, cond}
 use mathlib.Core.Path.{_≡_}
 use lib.ListN.{length}
 use Rattle.words.specs.Limits.{maxPages, holeSlots, holePagesMax}
 use Rattle.facts.specs.Lists.{every}
 use Rattle.words.specs.Host.{commitGranted}
-use Rattle.fields.specs.Field.{hole, pages, get, words}
+use Rattle.fields.specs.Field.{arena, hole, pages, held, get, words}
 use Rattle.model.specs.declared.Hole.{Hole}
 use Rattle.holes.specs.declared.Arena.{Arena}
 use Rattle.runs.specs.declared.Request.{Request}
 use Rattle.arena.specs.Load.{loadHole, loadHoles}
-use Rattle.arena.specs.Fair.{holeEndsFair, giveFair}
+use Rattle.arena.specs.Fair.{recordFair, holeEndsFair, giveFair}
+use Rattle.arena.specs.Calls.{given}
 
 -- a record in its ranges, in an arena of n pages
 pub record RecordIn (n : ℕ) (a : Arena) : Type 0 where
@@ -68,6 +69,12 @@ pub record StoreIn (b : List ℕ) (a : Arena) (q m : ℕ) : Type 0 where
   pub near : q + m ≤ maxPages
   pub ends : EndsIn b a
 
+-- the holes of a record, looked through for those that a run of m pages at q touches
+pub record LookIn (b : List ℕ) (a : Arena) (q m : ℕ) : Type 0 where
+  pub long : 40000 ≤ length b
+  pub few : a .count ≤ holeSlots
+  pub near : q + m ≤ maxPages
+
 -- m pages that come to a slot
 pub record SlotIn (b : List ℕ) (a : Arena) (m : ℕ) : Type 0 where
   pub long : 40000 ≤ length b
@@ -94,3 +101,15 @@ pub record LoadedIn (b : List ℕ) (a : Arena) (d first m : ℕ) : Type 0 where
 pub record BookIn (b : List ℕ) (n : ℕ) : Type 0 where
   pub long : words n ≤ length b
   pub small : n ≤ maxPages
+
+-- a run whose give is fair but for the holes, which were not looked at
+pub record TryIn (b : List ℕ) (n first m : ℕ) : Type 0 where
+  pub book : BookIn b n
+  pub inside : first + m ≤ n
+  pub fair : recordFair n b ≡ true
+  pub owned : m ≤ get b (arena held)
+
+-- r says whether the give is fair, and x is the book after it
+pub record GivenIf (r : Bool) (x b : List ℕ) (n first m : ℕ) : Type 0 where
+  pub told : r ≡ giveFair n b m
+  pub book : x ≡ cond (giveFair n b m) (given b first m) b

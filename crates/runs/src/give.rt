@@ -3,6 +3,7 @@ use super::load;
 use super::owners;
 use super::store;
 use holes::Arena;
+use holes::Neighbours;
 use holes::holes::Edges;
 use holes::plans;
 use holes::record;
@@ -16,9 +17,10 @@ ghost use Rattle.model.specs.HoleStore.{hole, withBefore, withAfter, withBoth};
 ghost use Rattle.arena.specs.Load.{loadHole};
 ghost use Rattle.arena.specs.Store.{storeHole};
 ghost use Rattle.arena.specs.Fair.{giveFair};
+ghost use Rattle.holes.specs.Record.{recordOf};
 ghost use Rattle.arena.specs.Calls.{given};
-ghost use Rattle.holes.specs.Act.{withHoles, withState, bothWords, Places, Gives, givenWith};
-ghost use Rattle.runs.specs.Asks.{StoreIn, SlotIn, StoredIn, TouchIn, GiveIn, LoadedIn};
+ghost use Rattle.holes.specs.Act.{withHoles, withState, bothWords, Places, touching, Gives, givenWith};
+ghost use Rattle.runs.specs.Asks.{StoreIn, SlotIn, StoredIn, TouchIn, LookIn, GiveIn, LoadedIn, TryIn, GivenIf, BookIn};
 
 pub fn with_holes(a: Arena, count: u32, total: u32) -> Arena
     ensures { λ r. ⌜ r ≡ withHoles count total a ⌝ }
@@ -133,31 +135,50 @@ fn place(meta: &mut [u32], a: Arena, first: u32, pages: u32, before: u32, after:
     join_both(meta, a, before - 1, after - 1, pages)
 }
 
-// With no hole stored none is read.
-pub fn give_run(meta: &mut [u32], a: Arena, first: u32, pages: u32) -> Arena
-    requires { ⌜ StoreIn (now meta) a first pages ⌝ }
-    ensures { λ r. ⌜ Gives (now (meta .entry)) a pages first (now (meta .exit)) r ⌝ }
+// The holes that a run touches, and whether all are in their range. With no hole stored none is read.
+fn look(meta: &[u32], a: Arena, first: u32, pages: u32) -> Neighbours
+    requires { ⌜ LookIn (now meta) a first pages ⌝ }
+    ensures { λ r. ⌜ r ≡ touching (now (meta .entry)) a pages first ⌝ }
 {
-    if HOLE_PAGES_MAX < a.total + pages {
-        return record::abandoning(a);
-    }
     if a.count == 0 {
-        return append(meta, a, first, pages);
+        return Neighbours {
+            fair: true,
+            before: 0,
+            after: 0,
+        };
     }
     let run = Edges {
         first,
         end: first + pages,
     };
-    let t = plans::neighbours(meta, a, run);
+    plans::neighbours(meta, a, run)
+}
+
+// The run is stored by what was found, or abandoned; the record afterwards is answered.
+fn give_beside(meta: &mut [u32], a: Arena, first: u32, pages: u32, t: Neighbours) -> Arena
+    requires { ⌜ StoreIn (now meta) a first pages × (t ≡ touching (now meta) a pages first) ⌝ }
+    ensures { λ r. ⌜ Gives (now (meta .entry)) a pages first (now (meta .exit)) r ⌝ }
+{
+    if HOLE_PAGES_MAX < a.total + pages {
+        return record::abandoning(a);
+    }
     place(meta, a, first, pages, t.before, t.after)
 }
 
+pub fn give_run(meta: &mut [u32], a: Arena, first: u32, pages: u32) -> Arena
+    requires { ⌜ StoreIn (now meta) a first pages ⌝ }
+    ensures { λ r. ⌜ Gives (now (meta .entry)) a pages first (now (meta .exit)) r ⌝ }
+{
+    let t = look(meta, a, first, pages);
+    give_beside(meta, a, first, pages, t)
+}
+
 // The record is written, the pages are nobody's, and they are no longer held.
-fn give_loaded(meta: &mut [u32], a: Arena, held: u32, first: u32, pages: u32)
-    requires { ⌜ LoadedIn (now meta) a held first pages ⌝ }
+fn give_found(meta: &mut [u32], a: Arena, held: u32, first: u32, pages: u32, t: Neighbours)
+    requires { ⌜ LoadedIn (now meta) a held first pages × (t ≡ touching (now meta) a pages first) ⌝ }
     ensures { λ _. ⌜ now (meta .exit) ≡ givenWith (now (meta .entry)) a held first pages ⌝ }
 {
-    let b = give_run(meta, a, first, pages);
+    let b = give_beside(meta, a, first, pages, t);
     store::store_record(meta, b);
     owners::own(meta, first, pages, 0);
     fields::arena::set_held(meta, held - pages);
@@ -176,12 +197,47 @@ pub fn give_fair(meta: &[u32], size: u32, pages: u32) -> bool
     false
 }
 
-// A run below the frontier of an arena of `size` pages is given, where that is fair.
+// A run below the frontier of an arena of `size` pages is given, where that is fair, by what was found among the holes.
+fn give_by(meta: &mut [u32], size: u32, a: Arena, first: u32, pages: u32, t: Neighbours)
+    requires { ⌜ GiveIn (now meta) size first pages × (a ≡ recordOf (now meta)) × (t ≡ touching (now meta) a pages first) ⌝ }
+    ensures { λ _. ⌜ now (meta .exit) ≡ given (now (meta .entry)) first pages ⌝ }
+{
+    let held = fields::arena::held(meta);
+    give_found(meta, a, held, first, pages, t);
+}
+
 pub fn give(meta: &mut [u32], size: u32, first: u32, pages: u32)
     requires { ⌜ GiveIn (now meta) size first pages ⌝ }
     ensures { λ _. ⌜ now (meta .exit) ≡ given (now (meta .entry)) first pages ⌝ }
 {
     let a = load::load_record(meta);
-    let held = fields::arena::held(meta);
-    give_loaded(meta, a, held, first, pages);
+    let t = look(meta, a, first, pages);
+    give_by(meta, size, a, first, pages, t);
+}
+
+// The same of a run whose holes were not tested: they are read once for both.
+fn give_looked(meta: &mut [u32], size: u32, first: u32, pages: u32) -> bool
+    requires { ⌜ TryIn (now meta) size first pages ⌝ }
+    ensures { λ r. ⌜ GivenIf r (now (meta .exit)) (now (meta .entry)) size first pages ⌝ }
+{
+    let a = load::load_record(meta);
+    let t = look(meta, a, first, pages);
+    if t.fair {
+        give_by(meta, size, a, first, pages, t);
+        return true;
+    }
+    false
+}
+
+// A run is given, or no word is changed where that is not fair.
+pub fn try_give(meta: &mut [u32], size: u32, first: u32, pages: u32) -> bool
+    requires { ⌜ BookIn (now meta) size × (first + pages ≤ size) ⌝ }
+    ensures { λ r. ⌜ GivenIf r (now (meta .exit)) (now (meta .entry)) size first pages ⌝ }
+{
+    if load::record_fair(meta, size) {
+        if pages <= fields::arena::held(meta) {
+            return give_looked(meta, size, first, pages);
+        }
+    }
+    false
 }

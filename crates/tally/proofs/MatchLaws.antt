@@ -1,4 +1,4 @@
--- The test on the named book is `chunksMatch` on the book at entry.
+-- The test on the named book is `pagesMatch`.
 use Prim.Native.Nat.{ℕ, _+_, _≤_, _<_}
 use native.Mathlib.Omega.{arith}
 use mathlib.Core.Bool.{Bool, true, false, cond, not, _&&_, and-false, and-true, true≢false}
@@ -7,56 +7,45 @@ use mathlib.Core.Path.{_≡_, refl, sym, ap, _∙_}
 use lib.Dec.{eqb, ltb, leb}
 use lib.ListN.{length, getD}
 use borrow.Author.Tests.{ltb-true, ltb-false, eqb-true, eqb-false, lt-ltb, eq-eqb, ne-eqb, not-true}
-use Rattle.facts.specs.Lists.{every, elem, distinct, count, below}
+use Rattle.facts.specs.Lists.{filter, every, elem, distinct, count, below}
 use Rattle.facts.proofs.Bools.{bool-eq, and-left, and-right}
 use Rattle.facts.proofs.Lists.{every-get, every-made, every-at, every-of}
 use Rattle.words.specs.Word.{countOf, pageOf}
 use Rattle.fields.specs.Field.{page, tally, words, get}
 use Rattle.pages.specs.Stack.{pageAt}
-use Rattle.calls.specs.Out.{startOf}
-use Rattle.calls.specs.Chunks.{blocksOn, chunkFits, chunksMatch}
-use Rattle.tally.specs.Match.{onPage}
+use Rattle.tally.specs.Match.{wordsOn, pageFits, hasPage, pagesMatch, inArena}
 use Rattle.tally.specs.Tally.{isPage, pageIn, tallyIn, named, ofChunk, chunkAt, hasChunk, agrees, tallied}
 use Rattle.tally.proofs.Indices.{elem-at, elem-found, distinct-at, distinct-of}
 use Rattle.tally.proofs.NameLaws.{page-in, finds}
 
 -- ---- a listed word's page
-module _ (n : ℕ) (b : List ℕ) where
-  page-below : (w : ℕ) → onPage n b w ≡ true → ltb (pageAt w) n ≡ true
-  unfolding onPage
-  page-below w e = and-left _ _ e
-
-  page-alone : (w : ℕ) → onPage n b w ≡ true → startOf b w ≡ pageAt w
-  unfolding onPage
-  page-alone w e = eqb-true _ _ (and-right (ltb (pageAt w) n) _ e)
-
-  -- no block on a page past the arena
-  none-past : (ws : List ℕ) (q : ℕ) → every (onPage n b) ws ≡ true → n ≤ q → length (blocksOn b ws q) ≡ 0
-  unfolding blocksOn
+module _ (n : ℕ) where
+  -- no word on a page past the arena
+  none-past : (ws : List ℕ) (q : ℕ) → every (inArena n) ws ≡ true → n ≤ q → wordsOn ws q ≡ 0
+  unfolding wordsOn inArena
   none-past [] q e h = refl
   none-past (w ∷ ws) q e h =
-      let o = and-left (onPage n b w) _ e in
-      let l = ltb-true (pageAt w) n (page-below w o) in
-      let d : startOf b w ≡ q → ⊥ = λ z. omega (arith, page-alone w o) in
-      rw (ne-eqb (startOf b w) q d) (none-past ws q (and-right (onPage n b w) _ e) h)
+      let l = ltb-true (pageAt w) n (and-left (ltb (pageAt w) n) _ e) in
+      let d : pageAt w ≡ q → ⊥ = λ z. omega arith in
+      rw (ne-eqb (pageAt w) q d) (none-past ws q (and-right (ltb (pageAt w) n) _ e) h)
 
-  fits-in : (ws : List ℕ) (g : ℕ) → every (onPage n b) ws ≡ true → chunkFits b ws g ≡ true → isPage n g ≡ true
-  unfolding chunkFits isPage
+  fits-in : (ws : List ℕ) (g : ℕ) → every (inArena n) ws ≡ true → pageFits ws g ≡ true → isPage n g ≡ true
+  unfolding pageFits isPage
   fits-in ws g e f = by (ltb (pageOf g) n) refl
     where
       by : (u : Bool) → ltb (pageOf g) n ≡ u → ltb (pageOf g) n ≡ true
       by true d = d
       by false d =
           let z = none-past ws (pageOf g) e (ltb-false (pageOf g) n d) in
-          let x = eqb-true (countOf g) (length (blocksOn b ws (pageOf g))) (and-right (not (eqb (countOf g) 0)) _ f) in
+          let x = eqb-true (countOf g) (wordsOn ws (pageOf g)) (and-right (not (eqb (countOf g) 0)) _ f) in
           absurd (eqb-false (countOf g) 0 (not-true _ (and-left _ _ f)) (x ∙ z))
 
-  pub page-past : (ws gs : List ℕ) → every (onPage n b) ws ≡ true → every (isPage n) gs ≡ false → chunksMatch b ws gs ≡ false
-  unfolding chunksMatch
-  page-past ws gs e d = by (every (chunkFits b ws) gs) refl
+  pub page-past : (ws gs : List ℕ) → every (inArena n) ws ≡ true → every (isPage n) gs ≡ false → pagesMatch ws gs ≡ false
+  unfolding pagesMatch
+  page-past ws gs e d = by (every (pageFits ws) gs) refl
     where
-      by : (u : Bool) → every (chunkFits b ws) gs ≡ u → chunksMatch b ws gs ≡ false
-      by true f = absurd (true≢false (sym (every-made (isPage n) gs (λ k l. fits-in ws (getD gs k 0) e (every-get (chunkFits b ws) gs k f l))) ∙ d))
+      by : (u : Bool) → every (pageFits ws) gs ≡ u → pagesMatch ws gs ≡ false
+      by true f = absurd (true≢false (sym (every-made (isPage n) gs (λ k l. fits-in ws (getD gs k 0) e (every-get (pageFits ws) gs k f l))) ∙ d))
       by false f = rw f (and-false (distinct (map pageOf gs)))
 
 -- ---- the chunks named
@@ -68,7 +57,7 @@ regroup true false false = refl
 regroup false f true = refl
 regroup false f false = refl
 
-module _ (n : ℕ) (b ws gs : List ℕ) (hb : leb (words n) (length b) ≡ true) (on : every (onPage n b) ws ≡ true) (pages : every (isPage n) gs ≡ true) where
+module _ (n : ℕ) (b ws gs : List ℕ) (hb : leb (words n) (length b) ≡ true) (on : every (inArena n) ws ≡ true) (pages : every (isPage n) gs ≡ true) where
   abbrev B : List ℕ
   B = named b gs (length gs)
 
@@ -82,29 +71,26 @@ module _ (n : ℕ) (b ws gs : List ℕ) (hb : leb (words n) (length b) ≡ true)
       rw z at (elem-at gs (get B (page tally q)) l))
       (λ e. elem-found q gs e (λ k l z. let y = finds n b gs hb pages q hq (length gs) k l z in rw (lt-ltb _ _ (y .0), eq-eqb _ _ (y .1))))
 
-  has-elem : (xs : List ℕ) → every (onPage n b) xs ≡ true → every (hasChunk B gs) xs ≡ every (λ w. elem (startOf b w) (map pageOf gs)) xs
-  unfolding hasChunk
+  has-elem : (xs : List ℕ) → every (inArena n) xs ≡ true → every (hasChunk B gs) xs ≡ every (hasPage gs) xs
+  unfolding hasChunk inArena
   has-elem [] e = refl
-  has-elem (w ∷ xs) e =
-      let o = and-left (onPage n b w) _ e in
-      rw (page-alone n b w o, names-elem (pageAt w) (page-below n b w o), has-elem xs (and-right (onPage n b w) _ e))
+  has-elem (w ∷ xs) e = rw (names-elem (pageAt w) (and-left (ltb (pageAt w) n) _ e), has-elem xs (and-right (ltb (pageAt w) n) _ e))
 
   -- a chunk that its page names has the count of its page's blocks
   module _ (k : ℕ) (h : get B (tallyIn gs k) ≡ k) where
-    same-test : (w : ℕ) → startOf b w ≡ pageAt w → hasChunk B gs w ≡ true → eqb k (chunkAt B w) ≡ eqb (startOf b w) (pageIn gs k)
+    same-test : (w : ℕ) → hasChunk B gs w ≡ true → eqb k (chunkAt B w) ≡ eqb (pageAt w) (pageIn gs k)
     unfolding hasChunk ofChunk
-    same-test w a e =
+    same-test w e =
         let z = eqb-true (pageIn gs (chunkAt B w)) (pageAt w) (and-right (ltb (chunkAt B w) (length gs)) _ e) in
         bool-eq _ _
-        (λ x. let y = eqb-true k (chunkAt B w) x in eq-eqb _ _ (a ∙ sym z ∙ ap (pageIn gs) (sym y)))
-        (λ x. let y = eqb-true (startOf b w) (pageIn gs k) x in eq-eqb _ _ (sym h ∙ ap (λ q. get B (page tally q)) (sym y ∙ a)))
+        (λ x. let y = eqb-true k (chunkAt B w) x in eq-eqb _ _ (sym z ∙ ap (pageIn gs) (sym y)))
+        (λ x. let y = eqb-true (pageAt w) (pageIn gs k) x in eq-eqb _ _ (sym h ∙ ap (λ q. get B (page tally q)) (sym y)))
 
-    counts-blocks : (xs : List ℕ) → every (onPage n b) xs ≡ true → every (hasChunk B gs) xs ≡ true → count k (map (chunkAt B) xs) ≡ length (blocksOn b xs (pageIn gs k))
-    unfolding blocksOn
-    counts-blocks [] e c = refl
-    counts-blocks (w ∷ xs) e c =
-        rw (same-test w (page-alone n b w (and-left _ _ e)) (and-left _ _ c), counts-blocks xs (and-right (onPage n b w) _ e) (and-right (hasChunk B gs w) _ c))
-        (by (eqb (startOf b w) (pageIn gs k)) (blocksOn b xs (pageIn gs k)))
+    counts-words : (xs : List ℕ) → every (hasChunk B gs) xs ≡ true → count k (map (chunkAt B) xs) ≡ wordsOn xs (pageIn gs k)
+    unfolding wordsOn
+    counts-words [] c = refl
+    counts-words (w ∷ xs) c =
+        rw (same-test w (and-left _ _ c), counts-words xs (and-right (hasChunk B gs w) _ c)) (by (eqb (pageAt w) (pageIn gs k)) (filter (λ w. eqb (pageAt w) (pageIn gs k)) xs))
       where
         by : (u : Bool) (ys : List ℕ) → cond u 1 0 + length ys ≡ length (cond u (w ∷ ys) ys)
         by true ys = omega arith
@@ -115,31 +101,31 @@ module _ (n : ℕ) (b ws gs : List ℕ) (hb : leb (words n) (length b) ≡ true)
 
   -- with every page named: the chunks agree exactly if no page stands twice and each chunk fits
   module _ (c : every (hasChunk B gs) ws ≡ true) where
-    agrees-fits : (k : ℕ) → get B (tallyIn gs k) ≡ k → agreesAt k ≡ chunkFits b ws (getD gs k 0)
-    unfolding agrees chunkFits
-    agrees-fits k h = rw (counts-blocks k h ws on c, eq-eqb _ _ h) (ap (λ t. not (eqb (countOf (getD gs k 0)) 0) && t) (and-true _))
+    agrees-fits : (k : ℕ) → get B (tallyIn gs k) ≡ k → agreesAt k ≡ pageFits ws (getD gs k 0)
+    unfolding agrees pageFits
+    agrees-fits k h = rw (counts-words k h ws c, eq-eqb _ _ h) (ap (λ t. not (eqb (countOf (getD gs k 0)) 0) && t) (and-true _))
 
     agrees-named : (k : ℕ) → agreesAt k ≡ true → get B (tallyIn gs k) ≡ k
     unfolding agrees
     agrees-named k e = eqb-true _ _ (and-right (eqb (countOf (getD gs k 0)) (count k (map (chunkAt B) ws))) _ (and-right (not (eqb (countOf (getD gs k 0)) 0)) _ e))
 
-    all-agree : every agreesAt (below (length gs)) ≡ (distinct (map pageOf gs) && every (chunkFits b ws) gs)
+    all-agree : every agreesAt (below (length gs)) ≡ (distinct (map pageOf gs) && every (pageFits ws) gs)
     all-agree =
         bool-eq _ _
         (λ e. let at : (k : ℕ) → k < length gs → get B (tallyIn gs k) ≡ k = λ k l. agrees-named k (every-at agreesAt (length gs) k e l) in
         let d = distinct-of gs (λ i j k l z. sym (at i k) ∙ ap (λ q. get B (page tally q)) z ∙ at j l) in
-        let f = every-made (chunkFits b ws) gs (λ k l. sym (agrees-fits k (at k l)) ∙ every-at agreesAt (length gs) k e l) in
+        let f = every-made (pageFits ws) gs (λ k l. sym (agrees-fits k (at k l)) ∙ every-at agreesAt (length gs) k e l) in
         rw (d, f))
         (λ e. every-of agreesAt (length gs) (λ k l.
         let y = finds n b gs hb pages (pageIn gs k) (page-in n b gs hb pages k l) (length gs) k l refl in
         let h = distinct-at gs (get B (tallyIn gs k)) k (and-left _ _ e) (y .0) l (y .1) in
-        agrees-fits k h ∙ every-get (chunkFits b ws) gs k (and-right (distinct (map pageOf gs)) _ e) l))
+        agrees-fits k h ∙ every-get (pageFits ws) gs k (and-right (distinct (map pageOf gs)) _ e) l))
 
-  tallied-by : (u : Bool) → every (hasChunk B gs) ws ≡ u → tallied B ws gs ≡ (every (hasChunk B gs) ws && (distinct (map pageOf gs) && every (chunkFits b ws) gs))
+  tallied-by : (u : Bool) → every (hasChunk B gs) ws ≡ u → tallied B ws gs ≡ (every (hasChunk B gs) ws && (distinct (map pageOf gs) && every (pageFits ws) gs))
   unfolding tallied
   tallied-by true c = rw (c, all-agree c)
   tallied-by false c = rw c
 
-  pub tallied-is : tallied B ws gs ≡ chunksMatch b ws gs
-  unfolding chunksMatch
-  tallied-is = tallied-by (every (hasChunk B gs) ws) refl ∙ rw (has-elem ws on) (regroup (distinct (map pageOf gs)) (every (chunkFits b ws) gs) (every (λ w. elem (startOf b w) (map pageOf gs)) ws))
+  pub tallied-is : tallied B ws gs ≡ pagesMatch ws gs
+  unfolding pagesMatch
+  tallied-is = tallied-by (every (hasChunk B gs) ws) refl ∙ rw (has-elem ws on) (regroup (distinct (map pageOf gs)) (every (pageFits ws) gs) (every (hasPage gs) ws))

@@ -13,7 +13,7 @@ use Rattle.words.specs.Word.{pageOf}
 use Rattle.fields.specs.Field.{page, tally, word, words}
 use Rattle.pages.proofs.Downs.{every-mono}
 use Rattle.pages.specs.Stack.{pageAt}
-use Rattle.tally.specs.Match.{onPage, MatchAsks, Matched}
+use Rattle.tally.specs.Match.{inArena, MatchAsks, Matched}
 use Rattle.tally.specs.Tally.{isPage, unnamed, tallied}
 use Rattle.tally.specs.Asks.{chunkThere, wordThere, NameAsks, Named, CountAsks, FitAsks, RoomAsks}
 use Rattle.tally.proofs.NameLaws.{unnames}
@@ -32,13 +32,13 @@ chunks-there : (n : ℕ) (b gs : List ℕ) → words n ≤ length b → every (i
 unfolding isPage chunkThere
 chunks-there n b gs h = every-mono (isPage n) (chunkThere b) (λ g. page-there n b (pageOf g) h) gs
 
-words-there : (n : ℕ) (b b′ ws : List ℕ) → words n ≤ length b′ → every (onPage n b) ws ≡ true → every (wordThere b′) ws ≡ true
-unfolding onPage wordThere
-words-there n b b′ ws h = every-mono (onPage n b) (wordThere b′) (λ w e. page-there n b′ (pageAt w) h (and-left _ _ e)) ws
+words-there : (n : ℕ) (b ws : List ℕ) → words n ≤ length b → every (inArena n) ws ≡ true → every (wordThere b) ws ≡ true
+unfolding inArena wordThere
+words-there n b ws h = every-mono (inArena n) (wordThere b) (λ w. page-there n b (pageAt w) h) ws
 
 module _ (n : ℕ) (b ws gs ss cs : List ℕ) (a : MatchAsks n b ws gs) (s : RoomAsks gs ss cs) (t : Bool) (e : t ≡ every (isPage n) gs) where
   pub past-arena : t ≡ false → Matched false b b ws gs
-  past-arena z = record { answer = sym (page-past n b ws gs (a .pages) (sym e ∙ z)); left = refl }
+  past-arena z = record { answer = sym (page-past n ws gs (a .pages) (sym e ∙ z)); left = refl }
 
   module _ (z : t ≡ true) where
     pub name-asks : NameAsks b gs ss
@@ -49,7 +49,7 @@ module _ (n : ℕ) (b ws gs ss cs : List ℕ) (a : MatchAsks n b ws gs) (s : Roo
       long = rw k (a .long)
 
       pub count-asks : CountAsks b′ ws gs cs
-      count-asks = record { there = words-there n b b′ ws long (a .pages); room = s .counts; zeros = λ i. zero-at cs i (s .zeros) }
+      count-asks = record { there = words-there n b′ ws long (a .pages); room = s .counts; zeros = λ i. zero-at cs i (s .zeros) }
 
       pub fit-asks : FitAsks b′ gs cs
       fit-asks = record { there = chunks-there n b′ gs long (sym e ∙ z); room = s .counts }

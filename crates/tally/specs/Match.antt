@@ -1,30 +1,43 @@
--- Number 11 of a group release: what the test asks, and what it answers. The test itself is `chunksMatch` (calls, specs/Chunks).
--- n is the arena's length, ws the list, gs the chunks.
+-- Number 11 of a group release: what the test asks, and what it answers. It goes by the page that has a word's granule; where every word's
+-- run is that page, it is `chunksMatch` (calls, specs/Chunks). n is the arena's length, ws the list, gs the chunks.
+--     wordsOn       how many listed words have their granule on a page
+--     pagesMatch    no page twice; the chunks' counts not 0 and the list's; every word's page has a chunk
 use Prim.Native.Nat.{ℕ, _≤_}
-use mathlib.Core.Bool.{Bool, true, _&&_}
-use mathlib.Core.List.{List}
+use mathlib.Core.Bool.{Bool, true, not, _&&_}
+use mathlib.Core.List.{List, map}
 use mathlib.Core.Path.{_≡_}
 use lib.Dec.{eqb, ltb}
 use lib.ListN.{length}
-use Rattle.facts.specs.Lists.{every}
+use Rattle.facts.specs.Lists.{filter, every, elem, distinct}
+use Rattle.words.specs.Word.{countOf, pageOf}
 use Rattle.fields.specs.Field.{words}
 use Rattle.fields.specs.Ranges.{maxPages}
 use Rattle.model.specs.Chunks.{chunksMax}
 use Rattle.pages.specs.Stack.{pageAt}
-use Rattle.calls.specs.Out.{startOf}
-use Rattle.calls.specs.Chunks.{chunksMatch}
 
--- the word's page is in the arena, and is a run by itself
-unfoldable pub onPage : ℕ → List ℕ → ℕ → Bool
-onPage n b w = ltb (pageAt w) n && eqb (startOf b w) (pageAt w)
+unfoldable pub wordsOn : List ℕ → ℕ → ℕ
+wordsOn ws q = length (filter (λ w. eqb (pageAt w) q) ws)
+
+unfoldable pub pageFits : List ℕ → ℕ → Bool
+pageFits ws g = not (eqb (countOf g) 0) && eqb (countOf g) (wordsOn ws (pageOf g))
+
+abbrev pub hasPage : List ℕ → ℕ → Bool
+hasPage gs w = elem (pageAt w) (map pageOf gs)
+
+unfoldable pub pagesMatch : List ℕ → List ℕ → Bool
+pagesMatch ws gs = distinct (map pageOf gs) && (every (pageFits ws) gs && every (hasPage gs) ws)
+
+-- the word's page is in the arena
+unfoldable pub inArena : ℕ → ℕ → Bool
+inArena n w = ltb (pageAt w) n
 
 pub record MatchAsks (n : ℕ) (b ws gs : List ℕ) : Type 0 where
   pub few : n ≤ maxPages
   pub long : words n ≤ length b
   pub chunks : length gs ≤ chunksMax
-  pub pages : every (onPage n b) ws ≡ true
+  pub pages : every (inArena n) ws ≡ true
 
 -- the answer, and the book as it was
 pub record Matched (r : Bool) (b′ b ws gs : List ℕ) : Type 0 where
-  pub answer : r ≡ chunksMatch b ws gs
+  pub answer : r ≡ pagesMatch ws gs
   pub left : b′ ≡ b

@@ -61,6 +61,24 @@ mod stands {
         assert_eq!(holes(&given(&[(0, 2), (4, 2), (8, 3)])), [(0, 2), (4, 2), (8, 3)]);
     }
 
+    /// On a damaged book two holes end where the run starts, or two start where it ends.
+    #[test]
+    fn at_the_lowest_index_of_two() {
+        for places in [[0, 39], [3, 35], [30, 31], [31, 32], [38, 39]] {
+            for (hole, joined) in [((81, 2), (81, 3)), ((84, 2), (83, 3))] {
+                // Holes of one page: 0, 2, .. 78. Page 83 is held.
+                let mut heap = comb(100, 44, 1, 40);
+                for place in places {
+                    [heap.book[1_024 + 2 * place], heap.book[1_025 + 2 * place]] = [hole.0, hole.1];
+                }
+                let mut due = holes(&heap);
+                due[places[0]] = joined;
+                give(&mut heap, 83, 1);
+                assert_eq!(holes(&heap), due);
+            }
+        }
+    }
+
     /// Example P12: "now ends with the one hole (0,4)".
     #[test]
     fn p12() {

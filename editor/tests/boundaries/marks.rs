@@ -39,11 +39,15 @@ fn list(granules: &[u32]) -> impl Fn(&mut Heap) -> Answer<Vec<u32>> + '_ {
 /// Chunks that are the list's own.
 fn chunks(granules: &[u32]) -> impl Fn(&mut Heap) -> Answer<Vec<u32>> + '_ {
     move |heap| {
-        let on = |page| granules.iter().filter(|&granule| granule / 4_096 == page).count();
-        let chunk = |page| (u32::try_from(on(page)).expect("few"), page);
-        let chunks: Vec<(u32, u32)> = (0..4).map(chunk).filter(|&(count, _)| count > 0).collect();
+        let chunks = own(granules);
         heap.give_chunks(CLASS, granules, &chunks, chunks.len())
     }
+}
+
+fn own(granules: &[u32]) -> Vec<(u32, u32)> {
+    let on = |page| granules.iter().filter(|&granule| granule / 4_096 == page).count();
+    let chunk = |page| (u32::try_from(on(page)).expect("few"), page);
+    (0..8).map(chunk).filter(|&(count, _)| count > 0).collect()
 }
 
 /// With these values in words the call answers this number, and no word changes.
@@ -204,4 +208,58 @@ fn no_call_leaves_a_mark() {
             assert_eq!(heap.book[mark(page, 0)..][..words], vec![0; words], "{blocks:?}");
         }
     }
+}
+
+/// On a book that was 0, where no run is parked: after every call, refused or carried out, all 128 words of every page are 0.
+#[test]
+fn no_page_has_a_mark_after_any_call() {
+    let mut heap = Heap::open_with(8, &[0, 75, 0, 0]);
+    // Page 7 stays nobody's.
+    let foreign = granule(7, 0);
+    for round in 0..3 {
+        for class in [0, 10, 45] {
+            let blocks: Vec<u32> = (0..2)
+                .flat_map(|_| answered(&mut heap, |heap| heap.take(Family::Small, class, ALL)).expect("fits").0)
+                .collect();
+            let [first, last] = [blocks[0], blocks[blocks.len() - 1]];
+            for (list, number) in [
+                (vec![first, last, first], 15),
+                (vec![first, foreign, first], 15),
+                (vec![last, foreign], 10),
+                (vec![foreign, foreign], 10),
+                (vec![last, 1 << 31 | first], 9),
+            ] {
+                assert_eq!(answered(&mut heap, |heap| heap.give(Family::Small, class, ALL, &list)), Err(number));
+                let chunks = [own(&list), vec![(1, 7)]].concat();
+                assert_eq!(answered(&mut heap, |heap| heap.give_chunks(class, &list, &chunks, 8)), Err(number));
+            }
+            assert_eq!(answered(&mut heap, |heap| heap.give_chunks(class, &blocks, &[(1, 7)], 1)), Err(11));
+            assert_eq!(answered(&mut heap, |heap| heap.give(Family::Small, class, ALL, &[first])), Ok(0));
+            let rest = &blocks[1..];
+            let chunks = own(rest);
+            // Class 45's are of two pages.
+            if round == 0 || chunks.len() == 2 {
+                assert!(
+                    chunks.len() == 1
+                        || answered(&mut heap, |heap| heap.give(Family::Small, class, ALL, rest)) == Err(11)
+                );
+                let fates = answered(&mut heap, |heap| heap.give_chunks(class, rest, &chunks, chunks.len()));
+                assert_eq!(fates, Ok(vec![6; chunks.len()]));
+            } else {
+                assert_eq!(answered(&mut heap, |heap| heap.give(Family::Small, class, ALL, rest)), Ok(2));
+            }
+        }
+        let (blocks, _) = answered(&mut heap, |heap| heap.take(Family::Medium, 0, ALL)).expect("fits");
+        for (list, due) in [(vec![blocks[0]; 2], Err(15)), (vec![blocks[0], 5], Err(10)), (blocks.clone(), Ok(2))] {
+            assert_eq!(answered(&mut heap, |heap| heap.give(Family::Medium, 0, ALL, &list)), due);
+        }
+    }
+}
+
+/// What a call answers; no page has a mark then.
+fn answered<T>(heap: &mut Heap, call: impl Fn(&mut Heap) -> Answer<T>) -> Answer<T> {
+    let answer = call(heap);
+    let words = (0..8).flat_map(|page| &heap.book[mark(page, 0)..][..128]);
+    assert!(words.into_iter().all(|&word| word == 0));
+    answer
 }

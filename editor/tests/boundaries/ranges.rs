@@ -1,7 +1,7 @@
 //! Number 13: the highest value of a word's range passes, the next is refused. docs/RANGES.md has words and ranges; here
 //! they are written down once more, so that a range that is wrong everywhere else shows.
 
-use crate::heap::{Answer, Family, Heap, ALL};
+use crate::heap::{Answer, Family, Heap, ALL, NO_COMMIT};
 
 /// Three blocks to a page.
 const CLASS: u32 = 45;
@@ -38,7 +38,10 @@ fn scene() -> Heap {
 
 /// With this value in a word the call is refused as 13 and changes nothing, or it is not.
 fn with<T>(word: usize, value: u32, refused: bool, call: impl Fn(&mut Heap) -> Answer<T>) {
-    let mut heap = scene();
+    with_on(scene(), word, value, refused, call);
+}
+
+fn with_on<T>(mut heap: Heap, word: usize, value: u32, refused: bool, call: impl Fn(&mut Heap) -> Answer<T>) {
     heap.book[word] = value;
     let before = heap.book.clone();
     let number = call(&mut heap).err();
@@ -108,6 +111,48 @@ fn holes_in_a_take() {
         let mut heap = scene();
         heap.book[1_025] = value;
         assert_eq!(asks(&mut heap).err(), number);
+    }
+}
+
+/// A give reads all holes, for those that its run touches; so does a growth whose pages are given, and no other.
+#[test]
+fn holes_in_a_give() {
+    let gives: [fn(&mut Heap) -> Answer<()>; 2] =
+        [|heap| heap.release(ALL, 4, 1), |heap| heap.grow(NO_COMMIT, 4, 1, 2).map(drop)];
+    for call in gives {
+        // Hole 0: two pages from 2 on. The frontier is 5.
+        with(1_025, 0, true, call);
+        up_to(1_025, 3, call);
+        up_to(1_024, 3, call);
+    }
+    for value in [0, 4, u32::MAX] {
+        with(1_025, value, false, |heap: &mut Heap| heap.grow(ALL, 4, 1, 2));
+        // More than the arena has.
+        with(1_025, value, false, |heap: &mut Heap| heap.grow(NO_COMMIT, 4, 1, 61));
+    }
+}
+
+/// A class's release alike, by list and by chunks, where the page goes to the arena.
+#[test]
+fn holes_in_a_classs_give() {
+    let parking_none = || {
+        let mut heap = scene();
+        heap.book[EMPTY_LIMIT..=COLD_LIMIT].fill(0);
+        heap
+    };
+    let page = [2_051, 1_027, 3];
+    let chunks = |heap: &mut Heap| heap.give_chunks(CLASS, &page, &[(3, 0)], 1);
+    assert_eq!(give(&page)(&mut parking_none()), Ok(2));
+    assert_eq!(chunks(&mut parking_none()), Ok(vec![6]));
+    for (word, fits) in [(1_025, 1..4), (1_024, 0..4)] {
+        for value in [0, 1, 2, 3, 4, 904, u32::MAX] {
+            with_on(parking_none(), word, value, !fits.contains(&value), give(&page));
+            with_on(parking_none(), word, value, !fits.contains(&value), chunks);
+            // Parked, or kept: no hole is read.
+            with(word, value, false, give(&page));
+            with(word, value, false, chunks);
+            with_on(parking_none(), word, value, false, give(&[3]));
+        }
     }
 }
 

@@ -1,5 +1,8 @@
 -- The three answers, by two comparisons.
+use mathlib.Core.Path.{_∙_, ap}
 use native.Mathlib.Omega.{arith}
+use Rattle.classes.specs.Lookup.{firstFit}
+use Rattle.classes.proofs.NearFit.{family-small, family-medium}
 use Rattle.classes.proofs.Answers.{is-small, is-medium, is-large}
 use borrow.Author.Needs.{needs}
 use Rattle.classes.proofs.lookup.size_class.Statement.{statement}
@@ -9,5 +12,6 @@ pub size-class-spec : {M : Type 1} → statement M
 size-class-spec =
     tie.close
     (tie.spec
-    (λ c. search needs) (λ c κs. search needs) (λ c. is-small _ _ (omega arith) (c .small-class .ensures))
-    (λ c. search needs) (λ c κs. search needs) (λ c. is-medium _ _ (omega arith) (omega arith) (c .medium-class .ensures)) (λ c. is-large _ (omega arith)))
+    (λ c. is-large _ (omega arith)) (λ c. search needs) (λ c κs. search needs)
+    (λ c. is-small _ _ (omega arith) (c .before .class-of .ensures ∙ ap (firstFit _) (family-small _ (omega arith))))
+    (λ c. is-medium _ _ (omega arith) (omega arith) (c .before .class-of .ensures ∙ ap (firstFit _) (family-medium _ (omega arith)))))

@@ -1,7 +1,7 @@
 use borrow.Author.Needs.{needs}
 use Rattle.runs.proofs.give.give.Statement.{statement}
 use Rattle.runs.proofs.give.give.Tie as tie
-use Rattle.runs.proofs.GiveSteps.{loaded-in, given-is}
+use Rattle.runs.proofs.GiveSteps.{give-look}
 
 pub give-spec : {M : Type 1} → statement M
-give-spec = tie.close (tie.spec (λ c κs. search needs) (λ c κs. search needs) (λ c κs. search loaded-in) (λ c. search needs) (λ c. search given-is))
+give-spec = tie.close (tie.spec (λ c κs. search needs) (λ c κs. search give-look) (λ c κs. search needs) (λ c. search needs) (λ c. search needs))

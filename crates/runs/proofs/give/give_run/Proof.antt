@@ -1,12 +1,7 @@
 use borrow.Author.Needs.{needs}
 use Rattle.runs.proofs.give.give_run.Statement.{statement}
 use Rattle.runs.proofs.give.give_run.Tie as tie
-use Rattle.runs.proofs.RecordSteps.{gives-over, slot-in, gives-first, before-in, after-in, gives-placed}
+use Rattle.runs.proofs.RecordSteps.{look-in}
 
 pub give-run-spec : {M : Type 1} → statement M
-give-run-spec =
-    tie.close
-    (tie.spec
-    (λ c. search needs) (λ c κs. search needs) (λ c. search gives-over) (λ c κs. search slot-in) (λ c. search needs) (λ c. search gives-first)
-    (λ c. search needs) (λ c κs. search needs) (λ c κs. (search slot-in, search before-in, search after-in)) (λ c. search needs)
-    (λ c. search gives-placed))
+give-run-spec = tie.close (tie.spec (λ c κs. search look-in) (λ c κs. search needs) (λ c. search needs) (λ c. search needs))

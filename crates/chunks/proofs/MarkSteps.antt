@@ -1,0 +1,271 @@
+-- Marking and taking by pages: the loops over the listed words and over the chunks' pages, and the ways out.
+use Prim.Native.Nat.{ℕ, suc, _+_, _-_, _*_, _≤_, _<_}
+use native.Mathlib.Omega.{arith}
+use native.Mathlib.Numerals.{add-one}
+use mathlib.Core.Bool.{Bool, true, false, _&&_, true≢false}
+use mathlib.Core.List.{List, [], _∷_, map}
+use mathlib.Core.Path.{_≡_, refl, sym, ap, _∙_}
+use lib.Dec.{eqb, ltb}
+use lib.ListN.{length, getD, drop, length-drop}
+use lib.Seq.{drop-cons, drop-drop}
+use borrow.Author.Tests.{lt-ltb, le-ltb, le-leb, ltb-true}
+use Rattle.facts.specs.Lists.{every, distinct}
+use Rattle.facts.proofs.Bools.{and-left, and-right}
+use Rattle.facts.proofs.Lists.{drop-past, every-get}
+use Rattle.words.specs.Word.{pageOf}
+use Rattle.classes.specs.declared.Shape.{Shape}
+use Rattle.classes.specs.Sound.{Sound}
+use Rattle.fields.specs.Field.{words}
+use Rattle.fields.proofs.Changes.{Changes}
+use Rattle.pages.specs.Asks.{ClearAsks}
+use Rattle.pages.specs.Carve.{outWords}
+use Rattle.pages.specs.Runs.{whole}
+use Rattle.pages.specs.Stack.{pageAt}
+use Rattle.pages.proofs.Downs.{every-mono}
+use Rattle.calls.specs.Out.{inRunOf, outAt, outFault}
+use Rattle.calls.specs.Chunks.{chunksMatch, chunksFair}
+use Rattle.release.specs.Marks.{freshCount, freshBook, noMarks}
+use Rattle.release.specs.MarkAsks.{FieldAsks, MarkedIn}
+use Rattle.release.proofs.Bits.{isBit}
+use Rattle.release.proofs.RunLaws.{within-arena}
+use Rattle.release.proofs.OutLaws.{run-of-out}
+use Rattle.release.proofs.MarkLaws.{mark-bits, all-single}
+use Rattle.release.proofs.Testing.{fault-none}
+use Rattle.tally.specs.Match.{inArena, hasPage, pageFits, pagesMatch, MatchAsks, Matched}
+use Rattle.chunks.specs.Pass.{cleared}
+use Rattle.chunks.specs.CallAsks.{passFault, testFault}
+use Rattle.chunks.specs.Marks.{pageReady, ownCount, ownBook, sweep, takePages, clearPages}
+use Rattle.chunks.specs.MarkAsks.{OwnAsks, OwnMarked, SweepAsks, ReadyAsks, MarkedAsks, TryAsks, MatchedAsks, SetAsks, TookMarked, Tried}
+use Rattle.chunks.proofs.PageMarks.{own-count, own-book, fresh-within, none-counted, none-left, none-marked, own-changes, AllOwn, all-own, own-clean, ready-words, clears-own, takes-own}
+use Rattle.chunks.proofs.CallTests.{chunks-fair-kept, match-is}
+
+-- ---- a word's page
+module _ (n w p : ℕ) (e : p ≡ pageAt w) where
+  pub in-arena : p < n → eqb 0 0 ≡ inArena n w
+  unfolding inArena
+  in-arena h = sym (lt-ltb (pageAt w) n (rw e at h))
+
+  pub past-arena : n ≤ p → eqb 1 0 ≡ inArena n w
+  unfolding inArena
+  past-arena h = sym (le-ltb (pageAt w) n (rw e at h))
+
+-- ---- a chunk's page
+module _ (n : ℕ) (b : List ℕ) (c : ℕ) (sh : Shape) (m g q : ℕ) (e : q ≡ pageOf g) (t : Bool) (k : t ≡ whole n b sh c q) where
+  pub not-run : t ≡ false → false ≡ pageReady n b c sh m g
+  unfolding pageReady
+  not-run h = rw (← e, ← k, h)
+
+  module _ (h : t ≡ true) where
+    pub marks-there : ReadyAsks n b c sh m → ClearAsks b q m
+    marks-there a =
+        let z = within-arena n c sh (a .class .sound) q b (sym k ∙ h) in
+        record { few = a .few; there = omega (arith, a .class .sound .paged, a .class .long) }
+
+    pub ready-told : (r : Bool) → r ≡ noMarks b q m → r ≡ pageReady n b c sh m g
+    unfolding pageReady
+    ready-told r x = rw (← e, ← k, h) x
+
+-- ---- the chunks' pages in turn
+pub record Sweeping (f : List ℕ → ℕ → List ℕ) (b₀ gs b : List ℕ) (i : ℕ) : Type 0 where
+  pub within : i ≤ length gs
+  pub long : length b ≡ length b₀
+  pub same : sweep f b (drop i gs) ≡ sweep f b₀ gs
+
+module _ (f : List ℕ → ℕ → List ℕ) (b₀ gs : List ℕ) where
+  pub sweep-starts : Sweeping f b₀ gs b₀ 0
+  sweep-starts = record { within = omega arith; long = refl; same = refl }
+
+  pub sweep-goes-on : (b b′ : List ℕ) (i q : ℕ) → Sweeping f b₀ gs b i → i < length gs → q ≡ pageOf (getD gs i 0) → b′ ≡ f b q → length b′ ≡ length b → Sweeping f b₀ gs b′ (i + 1)
+  sweep-goes-on b b′ i q v l e x k = record { within = omega arith; long = k ∙ v .long; same = rw (add-one i, x, e) (rw (drop-cons gs i 0 l) at (v .same)) }
+
+  pub sweep-ends : (b : List ℕ) (i : ℕ) → Sweeping f b₀ gs b i → length gs ≤ i → b ≡ sweep f b₀ gs
+  sweep-ends b i v l = rw (drop-past gs i l) at (v .same)
+
+pub sweep-asks : (n : ℕ) (b b′ : List ℕ) (m : ℕ) (gs : List ℕ) (i q : ℕ) → SweepAsks n b m gs → length b′ ≡ length b → i < length gs → q ≡ pageOf (getD gs i 0) → ClearAsks b′ q m
+sweep-asks n b b′ m gs i q a k l e =
+    record { few = a .few; there = omega (arith, e, a .pages .long, ltb-true (pageOf (getD gs i 0)) n (every-get (λ g. ltb (pageOf g) n) gs i (a .pages .below) l)) }
+
+-- ---- the listed words in turn
+pub record OwnInv (b : List ℕ) (sh : Shape) (ws b′ : List ℕ) (i : ℕ) : Type 0 where
+  pub within : i ≤ length ws
+  pub long : length b′ ≡ length b
+  pub answer : i + ownCount b′ sh (drop i ws) ≡ ownCount b sh ws
+  pub left : ownBook b′ sh (drop i ws) ≡ ownBook b sh ws
+
+module _ (n : ℕ) (b : List ℕ) (sh : Shape) (ws : List ℕ) (a : OwnAsks n b sh ws) where
+  pub own-starts : OwnInv b sh ws b 0
+  own-starts = record { within = omega arith; long = refl; answer = omega arith; left = refl }
+
+  module _ (b′ : List ℕ) (i q : ℕ) (v : OwnInv b sh ws b′ i) (l : i < length ws) (e : q ≡ pageAt (getD ws i 0)) where
+    page-low : q < n
+    unfolding inArena
+    page-low = rw e (ltb-true (pageAt (getD ws i 0)) n (every-get (λ w. ltb (pageAt w) n) ws i (a .pages) l))
+
+    pub own-asks : FieldAsks b′ sh q
+    own-asks = record { sound = a .sound; below = omega (arith, page-low, a .single, a .few); there = omega (arith, page-low, v .long, a .long) }
+
+    module _ (r : ℕ) (b″ : List ℕ) (z : MarkedIn r b″ b′ sh q ws i) where
+      pub own-less : (r ≡ i → ⊥) → length ws - r < length ws - i
+      own-less d = omega (arith, z .answer)
+
+      pub own-goes-on : length b″ ≡ length b′ → (r ≡ i → ⊥) → OwnInv b sh ws b″ r
+      own-goes-on k d =
+          let x = freshCount b′ sh q (drop i ws) in
+          let y : drop r ws ≡ drop x (drop i ws) = ap (λ j. drop j ws) (z .answer) ∙ sym (drop-drop x i ws) in
+          let u : ownCount b″ sh (drop r ws) ≡ ownCount (freshBook b′ sh q (drop i ws)) sh (drop x (drop i ws)) = rw (z .left, y) in
+          record {
+            within = omega (arith, z .answer, fresh-within sh (a .sound) (a .single) q b′ (drop i ws), length-drop i ws);
+            long = k ∙ v .long;
+            answer = omega (arith, z .answer, v .answer, own-count sh (a .sound) (a .single) q b′ (drop i ws), u);
+            left = rw (z .left, y) (sym (own-book sh (a .sound) (a .single) q b′ (drop i ws)) ∙ v .left);
+          }
+
+      pub own-stops : r ≡ i → OwnMarked i b″ b sh ws
+      own-stops d =
+          let w = getD ws i 0 in
+          let vs = drop (suc i) ws in
+          let c : drop i ws ≡ getD ws i 0 ∷ drop (suc i) ws = drop-cons ws i 0 l in
+          let x : freshCount b′ sh q (drop i ws) ≡ 0 = omega (arith, z .answer) in
+          let y : freshCount b′ sh q (getD ws i 0 ∷ drop (suc i) ws) ≡ 0 = rw c at x in
+          let o : ownCount b′ sh (drop i ws) ≡ 0 = rw c (none-counted sh (a .sound) (a .single) q b′ w vs (sym e) y) in
+          record {
+            answer = omega (arith, v .answer, o);
+            left = z .left ∙ rw c (none-marked sh (a .sound) (a .single) q b′ w vs (sym e) y ∙ sym (none-left sh (a .sound) (a .single) q b′ w vs (sym e) y)) ∙ v .left;
+          }
+
+  pub own-ends : (b′ : List ℕ) (i : ℕ) → OwnInv b sh ws b′ i → length ws ≤ i → OwnMarked i b′ b sh ws
+  unfolding ownCount ownBook
+  own-ends b′ i v l =
+      let d : drop i ws ≡ [] = drop-past ws i l in
+      record { answer = omega (arith, rw d at (v .answer)); left = rw d at (v .left) }
+
+-- ---- from the marked book on
+module _ (n : ℕ) (b : List ℕ) (c : ℕ) (sh : Shape) (m : ℕ) (gs : List ℕ) (a : MarkedAsks n b c sh m gs) where
+  pub marked-sweeps : SweepAsks n b m gs
+  marked-sweeps = record { few = a .few; pages = record { long = a .fair .class .long; below = a .fair .below } }
+
+  module _ (t : Bool) (e : t ≡ chunksFair n b c sh gs) (b′ : List ℕ) where
+    pub marks-taken : t ≡ true → b′ ≡ takePages b m gs → TookMarked true b′ n b c sh m gs
+    marks-taken x y = let z : chunksFair n b c sh gs ≡ true = sym e ∙ x in record { answer = sym z; left = rw z y }
+
+    pub marks-cleared : t ≡ false → b′ ≡ clearPages b m gs → TookMarked false b′ n b c sh m gs
+    marks-cleared x y = let z : chunksFair n b c sh gs ≡ false = sym e ∙ x in record { answer = sym z; left = rw z y }
+
+-- ---- the chunks' pages have no mark set
+module _ (n : ℕ) (b : List ℕ) (c : ℕ) (sh : Shape) (m : ℕ) (ws gs : List ℕ) (a : SetAsks n b c sh m ws gs) where
+  sound : Sound sh
+  sound = a .matching .all .call .class .sound
+
+  one : sh .pages ≡ 1
+  one = a .matching .all .call .single
+
+  few : m ≤ 128
+  few = omega (arith, a .all, sound .few)
+
+  all : sh .capacity ≤ 32 * m
+  all = omega (arith, a .all)
+
+  long : words n ≤ length b
+  long = a .matching .all .call .class .long
+
+  pub own-first : OwnAsks n b sh ws
+  own-first = record { sound = sound; single = one; few = a .matching .all .call .class .few; long = long; pages = a .matching .words }
+
+  apart : distinct (map pageOf gs) ≡ true
+  unfolding pagesMatch
+  apart = and-left (distinct (map pageOf gs)) _ (a .matching .matched)
+
+  has : every (hasPage gs) ws ≡ true
+  unfolding pagesMatch
+  has = and-right (every (pageFits ws) gs) _ (and-right (distinct (map pageOf gs)) _ (a .matching .matched))
+
+  low : every (λ g. ltb (pageOf g) n) gs ≡ true
+  unfolding pageReady
+  low =
+      every-mono (λ g. whole n b sh c (pageOf g) && noMarks b (pageOf g) m) (λ g. ltb (pageOf g) n)
+      (λ g e. lt-ltb (pageOf g) n (omega (arith, one, within-arena n c sh sound (pageOf g) b (and-left (whole n b sh c (pageOf g)) _ e)))) gs (a .ready)
+
+  module _ (k : ℕ) (b′ : List ℕ) (z : OwnMarked k b′ b sh ws) where
+    changes : Changes isBit b (ownBook b sh ws)
+    changes = mark-bits b _ (own-changes sh sound one m few all b ws)
+
+    long-now : words n ≤ length b′
+    long-now = rw (z .left) (omega (arith, changes .long, long))
+
+    pub sweeps : SweepAsks n b′ m gs
+    sweeps = record { few = few; pages = record { long = long-now; below = low } }
+
+    pub not-all : (b″ : List ℕ) → b″ ≡ clearPages b′ m gs → Tried false b″ n b c sh ws gs
+    not-all b″ e = record { passed = λ x. absurd (true≢false (sym x)); left = e ∙ rw (z .left) (clears-own sh sound one m few all n c b gs ws (a .ready) has) }
+
+    module _ (y : k ≡ length ws) where
+      counted : ownCount b sh ws ≡ length ws
+      counted = sym (z .answer) ∙ y
+
+      known : AllOwn sh sound one m few all n c b ws
+      known = all-own sh sound one m few all n c b ws (ready-words sh sound one m few all n c b gs ws (a .ready) has .0) counted
+
+      pub marked-asks : MarkedAsks n b′ c sh m gs
+      marked-asks = record {
+        few = few;
+        fair = record {
+          class = record { known = a .matching .all .call .class .known; sound = sound; few = a .matching .all .call .class .few; long = long-now };
+          below = low;
+          chunks = a .matching .all .chunks;
+        };
+      }
+
+      no-fault : outFault n b c sh ws ≡ 0
+      no-fault =
+          fault-none n b c sh ws
+          (own-clean sh sound one m few all n c b ws (ready-words sh sound one m few all n c b gs ws (a .ready) has .1))
+          (all-single n c sh sound b (sh .kind) ws (le-leb (words n) (length b) long) (known .kinds) (known .counted))
+          (known .out)
+
+      matches : chunksMatch b ws gs ≡ true
+      matches = match-is n b c sh one ws gs (every-mono (outAt n b c sh) (inRunOf n b sh c) (λ w o. run-of-out n c sh sound b w o) ws (known .out)) ∙ a .matching .matched
+
+      fair-same : chunksFair n b′ c sh gs ≡ chunksFair n b c sh gs
+      fair-same = rw (z .left) (chunks-fair-kept b (ownBook b sh ws) changes c (lt-ltb c 76 (a .matching .all .call .class .known)) n sh gs)
+
+      passes : chunksFair n b c sh gs ≡ true → testFault n b c sh ws gs ≡ 0
+      unfolding testFault passFault
+      passes f = rw (no-fault, matches, f)
+
+      taken-is : takePages b′ m gs ≡ cleared b sh ws
+      taken-is = rw (z .left) (takes-own sh sound one m few all n c b gs ws (a .ready) has apart long (a .matching .words) counted)
+
+      cleared-is : clearPages b′ m gs ≡ b
+      cleared-is = rw (z .left) (clears-own sh sound one m few all n c b gs ws (a .ready) has)
+
+      pub all-taken : (r : Bool) (b″ : List ℕ) → TookMarked r b″ n b′ c sh m gs → Tried r b″ n b c sh ws gs
+      all-taken r b″ x =
+          let e : r ≡ chunksFair n b c sh gs = x .answer ∙ fair-same in
+          record { passed = λ t. passes (sym e ∙ t); left = x .left ∙ rw (fair-same, ← e, taken-is, cleared-is) }
+
+-- ---- the chunks are the list's
+module _ (n : ℕ) (b : List ℕ) (c : ℕ) (sh : Shape) (ws gs : List ℕ) where
+  pub not-tried : Tried false b n b c sh ws gs
+  not-tried = record { passed = λ x. absurd (true≢false (sym x)); left = refl }
+
+  module _ (a : MatchedAsks n b c sh ws gs) (m : ℕ) (i : m ≡ outWords sh) where
+    pub ready-asks : ReadyAsks n b c sh m
+    ready-asks = record { few = omega (arith, a .all .call .class .sound .few); class = a .all .call .class }
+
+    pub set-asks : (t : Bool) → t ≡ every (pageReady n b c sh m) gs → t ≡ true → SetAsks n b c sh m ws gs
+    set-asks t e x = record { matching = a; all = i; ready = sym e ∙ x }
+
+  -- ---- from number 11 on
+  module _ (a : TryAsks n b c sh gs) (s : Bool) (e : s ≡ every (inArena n) ws) (x : s ≡ true) where
+    pub match-asks : MatchAsks n b ws gs
+    match-asks = record { few = a .call .class .few; long = a .call .class .long; chunks = a .chunks; pages = sym e ∙ x }
+
+    module _ (t : Bool) (b′ : List ℕ) (k : Matched t b′ b ws gs) where
+      pub matched-asks : t ≡ true → MatchedAsks n b′ c sh ws gs
+      matched-asks y = rw (k .left) (record { all = a; words = sym e ∙ x; matched = sym (k .answer) ∙ y })
+
+      pub matched-on : (r : Bool) (b″ : List ℕ) → Tried r b″ n b′ c sh ws gs → Tried r b″ n b c sh ws gs
+      matched-on r b″ z = rw (k .left) at z
+
+      pub not-matched : Tried false b′ n b c sh ws gs
+      not-matched = rw (k .left) not-tried

@@ -1,0 +1,10 @@
+use Rattle.chunks.proofs.MarkSteps.{not-run, marks-there, ready-told}
+use borrow.Author.Needs.{needs}
+use Rattle.chunks.proofs.marks.page_ready.Statement.{statement}
+use Rattle.chunks.proofs.marks.page_ready.Tie as tie
+
+pub page-ready-spec : {M : Type 1} → statement M
+page-ready-spec =
+    tie.close
+    (tie.spec
+    (λ c κs. search needs) (λ c κs. search needs) (λ c κs. search marks-there) (λ c. search ready-told) (λ c. search not-run))

@@ -1,0 +1,82 @@
+// The taking of a group release's blocks in as few passes as there can be. Where there is a doubt the book is as it was.
+ghost use Rattle.chunks.specs.MarkAsks.{MarkedAsks, TryAsks, MatchedAsks, SetAsks, TookMarked, Tried};
+use super::fair::chunks_fair;
+use super::marks::all_in_arena;
+use super::marks::clear_pages;
+use super::marks::mark_words;
+use super::marks::pages_ready;
+use super::marks::take_pages;
+use classes::Shape;
+use tally::chunks_match;
+
+// All listed blocks are marked: they are taken, or else the marks are.
+fn take_marked(meta: &mut [u32], n: u32, c: u32, shape: Shape, m: u32, chunks: &[u32]) -> bool
+    requires { ⌜ MarkedAsks n (now meta) c shape m (now chunks) ⌝ }
+    ensures { λ r. ⌜ TookMarked r (now (meta .exit)) n (now (meta .entry)) c shape m (now (chunks .entry)) ⌝ }
+{
+    if chunks_fair(meta, n, c, shape, chunks) {
+        take_pages(meta, n, m, chunks);
+        return true;
+    }
+    clear_pages(meta, n, m, chunks);
+    false
+}
+
+// The chunks' pages have no mark set: the listed blocks are marked one by one.
+fn mark_and_take(
+    meta: &mut [u32],
+    n: u32,
+    c: u32,
+    shape: Shape,
+    m: u32,
+    list: &[u32],
+    chunks: &[u32],
+) -> bool
+    requires { ⌜ SetAsks n (now meta) c shape m (now list) (now chunks) ⌝ }
+    ensures { λ r. ⌜ Tried r (now (meta .exit)) n (now (meta .entry)) c shape (now (list .entry)) (now (chunks .entry)) ⌝ }
+{
+    let count = mark_words(meta, n, shape, list);
+    if count == list.len() {
+        return take_marked(meta, n, c, shape, m, chunks);
+    }
+    clear_pages(meta, n, m, chunks);
+    false
+}
+
+// Each chunk's page is to be a run of the class, with no mark set.
+fn take_matched(
+    meta: &mut [u32],
+    n: u32,
+    c: u32,
+    shape: Shape,
+    list: &[u32],
+    chunks: &[u32],
+) -> bool
+    requires { ⌜ MatchedAsks n (now meta) c shape (now list) (now chunks) ⌝ }
+    ensures { λ r. ⌜ Tried r (now (meta .exit)) n (now (meta .entry)) c shape (now (list .entry)) (now (chunks .entry)) ⌝ }
+{
+    let m = (shape.capacity + 31) / 32;
+    if pages_ready(meta, n, c, shape, m, chunks) {
+        return mark_and_take(meta, n, c, shape, m, list, chunks);
+    }
+    false
+}
+
+pub fn try_take(
+    meta: &mut [u32],
+    n: u32,
+    c: u32,
+    shape: Shape,
+    list: &[u32],
+    chunks: &[u32],
+) -> bool
+    requires { ⌜ TryAsks n (now meta) c shape (now chunks) ⌝ }
+    ensures { λ r. ⌜ Tried r (now (meta .exit)) n (now (meta .entry)) c shape (now (list .entry)) (now (chunks .entry)) ⌝ }
+{
+    if all_in_arena(n, list) {
+        if chunks_match(meta, n, list, chunks) {
+            return take_matched(meta, n, c, shape, list, chunks);
+        }
+    }
+    false
+}

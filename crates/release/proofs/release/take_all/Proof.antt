@@ -1,0 +1,10 @@
+use Rattle.release.proofs.ReleaseSteps.{by-list, by-words, sweep-asks}
+use borrow.Author.Needs.{needs}
+use Rattle.release.proofs.release.take_all.Statement.{statement}
+use Rattle.release.proofs.release.take_all.Tie as tie
+
+pub take-all-spec : {M : Type 1} → statement M
+take-all-spec =
+    tie.close
+    (tie.spec
+    (λ c κs. search needs) (λ c. search needs) (λ c. search by-list) (λ c κs. search sweep-asks) (λ c. search needs) (λ c. search by-words))
