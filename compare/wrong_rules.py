@@ -42,6 +42,8 @@ RELEASE = "crates/model/specs/Release.antt"
 SPOT = "crates/model/specs/Spot.antt"
 LEDGER = "compare/src/ledger.rs"
 LIMITS = "crates/words/specs/Limits.antt"
+WORD = "crates/words/specs/Word.antt"
+WORDS = "compare/src/words.rs"
 HOST = "crates/words/specs/Host.antt"
 HOST_CODE = "crates/words/src/host_bits.rt"
 RANGES = "crates/demands/specs/Ranges.antt"
@@ -168,7 +170,7 @@ RULES = [
                 at(8, "(words_of_chain(family, chain, count), virgin)"),
                 at(
                     8,
-                    "let mut pages: Vec<Vec<u32>> = Vec::new();",
+                    "let mut pages: Vec<Vec<Word>> = Vec::new();",
                     "for word in words_of_chain(family, chain, count) {",
                     "    match pages.last_mut() {",
                     "        Some(page) if self.run_of(family, page[0]) == self.run_of(family, word) => page.push(word),",
@@ -564,6 +566,36 @@ RULES = [
             (OURS, "self.entries[after] = self.entries[last];", "self.entries[before] = self.entries[last];"),
         ],
         model=[(HOLES, "removeAt j (setAt i (withBoth", "removeAt i (setAt j (withBoth")],
+    ),
+    Rule(
+        "a block's granule is cut to 30 bits",
+        heap=[
+            (
+                "compare/src/stand_in.rs",
+                at(8, "_ => slice::from_raw_parts(words, len).to_vec(),"),
+                at(
+                    8,
+                    "_ => {",
+                    "    let mut list = slice::from_raw_parts(words, len).to_vec();",
+                    "    let cut = |word: Word| if word >> 62 == 3 { word } else { word & (3 << 62 | 0x3FFF_FFFF) };",
+                    "    if size_of::<T>() == size_of::<Word>() {",
+                    "        slice::from_raw_parts_mut(list.as_mut_ptr().cast::<Word>(), len).iter_mut().for_each(|word| *word = cut(*word));",
+                    "    }",
+                    "    list",
+                    "}",
+                ),
+            )
+        ],
+        model=[(WORD, "granuleOf w = w % 2 ^ kindBits", "granuleOf w = w % 2 ^ 30")],
+    ),
+    Rule(
+        "a group's page is cut to 18 bits",
+        heap=[(WORDS, "word & ((1 << CHUNK_PAGE_BITS) - 1)", "word & ((1 << 18) - 1)")],
+        model=[(WORD, "pageOf w = w % 2 ^ pageBits", "pageOf w = w % 2 ^ 18")],
+    ),
+    Rule(
+        "1,048,577 pages open",
+        heap=[(WORDS, "MAX_PAGES: u32 = 1_048_576;", "MAX_PAGES: u32 = 1_048_577;")],
     ),
     # What a word may hold shows in no history: the table of ranges has it, and editor/tests/boundaries/ranges.rs.
     Rule("VIRGIN up to 7", model=[(RANGES, "(virginFlag p) = upTo 1", "(virginFlag p) = upTo 7")], crate="demands"),

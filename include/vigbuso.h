@@ -27,16 +27,16 @@ extern "C" {
 
 /* The version of this header and of the archive that it is for. */
 #define VIGBUSO_VERSION_MAJOR 0
-#define VIGBUSO_VERSION_MINOR 3
+#define VIGBUSO_VERSION_MINOR 4
 #define VIGBUSO_VERSION_PATCH 0
-#define VIGBUSO_VERSION "0.3.0"
+#define VIGBUSO_VERSION "0.4.0"
 
 /* Bytes of a page, and of a granule: every block starts at a multiple of it. */
 #define VIGBUSO_PAGE_BYTES 65536u
 #define VIGBUSO_GRANULE_BYTES 16u
 
 /* The most pages of an arena. */
-#define VIGBUSO_MAX_PAGES 262144u
+#define VIGBUSO_MAX_PAGES 1048576u
 
 /* Words that a book for an arena of so many pages has at least. */
 #define VIGBUSO_BOOK_WORDS(pages) ((size_t)40000 + (size_t)4112 * (size_t)(pages))
@@ -75,20 +75,24 @@ enum vigbuso_host {
     VIGBUSO_HOST_ALL = 15         /* everything is granted, and discards leave zeroes */
 };
 
-/* The kind of a word, in its top two bits. A block word has its first granule, counted from the arena's start, in the
- * others; a chunk word has a count in the next 12 bits and a page in the low 18. */
+/* A block or a chunk is named by a word of 64 bits, with its kind in the top two. A block word has its first granule, counted from
+ * the arena's start, in the low 62; a chunk word has a count in the 12 below the kind and a page in the low 50. Every bit counts: a
+ * block or page beyond the arena is refused, not cut. */
 enum vigbuso_kind { VIGBUSO_NONE = 0, VIGBUSO_SMALL = 1, VIGBUSO_MEDIUM = 2, VIGBUSO_CHUNK = 3 };
 
-#define VIGBUSO_KIND(word) ((uint32_t)(word) >> 30)
+#define VIGBUSO_KIND(word) ((uint32_t)((uint64_t)(word) >> 62))
 
-/* The first byte of a block, counted from the arena's start. */
-#define VIGBUSO_BYTE_OFFSET(word) ((uint64_t)((uint32_t)(word) & 0x3FFFFFFFu) * VIGBUSO_GRANULE_BYTES)
+/* The first granule of a block, counted from the arena's start. */
+#define VIGBUSO_GRANULE(word) ((uint64_t)(word) & (UINT64_MAX >> 2))
+
+/* The first byte of a block that was handed out, counted from the arena's start. */
+#define VIGBUSO_BYTE_OFFSET(word) (VIGBUSO_GRANULE(word) * VIGBUSO_GRANULE_BYTES)
 
 /* The page of a block's first byte. */
-#define VIGBUSO_PAGE(word) (((uint32_t)(word) & 0x3FFFFFFFu) / (VIGBUSO_PAGE_BYTES / VIGBUSO_GRANULE_BYTES))
+#define VIGBUSO_PAGE(word) (VIGBUSO_GRANULE(word) / (VIGBUSO_PAGE_BYTES / VIGBUSO_GRANULE_BYTES))
 
 /* The word of a chunk of count blocks on a page. */
-#define VIGBUSO_CHUNK_WORD(count, page) (((uint32_t)VIGBUSO_CHUNK << 30) | ((uint32_t)(count) << 18) | (uint32_t)(page))
+#define VIGBUSO_CHUNK_WORD(count, page) (((uint64_t)VIGBUSO_CHUNK << 62) | ((uint64_t)(count) << 50) | (uint64_t)(page))
 
 /* What a release did with the page or span; VIGBUSO_RETIRED is added to the fate of a chunk that returned all blocks which
  * its page had out. */
@@ -127,7 +131,7 @@ static inline const char *vigbuso_refusal_text(uint32_t number) {
     switch (number) {
     case 1:
         return "the arena length, given at opening or stored as the book's first word, is 0 (an empty book reads so) or "
-               "above 262,144";
+               "above 1,048,576";
     case 2:
         return "the book is too short";
     case 3:
@@ -208,7 +212,7 @@ static inline uint32_t vigbuso_medium_block_bytes(uint32_t size_class) {
 uint32_t vigbuso_size_class(uint64_t size, uint32_t *size_class);
 
 /*
- * Opens a heap on an arena of so many pages, 1 to 262,144. Every other call works on a book that was opened.
+ * Opens a heap on an arena of so many pages, 1 to 1,048,576. Every other call works on a book that was opened.
  *   book   book_len words, written; VIGBUSO_BOOK_WORDS(pages) at least
  *   rows   rows_len words, read: parking rules, VIGBUSO_ROW words to a row. A row has a first and a last class, small ones 0 to 63,
  *          medium ones 64 to 75, then how many empty and how many cold runs each of them keeps, 0 to VIGBUSO_LIMIT. Each class has just
@@ -263,13 +267,13 @@ uint32_t vigbuso_report(const uint32_t *book, size_t book_len, uint64_t *figures
 /*
  * Takes up to 64 blocks of a small class.
  *   book    book_len words, written
- *   list    list_len words, 64 at least; the first *count are written, the latest popped first, the others kept
+ *   list    list_len block words, 64 at least; the first *count are written, the latest popped first, the others kept
  *   count   how many blocks came; 0 for none
  *   virgin  1 if each came from a page not released to since it was last carved from the arena or from a cold page whose
  *           discard zeroed it, else 0; 0 for none
  * Returns 0, or 1, 2, 3, 4, 5, 13.
  */
-uint32_t vigbuso_take_blocks(uint32_t *book, size_t book_len, uint32_t size_class, uint32_t host, uint32_t *list,
+uint32_t vigbuso_take_blocks(uint32_t *book, size_t book_len, uint32_t size_class, uint32_t host, uint64_t *list,
                              size_t list_len, uint32_t *count, uint32_t *virgin);
 
 /*
@@ -277,7 +281,7 @@ uint32_t vigbuso_take_blocks(uint32_t *book, size_t book_len, uint32_t size_clas
  * vigbuso_take_blocks.
  * Returns 0, or 1, 2, 3, 4, 5, 13.
  */
-uint32_t vigbuso_medium_take_blocks(uint32_t *book, size_t book_len, uint32_t size_class, uint32_t host, uint32_t *list,
+uint32_t vigbuso_medium_take_blocks(uint32_t *book, size_t book_len, uint32_t size_class, uint32_t host, uint64_t *list,
                                     size_t list_len, uint32_t *count, uint32_t *virgin);
 
 /*
@@ -287,7 +291,7 @@ uint32_t vigbuso_medium_take_blocks(uint32_t *book, size_t book_len, uint32_t si
  *   fate   the page's: VIGBUSO_KEPT, VIGBUSO_COLD or VIGBUSO_TO_ARENA
  * Returns 0, or 1, 2, 3, 4, 7, 9, 13 (a mark), 15, 10, 11, 13.
  */
-uint32_t vigbuso_release_blocks(uint32_t *book, size_t book_len, uint32_t size_class, uint32_t host, const uint32_t *list,
+uint32_t vigbuso_release_blocks(uint32_t *book, size_t book_len, uint32_t size_class, uint32_t host, const uint64_t *list,
                                 size_t list_len, uint32_t *fate);
 
 /*
@@ -298,7 +302,7 @@ uint32_t vigbuso_release_blocks(uint32_t *book, size_t book_len, uint32_t size_c
  * Returns 0, or 1, 2, 3, 4, 7, 9, 13 (a mark), 15, 10, 11, 13.
  */
 uint32_t vigbuso_medium_release_blocks(uint32_t *book, size_t book_len, uint32_t size_class, uint32_t host,
-                                       const uint32_t *list, size_t list_len, uint32_t *fate);
+                                       const uint64_t *list, size_t list_len, uint32_t *fate);
 
 /*
  * Releases blocks of a small class on several pages, with a chunk for each page that tells how many of them it has.
@@ -309,7 +313,7 @@ uint32_t vigbuso_medium_release_blocks(uint32_t *book, size_t book_len, uint32_t
  * Returns 0, or 1, 2, 3, 4, 7, 8, 9, 13 (a mark), 15, 10, 11, 13.
  */
 uint32_t vigbuso_release_bin_chunks(uint32_t *book, size_t book_len, uint32_t size_class, uint32_t host,
-                                    const uint32_t *list, size_t list_len, const uint32_t *chunks, size_t chunks_len,
+                                    const uint64_t *list, size_t list_len, const uint64_t *chunks, size_t chunks_len,
                                     uint32_t *fates, size_t fates_len);
 
 /*
@@ -318,15 +322,15 @@ uint32_t vigbuso_release_bin_chunks(uint32_t *book, size_t book_len, uint32_t si
  * 1 the release of the block with that place in the order of handing out, from 0; 2 a report. Within one take the listed order
  * counts; a take that the arena cannot serve hands out nothing.
  *   book     book_len words, written
- *   trace    trace_len words, read
- *   blocks   blocks_len words; the words of the blocks handed out are written, in order, the others kept
+ *   trace    trace_len words of 32 bits, read: a place from 2^30 on cannot be named
+ *   blocks   blocks_len block words; those of the blocks handed out are written, in order, the others kept
  *   figures  figures_len numbers; at each report five are written: blocks out, their bytes, pages held, idle pages, and the
  *            highest bytes out so far; the others kept
  *   done     3 numbers: words carried out, blocks written, figures written; for 16 too, kept for 1 and 2
  * Returns 0, or 1, 2; or 16, where the trace stopped before a word, and the book and the lists have what the earlier words did.
  */
 uint32_t vigbuso_trace(uint32_t *book, size_t book_len, uint64_t pages, const uint32_t *trace, size_t trace_len,
-                       uint32_t *blocks, size_t blocks_len, uint64_t *figures, size_t figures_len, uint64_t *done);
+                       uint64_t *blocks, size_t blocks_len, uint64_t *figures, size_t figures_len, uint64_t *done);
 
 /* The words of a trace. */
 #define VIGBUSO_TRACE_TAKE(size_class) ((uint32_t)(size_class))

@@ -14,7 +14,7 @@ pub struct Part {
 /// The end of a function or block in a module's own column.
 const END: &str = "\n}\n";
 
-pub const PARTS: [Part; 16] = [
+pub const PARTS: [Part; 17] = [
     Part {
         file: "arena.rs",
         why: "the system's answers come from the host word",
@@ -28,6 +28,13 @@ pub const PARTS: [Part; 16] = [
         from: "static ARENA: Arena = Arena::new();\n",
         to: "",
         put: "static ARENA: crate::oracle::slot::Slot<Arena> = crate::oracle::slot::Slot::new();\n",
+    },
+    Part {
+        file: "arena.rs",
+        why: "the table of spans has a slot for each page of the longest arena (document 02, A.11)",
+        from: "const BIG_MAP_SLOTS: usize = ARENA_SIZE / ARENA_ALIGN;\n",
+        to: "",
+        put: "const BIG_MAP_SLOTS: usize = crate::words::MAX_PAGES as usize;\n",
     },
     Part {
         file: "arena.rs",

@@ -1,19 +1,19 @@
 //! One call of a history, and its answer, as CALLS.md passes them.
 
-use crate::words::{Family, FIGURES};
+use crate::words::{Family, Word, FIGURES};
 
-/// A lent list of a take or of fates: so many entries, all with this content before the call.
+/// A lent list, of words for a take or of fates: so many entries, all with this content before the call.
 #[derive(Clone, Copy, PartialEq, Eq, Debug)]
-pub struct Lent {
+pub struct Lent<T> {
     pub len: usize,
-    pub fill: u32,
+    pub fill: T,
 }
 
 #[derive(Clone, PartialEq, Eq, Debug)]
 pub enum Call {
-    Take { family: Family, class: u32, host: u32, lent: Lent },
-    ReleaseBlocks { family: Family, class: u32, host: u32, list: Vec<u32> },
-    ReleaseChunks { class: u32, host: u32, list: Vec<u32>, chunks: Vec<u32>, lent: Lent },
+    Take { family: Family, class: u32, host: u32, lent: Lent<Word> },
+    ReleaseBlocks { family: Family, class: u32, host: u32, list: Vec<Word> },
+    ReleaseChunks { class: u32, host: u32, list: Vec<Word>, chunks: Vec<Word>, lent: Lent<u32> },
     Commit { host: u32, pages: u64 },
     Grow { host: u32, first: u64, old: u64, new: u64 },
     Release { host: u32, first: u64, pages: u64 },
@@ -27,7 +27,7 @@ pub enum Answer {
     /// The list's entries below the count; those past it keep their content.
     Taken {
         virgin: bool,
-        words: Vec<u32>,
+        words: Vec<Word>,
     },
     Fate(u32),
     /// The fates of the groups; entries past them keep their content.

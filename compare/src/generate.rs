@@ -7,7 +7,7 @@ use crate::oracle;
 use crate::parking;
 use crate::plan::{Intent, Piece, Place, Plan, Portion, Step};
 use crate::random::Random;
-use crate::words::{Family, HOST_ALL, HOST_COMMIT, HOST_RESERVE, MAX_PAGES};
+use crate::words::{Family, HOST_ALL, HOST_COMMIT, HOST_RESERVE};
 
 /// A maker of plans, and the calls without which it would be pointless.
 pub struct Scenario {
@@ -17,7 +17,7 @@ pub struct Scenario {
     make: fn(&mut Maker),
 }
 
-pub const SCENARIOS: [Scenario; 14] = [
+pub const SCENARIOS: [Scenario; 15] = [
     Scenario { name: "direct", weight: 300, needs: &[Kind::Commit], make: direct },
     Scenario { name: "lengths", weight: 120, needs: &[Kind::Commit], make: lengths },
     Scenario { name: "growth", weight: 120, needs: &[Kind::GrowFrontier], make: growth },
@@ -32,6 +32,7 @@ pub const SCENARIOS: [Scenario; 14] = [
     Scenario { name: "chunks", weight: 60, needs: &[Kind::ReleaseBinChunks], make: chunks },
     Scenario { name: "every fate", weight: 8, needs: &[Kind::ReleaseBinChunks], make: every_fate },
     Scenario { name: "chunk limit", weight: 2, needs: &[Kind::ReleaseBinChunks], make: chunk_limit },
+    Scenario { name: "far pages", weight: 10, needs: &[Kind::TakeBlocks], make: far_pages },
 ];
 
 /// A plan of the named scenario, or of one of those whose calls are asked. `pages` sets the arena's length.
@@ -243,7 +244,7 @@ fn refused_reservation(maker: &mut Maker) {
 
 /// Holes that together come near 65,536 pages, and pass it.
 fn long_holes(maker: &mut Maker) {
-    maker.arena(140_000, MAX_PAGES);
+    maker.arena(140_000, OLD_PAGES);
     maker.reserve();
     let limit = HOLE_PAGES_LIMIT;
     for _ in 0..maker.random.between(20, 80) {
@@ -447,5 +448,27 @@ fn chunk_limit(maker: &mut Maker) {
     for _ in 0..8 {
         maker.add(Intent::ReleaseChunks { class: 45, most: 2_065, portion: Portion::Some });
         maker.class_step(Family::Small, 45);
+    }
+}
+
+/// The most pages before A.11: words of 32 bits name none beyond.
+pub const OLD_PAGES: u32 = 262_144;
+
+/// Blocks, groups and runs beyond the pages that words of 32 bits could name. All before them went to one commit: mostly one that
+/// is not granted, so that they are abandoned, now and then one that holds them. Either way the port writes a word of each, 16 KB
+/// from the next, so the arena is little longer than it must be; `--pages` sets a longer one.
+fn far_pages(maker: &mut Maker) {
+    maker.arena(OLD_PAGES + 800, OLD_PAGES + 20_000);
+    let room = maker.random.between(10, 700);
+    let ahead = u64::from(maker.length).saturating_sub(room).max(1);
+    let host = maker.random.weighted(&[(29, HOST_ALL - HOST_COMMIT), (1, HOST_ALL)]);
+    maker.push(host, Intent::Commit { pages: ahead });
+    match maker.random.below(6) {
+        0 => stores(maker, Family::Small, 45, 262),
+        1 => stores(maker, Family::Medium, 0, 40),
+        _ => {
+            let number = maker.random.between(100, 500);
+            maker.class_steps(number);
+        }
     }
 }

@@ -58,12 +58,12 @@ pub fn line(call: &Call, answer: &Answer) -> String {
     line
 }
 
-fn listed(list: &[u32]) -> impl Iterator<Item = u64> + '_ {
-    std::iter::once(list.len() as u64).chain(list.iter().map(|&word| u64::from(word)))
+fn listed<T: Copy + Into<u64>>(list: &[T]) -> impl Iterator<Item = u64> + '_ {
+    std::iter::once(list.len() as u64).chain(list.iter().map(|&number| number.into()))
 }
 
-fn lent_list(lent: &Lent) -> [u64; 2] {
-    [lent.len as u64, u64::from(lent.fill)]
+fn lent_list<T: Copy + Into<u64>>(lent: &Lent<T>) -> [u64; 2] {
+    [lent.len as u64, lent.fill.into()]
 }
 
 fn arguments(call: &Call) -> Vec<u64> {
@@ -89,14 +89,11 @@ fn arguments(call: &Call) -> Vec<u64> {
 }
 
 fn results(answer: &Answer) -> Vec<u64> {
-    let words = |words: &[u32]| words.iter().map(|&word| u64::from(word)).collect::<Vec<u64>>();
     match answer {
         Answer::Refused(number) => vec![u64::from(*number)],
-        Answer::Taken { virgin, words: taken } => {
-            [vec![0, taken.len() as u64, u64::from(*virgin)], words(taken)].concat()
-        }
+        Answer::Taken { virgin, words: taken } => [&[0, taken.len() as u64, u64::from(*virgin)], &taken[..]].concat(),
         Answer::Fate(fate) => vec![0, u64::from(*fate)],
-        Answer::Fates(fates) => [vec![0], words(fates)].concat(),
+        Answer::Fates(fates) => std::iter::once(0).chain(fates.iter().map(|&fate| u64::from(fate))).collect(),
         Answer::Run { first, fresh } => vec![0, u64::from(*first), u64::from(*fresh)],
         Answer::NoRun => vec![0, u64::from(NO_PAGE), 0],
         Answer::Grown(grown) => vec![0, u64::from(*grown)],
@@ -125,7 +122,7 @@ pub fn parse(text: &str) -> Result<Vec<History>, String> {
 
 fn parse_opening(text: &str) -> Option<(u32, Vec<u32>)> {
     let mut from = Numbers::of(text)?;
-    let pages = from.word()?;
+    let pages = from.number()?;
     let rows = if from.0.len() > 0 { from.list()? } else { Vec::new() };
     from.next().is_none().then_some((pages, rows))
 }
@@ -143,8 +140,9 @@ impl Numbers {
         self.0.next()
     }
 
-    fn word(&mut self) -> Option<u32> {
-        u32::try_from(self.next()?).ok()
+    /// A number of the width that is asked for.
+    fn number<T: TryFrom<u64>>(&mut self) -> Option<T> {
+        T::try_from(self.next()?).ok()
     }
 
     fn flag(&mut self) -> Option<bool> {
@@ -155,17 +153,17 @@ impl Numbers {
         }
     }
 
-    fn words(&mut self, number: usize) -> Option<Vec<u32>> {
-        (0..number).map(|_| self.word()).collect()
+    fn many<T: TryFrom<u64>>(&mut self, count: usize) -> Option<Vec<T>> {
+        (0..count).map(|_| self.number()).collect()
     }
 
-    fn list(&mut self) -> Option<Vec<u32>> {
-        let number = self.next()? as usize;
-        self.words(number)
+    fn list<T: TryFrom<u64>>(&mut self) -> Option<Vec<T>> {
+        let count = self.next()? as usize;
+        self.many(count)
     }
 
-    fn lent(&mut self) -> Option<Lent> {
-        Some(Lent { len: self.next()? as usize, fill: self.word()? })
+    fn lent<T: TryFrom<u64>>(&mut self) -> Option<Lent<T>> {
+        Some(Lent { len: self.next()? as usize, fill: self.number()? })
     }
 }
 
@@ -189,23 +187,26 @@ fn parse_line(line: &str) -> Option<Due> {
 fn parse_call(kind: Kind, from: &mut Numbers) -> Option<Call> {
     Some(match kind {
         Kind::TakeBlocks | Kind::MediumTakeBlocks => {
-            Call::Take { family: family(kind), class: from.word()?, host: from.word()?, lent: from.lent()? }
+            Call::Take { family: family(kind), class: from.number()?, host: from.number()?, lent: from.lent()? }
         }
-        Kind::ReleaseBlocks | Kind::MediumReleaseBlocks => {
-            Call::ReleaseBlocks { family: family(kind), class: from.word()?, host: from.word()?, list: from.list()? }
-        }
+        Kind::ReleaseBlocks | Kind::MediumReleaseBlocks => Call::ReleaseBlocks {
+            family: family(kind),
+            class: from.number()?,
+            host: from.number()?,
+            list: from.list()?,
+        },
         Kind::ReleaseBinChunks => Call::ReleaseChunks {
-            class: from.word()?,
-            host: from.word()?,
+            class: from.number()?,
+            host: from.number()?,
             list: from.list()?,
             chunks: from.list()?,
             lent: from.lent()?,
         },
-        Kind::Commit => Call::Commit { host: from.word()?, pages: from.next()? },
+        Kind::Commit => Call::Commit { host: from.number()?, pages: from.next()? },
         Kind::GrowFrontier => {
-            Call::Grow { host: from.word()?, first: from.next()?, old: from.next()?, new: from.next()? }
+            Call::Grow { host: from.number()?, first: from.next()?, old: from.next()?, new: from.next()? }
         }
-        Kind::Release => Call::Release { host: from.word()?, first: from.next()?, pages: from.next()? },
+        Kind::Release => Call::Release { host: from.number()?, first: from.next()?, pages: from.next()? },
         Kind::Contains => Call::Contains { offset: from.next()?, length: from.next()? },
         Kind::Report => Call::Report,
     })
@@ -222,18 +223,18 @@ fn parse_answer(call: &Call, from: &mut Numbers) -> Option<Answer> {
     if let Call::Contains { .. } = call {
         return from.flag().map(Answer::Contains);
     }
-    let number = from.word()?;
+    let number: u32 = from.number()?;
     if number != 0 {
         return Some(Answer::Refused(number));
     }
     Some(match call {
         Call::Take { .. } => {
             let count = from.next()? as usize;
-            Answer::Taken { virgin: from.flag()?, words: from.words(count)? }
+            Answer::Taken { virgin: from.flag()?, words: from.many(count)? }
         }
-        Call::ReleaseBlocks { .. } => Answer::Fate(from.word()?),
-        Call::ReleaseChunks { chunks, .. } => Answer::Fates(from.words(chunks.len())?),
-        Call::Commit { .. } => match (from.word()?, from.flag()?) {
+        Call::ReleaseBlocks { .. } => Answer::Fate(from.number()?),
+        Call::ReleaseChunks { chunks, .. } => Answer::Fates(from.many(chunks.len())?),
+        Call::Commit { .. } => match (from.number()?, from.flag()?) {
             (NO_PAGE, false) => Answer::NoRun,
             (first, fresh) => Answer::Run { first, fresh },
         },

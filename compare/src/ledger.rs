@@ -8,7 +8,7 @@ use std::collections::BTreeMap;
 use crate::call::{Answer, Call};
 use crate::oracle;
 use crate::words::{
-    chunk_count, chunk_page, kind_of, page_of, Family, CHUNK_KIND, HOST_ALL, MAX_CHUNKS, RUN_LIMIT, SMALL_CLASSES,
+    chunk_count, chunk_page, kind_of, page_of, Family, Word, CHUNK_KIND, HOST_ALL, MAX_CHUNKS, RUN_LIMIT, SMALL_CLASSES,
 };
 
 /// Small classes, then medium ones.
@@ -22,7 +22,7 @@ const NOWHERE: u32 = u32::MAX;
 #[derive(Clone, Debug)]
 pub struct Out {
     pub first: u32,
-    pub words: Vec<u32>,
+    pub words: Vec<Word>,
 }
 
 pub struct Ledger {
@@ -73,14 +73,14 @@ impl Ledger {
     }
 
     /// Whether a word is a block that is out in this class, which need not be there.
-    pub fn is_out(&self, family: Family, class: u32, word: u32) -> bool {
+    pub fn is_out(&self, family: Family, class: u32, word: Word) -> bool {
         class < family.classes()
             && kind_of(word) == family.kind()
             && self.count_out(class_id(family, class), &[word]) == 1
     }
 
     /// The first page of a block's page or span. The block is out.
-    pub fn first_page(&self, word: u32) -> u32 {
+    pub fn first_page(&self, word: Word) -> u32 {
         self.run[page_of(word) as usize]
     }
 
@@ -98,7 +98,7 @@ impl Ledger {
     }
 
     /// Takes in what a call answered. `run_of` tells the first page of a block's page or span.
-    pub fn note(&mut self, call: &Call, answer: &Answer, run_of: impl Fn(Family, u32) -> u32) {
+    pub fn note(&mut self, call: &Call, answer: &Answer, run_of: impl Fn(Family, Word) -> u32) {
         match (call, answer) {
             (Call::Take { family, class, .. }, Answer::Taken { words, .. }) => {
                 for &word in words {
@@ -112,7 +112,7 @@ impl Ledger {
             (Call::ReleaseChunks { class, list, chunks, .. }, Answer::Fates(fates)) => {
                 let gone = sorted(list);
                 for (&chunk, &fate) in chunks.iter().zip(fates) {
-                    self.take_back(Family::Small, *class, chunk_page(chunk), &gone, fate);
+                    self.take_back(Family::Small, *class, chunk_page(chunk) as u32, &gone, fate);
                 }
             }
             (Call::Commit { pages, .. }, Answer::Run { first, .. }) => self.hold(*first, *pages as u32),
@@ -124,7 +124,7 @@ impl Ledger {
         }
     }
 
-    fn hand_out(&mut self, family: Family, class: u32, first: u32, word: u32) {
+    fn hand_out(&mut self, family: Family, class: u32, first: u32, word: Word) {
         let id = class_id(family, class);
         if self.owner[first as usize] != id as u8 + 1 {
             let pages = oracle::run_pages(family, class);
@@ -140,7 +140,7 @@ impl Ledger {
     }
 
     /// Of the run at `first`, the words in `gone`, which is sorted, are out no more.
-    fn take_back(&mut self, family: Family, class: u32, first: u32, gone: &[u32], fate: u32) {
+    fn take_back(&mut self, family: Family, class: u32, first: u32, gone: &[Word], fate: u32) {
         let id = class_id(family, class);
         let at = self.place[first as usize] as usize;
         self.out[id][at].words.retain(|word| gone.binary_search(word).is_err());
@@ -213,23 +213,23 @@ impl Ledger {
         first_of(&[(3, host > HOST_ALL), (4, class >= family.classes())])
     }
 
-    fn list_refusal(&self, family: Family, class: u32, list: &[u32]) -> Option<u32> {
+    fn list_refusal(&self, family: Family, class: u32, list: &[Word]) -> Option<u32> {
         if list.is_empty() {
             return Some(7);
         }
-        let first = |word: u32| self.run[page_of(word) as usize];
+        let first = |word: Word| self.run[page_of(word) as usize];
         self.block_refusal(family, class, list)
             .or_else(|| list.iter().any(|&word| first(word) != first(list[0])).then_some(11))
     }
 
     /// Numbers 9, 15 and 10, each over the whole list.
-    fn block_refusal(&self, family: Family, class: u32, list: &[u32]) -> Option<u32> {
+    fn block_refusal(&self, family: Family, class: u32, list: &[Word]) -> Option<u32> {
         if list.iter().any(|&word| kind_of(word) != family.kind()) {
             return Some(9);
         }
         let id = class_id(family, class);
         let mut words = sorted(list);
-        let twice: Vec<u32> = words.windows(2).filter(|pair| pair[0] == pair[1]).map(|pair| pair[0]).collect();
+        let twice: Vec<Word> = words.windows(2).filter(|pair| pair[0] == pair[1]).map(|pair| pair[0]).collect();
         if self.count_out(id, &twice) > 0 {
             return Some(15);
         }
@@ -238,8 +238,8 @@ impl Ledger {
     }
 
     /// How many of these words, which are sorted, are blocks out in a class.
-    fn count_out(&self, id: usize, words: &[u32]) -> usize {
-        let held = |word: &&u32| self.owner.get(page_of(**word) as usize) == Some(&(id as u8 + 1));
+    fn count_out(&self, id: usize, words: &[Word]) -> usize {
+        let held = |word: &&Word| self.owner.get(page_of(**word) as usize) == Some(&(id as u8 + 1));
         let mut runs: Vec<u32> = words.iter().filter(held).map(|&word| self.run[page_of(word) as usize]).collect();
         runs.dedup();
         let listed = |first: &u32| {
@@ -249,19 +249,19 @@ impl Ledger {
         runs.iter().map(listed).sum()
     }
 
-    fn chunk_refusal(&self, class: u32, list: &[u32], chunks: &[u32], room: usize) -> Option<u32> {
+    fn chunk_refusal(&self, class: u32, list: &[Word], chunks: &[Word], room: usize) -> Option<u32> {
         if list.is_empty() || chunks.is_empty() {
             return Some(7);
         }
         if chunks.len() > MAX_CHUNKS || room < chunks.len() {
             return Some(8);
         }
-        let wrong_kind = |word: &u32| kind_of(*word) != Family::Small.kind();
+        let wrong_kind = |word: &Word| kind_of(*word) != Family::Small.kind();
         if list.iter().any(wrong_kind) || chunks.iter().any(|&chunk| kind_of(chunk) != CHUNK_KIND) {
             return Some(9);
         }
         self.block_refusal(Family::Small, class, list).or_else(|| {
-            let mut counts: BTreeMap<u32, u32> = BTreeMap::new();
+            let mut counts: BTreeMap<u64, u32> = BTreeMap::new();
             for &word in list {
                 *counts.entry(page_of(word)).or_default() += 1;
             }
@@ -278,7 +278,7 @@ impl Ledger {
     }
 }
 
-fn sorted(list: &[u32]) -> Vec<u32> {
+fn sorted(list: &[Word]) -> Vec<Word> {
     let mut words = list.to_vec();
     words.sort_unstable();
     words

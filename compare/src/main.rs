@@ -33,6 +33,7 @@ mod speed;
 mod tally;
 #[cfg(test)]
 mod tests;
+mod touched;
 mod traces;
 mod words;
 
@@ -65,6 +66,7 @@ const USAGE: &str = "usage: compare COMMAND [--NAME VALUE ..]
                a workload like a long fill, with holes that touch left apart and with joins
   traces       [--traces N] [--seed S]
                random traces on the port, against their calls one by one on the original and on the port
+  memory       the memory that long direct commits touch
   speed        [--file F] [--seconds S]
                the port's time against the original's, for each scenario S seconds; the table is also written to F
   count        [--file F]
@@ -89,6 +91,7 @@ fn main() -> ExitCode {
         Some("places") => places::run(rest),
         Some("joining") => joining::run(rest),
         Some("traces") => traces::run(rest),
+        Some("memory") => touched::run(),
         Some("speed") => speed::time(rest),
         Some("count") => speed::count(rest),
         _ => Err(USAGE.into()),

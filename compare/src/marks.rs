@@ -17,7 +17,7 @@ use crate::port::{self, Room};
 use crate::progress::Progress;
 use crate::random::Random;
 use crate::reference::Reference;
-use crate::words::{book_words, granule_of, page_of, Family, PAGE_GRANULES};
+use crate::words::{book_words, granule_of, page_of, Family, Word, PAGE_GRANULES};
 
 /// Where the mark words stand, as docs/RANGES.md has it: in a page's words, from this one on.
 const MARKS: usize = 144;
@@ -115,7 +115,7 @@ fn play(random: &mut Random, tally: &mut Tally) -> Result<(), String> {
 }
 
 /// Family, class and blocks of a release.
-fn listed(call: &Call) -> Option<(Family, u32, &[u32])> {
+fn listed(call: &Call) -> Option<(Family, u32, &[Word])> {
     match call {
         Call::ReleaseBlocks { family, class, list, .. } => Some((*family, *class, list)),
         Call::ReleaseChunks { class, list, .. } => Some((Family::Small, *class, list)),
@@ -142,13 +142,13 @@ fn due(ledger: &Ledger, call: &Call, marks: &BTreeMap<usize, u32>) -> Option<u32
 }
 
 /// The mark word of a block that is out.
-fn mark_word(ledger: &Ledger, family: Family, class: u32, word: u32) -> usize {
+fn mark_word(ledger: &Ledger, family: Family, class: u32, word: Word) -> usize {
     let first = ledger.first_page(word);
     let header = match family {
         Family::Small => 3,
         Family::Medium => 4,
     };
-    let granule = granule_of(word) - first * PAGE_GRANULES - header;
+    let granule = granule_of(word) - u64::from(first) * PAGE_GRANULES - header;
     let block = granule as usize * 16 / oracle::block_bytes(family, class);
     page_words(first) + block / 32
 }
@@ -170,7 +170,7 @@ fn marks_for(random: &mut Random, ledger: &Ledger, call: &Call) -> BTreeMap<usiz
             let word = random.pick(list);
             match ledger.is_out(family, class, word) {
                 true => mark_word(ledger, family, class, word) + random.weighted(&[(3, 0), (1, 1)]),
-                false => page_words(page_of(word).min(ledger.pages() - 1)) + random.index(3),
+                false => page_words(page_of(word).min(u64::from(ledger.pages() - 1)) as u32) + random.index(3),
             }
         });
         let mark = match random.below(3) {

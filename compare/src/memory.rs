@@ -43,19 +43,25 @@ pub enum Fence {
     Back,
 }
 
-/// Words in a mapping of their own, with an unmapped page before and after it. They touch one of the two, so that
-/// a read or write beyond them on that side is a fault.
-pub struct Fenced {
+/// Words or other numbers in a mapping of their own, with an unmapped page before and after it. They touch one of the two,
+/// so that a read or write beyond them on that side is a fault.
+pub struct Fenced<T> {
     mapping: usize,
     mapped: usize,
     fence: Fence,
-    first: *mut u32,
+    first: *mut T,
     len: usize,
 }
 
-impl Fenced {
-    pub fn new(len: usize, fence: Fence) -> Fenced {
-        let bytes = len * size_of::<u32>();
+/// What may stand in a fenced mapping: every bit pattern is one, zeroes too.
+pub trait Plain: Copy {}
+
+impl Plain for u32 {}
+impl Plain for u64 {}
+
+impl<T: Plain> Fenced<T> {
+    pub fn new(len: usize, fence: Fence) -> Fenced<T> {
+        let bytes = len * size_of::<T>();
         let inner = bytes.next_multiple_of(SYSTEM_PAGE).max(SYSTEM_PAGE);
         let mapped = inner + 2 * SYSTEM_PAGE;
         let mapping = map(mapped, PROT_NONE);
@@ -66,21 +72,21 @@ impl Fenced {
             Fence::Front => mapping + SYSTEM_PAGE,
             Fence::Back => mapping + SYSTEM_PAGE + inner - bytes,
         };
-        Fenced { mapping, mapped, fence, first: first as *mut u32, len }
+        Fenced { mapping, mapped, fence, first: first as *mut T, len }
     }
 
-    pub fn words(&self) -> &[u32] {
-        // SAFETY: `len` words of our own mapping, readable, aligned to 4.
+    pub fn words(&self) -> &[T] {
+        // SAFETY: `len` entries of our own mapping, readable, aligned since a page's bytes are a multiple of theirs.
         unsafe { slice::from_raw_parts(self.first, self.len) }
     }
 
-    pub fn words_mut(&mut self) -> &mut [u32] {
+    pub fn words_mut(&mut self) -> &mut [T] {
         // SAFETY: as above, and `self` is borrowed exclusively.
         unsafe { slice::from_raw_parts_mut(self.first, self.len) }
     }
 
-    /// So many of the words, at the end that touches the unmapped page.
-    pub fn lend(&mut self, len: usize) -> &mut [u32] {
+    /// So many of the entries, at the end that touches the unmapped page.
+    pub fn lend(&mut self, len: usize) -> &mut [T] {
         let from = match self.fence {
             Fence::Front => 0,
             Fence::Back => self.len - len,
@@ -89,7 +95,7 @@ impl Fenced {
     }
 }
 
-impl Drop for Fenced {
+impl<T> Drop for Fenced<T> {
     fn drop(&mut self) {
         // SAFETY: our own mapping, no longer borrowed.
         unsafe { munmap(self.mapping as *mut c_void, self.mapped) };

@@ -5,7 +5,7 @@ use crate::call::{Call, Lent};
 use crate::ledger::{Ledger, Out};
 use crate::oracle;
 use crate::random::Random;
-use crate::words::{block_word, chunk_word, page_of, Family, MAX_CHUNKS, PAGE_BYTES, PAGE_GRANULES, RUN_LIMIT};
+use crate::words::{block_word, chunk_word, page_of, Family, Word, MAX_CHUNKS, PAGE_BYTES, PAGE_GRANULES, RUN_LIMIT};
 
 /// How many of a page's blocks are given back.
 #[derive(Clone, Copy, PartialEq, Eq, Debug)]
@@ -122,9 +122,9 @@ impl Step {
     }
 }
 
-fn list(random: &mut Random, family: Family, class: u32) -> Lent {
+fn list(random: &mut Random, family: Family, class: u32) -> Lent<Word> {
     let spare = random.weighted(&[(6, 0), (1, 1), (1, 9)]);
-    Lent { len: oracle::batch(family, class) + spare, fill: random.word() as u32 }
+    Lent { len: oracle::batch(family, class) + spare, fill: random.word() }
 }
 
 fn pick_run<'a>(random: &mut Random, runs: &'a [Out]) -> Option<&'a Out> {
@@ -132,7 +132,7 @@ fn pick_run<'a>(random: &mut Random, runs: &'a [Out]) -> Option<&'a Out> {
 }
 
 /// Some of the blocks that are out of a run, in an order of chance.
-fn blocks(random: &mut Random, run: &Out, portion: Portion) -> Vec<u32> {
+fn blocks(random: &mut Random, run: &Out, portion: Portion) -> Vec<Word> {
     let mut words = run.words.clone();
     match random.below(4) {
         0 => words.sort_unstable(),
@@ -162,7 +162,7 @@ fn chunks(random: &mut Random, ledger: &Ledger, class: u32, host: u32, most: usi
     for run in runs {
         let portion = if random.chance(1, 4) { Portion::All } else { portion };
         let words = blocks(random, run, portion);
-        chunks.push(chunk_word(words.len() as u32, run.first));
+        chunks.push(chunk_word(words.len() as u32, u64::from(run.first)));
         list.extend(words);
     }
     match random.below(3) {
@@ -229,7 +229,7 @@ fn wrong(random: &mut Random, ledger: &Ledger, family: Family, class: u32, host:
     match random.below(6) {
         0 => {
             let len = if class < family.classes() { oracle::batch(family, class) } else { 64 };
-            Call::Take { family, class, host, lent: Lent { len: random.index(len + 1), fill: random.word() as u32 } }
+            Call::Take { family, class, host, lent: Lent { len: random.index(len + 1), fill: random.word() } }
         }
         1 => Call::ReleaseBlocks { family, class, host, list: wrong_list(random, ledger, family, class) },
         2 => wrong_chunks(random, ledger, class, host),
@@ -259,16 +259,16 @@ fn wrong_run(random: &mut Random, ledger: &Ledger, host: u32) -> Call {
 }
 
 /// Blocks that are out, with one that is wrong or one more among them, or two, so that a list can have faults of two numbers.
-fn wrong_list(random: &mut Random, ledger: &Ledger, family: Family, class: u32) -> Vec<u32> {
+fn wrong_list(random: &mut Random, ledger: &Ledger, family: Family, class: u32) -> Vec<Word> {
     let runs = if class < family.classes() { ledger.out(family, class) } else { &[] };
     let mut words = pick_run(random, runs).map_or_else(Vec::new, |run| blocks(random, run, Portion::Some));
     let any = || block_word(family, 0);
     for _ in 0..random.weighted(&[(1, 0), (4, 1), (2, 2)]) {
         let another = match random.below(5) {
-            0 => random.word() as u32,
-            1 => block_word(family, random.below(u64::from(ledger.pages() * PAGE_GRANULES)) as u32),
+            0 => random.word(),
+            1 => block_word(family, random.below(u64::from(ledger.pages()) * PAGE_GRANULES)),
             2 => words.first().copied().unwrap_or_else(any),
-            3 => words.first().map_or_else(any, |word| word ^ 1 << random.below(32)),
+            3 => words.first().map_or_else(any, |word| word ^ 1 << random.below(64)),
             _ => pick_run(random, runs).map_or_else(any, |run| random.pick(&run.words)),
         };
         words.insert(random.index(words.len() + 1), another);
@@ -278,8 +278,8 @@ fn wrong_list(random: &mut Random, ledger: &Ledger, family: Family, class: u32) 
 
 fn wrong_chunks(random: &mut Random, ledger: &Ledger, class: u32, host: u32) -> Call {
     let list = wrong_list(random, ledger, Family::Small, class);
-    let mut chunks: Vec<u32> = Vec::new();
-    let mut pages: Vec<u32> = list.iter().map(|&word| page_of(word)).collect();
+    let mut chunks: Vec<Word> = Vec::new();
+    let mut pages: Vec<u64> = list.iter().map(|&word| page_of(word)).collect();
     pages.sort_unstable();
     while let Some(&page) = pages.first() {
         let count = pages.iter().take_while(|&&other| other == page).count();
@@ -289,8 +289,8 @@ fn wrong_chunks(random: &mut Random, ledger: &Ledger, class: u32, host: u32) -> 
     match random.below(7) {
         0 => chunks.clear(),
         1 => chunks.extend(chunks.clone()),
-        2 => chunks.push(chunk_word(random.below(3) as u32, random.below(u64::from(ledger.pages())) as u32)),
-        3 => chunks.iter_mut().for_each(|chunk| *chunk ^= 1 << random.below(32)),
+        2 => chunks.push(chunk_word(random.below(3) as u32, random.below(u64::from(ledger.pages())))),
+        3 => chunks.iter_mut().for_each(|chunk| *chunk ^= 1 << random.below(64)),
         4 => chunks.resize(chunks.len() + random.pick(&[MAX_CHUNKS, 3]), chunk_word(1, 0)),
         _ => {}
     }

@@ -1,9 +1,9 @@
 //! The port, through the C boundary of CALLS.md.
 
 use crate::call::{Answer, Call, Lent};
-use crate::memory::{Fence, Fenced};
+use crate::memory::{Fence, Fenced, Plain};
 use crate::planned::Planned;
-use crate::words::{Family, FIGURES, NO_PAGE};
+use crate::words::{Family, Word, FIGURES, NO_PAGE};
 
 // The folder is the build script's.
 #[link(name = "vigbuso", kind = "static")]
@@ -32,7 +32,7 @@ extern "C" {
         pages: u64,
         trace: *const u32,
         trace_len: usize,
-        blocks: *mut u32,
+        blocks: *mut Word,
         blocks_len: usize,
         figures: *mut u64,
         figures_len: usize,
@@ -44,7 +44,7 @@ extern "C" {
         words: usize,
         class: u32,
         host: u32,
-        list: *mut u32,
+        list: *mut Word,
         len: usize,
         count: *mut u32,
         virgin: *mut u32,
@@ -54,7 +54,7 @@ extern "C" {
         words: usize,
         class: u32,
         host: u32,
-        list: *mut u32,
+        list: *mut Word,
         len: usize,
         count: *mut u32,
         virgin: *mut u32,
@@ -64,7 +64,7 @@ extern "C" {
         words: usize,
         class: u32,
         host: u32,
-        list: *const u32,
+        list: *const Word,
         len: usize,
         fate: *mut u32,
     ) -> u32;
@@ -73,7 +73,7 @@ extern "C" {
         words: usize,
         class: u32,
         host: u32,
-        list: *const u32,
+        list: *const Word,
         len: usize,
         fate: *mut u32,
     ) -> u32;
@@ -82,9 +82,9 @@ extern "C" {
         words: usize,
         class: u32,
         host: u32,
-        list: *const u32,
+        list: *const Word,
         len: usize,
-        chunks: *const u32,
+        chunks: *const Word,
         number: usize,
         fates: *mut u32,
         room: usize,
@@ -155,7 +155,7 @@ pub fn trace(
     book: &mut [u32],
     pages: u64,
     trace: &[u32],
-    blocks: &mut [u32],
+    blocks: &mut [Word],
     figures: &mut [u64],
     done: &mut [u64; 3],
 ) -> u32 {
@@ -181,31 +181,39 @@ const ROOM: usize = 1 << 18;
 
 /// Where the lists of a call stand, each against an unmapped page.
 pub struct Room {
-    list: Fenced,
-    chunks: Fenced,
-    lent: Fenced,
+    list: Fenced<Word>,
+    chunks: Fenced<Word>,
+    taken: Fenced<Word>,
+    fates: Fenced<u32>,
+    rows: Fenced<u32>,
 }
 
 impl Room {
     pub fn new(fence: Fence) -> Room {
-        Room { list: Fenced::new(ROOM, fence), chunks: Fenced::new(ROOM, fence), lent: Fenced::new(ROOM, fence) }
+        Room {
+            list: Fenced::new(ROOM, fence),
+            chunks: Fenced::new(ROOM, fence),
+            taken: Fenced::new(ROOM, fence),
+            fates: Fenced::new(ROOM, fence),
+            rows: Fenced::new(ROOM, fence),
+        }
     }
 
-    /// A list that is only read, at its place.
-    pub fn lend(&mut self, list: &[u32]) -> &[u32] {
-        placed(&mut self.list, list)
+    /// An opening's rows, at their place.
+    pub fn lend_rows(&mut self, rows: &[u32]) -> &[u32] {
+        placed(&mut self.rows, rows)
     }
 }
 
 /// A list that is lent to be read, at its place.
-fn placed<'a>(place: &'a mut Fenced, list: &[u32]) -> &'a [u32] {
+fn placed<'a, T: Plain>(place: &'a mut Fenced<T>, list: &[T]) -> &'a [T] {
     let words = place.lend(list.len());
     words.copy_from_slice(list);
     words
 }
 
 /// A list that is lent to be written, at its place.
-fn filled<'a>(place: &'a mut Fenced, lent: &Lent) -> &'a mut [u32] {
+fn filled<'a, T: Plain>(place: &'a mut Fenced<T>, lent: &Lent<T>) -> &'a mut [T] {
     let words = place.lend(lent.len);
     words.fill(lent.fill);
     words
@@ -216,7 +224,7 @@ fn filled<'a>(place: &'a mut Fenced, lent: &Lent) -> &'a mut [u32] {
 pub fn ask(book: &mut [u32], room: &mut Room, call: &Call) -> Answer {
     match call {
         Call::Take { family, class, host, lent } => {
-            take(book, *family, [*class, *host], filled(&mut room.lent, lent), lent)
+            take(book, *family, [*class, *host], filled(&mut room.taken, lent), lent)
         }
         Call::ReleaseBlocks { family, class, host, list } => {
             let placed = placed(&mut room.list, list);
@@ -225,7 +233,7 @@ pub fn ask(book: &mut [u32], room: &mut Room, call: &Call) -> Answer {
         Call::ReleaseChunks { class, host, list, chunks, lent } => {
             let (words, placed_chunks) = (placed(&mut room.list, list), placed(&mut room.chunks, chunks));
             let answer =
-                release_chunks(book, [*class, *host], words, placed_chunks, filled(&mut room.lent, lent), lent);
+                release_chunks(book, [*class, *host], words, placed_chunks, filled(&mut room.fates, lent), lent);
             only_read(answer, &[(words, list), (placed_chunks, chunks)])
         }
         Call::Commit { host, pages } => commit(book, *host, *pages),
@@ -237,7 +245,7 @@ pub fn ask(book: &mut [u32], room: &mut Room, call: &Call) -> Answer {
 }
 
 /// Release and group lists are only read.
-fn only_read(answer: Answer, lists: &[(&[u32], &Vec<u32>)]) -> Answer {
+fn only_read(answer: Answer, lists: &[(&[Word], &Vec<Word>)]) -> Answer {
     match lists.iter().all(|(after, before)| after == before) {
         true => answer,
         false => Answer::Broken("a list that is only read has changed".into()),
@@ -268,7 +276,7 @@ fn yes_or_no(name: &str, value: u32, answer: impl FnOnce(bool) -> Answer) -> Ans
 
 /// What is returned, count and virgin.
 #[inline]
-pub fn plain_take(book: &mut [u32], family: Family, [class, host]: [u32; 2], list: &mut [u32]) -> [u32; 3] {
+pub fn plain_take(book: &mut [u32], family: Family, [class, host]: [u32; 2], list: &mut [Word]) -> [u32; 3] {
     let (mut count, mut virgin) = (UNTOUCHED, UNTOUCHED);
     let ask = match family {
         Family::Small => vigbuso_take_blocks,
@@ -280,7 +288,7 @@ pub fn plain_take(book: &mut [u32], family: Family, [class, host]: [u32; 2], lis
     [number, count, virgin]
 }
 
-fn take(book: &mut [u32], family: Family, class_and_host: [u32; 2], list: &mut [u32], lent: &Lent) -> Answer {
+fn take(book: &mut [u32], family: Family, class_and_host: [u32; 2], list: &mut [Word], lent: &Lent<Word>) -> Answer {
     let [number, count, virgin] = plain_take(book, family, class_and_host, list);
     let kept = |from: usize| list[from..].iter().all(|&entry| entry == lent.fill);
     if number != 0 {
@@ -295,7 +303,7 @@ fn take(book: &mut [u32], family: Family, class_and_host: [u32; 2], list: &mut [
 
 /// What is returned, and the fate.
 #[inline]
-pub fn plain_release_blocks(book: &mut [u32], family: Family, [class, host]: [u32; 2], list: &[u32]) -> [u32; 2] {
+pub fn plain_release_blocks(book: &mut [u32], family: Family, [class, host]: [u32; 2], list: &[Word]) -> [u32; 2] {
     let mut fate = UNTOUCHED;
     let ask = match family {
         Family::Small => vigbuso_release_blocks,
@@ -306,7 +314,7 @@ pub fn plain_release_blocks(book: &mut [u32], family: Family, [class, host]: [u3
     [number, fate]
 }
 
-fn release_blocks(book: &mut [u32], family: Family, class_and_host: [u32; 2], list: &[u32]) -> Answer {
+fn release_blocks(book: &mut [u32], family: Family, class_and_host: [u32; 2], list: &[Word]) -> Answer {
     match plain_release_blocks(book, family, class_and_host, list) {
         [0, fate] => Answer::Fate(fate),
         [number, fate] => refusal(number, fate == UNTOUCHED),
@@ -318,8 +326,8 @@ fn release_blocks(book: &mut [u32], family: Family, class_and_host: [u32; 2], li
 pub fn plain_release_chunks(
     book: &mut [u32],
     [class, host]: [u32; 2],
-    list: &[u32],
-    chunks: &[u32],
+    list: &[Word],
+    chunks: &[Word],
     fates: &mut [u32],
 ) -> u32 {
     // SAFETY: slices are lent for the call.
@@ -342,10 +350,10 @@ pub fn plain_release_chunks(
 fn release_chunks(
     book: &mut [u32],
     class_and_host: [u32; 2],
-    list: &[u32],
-    chunks: &[u32],
+    list: &[Word],
+    chunks: &[Word],
     fates: &mut [u32],
-    lent: &Lent,
+    lent: &Lent<u32>,
 ) -> Answer {
     let number = plain_release_chunks(book, class_and_host, list, chunks, fates);
     let kept = |from: usize| fates[from..].iter().all(|&entry| entry == lent.fill);

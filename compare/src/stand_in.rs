@@ -28,7 +28,7 @@ use call::{Answer, Call, Lent};
 use planned::{planned, Planned};
 use reference::Reference;
 use sizes::{original, size_class};
-use words::{book_words, Family, FIGURES, MAX_PAGES, NO_PAGE};
+use words::{book_words, Family, Word, FIGURES, MAX_PAGES, NO_PAGE};
 
 /// The original has one arena for the process.
 static ORIGINAL: Mutex<()> = Mutex::new(());
@@ -72,7 +72,7 @@ fn returned(answer: Answer, write: impl FnOnce(Answer)) -> u32 {
     }
 }
 
-unsafe fn list(words: *const u32, len: usize) -> Vec<u32> {
+unsafe fn list<T: Copy>(words: *const T, len: usize) -> Vec<T> {
     match len {
         0 => Vec::new(),
         _ => slice::from_raw_parts(words, len).to_vec(),
@@ -181,7 +181,7 @@ pub unsafe extern "C" fn vigbuso_report(book: *const u32, _words: usize, figures
     })
 }
 
-unsafe fn take(book: *const u32, call: Call, entries: *mut u32, count: *mut u32, virgin: *mut u32) -> u32 {
+unsafe fn take(book: *const u32, call: Call, entries: *mut Word, count: *mut u32, virgin: *mut u32) -> u32 {
     returned(ask(book, call), |answer| {
         let Answer::Taken { words, virgin: clean } = answer else { unreachable!("a take answers blocks") };
         entries.copy_from(words.as_ptr(), words.len());
@@ -196,7 +196,7 @@ pub unsafe extern "C" fn vigbuso_take_blocks(
     _words: usize,
     class: u32,
     host: u32,
-    entries: *mut u32,
+    entries: *mut Word,
     len: usize,
     count: *mut u32,
     virgin: *mut u32,
@@ -211,7 +211,7 @@ pub unsafe extern "C" fn vigbuso_medium_take_blocks(
     _words: usize,
     class: u32,
     host: u32,
-    entries: *mut u32,
+    entries: *mut Word,
     len: usize,
     count: *mut u32,
     virgin: *mut u32,
@@ -233,7 +233,7 @@ pub unsafe extern "C" fn vigbuso_release_blocks(
     _words: usize,
     class: u32,
     host: u32,
-    blocks: *const u32,
+    blocks: *const Word,
     len: usize,
     fate: *mut u32,
 ) -> u32 {
@@ -246,7 +246,7 @@ pub unsafe extern "C" fn vigbuso_medium_release_blocks(
     _words: usize,
     class: u32,
     host: u32,
-    blocks: *const u32,
+    blocks: *const Word,
     len: usize,
     fate: *mut u32,
 ) -> u32 {
@@ -259,9 +259,9 @@ pub unsafe extern "C" fn vigbuso_release_bin_chunks(
     _words: usize,
     class: u32,
     host: u32,
-    blocks: *const u32,
+    blocks: *const Word,
     len: usize,
-    chunks: *const u32,
+    chunks: *const Word,
     number: usize,
     fates: *mut u32,
     room: usize,

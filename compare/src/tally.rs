@@ -4,7 +4,9 @@ use std::collections::BTreeMap;
 use std::fmt;
 
 use crate::call::{Answer, Call, Kind};
+use crate::generate::OLD_PAGES;
 use crate::reference::Reference;
+use crate::words::{chunk_page, page_of};
 
 #[derive(Default)]
 pub struct Tally {
@@ -52,7 +54,28 @@ impl Tally {
         }
     }
 
+    /// What names a page beyond those of words of 32 bits (document 02, A.11), and is carried out.
+    fn count_far(&mut self, call: &Call, answer: &Answer) {
+        let far = |page: u64| page >= u64::from(OLD_PAGES);
+        match (call, answer) {
+            (_, Answer::Taken { words, .. }) if words.iter().any(|&word| far(page_of(word))) => {
+                self.event("far page: take");
+            }
+            (Call::ReleaseBlocks { list, .. }, Answer::Fate(_)) if far(page_of(list[0])) => {
+                self.event("far page: release by list");
+            }
+            (Call::ReleaseChunks { chunks, .. }, Answer::Fates(_))
+                if chunks.iter().any(|&chunk| far(chunk_page(chunk))) =>
+            {
+                self.event("far page: release by groups");
+            }
+            (_, Answer::Run { first, .. }) if far(u64::from(*first)) => self.event("far page: commit"),
+            _ => {}
+        }
+    }
+
     fn count_events(&mut self, call: &Call, answer: &Answer) {
+        self.count_far(call, answer);
         match answer {
             Answer::Run { fresh: true, .. } => self.event("commit from the frontier"),
             Answer::Run { fresh: false, .. } => self.event("commit from a hole"),

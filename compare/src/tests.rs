@@ -13,7 +13,7 @@ use crate::reference::Reference;
 use crate::run;
 use crate::shrink::shrink;
 use crate::sizes::size_class;
-use crate::words::{block_word, chunk_word, Family, HOST_ALL};
+use crate::words::{block_word, chunk_word, granule_of, page_of, Family, Word, HOST_ALL, HOST_COMMIT, MAX_PAGES};
 
 /// The original has one arena for the process.
 static ORIGINAL: Mutex<()> = Mutex::new(());
@@ -32,15 +32,15 @@ fn take(family: Family, class: u32) -> Call {
     Call::Take { family, class, host: HOST_ALL, lent: Lent { len: 64, fill: 0 } }
 }
 
-fn release(class: u32, granules: &[u32]) -> Call {
+fn release(class: u32, granules: &[u64]) -> Call {
     Call::ReleaseBlocks { family: Family::Small, class, host: HOST_ALL, list: small(granules) }
 }
 
-fn small(granules: &[u32]) -> Vec<u32> {
+fn small(granules: &[u64]) -> Vec<Word> {
     granules.iter().map(|&granule| block_word(Family::Small, granule)).collect()
 }
 
-fn taken(words: Vec<u32>, virgin: bool) -> Answer {
+fn taken(words: Vec<Word>, virgin: bool) -> Answer {
     Answer::Taken { virgin, words }
 }
 
@@ -69,9 +69,9 @@ fn sizes_p1_to_p5() {
 
 #[test]
 fn blocks_p6_to_p10() {
-    let down = |from: u32, to: u32| (to..=from).rev().collect::<Vec<u32>>();
+    let down = |from: u64, to: u64| (to..=from).rev().collect::<Vec<u64>>();
     let p7 = [down(129, 67), vec![10]].concat();
-    assert_eq!(small(&[66]), [1_073_741_890]);
+    assert_eq!(small(&[66]), [4_611_686_018_427_387_970]);
     assert_eq!(
         answers(&[take(Family::Small, 0), release(0, &[10]), take(Family::Small, 0)]),
         [taken(small(&down(66, 3)), true), Answer::Fate(0), taken(small(&p7), false)]
@@ -131,6 +131,28 @@ fn the_original_departs_where_two_holes_would_touch() {
     let _alone = ORIGINAL.lock().unwrap_or_else(|poisoned| poisoned.into_inner());
     let (compared, difference) = run::compare_plain(64, &due);
     assert!(compared == 3 && difference.is_none());
+}
+
+/// Spans and pages at the end of the longest arena: the original finds each block's run there too.
+#[test]
+fn the_last_pages_of_the_longest_arena() {
+    let _alone = ORIGINAL.lock().unwrap_or_else(|poisoned| poisoned.into_inner());
+    let mut reference = Reference::open(MAX_PAGES, &[]);
+    let ahead = u64::from(MAX_PAGES) - 4;
+    assert_eq!(reference.answer(&commit(HOST_ALL - HOST_COMMIT, ahead)), Answer::NoRun);
+    for (family, class, pages) in [(Family::Small, 0, 1), (Family::Medium, 0, 3)] {
+        let Answer::Taken { words, .. } = reference.answer(&take(family, class)) else {
+            panic!("a take answers blocks")
+        };
+        assert!(words.iter().all(|&word| (ahead..ahead + 4).contains(&page_of(word))));
+        assert!(granule_of(words[0]) > u64::from(u32::MAX) - 5 * 4_096);
+        let first = words.iter().map(|&word| page_of(word)).min().expect("a page or a span");
+        assert_eq!(first + pages, if family == Family::Small { ahead + 1 } else { ahead + 4 });
+        let list = words;
+        let back = Call::ReleaseBlocks { family, class, host: HOST_ALL, list };
+        assert_eq!(reference.answer(&back), Answer::Fate(0));
+        assert_eq!(reference.answer(&back), Answer::Refused(10));
+    }
 }
 
 /// A history of every scenario, read back from its text.

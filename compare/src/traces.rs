@@ -9,12 +9,11 @@ use crate::port;
 use crate::progress::Progress;
 use crate::random::Random;
 use crate::reference::Reference;
-use crate::words::{book_words, HOST_ALL, SMALL_BATCH};
+use crate::words::{book_words, Word, HOST_ALL, SMALL_BATCH};
 
 /// What stands in a lent list before the call.
-const UNTOUCHED: u32 = 0xDEAD_BEEF;
-const UNTOUCHED_FIGURE: u64 = 0xDEAD_BEEF_DEAD_BEEF;
-/// Bits below a word's kind.
+const UNTOUCHED: u64 = 0xDEAD_BEEF_DEAD_BEEF;
+/// Bits below the kind of a trace's own words.
 const BITS: u32 = 30;
 const FIGURES: usize = 5;
 /// A page's fate.
@@ -53,7 +52,7 @@ const REASONS: [Reason; 7] = [
 /// A block that was handed out.
 struct Handed {
     class: u32,
-    word: u32,
+    word: Word,
     out: bool,
 }
 
@@ -330,8 +329,8 @@ fn one(maker: &mut Maker, tally: &mut Tally) {
 /// The port's trace leaves what the walk came to.
 fn compare(trace: &Trace, soil: u32, walk: &Walk, carried: usize, stopped: Option<Reason>) -> Result<(), String> {
     let mut book = vec![soil; book_words(trace.pages)];
-    let (mut blocks, mut figures) = (vec![UNTOUCHED; trace.blocks], vec![UNTOUCHED_FIGURE; trace.figures]);
-    let mut done = [UNTOUCHED_FIGURE; 3];
+    let (mut blocks, mut figures) = (vec![UNTOUCHED; trace.blocks], vec![UNTOUCHED; trace.figures]);
+    let mut done = [UNTOUCHED; 3];
     let number = port::trace(&mut book, u64::from(trace.pages), &trace.words, &mut blocks, &mut figures, &mut done);
     let due = if stopped.is_some() { 16 } else { 0 };
     if number != due {
@@ -345,7 +344,7 @@ fn compare(trace: &Trace, soil: u32, walk: &Walk, carried: usize, stopped: Optio
     if !blocks.iter().copied().eq(handed) {
         return Err("other blocks".into());
     }
-    let told = walk.figures.iter().copied().chain(std::iter::repeat(UNTOUCHED_FIGURE)).take(trace.figures);
+    let told = walk.figures.iter().copied().chain(std::iter::repeat(UNTOUCHED)).take(trace.figures);
     if !figures.iter().copied().eq(told) {
         return Err(format!("other figures: {:?}, and {:?} are due", &figures[..walk.figures.len()], walk.figures));
     }

@@ -2,8 +2,9 @@
 
 pub const PAGE_BYTES: usize = 65_536;
 pub const GRANULE_BYTES: usize = 16;
-pub const PAGE_GRANULES: u32 = (PAGE_BYTES / GRANULE_BYTES) as u32;
-pub const MAX_PAGES: u32 = 262_144;
+pub const PAGE_GRANULES: u64 = (PAGE_BYTES / GRANULE_BYTES) as u64;
+/// Document 02, A.11.
+pub const MAX_PAGES: u32 = 1_048_576;
 /// The most chunks of a group release. A chunk is document 01's group, as in the library.
 pub const MAX_CHUNKS: usize = 2_056;
 /// A run of this many pages or more is refused as 6.
@@ -50,32 +51,42 @@ impl Family {
     }
 }
 
-pub const fn kind_of(word: u32) -> u32 {
-    word >> 30
+/// A block's or a group's word (document 02, A.11): the kind in the top two bits.
+pub type Word = u64;
+
+/// Bits below the kind: a block's granule, or a group's count and page.
+const KIND_SHIFT: u32 = 62;
+/// Bits of a group's page.
+pub const CHUNK_PAGE_BITS: u32 = 50;
+
+pub const fn kind_of(word: Word) -> u32 {
+    (word >> KIND_SHIFT) as u32
 }
 
-pub const fn block_word(family: Family, granule: u32) -> u32 {
-    (family.kind() << 30) | granule
+pub const fn block_word(family: Family, granule: u64) -> Word {
+    ((family.kind() as Word) << KIND_SHIFT) | granule
 }
 
-pub const fn granule_of(word: u32) -> u32 {
-    word & ((1 << 30) - 1)
+pub const fn granule_of(word: Word) -> u64 {
+    word & ((1 << KIND_SHIFT) - 1)
 }
 
-pub const fn page_of(word: u32) -> u32 {
+/// It may be beyond every arena.
+pub const fn page_of(word: Word) -> u64 {
     granule_of(word) / PAGE_GRANULES
 }
 
 pub const CHUNK_KIND: u32 = 3;
 
-pub const fn chunk_word(count: u32, page: u32) -> u32 {
-    (CHUNK_KIND << 30) | (count << 18) | page
+pub const fn chunk_word(count: u32, page: u64) -> Word {
+    ((CHUNK_KIND as Word) << KIND_SHIFT) | ((count as Word) << CHUNK_PAGE_BITS) | page
 }
 
-pub const fn chunk_count(word: u32) -> u32 {
-    (word >> 18) & 0xFFF
+pub const fn chunk_count(word: Word) -> u32 {
+    (word >> CHUNK_PAGE_BITS) as u32 & 0xFFF
 }
 
-pub const fn chunk_page(word: u32) -> u32 {
-    word & ((1 << 18) - 1)
+/// It may be beyond every arena.
+pub const fn chunk_page(word: Word) -> u64 {
+    word & ((1 << CHUNK_PAGE_BITS) - 1)
 }

@@ -10,14 +10,14 @@ use vigbuso::{Block, Pool, Word, PAGE_BYTES};
 
 /// A record begins with three words: its neighbours in the ring and its key. The value follows.
 const NEWER: usize = 0;
-const OLDER: usize = 4;
-const KEY: usize = 8;
-const HEAD: usize = 12;
+const OLDER: usize = 8;
+const KEY: usize = 16;
+const HEAD: usize = 24;
 
 pub(crate) struct Lru {
     pool: Pool,
     arena: Vec<u8>,
-    blocks: HashMap<u32, (Block, usize)>,
+    blocks: HashMap<u64, (Block, usize)>,
     head: Block,
     most: usize,
 }
@@ -31,14 +31,14 @@ impl Lru {
         Ok(lru)
     }
 
-    pub fn get(&mut self, key: u32) -> Option<&[u8]> {
+    pub fn get(&mut self, key: u64) -> Option<&[u8]> {
         let (block, len) = *self.blocks.get(&key)?;
         self.join(self.link(block, NEWER), self.link(block, OLDER));
         self.put_first(block);
         Some(&self.arena[block.range(HEAD + len)][HEAD..])
     }
 
-    pub fn put(&mut self, key: u32, value: &[u8]) -> Result<(), Box<dyn Error>> {
+    pub fn put(&mut self, key: u64, value: &[u8]) -> Result<(), Box<dyn Error>> {
         self.remove(key)?;
         if self.blocks.len() >= self.most {
             self.remove(self.word(self.link(self.head, NEWER), KEY))?;
@@ -51,7 +51,7 @@ impl Lru {
         Ok(())
     }
 
-    pub fn remove(&mut self, key: u32) -> Result<(), Box<dyn Error>> {
+    pub fn remove(&mut self, key: u64) -> Result<(), Box<dyn Error>> {
         let Some((block, _)) = self.blocks.remove(&key) else { return Ok(()) };
         self.join(self.link(block, NEWER), self.link(block, OLDER));
         Ok(self.pool.free(block)?)

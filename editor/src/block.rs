@@ -10,15 +10,14 @@ use crate::{GRANULE_BYTES, PAGE_BYTES};
 /// the top two bits.
 ///
 /// ```
-/// assert_eq!(vigbuso::Word::BITS, 32);
+/// assert_eq!(vigbuso::Word::BITS, 64);
 /// ```
-pub type Word = u32;
+pub type Word = u64;
 
 /// Bits of a word below its kind.
 pub(crate) const LOW_BITS: u32 = Word::BITS - 2;
 
 /// Granules of a page.
-#[allow(clippy::cast_possible_truncation)] // 4,096
 pub(crate) const PAGE_GRANULES: Word = (PAGE_BYTES / GRANULE_BYTES) as Word;
 
 /// What kind of block a word names, and which of the two families a class is of.
@@ -62,8 +61,8 @@ pub enum Kind {
 /// let blocks = Heap::open(64)?.take(class)?;
 /// let block = blocks[0];
 /// assert_eq!((block.kind(), block.granule(), block.byte_offset()), (Kind::Small, 66, 1056));
-/// assert_eq!(block.word(), 1_073_741_890);
-/// assert_eq!(Block::from_word(1_073_741_890), Some(block));
+/// assert_eq!(block.word(), 4_611_686_018_427_387_970);
+/// assert_eq!(Block::from_word(4_611_686_018_427_387_970), Some(block));
 /// assert_eq!(size_of::<Option<Block>>(), size_of::<Block>());
 /// # Ok::<(), vigbuso::Refusal>(())
 /// ```
@@ -83,7 +82,7 @@ impl Block {
     /// ```
     /// # use vigbuso::Block;
     /// assert_eq!(Block::from_word(0), None);
-    /// assert_eq!(Block::from_word(0x4000_0003), Block::small(3));
+    /// assert_eq!(Block::from_word(1 << 62 | 3), Block::small(3));
     /// ```
     #[must_use]
     pub const fn from_word(word: Word) -> Option<Block> {
@@ -98,7 +97,7 @@ impl Block {
     /// ```
     /// # use vigbuso::Block;
     /// assert_eq!(Block::small(3).map(Block::byte_offset), Some(48));
-    /// assert_eq!(Block::small(1 << 30), None);
+    /// assert_eq!(Block::small(1 << 62), None);
     /// ```
     #[must_use]
     pub const fn small(granule: Word) -> Option<Block> {
@@ -127,7 +126,7 @@ impl Block {
     ///
     /// ```
     /// # use vigbuso::Block;
-    /// assert_eq!(Block::small(3).map(Block::word), Some(0x4000_0003));
+    /// assert_eq!(Block::small(3).map(Block::word), Some(1 << 62 | 3));
     /// ```
     #[must_use]
     pub const fn word(self) -> Word {
@@ -159,15 +158,17 @@ impl Block {
         self.word() & ((1 << LOW_BITS) - 1)
     }
 
-    /// The block's first byte, counted from the arena's start.
+    /// The block's first byte, counted from the arena's start. Of a foreign block beyond 64 bits it is `u64::MAX`, where no arena
+    /// has a byte.
     ///
     /// ```
     /// # use vigbuso::Block;
     /// assert_eq!(Block::small(66).map(Block::byte_offset), Some(66 * 16));
+    /// assert_eq!(Block::small(1 << 60).map(Block::byte_offset), Some(u64::MAX));
     /// ```
     #[must_use]
     pub const fn byte_offset(self) -> u64 {
-        self.granule() as u64 * GRANULE_BYTES as u64
+        self.granule().saturating_mul(GRANULE_BYTES as u64)
     }
 
     /// The block's first `len` bytes, to index the arena with. The block does not tell its size: `len` is at most its class's
@@ -184,18 +185,19 @@ impl Block {
     /// ```
     #[must_use]
     pub const fn range(self, len: usize) -> Range<usize> {
-        let start = self.granule() as usize * GRANULE_BYTES;
+        #[allow(clippy::cast_possible_truncation)] // the library links into 64-bit programs only
+        let start = self.byte_offset() as usize;
         start..start.saturating_add(len)
     }
 
-    /// The page of the block's first byte.
+    /// The page of the block's first byte. Of a foreign block it may be beyond every arena.
     ///
     /// ```
     /// # use vigbuso::Block;
     /// assert_eq!(Block::small(4096 + 3).map(Block::page), Some(1));
     /// ```
     #[must_use]
-    pub const fn page(self) -> u32 {
+    pub const fn page(self) -> u64 {
         self.granule() / PAGE_GRANULES
     }
 }
@@ -203,5 +205,30 @@ impl Block {
 impl fmt::Debug for Block {
     fn fmt(&self, f: &mut fmt::Formatter) -> fmt::Result {
         write!(f, "{:?}({})", self.kind(), self.granule())
+    }
+}
+
+#[cfg(test)]
+mod tests {
+    use super::*;
+
+    /// A kind is never 0, so no block's word is: `None` takes no place of its own.
+    #[test]
+    fn no_block_is_as_large_as_a_block() {
+        assert_eq!((size_of::<Block>(), size_of::<Option<Block>>()), (8, 8));
+        assert_eq!([0, 3, Word::MAX >> 2, 3 << LOW_BITS, Word::MAX].map(Block::from_word), [None; 5]);
+        assert_eq!(Block::from_word(1 << LOW_BITS), Block::small(0));
+        assert_eq!(Block::from_word(2 << LOW_BITS), Block::medium(0));
+    }
+
+    /// Every bit below the kind is the granule's, and nothing wraps.
+    #[test]
+    fn a_granule_has_62_bits() {
+        let last = Block::small((1 << 62) - 1).expect("62 bits");
+        assert_eq!((last.kind(), last.granule(), last.page()), (Kind::Small, (1 << 62) - 1, (1 << 50) - 1));
+        assert_eq!((last.byte_offset(), last.range(5)), (u64::MAX, usize::MAX..usize::MAX));
+        let far = Block::medium((1 << 32) + 3).expect("62 bits");
+        assert_eq!((far.byte_offset(), far.page()), ((1 << 36) + 48, 1 << 20));
+        assert_eq!(Block::small(1 << 62), None);
     }
 }

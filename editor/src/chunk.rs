@@ -18,8 +18,8 @@ const PAGE_BITS: u32 = LOW_BITS - COUNT_BITS;
 /// ```
 /// use vigbuso::Chunk;
 ///
-/// let chunk = Chunk::new(3, 7).expect("a count of 12 bits, a page of 18");
-/// assert_eq!((chunk.count(), chunk.page(), chunk.word()), (3, 7, 0xC00C_0007));
+/// let chunk = Chunk::new(3, 7).expect("a count of 12 bits, a page of 50");
+/// assert_eq!((chunk.count(), chunk.page(), chunk.word()), (3, 7, 3 << 62 | 3 << 50 | 7));
 /// ```
 #[derive(Clone, Copy, PartialEq, Eq, PartialOrd, Ord, Hash)]
 #[repr(transparent)]
@@ -46,15 +46,15 @@ impl Chunk {
     ///
     /// ```
     /// # use vigbuso::Chunk;
-    /// assert!(Chunk::new(4_095, 262_143).is_some());
+    /// assert!(Chunk::new(4_095, (1 << 50) - 1).is_some());
     /// assert!(Chunk::new(4_096, 0).is_none());
     /// ```
     #[must_use]
-    pub const fn new(count: u32, page: u32) -> Option<Chunk> {
-        if count > Chunk::MOST_BLOCKS || (page as Word) >> PAGE_BITS != 0 {
+    pub const fn new(count: u32, page: u64) -> Option<Chunk> {
+        if count > Chunk::MOST_BLOCKS || page >> PAGE_BITS != 0 {
             return None;
         }
-        Some(Chunk((CHUNK_KIND << COUNT_BITS | count as Word) << PAGE_BITS | page as Word))
+        Some(Chunk((CHUNK_KIND << COUNT_BITS | count as Word) << PAGE_BITS | page))
     }
 
     /// The chunks of a list of small blocks: one for each page, in the order in which the pages first appear.
@@ -92,9 +92,9 @@ impl Chunk {
         chunks
     }
 
-    /// A chunk of one block.
-    pub(crate) const fn one(page: u32) -> Chunk {
-        Chunk((CHUNK_KIND << COUNT_BITS | 1) << PAGE_BITS | page as Word)
+    /// A chunk of one block. A block's page has as many bits as a chunk's.
+    pub(crate) const fn one(page: u64) -> Chunk {
+        Chunk((CHUNK_KIND << COUNT_BITS | 1) << PAGE_BITS | page)
     }
 
     /// One block more.
@@ -106,7 +106,7 @@ impl Chunk {
     ///
     /// ```
     /// # use vigbuso::Chunk;
-    /// assert_eq!(Chunk::new(1, 0).map(Chunk::word), Some(0xC004_0000));
+    /// assert_eq!(Chunk::new(1, 0).map(Chunk::word), Some(3 << 62 | 1 << 50));
     /// ```
     #[must_use]
     pub const fn word(self) -> Word {
@@ -120,8 +120,9 @@ impl Chunk {
     /// assert_eq!(Chunk::new(5, 9).map(Chunk::count), Some(5));
     /// ```
     #[must_use]
+    #[allow(clippy::cast_possible_truncation)] // 12 bits
     pub const fn count(self) -> u32 {
-        self.0 >> PAGE_BITS & Chunk::MOST_BLOCKS
+        (self.0 >> PAGE_BITS) as u32 & Chunk::MOST_BLOCKS
     }
 
     /// The page.
@@ -131,13 +132,13 @@ impl Chunk {
     /// assert_eq!(Chunk::new(5, 9).map(Chunk::page), Some(9));
     /// ```
     #[must_use]
-    pub const fn page(self) -> u32 {
+    pub const fn page(self) -> u64 {
         self.0 & ((1 << PAGE_BITS) - 1)
     }
 }
 
 /// Where the last chunk of each page stands.
-fn places_of(chunks: &[Chunk]) -> BTreeMap<u32, usize> {
+fn places_of(chunks: &[Chunk]) -> BTreeMap<u64, usize> {
     chunks.iter().enumerate().map(|(place, chunk)| (chunk.page(), place)).collect()
 }
 
@@ -162,7 +163,7 @@ mod tests {
             let list = blocks((0..5 * pages).map(|at| 4_096 * (at * 7 % pages) + 3 + at / pages));
             let chunks = Chunk::of(&list);
             assert_eq!(chunks.iter().map(|chunk| chunk.count() as usize).sum::<usize>(), list.len());
-            let mut firsts: Vec<u32> = Vec::new();
+            let mut firsts: Vec<u64> = Vec::new();
             for page in list.iter().map(|block| block.page()) {
                 if !firsts.contains(&page) {
                     firsts.push(page);

@@ -221,22 +221,21 @@ impl Class {
     /// assert_eq!(class.first_page(Block::medium(5).unwrap()), None);
     /// ```
     #[must_use]
-    pub fn first_page(self, block: Block) -> Option<u32> {
+    pub fn first_page(self, block: Block) -> Option<u64> {
         if block.kind() != self.kind() {
             return None;
         }
-        let granules = u64::from(PAGE_GRANULES);
         let (header, size) = ((self.header() / GRANULE_BYTES) as u64, (self.bytes() / GRANULE_BYTES) as u64);
-        let (granule, capacity) = (u64::from(block.granule()), self.capacity() as u64);
+        let (granule, capacity) = (block.granule(), self.capacity() as u64);
         match self.kind() {
             Kind::Small => {
-                let place = (granule % granules).checked_sub(header)?;
+                let place = (granule % PAGE_GRANULES).checked_sub(header)?;
                 (place % size == 0 && place / size < capacity).then_some(block.page())
             }
             Kind::Medium => {
                 // No two blocks of a span have the same place on their pages, so at most one index fits.
                 let mut firsts = (0..capacity).filter_map(|index| granule.checked_sub(header + index * size));
-                u32::try_from(firsts.find(|first| first % granules == 0)? / granules).ok()
+                Some(firsts.find(|first| first % PAGE_GRANULES == 0)? / PAGE_GRANULES)
             }
         }
     }
@@ -297,12 +296,12 @@ mod tests {
                 granules.extend(taken.iter().map(|block| block.granule()));
             }
             assert_eq!(granules.len(), class.capacity(), "{class}");
-            let all = 0..crate::Word::try_from(class.pages()).expect("few pages") * PAGE_GRANULES;
+            let all = 0..class.pages() as u64 * PAGE_GRANULES;
             let block = |granule| match class.kind() {
                 Kind::Small => Block::small(granule),
                 Kind::Medium => Block::medium(granule),
             };
-            let starts = all.filter(|&granule| class.first_page(block(granule).expect("30 bits")) == Some(0));
+            let starts = all.filter(|&granule| class.first_page(block(granule).expect("62 bits")) == Some(0));
             assert_eq!(starts.collect::<HashSet<_>>(), granules, "{class}");
         }
     }

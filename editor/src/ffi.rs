@@ -4,7 +4,7 @@
 //! # What the caller owes
 //!
 //! 1. A pointer with a length is a slice that may be read, or read and written where the pointer is `*mut`, for that
-//!    many elements during the call. A report's `figures` is five elements, a trace's `done` three.
+//!    many elements during the call. A report's `figures` is six elements, a trace's `done` three.
 //! 2. What is lent to one call does not overlap, and nobody else writes it during the call.
 //! 3. The functions are declared as docs/CALLS.md has them.
 //!

@@ -8,13 +8,14 @@ use crate::{
     ffi, Block, Chunk, Class, Committed, Fate, Host, OpenError, Refusal, ReleaseError, Report, Rules, Run, Taken,
 };
 
-/// The most pages of an arena.
+/// The most pages of an arena. Its book has 17.2 GB, of which only the parts that calls reach take memory: where the system does not
+/// let a program have so much on loan, [lend the book](Heap::on) from a mapping of your own.
 ///
 /// ```
 /// # use vigbuso::{Heap, Refusal, MAX_PAGES};
 /// assert_eq!(Heap::open(MAX_PAGES + 1), Err(Refusal::ArenaLength));
 /// ```
-pub const MAX_PAGES: u64 = 262_144;
+pub const MAX_PAGES: u64 = 1_048_576;
 
 /// What a commit writes as first page for none.
 const NO_PAGE: u32 = u32::MAX;

@@ -159,7 +159,7 @@ impl<B: AsRef<[u32]> + AsMut<[u32]>> Pool<B> {
     fn refill(&mut self, class: Class) -> Result<Block, AllocError> {
         let taken = self.heap.take(class).map_err(AllocError::Refused)?;
         for block in &taken {
-            if let Some(holder) = self.classes.get_mut(block.page() as usize) {
+            if let Some(holder) = self.classes.get_mut(index(block.page())) {
                 *holder = Some(class);
             }
         }
@@ -214,7 +214,7 @@ impl<B: AsRef<[u32]> + AsMut<[u32]>> Pool<B> {
     #[must_use]
     #[inline]
     pub fn class_of(&self, block: Block) -> Option<Class> {
-        let class = self.classes.get(block.page() as usize).copied().flatten();
+        let class = self.classes.get(index(block.page())).copied().flatten();
         class.filter(|class| class.kind() == block.kind())
     }
 
@@ -402,6 +402,13 @@ impl fmt::Display for PoolReport {
     }
 }
 
+/// A page, or a word of granules, as an index.
+#[inline]
+#[allow(clippy::cast_possible_truncation)] // the library links into 64-bit programs only
+const fn index(number: u64) -> usize {
+    number as usize
+}
+
 /// The blocks that a pool has handed out: in debug builds a bit for each granule, otherwise nothing.
 struct Out(Vec<u64>);
 
@@ -420,7 +427,7 @@ impl Out {
         if !cfg!(debug_assertions) {
             return None;
         }
-        Some((self.0.get_mut(granule as usize / 64)?, 1 << (granule % 64)))
+        Some((self.0.get_mut(index(granule / 64))?, 1 << (granule % 64)))
     }
 
     #[inline]
@@ -443,6 +450,6 @@ impl Out {
     #[inline]
     fn has(&self, block: Block) -> bool {
         let granule = block.granule();
-        !cfg!(debug_assertions) || self.0.get(granule as usize / 64).is_some_and(|word| word >> (granule % 64) & 1 == 1)
+        !cfg!(debug_assertions) || self.0.get(index(granule / 64)).is_some_and(|word| word >> (granule % 64) & 1 == 1)
     }
 }

@@ -51,7 +51,7 @@ macro_rules! refusals {
 }
 
 refusals! {
-    1 ArenaLength "the arena length, given at opening or stored as the book's first word, is 0 (an empty book reads so) or above 262,144"
+    1 ArenaLength "the arena length, given at opening or stored as the book's first word, is 0 (an empty book reads so) or above 1,048,576"
     2 BookTooShort "the book is too short"
     3 HostWord "the host word exceeds 15"
     4 Class "the class is 64 or more, medium 12 or more"

@@ -25,7 +25,7 @@ pub const BATCH: usize = 64;
 /// use vigbuso::{Class, Heap};
 ///
 /// let taken = Heap::open(64)?.take(Class::for_size(16_384).unwrap())?;
-/// let granules: Vec<u32> = taken.iter().map(|block| block.granule()).collect();
+/// let granules: Vec<u64> = taken.iter().map(|block| block.granule()).collect();
 /// assert_eq!(granules, [2051, 1027, 3]);
 /// assert!(taken.is_virgin());
 /// # Ok::<(), vigbuso::Refusal>(())

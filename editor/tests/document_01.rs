@@ -12,11 +12,11 @@ fn class(number: u32) -> Class {
     Class::small(number).expect("0 to 63")
 }
 
-fn small(granules: &[u32]) -> Vec<Block> {
-    granules.iter().map(|&granule| Block::small(granule).expect("30 bits")).collect()
+fn small(granules: &[u64]) -> Vec<Block> {
+    granules.iter().map(|&granule| Block::small(granule).expect("62 bits")).collect()
 }
 
-fn granules(taken: &Taken) -> Vec<u32> {
+fn granules(taken: &Taken) -> Vec<u64> {
     taken.iter().map(|block| block.granule()).collect()
 }
 
@@ -42,7 +42,8 @@ fn p6_and_p7_a_take_a_release_and_a_take() {
     let taken = heap.take(class(0)).expect("class 0");
     assert_eq!(granules(&taken), (3..=66).rev().collect::<Vec<_>>());
     assert!(taken.is_virgin());
-    assert_eq!(taken[0].word(), 1_073_741_890);
+    // As document 02 restates it (A.11).
+    assert_eq!(taken[0].word(), 4_611_686_018_427_387_970);
 
     heap.release(class(0), &small(&[10])).expect("granule 10 is out");
     let taken = heap.take(class(0)).expect("class 0");

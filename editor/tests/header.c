@@ -67,6 +67,8 @@ static void texts(void) {
 
 static void opening(void) {
     IS(vigbuso_open(book, words, 0, NULL, 0), VIGBUSO_ARENA_LENGTH);
+    IS(vigbuso_open(book, words, VIGBUSO_MAX_PAGES + 1, NULL, 0), VIGBUSO_ARENA_LENGTH);
+    IS(vigbuso_open(book, words, VIGBUSO_MAX_PAGES, NULL, 0), VIGBUSO_BOOK_TOO_SHORT);
     IS(vigbuso_open(book, words - 1, PAGES, NULL, 0), VIGBUSO_BOOK_TOO_SHORT);
     IS(vigbuso_contains(book, words, 0, 1), 0);
     IS(vigbuso_open(book, words, PAGES, NULL, 0), 0);
@@ -75,7 +77,8 @@ static void opening(void) {
 /* Class 45 parks nothing, the other small classes as much as can be, the medium ones a little. */
 static void rules(void) {
     const uint32_t rows[4 * VIGBUSO_ROW] = {46, 63, VIGBUSO_LIMIT, VIGBUSO_LIMIT, 64, 75, 1, 0, 45, 45, 0, 0, 0, 44, 256, 256};
-    uint32_t list[VIGBUSO_BATCH], count = 0, virgin = 0, fate = 7;
+    uint64_t list[VIGBUSO_BATCH];
+    uint32_t count = 0, virgin = 0, fate = 7;
     IS(vigbuso_open(book, words, PAGES, rows, 15), VIGBUSO_ROWS);
     IS(vigbuso_open(book, words, PAGES, rows + 1, 12), VIGBUSO_ROWS);
     IS(vigbuso_open(book, words, PAGES, rows, 12), VIGBUSO_NO_ROW);
@@ -89,13 +92,14 @@ static void rules(void) {
 }
 
 static void small_blocks(void) {
-    uint32_t list[VIGBUSO_BATCH], count = 7, virgin = 7, fate = 7;
+    uint64_t list[VIGBUSO_BATCH];
+    uint32_t count = 7, virgin = 7, fate = 7;
     IS(vigbuso_take_blocks(book, words, 0, HOST, list, VIGBUSO_BATCH - 1, &count, &virgin), VIGBUSO_LIST_TOO_SHORT);
     IS(count, 7);
     IS(vigbuso_take_blocks(book, words, 0, HOST, list, VIGBUSO_BATCH, &count, &virgin), 0);
     IS(count, 64);
     IS(virgin, 1);
-    IS(list[0], 1073741890u);
+    IS(list[0], 4611686018427387970u);
     IS(VIGBUSO_KIND(list[0]), VIGBUSO_SMALL);
     IS(VIGBUSO_BYTE_OFFSET(list[0]), 66 * 16);
     IS(VIGBUSO_PAGE(list[0]), 0);
@@ -105,13 +109,18 @@ static void small_blocks(void) {
     IS(vigbuso_release_blocks(book, words, 0, HOST, list, 3, &fate), 0);
     IS(fate, VIGBUSO_KEPT);
     IS(vigbuso_release_blocks(book, words, 0, HOST, list, 3, &fate), VIGBUSO_NOT_OUT);
+    /* A granule beyond the arena: no bit of it is cut. */
+    list[0] = list[4] + ((uint64_t)1 << 32);
+    IS(VIGBUSO_PAGE(list[0]), (uint64_t)1 << 20);
+    IS(vigbuso_release_blocks(book, words, 0, HOST, list, 1, &fate), VIGBUSO_NOT_OUT);
     list[0] = list[4];
     IS(vigbuso_release_blocks(book, words, 0, HOST, list, 5, &fate), VIGBUSO_REPEATED);
     IS(vigbuso_release_blocks(book, words, VIGBUSO_SMALL_CLASSES, HOST, list, 3, &fate), VIGBUSO_CLASS);
 }
 
 static void medium_blocks(void) {
-    uint32_t list[VIGBUSO_BATCH], count = 0, virgin = 0, fate = 7;
+    uint64_t list[VIGBUSO_BATCH];
+    uint32_t count = 0, virgin = 0, fate = 7;
     IS(vigbuso_medium_take_blocks(book, words, 0, HOST, list, VIGBUSO_BATCH, &count, &virgin), 0);
     IS(count, 10);
     IS(VIGBUSO_KIND(list[0]), VIGBUSO_MEDIUM);
@@ -145,9 +154,13 @@ static void report(void) {
 }
 
 static void chunks(void) {
-    uint32_t list[VIGBUSO_BATCH], count = 0, virgin = 0, fates[2] = {7, 7}, chunk;
+    uint64_t list[VIGBUSO_BATCH], chunk;
+    uint32_t count = 0, virgin = 0, fates[2] = {7, 7};
     IS(vigbuso_take_blocks(book, words, 45, HOST, list, VIGBUSO_BATCH, &count, &virgin), 0);
     IS(count, 3);
+    chunk = VIGBUSO_CHUNK_WORD(count, VIGBUSO_PAGE(list[0]) + 262144);
+    IS(VIGBUSO_KIND(chunk), VIGBUSO_CHUNK);
+    IS(vigbuso_release_bin_chunks(book, words, 45, HOST, list, count, &chunk, 1, fates, 2), VIGBUSO_OTHER_PAGE);
     chunk = VIGBUSO_CHUNK_WORD(count, VIGBUSO_PAGE(list[0]));
     IS(vigbuso_release_bin_chunks(book, words, 45, HOST, list, count, &chunk, 1, fates, 0), VIGBUSO_CHUNKS);
     IS(vigbuso_release_bin_chunks(book, words, 45, HOST, list, count, &chunk, 1, fates, 2), 0);
@@ -158,7 +171,7 @@ static void chunks(void) {
 /* A take, a release and a report; then a place that is not out. On a book of its own: a trace opens it. */
 static void trace(void) {
     const uint32_t says[4] = {VIGBUSO_TRACE_TAKE(45), VIGBUSO_TRACE_RELEASE(1), VIGBUSO_TRACE_REPORT, VIGBUSO_TRACE_RELEASE(1)};
-    uint32_t blocks[4] = {7, 7, 7, 7};
+    uint64_t blocks[4] = {7, 7, 7, 7};
     uint64_t figures[6] = {7, 7, 7, 7, 7, 7}, done[3] = {7, 7, 7};
     IS(vigbuso_trace(book, words, 0, says, 4, blocks, 4, figures, 6, done), VIGBUSO_ARENA_LENGTH);
     IS(vigbuso_trace(book, words, PAGES + 1, says, 4, blocks, 4, figures, 6, done), VIGBUSO_BOOK_TOO_SHORT);

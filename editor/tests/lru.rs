@@ -14,10 +14,10 @@ fn it_keeps_the_latest_used() {
         u32::try_from(random >> 33).expect("31 bits") % limit
     };
     let mut lru = Lru::open(512, 200).expect("512 pages");
-    let mut plain: Vec<(u32, Vec<u8>)> = Vec::new(); // the latest used last
+    let mut plain: Vec<(u64, Vec<u8>)> = Vec::new(); // the latest used last
     let mut gone = 0;
     for turn in 0..20_000_u32 {
-        let key = below(400);
+        let key = u64::from(below(400));
         let place = plain.iter().position(|(other, _)| *other == key);
         match below(10) {
             0..=5 => {

@@ -59,8 +59,9 @@ fn too_large_and_full() {
 fn foreign_blocks_are_refused() {
     let mut pool = Pool::open(64).expect("64 pages");
     let block = pool.alloc(100).expect("there is room");
-    let other_kind = Block::medium(block.granule()).expect("30 bits");
-    for foreign in [Block::small(4_096 + 3), Block::small((1 << 30) - 1), Some(other_kind)].into_iter().flatten() {
+    let other_kind = Block::medium(block.granule()).expect("62 bits");
+    let granules = [4_096 + 3, (1 << 32) + block.granule(), (1 << 62) - 1];
+    for foreign in granules.into_iter().filter_map(Block::small).chain([other_kind]) {
         let error = pool.free(foreign).expect_err("it is not the pool's");
         assert_eq!((error.refusal(), error.block()), (Refusal::NotOut, Some((0, foreign))));
     }
@@ -72,7 +73,7 @@ fn foreign_blocks_are_refused() {
 fn stale_blocks_are_refused_at_once() {
     let mut pool = Pool::open(64).expect("64 pages");
     let [one, two] = [100, 100].map(|bytes| pool.alloc(bytes).expect("there is room"));
-    let between = Block::small(one.granule() + 1).expect("30 bits");
+    let between = Block::small(one.granule() + 1).expect("62 bits");
     assert!(pool.free(between).is_err(), "no block starts there");
     pool.free(one).expect("it is out");
     assert_eq!(pool.free(one).map_err(|error| error.block()), Err(Some((0, one))));

@@ -22,8 +22,8 @@ fn medium(number: u32) -> Class {
     Class::medium(number).expect("0 to 11")
 }
 
-fn chunk(count: u32, page: u32) -> Chunk {
-    Chunk::new(count, page).expect("12 bits and 18")
+fn chunk(count: u32, page: u64) -> Chunk {
+    Chunk::new(count, page).expect("12 bits and 50")
 }
 
 fn scene() -> Scene {
@@ -77,6 +77,13 @@ fn lists() {
     blames(Refusal::WrongKind, 2, |s| s.heap.release(small(0), &[s.blocks[0], s.others[0], s.span[0], s.span[1]]));
     blames(Refusal::NotOut, 0, |s| s.heap.release(small(0), &s.others));
     blames(Refusal::NotOut, 0, |s| s.heap.release(small(0), &[Block::small(1 << 29).unwrap()]));
+    // No bit of a granule is cut.
+    for beyond in [1 << 30, 1 << 32, 1 << 61] {
+        blames(Refusal::NotOut, 1, |s| {
+            let foreign = Block::small(s.blocks[0].granule() + beyond).expect("62 bits");
+            s.heap.release(small(0), &[s.blocks[1], foreign])
+        });
+    }
 }
 
 #[test]
@@ -132,7 +139,7 @@ fn a_block_that_stands_twice_and_one_that_is_not_out() {
             s.heap.release_chunks(small(0), &list, &Chunk::of(&list))
         });
         blames(Refusal::Repeated, place, |s| {
-            let foreign = Block::medium(s.span[0].granule() + 1).expect("30 bits");
+            let foreign = Block::medium(s.span[0].granule() + 1).expect("62 bits");
             s.heap.release(medium(0), &order.map(|which| [s.span[0], foreign][which]))
         });
     }
@@ -182,6 +189,9 @@ fn chunks() {
     let zero = |s: &mut Scene| s.heap.release_chunks(small(0), &s.blocks, &[chunk(64, 0), chunk(0, 1)]);
     assert_eq!(refuses(Refusal::OtherPage, zero).block(), None);
     blames(Refusal::OtherPage, 0, |s| s.heap.release_chunks(small(0), &s.blocks, &[chunk(32, 0), chunk(32, 0)]));
+    for beyond in [64, 1 << 18, 1 << 32, (1 << 50) - 1] {
+        blames(Refusal::OtherPage, 0, |s| s.heap.release_chunks(small(0), &s.blocks, &[chunk(64, beyond)]));
+    }
 }
 
 /// A list of many runs: what stands before the refused block may be back, and the error tells how much.

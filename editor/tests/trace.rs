@@ -7,7 +7,7 @@ const WRONG: u32 = 3 << 30;
 
 /// Stands in a list where nothing was written.
 fn filler() -> Block {
-    Block::small(0).expect("a granule of 30 bits")
+    Block::small(0).expect("a granule of 62 bits")
 }
 
 const UNTOLD: Figures = Figures { out: 7, bytes: 7, held: 7, idle: 7, highest: 7 };

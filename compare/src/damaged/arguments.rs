@@ -5,7 +5,10 @@ use std::collections::{BTreeMap, VecDeque};
 use crate::call::{Answer, Call, Kind, Lent};
 use crate::oracle;
 use crate::random::Random;
-use crate::words::{block_word, chunk_word, page_of, Family, HOST_ALL, HOST_COMMIT, MAX_CHUNKS, PAGE_BYTES, RUN_LIMIT};
+use crate::words::{
+    block_word, chunk_word, page_of, Family, Word, CHUNK_PAGE_BITS, HOST_ALL, HOST_COMMIT, MAX_CHUNKS, MAX_PAGES,
+    PAGE_BYTES, PAGE_GRANULES, RUN_LIMIT,
+};
 
 /// Words and runs that are kept to make arguments of.
 const KEPT: usize = 600;
@@ -15,7 +18,7 @@ pub struct Pool {
     kinds: &'static [Kind],
     classes: Vec<(Family, u32)>,
     /// Blocks that were taken, with their class.
-    words: VecDeque<(Family, u32, u32)>,
+    words: VecDeque<(Family, u32, Word)>,
     runs: VecDeque<(u64, u64)>,
 }
 
@@ -89,9 +92,10 @@ impl Pool {
     }
 
     fn length(&self, random: &mut Random) -> u64 {
+        let most = u64::from(MAX_PAGES);
         match random.below(12) {
             0 => random.word() >> random.below(64),
-            1 => random.pick(&[0, RUN_LIMIT - 1, RUN_LIMIT, u64::MAX, 1 << 32, 262_144, 262_145]),
+            1 => random.pick(&[0, RUN_LIMIT - 1, RUN_LIMIT, u64::MAX, 1 << 32, most, most + 1]),
             2 => u64::from(self.pages) + random.below(2),
             _ => random.between(1, 3),
         }
@@ -109,15 +113,16 @@ impl Pool {
     }
 
     /// Blocks that were taken: of one page, or of any if they may be mixed; now and then with a wrong one among them.
-    fn blocks(&self, random: &mut Random, family: Family, class: u32, one_page: bool) -> Vec<u32> {
+    fn blocks(&self, random: &mut Random, family: Family, class: u32, one_page: bool) -> Vec<Word> {
         let any = random.chance(1, 20);
-        let of_class = |&&(of, number, _): &&(Family, u32, u32)| any || (of == family && number == class);
-        let known: Vec<u32> = self.words.iter().filter(of_class).map(|&(_, _, word)| word).collect();
+        let of_class = |&&(of, number, _): &&(Family, u32, Word)| any || (of == family && number == class);
+        let known: Vec<Word> = self.words.iter().filter(of_class).map(|&(_, _, word)| word).collect();
         let mut list = match known.is_empty() {
             true => Vec::new(),
             false => {
                 let page = page_of(random.pick(&known));
-                let mut list: Vec<u32> = known.into_iter().filter(|&word| !one_page || page_of(word) == page).collect();
+                let mut list: Vec<Word> =
+                    known.into_iter().filter(|&word| !one_page || page_of(word) == page).collect();
                 random.shuffle(&mut list);
                 if random.chance(1, 2) {
                     list.truncate(random.between(1, list.len() as u64) as usize);
@@ -127,10 +132,10 @@ impl Pool {
         };
         for _ in 0..random.weighted(&[(10, 0), (1, 1), (1, 2)]) {
             let wrong = match random.below(4) {
-                0 => random.word() as u32,
-                1 => block_word(family, random.below(u64::from(self.pages) * 4_096) as u32),
+                0 => random.word(),
+                1 => block_word(family, random.below(u64::from(self.pages) * PAGE_GRANULES)),
                 2 => list.first().copied().unwrap_or(0),
-                _ => list.last().copied().unwrap_or(0) ^ (1 << random.below(32)),
+                _ => list.last().copied().unwrap_or(0) ^ (1 << random.below(64)),
             };
             list.push(wrong);
         }
@@ -139,21 +144,20 @@ impl Pool {
 
     fn chunks(&self, random: &mut Random, class: u32, host: u32) -> Call {
         let list = self.blocks(random, Family::Small, class, false);
-        let mut counts: BTreeMap<u32, u32> = BTreeMap::new();
+        let mut counts: BTreeMap<u64, u32> = BTreeMap::new();
         list.iter().for_each(|&word| *counts.entry(page_of(word)).or_default() += 1);
-        let mut chunks: Vec<u32> =
-            counts.into_iter().map(|(page, count)| chunk_word(count & 0xFFF, page & 0x3_FFFF)).collect();
+        let mut chunks: Vec<Word> = counts.into_iter().map(|(page, count)| chunk_word(count & 0xFFF, page)).collect();
         random.shuffle(&mut chunks);
         match random.below(20) {
-            0 => chunks.push(random.word() as u32),
-            1 => chunks.iter_mut().for_each(|chunk| *chunk ^= 1 << random.below(32)),
+            0 => chunks.push(random.word()),
+            1 => chunks.iter_mut().for_each(|chunk| *chunk ^= 1 << random.below(64)),
             2 => chunks.extend(chunks.clone()),
             3 => chunks.resize(MAX_CHUNKS + random.index(3), chunk_word(1, 0)),
             4 => chunks.truncate(chunks.len() / 2),
             5 if chunks.len() > 1 => {
                 // Two counts that are wrong, though they add up.
-                chunks[0] = chunks[0].wrapping_add(1 << 18);
-                chunks[1] = chunks[1].wrapping_sub(1 << 18);
+                chunks[0] = chunks[0].wrapping_add(1 << CHUNK_PAGE_BITS);
+                chunks[1] = chunks[1].wrapping_sub(1 << CHUNK_PAGE_BITS);
             }
             _ => {}
         }
@@ -172,8 +176,8 @@ fn host(random: &mut Random) -> u32 {
     }
 }
 
-fn list(random: &mut Random, family: Family, class: u32) -> Lent {
+fn list(random: &mut Random, family: Family, class: u32) -> Lent<Word> {
     let batch = if class < family.classes() { oracle::batch(family, class) } else { 64 };
     let len = if random.chance(1, 20) { random.index(batch + 1) } else { batch + random.index(2) };
-    Lent { len, fill: random.word() as u32 }
+    Lent { len, fill: random.word() }
 }

@@ -8,7 +8,7 @@ use crate::port::{self, Room};
 
 /// A book and the lists' room, all against unmapped pages on the same side.
 struct Side {
-    book: Fenced,
+    book: Fenced<u32>,
     room: Room,
 }
 
@@ -52,7 +52,7 @@ impl Twins {
 
     pub fn open(&mut self, pages: u64, rows: &[u32], due: u32) -> Result<(), String> {
         let numbers = [&mut self.front, &mut self.back].map(|side| {
-            let lent = side.room.lend(rows);
+            let lent = side.room.lend_rows(rows);
             port::open_with(side.book.words_mut(), pages, lent)
         });
         if numbers != [due, due] {

@@ -5,6 +5,7 @@ use std::collections::HashSet;
 
 use super::book::Twins;
 use crate::random::Random;
+use crate::words::MAX_PAGES;
 
 #[derive(Default)]
 pub struct Damage {
@@ -77,7 +78,7 @@ impl Damage {
 
     /// A limit of document 01, a neighbour of the old word, another word of the book, or anything.
     fn content(&self, random: &mut Random, twins: &Twins, at: usize) -> u32 {
-        const LIMITS: [u32; 14] = [0, 1, 2, 3, 16, 64, 76, 128, 256, 4_093, 4_096, 65_536, 262_144, 1 << 31];
+        const LIMITS: [u32; 14] = [0, 1, 2, 3, 16, 64, 76, 128, 256, 4_093, 4_096, 65_536, MAX_PAGES, 1 << 31];
         let old = twins.words()[at];
         match random.below(8) {
             0 => random.pick(&LIMITS),

@@ -1,5 +1,7 @@
 //! A history as an equation of the model: the answers that it computes are the original's.
 
+use std::fmt::Display;
+
 use super::names;
 use crate::call::{Answer, Call, Lent};
 use crate::history::History;
@@ -95,17 +97,17 @@ pub fn list_of(terms: &[String], between: &str) -> String {
     text
 }
 
-fn words(list: &[u32]) -> String {
-    let terms: Vec<String> = list.iter().map(u32::to_string).collect();
+fn words<T: Display>(list: &[T]) -> String {
+    let terms: Vec<String> = list.iter().map(T::to_string).collect();
     format!("({})", list_of(&terms, " "))
 }
 
-fn lent_list(lent: &Lent) -> String {
+fn lent_list<T: Display>(lent: &Lent<T>) -> String {
     format!("(replicate {} {})", lent.len, lent.fill)
 }
 
 /// A lent list after the call: what was written, then what it held.
-fn written(list: &[u32], lent: &Lent) -> String {
+fn written<T: Display>(list: &[T], lent: &Lent<T>) -> String {
     format!("({} ++ replicate {} {})", words(list), lent.len - list.len(), lent.fill)
 }
 

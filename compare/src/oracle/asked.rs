@@ -3,6 +3,7 @@
 
 use super::original::{arena, classes, heap};
 use super::{block_address, Chain, Chunks};
+use crate::words::Word;
 
 #[inline(never)]
 pub fn class_for_size(size: u64) -> u32 {
@@ -65,7 +66,7 @@ pub fn stats() -> (u64, u64, u64) {
 /// What a caller of the original does before a release: links the blocks, which are out, in the list's order, and knows the first
 /// and the last.
 #[inline(never)]
-pub unsafe fn link(list: &[u32]) -> (*mut u8, *mut u8) {
+pub unsafe fn link(list: &[Word]) -> (*mut u8, *mut u8) {
     let mut next = std::ptr::null_mut();
     for &word in list.iter().rev() {
         let block = block_address(word);

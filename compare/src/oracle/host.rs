@@ -28,12 +28,19 @@ fn grants(bit: u32) -> bool {
     HOST.load(Ordering::Relaxed) & bit != 0
 }
 
+/// Pages of the longest arena that there will be.
+static LONGEST: AtomicU32 = AtomicU32::new(MAX_PAGES);
+
+pub(crate) fn shorten(pages: u32) {
+    LONGEST.store(pages, Ordering::Relaxed);
+}
+
 /// First byte of the address space that stands for every arena.
 pub(crate) fn region() -> usize {
     static REGION: OnceLock<usize> = OnceLock::new();
     *REGION.get_or_init(|| {
         // One page more than the longest arena, as the original asks for, and one to align it.
-        let raw = memory::reserve((MAX_PAGES as usize + 2) * PAGE_BYTES);
+        let raw = memory::reserve((LONGEST.load(Ordering::Relaxed) as usize + 2) * PAGE_BYTES);
         raw.next_multiple_of(PAGE_BYTES)
     })
 }

@@ -17,12 +17,19 @@ mod original {
 
 use std::sync::atomic::{AtomicBool, Ordering};
 
-use crate::words::{block_word, chunk_count, chunk_page, granule_of, Family, GRANULE_BYTES, PAGE_BYTES, SMALL_BATCH};
+use crate::words::{
+    block_word, chunk_count, chunk_page, granule_of, Family, Word, GRANULE_BYTES, PAGE_BYTES, SMALL_BATCH,
+};
 use original::{arena, classes, heap, page};
 use rules::Rules;
 
 // Document 01: debug assertions off.
 const _: () = assert!(!cfg!(debug_assertions));
+
+/// No arena will be longer than this: for a process that has less address space. To be said before the first heap.
+pub fn shorten(pages: u32) {
+    host::shorten(pages);
+}
 
 /// Bytes of a block.
 pub fn block_bytes(family: Family, class: u32) -> usize {
@@ -113,7 +120,7 @@ impl Original {
     }
 
     /// The words of the blocks, latest popped first, and virgin.
-    pub fn take_blocks(&mut self, family: Family, class: u32, host: u32) -> (Vec<u32>, bool) {
+    pub fn take_blocks(&mut self, family: Family, class: u32, host: u32) -> (Vec<Word>, bool) {
         let (chain, count, virgin) = self.take_chain(family, class, host);
         self.touched = self.touched.max(self.frontier() as usize);
         (words_of_chain(family, chain, count), virgin)
@@ -133,12 +140,12 @@ impl Original {
     }
 
     /// The first page of the page or span that a block out belongs to.
-    pub fn run_of(&self, family: Family, word: u32) -> u32 {
+    pub fn run_of(&self, family: Family, word: Word) -> u32 {
         page_number(run_address(family, word))
     }
 
     /// The fate of the page or span that the blocks, all out of it, go back to.
-    pub fn release_blocks(&mut self, family: Family, class: u32, host: u32, list: &[u32]) -> u32 {
+    pub fn release_blocks(&mut self, family: Family, class: u32, host: u32, list: &[Word]) -> u32 {
         self.release_chain(family, class, host, &chain(family, list));
         let fates = fates::take();
         assert!(fates.len() == 1, "one release has one fate, not {fates:?}");
@@ -159,7 +166,7 @@ impl Original {
     }
 
     /// The fates of the groups, in their order; 4 more for a page that was retired.
-    pub fn release_bin_chunks(&mut self, class: u32, host: u32, list: &[u32], chunks: &[u32]) -> Vec<u32> {
+    pub fn release_bin_chunks(&mut self, class: u32, host: u32, list: &[Word], chunks: &[Word]) -> Vec<u32> {
         let mut made = make_chunks(list, chunks);
         self.release_chunks(class, host, &mut made);
         let fates = fates::take();
@@ -249,12 +256,12 @@ fn page_number(address: *mut u8) -> u32 {
     ((address as usize - host::region()) / PAGE_BYTES) as u32
 }
 
-fn block_address(word: u32) -> *mut u8 {
+fn block_address(word: Word) -> *mut u8 {
     address(granule_of(word) as usize * GRANULE_BYTES)
 }
 
 /// Where the header of the block's page or span stands, as the original finds it.
-fn run_address(family: Family, word: u32) -> *mut u8 {
+fn run_address(family: Family, word: Word) -> *mut u8 {
     // SAFETY: the block is out, so its page or span is there.
     unsafe {
         match family {
@@ -265,17 +272,17 @@ fn run_address(family: Family, word: u32) -> *mut u8 {
 }
 
 /// Links the blocks of a release list, all out of one page or span.
-pub fn chain(family: Family, list: &[u32]) -> Chain {
+pub fn chain(family: Family, list: &[Word]) -> Chain {
     // SAFETY: the blocks are out.
     let (head, tail) = unsafe { asked::link(list) };
     Chain { run: run_address(family, list[0]), head, tail, count: list.len() }
 }
 
 /// Links the blocks of a group release, and makes a chunk of each group.
-pub fn make_chunks(list: &[u32], chunks: &[u32]) -> Chunks {
+pub fn make_chunks(list: &[Word], chunks: &[Word]) -> Chunks {
     // SAFETY: the blocks are out.
     let (head, _) = unsafe { asked::link(list) };
-    let made = |&chunk: &u32| heap::PageReleaseChunk {
+    let made = |&chunk: &Word| heap::PageReleaseChunk {
         page: address(chunk_page(chunk) as usize * PAGE_BYTES).cast(),
         head: std::ptr::null_mut(),
         tail: std::ptr::null_mut(),
@@ -284,14 +291,14 @@ pub fn make_chunks(list: &[u32], chunks: &[u32]) -> Chunks {
     Chunks { head, len: list.len() as u32, chunks: chunks.iter().map(made).collect() }
 }
 
-pub fn words_of_chain(family: Family, chain: *mut u8, count: u32) -> Vec<u32> {
+pub fn words_of_chain(family: Family, chain: *mut u8, count: u32) -> Vec<Word> {
     let mut block = chain;
     (0..count)
         .map(|_| {
             let granule = (block as usize - host::region()) / GRANULE_BYTES;
             // SAFETY: a block of the chain that the original handed out; its first word links the next.
             block = unsafe { block.cast::<*mut u8>().read() };
-            block_word(family, granule as u32)
+            block_word(family, granule as u64)
         })
         .collect()
 }

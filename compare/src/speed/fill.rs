@@ -11,7 +11,7 @@ use super::scenarios::measure_takes;
 use super::sides::{Class, PortSide, Side, HOST, PAGES};
 use crate::call::{Call, Lent};
 use crate::random::Random;
-use crate::words::{chunk_word, page_of, Family, SMALL_BATCH};
+use crate::words::{chunk_word, page_of, Family, Word, SMALL_BATCH};
 
 /// Takes and releases of a search.
 const TURNS: usize = 600;
@@ -29,15 +29,15 @@ pub fn row() -> String {
 /// A call of the search with its lists.
 enum Turn {
     Take(Class),
-    Release(Class, Vec<u32>),
-    Chunks(Class, Vec<u32>, Vec<u32>),
+    Release(Class, Vec<Word>),
+    Chunks(Class, Vec<Word>, Vec<Word>),
     Commit,
     Give(u32),
 }
 
 /// The calls of a search on a newly opened port, as they are made in turn.
 pub fn calls() -> Vec<Call> {
-    let mut side = PortSide::open();
+    let mut side = PortSide::open(PAGES);
     side.reopen(PAGES);
     rehearse(&mut side, &Meter::calibrated_clock()).0.into_iter().map(as_call).collect()
 }
@@ -66,7 +66,7 @@ pub fn round<S: Side>(side: &mut S, meter: &Meter) -> Round {
     let ((), cost) = meter.measure(number, || turns.iter().for_each(|turn| take_turn(side, turn, &mut taken)));
     let mut told = answers;
     told.extend(CLASSES.iter().map(|&class| measure_takes(side, meter, small(class), 1).0.concat().len() as u32));
-    Round { costs: vec![cost], answers: told }
+    Round::new(vec![cost], told)
 }
 
 fn small(class: u32) -> Class {
@@ -90,7 +90,7 @@ fn take_turn<S: Side>(side: &mut S, turn: &Turn, taken: &mut S::Taken) {
 fn rehearse<S: Side>(side: &mut S, meter: &Meter) -> (Vec<Turn>, Vec<u32>) {
     let mut random = Random::new(1);
     let (mut turns, mut answers) = (Vec::new(), Vec::new());
-    let (mut path, mut runs): (Vec<(Class, Vec<u32>)>, Vec<u32>) = (Vec::new(), Vec::new());
+    let (mut path, mut runs): (Vec<(Class, Vec<Word>)>, Vec<u32>) = (Vec::new(), Vec::new());
     while turns.len() < TURNS {
         if random.chance(1, RUNS) {
             turns.push(run_turn(side, &mut runs));
@@ -123,8 +123,8 @@ fn run_turn<S: Side>(side: &mut S, runs: &mut Vec<u32>) -> Turn {
 }
 
 /// Blocks of one page go back by list, those of several by groups.
-fn back(class: Class, words: Vec<u32>) -> Turn {
-    let mut chunks: Vec<(u32, u32)> = Vec::new();
+fn back(class: Class, words: Vec<Word>) -> Turn {
+    let mut chunks: Vec<(u64, u32)> = Vec::new();
     for &word in &words {
         match chunks.iter_mut().find(|(page, _)| *page == page_of(word)) {
             Some((_, count)) => *count += 1,

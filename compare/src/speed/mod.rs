@@ -23,6 +23,11 @@ use self::scenarios::Scenario;
 use self::sides::{OriginalSide, PortSide};
 use self::table::{Counts, Times};
 use crate::arguments::Arguments;
+use crate::oracle;
+use crate::words::MAX_PAGES;
+
+/// Valgrind has less address space to give than the longest arena and its book take.
+const LONGEST_COUNTED: u32 = 262_144;
 
 pub fn time(words: &[String]) -> Result<bool, String> {
     let arguments = Arguments::read(words, &["file", "seconds"])?;
@@ -30,7 +35,7 @@ pub fn time(words: &[String]) -> Result<bool, String> {
     let budget = Duration::try_from_secs_f64(seconds).map_err(|error| format!("--seconds {seconds}: {error}"))?;
     let clock = Meter::calibrated_clock();
     let mut times = Times::new(&clock);
-    let same = for_each(|scenario, original, port| {
+    let same = for_each(MAX_PAGES, |scenario, original, port| {
         times.add(scenario, rounds::measure(scenario, original, port, budget, &clock)?);
         Ok(())
     });
@@ -49,17 +54,21 @@ pub fn count(words: &[String]) -> Result<bool, String> {
     let Some(dumps) = arguments.text("worker") else { return counter::watch("count", words) };
     let counter = Meter::Counter(Counter::new(dumps));
     let mut counts = Counts::default();
-    let same = for_each(|scenario, original, port| {
+    oracle::shorten(LONGEST_COUNTED);
+    let same = for_each(LONGEST_COUNTED, |scenario, original, port| {
         counts.add(scenario, rounds::on_both(scenario, original, port, &counter, 0)?);
         Ok(())
     });
     Ok(same && told(&counts.markdown(), &arguments)?)
 }
 
-/// Whether both sides answer the same in every scenario.
-fn for_each(mut measure: impl FnMut(&Scenario, &mut OriginalSide, &mut PortSide) -> Result<(), String>) -> bool {
-    let (mut original, mut port) = (OriginalSide::open(), PortSide::open());
-    for scenario in &scenarios::all() {
+/// Whether both sides answer the same in every scenario with an arena of up to so many pages.
+fn for_each(
+    longest: u32,
+    mut measure: impl FnMut(&Scenario, &mut OriginalSide, &mut PortSide) -> Result<(), String>,
+) -> bool {
+    let (mut original, mut port) = (OriginalSide::open(longest), PortSide::open(longest));
+    for scenario in scenarios::all().iter().filter(|scenario| scenario.pages() <= longest) {
         if let Err(difference) = measure(scenario, &mut original, &mut port) {
             println!("{}: {difference}", scenario.rows()[0].call);
             return false;

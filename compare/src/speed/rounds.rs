@@ -10,7 +10,13 @@ use super::sides::Side;
 #[derive(Default)]
 pub struct Round {
     pub costs: Vec<f64>,
-    pub answers: Vec<u32>,
+    pub answers: Vec<u64>,
+}
+
+impl Round {
+    pub fn new<T: Into<u64>>(costs: Vec<f64>, answers: Vec<T>) -> Round {
+        Round { costs, answers: answers.into_iter().map(T::into).collect() }
+    }
 }
 
 #[derive(Clone, Copy)]
@@ -92,7 +98,7 @@ pub fn on_both(
     Ok((of_original.costs, of_port.costs))
 }
 
-fn difference(original: &[u32], port: &[u32]) -> String {
+fn difference(original: &[u64], port: &[u64]) -> String {
     match original.iter().zip(port).position(|(one, other)| one != other) {
         Some(at) => format!("answer {at}: the original's is {}, the port's {}", original[at], port[at]),
         None => format!("the original has {} answers, the port {}", original.len(), port.len()),

@@ -8,7 +8,7 @@ use super::rounds::Round;
 use super::sides::{Class, Side, PAGES};
 use crate::oracle;
 use crate::random::Random;
-use crate::words::{chunk_word, page_of, Family, NO_PAGE};
+use crate::words::{chunk_word, page_of, Family, Word, MAX_PAGES, NO_PAGE};
 
 #[derive(Clone, Copy)]
 pub enum Scenario {
@@ -52,7 +52,7 @@ pub enum Order {
 }
 
 impl Order {
-    fn arrange(self, words: &mut [u32], seed: usize) {
+    fn arrange(self, words: &mut [Word], seed: usize) {
         match self {
             Order::Taken => {}
             Order::Descending => words.sort_by_key(|&word| Reverse(word)),
@@ -79,7 +79,7 @@ const HOLES: [u32; 5] = [0, 10, 100, 1_000, 4_000];
 /// Blocks of a release, to see how its cost grows with them.
 const LISTS: [u32; 5] = [8, 32, 128, 512, 2_048];
 /// Lengths of the arena, to see that a take's cost does not grow with them.
-const ARENAS: [u32; 4] = [64, 1_024, 8_192, 65_536];
+const ARENAS: [u32; 5] = [64, 1_024, 8_192, 65_536, MAX_PAGES];
 
 pub fn all() -> Vec<Scenario> {
     let small = |class| Class(Family::Small, class);
@@ -158,8 +158,17 @@ impl Scenario {
         }
     }
 
+    /// The arena's length.
+    pub fn pages(&self) -> u32 {
+        if let Scenario::Arena { pages, .. } = *self {
+            pages
+        } else {
+            PAGES
+        }
+    }
+
     pub fn round<S: Side>(&self, side: &mut S, meter: &Meter) -> Round {
-        side.reopen(if let Scenario::Arena { pages, .. } = *self { pages } else { PAGES });
+        side.reopen(self.pages());
         match *self {
             Scenario::Sizes { family } => sizes(side, meter, family),
             Scenario::Equal { holes: 0 } => frontier(side, meter),
@@ -221,7 +230,7 @@ fn sizes<S: Side>(side: &mut S, meter: &Meter, family: Family) -> Round {
     let ((), cost) = meter.measure(LOOKUPS, || {
         answers.iter_mut().zip(&sizes).for_each(|(answer, &size)| *answer = side.class_of(family, size));
     });
-    Round { costs: vec![cost], answers }
+    Round::new(vec![cost], answers)
 }
 
 /// Holes of 1 page each; a page before each is kept, so that none touches another.
@@ -231,8 +240,8 @@ fn store_holes<S: Side>(side: &mut S, holes: u32) {
 }
 
 /// Whether each commit answered a run. Which of several equal holes it is is not the same on both sides (document 02, A.8).
-fn answered(firsts: [u32; BATCH]) -> impl Iterator<Item = u32> {
-    firsts.into_iter().map(|first| u32::from(first != NO_PAGE))
+fn answered(firsts: [u32; BATCH]) -> impl Iterator<Item = u64> {
+    firsts.into_iter().map(|first| u64::from(first != NO_PAGE))
 }
 
 fn measure_commits<S: Side>(side: &mut S, meter: &Meter, pages: u64) -> ([u32; BATCH], f64) {
@@ -257,7 +266,7 @@ fn frontier<S: Side>(side: &mut S, meter: &Meter) -> Round {
     let apart = [(); BATCH].map(|()| side.commit(2));
     let give = measure_gives(side, meter, &apart);
     answers.extend(apart);
-    Round { costs: vec![commit, give], answers }
+    Round::new(vec![commit, give], answers)
 }
 
 /// The named number of holes is there when the gives begin; each makes one of two.
@@ -267,7 +276,7 @@ fn between<S: Side>(side: &mut S, meter: &Meter, holes: u32) -> Round {
     store_holes(side, holes - 2 * GIVES as u32);
     runs.iter().for_each(|&first| [first, first + 2].into_iter().for_each(|page| side.give(page, 1)));
     let ((), cost) = meter.measure(GIVES, || runs.iter().for_each(|&first| side.give(first + 1, 1)));
-    Round { costs: vec![cost], answers: runs.to_vec() }
+    Round::new(vec![cost], runs.to_vec())
 }
 
 /// A batch begins with half of it more holes than are named, and ends with as many less.
@@ -304,7 +313,7 @@ fn commits_of_two<S: Side>(side: &mut S, meter: &Meter) -> Round {
     let mut answers = vec![side.commit(2)];
     let (firsts, cost) = measure_commits(side, meter, 2);
     answers.extend(firsts);
-    Round { costs: vec![cost], answers }
+    Round::new(vec![cost], answers)
 }
 
 fn report<S: Side>(side: &mut S, meter: &Meter, classes: u32) -> Round {
@@ -314,7 +323,7 @@ fn report<S: Side>(side: &mut S, meter: &Meter, classes: u32) -> Round {
         measure_release(side, meter, class, &taken, false);
     }
     let (figures, cost) = meter.measure(BATCH, || [(); BATCH].map(|()| side.report()));
-    Round { costs: vec![cost], answers: figures.concat() }
+    Round::new(vec![cost], figures.concat())
 }
 
 /// Takes that a page carves after its first one; a span's are all carved at the first.
@@ -325,7 +334,7 @@ fn carvings(class: Class) -> usize {
     }
 }
 
-pub fn measure_takes<S: Side>(side: &mut S, meter: &Meter, class: Class, number: usize) -> (Vec<Vec<u32>>, f64) {
+pub fn measure_takes<S: Side>(side: &mut S, meter: &Meter, class: Class, number: usize) -> (Vec<Vec<Word>>, f64) {
     let mut taken = vec![S::Taken::default(); number];
     let ((), cost) = meter.measure(number, || taken.iter_mut().for_each(|taken| side.take(class, taken)));
     (taken.iter().map(|taken| S::words(class, taken)).collect(), cost)
@@ -350,10 +359,10 @@ fn batches<S: Side>(side: &mut S, meter: &Meter, class: Class) -> Round {
             }
         }
     }
-    Round { costs, answers }
+    Round::new(costs, answers)
 }
 
-fn measure_release<S: Side>(side: &mut S, meter: &Meter, class: Class, lists: &[Vec<u32>], linking: bool) -> f64 {
+fn measure_release<S: Side>(side: &mut S, meter: &Meter, class: Class, lists: &[Vec<Word>], linking: bool) -> f64 {
     if linking {
         return meter.measure(lists.len(), || lists.iter().for_each(|words| side.release_list(class, words))).1;
     }
@@ -363,21 +372,21 @@ fn measure_release<S: Side>(side: &mut S, meter: &Meter, class: Class, lists: &[
 
 fn single<S: Side>(side: &mut S, meter: &Meter, class: Class) -> Round {
     let words = measure_takes(side, meter, class, 2).0.concat();
-    let lists: Vec<Vec<u32>> = words.chunks(1).map(<[u32]>::to_vec).collect();
+    let lists: Vec<Vec<Word>> = words.chunks(1).map(<[Word]>::to_vec).collect();
     let mut answers = words;
     let (first, counted) = lists[..3 * BATCH].split_at(BATCH);
     measure_release(side, meter, class, first, false);
     let cost = measure_release(side, meter, class, counted, false);
     answers.extend(measure_takes(side, meter, class, 1).0.concat());
-    Round { costs: vec![cost], answers }
+    Round::new(vec![cost], answers)
 }
 
 /// All blocks of so many pages, page by page.
-fn fill<S: Side>(side: &mut S, meter: &Meter, class: Class, pages: u32) -> Vec<Vec<u32>> {
+fn fill<S: Side>(side: &mut S, meter: &Meter, class: Class, pages: u32) -> Vec<Vec<Word>> {
     let takes = capacity(class).div_ceil(oracle::batch(class.0, class.1) as u32) * pages;
     let mut words = measure_takes(side, meter, class, takes as usize).0.concat();
     words.sort_by_key(|&word| page_of(word));
-    let filled: Vec<Vec<u32>> = words.chunk_by(|&one, &other| page_of(one) == page_of(other)).map(Vec::from).collect();
+    let filled: Vec<Vec<Word>> = words.chunk_by(|&one, &other| page_of(one) == page_of(other)).map(Vec::from).collect();
     assert!(filled.len() == pages as usize, "{pages} pages are filled, not {}", filled.len());
     filled
 }
@@ -390,7 +399,7 @@ fn whole<S: Side>(side: &mut S, meter: &Meter, class: Class) -> Round {
     let cost = measure_release(side, meter, class, &lists, false);
     let mut answers = lists.concat();
     answers.extend(measure_takes(side, meter, class, 2).0.concat());
-    Round { costs: vec![cost], answers }
+    Round::new(vec![cost], answers)
 }
 
 /// The page keeps the rest of its blocks out, so that it stays where it is.
@@ -405,7 +414,7 @@ fn listed<S: Side>(side: &mut S, meter: &Meter, class: Class, blocks: u32, order
     let release = measure_release(side, meter, class, at_hand, false);
     let linking = measure_release(side, meter, class, to_link, true);
     answers.extend(measure_takes(side, meter, class, 2).0.concat());
-    Round { costs: vec![release, linking], answers }
+    Round::new(vec![release, linking], answers)
 }
 
 /// As `batches`, in an arena that is opened anew at its own length.
@@ -420,14 +429,14 @@ fn chunks<S: Side>(side: &mut S, meter: &Meter, class: Class, [pages, blocks]: [
     let number = (capacity(class) / blocks).min(PARKED) as usize;
     let words = |call: usize| {
         let from = call * blocks as usize;
-        let mut words: Vec<u32> = filled.iter().flat_map(|page| page[from..from + blocks as usize].to_vec()).collect();
+        let mut words: Vec<Word> = filled.iter().flat_map(|page| page[from..from + blocks as usize].to_vec()).collect();
         order.arrange(&mut words, call);
         words
     };
-    let chunks: Vec<u32> = filled.iter().map(|page| chunk_word(blocks, page_of(page[0]))).collect();
+    let chunks: Vec<Word> = filled.iter().map(|page| chunk_word(blocks, page_of(page[0]))).collect();
     let mut at_hand: Vec<S::Chunks> = (0..number).map(|call| S::make_chunks(&words(call), &chunks)).collect();
     let ((), cost) = meter.measure(number, || at_hand.iter_mut().for_each(|made| side.release_chunks(class, made)));
     let mut answers = filled.concat();
     answers.extend(measure_takes(side, meter, class, 2).0.concat());
-    Round { costs: vec![cost], answers }
+    Round::new(vec![cost], answers)
 }

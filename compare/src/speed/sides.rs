@@ -9,14 +9,12 @@ use crate::oracle::rules::Rules;
 use crate::oracle::{self, Chain, Chunks, Original};
 use crate::port;
 use crate::sizes::original;
-use crate::words::{book_words, Family, HOST_COMMIT, HOST_RESERVE, MAX_CHUNKS, NO_PAGE, SMALL_BATCH};
+use crate::words::{book_words, Family, Word, HOST_COMMIT, HOST_RESERVE, MAX_CHUNKS, NO_PAGE, SMALL_BATCH};
 
 pub const HOST: u32 = HOST_RESERVE | HOST_COMMIT;
 
 /// The arena's length where no scenario says otherwise.
 pub const PAGES: u32 = 8_192;
-/// And the longest one.
-const MOST_PAGES: u32 = 65_536;
 
 /// A family and a class of it.
 #[derive(Clone, Copy, PartialEq, Eq, Debug)]
@@ -38,15 +36,15 @@ pub trait Side {
     fn commit(&mut self, pages: u64) -> u32;
     fn give(&mut self, first: u32, pages: u64);
     fn take(&mut self, class: Class, taken: &mut Self::Taken);
-    fn words(class: Class, taken: &Self::Taken) -> Vec<u32>;
-    fn list(class: Class, words: &[u32]) -> Self::List;
+    fn words(class: Class, taken: &Self::Taken) -> Vec<Word>;
+    fn list(class: Class, words: &[Word]) -> Self::List;
     fn release(&mut self, class: Class, list: &Self::List);
     /// A release with the making of the chain, where it needs one.
-    fn release_list(&mut self, class: Class, words: &[u32]);
-    fn make_chunks(words: &[u32], chunks: &[u32]) -> Self::Chunks;
+    fn release_list(&mut self, class: Class, words: &[Word]);
+    fn make_chunks(words: &[Word], chunks: &[Word]) -> Self::Chunks;
     fn release_chunks(&mut self, class: Class, chunks: &mut Self::Chunks);
     /// A group release with the making of the chain, where it needs one.
-    fn release_with_chunks(&mut self, class: Class, words: &[u32], chunks: &[u32]);
+    fn release_with_chunks(&mut self, class: Class, words: &[Word], chunks: &[Word]);
     /// Commits, reuses, abandoned.
     fn report(&mut self) -> [u32; 3];
     /// Whether no call was refused since the opening.
@@ -56,8 +54,9 @@ pub trait Side {
 pub struct OriginalSide(Original);
 
 impl OriginalSide {
-    pub fn open() -> OriginalSide {
-        let mut original = Original::open(MOST_PAGES, &[], Rules::Plain);
+    /// With arenas of up to so many pages.
+    pub fn open(longest: u32) -> OriginalSide {
+        let mut original = Original::open(longest, &[], Rules::Plain);
         original.keep_fates(false);
         OriginalSide(original)
     }
@@ -93,11 +92,11 @@ impl Side for OriginalSide {
         *taken = Some((chain, count));
     }
 
-    fn words(Class(family, _): Class, taken: &Self::Taken) -> Vec<u32> {
+    fn words(Class(family, _): Class, taken: &Self::Taken) -> Vec<Word> {
         taken.map_or(Vec::new(), |(chain, count)| oracle::words_of_chain(family, chain, count))
     }
 
-    fn list(Class(family, _): Class, words: &[u32]) -> Chain {
+    fn list(Class(family, _): Class, words: &[Word]) -> Chain {
         oracle::chain(family, words)
     }
 
@@ -107,11 +106,11 @@ impl Side for OriginalSide {
     }
 
     #[inline]
-    fn release_list(&mut self, class: Class, words: &[u32]) {
+    fn release_list(&mut self, class: Class, words: &[Word]) {
         self.release(class, &oracle::chain(class.0, words));
     }
 
-    fn make_chunks(words: &[u32], chunks: &[u32]) -> Chunks {
+    fn make_chunks(words: &[Word], chunks: &[Word]) -> Chunks {
         oracle::make_chunks(words, chunks)
     }
 
@@ -121,7 +120,7 @@ impl Side for OriginalSide {
     }
 
     #[inline]
-    fn release_with_chunks(&mut self, class: Class, words: &[u32], chunks: &[u32]) {
+    fn release_with_chunks(&mut self, class: Class, words: &[Word], chunks: &[Word]) {
         self.release_chunks(class, &mut oracle::make_chunks(words, chunks));
     }
 
@@ -150,8 +149,9 @@ pub struct PortSide {
 }
 
 impl PortSide {
-    pub fn open() -> PortSide {
-        PortSide { book: Reserved::new(book_words(MOST_PAGES)), fates: vec![0; MAX_CHUNKS], refused: 0 }
+    /// With arenas of up to so many pages.
+    pub fn open(longest: u32) -> PortSide {
+        PortSide { book: Reserved::new(book_words(longest)), fates: vec![0; MAX_CHUNKS], refused: 0 }
     }
 
     fn book(&mut self) -> &mut [u32] {
@@ -161,7 +161,7 @@ impl PortSide {
 
 /// The list that a take is lent, and its count.
 #[derive(Clone)]
-pub struct Lent([u32; SMALL_BATCH], u32);
+pub struct Lent([Word; SMALL_BATCH], u32);
 
 impl Default for Lent {
     fn default() -> Lent {
@@ -171,14 +171,14 @@ impl Default for Lent {
 
 /// A list, its groups, and the room for their fates.
 pub struct ChunkLists {
-    words: Vec<u32>,
-    chunks: Vec<u32>,
+    words: Vec<Word>,
+    chunks: Vec<Word>,
     fates: Vec<u32>,
 }
 
 impl Side for PortSide {
     type Taken = Lent;
-    type List = Vec<u32>;
+    type List = Vec<Word>;
     type Chunks = ChunkLists;
 
     fn reopen(&mut self, pages: u32) {
@@ -209,26 +209,26 @@ impl Side for PortSide {
         self.refused |= number;
     }
 
-    fn words(_: Class, taken: &Lent) -> Vec<u32> {
+    fn words(_: Class, taken: &Lent) -> Vec<Word> {
         taken.0[..taken.1 as usize].to_vec()
     }
 
-    fn list(_: Class, words: &[u32]) -> Vec<u32> {
+    fn list(_: Class, words: &[Word]) -> Vec<Word> {
         words.to_vec()
     }
 
     #[inline]
-    fn release(&mut self, class: Class, list: &Vec<u32>) {
+    fn release(&mut self, class: Class, list: &Vec<Word>) {
         self.release_list(class, list);
     }
 
     #[inline]
-    fn release_list(&mut self, Class(family, class): Class, words: &[u32]) {
+    fn release_list(&mut self, Class(family, class): Class, words: &[Word]) {
         let [number, _] = port::plain_release_blocks(self.book(), family, [class, HOST], words);
         self.refused |= number;
     }
 
-    fn make_chunks(words: &[u32], chunks: &[u32]) -> ChunkLists {
+    fn make_chunks(words: &[Word], chunks: &[Word]) -> ChunkLists {
         ChunkLists { words: words.to_vec(), chunks: chunks.to_vec(), fates: vec![0; chunks.len()] }
     }
 
@@ -239,7 +239,7 @@ impl Side for PortSide {
     }
 
     #[inline]
-    fn release_with_chunks(&mut self, Class(_, class): Class, words: &[u32], chunks: &[u32]) {
+    fn release_with_chunks(&mut self, Class(_, class): Class, words: &[Word], chunks: &[Word]) {
         let book = self.book.words_mut();
         self.refused |= port::plain_release_chunks(book, [class, HOST], words, chunks, &mut self.fates);
     }

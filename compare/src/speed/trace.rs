@@ -7,7 +7,7 @@ use crate::oracle;
 use crate::planned::family;
 use crate::port;
 use crate::random::Random;
-use crate::words::{book_words, HOST_ALL, SMALL_BATCH};
+use crate::words::{book_words, Word, HOST_ALL, SMALL_BATCH};
 
 const WORDS: usize = 10_000_000;
 const ROUNDS: usize = 5;
@@ -22,7 +22,7 @@ const FIGURES: usize = 5;
 /// What a trace or its calls came to.
 #[derive(PartialEq, Eq)]
 struct Came {
-    blocks: Vec<u32>,
+    blocks: Vec<Word>,
     figures: Vec<u64>,
 }
 

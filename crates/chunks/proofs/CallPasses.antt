@@ -36,7 +36,7 @@ use Rattle.chunks.specs.CallAsks.{allPlaced, settledTo, passFault, hasBi
 use Rattle.chunks.proofs.PushLaws.{push-free, on-here, on-more}
 use Rattle.chunks.proofs.Gather.{page-start}
 use Rattle.chunks.proofs.GatherGives.{idle, ofClass, gives-count, gives-in, fates-length, all-changes}
-use Rattle.chunks.proofs.CallTests.{match-kept, match-is, chunks-fair-kept, fair-pages, words-on, fits-count, fits-lands, match-apart, match-fits, chunks-below, slots-left, page-there}
+use Rattle.chunks.proofs.CallTests.{match-kept, match-is, chunks-fair-kept, fair-pages, words-on, fits-count, fits-lands, match-apart, match-fits, chunks-below, slots-left, page-low, page-there}
 
 -- ---- the blocks back on their stacks: of the words that are tested, only FREE is another
 abbrev stacked : Field → Bool
@@ -49,7 +49,7 @@ push-stacks b sh (w ∷ ws) a =
     let q = pageAt w in
     let e = on-here w ws q (eq-eqb q q refl) in
     let a′ : PushAllAsks b sh ws
-    = record { sound = a .sound; there = λ p h. a .there p (omega (arith, on-more w ws p)); slots = λ p h. omega (arith, a .slots p (omega (arith, on-more w ws p)), on-more w ws p) } in
+    = record { sound = a .sound; below = λ p h. a .below p (omega (arith, on-more w ws p)); there = λ p h. a .there p (omega (arith, on-more w ws p)); slots = λ p h. omega (arith, a .slots p (omega (arith, on-more w ws p)), on-more w ws p) } in
     let d = pushAll b sh ws in
     let l : get (pushAll b sh ws) (page free (pageAt w)) < 4096 = rw (push-free b sh ws a′ q) (omega (arith, e, a .slots q (omega (arith, e)))) in
     changes-put stacked b _ (page free q) _ refl refl (changes-put stacked b d (slot q (get d (page free q))) _ (lt-ltb _ 4096 l) refl (push-stacks b sh ws a′))
@@ -95,6 +95,7 @@ module _ (n : ℕ) (b : List ℕ) (c : ℕ) (sh : Shape) (ws gs : List ℕ) (a :
       pushing : PushAllAsks b sh ws
       pushing = record {
         sound = a .call .class .sound;
+        below = page-low n b c sh (a .call .single) ws gs (a .runs) m (a .call .class .few);
         there = page-there n b c sh (a .call .single) ws gs (a .runs) m (a .call .class .long);
         slots = slots-left n b c sh (a .call .single) ws gs (a .runs) m pages (a .call .class .sound .few);
       }

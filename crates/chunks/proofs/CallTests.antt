@@ -30,6 +30,7 @@ use Rattle.calls.specs.Release.{pageFair, rowFair}
 use Rattle.calls.specs.Chunks.{blocksOn, chunkFits, chunksMatch, returnsAll, runsGiven, pagesGiven, chunksFair}
 use Rattle.release.proofs.Bits.{isBit, start-kept}
 use Rattle.release.proofs.FairSteps.{page-room, page-carved}
+use Rattle.fields.specs.Ranges.{maxPages}
 use Rattle.pages.proofs.Downs.{every-mono}
 use Rattle.tally.specs.Match.{wordsOn, pageFits, hasPage, pagesMatch, inArena}
 
@@ -228,6 +229,9 @@ module _ (n : ℕ) (b : List ℕ) (c : ℕ) (sh : Shape) (one : sh .pages ≡ 1)
 
       pub slots-left : (q : ℕ) → 1 ≤ wordsOn ws q → get b (page free q) + wordsOn ws q ≤ 4096
       slots-left q h = room-at q gs (some-chunk ws r (map pageOf gs) (and-right (every (chunkFits b ws) gs) (every (λ w. elem (startOf b w) (map pageOf gs)) ws) match-rest) q h) match-fits f
+
+    pub page-low : n ≤ maxPages → (q : ℕ) → 1 ≤ wordsOn ws q → q < maxPages
+    page-low f q h = omega (arith, some-lands ws r q h .below)
 
     pub page-there : words n ≤ length b → (q : ℕ) → 1 ≤ wordsOn ws q → words (q + 1) ≤ length b
     page-there l q h = omega (arith, some-lands ws r q h .below)

@@ -1,5 +1,5 @@
 -- Number 13's tests of a group release: the loops over the chunks, and the ways out.
-use Prim.Native.Nat.{ℕ, suc, _+_, _-_, _*_, _≤_, _<_}
+use Prim.Native.Nat.{ℕ, suc, _+_, _-_, _*_, _^_, _≤_, _<_}
 use native.Mathlib.Omega.{arith}
 use native.Mathlib.Numerals.{add-one}
 use native.Mathlib.Nat.{add-zero, mul-le-mul}
@@ -38,16 +38,22 @@ use Rattle.chunks.specs.GiveAsks.{givesFair}
 use Rattle.chunks.specs.FairAsks.{chunkFair, spotted, counted, PagesAsks, ReturnsAsks, SpottedAsks, CountAsks, RunsAsks, PagesGivenAsks, ChunksFairAsks}
 
 -- ---- a chunk's page
-pub chunk-is : (b : List ℕ) (sh : Shape) (g v m w q : ℕ) → v ≡ g → m ≡ countOf v → w ≡ g → q ≡ pageOf w → (r : Bool) → r ≡ pageFair b sh m q → r ≡ chunkFair b sh g
-chunk-is b sh g v m w q e₁ e₂ e₃ e₄ r e = e ∙ rw (e₂, e₁, e₄, e₃)
+pub chunk-is : (b : List ℕ) (sh : Shape) (g v m q : ℕ) → v ≡ g → m ≡ countOf v → q ≡ pageOf g → (r : Bool) → r ≡ pageFair b sh m q → r ≡ chunkFair b sh g
+chunk-is b sh g v m q e₁ e₂ e₃ r e = e ∙ rw (e₂, e₁, e₃)
 
 pub record PagesInv (b : List ℕ) (sh : Shape) (gs : List ℕ) (i : ℕ) : Type 0 where
   pub within : i ≤ length gs
   pub rest : every (chunkFair b sh) (drop i gs) ≡ every (chunkFair b sh) gs
 
 module _ (n : ℕ) (b : List ℕ) (gs : List ℕ) (a : PagesAsks n b gs) (i : ℕ) (l : i < length gs) where
+  page-below : pageOf (getD gs i 0) < n
+  page-below = ltb-true (pageOf (getD gs i 0)) n (every-get (λ g. ltb (pageOf g) n) gs i (a .below) l)
+
   pub page-there : PageAsks b (pageOf (getD gs i 0))
-  page-there = record { there = omega (arith, a .long, ltb-true (pageOf (getD gs i 0)) n (every-get (λ g. ltb (pageOf g) n) gs i (a .below) l)) }
+  page-there = record { there = omega (arith, a .long, page-below) }
+
+  pub page-fits : pageOf (getD gs i 0) < 2 ^ 32
+  page-fits = omega (arith, a .few, page-below)
 
 module _ (b : List ℕ) (sh : Shape) (gs : List ℕ) where
   pub pages-start : PagesInv b sh gs 0
@@ -70,17 +76,20 @@ same-test m x y h =
     (λ t. let z : x - y ≡ m = omega (arith, eqb-true (y + m) x t) in rw t (eq-eqb (x - y) m z))
     (λ t. rw t (ne-eqb (x - y) m (λ z. eqb-false (y + m) x t (omega arith))))
 
-module _ (b : List ℕ) (g v q x y : ℕ) (a : ReturnsAsks b g) (e₁ : v ≡ g) (e₂ : q ≡ pageOf v) (e₃ : x ≡ get b (page carved q)) (e₄ : y ≡ get b (page free q)) where
+pub returns-page : (b : List ℕ) (g : ℕ) → ReturnsAsks b g → pageOf g < 2 ^ 32
+returns-page b g a = omega (arith, a .below)
+
+module _ (b : List ℕ) (g q x y : ℕ) (a : ReturnsAsks b g) (e₂ : q ≡ pageOf g) (e₃ : x ≡ get b (page carved q)) (e₄ : y ≡ get b (page free q)) where
   room : y + countOf g ≤ x
-  room = rw (e₃, e₄, e₂, e₁) (a .room)
+  room = rw (e₃, e₄, e₂) (a .room)
 
   pub out-fits : y ≤ x
   out-fits = omega (arith, room)
 
   pub returns-is : (w m : ℕ) → w ≡ g → m ≡ countOf w → eqb (x - y) m ≡ returnsAll b g
   returns-is w m e₅ e₆ =
-      let f : get b (page free (pageOf g)) ≡ y = sym (rw (e₂, e₁) at e₄) in
-      let c : get b (page carved (pageOf g)) ≡ x = sym (rw (e₂, e₁) at e₃) in
+      let f : get b (page free (pageOf g)) ≡ y = sym (rw e₂ at e₄) in
+      let c : get b (page carved (pageOf g)) ≡ x = sym (rw e₂ at e₃) in
       rw (e₆, e₅, f, c) (same-test (countOf g) x y room)
 
 -- ---- the counts
@@ -147,6 +156,7 @@ module _ (n : ℕ) (b : List ℕ) (sh : Shape) (lim : Limits) (gs : List ℕ) (e
           record {
             sound = a .sound;
             chunk = record {
+              below = omega (arith, a .pages .few, page-below n b gs (a .pages) i l);
               there = page-there n b gs (a .pages) i l .there;
               room = page-room b sh (countOf g) (pageOf g) (every-get (chunkFair b sh) gs i (a .fair) l);
             };
@@ -184,7 +194,7 @@ module _ (n : ℕ) (b : List ℕ) (c : ℕ) (sh : Shape) (gs : List ℕ) (x y : 
   pub runs-asks : PagesGivenAsks n b c sh gs → RunsAsks n b sh lim gs x y
   runs-asks a = record {
     sound = a .all .class .sound;
-    pages = record { long = a .all .class .long; below = a .all .below };
+    pages = record { few = a .all .class .few; long = a .all .class .long; below = a .all .below };
     fair = a .pages;
     chunks = a .all .chunks;
     limit = rw i (limits-low b c (a .row) .empty);

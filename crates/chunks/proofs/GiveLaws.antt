@@ -2,7 +2,7 @@
 --     given-length, given-frontier     the book's length and the frontier stay
 --     given-fair       a give of m pages leaves a book that is fair for the rest
 --     gives-append     runs of two lists
-use Prim.Native.Nat.{ℕ, suc, _+_, _-_, _*_, _≤_, _<_}
+use Prim.Native.Nat.{ℕ, suc, _+_, _-_, _*_, _^_, _≤_, _<_}
 use native.Mathlib.Omega.{arith}
 use native.Mathlib.Numerals.{add-one}
 use mir.Val.{Fits}
@@ -263,17 +263,20 @@ module _ (n : ℕ) (b : List ℕ) (m g f : ℕ) where
   pub give-none : (f ≡ 6 → ⊥) → b ≡ giveRuns b m (givesOf (pageOf g) f)
   give-none h = rw (ne-eqb f 6 h)
 
-  module _ (h : f ≡ 6) (w q : ℕ) (k : w ≡ g) (j : q ≡ pageOf w) where
+  pub give-page : GiveChunkAsks n b m g f → pageOf g < 2 ^ 32
+  give-page a = omega (arith, a .inside, a .few)
+
+  module _ (h : f ≡ 6) (q : ℕ) (j : q ≡ pageOf g) where
     pub give-in : GiveChunkAsks n b m g f → GiveIn b n q m
     give-in a = record {
       long = a .long;
       small = a .few;
-      inside = rw (j, k) (a .inside);
+      inside = rw j (a .inside);
       fair = rw (eq-eqb f 6 h) at (a .fair);
     }
 
     pub give-one : (b′ : List ℕ) → b′ ≡ given b q m → b′ ≡ giveRuns b m (givesOf (pageOf g) f)
-    give-one b′ e = rw (e, j, k, eq-eqb f 6 h)
+    give-one b′ e = rw (e, j, eq-eqb f 6 h)
 
 -- ---- the loop
 module _ (n : ℕ) (b₀ : List ℕ) (sh : Shape) (gs fs : List ℕ) where

@@ -1,5 +1,5 @@
 -- Marking and taking by pages: the loops over the listed words and over the chunks' pages, and the ways out.
-use Prim.Native.Nat.{ℕ, suc, _+_, _-_, _*_, _≤_, _<_}
+use Prim.Native.Nat.{ℕ, suc, _+_, _-_, _*_, _^_, _≤_, _<_}
 use native.Mathlib.Omega.{arith}
 use native.Mathlib.Numerals.{add-one}
 use mathlib.Core.Bool.{Bool, true, false, _&&_, true≢false}
@@ -8,7 +8,7 @@ use mathlib.Core.Path.{_≡_, refl, sym, ap, _∙_}
 use lib.Dec.{eqb, ltb}
 use lib.ListN.{length, getD, drop, length-drop}
 use lib.Seq.{drop-cons, drop-drop}
-use borrow.Author.Tests.{lt-ltb, le-ltb, le-leb, ltb-true}
+use borrow.Author.Tests.{lt-ltb, le-ltb, le-leb, ltb-true, ltb-false}
 use Rattle.facts.specs.Lists.{every, distinct}
 use Rattle.facts.proofs.Bools.{and-left, and-right}
 use Rattle.facts.proofs.Lists.{drop-past, every-get}
@@ -31,6 +31,7 @@ use Rattle.release.proofs.RunLaws.{within-arena}
 use Rattle.release.proofs.OutLaws.{run-of-out}
 use Rattle.release.proofs.MarkLaws.{mark-bits, all-single}
 use Rattle.release.proofs.Testing.{fault-none}
+use Rattle.tally.specs.Tally.{isPage}
 use Rattle.tally.specs.Match.{inArena, hasPage, pageFits, pagesMatch, MatchAsks, Matched}
 use Rattle.chunks.specs.Pass.{cleared}
 use Rattle.chunks.specs.CallAsks.{passFault, testFault}
@@ -50,6 +51,19 @@ module _ (n w p : ℕ) (e : p ≡ pageAt w) where
   past-arena h = sym (le-ltb (pageAt w) n (rw e at h))
 
 -- ---- a chunk's page
+module _ (n : ℕ) (b : List ℕ) (c : ℕ) (sh : Shape) (m g : ℕ) (a : ReadyAsks n b c sh m) (u : Bool) (e : u ≡ isPage n g) where
+  pub chunk-fits : u ≡ true → pageOf g < 2 ^ 32
+  unfolding isPage
+  chunk-fits x = omega (arith, ltb-true (pageOf g) n (sym e ∙ x), a .class .few)
+
+  no-run : n ≤ pageOf g → (t : Bool) → t ≡ whole n b sh c (pageOf g) → t ≡ false
+  no-run l true k = absurd (omega (arith, a .class .sound .paged, within-arena n c sh (a .class .sound) (pageOf g) b (sym k)))
+  no-run l false k = refl
+
+  pub not-inside : u ≡ false → false ≡ pageReady n b c sh m g
+  unfolding isPage pageReady
+  not-inside x = rw (no-run (ltb-false (pageOf g) n (sym e ∙ x)) (whole n b sh c (pageOf g)) refl)
+
 module _ (n : ℕ) (b : List ℕ) (c : ℕ) (sh : Shape) (m g q : ℕ) (e : q ≡ pageOf g) (t : Bool) (k : t ≡ whole n b sh c q) where
   pub not-run : t ≡ false → false ≡ pageReady n b c sh m g
   unfolding pageReady
@@ -81,6 +95,9 @@ module _ (f : List ℕ → ℕ → List ℕ) (b₀ gs : List ℕ) where
   pub sweep-ends : (b : List ℕ) (i : ℕ) → Sweeping f b₀ gs b i → length gs ≤ i → b ≡ sweep f b₀ gs
   sweep-ends b i v l = rw (drop-past gs i l) at (v .same)
 
+pub sweep-fits : (n : ℕ) (b : List ℕ) (m : ℕ) (gs : List ℕ) (i : ℕ) → SweepAsks n b m gs → i < length gs → pageOf (getD gs i 0) < 2 ^ 32
+sweep-fits n b m gs i a l = omega (arith, a .pages .few, ltb-true (pageOf (getD gs i 0)) n (every-get (λ g. ltb (pageOf g) n) gs i (a .pages .below) l))
+
 pub sweep-asks : (n : ℕ) (b b′ : List ℕ) (m : ℕ) (gs : List ℕ) (i q : ℕ) → SweepAsks n b m gs → length b′ ≡ length b → i < length gs → q ≡ pageOf (getD gs i 0) → ClearAsks b′ q m
 sweep-asks n b b′ m gs i q a k l e =
     record { few = a .few; there = omega (arith, e, a .pages .long, ltb-true (pageOf (getD gs i 0)) n (every-get (λ g. ltb (pageOf g) n) gs i (a .pages .below) l)) }
@@ -96,10 +113,17 @@ module _ (n : ℕ) (b : List ℕ) (sh : Shape) (ws : List ℕ) (a : OwnAsks n b 
   pub own-starts : OwnInv b sh ws b 0
   own-starts = record { within = omega arith; long = refl; answer = omega arith; left = refl }
 
+  module _ (i : ℕ) (l : i < length ws) where
+    page-in : pageAt (getD ws i 0) < n
+    unfolding inArena
+    page-in = ltb-true (pageAt (getD ws i 0)) n (every-get (λ w. ltb (pageAt w) n) ws i (a .pages) l)
+
+    pub own-fits : pageAt (getD ws i 0) < 2 ^ 32
+    own-fits = omega (arith, page-in, a .few)
+
   module _ (b′ : List ℕ) (i q : ℕ) (v : OwnInv b sh ws b′ i) (l : i < length ws) (e : q ≡ pageAt (getD ws i 0)) where
     page-low : q < n
-    unfolding inArena
-    page-low = rw e (ltb-true (pageAt (getD ws i 0)) n (every-get (λ w. ltb (pageAt w) n) ws i (a .pages) l))
+    page-low = rw e (page-in i l)
 
     pub own-asks : FieldAsks b′ sh q
     own-asks = record { sound = a .sound; below = omega (arith, page-low, a .single, a .few); there = omega (arith, page-low, v .long, a .long) }
@@ -142,7 +166,7 @@ module _ (n : ℕ) (b : List ℕ) (sh : Shape) (ws : List ℕ) (a : OwnAsks n b 
 -- ---- from the marked book on
 module _ (n : ℕ) (b : List ℕ) (c : ℕ) (sh : Shape) (m : ℕ) (gs : List ℕ) (a : MarkedAsks n b c sh m gs) where
   pub marked-sweeps : SweepAsks n b m gs
-  marked-sweeps = record { few = a .few; pages = record { long = a .fair .class .long; below = a .fair .below } }
+  marked-sweeps = record { few = a .few; pages = record { few = a .fair .class .few; long = a .fair .class .long; below = a .fair .below } }
 
   module _ (t : Bool) (e : t ≡ chunksFair n b c sh gs) (b′ : List ℕ) where
     pub marks-taken : t ≡ true → b′ ≡ takePages b m gs → TookMarked true b′ n b c sh m gs
@@ -193,7 +217,7 @@ module _ (n : ℕ) (b : List ℕ) (c : ℕ) (sh : Shape) (m : ℕ) (ws gs : List
     long-now = rw (z .left) (omega (arith, changes .long, long))
 
     pub sweeps : SweepAsks n b′ m gs
-    sweeps = record { few = few; pages = record { long = long-now; below = low } }
+    sweeps = record { few = few; pages = record { few = a .matching .all .call .class .few; long = long-now; below = low } }
 
     pub not-all : (b″ : List ℕ) → b″ ≡ clearPages b′ m gs → Tried false b″ n b c sh ws gs
     not-all b″ e = record { passed = λ x. absurd (true≢false (sym x)); left = e ∙ rw (z .left) (clears-own sh sound one m few all n c b gs ws (a .ready) has) }

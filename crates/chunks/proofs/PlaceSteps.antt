@@ -1,5 +1,5 @@
 -- Placing one chunk's page, and the loop over the chunks.
-use Prim.Native.Nat.{ℕ, zero, suc, _+_, _-_, _≤_, _<_}
+use Prim.Native.Nat.{ℕ, zero, suc, _+_, _-_, _^_, _≤_, _<_}
 use native.Mathlib.Omega.{arith}
 use native.Mathlib.Numerals.{add-one}
 use mir.Val.{Fits}
@@ -97,12 +97,21 @@ module _ (b : List ℕ) (c : ℕ) (sh : Shape) (h : ℕ) (gs fs : List ℕ) (a :
   pub place-starts : PlaceInv b c sh h gs fs b fs 0
   place-starts = record { within = omega arith; size = refl; steady = steady-none b c (lt-ltb c 76 (a .known)) (row-out b c (a .row)); left = refl; fates = refl }
 
+  fair-at : (i : ℕ) → i < length gs → placeFair b (pageOf (getD gs i 0)) ≡ true
+  fair-at i l = every-at (λ g. placeFair b (pageOf g)) gs i l (a .pages)
+
+  low-at : (i : ℕ) → i < length gs → pageOf (getD gs i 0) < get b (arena frontier)
+  low-at i l = ltb-true (pageOf (getD gs i 0)) (get b (arena frontier)) (and-left _ _ (fair-at i l))
+
+  pub turn-page : (i : ℕ) → i < length gs → pageOf (getD gs i 0) < 2 ^ 32
+  turn-page i l = omega (arith, low-at i l, a .few)
+
   module _ (b′ fs′ : List ℕ) (i : ℕ) (v : PlaceInv b c sh h gs fs b′ fs′ i) (l : i < length gs) (q : ℕ) (e : q ≡ pageOf (getD gs i 0)) where
     fair : placeFair b q ≡ true
-    fair = rw e (every-at (λ g. placeFair b (pageOf g)) gs i l (a .pages))
+    fair = rw e (fair-at i l)
 
     low : q < get b (arena frontier)
-    low = ltb-true q (get b (arena frontier)) (and-left _ _ fair)
+    low = rw e (low-at i l)
 
     links : linksFair b q ≡ true
     links = and-right (ltb q (get b (arena frontier))) _ fair

@@ -1,9 +1,10 @@
 -- Blocks taken, and pushed one after another, the list's last first.
 --     push-length     the book's length stays
 --     push-free       FREE of a page grows by the words on it
-use Prim.Native.Nat.{ℕ, zero, suc, _+_, _-_, _≤_, _<_}
+use Prim.Native.Nat.{ℕ, zero, suc, _+_, _-_, _^_, _≤_, _<_}
 use native.Mathlib.Omega.{arith}
 use native.Mathlib.Numerals.{add-one}
+use native.Mathlib.Nat.{div-le-self}
 use mir.Val.{Fits}
 use mir.Syntax.{w32}
 use mathlib.Core.Bool.{true, false}
@@ -15,17 +16,22 @@ use lib.Seq.{drop-cons, drop-length}
 use borrow.Author.Tests.{lt-ltb, ltb-true, le-leb, eqb-true, eq-eqb}
 use Rattle.facts.proofs.Bools.{by-cases, and-left, and-right}
 use Rattle.facts.proofs.Lists.{drop-past, every-get}
+use Rattle.words.specs.Word.{granuleOf}
 use Rattle.classes.specs.declared.Shape.{Shape}
 use Rattle.fields.specs.Field.{page, slot, out, free, words, get, put, Has}
 use Rattle.fields.proofs.Laws.{get-put-same, get-put-other, length-put}
 use Rattle.pages.specs.Asks.{IndexAsks}
-use Rattle.pages.specs.Stack.{indexOf, pageAt}
+use Rattle.fields.specs.Ranges.{maxPages}
+use Rattle.pages.specs.Stack.{blocksFrom, indexOf, pageAt}
 use Rattle.chunks.specs.CallAsks.{hasBit, BitsAsks}
 use Rattle.chunks.specs.Pass.{cleared, pushOne, pushAll}
 use Rattle.chunks.specs.PushAsks.{PushOneAsks, PushAllAsks}
 use Rattle.tally.specs.Match.{wordsOn}
 
 -- ---- one block
+pub one-page : (b : List ℕ) (sh : Shape) (w : ℕ) → PushOneAsks b sh w → pageAt w < 2 ^ 32
+one-page b sh w a = omega (arith, a .below)
+
 pub one-length : (b : List ℕ) (q i : ℕ) → length (pushOne b q i) ≡ length b
 unfolding pushOne
 one-length b q i = simp length-put
@@ -47,6 +53,13 @@ module _ (b : List ℕ) (q i : ℕ) (low : get b (page free q) < 4096) where
 
 module _ (b : List ℕ) (sh : Shape) (w q t : ℕ) (k : q ≡ pageAt w) (j : t ≡ get b (page free q)) where
   module _ (a : PushOneAsks b sh w) where
+    -- a page has no more granules
+    pub one-index : IndexAsks sh q w
+    unfolding indexOf
+    one-index =
+        let z : granuleOf w - blocksFrom sh q < 4096 = omega (arith, k) in
+        record { sound = a .sound; below = rw k (a .below); bit = lt-ltb (indexOf sh q w) 4096 (omega (arith, z, div-le-self (granuleOf w - blocksFrom sh q) (sh .block))) }
+
     below : t < 4096
     below = rw (← k, ← j) at (a .slot)
 
@@ -85,6 +98,7 @@ on-more w ws q = by-cases (eqb (pageAt w) q) (λ e. omega (arith, on-here w ws q
 asks-tail : (b : List ℕ) (sh : Shape) (w : ℕ) (ws : List ℕ) → PushAllAsks b sh (w ∷ ws) → PushAllAsks b sh ws
 asks-tail b sh w ws a = record {
   sound = a .sound;
+  below = λ q h. a .below q (omega (arith, on-more w ws q));
   there = λ q h. a .there q (omega (arith, on-more w ws q));
   slots = λ q h. omega (arith, a .slots q (omega (arith, on-more w ws q)), on-more w ws q);
 }
@@ -102,6 +116,9 @@ head-room b sh w ws a =
 
 head-there : (b : List ℕ) (sh : Shape) (w : ℕ) (ws : List ℕ) → PushAllAsks b sh (w ∷ ws) → words (pageAt w + 1) ≤ length b
 head-there b sh w ws a = a .there (pageAt w) (omega (arith, on-here w ws (pageAt w) (eq-eqb (pageAt w) (pageAt w) refl)))
+
+head-below : (b : List ℕ) (sh : Shape) (w : ℕ) (ws : List ℕ) → PushAllAsks b sh (w ∷ ws) → pageAt w < maxPages
+head-below b sh w ws a = a .below (pageAt w) (omega (arith, on-here w ws (pageAt w) (eq-eqb (pageAt w) (pageAt w) refl)))
 
 pub push-free : (b : List ℕ) (sh : Shape) (ws : List ℕ) → PushAllAsks b sh ws → (q : ℕ) → get (pushAll b sh ws) (page free q) ≡ get b (page free q) + wordsOn ws q
 unfolding pushAll
@@ -140,6 +157,7 @@ module _ (b₀ : List ℕ) (sh : Shape) (ws : List ℕ) where
         let f = push-free b₀ sh (drop i ws) (asks-drop b₀ sh i ws a) (pageAt w) in
         record {
           sound = a .sound;
+          below = head-below b₀ sh w (drop i ws) k;
           there = rw (v .long) (head-there b₀ sh w (drop i ws) k);
           slot = rw (v .laid, f) (head-room b₀ sh w (drop i ws) k);
         }
@@ -158,7 +176,7 @@ module _ (b₀ : List ℕ) (sh : Shape) (ws : List ℕ) where
   pushing-done b i h v = rw h at (v .laid)
 
 -- ---- the blocks taken
-module _ (n : ℕ) (b : List ℕ) (sh : Shape) (w q : ℕ) (a : BitsAsks n b sh (w ∷ [])) (e : q ≡ pageAt w) where
+module _ (n : ℕ) (b : List ℕ) (sh : Shape) (w : ℕ) (a : BitsAsks n b sh (w ∷ [])) where
   word-bit : hasBit n sh w ≡ true
   word-bit = and-left (hasBit n sh w) true (a .bits)
 
@@ -166,13 +184,19 @@ module _ (n : ℕ) (b : List ℕ) (sh : Shape) (w q : ℕ) (a : BitsAsks n b sh 
   unfolding hasBit
   page-low = ltb-true (pageAt w) n (and-left (ltb (pageAt w) n) _ word-bit)
 
-  pub take-index : IndexAsks sh q
-  take-index = record { sound = a .sound; below = omega (arith, page-low, a .few) }
+  pub take-page : pageAt w < 2 ^ 32
+  take-page = omega (arith, page-low, a .few)
 
-  module _ (k : ℕ) (f : k ≡ indexOf sh q w) where
+  has-index : ltb (indexOf sh (pageAt w) w) 4096 ≡ true
+  unfolding hasBit
+  has-index = and-right (ltb (pageAt w) n) _ word-bit
+
+  pub take-index : (q : ℕ) → q ≡ pageAt w → IndexAsks sh q w
+  take-index q e = record { sound = a .sound; below = omega (arith, page-low, a .few); bit = rw e has-index }
+
+  module _ (q : ℕ) (e : q ≡ pageAt w) (k : ℕ) (f : k ≡ indexOf sh q w) where
     index-low : indexOf sh (pageAt w) w < 4096
-    unfolding hasBit
-    index-low = ltb-true (indexOf sh (pageAt w) w) 4096 (and-right (ltb (pageAt w) n) _ word-bit)
+    index-low = ltb-true (indexOf sh (pageAt w) w) 4096 has-index
 
     pub take-there : Has b (out q k)
     take-there =

@@ -14,7 +14,7 @@ use Rattle.classes.specs.declared.Shape.{Shape}
 use Rattle.classes.specs.Sound.{Sound}
 use Rattle.rules.specs.declared.Limits.{Limits}
 use Rattle.fields.specs.Field.{page, free, carved, words, get}
-use Rattle.fields.specs.Ranges.{maxParked}
+use Rattle.fields.specs.Ranges.{maxPages, maxParked}
 use Rattle.model.specs.Chunks.{chunksMax}
 use Rattle.words.specs.Host.{digit}
 use Rattle.model.specs.declared.Spot.{Spot}
@@ -35,11 +35,13 @@ counted b sh lim g s = cond (returnsAll b g) (spotted s (spotOf sh lim (s .empti
 
 -- ---- what is asked
 pub record PagesAsks (n : ℕ) (b gs : List ℕ) : Type 0 where
+  pub few : n ≤ maxPages
   pub long : words n ≤ length b
   pub below : every (λ g. ltb (pageOf g) n) gs ≡ true
 
 -- a chunk whose page has passed
 pub record ReturnsAsks (b : List ℕ) (g : ℕ) : Type 0 where
+  pub below : pageOf g < maxPages
   pub there : words (pageOf g + 1) ≤ length b
   pub room : get b (page free (pageOf g)) + countOf g ≤ get b (page carved (pageOf g))
 

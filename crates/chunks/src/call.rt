@@ -21,8 +21,8 @@ fn settle_chunks(
     c: u32,
     shape: Shape,
     host: u32,
-    list: &[u32],
-    chunks: &[u32],
+    list: &[u64],
+    chunks: &[u64],
     fates: &mut [u32],
 )
     requires { ⌜ SettleAsks n (now meta) c shape host (now list) (now chunks) (now fates) ⌝ }
@@ -34,7 +34,7 @@ fn settle_chunks(
 }
 
 // Numbers 11 and 13, or 0: the listed blocks are out no longer.
-fn pass_chunks(meta: &mut [u32], n: u32, c: u32, shape: Shape, list: &[u32], chunks: &[u32]) -> u32
+fn pass_chunks(meta: &mut [u32], n: u32, c: u32, shape: Shape, list: &[u64], chunks: &[u64]) -> u32
     requires { ⌜ PassAsks n (now meta) c shape (now list) (now chunks) ⌝ }
     ensures { λ r. ⌜ TakenBy r (now (meta .exit)) (passFault n (now (meta .entry)) c shape (now (list .entry)) (now (chunks .entry))) (now (meta .entry)) shape (now (list .entry)) ⌝ }
 {
@@ -49,7 +49,7 @@ fn pass_chunks(meta: &mut [u32], n: u32, c: u32, shape: Shape, list: &[u32], chu
 }
 
 // Each number over the whole list, from 13 for a mark on.
-fn take_tested(meta: &mut [u32], n: u32, c: u32, shape: Shape, list: &[u32], chunks: &[u32]) -> u32
+fn take_tested(meta: &mut [u32], n: u32, c: u32, shape: Shape, list: &[u64], chunks: &[u64]) -> u32
     requires { ⌜ ListedAsks n (now meta) c shape (now list) (now chunks) ⌝ }
     ensures { λ r. ⌜ TakenBy r (now (meta .exit)) (testFault n (now (meta .entry)) c shape (now (list .entry)) (now (chunks .entry))) (now (meta .entry)) shape (now (list .entry)) ⌝ }
 {
@@ -61,7 +61,7 @@ fn take_tested(meta: &mut [u32], n: u32, c: u32, shape: Shape, list: &[u32], chu
 }
 
 // The same, at once where that goes.
-fn take_listed(meta: &mut [u32], n: u32, c: u32, shape: Shape, list: &[u32], chunks: &[u32]) -> u32
+fn take_listed(meta: &mut [u32], n: u32, c: u32, shape: Shape, list: &[u64], chunks: &[u64]) -> u32
     requires { ⌜ ListedAsks n (now meta) c shape (now list) (now chunks) ⌝ }
     ensures { λ r. ⌜ TakenBy r (now (meta .exit)) (testFault n (now (meta .entry)) c shape (now (list .entry)) (now (chunks .entry))) (now (meta .entry)) shape (now (list .entry)) ⌝ }
 {
@@ -78,8 +78,8 @@ fn test_chunks(
     c: u32,
     shape: Shape,
     host: u32,
-    list: &[u32],
-    chunks: &[u32],
+    list: &[u64],
+    chunks: &[u64],
     fates: &mut [u32],
 ) -> u32
     requires { ⌜ TestAsks n (now meta) c shape (now list) (now chunks) (now fates) ⌝ }
@@ -100,8 +100,8 @@ pub fn release_chunks(
     c: u32,
     shape: Shape,
     host: u32,
-    list: &[u32],
-    chunks: &[u32],
+    list: &[u64],
+    chunks: &[u64],
     fates: &mut [u32],
 ) -> u32
     requires { ⌜ CallAsks n (now meta) c shape ⌝ }

@@ -1,5 +1,6 @@
 // Number 13 for a group release: the chunks' pages, the row, and the arena where runs go to it.
 ghost use mathlib.Core.Path.{_≡_};
+ghost use Prim.Native.Nat.{_^_, _<_};
 ghost use Rattle.facts.specs.Lists.{every};
 ghost use Rattle.calls.specs.Chunks.{returnsAll, runsGiven, pagesGiven, chunksFair};
 ghost use Rattle.pages.specs.Asks.{PageAsks};
@@ -8,6 +9,7 @@ ghost use Rattle.chunks.specs.GiveAsks.{givesFair};
 ghost use Rattle.chunks.specs.FairAsks.{chunkFair, spotted, counted, PagesAsks, ReturnsAsks, SpottedAsks, CountAsks, RunsAsks, PagesGivenAsks, ChunksFairAsks};
 use classes::Shape;
 use model::Spot;
+use pages::chunk_page;
 use rules::Limits;
 use words::Word;
 
@@ -18,15 +20,16 @@ pub struct Stores {
     pub runs: u32,
 }
 
-fn chunk_fair(meta: &[u32], shape: Shape, chunk: u32) -> bool
+fn chunk_fair(meta: &[u32], shape: Shape, chunk: u64) -> bool
     requires { ⌜ PageAsks (now meta) (pageOf chunk) ⌝ }
+    requires { ⌜ pageOf chunk < 2 ^ 32 ⌝ }
     ensures { λ r. ⌜ r ≡ chunkFair (now (meta .entry)) shape chunk ⌝ }
 {
     let count = Word::of(chunk).count();
-    release::page_fair(meta, shape, count as usize, Word::of(chunk).page())
+    release::page_fair(meta, shape, count as usize, chunk_page(chunk))
 }
 
-fn pages_fair(meta: &[u32], n: u32, shape: Shape, chunks: &[u32]) -> bool
+fn pages_fair(meta: &[u32], n: u32, shape: Shape, chunks: &[u64]) -> bool
     requires { ⌜ PagesAsks n (now meta) (now chunks) ⌝ }
     ensures { λ r. ⌜ r ≡ every (chunkFair (now (meta .entry)) shape) (now (chunks .entry)) ⌝ }
 {
@@ -42,11 +45,11 @@ fn pages_fair(meta: &[u32], n: u32, shape: Shape, chunks: &[u32]) -> bool
 }
 
 // The chunk returns all blocks that its page has out.
-fn returns_all(meta: &[u32], chunk: u32) -> bool
+fn returns_all(meta: &[u32], chunk: u64) -> bool
     requires { ⌜ ReturnsAsks (now meta) chunk ⌝ }
     ensures { λ r. ⌜ r ≡ returnsAll (now (meta .entry)) chunk ⌝ }
 {
-    let q = Word::of(chunk).page();
+    let q = chunk_page(chunk);
     let out = fields::page::carved(meta, q) - fields::page::free(meta, q);
     out == Word::of(chunk).count()
 }
@@ -75,7 +78,7 @@ fn count_spot(s: Stores, spot: Spot) -> Stores
     }
 }
 
-fn count_chunk(meta: &[u32], shape: Shape, limits: Limits, chunk: u32, s: Stores) -> Stores
+fn count_chunk(meta: &[u32], shape: Shape, limits: Limits, chunk: u64, s: Stores) -> Stores
     requires { ⌜ CountAsks (now meta) shape chunk s ⌝ }
     ensures { λ r. ⌜ r ≡ counted (now (meta .entry)) shape limits chunk s ⌝ }
 {
@@ -91,7 +94,7 @@ fn runs_given(
     n: u32,
     shape: Shape,
     limits: Limits,
-    chunks: &[u32],
+    chunks: &[u64],
     empties: u32,
     colds: u32,
 ) -> u32
@@ -112,7 +115,7 @@ fn runs_given(
 }
 
 // The words that giving those runs reads, if there are any.
-fn gives_fair(meta: &[u32], n: u32, c: u32, shape: Shape, chunks: &[u32]) -> bool
+fn gives_fair(meta: &[u32], n: u32, c: u32, shape: Shape, chunks: &[u64]) -> bool
     requires { ⌜ PagesGivenAsks n (now meta) c shape (now chunks) ⌝ }
     ensures { λ r. ⌜ r ≡ givesFair n (now (meta .entry)) (pagesGiven (now (meta .entry)) c shape (now (chunks .entry))) ⌝ }
 {
@@ -126,7 +129,7 @@ fn gives_fair(meta: &[u32], n: u32, c: u32, shape: Shape, chunks: &[u32]) -> boo
     runs::give::give_fair(meta, n, given)
 }
 
-pub fn chunks_fair(meta: &[u32], n: u32, c: u32, shape: Shape, chunks: &[u32]) -> bool
+pub fn chunks_fair(meta: &[u32], n: u32, c: u32, shape: Shape, chunks: &[u64]) -> bool
     requires { ⌜ ChunksFairAsks n (now meta) c shape (now chunks) ⌝ }
     ensures { λ r. ⌜ r ≡ chunksFair n (now (meta .entry)) c shape (now (chunks .entry)) ⌝ }
 {

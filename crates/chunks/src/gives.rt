@@ -5,22 +5,22 @@ ghost use Rattle.calls.specs.Chunks.{givesOf, giveRuns};
 ghost use Rattle.chunks.specs.Pass.{givesIn};
 ghost use Rattle.chunks.specs.GiveAsks.{GiveChunkAsks, GiveChunksAsks};
 use classes::Shape;
+use pages::chunk_page;
 use release::ARENA_FATE;
 use release::RETIRED;
-use words::Word;
 
 // The chunk's page, if its fate is the arena.
-fn give_chunk(meta: &mut [u32], n: u32, pages: u32, chunk: u32, fate: u32)
+fn give_chunk(meta: &mut [u32], n: u32, pages: u32, chunk: u64, fate: u32)
     requires { ⌜ GiveChunkAsks n (now meta) pages chunk fate ⌝ }
     ensures { λ _. ⌜ now (meta .exit) ≡ giveRuns (now (meta .entry)) pages (givesOf (pageOf chunk) fate) ⌝ }
 {
     if fate != RETIRED + ARENA_FATE {
         return;
     }
-    runs::give::give(meta, n, Word::of(chunk).page(), pages);
+    runs::give::give(meta, n, chunk_page(chunk), pages);
 }
 
-pub fn give_chunks(meta: &mut [u32], n: u32, shape: Shape, chunks: &[u32], fates: &[u32])
+pub fn give_chunks(meta: &mut [u32], n: u32, shape: Shape, chunks: &[u64], fates: &[u32])
     requires { ⌜ GiveChunksAsks n (now meta) shape (now chunks) (now fates) ⌝ }
     ensures { λ _. ⌜ now (meta .exit) ≡ giveRuns (now (meta .entry)) (shape .pages) (givesIn (now (chunks .entry)) (now (fates .entry))) ⌝ }
 {

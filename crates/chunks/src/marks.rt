@@ -5,23 +5,25 @@ ghost use Rattle.facts.specs.Lists.{every};
 ghost use Rattle.tally.specs.Match.{inArena};
 ghost use Rattle.chunks.specs.Marks.{pageReady, takePages, clearPages};
 ghost use Rattle.chunks.specs.MarkAsks.{OwnAsks, OwnMarked, SweepAsks, ReadyAsks};
-use super::place::page_of;
 use classes::Shape;
+use pages::chunk_page;
 use pages::page_at;
+use pages::page_within;
 use release::clear_marks;
 use release::mark_run;
 use release::no_marks;
 use release::take_marks;
+use tally::is_page;
 
 // 0 if a word's page is in the arena.
-fn past_arena(n: u32, w: u32) -> u32
+fn past_arena(n: u32, w: u64) -> u32
     ensures { λ r. ⌜ eqb r 0 ≡ inArena n w ⌝ }
 {
-    if page_at(w) < n { 0 } else { 1 }
+    if page_at(w) < n as u64 { 0 } else { 1 }
 }
 
 // Whether every listed word's is; gathered to the end, as in `all_of_kind`.
-pub fn all_in_arena(n: u32, list: &[u32]) -> bool
+pub fn all_in_arena(n: u32, list: &[u64]) -> bool
     ensures { λ r. ⌜ r ≡ every (inArena n) (now (list .entry)) ⌝ }
 {
     let mut any = 0;
@@ -34,18 +36,20 @@ pub fn all_in_arena(n: u32, list: &[u32]) -> bool
 }
 
 // Whether a chunk's page is a run of the class, and words 0 to m - 1 of its marks are 0.
-fn page_ready(meta: &[u32], n: u32, c: u32, shape: Shape, m: u32, chunk: u32) -> bool
+fn page_ready(meta: &[u32], n: u32, c: u32, shape: Shape, m: u32, chunk: u64) -> bool
     requires { ⌜ ReadyAsks n (now meta) c shape m ⌝ }
     ensures { λ r. ⌜ r ≡ pageReady n (now (meta .entry)) c shape m chunk ⌝ }
 {
-    let q = page_of(chunk);
-    if lists::whole(meta, n, c, shape, q) {
-        return no_marks(meta, q, m);
+    if is_page(n, chunk) {
+        let q = chunk_page(chunk);
+        if lists::whole(meta, n, c, shape, q) {
+            return no_marks(meta, q, m);
+        }
     }
     false
 }
 
-pub fn pages_ready(meta: &[u32], n: u32, c: u32, shape: Shape, m: u32, chunks: &[u32]) -> bool
+pub fn pages_ready(meta: &[u32], n: u32, c: u32, shape: Shape, m: u32, chunks: &[u64]) -> bool
     requires { ⌜ ReadyAsks n (now meta) c shape m ⌝ }
     ensures { λ r. ⌜ r ≡ every (pageReady n (now (meta .entry)) c shape m) (now (chunks .entry)) ⌝ }
 {
@@ -61,13 +65,13 @@ pub fn pages_ready(meta: &[u32], n: u32, c: u32, shape: Shape, m: u32, chunks: &
 }
 
 // The listed words are marked, up to the first that is not out on its page or is marked: its place. Neighbours on one page go together.
-pub fn mark_words(meta: &mut [u32], n: u32, shape: Shape, list: &[u32]) -> usize
+pub fn mark_words(meta: &mut [u32], n: u32, shape: Shape, list: &[u64]) -> usize
     requires { ⌜ OwnAsks n (now meta) shape (now list) ⌝ }
     ensures { λ r. ⌜ OwnMarked r (now (meta .exit)) (now (meta .entry)) shape (now (list .entry)) ⌝ }
 {
     let mut i = 0;
     while i < list.len() {
-        let next = mark_run(meta, shape, page_at(list[i]), list, i);
+        let next = mark_run(meta, shape, page_within(list[i]), list, i);
         if next == i {
             return i;
         }
@@ -77,25 +81,25 @@ pub fn mark_words(meta: &mut [u32], n: u32, shape: Shape, list: &[u32]) -> usize
 }
 
 // On every chunk's page the marked blocks are out no longer, and the marks become 0.
-pub fn take_pages(meta: &mut [u32], n: u32, m: u32, chunks: &[u32])
+pub fn take_pages(meta: &mut [u32], n: u32, m: u32, chunks: &[u64])
     requires { ⌜ SweepAsks n (now meta) m (now chunks) ⌝ }
     ensures { λ _. ⌜ now (meta .exit) ≡ takePages (now (meta .entry)) m (now (chunks .entry)) ⌝ }
 {
     let mut i = 0;
     while i < chunks.len() {
-        take_marks(meta, page_of(chunks[i]), m);
+        take_marks(meta, chunk_page(chunks[i]), m);
         i += 1;
     }
 }
 
 // The marks become 0.
-pub fn clear_pages(meta: &mut [u32], n: u32, m: u32, chunks: &[u32])
+pub fn clear_pages(meta: &mut [u32], n: u32, m: u32, chunks: &[u64])
     requires { ⌜ SweepAsks n (now meta) m (now chunks) ⌝ }
     ensures { λ _. ⌜ now (meta .exit) ≡ clearPages (now (meta .entry)) m (now (chunks .entry)) ⌝ }
 {
     let mut i = 0;
     while i < chunks.len() {
-        clear_marks(meta, page_of(chunks[i]), m);
+        clear_marks(meta, chunk_page(chunks[i]), m);
         i += 1;
     }
 }

@@ -1,23 +1,16 @@
 // Where the chunks' pages go once their blocks are back, in the chunks' order.
 ghost use mathlib.Core.Path.{_≡_};
-ghost use Rattle.words.specs.Word.{pageOf};
 ghost use Rattle.calls.specs.Release.{emptied};
 ghost use Rattle.pages.specs.Asks.{PageAsks};
 ghost use Rattle.release.specs.Act.{ParkingAsks, Parked};
 ghost use Rattle.chunks.specs.Pass.{placeAt};
 ghost use Rattle.chunks.specs.PlaceAsks.{PlaceAsks, Placed};
 use classes::Shape;
+use pages::chunk_page;
 use release::KEPT_FATE;
 use release::RETIRED;
 use release::park_empty_page;
 use release::relist;
-use words::Word;
-
-pub fn page_of(chunk: u32) -> u32
-    ensures { λ r. ⌜ r ≡ pageOf chunk ⌝ }
-{
-    Word::of(chunk).page()
-}
 
 // A retired page is carved anew when it is used again.
 fn retire(meta: &mut [u32], q: u32)
@@ -48,7 +41,7 @@ pub fn place_chunks(
     c: u32,
     shape: Shape,
     host: u32,
-    chunks: &[u32],
+    chunks: &[u64],
     fates: &mut [u32],
 )
     requires { ⌜ PlaceAsks (now meta) c shape (now chunks) (now fates) ⌝ }
@@ -56,7 +49,7 @@ pub fn place_chunks(
 {
     let mut i = 0;
     while i < chunks.len() {
-        fates[i] = place_chunk(meta, c, shape, host, page_of(chunks[i]));
+        fates[i] = place_chunk(meta, c, shape, host, chunk_page(chunks[i]));
         i += 1;
     }
 }

@@ -10,7 +10,7 @@ use classes::Shape;
 use tally::chunks_match;
 
 // All listed blocks are marked: they are taken, or else the marks are.
-fn take_marked(meta: &mut [u32], n: u32, c: u32, shape: Shape, m: u32, chunks: &[u32]) -> bool
+fn take_marked(meta: &mut [u32], n: u32, c: u32, shape: Shape, m: u32, chunks: &[u64]) -> bool
     requires { ⌜ MarkedAsks n (now meta) c shape m (now chunks) ⌝ }
     ensures { λ r. ⌜ TookMarked r (now (meta .exit)) n (now (meta .entry)) c shape m (now (chunks .entry)) ⌝ }
 {
@@ -29,8 +29,8 @@ fn mark_and_take(
     c: u32,
     shape: Shape,
     m: u32,
-    list: &[u32],
-    chunks: &[u32],
+    list: &[u64],
+    chunks: &[u64],
 ) -> bool
     requires { ⌜ SetAsks n (now meta) c shape m (now list) (now chunks) ⌝ }
     ensures { λ r. ⌜ Tried r (now (meta .exit)) n (now (meta .entry)) c shape (now (list .entry)) (now (chunks .entry)) ⌝ }
@@ -49,8 +49,8 @@ fn take_matched(
     n: u32,
     c: u32,
     shape: Shape,
-    list: &[u32],
-    chunks: &[u32],
+    list: &[u64],
+    chunks: &[u64],
 ) -> bool
     requires { ⌜ MatchedAsks n (now meta) c shape (now list) (now chunks) ⌝ }
     ensures { λ r. ⌜ Tried r (now (meta .exit)) n (now (meta .entry)) c shape (now (list .entry)) (now (chunks .entry)) ⌝ }
@@ -67,8 +67,8 @@ pub fn try_take(
     n: u32,
     c: u32,
     shape: Shape,
-    list: &[u32],
-    chunks: &[u32],
+    list: &[u64],
+    chunks: &[u64],
 ) -> bool
     requires { ⌜ TryAsks n (now meta) c shape (now chunks) ⌝ }
     ensures { λ r. ⌜ Tried r (now (meta .exit)) n (now (meta .entry)) c shape (now (list .entry)) (now (chunks .entry)) ⌝ }

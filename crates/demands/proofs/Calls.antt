@@ -1,5 +1,5 @@
 -- A call by the exported functions' definitions, on a book that stands for a heap, is the call on the words that the refinement knows.
---     room, opens    an opening is not refused exactly where the arena is of 1 to 262,144 pages, the book is long enough for it and the rule
+--     room, opens    an opening is not refused exactly where the arena is of 1 to 1,048,576 pages, the book is long enough for it and the rule
 --                    rows cover the classes
 --     refused-book   a refused one leaves the book as it was
 --     no-fault       numbers 1 and 2 do not apply to a book that stands for a heap

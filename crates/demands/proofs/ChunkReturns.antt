@@ -37,7 +37,7 @@ use Rattle.model.proofs.Sites.{Once, GoodClass, SiteLaw, SiteLaws, Tells, outFr
 use Rattle.pages.specs.Stack.{pageAt}
 use Rattle.refinement.proofs.OutTests.{once-here}
 use Rattle.demands.specs.Run.{Opens, next, told}
-use Rattle.demands.specs.Returns.{Twice, Plain, ChunksOut, countFits}
+use Rattle.demands.specs.Returns.{Twice, Plain, ChunksOut, countFits, groupsFit}
 use Rattle.demands.proofs.Calls.{room}
 use Rattle.demands.proofs.Codes.{next-host, next-answer, next-unrefused, next-zero}
 use Rattle.demands.proofs.Places.{out-block, page-of, Lies, lies, same-page, good-class, once-class, low-site}
@@ -52,7 +52,7 @@ filter-is : (t u : ℕ → Bool) (ws : List ℕ) → ((w : ℕ) → elem w ws �
 filter-is t u [] f = refl
 filter-is t u (w ∷ ws) f = rw (f w (elem-first w ws), filter-is t u ws (λ v m. f v (elem-later w v ws m)))
 
-filter-none : (t : ℕ → Bool) (ws : List ℕ) → ((w : ℕ) → elem w ws ≡ true → t w ≡ false) → filter t ws ≡ []
+pub filter-none : (t : ℕ → Bool) (ws : List ℕ) → ((w : ℕ) → elem w ws ≡ true → t w ≡ false) → filter t ws ≡ []
 filter-none t [] f = refl
 filter-none t (w ∷ ws) f = rw (f w (elem-first w ws), filter-none t ws (λ v m. f v (elem-later w v ws m)))
 
@@ -155,7 +155,7 @@ module _ (sh : Shape) (lim : Limits) (s : Class) (h : ℕ) (ws gs fs : List ℕ)
   tests-chunks t =
       rw (t .listed, t .grouped, t .few, t .room, t .kinds, t .groupKinds, single-here sh s ws (t .out) (t .single), t .out, t .pages, t .counts, t .present)
 
-  -- the lists pass all tests before 15, and fail that of 15, or that of 10
+  -- the lists pass all tests before 15, and fail that of 15, of 10 or of 11
   module _ (listed : isNil ws ≡ false) (grouped : isNil gs ≡ false) (few : ltb chunksMax (length gs) ≡ false) (room : ltb (length fs) (length gs) ≡ false)
       (kinds : every (ofKind (sh .kind)) ws ≡ true) (groupKinds : every (ofKind chunkKind) gs ≡ true) where
     refused-fifteen : repeats sh s ws ≡ true → serve (answer sh lim s (Calls.giveChunks h ws gs fs)) g .answer ≡ Calls.refused 15
@@ -165,6 +165,11 @@ module _ (sh : Shape) (lim : Limits) (s : Class) (h : ℕ) (ws gs fs : List ℕ)
     refused-ten : repeats sh s ws ≡ false → every (outHere sh s) ws ≡ false → serve (answer sh lim s (Calls.giveChunks h ws gs fs)) g .answer ≡ Calls.refused 10
     unfolding answer releaseChunks
     refused-ten u t = rw (listed, grouped, few, room, kinds, groupKinds, u, t)
+
+    refused-eleven : repeats sh s ws ≡ false → every (outHere sh s) ws ≡ true → (distinct (map pageOf gs) && (every (chunkFits sh s ws) gs && every (chunked sh s gs) ws)) ≡ false
+        → serve (answer sh lim s (Calls.giveChunks h ws gs fs)) g .answer ≡ Calls.refused 11
+    unfolding answer releaseChunks
+    refused-eleven u t e = rw (listed, grouped, few, room, kinds, groupKinds, u, t, e)
 
 -- ---- on the words
 small-paged : (c : ℕ) → c < 64 → shapeOf c .pages ≡ 1
@@ -266,6 +271,14 @@ module _ (n : ℕ) (rows b : List ℕ) (o : Opens n rows b) (xs : List Call) (c 
         class-answer
         ∙ refused-ten (shapeOf c) limits class h ws gs fs gives (p .listed) (p .grouped) (le-ltb chunksMax (length gs) (p .few)) (le-ltb (length fs) (length gs) (p .room)) (p .kinds) (p .groupKinds) u (not-all n rows b o xs c ws u r)
 
+    pub not-grouped-of : AllOut (told n rows b xs) c ws → groupsFit ws gs ≡ false → next n rows b xs x .answer ≡ Calls.refused 11
+    unfolding classCall interact finish
+    not-grouped-of a e =
+        let out = out-all n rows b o xs c ws a in
+        class-answer
+        ∙ refused-eleven (shapeOf c) limits class h ws gs fs gives (p .listed) (p .grouped) (le-ltb chunksMax (length gs) (p .few)) (le-ltb (length fs) (length gs) (p .room)) (p .kinds) (p .groupKinds)
+        (single-here (shapeOf c) class ws out (a .once)) out (rw (counts-told out, presence-told out) e)
+
 pub chunks-return : (n : ℕ) (rows b : List ℕ) → Opens n rows b → (xs : List Call) (c h : ℕ) (ws gs fs : List ℕ) → c < 64
     → (next n rows b xs (Calls.releaseBinChunks c h ws gs fs) .code ≡ 0) ↔ ChunksOut (told n rows b xs) c h ws gs fs
 chunks-return n rows b o xs c h ws gs fs l = chunks-return-of n rows b o xs c h ws gs fs l
@@ -277,3 +290,7 @@ chunks-repeated n rows b o xs c h ws gs fs l = repeated-of n rows b o xs c h ws 
 pub chunks-not-out : (n : ℕ) (rows b : List ℕ) → Opens n rows b → (xs : List Call) (c h : ℕ) (ws gs fs : List ℕ) → c < 64 → Plain c h ws gs fs → (Twice (told n rows b xs) c ws → ⊥) → (AllOut (told n rows b xs) c ws → ⊥)
     → next n rows b xs (Calls.releaseBinChunks c h ws gs fs) .answer ≡ Calls.refused 10
 chunks-not-out n rows b o xs c h ws gs fs l = not-out-of n rows b o xs c h ws gs fs l
+
+pub chunks-not-grouped : (n : ℕ) (rows b : List ℕ) → Opens n rows b → (xs : List Call) (c h : ℕ) (ws gs fs : List ℕ) → c < 64 → Plain c h ws gs fs → AllOut (told n rows b xs) c ws → groupsFit ws gs ≡ false
+    → next n rows b xs (Calls.releaseBinChunks c h ws gs fs) .answer ≡ Calls.refused 11
+chunks-not-grouped n rows b o xs c h ws gs fs l = not-grouped-of n rows b o xs c h ws gs fs l

@@ -32,7 +32,7 @@ use Rattle.demands.proofs.Told.{told-answers, told-disjoint, told-iso}
 use Rattle.demands.proofs.Sizes as Sizes
 use Rattle.demands.proofs.Fits.{commit-fits, run-fits, holes-counted, take-yields}
 use Rattle.demands.proofs.Returns.{word-returns, list-returns, repeated, not-out, not-together}
-use Rattle.demands.proofs.ChunkReturns.{chunks-return, chunks-repeated, chunks-not-out}
+use Rattle.demands.proofs.ChunkReturns.{chunks-return, chunks-repeated, chunks-not-out, chunks-not-grouped}
 use Rattle.demands.proofs.Held.{held-releases, unheld-refused, held-grows, unheld-stays, growth-fits}
 use Rattle.demands.proofs.Gives.{none-touch, run-given, commit-given, growth-given, class-given}
 use Rattle.demands.proofs.Unused.{commit-unused, growth-unused, class-unused}
@@ -95,6 +95,7 @@ at-opening n rows b o xs = record {
   notTogether = not-together n rows b o xs;
   repeatedChunks = chunks-repeated n rows b o xs;
   notOutChunks = chunks-not-out n rows b o xs;
+  notGrouped = chunks-not-grouped n rows b o xs;
   releases = held-releases n rows b o xs;
   unheld = unheld-refused n rows b o xs;
   holeTotal = holes-counted n rows b o xs;

@@ -13,7 +13,7 @@ use lib.ListN.{length, getD}
 use borrow.Author.Tests.{eqb-true}
 use Rattle.facts.specs.Lists.{All, total}
 use Rattle.facts.proofs.Bools.{by-cases}
-use Rattle.words.specs.Word.{kindOf}
+use Rattle.words.specs.Word.{kindBits, kindOf}
 use Rattle.model.specs.Entries.{Entry, In, entriesFrom, blockBytes}
 use Rattle.trace.specs.Trace.{Handed, handed, isOut, bytesOf, outAt, backAt, callsAt, backOf}
 use Rattle.trace.specs.Words as Words
@@ -96,8 +96,8 @@ record Turns (w : ℕ) : Type 0 where
 
 turns : (w : ℕ) → isBlock w ≡ true → Turns w
 turns w h = elim (kinds w h) [
-  | inl e ↦ (let k : kindOf (w - 2 ^ 30) ≡ 0 = omega arith in record { gone = rw (e, k); again = rw (e, k) (omega arith); same = rw e })
-  | inr e ↦ (let k : kindOf (w + 2 ^ 30) ≡ 3 = omega arith in record { gone = rw (e, k); again = rw (e, k) (omega arith); same = rw e })
+  | inl e ↦ (let k : kindOf (w - 2 ^ kindBits) ≡ 0 = omega arith in record { gone = rw (e, k); again = rw (e, k) (omega arith); same = rw e })
+  | inr e ↦ (let k : kindOf (w + 2 ^ kindBits) ≡ 3 = omega arith in record { gone = rw (e, k); again = rw (e, k) (omega arith); same = rw e })
 ]
 
 pub out-mark : (p : ℕ) (hs : List Handed) → All (λ (h : Handed). Block (h .entry)) hs → Words.outAt p (map markOf hs) ≡ outAt p hs

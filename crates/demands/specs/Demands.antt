@@ -32,7 +32,7 @@ use Rattle.refinement.specs.Run.{answersIn}
 use Rattle.demands.specs.Call.{call}
 use Rattle.demands.specs.Run.{answered}
 use Rattle.demands.specs.Start.{Start, pages, Starts, calls, bookAfter, replies, told, rules}
-use Rattle.demands.specs.Returns.{Twice, OneRun, ListOut, Plain, ChunksOut}
+use Rattle.demands.specs.Returns.{Twice, OneRun, ListOut, groupsFit, Plain, ChunksOut}
 
 -- ---- Demand 3, "one claim about whole histories, not one for each call"
 pub record Demand3 : Type 0 where
@@ -153,6 +153,8 @@ pub record Demand2At (n : ℕ) (limits : Rules) (b : List ℕ) (xs : List Call) 
       → call b (Calls.releaseBinChunks c h ws gs fs) .answer ≡ Calls.refused 15
   pub notOutChunks : (c h : ℕ) (ws gs fs : List ℕ) → c < 64 → Plain c h ws gs fs → (Twice (answered xs rs) c ws → ⊥) → (AllOut (answered xs rs) c ws → ⊥)
       → call b (Calls.releaseBinChunks c h ws gs fs) .answer ≡ Calls.refused 10
+  pub notGrouped : (c h : ℕ) (ws gs fs : List ℕ) → c < 64 → Plain c h ws gs fs → AllOut (answered xs rs) c ws → groupsFit ws gs ≡ false
+      → call b (Calls.releaseBinChunks c h ws gs fs) .answer ≡ Calls.refused 11
   -- a run can be released directly exactly if each of its pages is held by the direct calls
   pub releases : (h q m : ℕ) → h ≤ hostMax → badRun m ≡ false
       → (call b (Calls.release h q m) .code ≡ 0) ↔ ((k : ℕ) → k < m → directAfter (answered xs rs) (q + k) ≡ true)

@@ -19,3 +19,4 @@ pub mod Parking
 pub mod ChangePlaces
 pub mod Reorders
 pub mod Repeats
+pub mod Wide

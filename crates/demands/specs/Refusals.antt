@@ -50,7 +50,7 @@ use Rattle.demands.specs.Ranges.{stateKnown, inRange, strays}
 use Rattle.demands.specs.Reads.{commitReads, giveReads, reportReads, takeReads, barren, markReads, releaseReads, chunksReads, growReads}
 
 -- ---- when each number applies
--- 1. "Arena length, given at opening or stored as the book's first word, is 0 (an empty book reads so) or above 262,144."
+-- 1. "Arena length, given at opening or stored as the book's first word, is 0 (an empty book reads so)", or, since document 02, A.11, above 1,048,576.
 abbrev pub badLength : ℕ → Bool
 badLength n = eqb n 0 || ltb maxPages n
 

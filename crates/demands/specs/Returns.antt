@@ -51,6 +51,10 @@ pub record ListOut (vs : List Event) (c h : ℕ) (ws : List ℕ) : Type 0 where
 abbrev pub countFits : List ℕ → ℕ → Bool
 countFits ws g = not (eqb (countOf g) 0) && eqb (countOf g) (length (filter (λ w. eqb (pageAt w) (pageOf g)) ws))
 
+-- number 11 does not apply to groups: none has "a page twice, a count 0 or not the list's", and the list no "page missing"
+abbrev pub groupsFit : List ℕ → List ℕ → Bool
+groupsFit ws gs = distinct (map pageOf gs) && (every (countFits ws) gs && every (λ w. elem (pageAt w) (map pageOf gs)) ws)
+
 -- a group release
 pub record Plain (c h : ℕ) (ws gs fs : List ℕ) : Type 0 where
   pub host : h ≤ hostMax  -- 3

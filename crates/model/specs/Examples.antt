@@ -238,6 +238,10 @@ rules =
     ∷ onLimits (limits 0 256) 45 0 0 (parked 1 0 1)
     ∷ onRuled (0 ∷ 75 ∷ 0 ∷ 0 ∷ []) (take45 ∷ give45 15 three ∷ take45 ∷ releaseBinChunks 45 15 three (chunkWord 3 0 ∷ []) (9 ∷ 9 ∷ []) ∷ mediumTakeBlocks 0 15 (lent 10) ∷ mediumReleaseBlocks 0 15 (mediums (rising 65600 18432 10)) ∷ [])
     (taken45 0 true ∷ fate 2 ∷ taken45 0 true ∷ fates (6 ∷ 9 ∷ []) ∷ taken 10 (mediums (rising 65600 18432 10)) true ∷ fate 2 ∷ []) (hole 0 4 ∷ [])
+    -- "a block's granule in the low 62", "a group's count in the 12 below the kind and its page in the low 50" (document 02, A.11): a granule
+    -- beyond the arena is 10, a group's page beyond it 11, also where the lower bits alone, 32, 30 or 18 of them, are those of one that is out
+    ∷ onNewHeap (take45 ∷ give45 15 (smalls ((2 ^ 32 + 3) ∷ [])) ∷ give45 15 (smalls (2051 ∷ (2 ^ 30 + 3) ∷ [])) ∷ releaseBinChunks 45 15 (smalls ((2 ^ 61 + 3) ∷ [])) (chunkWord 1 0 ∷ []) (9 ∷ []) ∷ releaseBinChunks 45 15 three (chunkWord 3 262144 ∷ []) (9 ∷ []) ∷ releaseBinChunks 45 15 three (chunkWord 3 (2 ^ 32) ∷ []) (9 ∷ []) ∷ give45 15 three ∷ [])
+    (taken45 0 true ∷ refused 10 ∷ refused 10 ∷ refused 10 ∷ refused 11 ∷ refused 11 ∷ fate 0 ∷ []) []
     -- "A row's limits hold for each of its classes alone", the empty one before the cold one: rows in any order, two pages of each of two classes
     ∷ onRuled (45 ∷ 45 ∷ 1 ∷ 0 ∷ 0 ∷ 44 ∷ 0 ∷ 0 ∷ 46 ∷ 75 ∷ 0 ∷ 1 ∷ []) (take45 ∷ take45 ∷ take46 ∷ take46 ∷ map (λ q. give45 15 (threeOf (q * 4096))) (0 ∷ 1 ∷ []) ++ map (λ q. releaseBlocks 46 15 (threeOf (q * 4096))) (2 ∷ 3 ∷ []))
     (map (λ q. taken45 (q * 4096) true) (0 ∷ 1 ∷ 2 ∷ 3 ∷ []) ++ fate 0 ∷ fate 2 ∷ fate 1 ∷ fate 2 ∷ []) (hole 1 1 ∷ hole 3 1 ∷ [])
@@ -250,9 +254,9 @@ unfoldable pub examples : List Example
 examples =
     -- P1 to P5
     map ofSize Lookups.examples ++
-    -- P6: "64 words, granules 66 down to 3, virgin; first word 1,073,741,890"
+    -- P6: "64 words, granules 66 down to 3, virgin"; "P6's first word becomes 2 to the 62nd plus 66" (document 02, A.11)
     onNewHeap (take0 ∷ [])
-    (taken 64 (1073741890 ∷ smalls (down 65 3)) true ∷ []) []
+    (taken 64 (4611686018427387970 ∷ smalls (down 65 3)) true ∷ []) []
     -- P7: "then release granule 10 and take: 129 down to 67, then 10, not virgin"
     ∷ onNewHeap (take0 ∷ releaseBlocks 0 15 (smalls (10 ∷ [])) ∷ take0 ∷ [])
     (taken 64 (smalls (down 66 3)) true ∷ fate 0 ∷ taken 64 (smalls (down 129 67 ++ 10 ∷ [])) false ∷ []) []

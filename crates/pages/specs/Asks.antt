@@ -14,7 +14,7 @@ use Rattle.fields.specs.Field.{class, page, partial, next, prev, words, get}
 use Rattle.fields.specs.Ranges.{maxPages, maxParked}
 use Rattle.pages.specs.declared.Park.{Park}
 use Rattle.pages.specs.Links.{stored}
-use Rattle.pages.specs.Stack.{tops, latest, pageSlots}
+use Rattle.pages.specs.Stack.{tops, latest, indexOf, pageSlots}
 
 -- ---- the class's lists
 pub record RowAsks (b : List ℕ) (c : ℕ) : Type 0 where
@@ -101,9 +101,11 @@ pub record WordAsks (sh : Shape) (q i : ℕ) : Type 0 where
   pub below : q + sh .pages ≤ maxPages
   pub block : i < sh .capacity
 
-pub record IndexAsks (sh : Shape) (q : ℕ) : Type 0 where
+-- the word w's block has an out bit in the run at q
+pub record IndexAsks (sh : Shape) (q w : ℕ) : Type 0 where
   pub sound : Sound sh
   pub below : q < maxPages
+  pub bit : ltb (indexOf sh q w) pageSlots ≡ true
 
 -- block i of page q is given, to the list's place below `at`
 pub record GiveAsks (b : List ℕ) (sh : Shape) (q : ℕ) (l : List ℕ) (at i : ℕ) : Type 0 where
@@ -173,6 +175,7 @@ pub record PushAsks (b : List ℕ) (sh : Shape) (q : ℕ) (ws : List ℕ) : Type
   pub below : q < maxPages
   pub there : words (q + 1) ≤ length b
   pub slots : get b (page Field.free q) + length ws ≤ pageSlots
+  pub bits : every (λ w. ltb (indexOf sh q w) pageSlots) ws ≡ true
 
 -- the words ws laid on a stack whose top stands below t
 pub record LayAsks (b : List ℕ) (sh : Shape) (q t : ℕ) (ws : List ℕ) : Type 0 where
@@ -180,3 +183,4 @@ pub record LayAsks (b : List ℕ) (sh : Shape) (q t : ℕ) (ws : List ℕ) : Typ
   pub below : q < maxPages
   pub there : words (q + 1) ≤ length b
   pub slots : t + length ws ≤ pageSlots
+  pub bits : every (λ w. ltb (indexOf sh q w) pageSlots) ws ≡ true

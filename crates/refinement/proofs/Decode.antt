@@ -4,7 +4,7 @@
 --     out-sits, sits-out     the model's `isOut` says so of a represented page
 --     in-sits, sits-in       and so does `outIn`
 --     sits-at            then the word is out in the class, and its run is the page's
-use Prim.Native.Nat.{ℕ, zero, suc, _+_, _-_, _*_, _/_, _^_, _≤_, _<_}
+use Prim.Native.Nat.{ℕ, zero, suc, _+_, _-_, _*_, _/_, _≤_, _<_}
 use native.Mathlib.Omega.{arith}
 use native.Mathlib.Nat.{zero-add, mul-le-mul-right, mul-div-cancel}
 use native.Mathlib.Decide.{ℕ-discrete, decLe}
@@ -15,7 +15,7 @@ use lib.Dec.{eqb, ltb, leb}
 use borrow.Author.Tests.{eq-eqb, ne-eqb, eqb-true, eqb-false, ltb-true, leb-true, le-leb, lt-ltb, not-true}
 use Rattle.facts.specs.Lists.{elem, count}
 use Rattle.facts.proofs.Bools.{by-cases, and-left, and-right}
-use Rattle.words.specs.Word.{granuleOf}
+use Rattle.words.specs.Word.{kindOf, granuleOf}
 use Rattle.classes.specs.declared.Shape.{Shape}
 use Rattle.classes.specs.Sound.{Sound}
 use Rattle.fields.specs.Field.{arena, page, out, first, frontier, get}
@@ -97,7 +97,7 @@ module _ {sh : Shape} (ok : Sound sh) where
       → w ≡ wordOf sh q (indexOf sh q w)
   unfolding ofKind wordOf
   decoded q w e f g =
-      let a = eqb-true (w / 2 ^ 30) (sh .kind) e in
+      let a = eqb-true (kindOf w) (sh .kind) e in
       let b = leb-true (blocksFrom sh q) (granuleOf w) f in
       let c = eqb-true (indexOf sh q w * sh .block) (granuleOf w - blocksFrom sh q) g in
       omega arith

@@ -73,7 +73,7 @@ module _ (b : List ℕ) (c : ℕ) (sh : Shape) (h q : ℕ) (ws : List ℕ) where
   slots-left a = rw (length-map ws (indexOf sh q)) (omega (arith, page-room b sh (length ws) q (a .page), page-carved b sh (length ws) q (a .page), a .sound .few))
 
   pub push-asks : BackAsks b c sh q ws → PushAsks b sh q ws
-  push-asks a = record { sound = a .sound; below = a .below; there = a .there; slots = omega (arith, page-room b sh (length ws) q (a .page), page-carved b sh (length ws) q (a .page), a .sound .few) }
+  push-asks a = record { sound = a .sound; below = a .below; there = a .there; slots = omega (arith, page-room b sh (length ws) q (a .page), page-carved b sh (length ws) q (a .page), a .sound .few); bits = a .bits }
 
   module _ (b′ : List ℕ) (e : b′ ≡ pushed b q (map (indexOf sh q) ws)) where
     pub park-asks : BackAsks b c sh q ws → ParkingAsks b′ c sh q
@@ -173,6 +173,7 @@ module _ (n : ℕ) (b : List ℕ) (c : ℕ) (sh : Shape) (h q : ℕ) (ws : List 
         low = omega (arith, k .long, fair-low n b c sh q (length ws) f);
         page = fair-page n b c sh q (length ws) f;
         row = fair-row n b c sh q (length ws) f;
+        bits = a .bits;
       }
 
   gives-fair : SettleAsks n b c sh q ws → settleAt b c sh h q (map (indexOf sh q) ws) .fate ≡ 2 → giveFair n b (sh .pages) ≡ true

@@ -56,8 +56,8 @@ module _ (sh : Shape) (s : Sound sh) (m x : ℕ) (i : m ≡ inverse (sh .block))
       let y : x * inverse (sh .block) % 2 ^ 32 < inverse (sh .block) = behind-point x (sh .block) near (s .wide) (narrow sh s) z in
       omega (arith, rw i at h)
 
-module _ (sh : Shape) (q w g x : ℕ) (s : Sound sh) (below : q < maxPages) (e : g ≡ granuleOf w) (u : (x + (q * 4096 + sh .header)) % 2 ^ 32 ≡ g) where
-  pub past-blocks : x < 2 ^ 32 → sh .capacity * sh .block ≤ x → Nothing ≡ blockAt sh q w
+module _ (sh : Shape) (q w g x : ℕ) (s : Sound sh) (below : q < maxPages) (e : g ≡ granuleOf w) (u : (x + (q * 4096 + sh .header)) % 2 ^ 64 ≡ g) where
+  pub past-blocks : x < 2 ^ 64 → sh .capacity * sh .block ≤ x → Nothing ≡ blockAt sh q w
   past-blocks f h = by (isBlock sh q w) refl
     where
       by : (t : Bool) → isBlock sh q w ≡ t → Nothing ≡ found t (indexOf sh q w)
@@ -102,15 +102,15 @@ pub found-block : (sh : Shape) (q w : ℕ) (f : Found) (i : ℕ) → f ≡ block
 found-block sh q w f i e h = found-at (isBlock sh q w) (indexOf sh q w) i (sym h ∙ e)
 
 -- ---- a word of the class's kind: x behind the word of block 0
-module _ (sh : Shape) (q base span m w x : ℕ) (a : Near sh q base span m) (u : (x + base) % 2 ^ 32 ≡ w) where
-  start-is : base ≡ sh .kind * 2 ^ 30 + (q * 4096 + sh .header)
+module _ (sh : Shape) (q base span m w x : ℕ) (a : Near sh q base span m) (u : (x + base) % 2 ^ 64 ≡ w) where
+  start-is : base ≡ sh .kind * 2 ^ 62 + (q * 4096 + sh .header)
   unfolding wordOf
   start-is = a .first ∙ omega arith
 
   none-in : (ofKind (sh .kind) w && isBlock sh q w) ≡ false → Nothing ≡ blockIn sh q w
   none-in h = rw h
 
-  pub outside : x < 2 ^ 32 → span ≤ x → Nothing ≡ blockIn sh q w
+  pub outside : x < 2 ^ 64 → span ≤ x → Nothing ≡ blockIn sh q w
   unfolding ofKind
   outside f h = by (eqb (kindOf w) (sh .kind)) (isBlock sh q w) refl refl
     where
@@ -133,11 +133,11 @@ module _ (sh : Shape) (q base span m w x : ℕ) (a : Near sh q base span m) (u :
     unfolding ofKind
     kind-is = eq-eqb (kindOf w) (sh .kind) (omega (arith, word-is, start-is, a .all, a .sound .fits, a .below))
 
-    granule-is : (x + (q * 4096 + sh .header)) % 2 ^ 32 ≡ granuleOf w
+    granule-is : (x + (q * 4096 + sh .header)) % 2 ^ 64 ≡ granuleOf w
     granule-is =
-        let l : x + (q * 4096 + sh .header) < 2 ^ 30 = omega (arith, a .all, a .sound .fits, a .below) in
-        let e : w ≡ sh .kind * 2 ^ 30 + (x + (q * 4096 + sh .header)) = omega (arith, word-is, start-is) in
-        mod-eq-of-lt (omega arith) ∙ sym (ap (λ z. z % 2 ^ 30) e ∙ low (sh .kind) 30 l)
+        let l : x + (q * 4096 + sh .header) < 2 ^ 62 = omega (arith, a .all, a .sound .fits, a .below) in
+        let e : w ≡ sh .kind * 2 ^ 62 + (x + (q * 4096 + sh .header)) = omega (arith, word-is, start-is) in
+        mod-eq-of-lt (omega arith) ∙ sym (ap (λ z. z % 2 ^ 62) e ∙ low (sh .kind) 62 l)
 
     starts-low : q < maxPages
     starts-low = omega (arith, a .below, a .sound .paged)

@@ -1,5 +1,5 @@
 -- A loop that tests every listed word and ends at the first that fails; and the functions with just such a loop: `list_out`, `of_one_run`.
-use Prim.Native.Nat.{ℕ, _+_, _≤_, _<_}
+use Prim.Native.Nat.{ℕ, _+_, _^_, _≤_, _<_}
 use native.Mathlib.Omega.{arith}
 use native.Mathlib.Numerals.{add-one}
 use mathlib.Core.Bool.{Bool, true, false}
@@ -60,6 +60,9 @@ module _ (n : ℕ) (b : List ℕ) (c : ℕ) (sh : Shape) (w : ℕ) (f : Found) (
   out-in-run q r h k = let z = found-at (inRunOf n b sh c w) (startOf b w) q (sym h ∙ e) in rw (z .0, ← (z .1)) k
 
 -- ---- number 11
+pub page-fits : (n w : ℕ) → n < 2 ^ 32 → ltb (pageAt w) n ≡ true → pageAt w < 2 ^ 32
+page-fits n w h l = omega (arith, ltb-true (pageAt w) n l)
+
 module _ (n : ℕ) (b : List ℕ) (q w p : ℕ) (l : ltb (pageAt w) n ≡ true) (e : p ≡ pageAt w) where
   pub first-there : words n ≤ length b → Has b (page first p)
   first-there h = omega (arith, ltb-true (pageAt w) n l)

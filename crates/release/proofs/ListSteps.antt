@@ -12,6 +12,7 @@ use Rattle.classes.specs.declared.Shape.{Shape}
 use Rattle.fields.specs.Field.{out, put, Has}
 use Rattle.fields.proofs.Laws.{length-put}
 use Rattle.pages.specs.Stack.{marks, indexOf}
+use Rattle.pages.specs.Asks.{IndexAsks}
 use Rattle.release.specs.Asks.{TakeAsks}
 
 module _ (b₀ : List ℕ) (sh : Shape) (q : ℕ) (ws : List ℕ) where
@@ -25,10 +26,12 @@ module _ (b₀ : List ℕ) (sh : Shape) (q : ℕ) (ws : List ℕ) where
   taking-none = record { within = omega arith; long = refl; done = ap (λ z. marks b₀ q 0 (map (indexOf sh q) z)) (sym (drop-length ws)) }
 
   module _ (b : List ℕ) (i : ℕ) (h : i ≡ 0 → ⊥) (v : Taking b i) where
+    pub taking-asks : TakeAsks b₀ sh q ws → IndexAsks sh q (getD ws (i - 1) 0)
+    taking-asks a = record { sound = a .run .sound; below = a .run .below; bit = every-get (λ w. ltb (indexOf sh q w) 4096) ws (i - 1) (a .bits) (omega (arith, v .within)) }
+
     pub taking-bit : (k : ℕ) → TakeAsks b₀ sh q ws → k ≡ indexOf sh q (getD ws (i - 1) 0) → Has b (out q k)
     taking-bit k a e =
-        let l = every-get (λ w. ltb (indexOf sh q w) 4096) ws (i - 1) (a .bits) (omega (arith, v .within)) in
-        omega (arith, v .long, a .run .there, ltb-true (indexOf sh q (getD ws (i - 1) 0)) 4096 l)
+        omega (arith, v .long, a .run .there, ltb-true (indexOf sh q (getD ws (i - 1) 0)) 4096 (taking-asks a .bit))
 
     pub taking-more : (b′ : List ℕ) (k : ℕ) → k ≡ indexOf sh q (getD ws (i - 1) 0) → b′ ≡ put b (out q k) 0 → Taking b′ (i - 1)
     taking-more b′ k e l =

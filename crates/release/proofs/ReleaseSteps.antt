@@ -2,7 +2,7 @@
 --     fair-kept        number 13's last test reads no out bit and no mark
 --     one-ready, all-ready    what the shorter ways tell: none of numbers 9, 13 for a mark, 15, 10 and 11 applies
 --     finished         13's last test, and the act
-use Prim.Native.Nat.{ℕ, zero, suc, _+_, _*_, _≤_, _<_}
+use Prim.Native.Nat.{ℕ, zero, suc, _+_, _*_, _^_, _≤_, _<_}
 use native.Mathlib.Omega.{arith}
 use mathlib.Core.Bool.{Bool, true, false, cond, _&&_, true≢false}
 use mathlib.Core.List.{List, [], _∷_, map}
@@ -173,14 +173,18 @@ module _ (n : ℕ) (b : List ℕ) (c : ℕ) (sh : Shape) (ws : List ℕ) (a : Pa
       by [] e = refl
       by (v ∷ vs) e = rw (lt-ltb (pageAt v) n (page-of-out n c sh (a .class .sound) b v (and-left (outAt n b c sh v) _ e))) (by vs (and-right (outAt n b c sh v) _ e))
 
-  pub first-asks : (p : ℕ) → p ≡ pageAt (getD ws 0 0) → Has b (page first p)
-  first-asks p e =
-      let l : ltb (pageAt (getD ws 0 0)) n ≡ true = by ws (start-asks .pages) (a .some) in
-      omega (arith, a .class .long, ltb-true (pageAt (getD ws 0 0)) n l)
+  first-below : pageAt (getD ws 0 0) < n
+  first-below = ltb-true (pageAt (getD ws 0 0)) n (by ws (start-asks .pages) (a .some))
     where
       by : (vs : List ℕ) → every (λ w. ltb (pageAt w) n) vs ≡ true → isNil vs ≡ false → ltb (pageAt (getD vs 0 0)) n ≡ true
       by [] x y = let e : _≡_ {A = Bool} true false = y in let y : _≡_ {A = ℕ} 0 1 = cc in absurd (omega arith)
       by (v ∷ vs) x y = and-left (ltb (pageAt v) n) _ x
+
+  pub first-fits : pageAt (getD ws 0 0) < 2 ^ 32
+  first-fits = omega (arith, first-below, a .class .few)
+
+  pub first-asks : (p : ℕ) → p ≡ pageAt (getD ws 0 0) → Has b (page first p)
+  first-asks p e = omega (arith, a .class .long, first-below)
 
   module _ (p q : ℕ) (e : p ≡ pageAt (getD ws 0 0)) (y : q ≡ get b (page first p)) where
     start-is : startOf b (firstOf ws) ≡ q
@@ -479,6 +483,7 @@ module _ (n : ℕ) (b : List ℕ) (c : ℕ) (sh : Shape) (q m : ℕ) (ws : List 
         class = record { known = a .class .known; sound = a .class .sound; few = a .class .few; long = omega (arith, a .class .long) };
         inside = a .inside;
         fair = rw e (a .same) ∙ sym f ∙ x;
+        bits = a .bits;
       }
 
       pub marked-taken : (h r : ℕ) (b″ : List ℕ) → Parked r b″ (lastStep sh q (settleAt b′ c sh h q (map (indexOf sh q) ws))) → Finished (Fate r) b″ n b c sh h q m ws

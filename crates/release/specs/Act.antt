@@ -81,12 +81,14 @@ pub record BackAsks (b : List ℕ) (c : ℕ) (sh : Shape) (q : ℕ) (ws : List �
   pub low : words (get b (arena frontier)) ≤ length b
   pub page : pageFair b sh (length ws) q ≡ true
   pub row : rowFair b c ≡ true
+  pub bits : every (λ w. ltb (indexOf sh q w) pageSlots) ws ≡ true
 
--- the run at q, in an arena of n pages, after number 13's tests
+-- the run at q, in an arena of n pages, after number 13's tests; each listed word is one of its blocks
 pub record SettleAsks (n : ℕ) (b : List ℕ) (c : ℕ) (sh : Shape) (q : ℕ) (ws : List ℕ) : Type 0 where
   pub class : ClassAsks n b c sh
   pub inside : q + sh .pages ≤ n
   pub fair : releaseFair n b c sh (length ws) q ≡ true
+  pub bits : every (λ w. ltb (indexOf sh q w) pageSlots) ws ≡ true
 
 -- after number 7
 pub record ListAsks (n : ℕ) (b : List ℕ) (c : ℕ) (sh : Shape) (ws : List ℕ) : Type 0 where

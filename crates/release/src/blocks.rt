@@ -15,7 +15,7 @@ use pages::page_at;
 use words::Word;
 
 // A word's granule.
-fn granule_of(w: u32) -> u32
+fn granule_of(w: u64) -> u64
     ensures { λ r. ⌜ r ≡ granuleOf w ⌝ }
 {
     Word::of(w).granule()
@@ -23,18 +23,18 @@ fn granule_of(w: u32) -> u32
 
 // The index of the block of the run at q that the word is; inv is the inverse of the block's granules.
 // A granule below the blocks wraps to one above them. What does not fill a block stands behind the point of the product.
-pub fn block_at(shape: Shape, inv: u64, q: u32, w: u32) -> Found
+pub fn block_at(shape: Shape, inv: u64, q: u32, w: u64) -> Found
     requires { ⌜ Sound shape ⌝ }
     requires { ⌜ q < maxPages ⌝ }
     requires { ⌜ inv ≡ inverse (shape .block) ⌝ }
     ensures { λ r. ⌜ r ≡ blockAt shape q w ⌝ }
 {
     let granule = granule_of(w);
-    let x = std::num::wrapping_sub_u32(granule, q * 4096 + shape.header);
-    if x >= shape.capacity * shape.block {
+    let x = std::num::wrapping_sub_u64(granule, q as u64 * 4096 + shape.header as u64);
+    if x >= (shape.capacity * shape.block) as u64 {
         return Found::Nothing;
     }
-    let product = x as u64 * inv;
+    let product = x * inv;
     if product % 4294967296 >= inv {
         return Found::Nothing;
     }
@@ -42,15 +42,15 @@ pub fn block_at(shape: Shape, inv: u64, q: u32, w: u32) -> Found
 }
 
 // The same of a word of the class's kind: one subtraction from the word of block 0 tells its kind and its granule.
-pub fn block_in(shape: Shape, q: u32, base: u32, span: u32, inv: u64, w: u32) -> Found
+pub fn block_in(shape: Shape, q: u32, base: u64, span: u32, inv: u64, w: u64) -> Found
     requires { ⌜ Near shape q base span inv ⌝ }
     ensures { λ r. ⌜ r ≡ blockIn shape q w ⌝ }
 {
-    let x = std::num::wrapping_sub_u32(w, base);
-    if x >= span {
+    let x = std::num::wrapping_sub_u64(w, base);
+    if x >= span as u64 {
         return Found::Nothing;
     }
-    let product = x as u64 * inv;
+    let product = x * inv;
     if product % 4294967296 >= inv {
         return Found::Nothing;
     }
@@ -58,14 +58,15 @@ pub fn block_in(shape: Shape, q: u32, base: u32, span: u32, inv: u64, w: u32) ->
 }
 
 // The first page of the class's run that has the word's granule.
-pub fn run_of(meta: &[u32], n: u32, c: u32, shape: Shape, w: u32) -> Found
+pub fn run_of(meta: &[u32], n: u32, c: u32, shape: Shape, w: u64) -> Found
     requires { ⌜ ClassAsks n (now meta) c shape ⌝ }
     ensures { λ r. ⌜ r ≡ runAt n (now (meta .entry)) shape c w ⌝ }
 {
-    let p = page_at(w);
-    if p >= n {
+    let page = page_at(w);
+    if page >= n as u64 {
         return Found::Nothing;
     }
+    let p = page as u32;
     if p >= fields::arena::frontier(meta) {
         return Found::Nothing;
     }

@@ -6,14 +6,14 @@ ghost use Rattle.model.specs.Release.{ofKind};
 use words::Word;
 
 // By which bits the word's kind differs.
-fn differs(w: u32, kind: u32) -> u32
+fn differs(w: u64, kind: u32) -> u32
     ensures { λ r. ⌜ eqb r 0 ≡ ofKind kind w ⌝ }
 {
     Word::of(w).kind() ^ kind
 }
 
 // The bits are gathered to the list's end: the loop has no other way out.
-pub fn all_of_kind(list: &[u32], kind: u32) -> bool
+pub fn all_of_kind(list: &[u64], kind: u32) -> bool
     ensures { λ r. ⌜ r ≡ every (ofKind kind) (now (list .entry)) ⌝ }
 {
     let mut any = 0;

@@ -49,7 +49,7 @@ fn mark_block(meta: &mut [u32], q: u32, i: u32) -> bool
 }
 
 // The same of a word's block in the run at q.
-fn mark_one(meta: &mut [u32], shape: Shape, q: u32, base: u32, span: u32, inv: u64, w: u32) -> bool
+fn mark_one(meta: &mut [u32], shape: Shape, q: u32, base: u64, span: u32, inv: u64, w: u64) -> bool
     requires { ⌜ FieldAsks (now meta) shape q ⌝ }
     requires { ⌜ Near shape q base span inv ⌝ }
     ensures { λ r. ⌜ MarkedOne r (now (meta .exit)) (now (meta .entry)) shape q w ⌝ }
@@ -62,7 +62,7 @@ fn mark_one(meta: &mut [u32], shape: Shape, q: u32, base: u32, span: u32, inv: u
 }
 
 // The listed words from place i on are marked, up to the first that is not out in the run at q or is marked: its place.
-pub fn mark_run(meta: &mut [u32], shape: Shape, q: u32, list: &[u32], from: usize) -> usize
+pub fn mark_run(meta: &mut [u32], shape: Shape, q: u32, list: &[u64], from: usize) -> usize
     requires { ⌜ FieldAsks (now meta) shape q ⌝ }
     requires { ⌜ from ≤ length (now list) ⌝ }
     ensures { λ r. ⌜ MarkedIn r (now (meta .exit)) (now (meta .entry)) shape q (now (list .entry)) from ⌝ }
@@ -82,7 +82,7 @@ pub fn mark_run(meta: &mut [u32], shape: Shape, q: u32, list: &[u32], from: usiz
 }
 
 // Whether a word's block of the run at q is out, and its word of marks is 0.
-fn ready_by(meta: &[u32], shape: Shape, q: u32, base: u32, span: u32, inv: u64, w: u32) -> bool
+fn ready_by(meta: &[u32], shape: Shape, q: u32, base: u64, span: u32, inv: u64, w: u64) -> bool
     requires { ⌜ FieldAsks (now meta) shape q ⌝ }
     requires { ⌜ Near shape q base span inv ⌝ }
     ensures { λ r. ⌜ r ≡ readyIn (now (meta .entry)) shape q w ⌝ }
@@ -97,7 +97,7 @@ fn ready_by(meta: &[u32], shape: Shape, q: u32, base: u32, span: u32, inv: u64, 
     fields::marks::word(meta, q, i / 32) == 0
 }
 
-pub fn ready_one(meta: &[u32], shape: Shape, q: u32, w: u32) -> bool
+pub fn ready_one(meta: &[u32], shape: Shape, q: u32, w: u64) -> bool
     requires { ⌜ FieldAsks (now meta) shape q ⌝ }
     ensures { λ r. ⌜ r ≡ readyIn (now (meta .entry)) shape q w ⌝ }
 {

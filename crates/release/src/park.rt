@@ -101,7 +101,7 @@ pub fn park_empty_page(meta: &mut [u32], c: u32, shape: Shape, host: u32, q: u32
 }
 
 // The listed blocks, which are struck, come back to their page.
-fn give_back(meta: &mut [u32], c: u32, shape: Shape, host: u32, q: u32, list: &[u32]) -> u32
+fn give_back(meta: &mut [u32], c: u32, shape: Shape, host: u32, q: u32, list: &[u64]) -> u32
     requires { ⌜ BackAsks (now meta) c shape q (now list) ⌝ }
     ensures { λ r. ⌜ Parked r (now (meta .exit)) (settleAt (now (meta .entry)) c shape host q (map (indexOf shape q) (now (list .entry)))) ⌝ }
 {
@@ -121,7 +121,7 @@ pub fn settle(
     shape: Shape,
     host: u32,
     q: u32,
-    list: &[u32],
+    list: &[u64],
 ) -> u32
     requires { ⌜ SettleAsks n (now meta) c shape q (now list) ⌝ }
     ensures { λ r. ⌜ Parked r (now (meta .exit)) (lastStep shape q (settleAt (now (meta .entry)) c shape host q (map (indexOf shape q) (now (list .entry))))) ⌝ }

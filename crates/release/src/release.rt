@@ -28,20 +28,20 @@ use super::marks::take_marks;
 use super::park::settle;
 use super::tests::out_fault;
 use classes::Shape;
-use pages::page_at;
+use pages::page_within;
 use stack::index_by;
 use stack::inverse_of;
 
 // Whether a word's run begins at q; every listed word's.
-fn starts_at(meta: &[u32], n: u32, q: u32, w: u32) -> bool
+fn starts_at(meta: &[u32], n: u32, q: u32, w: u64) -> bool
     requires { ⌜ words n ≤ length (now meta) ⌝ }
     requires { ⌜ ltb (pageAt w) n ≡ true ⌝ }
     ensures { λ r. ⌜ r ≡ eqb (startOf (now (meta .entry)) w) q ⌝ }
 {
-    fields::page::first(meta, page_at(w)) == q
+    fields::page::first(meta, page_within(w)) == q
 }
 
-fn of_one_run(meta: &[u32], n: u32, q: u32, list: &[u32]) -> bool
+fn of_one_run(meta: &[u32], n: u32, q: u32, list: &[u64]) -> bool
     requires { ⌜ StartAsks n (now meta) (now list) ⌝ }
     ensures { λ r. ⌜ r ≡ every (λ w. eqb (startOf (now (meta .entry)) w) q) (now (list .entry)) ⌝ }
 {
@@ -57,7 +57,7 @@ fn of_one_run(meta: &[u32], n: u32, q: u32, list: &[u32]) -> bool
 }
 
 // The listed blocks of the run at q are out no longer.
-fn take_list(meta: &mut [u32], shape: Shape, q: u32, list: &[u32])
+fn take_list(meta: &mut [u32], shape: Shape, q: u32, list: &[u64])
     requires { ⌜ TakeAsks (now meta) shape q (now list) ⌝ }
     ensures { λ _. ⌜ now (meta .exit) ≡ marks (now (meta .entry)) q 0 (map (indexOf shape q) (now (list .entry))) ⌝ }
 {
@@ -70,7 +70,7 @@ fn take_list(meta: &mut [u32], shape: Shape, q: u32, list: &[u32])
 }
 
 // They are, by m words of their marks, or by the list where they are not marked.
-fn take_all(meta: &mut [u32], shape: Shape, q: u32, m: u32, list: &[u32])
+fn take_all(meta: &mut [u32], shape: Shape, q: u32, m: u32, list: &[u64])
     requires { ⌜ TakeAsks (now meta) shape q (now list) ⌝ }
     requires { ⌜ m ≤ 128 ⌝ }
     ensures { λ _. ⌜ now (meta .exit) ≡ takenBy (now (meta .entry)) shape q m (now (list .entry)) ⌝ }
@@ -91,7 +91,7 @@ fn finish(
     host: u32,
     q: u32,
     m: u32,
-    list: &[u32],
+    list: &[u64],
 ) -> Released
     requires { ⌜ MarkedAsks n (now meta) c shape q m (now list) ⌝ }
     ensures { λ r. ⌜ Finished r (now (meta .exit)) n (now (meta .entry)) c shape host q m (now (list .entry)) ⌝ }
@@ -105,11 +105,11 @@ fn finish(
 }
 
 // Number 11, of words that are out.
-fn one_run(meta: &[u32], n: u32, c: u32, shape: Shape, list: &[u32]) -> Ready
+fn one_run(meta: &[u32], n: u32, c: u32, shape: Shape, list: &[u64]) -> Ready
     requires { ⌜ PassedAsks n (now meta) c shape (now list) ⌝ }
     ensures { λ r. ⌜ Prepared r (now (meta .entry)) n (now (meta .entry)) c shape (now (list .entry)) ⌝ }
 {
-    let q = fields::page::first(meta, page_at(list[0]));
+    let q = fields::page::first(meta, page_within(list[0]));
     if of_one_run(meta, n, q, list) {
         return Ready::In(q, 0);
     }
@@ -117,7 +117,7 @@ fn one_run(meta: &[u32], n: u32, c: u32, shape: Shape, list: &[u32]) -> Ready
 }
 
 // Each number over the whole list, from number 9 on.
-fn test_list(meta: &mut [u32], n: u32, c: u32, shape: Shape, list: &[u32]) -> Ready
+fn test_list(meta: &mut [u32], n: u32, c: u32, shape: Shape, list: &[u64]) -> Ready
     requires { ⌜ ListAsks n (now meta) c shape (now list) ⌝ }
     ensures { λ r. ⌜ Prepared r (now (meta .exit)) n (now (meta .entry)) c shape (now (list .entry)) ⌝ }
 {
@@ -132,7 +132,7 @@ fn test_list(meta: &mut [u32], n: u32, c: u32, shape: Shape, list: &[u32]) -> Re
 }
 
 // A list of one block of the run at q, which repeats nothing: no mark is set.
-fn try_one(meta: &[u32], n: u32, c: u32, shape: Shape, q: u32, list: &[u32]) -> Marked
+fn try_one(meta: &[u32], n: u32, c: u32, shape: Shape, q: u32, list: &[u64]) -> Marked
     requires { ⌜ RunAsks n (now meta) c shape q (now list) ⌝ }
     requires { ⌜ length (now list) ≡ 1 ⌝ }
     ensures { λ r. ⌜ Attempted r (now (meta .entry)) n (now (meta .entry)) c shape (now (list .entry)) ⌝ }
@@ -145,7 +145,7 @@ fn try_one(meta: &[u32], n: u32, c: u32, shape: Shape, q: u32, list: &[u32]) -> 
 
 // A list whose words are all blocks out in the run at q, no mark of which is set: they are marked, in words 0 to m - 1. Else the book is as
 // it was.
-fn mark_all(meta: &mut [u32], n: u32, c: u32, shape: Shape, q: u32, m: u32, list: &[u32]) -> bool
+fn mark_all(meta: &mut [u32], n: u32, c: u32, shape: Shape, q: u32, m: u32, list: &[u64]) -> bool
     requires { ⌜ RunAsks n (now meta) c shape q (now list) ⌝ }
     requires { ⌜ m ≡ outWords shape ⌝ }
     ensures { λ r. ⌜ MarkedAll r (now (meta .exit)) n (now (meta .entry)) c shape q m (now (list .entry)) ⌝ }
@@ -161,7 +161,7 @@ fn mark_all(meta: &mut [u32], n: u32, c: u32, shape: Shape, q: u32, m: u32, list
     false
 }
 
-fn try_run(meta: &mut [u32], n: u32, c: u32, shape: Shape, q: u32, list: &[u32]) -> Marked
+fn try_run(meta: &mut [u32], n: u32, c: u32, shape: Shape, q: u32, list: &[u64]) -> Marked
     requires { ⌜ RunAsks n (now meta) c shape q (now list) ⌝ }
     ensures { λ r. ⌜ Attempted r (now (meta .exit)) n (now (meta .entry)) c shape (now (list .entry)) ⌝ }
 {
@@ -173,7 +173,7 @@ fn try_run(meta: &mut [u32], n: u32, c: u32, shape: Shape, q: u32, list: &[u32])
 }
 
 // In as few passes as there can be, where all words are blocks of the run of the first. Where there is a doubt the book is as it was.
-fn try_list(meta: &mut [u32], n: u32, c: u32, shape: Shape, list: &[u32]) -> Marked
+fn try_list(meta: &mut [u32], n: u32, c: u32, shape: Shape, list: &[u64]) -> Marked
     requires { ⌜ ListAsks n (now meta) c shape (now list) ⌝ }
     ensures { λ r. ⌜ Attempted r (now (meta .exit)) n (now (meta .entry)) c shape (now (list .entry)) ⌝ }
 {
@@ -187,7 +187,7 @@ fn try_list(meta: &mut [u32], n: u32, c: u32, shape: Shape, list: &[u32]) -> Mar
     try_run(meta, n, c, shape, q, list)
 }
 
-fn prepare(meta: &mut [u32], n: u32, c: u32, shape: Shape, list: &[u32]) -> Ready
+fn prepare(meta: &mut [u32], n: u32, c: u32, shape: Shape, list: &[u64]) -> Ready
     requires { ⌜ ListAsks n (now meta) c shape (now list) ⌝ }
     ensures { λ r. ⌜ Prepared r (now (meta .exit)) n (now (meta .entry)) c shape (now (list .entry)) ⌝ }
 {
@@ -205,7 +205,7 @@ pub fn release_blocks(
     c: u32,
     shape: Shape,
     host: u32,
-    list: &[u32],
+    list: &[u64],
 ) -> Released
     requires { ⌜ ClassAsks n (now meta) c shape ⌝ }
     ensures { λ r. ⌜ Answered r (now (meta .exit)) (releaseBlocks n (now (meta .entry)) c shape host (now (list .entry))) ⌝ }

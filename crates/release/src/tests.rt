@@ -18,7 +18,7 @@ use classes::Shape;
 use stack::inverse_of;
 
 // ---- number 13: a word that is out in the run at q has a word of marks that is 0
-fn clean_in(meta: &[u32], shape: Shape, inv: u64, q: u32, w: u32) -> bool
+fn clean_in(meta: &[u32], shape: Shape, inv: u64, q: u32, w: u64) -> bool
     requires { ⌜ InAsks (now meta) shape q ⌝ }
     requires { ⌜ inv ≡ inverse (shape .block) ⌝ }
     ensures { λ r. ⌜ r ≡ cleanIn (now (meta .entry)) shape q w ⌝ }
@@ -34,7 +34,7 @@ fn clean_in(meta: &[u32], shape: Shape, inv: u64, q: u32, w: u32) -> bool
 }
 
 // The same of a word that is out in the class.
-fn clean_at(meta: &[u32], n: u32, c: u32, shape: Shape, inv: u64, w: u32) -> bool
+fn clean_at(meta: &[u32], n: u32, c: u32, shape: Shape, inv: u64, w: u64) -> bool
     requires { ⌜ ClassAsks n (now meta) c shape ⌝ }
     requires { ⌜ inv ≡ inverse (shape .block) ⌝ }
     ensures { λ r. ⌜ r ≡ cleanAt n (now (meta .entry)) c shape w ⌝ }
@@ -46,7 +46,7 @@ fn clean_at(meta: &[u32], n: u32, c: u32, shape: Shape, inv: u64, w: u32) -> boo
     clean_in(meta, shape, inv, q, w)
 }
 
-fn list_clean(meta: &[u32], n: u32, c: u32, shape: Shape, list: &[u32]) -> bool
+fn list_clean(meta: &[u32], n: u32, c: u32, shape: Shape, list: &[u64]) -> bool
     requires { ⌜ ClassAsks n (now meta) c shape ⌝ }
     ensures { λ r. ⌜ r ≡ unmarked n (now (meta .entry)) c shape (now (list .entry)) ⌝ }
 {
@@ -77,7 +77,7 @@ fn pass_block(meta: &mut [u32], q: u32, i: u32) -> bool
     true
 }
 
-fn pass_in(meta: &mut [u32], shape: Shape, inv: u64, q: u32, w: u32) -> bool
+fn pass_in(meta: &mut [u32], shape: Shape, inv: u64, q: u32, w: u64) -> bool
     requires { ⌜ InAsks (now meta) shape q ⌝ }
     requires { ⌜ inv ≡ inverse (shape .block) ⌝ }
     ensures { λ r. ⌜ PassedIn r (now (meta .exit)) (now (meta .entry)) shape q w ⌝ }
@@ -89,7 +89,7 @@ fn pass_in(meta: &mut [u32], shape: Shape, inv: u64, q: u32, w: u32) -> bool
     pass_block(meta, q, i)
 }
 
-fn pass_at(meta: &mut [u32], n: u32, c: u32, shape: Shape, inv: u64, w: u32) -> bool
+fn pass_at(meta: &mut [u32], n: u32, c: u32, shape: Shape, inv: u64, w: u64) -> bool
     requires { ⌜ ClassAsks n (now meta) c shape ⌝ }
     requires { ⌜ inv ≡ inverse (shape .block) ⌝ }
     ensures { λ r. ⌜ PassedAt r (now (meta .exit)) n (now (meta .entry)) c shape w ⌝ }
@@ -102,7 +102,7 @@ fn pass_at(meta: &mut [u32], n: u32, c: u32, shape: Shape, inv: u64, w: u32) -> 
 }
 
 // The words that are out in the class are marked, up to the first that is marked already: its place.
-fn mark_list(meta: &mut [u32], n: u32, c: u32, shape: Shape, list: &[u32]) -> usize
+fn mark_list(meta: &mut [u32], n: u32, c: u32, shape: Shape, list: &[u64]) -> usize
     requires { ⌜ ClassAsks n (now meta) c shape ⌝ }
     ensures { λ r. ⌜ MarkedList r (now (meta .exit)) n (now (meta .entry)) c shape (now (list .entry)) ⌝ }
 {
@@ -119,7 +119,7 @@ fn mark_list(meta: &mut [u32], n: u32, c: u32, shape: Shape, list: &[u32]) -> us
 }
 
 // ---- and back: the word of marks of a word that is out becomes 0
-fn clear_in(meta: &mut [u32], shape: Shape, inv: u64, q: u32, w: u32)
+fn clear_in(meta: &mut [u32], shape: Shape, inv: u64, q: u32, w: u64)
     requires { ⌜ InAsks (now meta) shape q ⌝ }
     requires { ⌜ inv ≡ inverse (shape .block) ⌝ }
     ensures { λ _. ⌜ now (meta .exit) ≡ clearedIn (now (meta .entry)) shape q w ⌝ }
@@ -133,7 +133,7 @@ fn clear_in(meta: &mut [u32], shape: Shape, inv: u64, q: u32, w: u32)
     }
 }
 
-fn clear_at(meta: &mut [u32], n: u32, c: u32, shape: Shape, inv: u64, w: u32)
+fn clear_at(meta: &mut [u32], n: u32, c: u32, shape: Shape, inv: u64, w: u64)
     requires { ⌜ ClassAsks n (now meta) c shape ⌝ }
     requires { ⌜ inv ≡ inverse (shape .block) ⌝ }
     ensures { λ _. ⌜ now (meta .exit) ≡ clearedAt n (now (meta .entry)) c shape w ⌝ }
@@ -146,7 +146,7 @@ fn clear_at(meta: &mut [u32], n: u32, c: u32, shape: Shape, inv: u64, w: u32)
 }
 
 // The first `count` listed words.
-fn clear_list(meta: &mut [u32], n: u32, c: u32, shape: Shape, list: &[u32], count: usize)
+fn clear_list(meta: &mut [u32], n: u32, c: u32, shape: Shape, list: &[u64], count: usize)
     requires { ⌜ ClassAsks n (now meta) c shape ⌝ }
     requires { ⌜ count ≤ length (now list) ⌝ }
     ensures { λ _. ⌜ now (meta .exit) ≡ clearBook n (now (meta .entry)) c shape (take count (now (list .entry))) ⌝ }
@@ -160,7 +160,7 @@ fn clear_list(meta: &mut [u32], n: u32, c: u32, shape: Shape, list: &[u32], coun
 }
 
 // Number 15, where the words of marks of the listed blocks that are out are 0: one of these blocks stands twice. The book is as it was.
-fn list_repeats(meta: &mut [u32], n: u32, c: u32, shape: Shape, list: &[u32]) -> bool
+fn list_repeats(meta: &mut [u32], n: u32, c: u32, shape: Shape, list: &[u64]) -> bool
     requires { ⌜ TestAsks n (now meta) c shape (now list) ⌝ }
     ensures { λ r. ⌜ Tested r (now (meta .exit)) n (now (meta .entry)) c shape (now (list .entry)) ⌝ }
 {
@@ -173,7 +173,7 @@ fn list_repeats(meta: &mut [u32], n: u32, c: u32, shape: Shape, list: &[u32]) ->
 }
 
 // ---- number 10: a word is out in the run at q; in the class
-fn out_in(meta: &[u32], shape: Shape, inv: u64, q: u32, w: u32) -> bool
+fn out_in(meta: &[u32], shape: Shape, inv: u64, q: u32, w: u64) -> bool
     requires { ⌜ InAsks (now meta) shape q ⌝ }
     requires { ⌜ inv ≡ inverse (shape .block) ⌝ }
     ensures { λ r. ⌜ r ≡ outIn (now (meta .entry)) shape q w ⌝ }
@@ -185,7 +185,7 @@ fn out_in(meta: &[u32], shape: Shape, inv: u64, q: u32, w: u32) -> bool
     fields::out::bit(meta, q, i) == 1
 }
 
-fn out_at(meta: &[u32], n: u32, c: u32, shape: Shape, inv: u64, w: u32) -> bool
+fn out_at(meta: &[u32], n: u32, c: u32, shape: Shape, inv: u64, w: u64) -> bool
     requires { ⌜ ClassAsks n (now meta) c shape ⌝ }
     requires { ⌜ inv ≡ inverse (shape .block) ⌝ }
     ensures { λ r. ⌜ r ≡ outAt n (now (meta .entry)) c shape w ⌝ }
@@ -197,7 +197,7 @@ fn out_at(meta: &[u32], n: u32, c: u32, shape: Shape, inv: u64, w: u32) -> bool
     out_in(meta, shape, inv, q, w)
 }
 
-fn list_out(meta: &[u32], n: u32, c: u32, shape: Shape, list: &[u32]) -> bool
+fn list_out(meta: &[u32], n: u32, c: u32, shape: Shape, list: &[u64]) -> bool
     requires { ⌜ ClassAsks n (now meta) c shape ⌝ }
     ensures { λ r. ⌜ r ≡ every (outAt n (now (meta .entry)) c shape) (now (list .entry)) ⌝ }
 {
@@ -214,7 +214,7 @@ fn list_out(meta: &[u32], n: u32, c: u32, shape: Shape, list: &[u32]) -> bool
 }
 
 // 13, 15 or 10, or 0. The book is as it was.
-pub fn out_fault(meta: &mut [u32], n: u32, c: u32, shape: Shape, list: &[u32]) -> u32
+pub fn out_fault(meta: &mut [u32], n: u32, c: u32, shape: Shape, list: &[u64]) -> u32
     requires { ⌜ FaultAsks n (now meta) c shape (now list) ⌝ }
     ensures { λ r. ⌜ Faulted r (now (meta .exit)) n (now (meta .entry)) c shape (now (list .entry)) ⌝ }
 {

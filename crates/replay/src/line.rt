@@ -1,7 +1,7 @@
 // A line as it is read: a number for each of its words. The name has one too, and stands first.
 ghost use Prim.Native.Nat.{_≤_};
 
-// A line's numbers, and its answers or the low halves of its numbers.
+// A line's numbers, or its answers; and the low halves of its numbers.
 pub type Numbers = [u64; 4096];
 
 pub type Words = [u32; 4096];
@@ -25,6 +25,21 @@ pub fn low(value: u64) -> u32 {
     (value % 4_294_967_296) as u32
 }
 
+pub fn wide(value: u32) -> u64 {
+    value as u64
+}
+
+// All of them, as answers.
+pub fn widened(words: &Words) -> Numbers {
+    let mut answers: [u64; 4096] = [0; 4096];
+    let mut i = 0;
+    while i < 4096 {
+        answers[i] = wide(words[i]);
+        i += 1;
+    }
+    answers
+}
+
 pub fn put(line: &mut Numbers, words: &mut Words, at: usize, b: u8) {
     if at < 4096 {
         let value = read(line[at], b);
@@ -34,12 +49,12 @@ pub fn put(line: &mut Numbers, words: &mut Words, at: usize, b: u8) {
 }
 
 // Whether the answers are those told after the `=`, and the places past them hold what they held.
-pub fn same(words: &Words, equals: usize, count: usize, answers: &Words, fill: u32) -> bool {
+pub fn same(line: &Numbers, equals: usize, count: usize, answers: &Numbers, fill: u64) -> bool {
     let mut i = equals;
     while i < 4095 {
         let answer = answers[i - equals];
         i += 1;
-        let due = if i <= count { words[i] } else { fill };
+        let due = if i <= count { line[i] } else { fill };
         if answer != due {
             return false;
         }

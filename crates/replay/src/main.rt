@@ -13,7 +13,13 @@ ghost use lib.ListN.{length};
 
 // Makes the call of a line: a name's number is its first letter's byte, then in two digits how many letters follow. A comment and an
 // empty line make none, and a name that is not known answers what no line tells.
-fn call(meta: &mut [u32], line: &Numbers, words: &Words, count: usize, answers: Words) -> Words {
+fn call(
+    meta: &mut [u32],
+    line: &Numbers,
+    words: &Words,
+    count: usize,
+    answers: Numbers,
+) -> Numbers {
     match line[0] {
         11_103 => arena_calls::open(meta, line, words, count, answers),
         9_905 => arena_calls::commit(meta, line, words, answers),
@@ -23,21 +29,21 @@ fn call(meta: &mut [u32], line: &Numbers, words: &Words, count: usize, answers: 
         11_405 => arena_calls::report(meta, answers),
         11_610 => block_calls::take(meta, words, answers),
         10_917 => block_calls::medium_take(meta, words, answers),
-        11_413 => block_calls::release(meta, words, answers),
-        10_920 => block_calls::medium_release(meta, words, answers),
-        11_417 => block_calls::release_chunks(meta, words, answers),
+        11_413 => block_calls::release(meta, line, words, answers),
+        10_920 => block_calls::medium_release(meta, line, words, answers),
+        11_417 => block_calls::release_chunks(meta, line, words, answers),
         0 | 3_500 => answers,
-        _ => [std::num::wrapping_add_u32(answers[0], 1); 4096],
+        _ => [std::num::wrapping_add_u64(answers[0], 1); 4096],
     }
 }
 
-// Whether the call of a line answers what the line tells, and leaves the other places for answers, which hold the last argument before
-// it. A line with no `=` tells nothing: all places keep a 0, an opening's return value too.
+// Whether the call of a line answers what the line tells, and leaves the other places for answers, which hold the low half of the last
+// argument before it. A line with no `=` tells nothing: all places keep a 0, an opening's return value too.
 fn replayed(meta: &mut [u32], line: &Numbers, words: &Words, equals: usize, count: usize) -> bool {
-    let fill = words[std::num::wrapping_sub_usize(equals, 1) % 4096];
+    let fill = line::wide(words[std::num::wrapping_sub_usize(equals, 1) % 4096]);
     let answers = call(meta, line, words, count, [fill; 4096]);
     let told = if equals == 0 { 0 } else { count };
-    line::same(words, equals, told, &answers, fill)
+    line::same(line, equals, told, &answers, fill)
 }
 
 // Where the reading is in its line: the place of the number that is read, and that of the `=`. Then how many lines were replayed, and

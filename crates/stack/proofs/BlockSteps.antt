@@ -1,4 +1,4 @@
--- A block's word and index: sums that stay within 32 bits, and the ways out.
+-- A block's word and index: sums that stay within 32 bits, as the longest arena's granules do, and the ways out.
 use Prim.Native.Nat.{ℕ, _+_, _-_, _*_, _/_, _%_, _^_, _≤_, _<_}
 use native.Mathlib.Omega.{arith}
 use native.Mathlib.Nat.{mul-le-mul-right, mod-eq-of-lt, zero-div}
@@ -6,18 +6,20 @@ use mathlib.Core.Bool.{true}
 use mathlib.Core.List.{List}
 use mathlib.Core.Path.{_≡_, sym, ap, _∙_}
 use lib.Dec.{ltb}
-use borrow.Author.Tests.{eq-eqb, ne-eqb}
+use mir.Val.{Fits}
+use mir.Syntax.{w32}
+use borrow.Author.Tests.{eq-eqb, ne-eqb, ltb-true}
 use Rattle.words.specs.Word.{blockWord, packBlock, granuleOf}
 use Rattle.classes.specs.declared.Shape.{Shape}
 use Rattle.fields.specs.Field.{page, free, carved, get}
 use Rattle.model.specs.Page.{wordOf}
-use Rattle.pages.specs.Stack.{hasMore, blocksFrom, indexOf}
+use Rattle.pages.specs.Stack.{pageSlots, hasMore, blocksFrom, indexOf}
 use Rattle.pages.specs.Asks.{WordAsks, IndexAsks}
 use Rattle.stack.specs.Inverse.{inverse}
 use Rattle.stack.proofs.InverseLaws.{divides}
 
 -- a block lies within its run
-pub inside : (sh : Shape) (q i : ℕ) → WordAsks sh q i → q * 4096 + (sh .header + i * sh .block) < 2 ^ 30
+pub inside : (sh : Shape) (q i : ℕ) → WordAsks sh q i → q * 4096 + (sh .header + i * sh .block) < 2 ^ 32
 inside sh q i h =
     let l : (i + 1) * sh .block ≤ sh .capacity * sh .block = mul-le-mul-right (sh .block) (omega (arith, h .block)) in
     omega (arith, l, h .below, h .sound .fits, h .sound .wide)
@@ -26,8 +28,8 @@ pub word-done : (sh : Shape) (q i w : ℕ) → WordAsks sh q i → w ≡ packBlo
 unfolding wordOf
 word-done sh q i w h e =
     let k : sh .kind % 2 ^ 2 ≡ sh .kind = mod-eq-of-lt (omega (arith, h .sound .known)) in
-    let g : (q * 4096 + (sh .header + i * sh .block)) % 2 ^ 30 ≡ q * 4096 + (sh .header + i * sh .block) = mod-eq-of-lt (inside sh q i h) in
-    e ∙ ap (λ z. blockWord z ((q * 4096 + (sh .header + i * sh .block)) % 2 ^ 30)) k ∙ ap (blockWord (sh .kind)) g
+    let g : (q * 4096 + (sh .header + i * sh .block)) % 2 ^ 62 ≡ q * 4096 + (sh .header + i * sh .block) = mod-eq-of-lt (omega (arith, inside sh q i h)) in
+    e ∙ ap (λ z. blockWord z ((q * 4096 + (sh .header + i * sh .block)) % 2 ^ 62)) k ∙ ap (blockWord (sh .kind)) g
 
 pub index-none : (sh : Shape) (q w x g : ℕ) → x ≡ w → g ≡ granuleOf x → g < q * 4096 + sh .header → 0 ≡ indexOf sh q w
 unfolding indexOf
@@ -39,8 +41,12 @@ pub index-done : (sh : Shape) (q w x g : ℕ) → x ≡ w → g ≡ granuleOf x 
 unfolding indexOf
 index-done sh q w x g e e′ = ap (λ z. (z - blocksFrom sh q) / sh .block) (e′ ∙ ap granuleOf e)
 
+-- an index that has an out bit fits
+pub index-fits : (sh : Shape) (q w x g : ℕ) → IndexAsks sh q w → x ≡ w → g ≡ granuleOf x → Fits w32 ((g - (q * 4096 + sh .header)) / sh .block)
+index-fits sh q w x g a e e′ = record { fits = omega (arith, index-done sh q w x g e e′, ltb-true (indexOf sh q w) pageSlots (a .bit)) }
+
 -- a granule of the run, by the inverse
-pub index-near : (sh : Shape) (q w y g x m : ℕ) → IndexAsks sh q → m ≡ inverse (sh .block) → y ≡ w → g ≡ granuleOf y → (x + (q * 4096 + sh .header)) % 2 ^ 32 ≡ g → x < 2 ^ 16
+pub index-near : (sh : Shape) (q w y g x m : ℕ) → IndexAsks sh q w → m ≡ inverse (sh .block) → y ≡ w → g ≡ granuleOf y → (x + (q * 4096 + sh .header)) % 2 ^ 64 ≡ g → x < 2 ^ 16
     → x * m / 2 ^ 32 ≡ indexOf sh q w
 unfolding indexOf
 index-near sh q w y g x m a e e₁ e₂ e₃ h =

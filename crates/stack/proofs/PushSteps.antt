@@ -6,10 +6,23 @@ use mathlib.Core.List.{List, [], _∷_, _++_, map, map-append}
 use mathlib.Core.Path.{_≡_, refl, sym, ap, _∙_}
 use lib.ListN.{length, getD, take, drop, length-map, length-drop, length-append}
 use lib.Seq.{drop-cons, drop-length, length-take-le, take-length, take-suc, getD-take}
+use lib.Dec.{ltb}
+use mathlib.Core.Bool.{true}
+use Rattle.facts.specs.Lists.{every}
+use Rattle.facts.proofs.Lists.{every-get}
 use Rattle.classes.specs.declared.Shape.{Shape}
+use Rattle.classes.specs.Sound.{Sound}
+use Rattle.fields.specs.Ranges.{maxPages}
 use Rattle.fields.specs.Field.{page, slot, free, virgin, get, put}
 use Rattle.fields.proofs.Laws.{length-put}
-use Rattle.pages.specs.Stack.{indexOf, push, pushed}
+use Rattle.pages.specs.Stack.{pageSlots, indexOf, push, pushed}
+use Rattle.pages.specs.Asks.{IndexAsks, LayAsks}
+use Rattle.stack.specs.Lay.{PairsAsks}
+use Rattle.stack.specs.Inverse.{inverse}
+
+-- each listed word's block has an index
+index-asks : (sh : Shape) (q : ℕ) (ws : List ℕ) (k : ℕ) → Sound sh → q < maxPages → every (λ w. ltb (indexOf sh q w) pageSlots) ws ≡ true → k < length ws → IndexAsks sh q (getD ws k 0)
+index-asks sh q ws k s below bits l = record { sound = s; below = below; bit = every-get (λ w. ltb (indexOf sh q w) pageSlots) ws k bits l }
 
 module _ (b₀ : List ℕ) (sh : Shape) (q top : ℕ) (ws : List ℕ) where
   -- those from place i on lie on the stack
@@ -51,6 +64,20 @@ module _ (b₀ : List ℕ) (sh : Shape) (q x : ℕ) (ws : List ℕ) (n : ℕ) wh
     pub height : 2 * t + i ≡ 2 * x + n
     pub long : length b ≡ length b₀
     pub laying : Laying b₀ sh q (2 * x) (take n ws) b i (2 * t)
+
+  module _ (m : ℕ) (a : PairsAsks b₀ sh m q x ws n) where
+    asks : (k : ℕ) → k < n → IndexAsks sh q (getD ws k 0)
+    asks k l = index-asks sh q ws k (a .sound) (a .below) (a .bits) (omega (arith, a .within))
+
+    module _ (b : List ℕ) (i t : ℕ) (v : Pairing b i t) where
+      pub high-asks : 1 < i → IndexAsks sh q (getD ws (i - 2 + 1) 0)
+      high-asks h = asks (i - 2 + 1) (omega (arith, v .within))
+
+      pub low-asks : 1 < i → IndexAsks sh q (getD ws (i - 2) 0)
+      low-asks h = asks (i - 2) (omega (arith, v .within))
+
+      pub last-asks : (i ≡ 0 → ⊥) → IndexAsks sh q (getD ws 0 0)
+      last-asks h = asks 0 (omega (arith, v .within))
 
   module _ (enough : n ≤ length ws) where
     pub pairing-none : Pairing b₀ n x
@@ -98,6 +125,25 @@ push-under b q t j [] = rw add-zero
 push-under b q t j (i ∷ is) =
     let e : t + 1 + length is ≡ t + length (is ++ (j ∷ [])) = omega (arith, length-append is (j ∷ [])) in
     rw (push-under b q t j is, e)
+
+module _ (b : List ℕ) (sh : Shape) (q t : ℕ) (ws : List ℕ) (a : LayAsks b sh q t ws) (some : length ws ≡ 0 → ⊥) where
+  pub first-asks : IndexAsks sh q (getD ws 0 0)
+  first-asks = index-asks sh q ws 0 (a .sound) (a .below) (a .bits) (omega arith)
+
+  pub end-asks : IndexAsks sh q (getD ws (length ws - 1) 0)
+  end-asks = index-asks sh q ws (length ws - 1) (a .sound) (a .below) (a .bits) (omega arith)
+
+  pub odd-asks : (b₁ : List ℕ) (m k : ℕ) → m ≡ inverse (sh .block) → (t % 2 ≡ 0 → ⊥) → b₁ ≡ put b (slot q t) k → PairsAsks b₁ sh m q (t / 2 + 1) ws (length ws - 1)
+  odd-asks b₁ m k i o e =
+      record {
+        sound = a .sound;
+        below = a .below;
+        there = omega (arith, a .there, ap length e, length-put b (slot q t) k);
+        by = i;
+        within = omega arith;
+        slots = omega (arith, a .slots);
+        bits = a .bits;
+      }
 
 module _ (b : List ℕ) (sh : Shape) (q t : ℕ) (ws : List ℕ) (n : ℕ) (e : n ≡ length ws) where
   pub lay-none : n ≡ 0 → b ≡ push b q t (map (indexOf sh q) ws)

@@ -1,13 +1,16 @@
 -- What laying blocks two at a time asks.
 use Prim.Native.Nat.{ℕ, _+_, _*_, _<_, _≤_}
+use mathlib.Core.Bool.{true}
 use mathlib.Core.List.{List}
 use mathlib.Core.Path.{_≡_}
+use lib.Dec.{ltb}
 use lib.ListN.{length}
+use Rattle.facts.specs.Lists.{every}
 use Rattle.classes.specs.declared.Shape.{Shape}
 use Rattle.classes.specs.Sound.{Sound}
 use Rattle.fields.specs.Field.{words}
 use Rattle.fields.specs.Ranges.{maxPages}
-use Rattle.pages.specs.Stack.{pageSlots}
+use Rattle.pages.specs.Stack.{indexOf, pageSlots}
 use Rattle.stack.specs.Inverse.{inverse}
 
 -- the first n of the words ws laid on a stack of 2 x entries; m is the inverse of the block's granules
@@ -18,3 +21,4 @@ pub record PairsAsks (b : List ℕ) (sh : Shape) (m q x : ℕ) (ws : List ℕ) (
   pub by : m ≡ inverse (sh .block)
   pub within : n ≤ length ws
   pub slots : 2 * x + n ≤ pageSlots
+  pub bits : every (λ w. ltb (indexOf sh q w) pageSlots) ws ≡ true

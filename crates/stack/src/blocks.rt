@@ -11,7 +11,7 @@ use classes::Shape;
 use words::Word;
 
 // Granules of a page.
-const PAGE_GRANULES: u32 = 4096;
+const PAGE_GRANULES: u64 = 4096;
 
 pub fn min(a: u32, b: u32) -> u32
     ensures { λ r. ⌜ r ≡ min a b ⌝ }
@@ -20,29 +20,29 @@ pub fn min(a: u32, b: u32) -> u32
 }
 
 // The word of block i of the run at q.
-pub fn word_of(shape: Shape, q: u32, i: u32) -> u32
+pub fn word_of(shape: Shape, q: u32, i: u32) -> u64
     requires { ⌜ WordAsks shape q i ⌝ }
     ensures { λ r. ⌜ r ≡ wordOf shape q i ⌝ }
 {
     let word = Word::block(
         shape.kind,
-        q * PAGE_GRANULES + (shape.header + i * shape.block),
+        q as u64 * PAGE_GRANULES + (shape.header + i * shape.block) as u64,
     );
     word.bits
 }
 
 // The block of the run at q that a word names; 0 for a word below the run's blocks.
-pub fn index_of(shape: Shape, q: u32, w: u32) -> u32
-    requires { ⌜ IndexAsks shape q ⌝ }
+pub fn index_of(shape: Shape, q: u32, w: u64) -> u32
+    requires { ⌜ IndexAsks shape q w ⌝ }
     ensures { λ r. ⌜ r ≡ indexOf shape q w ⌝ }
 {
-    let start = q * PAGE_GRANULES + shape.header;
+    let start = q as u64 * PAGE_GRANULES + shape.header as u64;
     let word = Word::of(w);
     let granule = word.granule();
     if granule < start {
         return 0;
     }
-    (granule - start) / shape.block
+    ((granule - start) / shape.block as u64) as u32
 }
 
 // What a product is made with instead of a division by a block's granules.
@@ -54,16 +54,16 @@ pub fn inverse_of(block: u32) -> u64
 }
 
 // As `index_of`, with the inverse of the block's granules. A run is less than 2^16 granules long.
-pub fn index_by(shape: Shape, inv: u64, q: u32, w: u32) -> u32
-    requires { ⌜ IndexAsks shape q ⌝ }
+pub fn index_by(shape: Shape, inv: u64, q: u32, w: u64) -> u32
+    requires { ⌜ IndexAsks shape q w ⌝ }
     requires { ⌜ inv ≡ inverse (shape .block) ⌝ }
     ensures { λ r. ⌜ r ≡ indexOf shape q w ⌝ }
 {
-    let start = q * PAGE_GRANULES + shape.header;
+    let start = q as u64 * PAGE_GRANULES + shape.header as u64;
     let word = Word::of(w);
-    let x = std::num::wrapping_sub_u32(word.granule(), start);
+    let x = std::num::wrapping_sub_u64(word.granule(), start);
     if x < 65536 {
-        return ((x as u64 * inv) >> 32) as u32;
+        return ((x * inv) >> 32) as u32;
     }
     index_of(shape, q, w)
 }

@@ -10,7 +10,7 @@ use crate::blocks::word_of;
 use classes::Shape;
 
 // The words of k blocks from block `from` on, to the list's places below `at`.
-fn name_blocks(shape: Shape, q: u32, list: &mut [u32], at: u32, from: u32, k: u32)
+fn name_blocks(shape: Shape, q: u32, list: &mut [u64], at: u32, from: u32, k: u32)
     requires { ⌜ NameAsks shape q (now list) at from k ⌝ }
     ensures { λ _. ⌜ now (list .exit) ≡ spliced (now (list .entry)) (at - k) (map (wordOf shape q) (downs from k)) ⌝ }
 {
@@ -42,7 +42,7 @@ pub fn carve_blocks(
     meta: &mut [u32],
     shape: Shape,
     q: u32,
-    list: &mut [u32],
+    list: &mut [u64],
     at: u32,
     from: u32,
     k: u32,

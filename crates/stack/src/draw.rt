@@ -13,7 +13,7 @@ fn give_blocks(
     meta: &mut [u32],
     shape: Shape,
     q: u32,
-    list: &mut [u32],
+    list: &mut [u64],
     at: u32,
     top: u32,
     popped: u32,
@@ -28,7 +28,7 @@ fn give_blocks(
 }
 
 // Up to m blocks, to the list's places below `at`; how many.
-pub fn draw_blocks(meta: &mut [u32], shape: Shape, q: u32, list: &mut [u32], at: u32, m: u32) -> u32
+pub fn draw_blocks(meta: &mut [u32], shape: Shape, q: u32, list: &mut [u64], at: u32, m: u32) -> u32
     requires { ⌜ DrawAsks (now meta) shape q (now list) at m ⌝ }
     ensures { λ r. ⌜ Drawn r (now (meta .exit)) (now (list .exit)) (now (meta .entry)) shape q (now (list .entry)) at m ⌝ }
 {

@@ -7,7 +7,7 @@ use crate::blocks::word_of;
 use classes::Shape;
 
 // Block i is out, and its word stands in the list below `at`.
-fn give_block(meta: &mut [u32], shape: Shape, q: u32, list: &mut [u32], at: u32, i: u32)
+fn give_block(meta: &mut [u32], shape: Shape, q: u32, list: &mut [u64], at: u32, i: u32)
     requires { ⌜ GiveAsks (now meta) shape q (now list) at i ⌝ }
     ensures { λ _. ⌜ Gave (now (meta .entry)) shape q (now (list .entry)) at (i ∷ []) (now (meta .exit)) (now (list .exit)) ⌝ }
 {
@@ -16,7 +16,7 @@ fn give_block(meta: &mut [u32], shape: Shape, q: u32, list: &mut [u32], at: u32,
 }
 
 // No block from a stack of `top`, or one.
-fn pop_end(meta: &mut [u32], shape: Shape, q: u32, list: &mut [u32], at: u32, top: u32, k: u32)
+fn pop_end(meta: &mut [u32], shape: Shape, q: u32, list: &mut [u64], at: u32, top: u32, k: u32)
     requires { ⌜ PopAsks (now meta) shape q (now list) at top k ⌝ }
     requires { ⌜ k ≤ 1 ⌝ }
     ensures { λ _. ⌜ Gave (now (meta .entry)) shape q (now (list .entry)) at (reverse (tops (now (meta .entry)) q k top)) (now (meta .exit)) (now (list .exit)) ⌝ }
@@ -28,7 +28,7 @@ fn pop_end(meta: &mut [u32], shape: Shape, q: u32, list: &mut [u32], at: u32, to
 }
 
 // Two from a stack of 2 x + 2: the entries of its word x.
-fn pop_pair(meta: &mut [u32], shape: Shape, q: u32, list: &mut [u32], at: u32, x: u32)
+fn pop_pair(meta: &mut [u32], shape: Shape, q: u32, list: &mut [u64], at: u32, x: u32)
     requires { ⌜ PopAsks (now meta) shape q (now list) at (2 * x + 2) 2 ⌝ }
     ensures { λ _. ⌜ Gave (now (meta .entry)) shape q (now (list .entry)) at (reverse (tops (now (meta .entry)) q 2 (2 * x + 2))) (now (meta .exit)) (now (list .exit)) ⌝ }
 {
@@ -39,7 +39,7 @@ fn pop_pair(meta: &mut [u32], shape: Shape, q: u32, list: &mut [u32], at: u32, x
 }
 
 // Those of k words from a stack of x.
-fn pop_pairs(meta: &mut [u32], shape: Shape, q: u32, list: &mut [u32], at: u32, x: u32, k: u32)
+fn pop_pairs(meta: &mut [u32], shape: Shape, q: u32, list: &mut [u64], at: u32, x: u32, k: u32)
     requires { ⌜ PopAsks (now meta) shape q (now list) at (2 * x) (2 * k) ⌝ }
     ensures { λ _. ⌜ Gave (now (meta .entry)) shape q (now (list .entry)) at (reverse (tops (now (meta .entry)) q (2 * k) (2 * x))) (now (meta .exit)) (now (list .exit)) ⌝ }
 {
@@ -51,7 +51,7 @@ fn pop_pairs(meta: &mut [u32], shape: Shape, q: u32, list: &mut [u32], at: u32, 
 }
 
 // k blocks from a stack of `top`, where there is an entry.
-fn pop_some(meta: &mut [u32], shape: Shape, q: u32, list: &mut [u32], at: u32, top: u32, k: u32)
+fn pop_some(meta: &mut [u32], shape: Shape, q: u32, list: &mut [u64], at: u32, top: u32, k: u32)
     requires { ⌜ PopAsks (now meta) shape q (now list) at top k ⌝ }
     requires { ⌜ 1 ≤ k ⌝ }
     ensures { λ _. ⌜ Gave (now (meta .entry)) shape q (now (list .entry)) at (reverse (tops (now (meta .entry)) q k top)) (now (meta .exit)) (now (list .exit)) ⌝ }
@@ -69,7 +69,7 @@ pub fn pop_blocks(
     meta: &mut [u32],
     shape: Shape,
     q: u32,
-    list: &mut [u32],
+    list: &mut [u64],
     at: u32,
     top: u32,
     k: u32,

@@ -11,7 +11,7 @@ use crate::blocks::inverse_of;
 use classes::Shape;
 
 // The list's first n blocks on a stack of 2 x entries, two at a time: entries 2 x and 2 x + 1 are one word.
-fn lay_pairs(meta: &mut [u32], shape: Shape, inv: u64, q: u32, x: u32, list: &[u32], n: usize)
+fn lay_pairs(meta: &mut [u32], shape: Shape, inv: u64, q: u32, x: u32, list: &[u64], n: usize)
     requires { ⌜ PairsAsks (now meta) shape inv q x (now list) n ⌝ }
     ensures { λ _. ⌜ now (meta .exit) ≡ push (now (meta .entry)) q (2 * x) (map (indexOf shape q) (take n (now (list .entry)))) ⌝ }
 {
@@ -35,7 +35,7 @@ fn lay_pairs(meta: &mut [u32], shape: Shape, inv: u64, q: u32, x: u32, list: &[u
 }
 
 // The list's blocks on a stack of `top`, the list's first on top.
-fn lay_blocks(meta: &mut [u32], shape: Shape, q: u32, top: u32, list: &[u32])
+fn lay_blocks(meta: &mut [u32], shape: Shape, q: u32, top: u32, list: &[u64])
     requires { ⌜ LayAsks (now meta) shape q top (now list) ⌝ }
     ensures { λ _. ⌜ now (meta .exit) ≡ push (now (meta .entry)) q top (map (indexOf shape q) (now (list .entry))) ⌝ }
 {
@@ -57,7 +57,7 @@ fn lay_blocks(meta: &mut [u32], shape: Shape, q: u32, top: u32, list: &[u32])
 }
 
 // The list's blocks before the page's free ones. Their out bits are the caller's.
-pub fn push_list(meta: &mut [u32], shape: Shape, q: u32, list: &[u32])
+pub fn push_list(meta: &mut [u32], shape: Shape, q: u32, list: &[u64])
     requires { ⌜ PushAsks (now meta) shape q (now list) ⌝ }
     ensures { λ _. ⌜ now (meta .exit) ≡ pushed (now (meta .entry)) q (map (indexOf shape q) (now (list .entry))) ⌝ }
 {

@@ -21,7 +21,7 @@ pub enum Take {
 }
 
 // From the partial list.
-fn take_partial(meta: &mut [u32], n: u32, c: u32, shape: Shape, list: &mut [u32]) -> Take
+fn take_partial(meta: &mut [u32], n: u32, c: u32, shape: Shape, list: &mut [u64]) -> Take
     requires { ⌜ TakeAsks n (now meta) c shape ⌝ }
     requires { ⌜ shape .batch ≤ length (now list) ⌝ }
     ensures { λ r. ⌜ Takes r (now (meta .exit)) (now (list .exit)) (fromPartial n (now (meta .entry)) c shape (now (list .entry))) ⌝ }
@@ -35,7 +35,7 @@ fn take_partial(meta: &mut [u32], n: u32, c: u32, shape: Shape, list: &mut [u32]
 }
 
 // The newest page of a store, where there is no partial page.
-fn take_parked(meta: &mut [u32], n: u32, c: u32, shape: Shape, park: Park, list: &mut [u32]) -> Take
+fn take_parked(meta: &mut [u32], n: u32, c: u32, shape: Shape, park: Park, list: &mut [u64]) -> Take
     requires { ⌜ ParkedAsks n (now meta) c shape park ⌝ }
     requires { ⌜ shape .batch ≤ length (now list) ⌝ }
     ensures { λ r. ⌜ Takes r (now (meta .exit)) (now (list .exit)) (fromPark n (now (meta .entry)) c shape park (now (list .entry))) ⌝ }
@@ -51,7 +51,7 @@ fn take_parked(meta: &mut [u32], n: u32, c: u32, shape: Shape, park: Park, list:
 }
 
 // A run that the arena gave, as the class's only page.
-fn take_run(meta: &mut [u32], c: u32, shape: Shape, list: &mut [u32], q: u32) -> Take
+fn take_run(meta: &mut [u32], c: u32, shape: Shape, list: &mut [u64], q: u32) -> Take
     requires { ⌜ TakeRunAsks (now meta) c shape (now list) q ⌝ }
     ensures { λ r. ⌜ Takes r (now (meta .exit)) (now (list .exit)) (onRun (now (meta .entry)) c shape (now (list .entry)) (some q)) ⌝ }
 {
@@ -63,7 +63,7 @@ fn take_run(meta: &mut [u32], c: u32, shape: Shape, list: &mut [u32], q: u32) ->
 }
 
 // A new run from the arena; none is a take of no block.
-fn take_new(meta: &mut [u32], n: u32, c: u32, shape: Shape, host: u32, list: &mut [u32]) -> Take
+fn take_new(meta: &mut [u32], n: u32, c: u32, shape: Shape, host: u32, list: &mut [u64]) -> Take
     requires { ⌜ TakeNewAsks n (now meta) c shape (now list) ⌝ }
     ensures { λ r. ⌜ Takes r (now (meta .exit)) (now (list .exit)) (takeNew n (now (meta .entry)) c shape host (now (list .entry))) ⌝ }
 {
@@ -76,7 +76,7 @@ fn take_new(meta: &mut [u32], n: u32, c: u32, shape: Shape, host: u32, list: &mu
 }
 
 // The first source that has a page.
-fn take_blocks(meta: &mut [u32], n: u32, c: u32, shape: Shape, host: u32, list: &mut [u32]) -> Take
+fn take_blocks(meta: &mut [u32], n: u32, c: u32, shape: Shape, host: u32, list: &mut [u64]) -> Take
     requires { ⌜ BlocksAsks n (now meta) c shape (now list) ⌝ }
     ensures { λ r. ⌜ Takes r (now (meta .exit)) (now (list .exit)) (takeBlocks n (now (meta .entry)) c shape host (now (list .entry))) ⌝ }
 {
@@ -96,7 +96,7 @@ fn take_blocks(meta: &mut [u32], n: u32, c: u32, shape: Shape, host: u32, list: 
 }
 
 // A class's take from number 5 on, on the book of an arena of n pages.
-pub fn take_call(meta: &mut [u32], n: u32, c: u32, host: u32, list: &mut [u32]) -> Take
+pub fn take_call(meta: &mut [u32], n: u32, c: u32, host: u32, list: &mut [u64]) -> Take
     requires { ⌜ CallAsks n (now meta) c ⌝ }
     ensures { λ r. ⌜ Takes r (now (meta .exit)) (now (list .exit)) (takeCall n (now (meta .entry)) c (shapeOf c) host (now (list .entry))) ⌝ }
 {

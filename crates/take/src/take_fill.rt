@@ -16,7 +16,7 @@ fn unlist_spent(meta: &mut [u32], c: u32, shape: Shape, q: u32)
 }
 
 // Up to m blocks of the head page, to the list's places below `at`; how many.
-fn fill_page(meta: &mut [u32], c: u32, shape: Shape, list: &mut [u32], at: u32, m: u32) -> u32
+fn fill_page(meta: &mut [u32], c: u32, shape: Shape, list: &mut [u64], at: u32, m: u32) -> u32
     requires { ⌜ TurnAsks (now meta) c shape (now list) at m ⌝ }
     ensures { λ r. ⌜ GaveTurn r (now (meta .exit)) (now (list .exit)) (now (meta .entry)) c shape (now (list .entry)) at m ⌝ }
 {
@@ -27,7 +27,7 @@ fn fill_page(meta: &mut [u32], c: u32, shape: Shape, list: &mut [u32], at: u32, 
 }
 
 // The list's first `count` places, where the partial list gives just that many.
-pub fn fill(meta: &mut [u32], c: u32, shape: Shape, list: &mut [u32], count: u32)
+pub fn fill(meta: &mut [u32], c: u32, shape: Shape, list: &mut [u64], count: u32)
     requires { ⌜ FillAsks (now meta) c shape (now list) count ⌝ }
     ensures { λ _. ⌜ Filling (now (meta .exit)) (now (list .exit)) (fills (now (meta .entry)) c shape) (now (list .entry)) ⌝ }
 {

@@ -1,23 +1,24 @@
 -- The loops and ways out of run_end, count_blocks, counts_fit and what they call.
-use Prim.Native.Nat.{ℕ, suc, _+_, _-_, _≤_, _<_}
+use Prim.Native.Nat.{ℕ, suc, _+_, _-_, _^_, _≤_, _<_}
 use native.Mathlib.Omega.{arith}
 use native.Mathlib.Numerals.{add-one}
 use mathlib.Core.Bool.{Bool, true, false, cond, true≢false}
 use mathlib.Core.List.{List, [], _∷_, map}
 use mathlib.Core.Path.{_≡_, refl, sym, ap, _∙_}
-use lib.Dec.{eqb}
+use lib.Dec.{eqb, ltb}
 use lib.ListN.{length, getD, set, drop, length-set, length-drop}
 use lib.Seq.{drop-cons, drop-drop, getD-set-same, getD-set-other}
 use borrow.Author.Tests.{ltb-true, eqb-false, eqb-true, lt-ltb, le-ltb, eq-eqb, ne-eqb}
 use Rattle.facts.specs.Lists.{every, count, below}
-use Rattle.facts.proofs.Bools.{by-cases, and-left}
+use Rattle.facts.proofs.Bools.{by-cases, and-left, and-right}
 use Rattle.facts.proofs.Lists.{drop-past, every-same, every-get, below-last}
 use Rattle.words.specs.Word.{countOf, pageOf}
 use Rattle.fields.specs.Field.{page, tally, word, get, Has}
+use Rattle.fields.specs.Ranges.{maxPages}
 use Rattle.pages.specs.Stack.{pageAt}
 use Rattle.tally.specs.Tally.{pageIn, tallyIn, ofChunk, chunkAt, hasChunk, runOn, agrees, fits, tallied}
-use Rattle.tally.specs.Asks.{wordThere, Counted, OneAsks, FitAsks}
-use Rattle.tally.proofs.NameSteps.{tally-there}
+use Rattle.tally.specs.Asks.{tallyThere, wordThere, Counted, OneAsks, FitAsks}
+use Rattle.tally.proofs.NameSteps.{page-below, tally-there}
 
 -- ---- of_chunk
 pub no-chunk : (gs : List ℕ) (i p : ℕ) → length gs ≤ i → false ≡ ofChunk gs i p
@@ -94,12 +95,18 @@ count-le b k (w ∷ ws) =
     let z = count-le b k ws in
     by-cases (eqb k (chunkAt b w)) (λ d. rw d (omega arith)) (λ d. rw d (omega arith))
 
-pub word-tally : (b ws : List ℕ) (j p : ℕ) → every (wordThere b) ws ≡ true → j < length ws → p ≡ pageAt (getD ws j 0) → Has b (page tally p)
+word-at : (b ws : List ℕ) (j : ℕ) → every (wordThere b) ws ≡ true → j < length ws → (pageAt (getD ws j 0) < maxPages) × (word (page tally (pageAt (getD ws j 0))) < length b)
 unfolding wordThere
-word-tally b ws j p a l e =
-    let w = getD ws j 0 in
-    let z : word (page tally (pageAt w)) < length b = ltb-true (word (page tally (pageAt w))) (length b) (every-get (wordThere b) ws j a l) in
-    omega (arith, z, e)
+word-at b ws j a l =
+    let p = pageAt (getD ws j 0) in
+    let e : tallyThere b p ≡ true = every-get (wordThere b) ws j a l in
+    (ltb-true p maxPages (and-left _ _ e), ltb-true (word (page tally p)) (length b) (and-right (ltb p maxPages) _ e))
+
+pub word-fits : (b ws : List ℕ) (j : ℕ) → every (wordThere b) ws ≡ true → j < length ws → pageAt (getD ws j 0) < 2 ^ 32
+word-fits b ws j a l = omega (arith, word-at b ws j a l .0)
+
+pub word-tally : (b ws : List ℕ) (j p : ℕ) → every (wordThere b) ws ≡ true → j < length ws → p ≡ pageAt (getD ws j 0) → Has b (page tally p)
+word-tally b ws j p a l e = omega (arith, word-at b ws j a l .1, e)
 
 module _ (b ws gs cs : List ℕ) where
   pub count-starts : ((k : ℕ) → getD cs k 0 ≡ 0) → CountInv b ws gs cs cs 0
@@ -170,6 +177,9 @@ module _ (b ws gs cs : List ℕ) where
       record { answer = rw d at (v .rest); counts = λ x k. let z = rw d at (v .counts k) in omega (arith, z) }
 
 -- ---- chunk_fits
+pub one-fits : (b gs cs : List ℕ) (k : ℕ) → OneAsks b gs cs k → pageIn gs k < 2 ^ 32
+one-fits b gs cs k a = omega (arith, a .below)
+
 module _ (b gs cs : List ℕ) (k w u : ℕ) (e : w ≡ getD gs k 0) (c : u ≡ countOf w) where
   count-is : countOf (getD gs k 0) ≡ u
   count-is = sym (c ∙ ap countOf e)
@@ -183,10 +193,10 @@ module _ (b gs cs : List ℕ) (k w u : ℕ) (e : w ≡ getD gs k 0) (c : u ≡ c
     unfolding fits agrees
     count-other h = rw (count-is, ne-eqb u 0 z, ne-eqb u (getD cs k 0) h)
 
-    pub count-same : u ≡ getD cs k 0 → (p t : ℕ) → p ≡ pageOf w → t ≡ get b (page tally p) → eqb t k ≡ fits b gs cs k
+    pub count-same : u ≡ getD cs k 0 → (p t : ℕ) → p ≡ pageIn gs k → t ≡ get b (page tally p) → eqb t k ≡ fits b gs cs k
     unfolding fits agrees
     count-same h p t f g =
-        let n : get b (tallyIn gs k) ≡ t = sym (g ∙ ap (λ q. get b (page tally q)) (f ∙ ap pageOf e)) in
+        let n : get b (tallyIn gs k) ≡ t = sym (g ∙ ap (λ q. get b (page tally q)) f) in
         rw (count-is, n, ne-eqb u 0 z, eq-eqb u (getD cs k 0) h)
 
 -- ---- counts_fit: the chunks from i on agree
@@ -201,7 +211,7 @@ module _ (b gs cs : List ℕ) where
   pub last-fits : (i : ℕ) → FitAsks b gs cs → FitInv b gs cs i → 0 < i → OneAsks b gs cs (i - 1)
   last-fits i a v h =
       let l : i - 1 < length gs = omega (arith, v .within) in
-      record { here = l; there = tally-there b b gs (i - 1) (getD gs (i - 1) 0) (pageIn gs (i - 1)) refl (a .there) l refl refl; room = omega (arith, a .room) }
+      record { here = l; below = page-below b gs (i - 1) (a .there) l; there = tally-there b b gs (i - 1) (pageIn gs (i - 1)) refl (a .there) l refl; room = omega (arith, a .room) }
 
   module _ (i : ℕ) (v : FitInv b gs cs i) (h : 0 < i) (t : Bool) (e : t ≡ fits b gs cs (i - 1)) where
     pub fit-goes-on : t ≡ true → FitInv b gs cs (i - 1)

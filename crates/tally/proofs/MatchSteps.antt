@@ -11,11 +11,12 @@ use Rattle.facts.specs.Lists.{every}
 use Rattle.facts.proofs.Bools.{and-left, and-right}
 use Rattle.words.specs.Word.{pageOf}
 use Rattle.fields.specs.Field.{page, tally, word, words}
+use Rattle.fields.specs.Ranges.{maxPages}
 use Rattle.pages.proofs.Downs.{every-mono}
 use Rattle.pages.specs.Stack.{pageAt}
 use Rattle.tally.specs.Match.{inArena, MatchAsks, Matched}
 use Rattle.tally.specs.Tally.{isPage, unnamed, tallied}
-use Rattle.tally.specs.Asks.{chunkThere, wordThere, NameAsks, Named, CountAsks, FitAsks, RoomAsks}
+use Rattle.tally.specs.Asks.{tallyThere, chunkThere, wordThere, NameAsks, Named, CountAsks, FitAsks, RoomAsks}
 use Rattle.tally.proofs.NameLaws.{unnames}
 use Rattle.tally.proofs.MatchLaws.{page-past, tallied-is}
 
@@ -25,16 +26,16 @@ zero-at (c ∷ cs) zero e = eqb-true c 0 (and-left _ _ e)
 zero-at (c ∷ cs) (suc k) e = zero-at cs k (and-right (eqb c 0) _ e)
 
 -- a page of the arena has its TALLY in the book
-page-there : (n : ℕ) (b : List ℕ) (p : ℕ) → words n ≤ length b → ltb p n ≡ true → ltb (word (page tally p)) (length b) ≡ true
-page-there n b p h e = lt-ltb (word (page tally p)) (length b) (omega (arith, ltb-true p n e))
+page-there : (n : ℕ) (b : List ℕ) (p : ℕ) → n ≤ maxPages → words n ≤ length b → ltb p n ≡ true → tallyThere b p ≡ true
+page-there n b p f h e = rw (lt-ltb p maxPages (omega (arith, ltb-true p n e))) (lt-ltb (word (page tally p)) (length b) (omega (arith, ltb-true p n e)))
 
-chunks-there : (n : ℕ) (b gs : List ℕ) → words n ≤ length b → every (isPage n) gs ≡ true → every (chunkThere b) gs ≡ true
+chunks-there : (n : ℕ) (b gs : List ℕ) → n ≤ maxPages → words n ≤ length b → every (isPage n) gs ≡ true → every (chunkThere b) gs ≡ true
 unfolding isPage chunkThere
-chunks-there n b gs h = every-mono (isPage n) (chunkThere b) (λ g. page-there n b (pageOf g) h) gs
+chunks-there n b gs f h = every-mono (isPage n) (chunkThere b) (λ g. page-there n b (pageOf g) f h) gs
 
-words-there : (n : ℕ) (b ws : List ℕ) → words n ≤ length b → every (inArena n) ws ≡ true → every (wordThere b) ws ≡ true
+words-there : (n : ℕ) (b ws : List ℕ) → n ≤ maxPages → words n ≤ length b → every (inArena n) ws ≡ true → every (wordThere b) ws ≡ true
 unfolding inArena wordThere
-words-there n b ws h = every-mono (inArena n) (wordThere b) (λ w. page-there n b (pageAt w) h) ws
+words-there n b ws f h = every-mono (inArena n) (wordThere b) (λ w. page-there n b (pageAt w) f h) ws
 
 module _ (n : ℕ) (b ws gs ss cs : List ℕ) (a : MatchAsks n b ws gs) (s : RoomAsks gs ss cs) (t : Bool) (e : t ≡ every (isPage n) gs) where
   pub past-arena : t ≡ false → Matched false b b ws gs
@@ -42,20 +43,20 @@ module _ (n : ℕ) (b ws gs ss cs : List ℕ) (a : MatchAsks n b ws gs) (s : Roo
 
   module _ (z : t ≡ true) where
     pub name-asks : NameAsks b gs ss
-    name-asks = record { there = chunks-there n b gs (a .long) (sym e ∙ z); few = a .chunks; room = s .saved }
+    name-asks = record { there = chunks-there n b gs (a .few) (a .long) (sym e ∙ z); few = a .chunks; room = s .saved }
 
     module _ (b′ : List ℕ) (k : length b′ ≡ length b) where
       long : words n ≤ length b′
       long = rw k (a .long)
 
       pub count-asks : CountAsks b′ ws gs cs
-      count-asks = record { there = words-there n b′ ws long (a .pages); room = s .counts; zeros = λ i. zero-at cs i (s .zeros) }
+      count-asks = record { there = words-there n b′ ws (a .few) long (a .pages); room = s .counts; zeros = λ i. zero-at cs i (s .zeros) }
 
       pub fit-asks : FitAsks b′ gs cs
-      fit-asks = record { there = chunks-there n b′ gs long (sym e ∙ z); room = s .counts }
+      fit-asks = record { there = chunks-there n b′ gs (a .few) long (sym e ∙ z); room = s .counts }
 
       pub unname-asks : (ss′ : List ℕ) → length ss′ ≡ length ss → NameAsks b′ gs ss′
-      unname-asks ss′ l = record { there = chunks-there n b′ gs long (sym e ∙ z); few = a .chunks; room = rw l (s .saved) }
+      unname-asks ss′ l = record { there = chunks-there n b′ gs (a .few) long (sym e ∙ z); few = a .chunks; room = rw l (s .saved) }
 
     pub matched : (b′ ss′ : List ℕ) → Named b′ ss′ b gs → (r : Bool) → r ≡ tallied b′ ws gs → (b″ : List ℕ) → b″ ≡ unnamed b′ gs ss′ (length gs) → Matched r b″ b ws gs
     matched b′ ss′ m r x b″ y =

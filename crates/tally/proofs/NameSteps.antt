@@ -1,22 +1,23 @@
 -- The loops and ways out of all_pages, name_chunks and unname_chunks.
-use Prim.Native.Nat.{ℕ, zero, suc, _+_, _-_, _≤_, _<_}
+use Prim.Native.Nat.{ℕ, zero, suc, _+_, _-_, _^_, _≤_, _<_}
 use native.Mathlib.Omega.{arith}
 use native.Mathlib.Numerals.{add-one, sub-one}
 use mathlib.Core.Bool.{Bool, true, false}
 use mathlib.Core.List.{List}
-use mathlib.Core.Path.{_≡_, refl, sym, ap, _∙_}
+use mathlib.Core.Path.{_≡_, refl, sym, _∙_}
 use lib.Dec.{eqb, ltb}
 use lib.ListN.{length, getD, set, drop, length-set}
 use lib.Seq.{drop-cons, getD-set-same, getD-set-other}
 use borrow.Author.Tests.{ltb-true, eqb-false, eqb-true}
 use Rattle.facts.specs.Lists.{every}
-use Rattle.facts.proofs.Bools.{by-cases}
+use Rattle.facts.proofs.Bools.{by-cases, and-left, and-right}
 use Rattle.facts.proofs.Lists.{drop-past, every-get}
 use Rattle.words.specs.Word.{pageOf}
 use Rattle.fields.specs.Field.{page, tally, word, get, put, Has}
+use Rattle.fields.specs.Ranges.{maxPages}
 use Rattle.fields.proofs.Laws.{length-put}
 use Rattle.tally.specs.Tally.{isPage, pageIn, tallyIn, named, Saved, unnamed}
-use Rattle.tally.specs.Asks.{chunkThere, NameAsks, Named}
+use Rattle.tally.specs.Asks.{tallyThere, chunkThere, NameAsks, Named}
 
 -- ---- all_pages
 pub page-test : (v p g n : ℕ) → v ≡ g → p ≡ pageOf v → ltb p n ≡ isPage n g
@@ -41,13 +42,21 @@ module _ (n : ℕ) (gs : List ℕ) where
   pub pages-ends : (i : ℕ) → PagesInv n gs i → length gs ≤ i → true ≡ every (isPage n) gs
   pages-ends i v l = rw (drop-past gs i l) at (v .rest)
 
--- ---- TALLY of a chunk's page is in the book
-pub tally-there : (b′ b gs : List ℕ) (i v p : ℕ) → length b′ ≡ length b → every (chunkThere b) gs ≡ true → i < length gs → v ≡ getD gs i 0 → p ≡ pageOf v → Has b′ (page tally p)
+-- ---- a chunk's page is one of an arena, and its TALLY is in the book
+there-at : (b gs : List ℕ) (i : ℕ) → every (chunkThere b) gs ≡ true → i < length gs → (pageIn gs i < maxPages) × (word (tallyIn gs i) < length b)
 unfolding chunkThere
-tally-there b′ b gs i v p k a l e f =
-    let z : word (tallyIn gs i) < length b = ltb-true (word (tallyIn gs i)) (length b) (every-get (chunkThere b) gs i a l) in
-    let y : p ≡ pageIn gs i = f ∙ ap pageOf e in
-    omega (arith, z, y)
+there-at b gs i a l =
+    let e : tallyThere b (pageIn gs i) ≡ true = every-get (chunkThere b) gs i a l in
+    (ltb-true (pageIn gs i) maxPages (and-left _ _ e), ltb-true (word (tallyIn gs i)) (length b) (and-right (ltb (pageIn gs i) maxPages) _ e))
+
+pub page-below : (b gs : List ℕ) (i : ℕ) → every (chunkThere b) gs ≡ true → i < length gs → pageIn gs i < maxPages
+page-below b gs i a l = there-at b gs i a l .0
+
+pub page-fits : (b gs : List ℕ) (i : ℕ) → every (chunkThere b) gs ≡ true → i < length gs → pageIn gs i < 2 ^ 32
+page-fits b gs i a l = omega (arith, page-below b gs i a l)
+
+pub tally-there : (b′ b gs : List ℕ) (i p : ℕ) → length b′ ≡ length b → every (chunkThere b) gs ≡ true → i < length gs → p ≡ pageIn gs i → Has b′ (page tally p)
+tally-there b′ b gs i p k a l e = omega (arith, there-at b gs i a l .1)
 
 -- ---- name_chunks: what stands in TALLY of the next page is saved, and the chunk named
 pub record NameInv (b gs ss b′ ss′ : List ℕ) (i : ℕ) : Type 0 where
@@ -62,12 +71,9 @@ module _ (b gs ss : List ℕ) where
   unfolding named
   name-starts = record { within = omega arith; long = refl; room = refl; book = refl; saved = λ k l. absurd (omega arith) }
 
-  module _ (b′ ss′ : List ℕ) (i : ℕ) (a : length gs ≤ length ss) (v : NameInv b gs ss b′ ss′ i) (l : i < length gs) (w p t : ℕ) (e : w ≡ getD gs i 0) (f : p ≡ pageOf w) (g : t ≡ get b′ (page tally p)) where
-    page-is : p ≡ pageIn gs i
-    page-is = f ∙ ap pageOf e
-
+  module _ (b′ ss′ : List ℕ) (i : ℕ) (a : length gs ≤ length ss) (v : NameInv b gs ss b′ ss′ i) (l : i < length gs) (p t : ℕ) (f : p ≡ pageIn gs i) (g : t ≡ get b′ (page tally p)) where
     saved-is : t ≡ get (named b gs i) (tallyIn gs i)
-    saved-is = g ∙ rw (v .book, page-is)
+    saved-is = g ∙ rw (v .book, f)
 
     next-saved : (k : ℕ) → k < suc i → getD (set ss′ i t) k 0 ≡ get (named b gs k) (tallyIn gs k)
     next-saved k h =
@@ -82,7 +88,7 @@ module _ (b gs ss : List ℕ) where
           within = omega arith;
           long = rw (z, length-put) (v .long);
           room = rw length-set (v .room);
-          book = rw (add-one i, ← page-is, ← (v .book)) z;
+          book = rw (add-one i, ← f, ← (v .book)) z;
           saved = rw (add-one i) next-saved;
         }
 
@@ -106,17 +112,19 @@ module _ (b gs ss : List ℕ) where
   pub unname-starts : UnnameInv b gs ss b (length gs)
   unname-starts = record { within = omega arith; long = refl; rest = refl }
 
-  pub tally-last : (b′ : List ℕ) (i : ℕ) → NameAsks b gs ss → UnnameInv b gs ss b′ i → 0 < i → (w p : ℕ) → w ≡ getD gs (i - 1) 0 → p ≡ pageOf w → Has b′ (page tally p)
-  tally-last b′ i a v h w p = tally-there b′ b gs (i - 1) w p (v .long) (a .there) (omega (arith, v .within))
+  pub tally-last : (b′ : List ℕ) (i : ℕ) → NameAsks b gs ss → UnnameInv b gs ss b′ i → 0 < i → (p : ℕ) → p ≡ pageIn gs (i - 1) → Has b′ (page tally p)
+  tally-last b′ i a v h p = tally-there b′ b gs (i - 1) p (v .long) (a .there) (omega (arith, v .within))
 
-  pub unname-goes-on : (b′ : List ℕ) (i : ℕ) → UnnameInv b gs ss b′ i → 0 < i → (w p : ℕ) → w ≡ getD gs (i - 1) 0 → p ≡ pageOf w
+  pub last-fits : (b′ : List ℕ) (i : ℕ) → NameAsks b gs ss → UnnameInv b gs ss b′ i → 0 < i → pageIn gs (i - 1) < 2 ^ 32
+  last-fits b′ i a v h = page-fits b gs (i - 1) (a .there) (omega (arith, v .within))
+
+  pub unname-goes-on : (b′ : List ℕ) (i : ℕ) → UnnameInv b gs ss b′ i → 0 < i → (p : ℕ) → p ≡ pageIn gs (i - 1)
       → (b″ : List ℕ) → b″ ≡ put b′ (page tally p) (getD ss (i - 1) 0) → UnnameInv b gs ss b″ (i - 1)
-  unname-goes-on b′ i v h w p e f b″ z =
-      let y : p ≡ pageIn gs (i - 1) = f ∙ ap pageOf e in
+  unname-goes-on b′ i v h p e b″ z =
       record {
         within = omega (arith, v .within);
         long = rw (z, length-put) (v .long);
-        rest = rw (z, y) (sym (unname-last b′ gs ss i h) ∙ v .rest);
+        rest = rw (z, e) (sym (unname-last b′ gs ss i h) ∙ v .rest);
       }
 
   pub unname-ends : (b′ : List ℕ) (i : ℕ) → UnnameInv b gs ss b′ i → i ≤ 0 → b′ ≡ unnamed b gs ss (length gs)

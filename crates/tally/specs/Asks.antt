@@ -1,7 +1,7 @@
 -- What the functions ask, and what those that write ensure. b is the book, ws the list, gs the chunks, ss what stood in TALLY, cs the
 -- counts.
 use Prim.Native.Nat.{ℕ, _<_, _≤_}
-use mathlib.Core.Bool.{Bool, true}
+use mathlib.Core.Bool.{Bool, true, _&&_}
 use mathlib.Core.List.{List, map}
 use mathlib.Core.Path.{_≡_}
 use lib.Dec.{eqb, ltb}
@@ -9,16 +9,20 @@ use lib.ListN.{length, getD}
 use Rattle.facts.specs.Lists.{every, count}
 use Rattle.words.specs.Word.{pageOf}
 use Rattle.fields.specs.Field.{page, tally, word, Has}
+use Rattle.fields.specs.Ranges.{maxPages}
 use Rattle.model.specs.Chunks.{chunksMax}
 use Rattle.pages.specs.Stack.{pageAt}
-use Rattle.tally.specs.Tally.{tallyIn, named, Saved, chunkAt, hasChunk}
+use Rattle.tally.specs.Tally.{pageIn, tallyIn, named, Saved, chunkAt, hasChunk}
 
--- TALLY of a chunk's page is in the book, and of a listed word's
+-- the page is one of an arena, and its TALLY is in the book; a chunk's page, and a listed word's
+abbrev pub tallyThere : List ℕ → ℕ → Bool
+tallyThere b p = ltb p maxPages && ltb (word (page tally p)) (length b)
+
 unfoldable pub chunkThere : List ℕ → ℕ → Bool
-chunkThere b g = ltb (word (page tally (pageOf g))) (length b)
+chunkThere b g = tallyThere b (pageOf g)
 
 unfoldable pub wordThere : List ℕ → ℕ → Bool
-wordThere b w = ltb (word (page tally (pageAt w))) (length b)
+wordThere b w = tallyThere b (pageAt w)
 
 -- ---- naming
 pub record NameAsks (b gs ss : List ℕ) : Type 0 where
@@ -43,6 +47,7 @@ pub record Counted (r : Bool) (cs′ b ws gs : List ℕ) : Type 0 where
 -- ---- comparing: one chunk; all
 pub record OneAsks (b gs cs : List ℕ) (k : ℕ) : Type 0 where
   pub here : k < length gs
+  pub below : pageIn gs k < maxPages
   pub there : Has b (tallyIn gs k)
   pub room : k < length cs
 

@@ -5,27 +5,29 @@ ghost use lib.ListN.{length, drop};
 ghost use Rattle.facts.specs.Lists.{every, below};
 ghost use Rattle.tally.specs.Tally.{ofChunk, runOn, fits, tallied};
 ghost use Rattle.tally.specs.Asks.{CountAsks, Counted, OneAsks, FitAsks};
+use pages::chunk_page;
 use pages::page_at;
+use pages::page_within;
 use words::Word;
 
 // Whether chunk i is there, and has page p.
-fn of_chunk(chunks: &[u32], i: u32, p: u32) -> bool
+fn of_chunk(chunks: &[u64], i: u32, p: u32) -> bool
     ensures { λ r. ⌜ r ≡ ofChunk (now (chunks .entry)) i p ⌝ }
 {
     if i as usize >= chunks.len() {
         return false;
     }
-    Word::of(chunks[i as usize]).page() == p
+    Word::of(chunks[i as usize]).page() == p as u64
 }
 
 // The place after the words from one place on that lie on page p, one after another.
-fn run_end(list: &[u32], from: usize, p: u32) -> usize
+fn run_end(list: &[u64], from: usize, p: u32) -> usize
     requires { ⌜ from ≤ length (now list) ⌝ }
     ensures { λ r. ⌜ r ≡ from + runOn p (drop from (now (list .entry))) ⌝ }
 {
     let mut j = from;
     while j < list.len() {
-        if page_at(list[j]) == p {
+        if page_at(list[j]) == p as u64 {
             j += 1;
         } else {
             return j;
@@ -36,13 +38,13 @@ fn run_end(list: &[u32], from: usize, p: u32) -> usize
 
 // How many listed blocks each chunk's page has; false if a block's page has no chunk. Blocks of one page mostly stand together, and
 // are looked up once.
-pub fn count_blocks(meta: &[u32], list: &[u32], chunks: &[u32], counts: &mut [usize]) -> bool
+pub fn count_blocks(meta: &[u32], list: &[u64], chunks: &[u64], counts: &mut [usize]) -> bool
     requires { ⌜ CountAsks (now meta) (now list) (now chunks) (now counts) ⌝ }
     ensures { λ r. ⌜ Counted r (now (counts .exit)) (now (meta .entry)) (now (list .entry)) (now (chunks .entry)) ⌝ }
 {
     let mut j = 0;
     while j < list.len() {
-        let p = page_at(list[j]);
+        let p = page_within(list[j]);
         let i = fields::page::tally(meta, p);
         if of_chunk(chunks, i, p) {
             let next = run_end(list, j + 1, p);
@@ -56,22 +58,22 @@ pub fn count_blocks(meta: &[u32], list: &[u32], chunks: &[u32], counts: &mut [us
 }
 
 // Whether chunk i's count is not 0 and is the list's, and its page names it.
-fn chunk_fits(meta: &[u32], chunks: &[u32], counts: &[usize], i: usize) -> bool
+fn chunk_fits(meta: &[u32], chunks: &[u64], counts: &[usize], i: usize) -> bool
     requires { ⌜ OneAsks (now meta) (now chunks) (now counts) i ⌝ }
     ensures { λ r. ⌜ r ≡ fits (now (meta .entry)) (now (chunks .entry)) (now (counts .entry)) i ⌝ }
 {
-    let g = Word::of(chunks[i]);
-    let count = g.count() as usize;
+    let g = chunks[i];
+    let count = Word::of(g).count() as usize;
     if count == 0 {
         return false;
     }
     if count != counts[i] {
         return false;
     }
-    fields::page::tally(meta, g.page()) as usize == i
+    fields::page::tally(meta, chunk_page(g)) as usize == i
 }
 
-pub fn counts_fit(meta: &[u32], chunks: &[u32], counts: &[usize]) -> bool
+pub fn counts_fit(meta: &[u32], chunks: &[u64], counts: &[usize]) -> bool
     requires { ⌜ FitAsks (now meta) (now chunks) (now counts) ⌝ }
     ensures { λ r. ⌜ r ≡ every (fits (now (meta .entry)) (now (chunks .entry)) (now (counts .entry))) (below (length (now (chunks .entry)))) ⌝ }
 {
@@ -87,7 +89,7 @@ pub fn counts_fit(meta: &[u32], chunks: &[u32], counts: &[usize]) -> bool
 }
 
 // Both, once the chunks are named.
-pub fn tallies_agree(meta: &[u32], list: &[u32], chunks: &[u32], counts: &mut [usize]) -> bool
+pub fn tallies_agree(meta: &[u32], list: &[u64], chunks: &[u64], counts: &mut [usize]) -> bool
     requires { ⌜ CountAsks (now meta) (now list) (now chunks) (now counts) ⌝ }
     requires { ⌜ FitAsks (now meta) (now chunks) (now counts) ⌝ }
     ensures { λ r. ⌜ r ≡ tallied (now (meta .entry)) (now (list .entry)) (now (chunks .entry)) ⌝ }

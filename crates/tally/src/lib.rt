@@ -6,3 +6,4 @@ mod naming;
 
 pub use matching::MAX_CHUNKS;
 pub use matching::chunks_match;
+pub use naming::is_page;

@@ -17,8 +17,8 @@ const FEW_CHUNKS: usize = 32;
 fn match_with(
     meta: &mut [u32],
     n: u32,
-    list: &[u32],
-    chunks: &[u32],
+    list: &[u64],
+    chunks: &[u64],
     saved: &mut [u32],
     counts: &mut [usize],
 ) -> bool
@@ -36,7 +36,7 @@ fn match_with(
     }
 }
 
-fn match_few(meta: &mut [u32], n: u32, list: &[u32], chunks: &[u32]) -> bool
+fn match_few(meta: &mut [u32], n: u32, list: &[u64], chunks: &[u64]) -> bool
     requires { ⌜ MatchAsks n (now meta) (now list) (now chunks) ⌝ }
     requires { ⌜ length (now chunks) ≤ 32 ⌝ }
     ensures { λ r. ⌜ Matched r (now (meta .exit)) (now (meta .entry)) (now (list .entry)) (now (chunks .entry)) ⌝ }
@@ -46,7 +46,7 @@ fn match_few(meta: &mut [u32], n: u32, list: &[u32], chunks: &[u32]) -> bool
     match_with(meta, n, list, chunks, &mut saved, &mut counts)
 }
 
-fn match_many(meta: &mut [u32], n: u32, list: &[u32], chunks: &[u32]) -> bool
+fn match_many(meta: &mut [u32], n: u32, list: &[u64], chunks: &[u64]) -> bool
     requires { ⌜ MatchAsks n (now meta) (now list) (now chunks) ⌝ }
     ensures { λ r. ⌜ Matched r (now (meta .exit)) (now (meta .entry)) (now (list .entry)) (now (chunks .entry)) ⌝ }
 {
@@ -55,7 +55,7 @@ fn match_many(meta: &mut [u32], n: u32, list: &[u32], chunks: &[u32]) -> bool
     match_with(meta, n, list, chunks, &mut saved, &mut counts)
 }
 
-pub fn chunks_match(meta: &mut [u32], n: u32, list: &[u32], chunks: &[u32]) -> bool
+pub fn chunks_match(meta: &mut [u32], n: u32, list: &[u64], chunks: &[u64]) -> bool
     requires { ⌜ MatchAsks n (now meta) (now list) (now chunks) ⌝ }
     ensures { λ r. ⌜ Matched r (now (meta .exit)) (now (meta .entry)) (now (list .entry)) (now (chunks .entry)) ⌝ }
 {

@@ -4,16 +4,17 @@ ghost use lib.ListN.{length};
 ghost use Rattle.facts.specs.Lists.{every};
 ghost use Rattle.tally.specs.Tally.{isPage, unnamed};
 ghost use Rattle.tally.specs.Asks.{NameAsks, Named};
+use pages::chunk_page;
 use words::Word;
 
-fn is_page(n: u32, g: u32) -> bool
+pub fn is_page(n: u32, g: u64) -> bool
     ensures { λ r. ⌜ r ≡ isPage n g ⌝ }
 {
-    Word::of(g).page() < n
+    Word::of(g).page() < n as u64
 }
 
 // Whether every chunk's page is in the arena.
-pub fn all_pages(n: u32, chunks: &[u32]) -> bool
+pub fn all_pages(n: u32, chunks: &[u64]) -> bool
     ensures { λ r. ⌜ r ≡ every (isPage n) (now (chunks .entry)) ⌝ }
 {
     let mut i = 0;
@@ -27,13 +28,13 @@ pub fn all_pages(n: u32, chunks: &[u32]) -> bool
     true
 }
 
-pub fn name_chunks(meta: &mut [u32], chunks: &[u32], saved: &mut [u32])
+pub fn name_chunks(meta: &mut [u32], chunks: &[u64], saved: &mut [u32])
     requires { ⌜ NameAsks (now meta) (now chunks) (now saved) ⌝ }
     ensures { λ _. ⌜ Named (now (meta .exit)) (now (saved .exit)) (now (meta .entry)) (now (chunks .entry)) ⌝ }
 {
     let mut i = 0;
     while i < chunks.len() {
-        let p = Word::of(chunks[i]).page();
+        let p = chunk_page(chunks[i]);
         saved[i] = fields::page::tally(meta, p);
         fields::page::set_tally(meta, p, i as u32);
         i += 1;
@@ -41,13 +42,13 @@ pub fn name_chunks(meta: &mut [u32], chunks: &[u32], saved: &mut [u32])
 }
 
 // The last named first: a page that stands twice gets back what it had before the first.
-pub fn unname_chunks(meta: &mut [u32], chunks: &[u32], saved: &[u32])
+pub fn unname_chunks(meta: &mut [u32], chunks: &[u64], saved: &[u32])
     requires { ⌜ NameAsks (now meta) (now chunks) (now saved) ⌝ }
     ensures { λ _. ⌜ now (meta .exit) ≡ unnamed (now (meta .entry)) (now (chunks .entry)) (now (saved .entry)) (length (now (chunks .entry))) ⌝ }
 {
     let mut i = chunks.len();
     while i > 0 {
         i -= 1;
-        fields::page::set_tally(meta, Word::of(chunks[i]).page(), saved[i]);
+        fields::page::set_tally(meta, chunk_page(chunks[i]), saved[i]);
     }
 }

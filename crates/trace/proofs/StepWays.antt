@@ -1,5 +1,5 @@
 -- The ways out of a word's code.
-use Prim.Native.Nat.{ℕ, zero, suc, _+_, _-_, _*_, _≤_, _<_}
+use Prim.Native.Nat.{ℕ, zero, suc, _+_, _-_, _*_, _^_, _≤_, _<_}
 use native.Mathlib.Omega.{arith}
 use mathlib.Core.Bool.{Bool, true, false, not, _||_, false≢true}
 use mathlib.Core.List.{List, [], _∷_}
@@ -31,16 +31,16 @@ module _ (w k : ℕ) (e : k ≡ kindOf w) where
   pub block-two : (k ≡ 1 → ⊥) → eqb k 2 ≡ isBlock w
   block-two z = rw (← e, ne-eqb k 1 z)
 
-  pub turn-one : k ≡ 1 → w - 1073741824 ≡ turned w
+  pub turn-one : k ≡ 1 → w - 2 ^ 62 ≡ turned w
   turn-one z = rw (← e, z)
 
-  pub turn-two : (k ≡ 1 → ⊥) → w + 1073741824 ≡ turned w
+  pub turn-two : (k ≡ 1 → ⊥) → w + 2 ^ 62 ≡ turned w
   turn-two z = rw (← e, ne-eqb k 1 z)
 
-  pub straight-none : k ≡ 0 → w + 1073741824 ≡ straight w
+  pub straight-none : k ≡ 0 → w + 2 ^ 62 ≡ straight w
   straight-none z = rw (← e, z)
 
-  pub straight-three : (k ≡ 0 → ⊥) → k ≡ 3 → w - 1073741824 ≡ straight w
+  pub straight-three : (k ≡ 0 → ⊥) → k ≡ 3 → w - 2 ^ 62 ≡ straight w
   straight-three y z = rw (← e, z)
 
   pub straight-else : (k ≡ 0 → ⊥) → (k ≡ 3 → ⊥) → w ≡ straight w
@@ -49,7 +49,7 @@ module _ (w k : ℕ) (e : k ≡ kindOf w) where
   pub kind-two : isBlock w ≡ true → (k ≡ 1 → ⊥) → kindOf w ≡ 2
   kind-two h z = by-cases (eqb (kindOf w) 2) (λ u. eqb-true (kindOf w) 2 u) (λ u. absurd (false≢true (rw (← e, ne-eqb k 1 z) at (rw u at h))))
 
-  pub turn-fits : isBlock w ≡ true → (k ≡ 1 → ⊥) → w + 1073741824 < 4294967296
+  pub turn-fits : isBlock w ≡ true → (k ≡ 1 → ⊥) → w + 2 ^ 62 < 2 ^ 64
   turn-fits h z = omega (arith, kind-two h z)
 
 pub block-yes : (w : ℕ) (r : Bool) → r ≡ isBlock w → not r ≡ false → isBlock w ≡ true

@@ -10,7 +10,7 @@ use mathlib.Core.Bool.{Bool, true, false, cond, not, _&&_, _||_}
 use lib.Dec.{eqb, ltb, leb}
 use lib.ListN as ListN
 use lib.ListN.{length, drop, getD, set}
-use Rattle.words.specs.Word.{kindOf}
+use Rattle.words.specs.Word.{kindBits, kindOf}
 use Rattle.classes.specs.Sizes.{granuleBytes}
 use Rattle.classes.specs.Shape.{shapeOf}
 use Rattle.rules.specs.Rules.{rulesOf}
@@ -55,10 +55,10 @@ abbrev pub isBlock : ℕ → Bool
 isBlock w = eqb (kindOf w) 1 || eqb (kindOf w) 2
 
 abbrev pub turned : ℕ → ℕ
-turned w = cond (eqb (kindOf w) 1) (w - 2 ^ 30) (w + 2 ^ 30)
+turned w = cond (eqb (kindOf w) 1) (w - 2 ^ kindBits) (w + 2 ^ kindBits)
 
 abbrev pub straight : ℕ → ℕ
-straight w = cond (eqb (kindOf w) 0) (w + 2 ^ 30) (cond (eqb (kindOf w) 3) (w - 2 ^ 30) w)
+straight w = cond (eqb (kindOf w) 0) (w + 2 ^ kindBits) (cond (eqb (kindOf w) 3) (w - 2 ^ kindBits) w)
 
 abbrev pub outAt : ℕ → List ℕ → Bool
 outAt p ms = isBlock (getD ms p 0)

@@ -7,7 +7,7 @@ ghost use Rattle.trace.specs.Words.{ownerAt, classAt, takeNow, backNow};
 ghost use Rattle.trace.specs.Asks.{BookAsks, TakesAt};
 ghost use Prim.Native.Nat.{_+_, _≤_};
 ghost use lib.ListN.{length};
-use crate::lists::lay_blocks;
+use crate::lists::lay;
 use release::Released;
 use take::call::Take;
 
@@ -15,19 +15,19 @@ use take::call::Take;
 pub const HOST: u32 = 15;
 
 // OWNER of the block's page: its class and 1. No book is read beyond its pages.
-fn owner_at(meta: &[u32], n: u32, w: u32) -> u32
+fn owner_at(meta: &[u32], n: u32, w: u64) -> u32
     requires { ⌜ BookAsks n (now meta) ⌝ }
     ensures { λ r. ⌜ r ≡ ownerAt n (now (meta .entry)) w ⌝ }
 {
     let p = pages::page_at(w);
-    if p < n {
-        return fields::page::owner(meta, p);
+    if p < n as u64 {
+        return fields::page::owner(meta, p as u32);
     }
     0
 }
 
 // The class that the block was taken from.
-pub fn class_at(meta: &[u32], n: u32, w: u32) -> u32
+pub fn class_at(meta: &[u32], n: u32, w: u64) -> u32
     requires { ⌜ BookAsks n (now meta) ⌝ }
     ensures { λ r. ⌜ r ≡ classAt n (now (meta .entry)) w ⌝ }
 {
@@ -39,7 +39,7 @@ pub fn class_at(meta: &[u32], n: u32, w: u32) -> u32
 }
 
 // The release of one block, in the class that its page is of.
-pub fn back_now(meta: &mut [u32], n: u32, w: u32) -> Released
+pub fn back_now(meta: &mut [u32], n: u32, w: u64) -> Released
     requires { ⌜ BookAsks n (now meta) ⌝ }
     ensures { λ r. ⌜ Answered r (now (meta .exit)) (backNow n (now (meta .entry)) w) ⌝ }
 {
@@ -66,7 +66,7 @@ pub fn has_room(meta: &[u32], n: u32, c: u32, room: usize) -> bool
 }
 
 // A take whose blocks come to the list from place `at` on.
-pub fn take_now(meta: &mut [u32], n: u32, c: u32, blocks: &mut [u32], at: usize) -> Take
+pub fn take_now(meta: &mut [u32], n: u32, c: u32, blocks: &mut [u64], at: usize) -> Take
     requires { ⌜ CallAsks n (now meta) c ⌝ }
     requires { ⌜ at + takeNow n (now meta) c .count ≤ length (now blocks) ⌝ }
     ensures { λ r. ⌜ TakesAt r (now (meta .exit)) (now (blocks .exit)) (takeNow n (now (meta .entry)) c) (now (blocks .entry)) at ⌝ }
@@ -75,7 +75,7 @@ pub fn take_now(meta: &mut [u32], n: u32, c: u32, blocks: &mut [u32], at: usize)
     match take::call::take_call(meta, n, c, HOST, &mut list) {
         Take::Refused(k) => Take::Refused(k),
         Take::Took(m, v) => {
-            lay_blocks(blocks, at, &list, m as usize);
+            lay(blocks, at, &list, m as usize);
             Take::Took(m, v)
         }
     }

@@ -17,7 +17,7 @@ pub fn carry_out(
     meta: &mut [u32],
     n: u32,
     trace: &[u32],
-    blocks: &mut [u32],
+    blocks: &mut [u64],
     figures: &mut [u64],
 ) -> Course
     requires { ⌜ BookAsks n (now meta) ⌝ }
@@ -54,7 +54,7 @@ pub fn run(
     meta: &mut [u32],
     n: u32,
     trace: &[u32],
-    blocks: &mut [u32],
+    blocks: &mut [u64],
     figures: &mut [u64],
 ) -> Course
     requires { ⌜ BookAsks n (now meta) ⌝ }

@@ -9,13 +9,16 @@ ghost use Rattle.trace.specs.Words.{isBlock, turned, straight};
 ghost use Rattle.trace.specs.Asks.{straightened};
 use words::Word;
 
-fn kind_of(w: u32) -> u32
+// A word of the next kind has so much more.
+const NEXT_KIND: u64 = 1 << 62;
+
+fn kind_of(w: u64) -> u32
     ensures { λ r. ⌜ r ≡ kindOf w ⌝ }
 {
     Word::of(w).kind()
 }
 
-pub fn is_block(w: u32) -> bool
+pub fn is_block(w: u64) -> bool
     ensures { λ r. ⌜ r ≡ isBlock w ⌝ }
 {
     let kind = kind_of(w);
@@ -26,18 +29,18 @@ pub fn is_block(w: u32) -> bool
 }
 
 // The word of a released block: its kind goes from 1 to 0, from 2 to 3.
-pub fn turn(w: u32) -> u32
+pub fn turn(w: u64) -> u64
     requires { ⌜ isBlock w ≡ true ⌝ }
     ensures { λ r. ⌜ r ≡ turned w ⌝ }
 {
     if kind_of(w) == 1 {
-        return w - 1_073_741_824;
+        return w - NEXT_KIND;
     }
-    w + 1_073_741_824
+    w + NEXT_KIND
 }
 
-// The first m words of one list come to another, from place `at` on.
-pub fn lay_blocks(to: &mut [u32], at: usize, from: &[u32], m: usize)
+// The first m numbers of one list, words or figures, come to another, from place `at` on.
+pub fn lay(to: &mut [u64], at: usize, from: &[u64], m: usize)
     requires { ⌜ (at + m ≤ length (now to)) × (m ≤ length (now from)) ⌝ }
     ensures { λ _. ⌜ now (to .exit) ≡ paste (now (to .entry)) at (now (from .entry)) m ⌝ }
 {
@@ -48,34 +51,22 @@ pub fn lay_blocks(to: &mut [u32], at: usize, from: &[u32], m: usize)
     }
 }
 
-// The same for figures.
-pub fn lay_figures(to: &mut [u64], at: usize, from: &[u64])
-    requires { ⌜ at + length (now from) ≤ length (now to) ⌝ }
-    ensures { λ _. ⌜ now (to .exit) ≡ paste (now (to .entry)) at (now (from .entry)) (length (now (from .entry))) ⌝ }
-{
-    let mut i = 0;
-    while i < from.len() {
-        to[at + i] = from[i];
-        i += 1;
-    }
-}
-
 // The word of a block as it was handed out: a released one's kind is turned back.
-fn straight(w: u32) -> u32
+fn straight(w: u64) -> u64
     ensures { λ r. ⌜ r ≡ straight w ⌝ }
 {
     let kind = kind_of(w);
     if kind == 0 {
-        return w + 1_073_741_824;
+        return w + NEXT_KIND;
     }
     if kind == 3 {
-        return w - 1_073_741_824;
+        return w - NEXT_KIND;
     }
     w
 }
 
 // The first m words.
-pub fn straighten(blocks: &mut [u32], m: usize)
+pub fn straighten(blocks: &mut [u64], m: usize)
     requires { ⌜ m ≤ length (now blocks) ⌝ }
     ensures { λ _. ⌜ now (blocks .exit) ≡ straightened (now (blocks .entry)) m ⌝ }
 {

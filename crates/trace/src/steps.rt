@@ -15,7 +15,7 @@ use crate::acts::class_at;
 use crate::acts::has_room;
 use crate::acts::take_now;
 use crate::lists::is_block;
-use crate::lists::lay_figures;
+use crate::lists::lay;
 use crate::lists::turn;
 use direct::Report;
 use release::Released;
@@ -86,7 +86,7 @@ fn without(t: Tally, size: u64) -> Tally
 }
 
 // "release of the block whose place in order of handing out (from 0) is in the low 30 bits".
-pub fn back_word(meta: &mut [u32], n: u32, blocks: &mut [u32], t: Tally, p: usize) -> Step
+pub fn back_word(meta: &mut [u32], n: u32, blocks: &mut [u64], t: Tally, p: usize) -> Step
     requires { ⌜ BlocksAsks n (now meta) (now blocks) t ⌝ }
     ensures { λ r. ⌜ CarriedBlocks r n (Trace.back p) (now (meta .entry)) (now (blocks .entry)) t (now (meta .exit)) (now (blocks .exit)) ⌝ }
 {
@@ -120,7 +120,7 @@ fn may_take(meta: &[u32], n: u32, c: u32, t: Tally, places: usize) -> bool
 }
 
 // "take from the class in the low 30 bits": its blocks come to the list behind those before them, if there is room for them.
-pub fn take_word(meta: &mut [u32], n: u32, blocks: &mut [u32], t: Tally, c: u32) -> Step
+pub fn take_word(meta: &mut [u32], n: u32, blocks: &mut [u64], t: Tally, c: u32) -> Step
     requires { ⌜ BlocksAsks n (now meta) (now blocks) t ⌝ }
     requires { ⌜ c < 76 ⌝ }
     ensures { λ r. ⌜ CarriedBlocks r n (Trace.take c) (now (meta .entry)) (now (blocks .entry)) t (now (meta .exit)) (now (blocks .exit)) ⌝ }
@@ -159,10 +159,11 @@ pub fn report_word(meta: &[u32], n: u32, figures: &mut [u64], t: Tally) -> Step
     match direct::figures::report(meta, n) {
         Report::Refused(_) => Step::Stops,
         Report::Told(f) => {
-            lay_figures(
+            lay(
                 figures,
                 t.told,
                 &[t.out, t.bytes, f.held, f.idle, t.highest],
+                5,
             );
             Step::Goes(reported(t))
         }
@@ -183,7 +184,7 @@ pub fn word(
     meta: &mut [u32],
     n: u32,
     w: u32,
-    blocks: &mut [u32],
+    blocks: &mut [u64],
     figures: &mut [u64],
     t: Tally,
 ) -> Step

@@ -8,8 +8,8 @@ pub extern "C" fn vigbuso_release_bin_chunks(
     meta: &mut [u32],
     class: u32,
     host: u32,
-    list: &[u32],
-    chunks: &[u32],
+    list: &[u64],
+    chunks: &[u64],
     fates: &mut [u32],
 ) -> u32
     ensures { λ r. ⌜ ChunksEnds (chunksOn (now (meta .entry)) class host (now (list .entry)) (now (chunks .entry)) (now (fates .entry))) r (now (meta .exit)) (now (fates .exit)) ⌝ }

@@ -12,7 +12,7 @@ fn release_on(
     many: u32,
     class: u32,
     host: u32,
-    list: &[u32],
+    list: &[u64],
 ) -> Released
     requires { ⌜ low + many ≤ 76 ⌝ }
     ensures { λ r. ⌜ Answered r (now (meta .exit)) (releaseOn low many (now (meta .entry)) class host (now (list .entry))) ⌝ }
@@ -31,7 +31,7 @@ pub extern "C" fn vigbuso_release_blocks(
     meta: &mut [u32],
     class: u32,
     host: u32,
-    list: &[u32],
+    list: &[u64],
     fate: &mut u32,
 ) -> u32
     ensures { λ r. ⌜ ReleaseEnds (releaseOn 0 64 (now (meta .entry)) class host (now (list .entry))) r (now (meta .exit)) (now (fate .entry)) (now (fate .exit)) ⌝ }
@@ -50,7 +50,7 @@ pub extern "C" fn vigbuso_medium_release_blocks(
     meta: &mut [u32],
     class: u32,
     host: u32,
-    list: &[u32],
+    list: &[u64],
     fate: &mut u32,
 ) -> u32
     ensures { λ r. ⌜ ReleaseEnds (releaseOn 64 12 (now (meta .entry)) class host (now (list .entry))) r (now (meta .exit)) (now (fate .entry)) (now (fate .exit)) ⌝ }

@@ -6,7 +6,7 @@ ghost use Rattle.take.specs.TakeAnswer.{Takes};
 ghost use Rattle.vigbuso.specs.Blocks.{takeOn, TakeEnds};
 
 // A take of a class among those of ids `low` to `low + many - 1`.
-fn take_on(meta: &mut [u32], low: u32, many: u32, class: u32, host: u32, list: &mut [u32]) -> Take
+fn take_on(meta: &mut [u32], low: u32, many: u32, class: u32, host: u32, list: &mut [u64]) -> Take
     requires { ⌜ low + many ≤ 76 ⌝ }
     ensures { λ r. ⌜ Takes r (now (meta .exit)) (now (list .exit)) (takeOn low many (now (meta .entry)) class host (now (list .entry))) ⌝ }
 {
@@ -23,7 +23,7 @@ pub extern "C" fn vigbuso_take_blocks(
     meta: &mut [u32],
     class: u32,
     host: u32,
-    list: &mut [u32],
+    list: &mut [u64],
     count: &mut u32,
     virgin: &mut u32,
 ) -> u32
@@ -44,7 +44,7 @@ pub extern "C" fn vigbuso_medium_take_blocks(
     meta: &mut [u32],
     class: u32,
     host: u32,
-    list: &mut [u32],
+    list: &mut [u64],
     count: &mut u32,
     virgin: &mut u32,
 ) -> u32

@@ -6,8 +6,8 @@ pub fn release_bin_chunks(
     meta: &mut [u32],
     class: u32,
     host: u32,
-    list: &[u32],
-    chunks: &[u32],
+    list: &[u64],
+    chunks: &[u64],
     fates: &mut [u32],
 ) -> u32
     ensures { λ r. ⌜ ChunksSeen (Calls.releaseBinChunks class host (now (list .entry)) (now (chunks .entry))) r (now (meta .entry)) (now (meta .exit)) (now (fates .entry)) (now (fates .exit)) ⌝ }

@@ -6,7 +6,7 @@ pub fn take_blocks(
     meta: &mut [u32],
     class: u32,
     host: u32,
-    list: &mut [u32],
+    list: &mut [u64],
     count: &mut u32,
     virgin: &mut u32,
 ) -> u32
@@ -19,7 +19,7 @@ pub fn medium_take_blocks(
     meta: &mut [u32],
     class: u32,
     host: u32,
-    list: &mut [u32],
+    list: &mut [u64],
     count: &mut u32,
     virgin: &mut u32,
 ) -> u32

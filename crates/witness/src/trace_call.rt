@@ -6,7 +6,7 @@ pub fn trace(
     meta: &mut [u32],
     pages: u64,
     words: &[u32],
-    blocks: &mut [u32],
+    blocks: &mut [u64],
     figures: &mut [u64],
     done: &mut [u64; COUNTS],
 ) -> u32

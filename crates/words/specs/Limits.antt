@@ -3,7 +3,7 @@ use Prim.Native.Nat.{ℕ}
 
 -- the longest arena, in pages: number 1 is above it
 abbrev pub maxPages : ℕ
-maxPages = 262144
+maxPages = 1048576
 
 -- "4,096 holes", "65,536 pages in all"
 abbrev pub holeSlots : ℕ

@@ -14,9 +14,9 @@ mediumKind = 2
 abbrev pub chunkKind : ℕ
 chunkKind = 3
 
--- the kind stands above these bits of a word, and takes the two left; a word is 32 bits
+-- the kind stands above these bits of a word, and takes the two left; a word is 64 bits
 abbrev pub kindBits : ℕ
-kindBits = 30
+kindBits = 62
 
 abbrev pub kindWidth : ℕ
 kindWidth = 2
@@ -26,7 +26,7 @@ wordBits = kindWidth + kindBits
 
 -- a chunk's count stands above these bits, and takes the next
 abbrev pub pageBits : ℕ
-pageBits = 18
+pageBits = 50
 
 abbrev pub countBits : ℕ
 countBits = 12

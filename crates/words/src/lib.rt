@@ -6,7 +6,7 @@ mod word_bits;
 
 // A word with its kind in the top two bits: none, a small block, a medium block or a chunk.
 pub struct Word {
-    pub bits: u32,
+    pub bits: u64,
 }
 
 // The host word: the system's answers for one call.

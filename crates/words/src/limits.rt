@@ -1,7 +1,7 @@
 // Document 01's limits, as specs/Limits.antt has them.
 
 // The longest arena, in pages.
-pub const MAX_PAGES: u64 = 262_144;
+pub const MAX_PAGES: u64 = 1_048_576;
 
 // The holes that are stored, and the pages in them.
 pub const HOLE_SLOTS: u32 = 4_096;

@@ -5,11 +5,11 @@ use crate::heap::{Family, Heap, ALL};
 /// Three blocks to a page: granules 2051, 1027 and 3 of it, as first taken.
 const CLASS: u32 = 45;
 
-fn take(heap: &mut Heap) -> Vec<u32> {
+fn take(heap: &mut Heap) -> Vec<u64> {
     heap.take(Family::Small, CLASS, ALL).expect("class 45").0
 }
 
-fn give(heap: &mut Heap, granules: &[u32]) {
+fn give(heap: &mut Heap, granules: &[u64]) {
     assert_eq!(heap.give(Family::Small, CLASS, ALL, granules), Ok(0));
 }
 

@@ -6,7 +6,7 @@ use crate::heap::{Family, Heap, ALL};
 const CLASS: u32 = 45;
 
 /// A heap with so many pages of the class: a block of each, and a chunk for each.
-fn pages(number: usize) -> (Heap, Vec<u32>, Vec<(u32, u32)>) {
+fn pages(number: usize) -> (Heap, Vec<u64>, Vec<(u64, u64)>) {
     let mut heap = Heap::open(2_100);
     let list = (0..number).map(|_| heap.take(Family::Small, CLASS, ALL).expect("class 45").0[0]).collect();
     let chunks = (0..).take(number).map(|page| (1, page)).collect();

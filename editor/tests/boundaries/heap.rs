@@ -1,12 +1,18 @@
 //! A heap by its C functions (docs/CALLS.md) alone. So these tests stand on the boundary itself, and run on whatever library
 //! has these functions.
 
+use std::ops::DerefMut;
+
 /// Host words: all granted, and all but one.
 pub const ALL: u32 = 15;
 pub const NO_RESERVATION: u32 = 14;
 pub const NO_COMMIT: u32 = 13;
 pub const NO_DISCARD: u32 = 11;
 pub const NO_ZEROES: u32 = 7;
+
+/// A word's bits below its kind, and those of a group's page.
+const KIND_BITS: u32 = 62;
+const CHUNK_PAGE_BITS: u32 = 50;
 
 #[derive(Clone, Copy)]
 pub enum Family {
@@ -36,7 +42,7 @@ extern "C" {
         book_len: usize,
         class: u32,
         host: u32,
-        list: *mut u32,
+        list: *mut u64,
         list_len: usize,
         count: *mut u32,
         virgin: *mut u32,
@@ -46,7 +52,7 @@ extern "C" {
         book_len: usize,
         class: u32,
         host: u32,
-        list: *mut u32,
+        list: *mut u64,
         list_len: usize,
         count: *mut u32,
         virgin: *mut u32,
@@ -56,7 +62,7 @@ extern "C" {
         book_len: usize,
         class: u32,
         host: u32,
-        list: *const u32,
+        list: *const u64,
         list_len: usize,
         fate: *mut u32,
     ) -> u32;
@@ -65,7 +71,7 @@ extern "C" {
         book_len: usize,
         class: u32,
         host: u32,
-        list: *const u32,
+        list: *const u64,
         list_len: usize,
         fate: *mut u32,
     ) -> u32;
@@ -74,16 +80,16 @@ extern "C" {
         book_len: usize,
         class: u32,
         host: u32,
-        list: *const u32,
+        list: *const u64,
         list_len: usize,
-        chunks: *const u32,
+        chunks: *const u64,
         chunks_len: usize,
         fates: *mut u32,
         fates_len: usize,
     ) -> u32;
 }
 
-type ReleaseBlocks = unsafe extern "C" fn(*mut u32, usize, u32, u32, *const u32, usize, *mut u32) -> u32;
+type ReleaseBlocks = unsafe extern "C" fn(*mut u32, usize, u32, u32, *const u64, usize, *mut u32) -> u32;
 
 /// What a call answers, or the number of its refusal.
 pub type Answer<T> = Result<T, u32>;
@@ -96,15 +102,14 @@ fn answered<T>(number: u32, value: T) -> Answer<T> {
 }
 
 /// The blocks of a take, as granules counted from the arena's start, and virgin.
-pub type Taken = (Vec<u32>, bool);
+pub type Taken = (Vec<u64>, bool);
 
 #[derive(Clone)]
-pub struct Heap {
+pub struct Heap<B = Vec<u32>> {
     /// Written by the heap; docs/RANGES.md says what stands where.
-    pub book: Vec<u32>,
+    pub book: B,
 }
 
-// SAFETY of every call below: the book, the lists and the out-parameters are lent for the call, with their own lengths.
 impl Heap {
     /// The book's words are zero until they are written, so most of a long one costs no memory.
     pub fn open(pages: u64) -> Heap {
@@ -113,12 +118,19 @@ impl Heap {
 
     /// With parking rules that are not refused.
     pub fn open_with(pages: u64, rows: &[u32]) -> Heap {
-        let words = usize::try_from(40_000 + 4_112 * pages).expect("64 bits");
-        let mut heap = Heap { book: vec![0; words] };
+        let mut heap = Heap { book: vec![0; book_words(pages)] };
         assert_eq!(heap.reopen(pages, rows), Ok(()));
         heap
     }
+}
 
+/// Words that a book for so many pages has at least.
+pub fn book_words(pages: u64) -> usize {
+    usize::try_from(40_000 + 4_112 * pages).expect("64 bits")
+}
+
+// SAFETY of every call below: the book, the lists and the out-parameters are lent for the call, with their own lengths.
+impl<B: DerefMut<Target = [u32]>> Heap<B> {
     pub fn reopen(&mut self, pages: u64, rows: &[u32]) -> Answer<()> {
         let (book, words) = (self.book.as_mut_ptr(), self.book.len());
         answered(unsafe { vigbuso_open(book, words, pages, rows.as_ptr(), rows.len()) }, ())
@@ -170,12 +182,12 @@ impl Heap {
         let (book, words) = (self.book.as_mut_ptr(), self.book.len());
         let number =
             unsafe { call(book, words, class, host, list.as_mut_ptr(), list.len(), &raw mut count, &raw mut virgin) };
-        let granules = list[..count as usize].iter().map(|word| word & 0x3FFF_FFFF).collect();
+        let granules = list[..count as usize].iter().map(|word| word & ((1 << KIND_BITS) - 1)).collect();
         answered(number, (granules, virgin == 1))
     }
 
     /// The fate of the page or span that these granules' blocks go back to.
-    pub fn give(&mut self, family: Family, class: u32, host: u32, granules: &[u32]) -> Answer<u32> {
+    pub fn give(&mut self, family: Family, class: u32, host: u32, granules: &[u64]) -> Answer<u32> {
         let (kind, call) = match family {
             Family::Small => (1, vigbuso_release_blocks as ReleaseBlocks),
             Family::Medium => (2, vigbuso_medium_release_blocks as ReleaseBlocks),
@@ -191,12 +203,13 @@ impl Heap {
     pub fn give_chunks(
         &mut self,
         class: u32,
-        granules: &[u32],
-        chunks: &[(u32, u32)],
+        granules: &[u64],
+        chunks: &[(u64, u64)],
         room: usize,
     ) -> Answer<Vec<u32>> {
         let list = words(1, granules);
-        let chunks: Vec<u32> = chunks.iter().map(|(count, page)| 3 << 30 | count << 18 | page).collect();
+        let chunks: Vec<u64> =
+            chunks.iter().map(|(count, page)| 3 << KIND_BITS | count << CHUNK_PAGE_BITS | page).collect();
         let mut fates = vec![9; room];
         let number = unsafe {
             vigbuso_release_bin_chunks(
@@ -217,6 +230,6 @@ impl Heap {
 }
 
 /// The words of blocks of a kind.
-fn words(kind: u32, granules: &[u32]) -> Vec<u32> {
-    granules.iter().map(|granule| kind << 30 | granule).collect()
+fn words(kind: u64, granules: &[u64]) -> Vec<u64> {
+    granules.iter().map(|granule| kind << KIND_BITS | granule).collect()
 }

@@ -16,11 +16,11 @@ fn pages(heap: &Heap) -> [u64; 3] {
 }
 
 /// So many runs of a class, each with the blocks of a take.
-fn take(heap: &mut Heap, family: Family, class: u32, runs: usize) -> Vec<Vec<u32>> {
+fn take(heap: &mut Heap, family: Family, class: u32, runs: usize) -> Vec<Vec<u64>> {
     (0..runs).map(|_| heap.take(family, class, ALL).expect("a class").0).collect()
 }
 
-fn give(heap: &mut Heap, family: Family, class: u32, runs: &[Vec<u32>]) -> Vec<u32> {
+fn give(heap: &mut Heap, family: Family, class: u32, runs: &[Vec<u64>]) -> Vec<u32> {
     runs.iter().map(|blocks| heap.give(family, class, ALL, blocks).expect("a run's blocks")).collect()
 }
 
@@ -86,7 +86,7 @@ fn retired_pages_are_counted_empty_and_cold() {
     let mut heap = Heap::open(8);
     let taken = take(&mut heap, Family::Small, CLASS, 6);
     // Of the first five pages all blocks, of the sixth all but one.
-    let list: Vec<u32> = taken.concat()[..17].to_vec();
+    let list: Vec<u64> = taken.concat()[..17].to_vec();
     let chunks = [(3, 0), (3, 1), (3, 2), (3, 3), (3, 4), (2, 5)];
     assert_eq!(heap.give_chunks(CLASS, &list, &chunks, 6), Ok(vec![4, 4, 4, 4, 5, 0]));
     assert_eq!(pages(&heap), [6, 7, 5]);

@@ -220,7 +220,7 @@ fn pages_that_a_class_gives_become_one_hole() {
     const CLASS: u32 = 45;
     let filled = || {
         let mut heap = Heap::open(272);
-        let pages: Vec<Vec<u32>> =
+        let pages: Vec<Vec<u64>> =
             (0..270).map(|_| heap.take(Family::Small, CLASS, ALL).expect("class 45").0).collect();
         for blocks in &pages[..260] {
             assert!(heap.give(Family::Small, CLASS, ALL, blocks).is_ok_and(|fate| fate < 2));
@@ -233,7 +233,7 @@ fn pages_that_a_class_gives_become_one_hole() {
     }
     reused(&mut heap, 5, 260);
     let (mut heap, pages) = filled();
-    let chunks: Vec<(u32, u32)> = [265, 261, 263, 262, 264].map(|page| (3, page)).to_vec();
+    let chunks: Vec<(u64, u64)> = [265, 261, 263, 262, 264].map(|page| (3, page)).to_vec();
     assert_eq!(heap.give_chunks(CLASS, &pages[261..266].concat(), &chunks, 5), Ok(vec![6; 5]));
     reused(&mut heap, 5, 261);
 }
@@ -242,7 +242,7 @@ fn pages_that_a_class_gives_become_one_hole() {
 #[test]
 fn spans_that_a_class_gives_join_too() {
     let mut heap = Heap::open(1_000);
-    let spans: Vec<Vec<u32>> = (0..290).map(|_| heap.take(Family::Medium, 0, ALL).expect("medium class 0").0).collect();
+    let spans: Vec<Vec<u64>> = (0..290).map(|_| heap.take(Family::Medium, 0, ALL).expect("medium class 0").0).collect();
     fresh(&mut heap, 2, 870);
     for blocks in &spans[..288] {
         assert_eq!(heap.give(Family::Medium, 0, ALL, blocks), Ok(0));

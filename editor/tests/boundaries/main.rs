@@ -13,3 +13,4 @@ mod ranges;
 mod repeats;
 mod rules;
 mod runs;
+mod wide;

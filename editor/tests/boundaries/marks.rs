@@ -13,12 +13,12 @@ fn mark(page: usize, block: usize) -> usize {
     40_000 + 4_112 * page + 144 + block / 32
 }
 
-fn granule(page: usize, block: usize) -> u32 {
-    u32::try_from(4_096 * page + 3 + block).expect("few pages")
+fn granule(page: usize, block: usize) -> u64 {
+    (4_096 * page + 3 + block) as u64
 }
 
 /// Granules of page 0.
-fn on_page(blocks: &[usize]) -> Vec<u32> {
+fn on_page(blocks: &[usize]) -> Vec<u64> {
     blocks.iter().map(|&block| granule(0, block)).collect()
 }
 
@@ -32,21 +32,21 @@ fn scene() -> Heap {
     heap
 }
 
-fn list(granules: &[u32]) -> impl Fn(&mut Heap) -> Answer<Vec<u32>> + '_ {
+fn list(granules: &[u64]) -> impl Fn(&mut Heap) -> Answer<Vec<u32>> + '_ {
     move |heap| heap.give(Family::Small, CLASS, ALL, granules).map(|fate| vec![fate])
 }
 
 /// Chunks that are the list's own.
-fn chunks(granules: &[u32]) -> impl Fn(&mut Heap) -> Answer<Vec<u32>> + '_ {
+fn chunks(granules: &[u64]) -> impl Fn(&mut Heap) -> Answer<Vec<u32>> + '_ {
     move |heap| {
         let chunks = own(granules);
         heap.give_chunks(CLASS, granules, &chunks, chunks.len())
     }
 }
 
-fn own(granules: &[u32]) -> Vec<(u32, u32)> {
+fn own(granules: &[u64]) -> Vec<(u64, u64)> {
     let on = |page| granules.iter().filter(|&granule| granule / 4_096 == page).count();
-    let chunk = |page| (u32::try_from(on(page)).expect("few"), page);
+    let chunk = |page| (on(page) as u64, page);
     (0..8).map(chunk).filter(|&(count, _)| count > 0).collect()
 }
 
@@ -106,7 +106,7 @@ fn a_mark_comes_before_15_and_10_and_after_9() {
     refused(&spoilt, 13, chunks(&[back, marked]));
     refused(&spoilt, 15, list(&[clean, foreign, clean]));
     refused(&spoilt, 15, chunks(&[clean, back, clean]));
-    for granules in [[marked, marked, 1 << 31 | clean], [1 << 31 | clean, marked, foreign]] {
+    for granules in [[marked, marked, 1 << 63 | clean], [1 << 63 | clean, marked, foreign]] {
         refused(&spoilt, 9, list(&granules));
         refused(&spoilt, 9, chunks(&granules));
     }
@@ -156,12 +156,12 @@ fn medium_blocks_alike() {
         assert_eq!(heap.take(Family::Medium, 0, ALL).map(|(blocks, _)| blocks[0]), Ok(4));
         heap
     };
-    let give = |heap: &mut Heap, list: &[u32]| heap.give(Family::Medium, 0, ALL, list);
+    let give = |heap: &mut Heap, list: &[u64]| heap.give(Family::Medium, 0, ALL, list);
     for bit in 0..32 {
         let mut heap = opened();
         heap.book[mark(0, 0)] = 1 << bit;
         let before = heap.book.clone();
-        let lists: [&[u32]; 5] = [&[4], &[1_156, 4], &[4, 4], &[5], &[5, 4, 4]];
+        let lists: [&[u64]; 5] = [&[4], &[1_156, 4], &[4, 4], &[5], &[5, 4, 4]];
         assert_eq!(lists.map(|list| give(&mut heap, list)), [13, 13, 13, 10, 13].map(Err), "bit {bit}");
         assert!(heap.book == before);
     }
@@ -218,7 +218,7 @@ fn no_page_has_a_mark_after_any_call() {
     let foreign = granule(7, 0);
     for round in 0..3 {
         for class in [0, 10, 45] {
-            let blocks: Vec<u32> = (0..2)
+            let blocks: Vec<u64> = (0..2)
                 .flat_map(|_| answered(&mut heap, |heap| heap.take(Family::Small, class, ALL)).expect("fits").0)
                 .collect();
             let [first, last] = [blocks[0], blocks[blocks.len() - 1]];
@@ -227,7 +227,7 @@ fn no_page_has_a_mark_after_any_call() {
                 (vec![first, foreign, first], 15),
                 (vec![last, foreign], 10),
                 (vec![foreign, foreign], 10),
-                (vec![last, 1 << 31 | first], 9),
+                (vec![last, 1 << 63 | first], 9),
             ] {
                 assert_eq!(answered(&mut heap, |heap| heap.give(Family::Small, class, ALL, &list)), Err(number));
                 let chunks = [own(&list), vec![(1, 7)]].concat();

@@ -3,16 +3,16 @@
 
 use crate::heap::{Family, Heap, ALL, NO_DISCARD, NO_ZEROES};
 
-const PAGE_GRANULES: u32 = 4_096;
+const PAGE_GRANULES: u64 = 4_096;
 
 /// So many runs taken whole from a new heap, then each released in turn, in the order that it was answered; the fates.
 fn fill_and_empty(heap: &mut Heap, family: Family, class: u32, runs: usize) -> Vec<u32> {
-    let taken: Vec<Vec<u32>> = (0..runs).map(|_| all(heap, family, class)).collect();
+    let taken: Vec<Vec<u64>> = (0..runs).map(|_| all(heap, family, class)).collect();
     taken.iter().map(|blocks| heap.give(family, class, ALL, blocks).expect("a run's blocks")).collect()
 }
 
 /// The blocks of one run, all new.
-fn all(heap: &mut Heap, family: Family, class: u32) -> Vec<u32> {
+fn all(heap: &mut Heap, family: Family, class: u32) -> Vec<u64> {
     let (blocks, virgin) = heap.take(family, class, ALL).expect("a class");
     assert!(virgin);
     blocks
@@ -20,7 +20,7 @@ fn all(heap: &mut Heap, family: Family, class: u32) -> Vec<u32> {
 
 /// The lowest block's page, whether the list falls, and virgin. A run that was kept has its blocks in the order of the
 /// release, the other way round; one that is carved anew has them as at first.
-fn comes_back(heap: &mut Heap, family: Family, class: u32) -> (u32, bool, bool) {
+fn comes_back(heap: &mut Heap, family: Family, class: u32) -> (u64, bool, bool) {
     let (blocks, virgin) = heap.take(family, class, ALL).expect("a class");
     let lowest = *blocks.iter().min().expect("a block");
     (lowest / PAGE_GRANULES, blocks.windows(2).all(|pair| pair[0] > pair[1]), virgin)
@@ -51,7 +51,7 @@ fn four_empty_pages_then_256_cold_then_the_arena() {
 fn a_cold_page_is_virgin_if_its_discard_zeroed_it() {
     for (host, virgin) in [(ALL, true), (NO_ZEROES, false), (NO_DISCARD, false), (3, false), (12, true)] {
         let mut heap = Heap::open(8);
-        let taken: Vec<Vec<u32>> = (0..5).map(|_| all(&mut heap, Family::Small, 45)).collect();
+        let taken: Vec<Vec<u64>> = (0..5).map(|_| all(&mut heap, Family::Small, 45)).collect();
         for blocks in &taken[..4] {
             assert_eq!(heap.give(Family::Small, 45, host, blocks), Ok(0));
         }
@@ -64,8 +64,8 @@ fn a_cold_page_is_virgin_if_its_discard_zeroed_it() {
 }
 
 /// So many empty spans of a class are kept, then 256 cold. Fates 0 for both, 2 for the one after.
-fn spans(class: u32, pages: u32, empty: u32) {
-    let mut heap = Heap::open(u64::from((empty + 260) * pages));
+fn spans(class: u32, pages: u64, empty: u64) {
+    let mut heap = Heap::open((empty + 260) * pages);
     let number = empty + 256;
     let fates = fill_and_empty(&mut heap, Family::Medium, class, number as usize + 1);
     assert_eq!(fates[..number as usize], vec![0; number as usize]);

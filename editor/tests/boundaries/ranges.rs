@@ -65,11 +65,11 @@ fn commit(pages: u64) -> impl Fn(&mut Heap) -> Answer<Option<(u32, bool)>> {
     move |heap| heap.commit(ALL, pages)
 }
 
-fn take(heap: &mut Heap) -> Answer<(Vec<u32>, bool)> {
+fn take(heap: &mut Heap) -> Answer<(Vec<u64>, bool)> {
     heap.take(Family::Small, CLASS, ALL)
 }
 
-fn give(granules: &[u32]) -> impl Fn(&mut Heap) -> Answer<u32> + '_ {
+fn give(granules: &[u64]) -> impl Fn(&mut Heap) -> Answer<u32> + '_ {
     move |heap| heap.give(Family::Small, CLASS, ALL, granules)
 }
 

@@ -5,10 +5,10 @@ use crate::heap::{Family, Heap, ALL};
 
 /// Three blocks to a page; the first two pages' are out.
 const CLASS: u32 = 45;
-const PAGE: [u32; 3] = [2_051, 1_027, 3];
-const NEXT: [u32; 3] = [6_147, 5_123, 4_099];
+const PAGE: [u64; 3] = [2_051, 1_027, 3];
+const NEXT: [u64; 3] = [6_147, 5_123, 4_099];
 /// Not out: of the third page, which another class has; between two blocks; beyond the arena.
-const FOREIGN: [u32; 3] = [8_195, 4, 1 << 29];
+const FOREIGN: [u64; 5] = [8_195, 4, 1 << 29, 1 << 32 | 3, 1 << 61 | 3];
 
 fn scene() -> Heap {
     let mut heap = Heap::open(8);
@@ -20,24 +20,22 @@ fn scene() -> Heap {
 }
 
 /// The list is refused with this number, by list and by chunks that are its own, and each block is out as before.
-fn refused(granules: &[u32], number: u32) {
+fn refused(granules: &[u64], number: u32) {
     let mut heap = scene();
     assert_eq!(heap.give(Family::Small, CLASS, ALL, granules), Err(number), "{granules:?}");
-    let mut pages: Vec<u32> = granules.iter().map(|granule| granule / 4_096).collect();
+    let mut pages: Vec<u64> = granules.iter().map(|granule| granule / 4_096).collect();
     pages.sort_unstable();
     pages.dedup();
-    let on = |page: u32| granules.iter().filter(|&granule| granule / 4_096 == page).count();
-    let chunks: Vec<(u32, u32)> = pages.into_iter().map(|page| (on(page).try_into().expect("few"), page)).collect();
-    if chunks.iter().all(|&(_, page)| page < 1 << 18) {
-        assert_eq!(heap.give_chunks(CLASS, granules, &chunks, chunks.len()), Err(number), "{granules:?} {chunks:?}");
-    }
+    let on = |page: u64| granules.iter().filter(|&granule| granule / 4_096 == page).count();
+    let chunks: Vec<(u64, u64)> = pages.into_iter().map(|page| (on(page) as u64, page)).collect();
+    assert_eq!(heap.give_chunks(CLASS, granules, &chunks, chunks.len()), Err(number), "{granules:?} {chunks:?}");
     for page in [PAGE, NEXT] {
         assert_eq!(heap.give(Family::Small, CLASS, ALL, &page), Ok(0));
     }
 }
 
 /// Every order of a list.
-fn orders(list: &[u32]) -> Vec<Vec<u32>> {
+fn orders(list: &[u64]) -> Vec<Vec<u64>> {
     if list.is_empty() {
         return vec![vec![]];
     }
@@ -88,7 +86,7 @@ fn a_repeat_in_chunks_that_do_not_match_is_15() {
     let mut heap = scene();
     let before = heap.report();
     for chunks in
-        [&[(1, 0)][..], &[(3, 0)], &[(2, 1)], &[(2, 0), (1, 0)], &[(0, 0)], &[(1, 0), (1, 0)], &[(2, 262_143)]]
+        [&[(1, 0)][..], &[(3, 0)], &[(2, 1)], &[(2, 0), (1, 0)], &[(0, 0)], &[(1, 0), (1, 0)], &[(2, 262_144)]]
     {
         assert_eq!(heap.give_chunks(CLASS, &[3, 3], chunks, 2), Err(15), "{chunks:?}");
         // Without the repeat it is the chunks' fault.
@@ -103,7 +101,7 @@ fn a_repeat_in_chunks_that_do_not_match_is_15() {
 #[test]
 fn a_wrong_kind_anywhere_is_9() {
     // The bit makes a small block's word a chunk's.
-    for list in orders(&[3, 3, 1 << 31 | 3]) {
+    for list in orders(&[3, 3, 1 << 63 | 3]) {
         let mut heap = scene();
         assert_eq!(heap.give(Family::Small, CLASS, ALL, &list), Err(9), "{list:?}");
         assert_eq!(heap.give_chunks(CLASS, &list, &[(3, 0)], 1), Err(9), "{list:?}");
@@ -118,14 +116,14 @@ fn medium_blocks_alike() {
     for first in [4, 12_292] {
         assert_eq!(heap.take(Family::Medium, 0, ALL).map(|(blocks, _)| blocks[0]), Ok(first));
     }
-    let mut give = |list: &[u32]| heap.give(Family::Medium, 0, ALL, list);
+    let mut give = |list: &[u64]| heap.give(Family::Medium, 0, ALL, list);
     for list in orders(&[4, 4, 5]).into_iter().chain(orders(&[4, 12_292, 4])).chain(orders(&[1_156, 5, 5, 1_156])) {
         assert_eq!(give(&list), Err(15), "{list:?}");
     }
     for list in orders(&[4, 5, 5]) {
         assert_eq!(give(&list), Err(10), "{list:?}");
     }
-    for list in orders(&[4, 4, 1 << 30 | 4]) {
+    for list in orders(&[4, 4, 1 << 62 | 4]) {
         assert_eq!(give(&list), Err(9), "{list:?}");
     }
     assert_eq!([give(&[4, 12_292]), give(&[4]), give(&[4, 4]), give(&[4])], [Err(11), Ok(0), Err(10), Err(10)]);

@@ -21,7 +21,7 @@ fn but(class: u32, own: [u32; 2], others: [u32; 2]) -> Vec<u32> {
 
 /// So many runs taken whole, then each released in turn; the fates.
 fn fates(heap: &mut Heap, family: Family, class: u32, runs: usize) -> Vec<u32> {
-    let taken: Vec<Vec<u32>> = (0..runs).map(|_| heap.take(family, class, ALL).expect("a class").0).collect();
+    let taken: Vec<Vec<u64>> = (0..runs).map(|_| heap.take(family, class, ALL).expect("a class").0).collect();
     taken.iter().map(|blocks| heap.give(family, class, ALL, blocks).expect("a run's blocks")).collect()
 }
 
@@ -49,7 +49,7 @@ fn limits_0_and_0_keep_nothing() {
 #[test]
 fn limits_0_and_0_by_chunks_too() {
     let mut heap = Heap::open_with(16, &but(CLASS, [0, 0], [4, 256]));
-    let blocks: Vec<u32> = (0..3).flat_map(|_| heap.take(Family::Small, CLASS, ALL).expect("class 45").0).collect();
+    let blocks: Vec<u64> = (0..3).flat_map(|_| heap.take(Family::Small, CLASS, ALL).expect("class 45").0).collect();
     // All of pages 0 and 2, a block of page 1.
     let list = [&blocks[..4], &blocks[6..]].concat();
     assert_eq!(heap.give_chunks(CLASS, &list, &[(3, 2), (1, 1), (3, 0)], 3), Ok(vec![6, 0, 6]));
@@ -163,7 +163,7 @@ fn numbers_in_their_order() {
     // Not whole rows, a class with two, one with none.
     let all = [0, 5, 4, 256, 5, 70, 4, 256, 9];
     let mut heap = Heap { book: vec![0; 44_111] };
-    for pages in [0, 262_145, u64::MAX] {
+    for pages in [0, 1_048_577, u64::MAX] {
         assert_eq!(heap.reopen(pages, &all), Err(1));
     }
     assert_eq!(heap.reopen(1, &all), Err(2));

@@ -1,4 +1,4 @@
-use Rattle.chunks.proofs.FairSteps.{PagesInv, pages-start, page-there, pages-go-on, pages-stop, pages-end}
+use Rattle.chunks.proofs.FairSteps.{PagesInv, pages-start, page-there, page-fits, pages-go-on, pages-stop, pages-end}
 use borrow.Author.Needs.{needs}
 use Prim.Native.Nat.{_-_}
 use lib.ListN.{length}
@@ -15,5 +15,5 @@ pub pages-fair-spec : {M : Type 1} → statement M
 pages-fair-spec =
     tie.close
     (tie.spec
-    Inv-loop μ-loop (λ c. search pages-start) (λ c. search needs) (λ c. search needs) (λ c κs. search page-there) (λ c. search needs)
+    Inv-loop μ-loop (λ c. search pages-start) (λ c. search needs) (λ c. search needs) (λ c κs. (search page-there, search page-fits)) (λ c. search needs)
     (λ c. search needs) (λ c. search pages-go-on) (λ c. search pages-stop) (λ c. search pages-end))

@@ -1,4 +1,4 @@
-use Rattle.chunks.proofs.FairSteps.{out-fits, returns-is}
+use Rattle.chunks.proofs.FairSteps.{returns-page, out-fits, returns-is}
 use borrow.Author.Needs.{needs}
 use Rattle.chunks.proofs.fair.returns_all.Statement.{statement}
 use Rattle.chunks.proofs.fair.returns_all.Tie as tie
@@ -7,5 +7,5 @@ pub returns-all-spec : {M : Type 1} → statement M
 returns-all-spec =
     tie.close
     (tie.spec
-    (λ c κs. search needs) (λ c κs. search needs) (λ c κs. search needs) (λ c κs. search needs) (λ c. search out-fits) (λ c κs. search needs)
+    (λ c κs. search returns-page) (λ c κs. search needs) (λ c κs. search needs) (λ c. search out-fits) (λ c κs. search needs)
     (λ c κs. search needs) (λ c. search returns-is))

@@ -7,4 +7,4 @@ pub block-in-spec : {M : Type 1} → statement M
 block-in-spec =
     tie.close
     (tie.spec
-    (λ c κs. search needs) (λ c. search outside) (λ c. search needs) (λ c. search near-product) (λ c. search inside-none) (λ c. search near-index) (λ c. search inside-at))
+    (λ c κs. search needs) (λ c. search outside) (λ c. search near-product) (λ c. search inside-none) (λ c. search near-index) (λ c. search inside-at))

@@ -7,5 +7,5 @@ pub run-of-spec : {M : Type 1} → statement M
 run-of-spec =
     tie.close
     (tie.spec
-    (λ c κs. search needs) (λ c. search past-arena) (λ c κs. search needs) (λ c. search past-frontier) (λ c κs. search needs) (λ c. search past-page)
+    (λ c κs. search needs) (λ c. search past-arena) (λ c. search needs) (λ c κs. search needs) (λ c. search past-frontier) (λ c κs. search needs) (λ c. search past-page)
     (λ c. search past-run) (λ c κs. search needs) (λ c. search in-run) (λ c. search not-whole))

@@ -8,5 +8,5 @@ pub index-by-spec : {M : Type 1} → statement M
 index-by-spec =
     tie.close
     (tie.spec
-    (λ c. search needs) (λ c. search needs) (λ c κs. search needs) (λ c κs. search needs) (λ c κs. search needs) (λ c. search needs)
+    (λ c. search needs) (λ c. search needs) (λ c. search needs) (λ c κs. search needs) (λ c κs. search needs) (λ c κs. search needs)
     (λ c. search product-fits) (λ c. search quotient-fits) (λ c. search index-near) (λ c κs. search needs) (λ c. search needs))

@@ -1,4 +1,4 @@
-use Rattle.tally.proofs.CountSteps.{count-none, count-other, count-same}
+use Rattle.tally.proofs.CountSteps.{one-fits, count-none, count-other, count-same}
 use borrow.Author.Needs.{needs}
 use Rattle.tally.proofs.counts.chunk_fits.Statement.{statement}
 use Rattle.tally.proofs.counts.chunk_fits.Tie as tie
@@ -8,5 +8,5 @@ chunk-fits-spec =
     tie.close
     (tie.spec
     (λ c. search needs) (λ c. search needs) (λ c κs. search needs) (λ c κs. search needs) (λ c. search needs) (λ c. search count-none)
-    (λ c. search needs) (λ c. search needs) (λ c. search count-other) (λ c κs. search needs) (λ c κs. search needs) (λ c. search needs)
+    (λ c. search needs) (λ c. search needs) (λ c. search count-other) (λ c κs. search one-fits) (λ c κs. search needs) (λ c. search needs)
     (λ c. search count-same))

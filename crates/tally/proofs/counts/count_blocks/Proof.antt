@@ -1,7 +1,7 @@
 use native.Mathlib.Omega.{arith}
 use Prim.Native.Nat.{_-_}
 use lib.ListN.{length}
-use Rattle.tally.proofs.CountSteps.{CountInv, word-tally, count-starts, index-in, count-stops, count-fits, count-goes-on, count-ends}
+use Rattle.tally.proofs.CountSteps.{CountInv, word-fits, word-tally, count-starts, index-in, count-stops, count-fits, count-goes-on, count-ends}
 use borrow.Author.Needs.{needs}
 use Rattle.tally.proofs.counts.count_blocks.Statement.{statement}
 use Rattle.tally.proofs.counts.count_blocks.Tie as tie
@@ -16,14 +16,14 @@ add-counts : tie.Need-add-counts Inv-loop μ-loop
 add-counts c =
     let asked = c .before .before .before in
     let turn = asked .before .before .before .before in
-    let z = count-fits _ _ _ _ _ _ (turn .before .loop .inv) (turn .loop-test .taken) _ _ (asked .before .before .page-at .ensures) (asked .before .tally .ensures) _ (asked .of-chunk .ensures) _ (c .before .run-end .ensures) in
+    let z = count-fits _ _ _ _ _ _ (turn .before .loop .inv) (turn .loop-test .taken) _ _ (asked .before .before .page-within .ensures) (asked .before .tally .ensures) _ (asked .of-chunk .ensures) _ (c .before .run-end .ensures) in
     omega (arith, z)
 
 pub count-blocks-spec : {M : Type 1} → statement M
 count-blocks-spec =
     tie.close
     (tie.spec
-    Inv-loop μ-loop (λ c. search count-starts) (λ c. search needs) (λ c. search needs) (λ c κs. search needs) (λ c κs. search word-tally)
+    Inv-loop μ-loop (λ c. search count-starts) (λ c. search needs) (λ c. search needs) (λ c κs. search word-fits) (λ c κs. search word-tally)
     (λ c κs. search needs) (λ c. search needs) (λ c κs. search needs) (λ c. search needs) (λ c. search needs) (λ c. search needs)
     (λ c. search index-in) add-counts (λ c. search index-in) (λ c. search needs) (λ c. search count-goes-on) (λ c. search needs)
     (λ c. search count-stops) (λ c. search needs) (λ c. search count-ends))

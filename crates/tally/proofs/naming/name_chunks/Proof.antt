@@ -1,6 +1,6 @@
 use Prim.Native.Nat.{_-_}
 use lib.ListN.{length}
-use Rattle.tally.proofs.NameSteps.{NameInv, tally-there, name-starts, name-goes-on, name-ends}
+use Rattle.tally.proofs.NameSteps.{NameInv, page-fits, tally-there, name-starts, name-goes-on, name-ends}
 use borrow.Author.Needs.{needs}
 use Rattle.tally.proofs.naming.name_chunks.Statement.{statement}
 use Rattle.tally.proofs.naming.name_chunks.Tie as tie
@@ -15,6 +15,6 @@ pub name-chunks-spec : {M : Type 1} → statement M
 name-chunks-spec =
     tie.close
     (tie.spec
-    Inv-loop μ-loop (λ c. search name-starts) (λ c. search needs) (λ c. search needs) (λ c κs. search needs) (λ c κs. search needs)
+    Inv-loop μ-loop (λ c. search name-starts) (λ c. search needs) (λ c. search needs) (λ c κs. search page-fits)
     (λ c κs. search tally-there) (λ c. search needs) (λ c. search needs) (λ c. search needs) (λ c κs. search tally-there) (λ c. search needs)
     (λ c. search needs) (λ c. search name-goes-on) (λ c. search needs) (λ c. search needs) (λ c. search name-ends))

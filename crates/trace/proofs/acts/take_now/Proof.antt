@@ -15,14 +15,14 @@ enum-known-k c = search needs
 enum-known-m : tie.Need-enum-known-m
 enum-known-m c = search needs
 
-slice-aggregate-lay-blocks : tie.Need-slice-aggregate-lay-blocks
-slice-aggregate-lay-blocks c = search needs
+slice-aggregate-lay : tie.Need-slice-aggregate-lay
+slice-aggregate-lay c = search needs
 
-cast-lay-blocks : tie.Need-cast-lay-blocks
-cast-lay-blocks c = search needs
+cast-lay : tie.Need-cast-lay
+cast-lay c = search needs
 
-lay-blocks-requires : tie.Need-lay-blocks-requires
-lay-blocks-requires c κs = (search now-room, search now-listed)
+lay-requires : tie.Need-lay-requires
+lay-requires c κs = (search now-room, search now-listed)
 
 same-length : tie.Need-same-length
 same-length c = search needs
@@ -47,9 +47,9 @@ take-now-spec =
     take-call-requires
     enum-known-k
     enum-known-m
-    slice-aggregate-lay-blocks
-    cast-lay-blocks
-    lay-blocks-requires
+    slice-aggregate-lay
+    cast-lay
+    lay-requires
     same-length
     returns
     same-length-2

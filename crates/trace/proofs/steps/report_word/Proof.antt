@@ -18,11 +18,11 @@ enum-told c = search needs
 enum-known-f : tie.Need-enum-known-f
 enum-known-f c = search needs
 
-slice-aggregate-lay-figures : tie.Need-slice-aggregate-lay-figures
-slice-aggregate-lay-figures c = search needs
+slice-aggregate-lay : tie.Need-slice-aggregate-lay
+slice-aggregate-lay c = search needs
 
-lay-figures-requires : tie.Need-lay-figures-requires
-lay-figures-requires c κs = search needs
+lay-requires : tie.Need-lay-requires
+lay-requires c κs = (search needs, search needs)
 
 reported-requires : tie.Need-reported-requires
 reported-requires c κs = search needs
@@ -45,8 +45,8 @@ report-word-spec =
     report-requires
     enum-told
     enum-known-f
-    slice-aggregate-lay-figures
-    lay-figures-requires
+    slice-aggregate-lay
+    lay-requires
     reported-requires
     returns-2
     same-length

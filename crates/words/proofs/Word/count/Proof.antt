@@ -1,8 +1,13 @@
--- `words::Word::count` meets its contract.
+-- `words::Word::count` meets its contract: twelve bits of a word fit 32.
+use Prim.Native.Nat.{_/_, _^_}
+use native.Mathlib.Omega.{arith}
 use lib.Bits.{and-mask}
-use Rattle.words.specs.Word.{countBits}
+use Rattle.words.specs.Word.{countBits, pageBits}
+use Rattle.words.proofs.RoundTrip.{count-lt}
 use Rattle.words.proofs.Word.count.Statement.{statement}
 use Rattle.words.proofs.Word.count.Tie as tie
 
 pub count-spec : {M : Type 1} → statement M
-count-spec = tie.close (tie.spec (λ c. and-mask _ countBits))
+count-spec =
+    tie.close
+    (tie.spec (λ c. omega (arith, and-mask (c .before .args .self .bits / 2 ^ pageBits) countBits, count-lt (c .before .args .self .bits))) (λ c. and-mask _ countBits))

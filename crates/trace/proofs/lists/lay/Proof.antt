@@ -6,8 +6,8 @@ use borrow.Author.Needs.{needs}
 use lib.ListN.{length, length-set, getD}
 use lib.Seq.{paste, paste-zero}
 use Rattle.trace.proofs.ListWays.{pasted-more}
-use Rattle.trace.proofs.lists.lay_blocks.Statement.{statement}
-use Rattle.trace.proofs.lists.lay_blocks.Tie as tie
+use Rattle.trace.proofs.lists.lay.Statement.{statement}
+use Rattle.trace.proofs.lists.lay.Tie as tie
 
 abbrev Inv-loop : tie.InvT-loop
 Inv-loop to₀ at from m i₀ to i = (i ≤ m) × ((length to ≡ length to₀) × (to ≡ paste to₀ at from i))
@@ -36,8 +36,8 @@ returns c =
     let e : l .i ≡ c .before .before .args .m = omega arith in
     rw (← e) (l .inv .1 .1)
 
-pub lay-blocks-spec : {M : Type 1} → statement M
-lay-blocks-spec =
+pub lay-spec : {M : Type 1} → statement M
+lay-spec =
     tie.close
     (tie.spec
     Inv-loop
