@@ -1,5 +1,5 @@
 -- The passes of a group release, once its listed blocks are taken.
---     match-asks, fair-asks, settle-asks    what each pass asks follows from the tests before it
+--     fair-asks, settle-asks                what each pass asks follows from the tests before it
 --     mismatch, unfair, taken               numbers 11 and 13, and the taking
 use Prim.Native.Nat.{ℕ, _+_, _≤_, _<_}
 use native.Mathlib.Omega.{arith}
@@ -26,7 +26,8 @@ use Rattle.pages.specs.Fair.{linksFair, limitsAt}
 use Rattle.release.proofs.Bits.{isBit, in-run-kept}
 use Rattle.release.proofs.FairSteps.{links-fair}
 use Rattle.release.proofs.OutLaws.{run-of-out, index-of-out, page-of-out}
-use Rattle.tally.specs.Match.{wordsOn, MatchAsks, Matched}
+use Rattle.tally.specs.Match.{wordsOn, Matched}
+use Rattle.tally.proofs.MatchLaws.{arena-is}
 use Rattle.chunks.specs.Pass.{cleared, pushOne, pushAll, givesIn}
 use Rattle.chunks.specs.PushAsks.{PushAllAsks}
 use Rattle.chunks.specs.FairAsks.{ChunksFairAsks}
@@ -67,9 +68,6 @@ every-both t u v k (g ∷ gs) e f =
 
 -- ---- what the passes ask
 module _ (n : ℕ) (b : List ℕ) (c : ℕ) (sh : Shape) (ws gs : List ℕ) (a : TakenAsks n b c sh ws gs) where
-  pub match-asks : MatchAsks n b ws gs
-  match-asks = record { few = a .call .class .few; long = a .call .class .long; chunks = a .chunks; pages = words-on n b c sh (a .call .single) ws (a .runs) }
-
   module _ (m : chunksMatch b ws gs ≡ true) where
     pub fair-asks : ChunksFairAsks n b c sh gs
     fair-asks = record { class = a .call .class; below = chunks-below n b c sh (a .call .single) ws gs (a .runs) m; chunks = a .chunks }
@@ -249,12 +247,11 @@ module _ (n : ℕ) (b : List ℕ) (c : ℕ) (sh : Shape) (ws gs : List ℕ) (a :
       settle-asks n (cleared b sh ws) c sh ws gs taken-asks (match-kept b (cleared b sh ws) changes ws gs ∙ m)
       (chunks-fair-kept b (cleared b sh ws) changes c (lt-ltb c 76 (a .call .class .known)) n sh gs ∙ f) fs l h
 
-  pub match-first : MatchAsks n b ws gs
-  match-first = match-asks n b c sh ws gs as-before
-
-  module _ (t : Bool) (b′ : List ℕ) (k : Matched t b′ b ws gs) where
+  module _ (t : Bool) (b′ : List ℕ) (k : Matched t b′ n b ws gs) where
     told : chunksMatch b ws gs ≡ t
-    told = match-is n b c sh (a .call .single) ws gs (in-runs ws (a .out)) ∙ sym (k .answer)
+    told =
+        let r = in-runs ws (a .out) in
+        match-is n b c sh (a .call .single) ws gs r ∙ sym (arena-is n ws gs (words-on n b c sh (a .call .single) ws r)) ∙ sym (k .answer)
 
     pub mismatch : t ≡ false → TakenBy 11 b′ (passFault n b c sh ws gs) b sh ws
     unfolding passFault

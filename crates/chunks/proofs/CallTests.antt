@@ -32,7 +32,13 @@ use Rattle.release.proofs.Bits.{isBit, start-kept}
 use Rattle.release.proofs.FairSteps.{page-room, page-carved}
 use Rattle.fields.specs.Ranges.{maxPages}
 use Rattle.pages.proofs.Downs.{every-mono}
-use Rattle.tally.specs.Match.{wordsOn, pageFits, hasPage, pagesMatch, inArena}
+use Rattle.model.specs.Chunks.{chunksMax}
+use Rattle.tally.specs.Match.{wordsOn, pageFits, hasPage, pagesMatch, inArena, MatchAsks}
+use Rattle.chunks.specs.CallAsks.{CallAsks}
+
+-- ---- what number 11's test asks
+pub match-asks : (n : ℕ) (b : List ℕ) (c : ℕ) (sh : Shape) (gs : List ℕ) → CallAsks n b c sh → length gs ≤ chunksMax → MatchAsks n b gs
+match-asks n b c sh gs a l = record { few = a .class .few; long = a .class .long; chunks = l }
 
 -- ---- the tests read no out bit
 module _ (b b′ : List ℕ) (h : Changes isBit b b′) where

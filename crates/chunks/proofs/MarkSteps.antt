@@ -2,13 +2,13 @@
 use Prim.Native.Nat.{ℕ, suc, _+_, _-_, _*_, _^_, _≤_, _<_}
 use native.Mathlib.Omega.{arith}
 use native.Mathlib.Numerals.{add-one}
-use mathlib.Core.Bool.{Bool, true, false, _&&_, true≢false}
+use mathlib.Core.Bool.{Bool, true, false, true≢false}
 use mathlib.Core.List.{List, [], _∷_, map}
 use mathlib.Core.Path.{_≡_, refl, sym, ap, _∙_}
-use lib.Dec.{eqb, ltb}
+use lib.Dec.{ltb}
 use lib.ListN.{length, getD, drop, length-drop}
 use lib.Seq.{drop-cons, drop-drop}
-use borrow.Author.Tests.{lt-ltb, le-ltb, le-leb, ltb-true, ltb-false}
+use borrow.Author.Tests.{lt-ltb, le-leb, ltb-true, ltb-false}
 use Rattle.facts.specs.Lists.{every, distinct}
 use Rattle.facts.proofs.Bools.{and-left, and-right}
 use Rattle.facts.proofs.Lists.{drop-past, every-get}
@@ -31,24 +31,14 @@ use Rattle.release.proofs.RunLaws.{within-arena}
 use Rattle.release.proofs.OutLaws.{run-of-out}
 use Rattle.release.proofs.MarkLaws.{mark-bits, all-single}
 use Rattle.release.proofs.Testing.{fault-none}
-use Rattle.tally.specs.Tally.{isPage}
-use Rattle.tally.specs.Match.{inArena, hasPage, pageFits, pagesMatch, MatchAsks, Matched}
+use Rattle.tally.specs.Match.{isPage, inArena, hasPage, pageFits, pagesMatch, arenaMatch, Matched}
+use Rattle.tally.proofs.MatchLaws.{low-page}
 use Rattle.chunks.specs.Pass.{cleared}
 use Rattle.chunks.specs.CallAsks.{passFault, testFault}
 use Rattle.chunks.specs.Marks.{pageReady, ownCount, ownBook, sweep, takePages, clearPages}
 use Rattle.chunks.specs.MarkAsks.{OwnAsks, OwnMarked, SweepAsks, ReadyAsks, MarkedAsks, TryAsks, MatchedAsks, SetAsks, TookMarked, Tried}
 use Rattle.chunks.proofs.PageMarks.{own-count, own-book, fresh-within, none-counted, none-left, none-marked, own-changes, AllOwn, all-own, own-clean, ready-words, clears-own, takes-own}
 use Rattle.chunks.proofs.CallTests.{chunks-fair-kept, match-is}
-
--- ---- a word's page
-module _ (n w p : ℕ) (e : p ≡ pageAt w) where
-  pub in-arena : p < n → eqb 0 0 ≡ inArena n w
-  unfolding inArena
-  in-arena h = sym (lt-ltb (pageAt w) n (rw e at h))
-
-  pub past-arena : n ≤ p → eqb 1 0 ≡ inArena n w
-  unfolding inArena
-  past-arena h = sym (le-ltb (pageAt w) n (rw e at h))
 
 -- ---- a chunk's page
 module _ (n : ℕ) (b : List ℕ) (c : ℕ) (sh : Shape) (m g : ℕ) (a : ReadyAsks n b c sh m) (u : Bool) (e : u ≡ isPage n g) where
@@ -192,22 +182,32 @@ module _ (n : ℕ) (b : List ℕ) (c : ℕ) (sh : Shape) (m : ℕ) (ws gs : List
   long : words n ≤ length b
   long = a .matching .all .call .class .long
 
-  pub own-first : OwnAsks n b sh ws
-  own-first = record { sound = sound; single = one; few = a .matching .all .call .class .few; long = long; pages = a .matching .words }
+  pages-in : every (isPage n) gs ≡ true
+  unfolding arenaMatch
+  pages-in = and-left (every (isPage n) gs) _ (a .matching .matched)
+
+  page-match : pagesMatch ws gs ≡ true
+  unfolding arenaMatch
+  page-match = and-right (every (isPage n) gs) _ (a .matching .matched)
 
   apart : distinct (map pageOf gs) ≡ true
   unfolding pagesMatch
-  apart = and-left (distinct (map pageOf gs)) _ (a .matching .matched)
+  apart = and-left (distinct (map pageOf gs)) _ page-match
 
   has : every (hasPage gs) ws ≡ true
   unfolding pagesMatch
-  has = and-right (every (pageFits ws) gs) _ (and-right (distinct (map pageOf gs)) _ (a .matching .matched))
+  has = and-right (every (pageFits ws) gs) _ (and-right (distinct (map pageOf gs)) _ page-match)
 
   low : every (λ g. ltb (pageOf g) n) gs ≡ true
-  unfolding pageReady
-  low =
-      every-mono (λ g. whole n b sh c (pageOf g) && noMarks b (pageOf g) m) (λ g. ltb (pageOf g) n)
-      (λ g e. lt-ltb (pageOf g) n (omega (arith, one, within-arena n c sh sound (pageOf g) b (and-left (whole n b sh c (pageOf g)) _ e)))) gs (a .ready)
+  unfolding isPage
+  low = pages-in
+
+  words-low : every (inArena n) ws ≡ true
+  unfolding inArena
+  words-low = every-mono (hasPage gs) (λ w. ltb (pageAt w) n) (λ w e. lt-ltb (pageAt w) n (low-page n (pageAt w) gs pages-in e)) ws has
+
+  pub own-first : OwnAsks n b sh ws
+  own-first = record { sound = sound; single = one; few = a .matching .all .call .class .few; long = long; pages = words-low }
 
   module _ (k : ℕ) (b′ : List ℕ) (z : OwnMarked k b′ b sh ws) where
     changes : Changes isBit b (ownBook b sh ws)
@@ -247,7 +247,7 @@ module _ (n : ℕ) (b : List ℕ) (c : ℕ) (sh : Shape) (m : ℕ) (ws gs : List
           (known .out)
 
       matches : chunksMatch b ws gs ≡ true
-      matches = match-is n b c sh one ws gs (every-mono (outAt n b c sh) (inRunOf n b sh c) (λ w o. run-of-out n c sh sound b w o) ws (known .out)) ∙ a .matching .matched
+      matches = match-is n b c sh one ws gs (every-mono (outAt n b c sh) (inRunOf n b sh c) (λ w o. run-of-out n c sh sound b w o) ws (known .out)) ∙ page-match
 
       fair-same : chunksFair n b′ c sh gs ≡ chunksFair n b c sh gs
       fair-same = rw (z .left) (chunks-fair-kept b (ownBook b sh ws) changes c (lt-ltb c 76 (a .matching .all .call .class .known)) n sh gs)
@@ -257,7 +257,7 @@ module _ (n : ℕ) (b : List ℕ) (c : ℕ) (sh : Shape) (m : ℕ) (ws gs : List
       passes f = rw (no-fault, matches, f)
 
       taken-is : takePages b′ m gs ≡ cleared b sh ws
-      taken-is = rw (z .left) (takes-own sh sound one m few all n c b gs ws (a .ready) has apart long (a .matching .words) counted)
+      taken-is = rw (z .left) (takes-own sh sound one m few all n c b gs ws (a .ready) has apart long words-low counted)
 
       cleared-is : clearPages b′ m gs ≡ b
       cleared-is = rw (z .left) (clears-own sh sound one m few all n c b gs ws (a .ready) has)
@@ -280,13 +280,10 @@ module _ (n : ℕ) (b : List ℕ) (c : ℕ) (sh : Shape) (ws gs : List ℕ) wher
     set-asks t e x = record { matching = a; all = i; ready = sym e ∙ x }
 
   -- ---- from number 11 on
-  module _ (a : TryAsks n b c sh gs) (s : Bool) (e : s ≡ every (inArena n) ws) (x : s ≡ true) where
-    pub match-asks : MatchAsks n b ws gs
-    match-asks = record { few = a .call .class .few; long = a .call .class .long; chunks = a .chunks; pages = sym e ∙ x }
-
-    module _ (t : Bool) (b′ : List ℕ) (k : Matched t b′ b ws gs) where
+  module _ (a : TryAsks n b c sh gs) where
+    module _ (t : Bool) (b′ : List ℕ) (k : Matched t b′ n b ws gs) where
       pub matched-asks : t ≡ true → MatchedAsks n b′ c sh ws gs
-      matched-asks y = rw (k .left) (record { all = a; words = sym e ∙ x; matched = sym (k .answer) ∙ y })
+      matched-asks y = rw (k .left) (record { all = a; matched = sym (k .answer) ∙ y })
 
       pub matched-on : (r : Bool) (b″ : List ℕ) → Tried r b″ n b′ c sh ws gs → Tried r b″ n b c sh ws gs
       matched-on r b″ z = rw (k .left) at z

@@ -13,7 +13,7 @@ use Rattle.model.specs.Chunks.{chunksMax}
 use Rattle.pages.specs.Carve.{outWords}
 use Rattle.calls.specs.Chunks.{chunksFair}
 use Rattle.release.specs.Asks.{ClassAsks}
-use Rattle.tally.specs.Match.{inArena, pagesMatch}
+use Rattle.tally.specs.Match.{inArena, arenaMatch}
 use Rattle.chunks.specs.FairAsks.{PagesAsks, ChunksFairAsks}
 use Rattle.chunks.specs.Marks.{pageReady, ownCount, ownBook, takePages, clearPages}
 use Rattle.chunks.specs.Pass.{cleared}
@@ -50,8 +50,7 @@ pub record TryAsks (n : ℕ) (b : List ℕ) (c : ℕ) (sh : Shape) (gs : List �
 -- the chunks are the list's, by the words' own pages
 pub record MatchedAsks (n : ℕ) (b : List ℕ) (c : ℕ) (sh : Shape) (ws gs : List ℕ) : Type 0 where
   pub all : TryAsks n b c sh gs
-  pub words : every (inArena n) ws ≡ true
-  pub matched : pagesMatch ws gs ≡ true
+  pub matched : arenaMatch n ws gs ≡ true
 
 -- and their pages can be marked
 pub record SetAsks (n : ℕ) (b : List ℕ) (c : ℕ) (sh : Shape) (m : ℕ) (ws gs : List ℕ) : Type 0 where

@@ -1,39 +1,16 @@
 // The listed blocks marked, each on the page that has its granule, and the marks of the chunks' pages taken or cleared.
 ghost use mathlib.Core.Path.{_≡_};
-ghost use lib.Dec.{eqb};
 ghost use Rattle.facts.specs.Lists.{every};
-ghost use Rattle.tally.specs.Match.{inArena};
 ghost use Rattle.chunks.specs.Marks.{pageReady, takePages, clearPages};
 ghost use Rattle.chunks.specs.MarkAsks.{OwnAsks, OwnMarked, SweepAsks, ReadyAsks};
 use classes::Shape;
 use pages::chunk_page;
-use pages::page_at;
 use pages::page_within;
 use release::clear_marks;
 use release::mark_run;
 use release::no_marks;
 use release::take_marks;
 use tally::is_page;
-
-// 0 if a word's page is in the arena.
-fn past_arena(n: u32, w: u64) -> u32
-    ensures { λ r. ⌜ eqb r 0 ≡ inArena n w ⌝ }
-{
-    if page_at(w) < n as u64 { 0 } else { 1 }
-}
-
-// Whether every listed word's is; gathered to the end, as in `all_of_kind`.
-pub fn all_in_arena(n: u32, list: &[u64]) -> bool
-    ensures { λ r. ⌜ r ≡ every (inArena n) (now (list .entry)) ⌝ }
-{
-    let mut any = 0;
-    let mut i = 0;
-    while i < list.len() {
-        any |= past_arena(n, list[i]);
-        i += 1;
-    }
-    any == 0
-}
 
 // Whether a chunk's page is a run of the class, and words 0 to m - 1 of its marks are 0.
 fn page_ready(meta: &[u32], n: u32, c: u32, shape: Shape, m: u32, chunk: u64) -> bool

@@ -1,7 +1,6 @@
 // The taking of a group release's blocks in as few passes as there can be. Where there is a doubt the book is as it was.
 ghost use Rattle.chunks.specs.MarkAsks.{MarkedAsks, TryAsks, MatchedAsks, SetAsks, TookMarked, Tried};
 use super::fair::chunks_fair;
-use super::marks::all_in_arena;
 use super::marks::clear_pages;
 use super::marks::mark_words;
 use super::marks::pages_ready;
@@ -73,10 +72,8 @@ pub fn try_take(
     requires { ⌜ TryAsks n (now meta) c shape (now chunks) ⌝ }
     ensures { λ r. ⌜ Tried r (now (meta .exit)) n (now (meta .entry)) c shape (now (list .entry)) (now (chunks .entry)) ⌝ }
 {
-    if all_in_arena(n, list) {
-        if chunks_match(meta, n, list, chunks) {
-            return take_matched(meta, n, c, shape, list, chunks);
-        }
+    if chunks_match(meta, n, list, chunks) {
+        return take_matched(meta, n, c, shape, list, chunks);
     }
     false
 }

@@ -174,6 +174,7 @@ module _ (n : ℕ) (b : List ℕ) (c : ℕ) (sh : Shape) (h q : ℕ) (ws : List 
         page = fair-page n b c sh q (length ws) f;
         row = fair-row n b c sh q (length ws) f;
         bits = a .bits;
+        blocks = a .blocks;
       }
 
   gives-fair : SettleAsks n b c sh q ws → settleAt b c sh h q (map (indexOf sh q) ws) .fate ≡ 2 → giveFair n b (sh .pages) ≡ true

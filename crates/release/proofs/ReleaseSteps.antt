@@ -23,8 +23,8 @@ use Rattle.arena.specs.Calls.{given}
 use Rattle.pages.specs.Asks.{ClearAsks}
 use Rattle.pages.specs.Carve.{outWords}
 use Rattle.pages.specs.Fair.{headerFair}
-use Rattle.pages.specs.Stack.{marks, pushed, indexOf, pageAt, back}
-use Rattle.pages.proofs.Downs.{small}
+use Rattle.pages.specs.Stack.{marks, pushed, indexOf, isBlock, pageAt, back}
+use Rattle.pages.proofs.Downs.{small, every-mono}
 use Rattle.pages.proofs.Marks.{marks-changes}
 use Rattle.calls.specs.Out.{startOf, inRunOf, outIn, outAt, markIn, clean, unmarked, outFault}
 use Rattle.calls.proofs.Out.{passed, passes}
@@ -44,7 +44,7 @@ use Rattle.release.specs.Fair.{FairAsks}
 use Rattle.release.specs.Marks.{readyIn, freshCount, freshBook, noMarks, takeMarks}
 use Rattle.release.specs.MarkAsks.{FieldAsks, MarkedIn, FaultAsks, Faulted}
 use Rattle.release.specs.Act.{settleAt, takenBy, answerAs, SettleAsks, ListAsks, RunAsks, MarkedAsks, PassedAsks, Parked, Answered, PreparedAt, Prepared, Attempted, MarkedAll, Finished}
-use Rattle.release.proofs.Bits.{isBit}
+use Rattle.release.proofs.Bits.{isBit, out-in}
 use Rattle.release.proofs.BlockSteps.{found-at}
 use Rattle.release.proofs.RunSteps.{run-found}
 use Rattle.release.proofs.OutLaws.{page-of-out, run-within-out}
@@ -230,6 +230,7 @@ module _ (n : ℕ) (b : List ℕ) (c : ℕ) (sh : Shape) (ws : List ℕ) (q m : 
     inside = within;
     few = p .few;
     bits = bits-low n b c sh sound-of q ws here;
+    blocks = every-mono (outIn b sh q) (isBlock sh q) (λ w o. and-left (isBlock sh q w) _ (sym (out-in b sh q w) ∙ o)) ws here;
     same = rw (p .taken) (fair-kept b _ (taken-changes n b c sh sound-of q ws here) n c sh (length ws) q (p .passed .class .known) ∙ sym (p .same));
   }
 
@@ -484,6 +485,7 @@ module _ (n : ℕ) (b : List ℕ) (c : ℕ) (sh : Shape) (q m : ℕ) (ws : List 
         inside = a .inside;
         fair = rw e (a .same) ∙ sym f ∙ x;
         bits = a .bits;
+        blocks = a .blocks;
       }
 
       pub marked-taken : (h r : ℕ) (b″ : List ℕ) → Parked r b″ (lastStep sh q (settleAt b′ c sh h q (map (indexOf sh q) ws))) → Finished (Fate r) b″ n b c sh h q m ws

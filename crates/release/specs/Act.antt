@@ -24,7 +24,7 @@ use Rattle.model.specs.Release.{ofKind}
 use Rattle.pages.specs.declared.Park.{Park}
 use Rattle.pages.specs.Links.{stored}
 use Rattle.pages.specs.Runs.{whole}
-use Rattle.pages.specs.Stack.{marks, pushed, indexOf, pageSlots}
+use Rattle.pages.specs.Stack.{marks, pushed, indexOf, isBlock, pageSlots}
 use Rattle.calls.specs.Release as Heap
 use Rattle.calls.specs.Out.{startOf, outFault}
 use Rattle.calls.specs.Release.{firstOf, pageFair, rowFair, releaseFair, placed, lastStep}
@@ -82,6 +82,7 @@ pub record BackAsks (b : List ℕ) (c : ℕ) (sh : Shape) (q : ℕ) (ws : List �
   pub page : pageFair b sh (length ws) q ≡ true
   pub row : rowFair b c ≡ true
   pub bits : every (λ w. ltb (indexOf sh q w) pageSlots) ws ≡ true
+  pub blocks : every (isBlock sh q) ws ≡ true
 
 -- the run at q, in an arena of n pages, after number 13's tests; each listed word is one of its blocks
 pub record SettleAsks (n : ℕ) (b : List ℕ) (c : ℕ) (sh : Shape) (q : ℕ) (ws : List ℕ) : Type 0 where
@@ -89,6 +90,7 @@ pub record SettleAsks (n : ℕ) (b : List ℕ) (c : ℕ) (sh : Shape) (q : ℕ) 
   pub inside : q + sh .pages ≤ n
   pub fair : releaseFair n b c sh (length ws) q ≡ true
   pub bits : every (λ w. ltb (indexOf sh q w) pageSlots) ws ≡ true
+  pub blocks : every (isBlock sh q) ws ≡ true
 
 -- after number 7
 pub record ListAsks (n : ℕ) (b : List ℕ) (c : ℕ) (sh : Shape) (ws : List ℕ) : Type 0 where
@@ -108,6 +110,7 @@ pub record MarkedAsks (n : ℕ) (b : List ℕ) (c : ℕ) (sh : Shape) (q m : ℕ
   pub inside : q + sh .pages ≤ n
   pub few : m ≤ 128
   pub bits : every (λ w. ltb (indexOf sh q w) pageSlots) ws ≡ true
+  pub blocks : every (isBlock sh q) ws ≡ true
   pub same : releaseFair n (takenBy b sh q m ws) c sh (length ws) q ≡ releaseFair n b c sh (length ws) q
 
 -- after numbers 9, 13 for a mark, 15 and 10

@@ -5,15 +5,16 @@ use native.Mathlib.Nat.{mul-le-mul-right, mod-eq-of-lt, zero-div}
 use mathlib.Core.Bool.{true}
 use mathlib.Core.List.{List}
 use mathlib.Core.Path.{_≡_, sym, ap, _∙_}
-use lib.Dec.{ltb}
+use lib.Dec.{eqb, ltb, leb}
 use mir.Val.{Fits}
 use mir.Syntax.{w32}
-use borrow.Author.Tests.{eq-eqb, ne-eqb, ltb-true}
+use borrow.Author.Tests.{eq-eqb, ne-eqb, eqb-true, leb-true, ltb-true}
+use Rattle.facts.proofs.Bools.{and-left, and-right}
 use Rattle.words.specs.Word.{blockWord, packBlock, granuleOf}
 use Rattle.classes.specs.declared.Shape.{Shape}
 use Rattle.fields.specs.Field.{page, free, carved, get}
 use Rattle.model.specs.Page.{wordOf}
-use Rattle.pages.specs.Stack.{pageSlots, hasMore, blocksFrom, indexOf}
+use Rattle.pages.specs.Stack.{pageSlots, hasMore, blocksFrom, indexOf, isBlock}
 use Rattle.pages.specs.Asks.{WordAsks, IndexAsks}
 use Rattle.stack.specs.Inverse.{inverse}
 use Rattle.stack.proofs.InverseLaws.{divides}
@@ -52,6 +53,24 @@ unfolding indexOf
 index-near sh q w y g x m a e e₁ e₂ e₃ h =
     let z : granuleOf w - blocksFrom sh q ≡ x = omega (arith, ap granuleOf e₁, a .below, a .sound .fits, a .sound .short) in
     divides sh x m e h (a .sound) ∙ sym (ap (λ t. t / sh .block) z)
+
+-- a block of the run
+module _ (sh : Shape) (q w y g : ℕ) (a : IndexAsks sh q w) (o : isBlock sh q w ≡ true) (e₁ : y ≡ w) (e₂ : g ≡ granuleOf y) where
+  pub block-from : q * 4096 + sh .header ≤ g
+  unfolding isBlock
+  block-from = rw (e₂, e₁) (leb-true (blocksFrom sh q) (granuleOf w) (and-left (leb (blocksFrom sh q) (granuleOf w)) _ o))
+
+  pub block-near : g - (q * 4096 + sh .header) < 2 ^ 16
+  unfolding isBlock
+  block-near =
+      let z = and-right (leb (blocksFrom sh q) (granuleOf w)) _ o in
+      let i = eqb-true (indexOf sh q w * sh .block) (granuleOf w - blocksFrom sh q) (and-left _ _ z) in
+      let l = ltb-true (indexOf sh q w) (sh .capacity) (and-right (eqb (indexOf sh q w * sh .block) (granuleOf w - blocksFrom sh q)) _ z) in
+      let m : (indexOf sh q w + 1) * sh .block ≤ sh .capacity * sh .block = mul-le-mul-right (sh .block) (omega arith) in
+      omega (arith, ap granuleOf e₁, a .sound .fits, a .sound .short)
+
+  pub block-index : (m : ℕ) → m ≡ inverse (sh .block) → (g - (q * 4096 + sh .header)) * m / 2 ^ 32 ≡ indexOf sh q w
+  block-index m e = divides sh (g - (q * 4096 + sh .header)) m e block-near (a .sound) ∙ index-done sh q w y g e₁ e₂
 
 module _ (b : List ℕ) (sh : Shape) (q : ℕ) where
   pub more-free : (f : ℕ) → f ≡ get b (page free q) → (f ≡ 0 → ⊥) → true ≡ hasMore b sh q

@@ -2,6 +2,7 @@
 use Prim.Native.Nat.{ℕ, suc, _+_, _-_, _*_, _/_, _%_, _≤_, _<_}
 use native.Mathlib.Omega.{arith}
 use native.Mathlib.Nat.{add-zero}
+use mathlib.Core.Bool.{true}
 use mathlib.Core.List.{List, [], _∷_, _++_, map, map-append}
 use mathlib.Core.Path.{_≡_, refl, sym, ap, _∙_}
 use lib.ListN.{length, getD, take, drop, length-map, length-drop, length-append}
@@ -15,7 +16,7 @@ use Rattle.classes.specs.Sound.{Sound}
 use Rattle.fields.specs.Ranges.{maxPages}
 use Rattle.fields.specs.Field.{page, slot, free, virgin, get, put}
 use Rattle.fields.proofs.Laws.{length-put}
-use Rattle.pages.specs.Stack.{pageSlots, indexOf, push, pushed}
+use Rattle.pages.specs.Stack.{pageSlots, indexOf, isBlock, push, pushed}
 use Rattle.pages.specs.Asks.{IndexAsks, LayAsks}
 use Rattle.stack.specs.Lay.{PairsAsks}
 use Rattle.stack.specs.Inverse.{inverse}
@@ -90,6 +91,17 @@ module _ (b₀ : List ℕ) (sh : Shape) (q x : ℕ) (ws : List ℕ) (n : ℕ) wh
         }
 
     module _ (b : List ℕ) (i t : ℕ) (v : Pairing b i t) where
+      -- each is a block
+      module _ (o : every (isBlock sh q) ws ≡ true) where
+        pub first-block : 1 < i → isBlock sh q (getD ws (i - 2 + 1) 0) ≡ true
+        first-block h = every-get (isBlock sh q) ws (i - 2 + 1) o (omega (arith, v .within))
+
+        pub next-block : 1 < i → isBlock sh q (getD ws (i - 2) 0) ≡ true
+        next-block h = every-get (isBlock sh q) ws (i - 2) o (omega (arith, v .within))
+
+        pub last-block : (i ≡ 0 → ⊥) → isBlock sh q (getD ws 0 0) ≡ true
+        last-block h = every-get (isBlock sh q) ws 0 o (omega (arith, v .within))
+
       -- one of them
       one : (k j : ℕ) → 1 ≤ i → j ≡ i - 1 → k ≡ indexOf sh q (getD ws j 0) → Laying b₀ sh q (2 * x) (take n ws) (put b (slot q (2 * t)) k) (i - 1) (2 * t + 1)
       one k j h e f =
@@ -146,6 +158,12 @@ module _ (b : List ℕ) (sh : Shape) (q t : ℕ) (ws : List ℕ) (a : LayAsks b 
       }
 
 module _ (b : List ℕ) (sh : Shape) (q t : ℕ) (ws : List ℕ) (n : ℕ) (e : n ≡ length ws) where
+  pub top-block : every (isBlock sh q) ws ≡ true → n ≡ 1 → isBlock sh q (getD ws 0 0) ≡ true
+  top-block o h = every-get (isBlock sh q) ws 0 o (omega arith)
+
+  pub under-block : every (isBlock sh q) ws ≡ true → (n ≡ 0 → ⊥) → isBlock sh q (getD ws (n - 1) 0) ≡ true
+  under-block o h = every-get (isBlock sh q) ws (n - 1) o (omega arith)
+
   pub lay-none : n ≡ 0 → b ≡ push b q t (map (indexOf sh q) ws)
   lay-none h = by ws (sym e ∙ h)
     where

@@ -4,7 +4,8 @@ ghost use Prim.Native.Nat.{_+_, _≤_, min};
 ghost use lib.ListN.{length};
 ghost use Rattle.fields.specs.Field.{words};
 ghost use Rattle.model.specs.Page.{wordOf};
-ghost use Rattle.pages.specs.Stack.{hasMore, indexOf};
+ghost use mathlib.Core.Bool.{true};
+ghost use Rattle.pages.specs.Stack.{hasMore, indexOf, isBlock};
 ghost use Rattle.pages.specs.Asks.{WordAsks, IndexAsks};
 ghost use Rattle.stack.specs.Inverse.{inverse};
 use classes::Shape;
@@ -66,6 +67,19 @@ pub fn index_by(shape: Shape, inv: u64, q: u32, w: u64) -> u32
         return ((x * inv) >> 32) as u32;
     }
     index_of(shape, q, w)
+}
+
+// The same of a word that is a block of the run.
+pub fn index_in(shape: Shape, inv: u64, q: u32, w: u64) -> u32
+    requires { ⌜ IndexAsks shape q w ⌝ }
+    requires { ⌜ inv ≡ inverse (shape .block) ⌝ }
+    requires { ⌜ isBlock shape q w ≡ true ⌝ }
+    ensures { λ r. ⌜ r ≡ indexOf shape q w ⌝ }
+{
+    let start = q as u64 * PAGE_GRANULES + shape.header as u64;
+    let word = Word::of(w);
+    let x = word.granule() - start;
+    ((x * inv) >> 32) as u32
 }
 
 pub fn has_more(meta: &[u32], shape: Shape, q: u32) -> bool

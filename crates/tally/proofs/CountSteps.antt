@@ -5,19 +5,18 @@ use native.Mathlib.Numerals.{add-one}
 use mathlib.Core.Bool.{Bool, true, false, cond, true≢false}
 use mathlib.Core.List.{List, [], _∷_, map}
 use mathlib.Core.Path.{_≡_, refl, sym, ap, _∙_}
-use lib.Dec.{eqb, ltb}
+use lib.Dec.{eqb}
 use lib.ListN.{length, getD, set, drop, length-set, length-drop}
 use lib.Seq.{drop-cons, drop-drop, getD-set-same, getD-set-other}
 use borrow.Author.Tests.{ltb-true, eqb-false, eqb-true, lt-ltb, le-ltb, eq-eqb, ne-eqb}
 use Rattle.facts.specs.Lists.{every, count, below}
-use Rattle.facts.proofs.Bools.{by-cases, and-left, and-right}
-use Rattle.facts.proofs.Lists.{drop-past, every-same, every-get, below-last}
+use Rattle.facts.proofs.Bools.{by-cases, and-left}
+use Rattle.facts.proofs.Lists.{drop-past, every-same, below-last}
 use Rattle.words.specs.Word.{countOf, pageOf}
-use Rattle.fields.specs.Field.{page, tally, word, get, Has}
-use Rattle.fields.specs.Ranges.{maxPages}
+use Rattle.fields.specs.Field.{page, tally, words, get, Has}
 use Rattle.pages.specs.Stack.{pageAt}
-use Rattle.tally.specs.Tally.{pageIn, tallyIn, ofChunk, chunkAt, hasChunk, runOn, agrees, fits, tallied}
-use Rattle.tally.specs.Asks.{tallyThere, wordThere, Counted, OneAsks, FitAsks}
+use Rattle.tally.specs.Tally.{pageIn, tallyIn, namedBy, ofChunk, chunkAt, hasChunk, runOn, agrees, fits, tallied}
+use Rattle.tally.specs.Asks.{Counted, OneAsks, FitAsks}
 use Rattle.tally.proofs.NameSteps.{page-below, tally-there}
 
 -- ---- of_chunk
@@ -61,11 +60,11 @@ run-le p (w ∷ ws) =
     let z = run-le p ws in
     by-cases (eqb (pageAt w) p) (λ d. rw d (omega arith)) (λ d. rw d (omega arith))
 
-module _ (b : List ℕ) (p i : ℕ) (f : i ≡ get b (page tally p)) where
-  at-index : (w : ℕ) → eqb (pageAt w) p ≡ true → chunkAt b w ≡ i
-  at-index w d = ap (λ q. get b (page tally q)) (eqb-true (pageAt w) p d) ∙ sym f
+module _ (n : ℕ) (b : List ℕ) (p i : ℕ) (f : i ≡ namedBy n b p) where
+  at-index : (w : ℕ) → eqb (pageAt w) p ≡ true → chunkAt n b w ≡ i
+  at-index w d = ap (namedBy n b) (eqb-true (pageAt w) p d) ∙ sym f
 
-  run-counts : (k : ℕ) (ws : List ℕ) → count k (map (chunkAt b) ws) ≡ cond (eqb k i) (runOn p ws) 0 + count k (map (chunkAt b) (drop (runOn p ws) ws))
+  run-counts : (k : ℕ) (ws : List ℕ) → count k (map (chunkAt n b) ws) ≡ cond (eqb k i) (runOn p ws) 0 + count k (map (chunkAt n b) (drop (runOn p ws) ws))
   unfolding runOn
   run-counts k [] = by-cases (eqb k i) (λ d. rw d) (λ d. rw d)
   run-counts k (w ∷ ws) =
@@ -74,7 +73,7 @@ module _ (b : List ℕ) (p i : ℕ) (f : i ≡ get b (page tally p)) where
       (λ d. rw (d, at-index w d) (by-cases (eqb k i) (λ x. rw x (let y = rw x at z in omega (arith, y))) (λ x. rw x (let y = rw x at z in omega (arith, y)))))
       (λ d. rw d (by-cases (eqb k i) (λ x. rw x (omega arith)) (λ x. rw x (omega arith))))
 
-  run-rest : (gs : List ℕ) → ofChunk gs i p ≡ true → (ws : List ℕ) → every (hasChunk b gs) ws ≡ every (hasChunk b gs) (drop (runOn p ws) ws)
+  run-rest : (gs : List ℕ) → ofChunk gs i p ≡ true → (ws : List ℕ) → every (hasChunk n b gs) ws ≡ every (hasChunk n b gs) (drop (runOn p ws) ws)
   unfolding runOn hasChunk
   run-rest gs h [] = refl
   run-rest gs h (w ∷ ws) =
@@ -83,48 +82,48 @@ module _ (b : List ℕ) (p i : ℕ) (f : i ≡ get b (page tally p)) where
       (λ d. rw d)
 
 -- ---- count_blocks: what is counted so far, with what the rest will add, is the whole list's
-pub record CountInv (b ws gs cs cs′ : List ℕ) (j : ℕ) : Type 0 where
+pub record CountInv (n : ℕ) (b ws gs cs cs′ : List ℕ) (j : ℕ) : Type 0 where
   pub within : j ≤ length ws
   pub room : length cs′ ≡ length cs
-  pub rest : every (hasChunk b gs) (drop j ws) ≡ every (hasChunk b gs) ws
-  pub counts : (k : ℕ) → getD cs′ k 0 + count k (map (chunkAt b) (drop j ws)) ≡ count k (map (chunkAt b) ws)
+  pub rest : every (hasChunk n b gs) (drop j ws) ≡ every (hasChunk n b gs) ws
+  pub counts : (k : ℕ) → getD cs′ k 0 + count k (map (chunkAt n b) (drop j ws)) ≡ count k (map (chunkAt n b) ws)
 
-count-le : (b : List ℕ) (k : ℕ) (ws : List ℕ) → count k (map (chunkAt b) ws) ≤ length ws
-count-le b k [] = omega arith
-count-le b k (w ∷ ws) =
-    let z = count-le b k ws in
-    by-cases (eqb k (chunkAt b w)) (λ d. rw d (omega arith)) (λ d. rw d (omega arith))
+count-le : (n : ℕ) (b : List ℕ) (k : ℕ) (ws : List ℕ) → count k (map (chunkAt n b) ws) ≤ length ws
+count-le n b k [] = omega arith
+count-le n b k (w ∷ ws) =
+    let z = count-le n b k ws in
+    by-cases (eqb k (chunkAt n b w)) (λ d. rw d (omega arith)) (λ d. rw d (omega arith))
 
-word-at : (b ws : List ℕ) (j : ℕ) → every (wordThere b) ws ≡ true → j < length ws → (pageAt (getD ws j 0) < maxPages) × (word (page tally (pageAt (getD ws j 0))) < length b)
-unfolding wordThere
-word-at b ws j a l =
-    let p = pageAt (getD ws j 0) in
-    let e : tallyThere b p ≡ true = every-get (wordThere b) ws j a l in
-    (ltb-true p maxPages (and-left _ _ e), ltb-true (word (page tally p)) (length b) (and-right (ltb p maxPages) _ e))
+-- ---- named_by
+module _ (n : ℕ) (b : List ℕ) (p : ℕ) where
+  pub page-tally : words n ≤ length b → p < n → Has b (page tally p)
+  page-tally l h = omega arith
 
-pub word-fits : (b ws : List ℕ) (j : ℕ) → every (wordThere b) ws ≡ true → j < length ws → pageAt (getD ws j 0) < 2 ^ 32
-word-fits b ws j a l = omega (arith, word-at b ws j a l .0)
+  pub page-names : (r : ℕ) → p < n → r ≡ get b (page tally p) → r ≡ namedBy n b p
+  unfolding namedBy
+  page-names r h e = rw (lt-ltb p n h) e
 
-pub word-tally : (b ws : List ℕ) (j p : ℕ) → every (wordThere b) ws ≡ true → j < length ws → p ≡ pageAt (getD ws j 0) → Has b (page tally p)
-word-tally b ws j p a l e = omega (arith, word-at b ws j a l .1, e)
+  pub names-none : n ≤ p → 4294967295 ≡ namedBy n b p
+  unfolding namedBy
+  names-none h = rw (le-ltb p n h)
 
-module _ (b ws gs cs : List ℕ) where
-  pub count-starts : ((k : ℕ) → getD cs k 0 ≡ 0) → CountInv b ws gs cs cs 0
+module _ (n : ℕ) (b ws gs cs : List ℕ) where
+  pub count-starts : ((k : ℕ) → getD cs k 0 ≡ 0) → CountInv n b ws gs cs cs 0
   count-starts z = record { within = omega arith; room = refl; rest = refl; counts = λ k. rw (z k) (omega arith) }
 
-  module _ (cs′ : List ℕ) (j : ℕ) (v : CountInv b ws gs cs cs′ j) (l : j < length ws) (p i : ℕ) (e : p ≡ pageAt (getD ws j 0)) (f : i ≡ get b (page tally p)) (t : Bool) (g : t ≡ ofChunk gs i p) where
+  module _ (cs′ : List ℕ) (j : ℕ) (v : CountInv n b ws gs cs cs′ j) (l : j < length ws) (p i : ℕ) (e : p ≡ pageAt (getD ws j 0)) (f : i ≡ namedBy n b p) (t : Bool) (g : t ≡ ofChunk gs i p) where
     pub index-in : t ≡ true → length gs ≤ length cs → i < length cs′
     unfolding ofChunk
     index-in z r = omega (arith, v .room, ltb-true i (length gs) (and-left _ _ (sym g ∙ z)))
 
-    index-is : chunkAt b (getD ws j 0) ≡ i
-    index-is = sym (f ∙ ap (λ q. get b (page tally q)) e)
+    index-is : chunkAt n b (getD ws j 0) ≡ i
+    index-is = sym (f ∙ ap (namedBy n b) e)
 
-    test-is : hasChunk b gs (getD ws j 0) ≡ t
+    test-is : hasChunk n b gs (getD ws j 0) ≡ t
     unfolding hasChunk
     test-is = rw index-is (sym (g ∙ ap (ofChunk gs i) e))
 
-    pub count-stops : t ≡ false → Counted false cs′ b ws gs
+    pub count-stops : t ≡ false → Counted false cs′ n b ws gs
     count-stops z = record { answer = rw (drop-cons ws j 0 l, test-is, z) at (v .rest); counts = λ x. absurd (true≢false (sym x)) }
 
     -- the word at j and the run after it
@@ -138,10 +137,10 @@ module _ (b ws gs cs : List ℕ) where
       after : drop (runOn p (drop (suc j) ws)) (drop (suc j) ws) ≡ drop next ws
       after = drop-drop (runOn p (drop (suc j) ws)) (suc j) ws ∙ rw (sym next-is)
 
-      more : (k : ℕ) → getD cs′ k 0 + (cond (eqb k i) (next - j) 0 + count k (map (chunkAt b) (drop next ws))) ≡ count k (map (chunkAt b) ws)
+      more : (k : ℕ) → getD cs′ k 0 + (cond (eqb k i) (next - j) 0 + count k (map (chunkAt n b) (drop next ws))) ≡ count k (map (chunkAt n b) ws)
       more k =
           let x = rw (drop-cons ws j 0 l, index-is) at (v .counts k) in
-          let y = rw after at (run-counts b p i f k (drop (suc j) ws)) in
+          let y = rw after at (run-counts n b p i f k (drop (suc j) ws)) in
           let m : runOn p (drop (suc j) ws) + 1 ≡ next - j = omega (arith, next-is) in
           by-cases (eqb k i)
           (λ d. let x′ = rw d at x in let y′ = rw d at y in rw d (omega (arith, x′, y′, m)))
@@ -150,9 +149,9 @@ module _ (b ws gs cs : List ℕ) where
       pub count-fits : getD cs′ i 0 + (next - j) ≤ length ws
       count-fits =
           let z = rw (eq-eqb i i refl) at (more i) in
-          omega (arith, z, count-le b i ws)
+          omega (arith, z, count-le n b i ws)
 
-      next-count : i < length cs′ → (k : ℕ) → getD (set cs′ i (getD cs′ i 0 + (next - j))) k 0 + count k (map (chunkAt b) (drop next ws)) ≡ count k (map (chunkAt b) ws)
+      next-count : i < length cs′ → (k : ℕ) → getD (set cs′ i (getD cs′ i 0 + (next - j))) k 0 + count k (map (chunkAt n b) (drop next ws)) ≡ count k (map (chunkAt n b) ws)
       next-count r k =
           by-cases (eqb k i)
           (λ d. let z = rw d at (more k) in
@@ -161,17 +160,17 @@ module _ (b ws gs cs : List ℕ) where
           (λ d. let z = rw d at (more k) in
           rw (getD-set-other cs′ i k (getD cs′ i 0 + (next - j)) 0 (eqb-false k i d)) (omega (arith, z)))
 
-      pub count-goes-on : t ≡ true → length gs ≤ length cs → CountInv b ws gs cs (set cs′ i (getD cs′ i 0 + (next - j))) next
+      pub count-goes-on : t ≡ true → length gs ≤ length cs → CountInv n b ws gs cs (set cs′ i (getD cs′ i 0 + (next - j))) next
       count-goes-on z r =
           let o = sym g ∙ z in
           record {
             within = run-within;
             room = rw length-set (v .room);
-            rest = sym (rw after at (run-rest b p i f gs o (drop (suc j) ws))) ∙ (rw (drop-cons ws j 0 l, test-is, z) at (v .rest));
+            rest = sym (rw after at (run-rest n b p i f gs o (drop (suc j) ws))) ∙ (rw (drop-cons ws j 0 l, test-is, z) at (v .rest));
             counts = next-count (index-in z r);
           }
 
-  pub count-ends : (cs′ : List ℕ) (j : ℕ) → CountInv b ws gs cs cs′ j → length ws ≤ j → Counted true cs′ b ws gs
+  pub count-ends : (cs′ : List ℕ) (j : ℕ) → CountInv n b ws gs cs cs′ j → length ws ≤ j → Counted true cs′ n b ws gs
   count-ends cs′ j v l =
       let d = drop-past ws j l in
       record { answer = rw d at (v .rest); counts = λ x k. let z = rw d at (v .counts k) in omega (arith, z) }
@@ -224,13 +223,13 @@ module _ (b gs cs : List ℕ) where
   fit-ends i v h = let z : i ≡ 0 = omega arith in rw z at (v .rest)
 
 -- ---- tallies_agree
-module _ (b ws gs cs′ : List ℕ) (t : Bool) (a : Counted t cs′ b ws gs) where
-  pub blocks-counted : t ≡ true → (r : Bool) → r ≡ every (fits b gs cs′) (below (length gs)) → r ≡ tallied b ws gs
+module _ (n : ℕ) (b ws gs cs′ : List ℕ) (t : Bool) (a : Counted t cs′ n b ws gs) where
+  pub blocks-counted : t ≡ true → (r : Bool) → r ≡ every (fits b gs cs′) (below (length gs)) → r ≡ tallied n b ws gs
   unfolding tallied fits
   blocks-counted z r e =
       rw (← (a .answer), z)
-      (e ∙ every-same (λ k. agrees b gs k (getD cs′ k 0)) (λ k. agrees b gs k (count k (map (chunkAt b) ws))) (below (length gs)) (λ k. rw (a .counts z k)))
+      (e ∙ every-same (λ k. agrees b gs k (getD cs′ k 0)) (λ k. agrees b gs k (count k (map (chunkAt n b) ws))) (below (length gs)) (λ k. rw (a .counts z k)))
 
-  pub page-missing : t ≡ false → false ≡ tallied b ws gs
+  pub page-missing : t ≡ false → false ≡ tallied n b ws gs
   unfolding tallied
   page-missing z = rw (← (a .answer), z)

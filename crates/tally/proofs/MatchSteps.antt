@@ -13,12 +13,12 @@ use Rattle.words.specs.Word.{pageOf}
 use Rattle.fields.specs.Field.{page, tally, word, words}
 use Rattle.fields.specs.Ranges.{maxPages}
 use Rattle.pages.proofs.Downs.{every-mono}
-use Rattle.pages.specs.Stack.{pageAt}
-use Rattle.tally.specs.Match.{inArena, MatchAsks, Matched}
-use Rattle.tally.specs.Tally.{isPage, unnamed, tallied}
-use Rattle.tally.specs.Asks.{tallyThere, chunkThere, wordThere, NameAsks, Named, CountAsks, FitAsks, RoomAsks}
+use Rattle.tally.specs.Match.{arenaMatch, MatchAsks, Matched}
+use Rattle.tally.specs.Tally.{unnamed, tallied}
+use Rattle.tally.specs.Match.{isPage}
+use Rattle.tally.specs.Asks.{tallyThere, chunkThere, NameAsks, Named, CountAsks, FitAsks, RoomAsks}
 use Rattle.tally.proofs.NameLaws.{unnames}
-use Rattle.tally.proofs.MatchLaws.{page-past, tallied-is}
+use Rattle.tally.proofs.MatchLaws.{tallied-is}
 
 zero-at : (cs : List ℕ) (k : ℕ) → every (λ m. eqb m 0) cs ≡ true → getD cs k 0 ≡ 0
 zero-at [] k e = refl
@@ -33,13 +33,10 @@ chunks-there : (n : ℕ) (b gs : List ℕ) → n ≤ maxPages → words n ≤ le
 unfolding isPage chunkThere
 chunks-there n b gs f h = every-mono (isPage n) (chunkThere b) (λ g. page-there n b (pageOf g) f h) gs
 
-words-there : (n : ℕ) (b ws : List ℕ) → n ≤ maxPages → words n ≤ length b → every (inArena n) ws ≡ true → every (wordThere b) ws ≡ true
-unfolding inArena wordThere
-words-there n b ws f h = every-mono (inArena n) (wordThere b) (λ w. page-there n b (pageAt w) f h) ws
-
-module _ (n : ℕ) (b ws gs ss cs : List ℕ) (a : MatchAsks n b ws gs) (s : RoomAsks gs ss cs) (t : Bool) (e : t ≡ every (isPage n) gs) where
-  pub past-arena : t ≡ false → Matched false b b ws gs
-  past-arena z = record { answer = sym (page-past n ws gs (a .pages) (sym e ∙ z)); left = refl }
+module _ (n : ℕ) (b ws gs ss cs : List ℕ) (a : MatchAsks n b gs) (s : RoomAsks gs ss cs) (t : Bool) (e : t ≡ every (isPage n) gs) where
+  pub past-arena : t ≡ false → Matched false b n b ws gs
+  unfolding arenaMatch
+  past-arena z = record { answer = rw (← e, z); left = refl }
 
   module _ (z : t ≡ true) where
     pub name-asks : NameAsks b gs ss
@@ -49,8 +46,8 @@ module _ (n : ℕ) (b ws gs ss cs : List ℕ) (a : MatchAsks n b ws gs) (s : Roo
       long : words n ≤ length b′
       long = rw k (a .long)
 
-      pub count-asks : CountAsks b′ ws gs cs
-      count-asks = record { there = words-there n b′ ws (a .few) long (a .pages); room = s .counts; zeros = λ i. zero-at cs i (s .zeros) }
+      pub count-asks : CountAsks n b′ gs cs
+      count-asks = record { long = long; few = a .chunks; room = s .counts; zeros = λ i. zero-at cs i (s .zeros) }
 
       pub fit-asks : FitAsks b′ gs cs
       fit-asks = record { there = chunks-there n b′ gs (a .few) long (sym e ∙ z); room = s .counts }
@@ -58,11 +55,12 @@ module _ (n : ℕ) (b ws gs ss cs : List ℕ) (a : MatchAsks n b ws gs) (s : Roo
       pub unname-asks : (ss′ : List ℕ) → length ss′ ≡ length ss → NameAsks b′ gs ss′
       unname-asks ss′ l = record { there = chunks-there n b′ gs (a .few) long (sym e ∙ z); few = a .chunks; room = rw l (s .saved) }
 
-    pub matched : (b′ ss′ : List ℕ) → Named b′ ss′ b gs → (r : Bool) → r ≡ tallied b′ ws gs → (b″ : List ℕ) → b″ ≡ unnamed b′ gs ss′ (length gs) → Matched r b″ b ws gs
+    pub matched : (b′ ss′ : List ℕ) → Named b′ ss′ b gs → (r : Bool) → r ≡ tallied n b′ ws gs → (b″ : List ℕ) → b″ ≡ unnamed b′ gs ss′ (length gs) → Matched r b″ n b ws gs
+    unfolding arenaMatch
     matched b′ ss′ m r x b″ y =
         let hb = le-leb (words n) (length b) (a .long) in
         let pages = sym e ∙ z in
         record {
-          answer = x ∙ ap (λ d. tallied d ws gs) (m .book) ∙ tallied-is n b ws gs hb (a .pages) pages;
+          answer = x ∙ ap (λ d. tallied n d ws gs) (m .book) ∙ tallied-is n b ws gs hb (a .chunks) pages ∙ rw pages;
           left = y ∙ ap (λ d. unnamed d gs ss′ (length gs)) (m .book) ∙ unnames n b gs hb pages ss′ (length gs) (omega arith) (m .saved);
         }

@@ -8,21 +8,17 @@ use lib.Dec.{eqb, ltb}
 use lib.ListN.{length, getD}
 use Rattle.facts.specs.Lists.{every, count}
 use Rattle.words.specs.Word.{pageOf}
-use Rattle.fields.specs.Field.{page, tally, word, Has}
+use Rattle.fields.specs.Field.{page, tally, word, words, Has}
 use Rattle.fields.specs.Ranges.{maxPages}
 use Rattle.model.specs.Chunks.{chunksMax}
-use Rattle.pages.specs.Stack.{pageAt}
 use Rattle.tally.specs.Tally.{pageIn, tallyIn, named, Saved, chunkAt, hasChunk}
 
--- the page is one of an arena, and its TALLY is in the book; a chunk's page, and a listed word's
+-- the page is one of an arena, and its TALLY is in the book; a chunk's page
 abbrev pub tallyThere : List ℕ → ℕ → Bool
 tallyThere b p = ltb p maxPages && ltb (word (page tally p)) (length b)
 
 unfoldable pub chunkThere : List ℕ → ℕ → Bool
 chunkThere b g = tallyThere b (pageOf g)
-
-unfoldable pub wordThere : List ℕ → ℕ → Bool
-wordThere b w = tallyThere b (pageAt w)
 
 -- ---- naming
 pub record NameAsks (b gs ss : List ℕ) : Type 0 where
@@ -35,14 +31,15 @@ pub record Named (b′ ss′ b gs : List ℕ) : Type 0 where
   pub saved : Saved b gs ss′ (length gs)
 
 -- ---- counting, from 0
-pub record CountAsks (b ws gs cs : List ℕ) : Type 0 where
-  pub there : every (wordThere b) ws ≡ true
+pub record CountAsks (n : ℕ) (b gs cs : List ℕ) : Type 0 where
+  pub long : words n ≤ length b
+  pub few : length gs ≤ chunksMax
   pub room : length gs ≤ length cs
   pub zeros : (k : ℕ) → getD cs k 0 ≡ 0
 
-pub record Counted (r : Bool) (cs′ b ws gs : List ℕ) : Type 0 where
-  pub answer : r ≡ every (hasChunk b gs) ws
-  pub counts : r ≡ true → (k : ℕ) → getD cs′ k 0 ≡ count k (map (chunkAt b) ws)
+pub record Counted (r : Bool) (cs′ : List ℕ) (n : ℕ) (b ws gs : List ℕ) : Type 0 where
+  pub answer : r ≡ every (hasChunk n b gs) ws
+  pub counts : r ≡ true → (k : ℕ) → getD cs′ k 0 ≡ count k (map (chunkAt n b) ws)
 
 -- ---- comparing: one chunk; all
 pub record OneAsks (b gs cs : List ℕ) (k : ℕ) : Type 0 where

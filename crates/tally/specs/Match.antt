@@ -3,7 +3,7 @@
 --     wordsOn       how many listed words have their granule on a page
 --     pagesMatch    no page twice; the chunks' counts not 0 and the list's; every word's page has a chunk
 use Prim.Native.Nat.{ℕ, _≤_}
-use mathlib.Core.Bool.{Bool, true, not, _&&_}
+use mathlib.Core.Bool.{Bool, not, _&&_}
 use mathlib.Core.List.{List, map}
 use mathlib.Core.Path.{_≡_}
 use lib.Dec.{eqb, ltb}
@@ -27,17 +27,23 @@ hasPage gs w = elem (pageAt w) (map pageOf gs)
 unfoldable pub pagesMatch : List ℕ → List ℕ → Bool
 pagesMatch ws gs = distinct (map pageOf gs) && (every (pageFits ws) gs && every (hasPage gs) ws)
 
--- the word's page is in the arena
+-- the page of a chunk, and of a word, is in an arena of n pages
+unfoldable pub isPage : ℕ → ℕ → Bool
+isPage n g = ltb (pageOf g) n
+
 unfoldable pub inArena : ℕ → ℕ → Bool
 inArena n w = ltb (pageAt w) n
 
-pub record MatchAsks (n : ℕ) (b ws gs : List ℕ) : Type 0 where
+-- the chunks' pages are in the arena too
+unfoldable pub arenaMatch : ℕ → List ℕ → List ℕ → Bool
+arenaMatch n ws gs = every (isPage n) gs && pagesMatch ws gs
+
+pub record MatchAsks (n : ℕ) (b gs : List ℕ) : Type 0 where
   pub few : n ≤ maxPages
   pub long : words n ≤ length b
   pub chunks : length gs ≤ chunksMax
-  pub pages : every (inArena n) ws ≡ true
 
 -- the answer, and the book as it was
-pub record Matched (r : Bool) (b′ b ws gs : List ℕ) : Type 0 where
-  pub answer : r ≡ pagesMatch ws gs
+pub record Matched (r : Bool) (b′ : List ℕ) (n : ℕ) (b ws gs : List ℕ) : Type 0 where
+  pub answer : r ≡ arenaMatch n ws gs
   pub left : b′ ≡ b

@@ -17,9 +17,6 @@ use Rattle.fields.specs.Field.{Field, page, tally, get, put}
 use Rattle.pages.specs.Stack.{pageAt}
 
 -- ---- naming
-unfoldable pub isPage : ℕ → ℕ → Bool
-isPage n g = ltb (pageOf g) n
-
 abbrev pub pageIn : List ℕ → ℕ → ℕ
 pageIn gs k = pageOf (getD gs k 0)
 
@@ -42,12 +39,15 @@ unnamed b gs ss (suc k) = unnamed (put b (tallyIn gs k) (getD ss k 0)) gs ss k
 unfoldable pub ofChunk : List ℕ → ℕ → ℕ → Bool
 ofChunk gs k p = ltb k (length gs) && eqb (pageIn gs k) p
 
--- the chunk that a word's page names
-abbrev pub chunkAt : List ℕ → ℕ → ℕ
-chunkAt b w = get b (page tally (pageAt w))
+-- the chunk that a page names, and a word's page; one past an arena of n pages names none
+unfoldable pub namedBy : ℕ → List ℕ → ℕ → ℕ
+namedBy n b p = cond (ltb p n) (get b (page tally p)) 4294967295
 
-unfoldable pub hasChunk : List ℕ → List ℕ → ℕ → Bool
-hasChunk b gs w = ofChunk gs (chunkAt b w) (pageAt w)
+abbrev pub chunkAt : ℕ → List ℕ → ℕ → ℕ
+chunkAt n b w = namedBy n b (pageAt w)
+
+unfoldable pub hasChunk : ℕ → List ℕ → List ℕ → ℕ → Bool
+hasChunk n b gs w = ofChunk gs (chunkAt n b w) (pageAt w)
 
 unfoldable pub runOn : ℕ → List ℕ → ℕ
 runOn p [] = 0
@@ -60,5 +60,5 @@ agrees b gs k m = not (eqb (countOf (getD gs k 0)) 0) && (eqb (countOf (getD gs 
 unfoldable pub fits : List ℕ → List ℕ → List ℕ → ℕ → Bool
 fits b gs cs k = agrees b gs k (getD cs k 0)
 
-unfoldable pub tallied : List ℕ → List ℕ → List ℕ → Bool
-tallied b ws gs = every (hasChunk b gs) ws && every (λ k. agrees b gs k (count k (map (chunkAt b) ws))) (below (length gs))
+unfoldable pub tallied : ℕ → List ℕ → List ℕ → List ℕ → Bool
+tallied n b ws gs = every (hasChunk n b gs) ws && every (λ k. agrees b gs k (count k (map (chunkAt n b) ws))) (below (length gs))

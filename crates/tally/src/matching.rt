@@ -22,13 +22,13 @@ fn match_with(
     saved: &mut [u32],
     counts: &mut [usize],
 ) -> bool
-    requires { ⌜ MatchAsks n (now meta) (now list) (now chunks) ⌝ }
+    requires { ⌜ MatchAsks n (now meta) (now chunks) ⌝ }
     requires { ⌜ RoomAsks (now chunks) (now saved) (now counts) ⌝ }
-    ensures { λ r. ⌜ Matched r (now (meta .exit)) (now (meta .entry)) (now (list .entry)) (now (chunks .entry)) ⌝ }
+    ensures { λ r. ⌜ Matched r (now (meta .exit)) n (now (meta .entry)) (now (list .entry)) (now (chunks .entry)) ⌝ }
 {
     if all_pages(n, chunks) {
         name_chunks(meta, chunks, saved);
-        let r = tallies_agree(meta, list, chunks, counts);
+        let r = tallies_agree(meta, n, list, chunks, counts);
         unname_chunks(meta, chunks, saved);
         r
     } else {
@@ -37,9 +37,9 @@ fn match_with(
 }
 
 fn match_few(meta: &mut [u32], n: u32, list: &[u64], chunks: &[u64]) -> bool
-    requires { ⌜ MatchAsks n (now meta) (now list) (now chunks) ⌝ }
+    requires { ⌜ MatchAsks n (now meta) (now chunks) ⌝ }
     requires { ⌜ length (now chunks) ≤ 32 ⌝ }
-    ensures { λ r. ⌜ Matched r (now (meta .exit)) (now (meta .entry)) (now (list .entry)) (now (chunks .entry)) ⌝ }
+    ensures { λ r. ⌜ Matched r (now (meta .exit)) n (now (meta .entry)) (now (list .entry)) (now (chunks .entry)) ⌝ }
 {
     let mut saved: [u32; FEW_CHUNKS] = [0; FEW_CHUNKS];
     let mut counts: [usize; FEW_CHUNKS] = [0; FEW_CHUNKS];
@@ -47,8 +47,8 @@ fn match_few(meta: &mut [u32], n: u32, list: &[u64], chunks: &[u64]) -> bool
 }
 
 fn match_many(meta: &mut [u32], n: u32, list: &[u64], chunks: &[u64]) -> bool
-    requires { ⌜ MatchAsks n (now meta) (now list) (now chunks) ⌝ }
-    ensures { λ r. ⌜ Matched r (now (meta .exit)) (now (meta .entry)) (now (list .entry)) (now (chunks .entry)) ⌝ }
+    requires { ⌜ MatchAsks n (now meta) (now chunks) ⌝ }
+    ensures { λ r. ⌜ Matched r (now (meta .exit)) n (now (meta .entry)) (now (list .entry)) (now (chunks .entry)) ⌝ }
 {
     let mut saved: [u32; MAX_CHUNKS] = [0; MAX_CHUNKS];
     let mut counts: [usize; MAX_CHUNKS] = [0; MAX_CHUNKS];
@@ -56,8 +56,8 @@ fn match_many(meta: &mut [u32], n: u32, list: &[u64], chunks: &[u64]) -> bool
 }
 
 pub fn chunks_match(meta: &mut [u32], n: u32, list: &[u64], chunks: &[u64]) -> bool
-    requires { ⌜ MatchAsks n (now meta) (now list) (now chunks) ⌝ }
-    ensures { λ r. ⌜ Matched r (now (meta .exit)) (now (meta .entry)) (now (list .entry)) (now (chunks .entry)) ⌝ }
+    requires { ⌜ MatchAsks n (now meta) (now chunks) ⌝ }
+    ensures { λ r. ⌜ Matched r (now (meta .exit)) n (now (meta .entry)) (now (list .entry)) (now (chunks .entry)) ⌝ }
 {
     if chunks.len() <= FEW_CHUNKS {
         match_few(meta, n, list, chunks)

@@ -2,7 +2,8 @@
 ghost use mathlib.Core.Path.{_≡_};
 ghost use lib.ListN.{length};
 ghost use Rattle.facts.specs.Lists.{every};
-ghost use Rattle.tally.specs.Tally.{isPage, unnamed};
+ghost use Rattle.tally.specs.Match.{isPage};
+ghost use Rattle.tally.specs.Tally.{unnamed};
 ghost use Rattle.tally.specs.Asks.{NameAsks, Named};
 use pages::chunk_page;
 use words::Word;

@@ -1,4 +1,5 @@
-use Rattle.chunks.proofs.CallPasses.{match-first, fair-next, clear-next, taken, unfair, mismatch}
+use Rattle.chunks.proofs.CallTests.{match-asks}
+use Rattle.chunks.proofs.CallPasses.{fair-next, clear-next, taken, unfair, mismatch}
 use borrow.Author.Needs.{needs}
 use Rattle.chunks.proofs.call.pass_chunks.Statement.{statement}
 use Rattle.chunks.proofs.call.pass_chunks.Tie as tie
@@ -26,4 +27,4 @@ pub pass-chunks-spec : {M : Type 1} → statement M
 pass-chunks-spec =
     tie.close
     (tie.spec
-    (λ c κs. search match-first) (λ c κs. search fair-next) take-blocks-requires (λ c. search needs) returns (λ c. search needs) (λ c. search unfair) (λ c. search needs) (λ c. search mismatch))
+    (λ c κs. search match-asks) (λ c κs. search fair-next) take-blocks-requires (λ c. search needs) returns (λ c. search needs) (λ c. search unfair) (λ c. search needs) (λ c. search mismatch))

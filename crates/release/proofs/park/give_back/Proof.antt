@@ -7,5 +7,5 @@ pub give-back-spec : {M : Type 1} → statement M
 give-back-spec =
     tie.close
     (tie.spec
-    (λ c κs. search push-asks) (λ c κs. search needs) (λ c κs. search needs) (λ c κs. search park-asks) (λ c. search needs) (λ c. search none-out)
+    (λ c κs. (search push-asks, search needs)) (λ c κs. search needs) (λ c κs. search needs) (λ c κs. search park-asks) (λ c. search needs) (λ c. search none-out)
     (λ c κs. search link-asks) (λ c. search needs) (λ c. search some-out))

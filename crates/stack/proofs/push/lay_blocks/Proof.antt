@@ -1,4 +1,4 @@
-use Rattle.stack.proofs.PushSteps.{first-asks, end-asks, odd-asks, lay-none, lay-one, lay-even, lay-odd}
+use Rattle.stack.proofs.PushSteps.{first-asks, end-asks, odd-asks, top-block, under-block, lay-none, lay-one, lay-even, lay-odd}
 use borrow.Author.Needs.{needs}
 use Rattle.stack.proofs.push.lay_blocks.Statement.{statement}
 use Rattle.stack.proofs.push.lay_blocks.Tie as tie
@@ -9,13 +9,13 @@ lay-rest c κs =
     let odd = laid .before .before .before .before in
     let named = odd .before .before in
     let some = named .before in
-    odd-asks _ _ _ _ _ (some .before .before .before .pre) (some .if1 .left) _ _ _ (named .inverse-of .ensures) (odd .if3 .left) (laid .set-entry2 .ensures)
+    (odd-asks _ _ _ _ _ (some .before .before .before .pre .0) (some .if1 .left) _ _ _ (named .inverse-of .ensures) (odd .if3 .left) (laid .set-entry2 .ensures), some .before .before .before .pre .1)
 
 pub lay-blocks-spec : {M : Type 1} → statement M
 lay-blocks-spec =
     tie.close
     (tie.spec
-    (λ c. search lay-none) (λ c κs. search needs) (λ c. search needs) (λ c κs. search (needs, first-asks)) (λ c κs. search needs) (λ c. search needs)
-    (λ c. search lay-one) (λ c κs. search needs) (λ c. search needs) (λ c. search lay-even) (λ c. search needs) (λ c. search needs)
-    (λ c. search needs) (λ c κs. search (needs, end-asks)) (λ c κs. search needs) (λ c. search needs) (λ c. search needs) lay-rest
+    (λ c. search lay-none) (λ c κs. search needs) (λ c. search needs) (λ c κs. (search first-asks, (search needs, search top-block))) (λ c κs. search needs) (λ c. search needs)
+    (λ c. search lay-one) (λ c κs. (search needs, search needs)) (λ c. search needs) (λ c. search lay-even) (λ c. search needs) (λ c. search needs)
+    (λ c. search needs) (λ c κs. (search end-asks, (search needs, search under-block))) (λ c κs. search needs) (λ c. search needs) (λ c. search needs) lay-rest
     (λ c. search needs) (λ c. search lay-odd))

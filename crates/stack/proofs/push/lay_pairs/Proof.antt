@@ -1,5 +1,5 @@
 use borrow.Author.Needs.{needs}
-use Rattle.stack.proofs.PushSteps.{Pairing, high-asks, low-asks, last-asks, pairing-none, pairing-more, pairing-done, pairing-last}
+use Rattle.stack.proofs.PushSteps.{Pairing, high-asks, low-asks, last-asks, first-block, next-block, last-block, pairing-none, pairing-more, pairing-done, pairing-last}
 use Rattle.stack.proofs.push.lay_pairs.Statement.{statement}
 use Rattle.stack.proofs.push.lay_pairs.Tie as tie
 
@@ -13,7 +13,7 @@ pub lay-pairs-spec : {M : Type 1} → statement M
 lay-pairs-spec =
     tie.close
     (tie.spec
-    Inv-loop μ-loop (λ c. search pairing-none) (λ c. search needs) (λ c. search needs) (λ c. search needs) (λ c. search needs) (λ c κs. search high-asks)
-    (λ c. search needs) (λ c. search needs) (λ c κs. search low-asks) (λ c κs. search needs) (λ c. search needs) (λ c. search needs)
-    (λ c. search pairing-more) (λ c. search needs) (λ c. search pairing-done) (λ c. search needs) (λ c. search needs) (λ c κs. search last-asks)
+    Inv-loop μ-loop (λ c. search pairing-none) (λ c. search needs) (λ c. search needs) (λ c. search needs) (λ c. search needs) (λ c κs. (search high-asks, (search needs, search first-block)))
+    (λ c. search needs) (λ c. search needs) (λ c κs. (search low-asks, (search needs, search next-block))) (λ c κs. search needs) (λ c. search needs) (λ c. search needs)
+    (λ c. search pairing-more) (λ c. search needs) (λ c. search pairing-done) (λ c. search needs) (λ c. search needs) (λ c κs. (search last-asks, (search needs, search last-block)))
     (λ c κs. search needs) (λ c. search needs) (λ c. search pairing-last))
