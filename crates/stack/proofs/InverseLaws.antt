@@ -4,7 +4,7 @@
 use Prim.Native.Nat.{ℕ, suc, _+_, _-_, _*_, _/_, _%_, _^_, _≤_, _<_}
 use native.Mathlib.Omega.{arith}
 use native.Mathlib.Nat.{div-add-mod', div-le-self, mod-lt, mul-le-mul, mul-le-mul-right, lt-of-mul-lt-mul-right}
-use mathlib.Core.Path.{_≡_, refl, sym, ap, _∙_}
+use mathlib.Core.Path.{_≡_, sym, ap, _∙_}
 use mir.Val.{Fits}
 use mir.Syntax.{w32, w64}
 use lib.Pow.{high, low}
@@ -70,15 +70,16 @@ module _ (x d : ℕ) (small : x < 2 ^ 16) (some : 1 ≤ d) (few : d ≤ 2 ^ 15) 
   past-point = rest-some d (inverse d) (excess d) (too-much d some) (omega arith) few x (x / d) (x % d) (div-add-mod' x d) (mod-lt x positive) small
 
 -- ---- what the code asks
-pub part-fits : (d : ℕ) → Fits w64 ((2 ^ 32 - 1) / d)
-part-fits d = record { fits = omega (arith, div-le-self (2 ^ 32 - 1) d) }
+module _ (d p : ℕ) (e : p ≡ (2 ^ 32 - 1) / d) where
+  pub part-fits : Fits w64 p
+  part-fits = record { fits = omega (arith, div-le-self (2 ^ 32 - 1) d) }
 
-pub inverse-fits : (d : ℕ) → Fits w64 ((2 ^ 32 - 1) / d + 1)
-inverse-fits d = record { fits = omega (arith, div-le-self (2 ^ 32 - 1) d) }
+  pub inverse-fits : Fits w64 (p + 1)
+  inverse-fits = record { fits = omega (arith, div-le-self (2 ^ 32 - 1) d) }
 
-pub inverse-is : (d : ℕ) → (2 ^ 32 - 1) / d + 1 ≡ inverse d
-unfolding inverse
-inverse-is d = refl
+  pub inverse-is : p + 1 ≡ inverse d
+  unfolding inverse
+  inverse-is = ap (λ x. x + 1) e
 
 inverse-le : (d : ℕ) → inverse d ≤ 2 ^ 32
 unfolding inverse
