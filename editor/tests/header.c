@@ -66,6 +66,7 @@ static void texts(void) {
 }
 
 static void opening(void) {
+    IS(VIGBUSO_BOOK_WORDS(VIGBUSO_MAX_PAGES), (uint64_t)4311784512);
     IS(vigbuso_open(book, words, 0, NULL, 0), VIGBUSO_ARENA_LENGTH);
     IS(vigbuso_open(book, words, VIGBUSO_MAX_PAGES + 1, NULL, 0), VIGBUSO_ARENA_LENGTH);
     IS(vigbuso_open(book, words, VIGBUSO_MAX_PAGES, NULL, 0), VIGBUSO_BOOK_TOO_SHORT);
@@ -112,6 +113,7 @@ static void small_blocks(void) {
     /* A granule beyond the arena: no bit of it is cut. */
     list[0] = list[4] + ((uint64_t)1 << 32);
     IS(VIGBUSO_PAGE(list[0]), (uint64_t)1 << 20);
+    IS(VIGBUSO_BYTE_OFFSET(list[0]) - VIGBUSO_BYTE_OFFSET(list[4]), (uint64_t)1 << 36);
     IS(vigbuso_release_blocks(book, words, 0, HOST, list, 1, &fate), VIGBUSO_NOT_OUT);
     list[0] = list[4];
     IS(vigbuso_release_blocks(book, words, 0, HOST, list, 5, &fate), VIGBUSO_REPEATED);
