@@ -35,7 +35,7 @@ pub const fn book_words(pages: u64) -> usize {
 /// A heap of blocks in an arena of pages, with the book in which all that it knows stands.
 ///
 /// A heap is a value: equal heaps answer equal calls equally, and a clone goes its own way. The book has
-/// [`book_words`] words of 4 bytes, of which only those of pages that were handed out are ever touched. It is the heap's own,
+/// [`book_words`] words of 4 bytes, of which only those of pages that calls reached are ever touched. It is the heap's own,
 /// or [lent by the caller](Heap::on).
 ///
 /// Every call passes a host word, the system's answers. The heap keeps one, [`Host::GRANTED`] unless
