@@ -1,10 +1,10 @@
 use borrow.Author.Needs.{needs}
-use Rattle.take.proofs.TakeSteps.{new-refused, new-none, new-runs, new-took}
-use Rattle.take.proofs.call.take_new.Statement.{statement}
-use Rattle.take.proofs.call.take_new.Tie as tie
+use Rattle.take.proofs.TakeSteps.{new-refused, new-none, new-runs, new-ready}
+use Rattle.take.proofs.call.ready_new.Statement.{statement}
+use Rattle.take.proofs.call.ready_new.Tie as tie
 
-pub take-new-spec : {M : Type 1} → statement M
-take-new-spec =
+pub ready-new-spec : {M : Type 1} → statement M
+ready-new-spec =
     tie.close
     (tie.spec
     (λ c. search needs)
@@ -18,5 +18,4 @@ take-new-spec =
     (λ c. search needs)
     (λ c. search new-none)
     (λ c. search needs)
-    (λ c. search needs)
-    (λ c. search new-took))
+    (λ c. search new-ready))
