@@ -140,9 +140,9 @@ impl Scenario {
                 ])
             }
             Scenario::Single { class } => plain(&[format!("release of 1, {}", name(class))]),
-            Scenario::Whole { class } => {
-                plain(&[format!("release of a whole page, {} blocks, {}", capacity(class), name(class))])
-            }
+            Scenario::Whole { class } => plain(&["", " with their linking"].map(|linking| {
+                format!("release of a whole page, {} blocks{linking}, {}", capacity(class), name(class))
+            })),
             Scenario::Listed { class, blocks, order } => plain(&releases(blocks as usize, order.name(), &name(class))),
             Scenario::Arena { class, pages } => {
                 let (blocks, name) = (oracle::batch(class.0, class.1), name(class));
@@ -395,11 +395,14 @@ fn fill<S: Side>(side: &mut S, meter: &Meter, class: Class, pages: u32) -> Vec<V
 const PARKED: u32 = 4;
 
 fn whole<S: Side>(side: &mut S, meter: &Meter, class: Class) -> Round {
-    let lists = fill(side, meter, class, PARKED);
-    let cost = measure_release(side, meter, class, &lists, false);
-    let mut answers = lists.concat();
+    let mut answers = Vec::new();
+    let costs = [false, true].map(|linking| {
+        let lists = fill(side, meter, class, PARKED);
+        answers.extend(lists.concat());
+        measure_release(side, meter, class, &lists, linking)
+    });
     answers.extend(measure_takes(side, meter, class, 2).0.concat());
-    Round::new(vec![cost], answers)
+    Round::new(costs.to_vec(), answers)
 }
 
 /// The page keeps the rest of its blocks out, so that it stays where it is.

@@ -17,7 +17,7 @@ use Rattle.classes.specs.declared.Shape.{Shape}
 use Rattle.fields.specs.Field.{Field, arena, class, page, slot, out, region, off, frontier, partial, empty, emptyCount, cold, coldCount, next, prev, free, carved, listed, get, put, words, hole, ok, emptyLimit, coldLimit}
 use Rattle.fields.proofs.Changes.{Changes, changes-none, changes-put}
 use Rattle.arena.specs.Fair.{giveFair}
-use Rattle.pages.specs.Stack.{indexOf, pageAt}
+use Rattle.pages.specs.Stack.{indexOf, isBlock, pageAt}
 use Rattle.calls.specs.Out.{inRunOf, outAt}
 use Rattle.arena.proofs.Frames.{give-kept}
 use Rattle.calls.specs.Release.{pageFair, rowFair}
@@ -25,11 +25,11 @@ use Rattle.calls.specs.Chunks.{chunkFits, chunksMatch, returnsAll, runsGiven, p
 use Rattle.pages.specs.Fair.{linksFair, limitsAt}
 use Rattle.release.proofs.Bits.{isBit, in-run-kept}
 use Rattle.release.proofs.FairSteps.{links-fair}
-use Rattle.release.proofs.OutLaws.{run-of-out, index-of-out, page-of-out}
+use Rattle.release.proofs.OutLaws.{run-of-out, block-of-out, index-of-out, page-of-out}
 use Rattle.tally.specs.Match.{wordsOn, Matched}
 use Rattle.tally.proofs.MatchLaws.{arena-is}
 use Rattle.chunks.specs.Pass.{cleared, pushOne, pushAll, givesIn}
-use Rattle.chunks.specs.PushAsks.{PushAllAsks}
+use Rattle.chunks.specs.PushAsks.{ownBlock, PushAllAsks}
 use Rattle.chunks.specs.FairAsks.{ChunksFairAsks}
 use Rattle.chunks.specs.PlaceAsks.{placeFair, PlaceAsks, Placed}
 use Rattle.chunks.specs.GiveAsks.{givesFair, GiveChunksAsks}
@@ -192,8 +192,8 @@ module _ (n : ℕ) (b : List ℕ) (c : ℕ) (sh : Shape) (ws gs : List ℕ) (a :
         fair = rw (runs-are, given-kept (pagesGiven b c sh gs)) fair-gives;
       }
 
-      pub settle-asks : SettleAsks n b c sh h ws gs fs
-      settle-asks = record { pushing = pushing; placing = placing; giving = giving }
+      pub settle-asks : every (ownBlock sh) ws ≡ true → SettleAsks n b c sh h ws gs fs
+      settle-asks o = record { pushing = pushing; blocks = o; placing = placing; giving = giving }
 
 -- ---- the blocks taken
 module _ (b : List ℕ) (sh : Shape) where
@@ -223,6 +223,16 @@ module _ (n : ℕ) (b : List ℕ) (c : ℕ) (sh : Shape) (ws gs : List ℕ) (a :
       let i : indexOf sh (pageAt v) v < 4096 = rw (page-start n c sh s (a .call .single) b v u) at (index-of-out n c sh s b v u) in
       rw (lt-ltb (pageAt v) n (page-of-out n c sh s b v u), lt-ltb (indexOf sh (pageAt v) v) 4096 i) (has-bits vs (and-right (t v) (every t vs) o))
 
+  own-blocks : (vs : List ℕ) → every (outAt n b c sh) vs ≡ true → every (ownBlock sh) vs ≡ true
+  unfolding ownBlock
+  own-blocks [] o = refl
+  own-blocks (v ∷ vs) o =
+      let t = outAt n b c sh in
+      let s = a .call .class .sound in
+      let u = and-left (t v) (every t vs) o in
+      let i : isBlock sh (pageAt v) v ≡ true = rw (page-start n c sh s (a .call .single) b v u) at (block-of-out n c sh s b v u) in
+      rw i (own-blocks vs (and-right (t v) (every t vs) o))
+
   bits : every (hasBit n sh) ws ≡ true
   bits = has-bits ws (a .out)
 
@@ -245,7 +255,7 @@ module _ (n : ℕ) (b : List ℕ) (c : ℕ) (sh : Shape) (ws gs : List ℕ) (a :
   pub settle-next : chunksMatch b ws gs ≡ true → chunksFair n b c sh gs ≡ true → (fs : List ℕ) → length gs ≤ length fs → (h : ℕ) → SettleAsks n (cleared b sh ws) c sh h ws gs fs
   settle-next m f fs l h =
       settle-asks n (cleared b sh ws) c sh ws gs taken-asks (match-kept b (cleared b sh ws) changes ws gs ∙ m)
-      (chunks-fair-kept b (cleared b sh ws) changes c (lt-ltb c 76 (a .call .class .known)) n sh gs ∙ f) fs l h
+      (chunks-fair-kept b (cleared b sh ws) changes c (lt-ltb c 76 (a .call .class .known)) n sh gs ∙ f) fs l h (own-blocks ws (a .out))
 
   module _ (t : Bool) (b′ : List ℕ) (k : Matched t b′ n b ws gs) where
     told : chunksMatch b ws gs ≡ t

@@ -21,12 +21,11 @@ use Rattle.classes.specs.Sound.{Sound}
 use Rattle.fields.specs.Field.{mark, out, get, put, words}
 use Rattle.fields.proofs.Changes.{Changes, changes-none, changes-trans}
 use Rattle.fields.proofs.Laws.{length-put}
-use Rattle.fields.specs.Clear.{clearMarks}
 use Rattle.model.specs.Release.{ofKind}
 use Rattle.pages.specs.Runs.{whole}
 use Rattle.pages.specs.Stack.{indexOf, isBlock, pageAt}
 use Rattle.calls.specs.Out.{startOf, outAt, outs, clean, unmarked}
-use Rattle.release.specs.Marks.{markAt, setMark, freshAt, markedIn, markCount, freshIn, freshCount, freshBook, noMarks, takeMarks}
+use Rattle.release.specs.Marks.{markAt, setMark, freshAt, markedIn, markCount, freshIn, freshCount, freshBook, noMarks, clearWords, takeMarks}
 use Rattle.release.proofs.Bits.{below-capacity, whole-kept}
 use Rattle.release.proofs.RunLaws.{not-before, not-behind, run-out, run-start}
 use Rattle.release.proofs.OutLaws.{block-of-out}
@@ -97,9 +96,13 @@ module _ (sh : Shape) (s : Sound sh) (one : sh .pages ≡ 1) where
       none-marked = rw not-fresh
 
   module _ (m : ℕ) (few : m ≤ 128) (all : sh .capacity ≤ 32 * m) where
+    -- words 0 to m - 1
+    from-none : m + 0 ≤ 128
+    from-none = omega arith
+
     -- ---- nothing but marks is changed
     own-put : (b : List ℕ) (w : ℕ) → freshIn b sh (pageAt w) w ≡ true → Changes isMarkWord b (markedIn b sh (pageAt w) w)
-    own-put b w o = fresh-put sh s (pageAt w) m few all b w o
+    own-put b w o = fresh-put sh s (pageAt w) b w o
 
     pub own-changes : (b ws : List ℕ) → Changes isMarkWord b (ownBook b sh ws)
     unfolding ownBook
@@ -135,42 +138,42 @@ module _ (sh : Shape) (s : Sound sh) (one : sh .pages ≡ 1) where
               let g = own-put b w o in
               let k : ownCount (markedIn b sh (pageAt w) w) sh ws ≡ length ws = omega (arith, rw o at l) in
               let r = z o (every-same (onRun b′) (onRun b) ws (λ v. whole-kept b b′ (mark-bits b b′ g) n sh c (pageAt v)) ∙ and-right (onRun b w) _ h) k in
-              let i = fresh-is-out sh s q m few all n c b w o in
+              let i = fresh-is-out sh s q n c b w o in
               let x = run-out n c sh s q b (and-left (onRun b w) _ h) w i in
               let y = run-start n c sh s q b (and-left (onRun b w) _ h) w i in
               record {
-                counted = rw (x, y, fresh-is-free sh s q m few all n c b w o) (ap suc (r .counted));
-                kinds = rw (fresh-kind sh s q m few all b w o) (r .kinds);
+                counted = rw (x, y, fresh-is-free sh s q n c b w o) (ap suc (r .counted));
+                kinds = rw (fresh-kind sh s q b w o) (r .kinds);
                 out = rw x (sym (every-same _ _ ws (out-kept n c sh s b b′ g)) ∙ r .out);
               }
 
-      clean-own : (b : List ℕ) (w : ℕ) → noMarks b (pageAt w) m ≡ true → outAt n b c sh w ≡ true → clean b sh w ≡ true
+      clean-own : (b : List ℕ) (w : ℕ) → noMarks b (pageAt w) 0 m ≡ true → outAt n b c sh w ≡ true → clean b sh w ≡ true
       clean-own b w e o =
           let x = page-start n c sh s one b w o in
           let z = below-capacity sh (startOf b w) w (block-of-out n c sh s b w o) in
           let l : indexOf sh (startOf b w) w / 32 < m = omega arith in
-          eq-eqb _ 0 (ap (λ p. get b (mark p (indexOf sh (startOf b w) w / 32))) x ∙ clean-at b (pageAt w) m (indexOf sh (startOf b w) w / 32) e l)
+          eq-eqb _ 0 (ap (λ p. get b (mark p (indexOf sh (startOf b w) w / 32))) x ∙ clean-at b (pageAt w) 0 m (indexOf sh (startOf b w) w / 32) e (omega arith) (omega arith))
 
-      pub own-clean : (b ws : List ℕ) → every (λ w. noMarks b (pageAt w) m) ws ≡ true → unmarked n b c sh ws ≡ true
+      pub own-clean : (b ws : List ℕ) → every (λ w. noMarks b (pageAt w) 0 m) ws ≡ true → unmarked n b c sh ws ≡ true
       unfolding unmarked
       own-clean b [] e = refl
-      own-clean b (w ∷ ws) e = by (outAt n b c sh w) refl (own-clean b ws (and-right (noMarks b (pageAt w) m) _ e))
+      own-clean b (w ∷ ws) e = by (outAt n b c sh w) refl (own-clean b ws (and-right (noMarks b (pageAt w) 0 m) _ e))
         where
           by : (t : Bool) → outAt n b c sh w ≡ t → every (clean b sh) (outs n b c sh ws) ≡ true → every (clean b sh) (outs n b c sh (w ∷ ws)) ≡ true
-          by true o z = rw (o, clean-own b w (and-left (noMarks b (pageAt w) m) _ e) o, z)
+          by true o z = rw (o, clean-own b w (and-left (noMarks b (pageAt w) 0 m) _ e) o, z)
           by false o z = rw o z
 
       -- ---- the pages that are ready: those of the words
-      ready-at : (b : List ℕ) (q : ℕ) (gs : List ℕ) → every (pageReady n b c sh m) gs ≡ true → elem q (map pageOf gs) ≡ true → (whole n b sh c q && noMarks b q m) ≡ true
+      ready-at : (b : List ℕ) (q : ℕ) (gs : List ℕ) → every (pageReady n b c sh m) gs ≡ true → elem q (map pageOf gs) ≡ true → (whole n b sh c q && noMarks b q 0 m) ≡ true
       unfolding pageReady
       ready-at b q [] e h = absurd (false≢true h)
       ready-at b q (g ∷ gs) e h =
-          let t : ℕ → Bool = λ g. whole n b sh c (pageOf g) && noMarks b (pageOf g) m in
+          let t : ℕ → Bool = λ g. whole n b sh c (pageOf g) && noMarks b (pageOf g) 0 m in
           by-cases (eqb q (pageOf g))
           (λ d. rw (eqb-true q (pageOf g) d) (and-left (t g) (every t gs) e))
           (λ d. ready-at b q gs (and-right (t g) (every t gs) e) (rw d at h))
 
-      pub ready-words : (b gs ws : List ℕ) → every (pageReady n b c sh m) gs ≡ true → every (hasPage gs) ws ≡ true → (every (onRun b) ws ≡ true) × (every (λ w. noMarks b (pageAt w) m) ws ≡ true)
+      pub ready-words : (b gs ws : List ℕ) → every (pageReady n b c sh m) gs ≡ true → every (hasPage gs) ws ≡ true → (every (onRun b) ws ≡ true) × (every (λ w. noMarks b (pageAt w) 0 m) ws ≡ true)
       ready-words b gs [] e h = (refl, refl)
       ready-words b gs (w ∷ ws) e h =
           let z = ready-at b (pageAt w) gs e (and-left (hasPage gs w) _ h) in
@@ -184,8 +187,8 @@ module _ (sh : Shape) (s : Sound sh) (one : sh .pages ≡ 1) where
     takes-away : (q i : ℕ) → i < 4096 → (gs : List ℕ) → elem q (map pageOf gs) ≡ false → (b : List ℕ) → takePages (put b (out q i) 0) m gs ≡ put (takePages b m gs) (out q i) 0
     takes-away q i h [] e b = refl
     takes-away q i h (g ∷ gs) e b =
-        ap (λ d. takePages d m gs) (out-past (pageOf g) q (apart q g (nor-left (eqb q (pageOf g)) _ e)) m few b i h)
-        ∙ takes-away q i h gs (nor-right (eqb q (pageOf g)) _ e) (takeMarks b (pageOf g) m)
+        ap (λ d. takePages d m gs) (out-past (pageOf g) q (apart q g (nor-left (eqb q (pageOf g)) _ e)) 0 m from-none b i h)
+        ∙ takes-away q i h gs (nor-right (eqb q (pageOf g)) _ e) (takeMarks b (pageOf g) 0 m)
 
     takes-one : (q i : ℕ) → i < 4096 → i / 32 < m → (gs : List ℕ) → elem q (map pageOf gs) ≡ true → distinct (map pageOf gs) ≡ true
         → (b : List ℕ) → words (q + 1) ≤ length b → get b (out q i) ≡ 1 → markAt b q i ≡ 0 → takePages (setMark b q i) m gs ≡ put (takePages b m gs) (out q i) 0
@@ -196,20 +199,20 @@ module _ (sh : Shape) (s : Sound sh) (one : sh .pages ≡ 1) where
         (λ d.
         let z = eqb-true q (pageOf g) d in
         let v : elem q (map pageOf gs) ≡ false = rw z (not-true (elem (pageOf g) (map pageOf gs)) (and-left (not (elem (pageOf g) (map pageOf gs))) _ u)) in
-        rw (← z) (ap (λ d. takePages d m gs) (takes-marked q m b i h few k (omega arith) x y) ∙ takes-away q i h gs v (takeMarks b q m)))
+        rw (← z) (ap (λ d. takePages d m gs) (takes-marked q 0 m b i h from-none (omega arith) (omega arith) (omega arith) x y) ∙ takes-away q i h gs v (takeMarks b q 0 m)))
         (λ d.
         let v = apart q g d in
-        ap (λ d. takePages d m gs) (mark-past p q v m few b i h)
-        ∙ takes-one q i h k gs (rw d at e) (and-right (not (elem (pageOf g) (map pageOf gs))) _ u) (takeMarks b p m) (rw (lengths p m b) l) (out-still p q v m few b i h ∙ x) (mark-still p q v m few b i h ∙ y))
+        ap (λ d. takePages d m gs) (mark-past p q v 0 m from-none b i h)
+        ∙ takes-one q i h k gs (rw d at e) (and-right (not (elem (pageOf g) (map pageOf gs))) _ u) (takeMarks b p 0 m) (rw (lengths p 0 m b) l) (out-still p q v 0 m from-none b i h ∙ x) (mark-still p q v 0 m from-none b i h ∙ y))
 
     clears-one : (q j v : ℕ) → j < m → (gs : List ℕ) → elem q (map pageOf gs) ≡ true → (b : List ℕ) → clearPages (put b (mark q j) v) m gs ≡ clearPages b m gs
     clears-one q j v h [] e b = absurd (false≢true e)
     clears-one q j v h (g ∷ gs) e b =
         by-cases (eqb q (pageOf g))
-        (λ d. let z = eqb-true q (pageOf g) d in rw (← z) (ap (λ d. clearPages d m gs) (clear-past b q m j v h few)))
+        (λ d. let z = eqb-true q (pageOf g) d in rw (← z) (ap (λ d. clearPages d m gs) (clear-past b q 0 m j v (omega arith) (omega arith) from-none)))
         (λ d.
-        ap (λ d. clearPages d m gs) (clear-away b (pageOf g) m q j v (apart q g d) few (omega arith))
-        ∙ clears-one q j v h gs (rw d at e) (clearMarks b (pageOf g) m))
+        ap (λ d. clearPages d m gs) (clear-away b (pageOf g) 0 m q j v (apart q g d) from-none (omega arith))
+        ∙ clears-one q j v h gs (rw d at e) (clearWords b (pageOf g) 0 m))
 
     -- ---- pages without a mark
     module _ (n c : ℕ) where
@@ -217,15 +220,15 @@ module _ (sh : Shape) (s : Sound sh) (one : sh .pages ≡ 1) where
       unfolding pageReady
       take-none b [] e = refl
       take-none b (g ∷ gs) e =
-          let t : ℕ → Bool = λ g. whole n b sh c (pageOf g) && noMarks b (pageOf g) m in
-          ap (λ d. takePages d m gs) (none-taken b (pageOf g) m (and-right (whole n b sh c (pageOf g)) _ (and-left (t g) (every t gs) e))) ∙ take-none b gs (and-right (t g) (every t gs) e)
+          let t : ℕ → Bool = λ g. whole n b sh c (pageOf g) && noMarks b (pageOf g) 0 m in
+          ap (λ d. takePages d m gs) (none-taken b (pageOf g) 0 m (and-right (whole n b sh c (pageOf g)) _ (and-left (t g) (every t gs) e))) ∙ take-none b gs (and-right (t g) (every t gs) e)
 
       clear-none : (b gs : List ℕ) → every (pageReady n b c sh m) gs ≡ true → clearPages b m gs ≡ b
       unfolding pageReady
       clear-none b [] e = refl
       clear-none b (g ∷ gs) e =
-          let t : ℕ → Bool = λ g. whole n b sh c (pageOf g) && noMarks b (pageOf g) m in
-          ap (λ d. clearPages d m gs) (none-cleared b (pageOf g) m (and-right (whole n b sh c (pageOf g)) _ (and-left (t g) (every t gs) e))) ∙ clear-none b gs (and-right (t g) (every t gs) e)
+          let t : ℕ → Bool = λ g. whole n b sh c (pageOf g) && noMarks b (pageOf g) 0 m in
+          ap (λ d. clearPages d m gs) (none-cleared b (pageOf g) 0 m (and-right (whole n b sh c (pageOf g)) _ (and-left (t g) (every t gs) e))) ∙ clear-none b gs (and-right (t g) (every t gs) e)
 
       -- ---- the whole list
       marked-long : (b : List ℕ) (q w : ℕ) → length (markedIn b sh q w) ≡ length b
@@ -237,7 +240,7 @@ module _ (sh : Shape) (s : Sound sh) (one : sh .pages ≡ 1) where
       unfolding markedIn inArena
       take-fresh gs u b w l i e o =
           let q = pageAt w in
-          takes-one q (indexOf sh q w) (fresh-low sh s q m few all b w o) (fresh-word sh s q m few all b w o) gs e u b (omega (arith, ltb-true (pageAt w) n i)) (fresh-out sh s q m few all b w o) (fresh-mark sh s q m few all b w o)
+          takes-one q (indexOf sh q w) (fresh-low sh s q b w o) (fresh-word sh s q b w o m all) gs e u b (omega (arith, ltb-true (pageAt w) n i)) (fresh-out sh s q b w o) (fresh-mark sh s q b w o)
 
       takes-fresh : (gs : List ℕ) → distinct (map pageOf gs) ≡ true → (b ws : List ℕ) → words n ≤ length b → every (inArena n) ws ≡ true → every (hasPage gs) ws ≡ true → ownCount b sh ws ≡ length ws
           → takePages (ownBook b sh ws) m gs ≡ cleared (takePages b m gs) sh ws
@@ -254,7 +257,7 @@ module _ (sh : Shape) (s : Sound sh) (one : sh .pages ≡ 1) where
 
       clear-fresh : (gs b : List ℕ) (w : ℕ) → hasPage gs w ≡ true → freshIn b sh (pageAt w) w ≡ true → clearPages (markedIn b sh (pageAt w) w) m gs ≡ clearPages b m gs
       unfolding markedIn
-      clear-fresh gs b w e o = clears-one (pageAt w) (indexOf sh (pageAt w) w / 32) _ (fresh-word sh s (pageAt w) m few all b w o) gs e b
+      clear-fresh gs b w e o = clears-one (pageAt w) (indexOf sh (pageAt w) w / 32) _ (fresh-word sh s (pageAt w) b w o m all) gs e b
 
       clears-fresh : (gs b ws : List ℕ) → every (hasPage gs) ws ≡ true → clearPages (ownBook b sh ws) m gs ≡ clearPages b m gs
       unfolding ownBook

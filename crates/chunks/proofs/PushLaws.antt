@@ -22,10 +22,10 @@ use Rattle.fields.specs.Field.{page, slot, out, free, words, get, put, Has}
 use Rattle.fields.proofs.Laws.{get-put-same, get-put-other, length-put}
 use Rattle.pages.specs.Asks.{IndexAsks}
 use Rattle.fields.specs.Ranges.{maxPages}
-use Rattle.pages.specs.Stack.{blocksFrom, indexOf, pageAt}
+use Rattle.pages.specs.Stack.{blocksFrom, indexOf, isBlock, pageAt}
 use Rattle.chunks.specs.CallAsks.{hasBit, BitsAsks}
 use Rattle.chunks.specs.Pass.{cleared, pushOne, pushAll}
-use Rattle.chunks.specs.PushAsks.{PushOneAsks, PushAllAsks}
+use Rattle.chunks.specs.PushAsks.{ownBlock, PushOneAsks, PushAllAsks}
 use Rattle.tally.specs.Match.{wordsOn}
 
 -- ---- one block
@@ -69,6 +69,10 @@ module _ (b : List ℕ) (sh : Shape) (w q t : ℕ) (k : q ≡ pageAt w) (j : t �
     pub next-fits : Fits w32 (t + 1)
     next-fits = record { fits = omega (arith, below) }
 
+  pub one-block : ownBlock sh w ≡ true → isBlock sh q w ≡ true
+  unfolding ownBlock
+  one-block o = rw k o
+
   pub one-done : (i : ℕ) (b₁ b₂ : List ℕ) → i ≡ indexOf sh q w → b₁ ≡ put b (slot q t) i → b₂ ≡ put b₁ (page free q) (t + 1) → b₂ ≡ pushOne b (pageAt w) (indexOf sh (pageAt w) w)
   unfolding pushOne
   one-done i b₁ b₂ e e₁ e₂ = rw (e₂, e₁, e, j, k)
@@ -104,7 +108,7 @@ asks-tail b sh w ws a = record {
 }
 
 -- nor do those from any place on
-asks-drop : (b : List ℕ) (sh : Shape) (i : ℕ) (ws : List ℕ) → PushAllAsks b sh ws → PushAllAsks b sh (drop i ws)
+pub asks-drop : (b : List ℕ) (sh : Shape) (i : ℕ) (ws : List ℕ) → PushAllAsks b sh ws → PushAllAsks b sh (drop i ws)
 asks-drop b sh zero ws a = a
 asks-drop b sh (suc i) [] a = a
 asks-drop b sh (suc i) (w ∷ ws) a = asks-drop b sh i ws (asks-tail b sh w ws a)
@@ -143,34 +147,6 @@ module _ (b₀ : List ℕ) (sh : Shape) (ws : List ℕ) where
   pub pushing-none : Pushing b₀ (length ws)
   unfolding pushAll
   pushing-none = record { within = omega arith; long = refl; laid = ap (pushAll b₀ sh) (sym (drop-length ws)) }
-
-  module _ (b : List ℕ) (i : ℕ) (h : i ≡ 0 → ⊥) (v : Pushing b i) where
-    next : drop (i - 1) ws ≡ getD ws (i - 1) 0 ∷ drop i ws
-    next =
-        let back : suc (i - 1) ≡ i = omega arith in
-        drop-cons ws (i - 1) 0 (omega (arith, v .within)) ∙ ap (λ z. getD ws (i - 1) 0 ∷ drop z ws) back
-
-    pub pushing-asks : PushAllAsks b₀ sh ws → PushOneAsks b sh (getD ws (i - 1) 0)
-    pushing-asks a =
-        let w = getD ws (i - 1) 0 in
-        let k : PushAllAsks b₀ sh (w ∷ drop i ws) = rw next at (asks-drop b₀ sh (i - 1) ws a) in
-        let f = push-free b₀ sh (drop i ws) (asks-drop b₀ sh i ws a) (pageAt w) in
-        record {
-          sound = a .sound;
-          below = head-below b₀ sh w (drop i ws) k;
-          there = rw (v .long) (head-there b₀ sh w (drop i ws) k);
-          slot = rw (v .laid, f) (head-room b₀ sh w (drop i ws) k);
-        }
-
-    pub pushing-more : (b′ : List ℕ) → b′ ≡ pushOne b (pageAt (getD ws (i - 1) 0)) (indexOf sh (pageAt (getD ws (i - 1) 0)) (getD ws (i - 1) 0)) → Pushing b′ (i - 1)
-    unfolding pushAll
-    pushing-more b′ e =
-        let w = getD ws (i - 1) 0 in
-        record {
-          within = omega (arith, v .within);
-          long = ap length e ∙ one-length b (pageAt w) (indexOf sh (pageAt w) w) ∙ v .long;
-          laid = e ∙ ap (λ z. pushOne z (pageAt w) (indexOf sh (pageAt w) w)) (v .laid) ∙ ap (pushAll b₀ sh) (sym next);
-        }
 
   pub pushing-done : (b : List ℕ) (i : ℕ) → i ≡ 0 → Pushing b i → b ≡ pushAll b₀ sh ws
   pushing-done b i h v = rw h at (v .laid)

@@ -21,7 +21,7 @@ use Rattle.calls.specs.Out.{inRunOf, outAt, outFault}
 use Rattle.calls.specs.Chunks.{chunksMatch, chunksFair, Settled, giveRuns, ChunksReleased}
 use Rattle.release.specs.Asks.{ClassAsks}
 use Rattle.chunks.specs.Pass.{cleared, pushAll, placeAll}
-use Rattle.chunks.specs.PushAsks.{PushAllAsks}
+use Rattle.chunks.specs.PushAsks.{ownBlock, PushAllAsks}
 use Rattle.chunks.specs.PlaceAsks.{PlaceAsks}
 use Rattle.chunks.specs.GiveAsks.{GiveChunksAsks}
 
@@ -83,6 +83,7 @@ pub record BitsAsks (n : ℕ) (b : List ℕ) (sh : Shape) (ws : List ℕ) : Type
 -- and numbers 11 and 13
 pub record SettleAsks (n : ℕ) (b : List ℕ) (c : ℕ) (sh : Shape) (h : ℕ) (ws gs fs : List ℕ) : Type 0 where
   pub pushing : PushAllAsks b sh ws
+  pub blocks : every (ownBlock sh) ws ≡ true
   pub placing : PlaceAsks (pushAll b sh ws) c sh gs fs
   pub giving : GiveChunksAsks n (allPlaced b c sh h ws gs .book) sh gs (allPlaced b c sh h ws gs .fates ++ drop (length gs) fs)
 

@@ -3,6 +3,7 @@ mod call;
 mod fair;
 mod gives;
 mod marks;
+mod one;
 mod place;
 mod push;
 mod quick;

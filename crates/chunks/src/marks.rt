@@ -20,7 +20,7 @@ fn page_ready(meta: &[u32], n: u32, c: u32, shape: Shape, m: u32, chunk: u64) ->
     if is_page(n, chunk) {
         let q = chunk_page(chunk);
         if lists::whole(meta, n, c, shape, q) {
-            return no_marks(meta, q, m);
+            return no_marks(meta, q, 0, m);
         }
     }
     false
@@ -64,7 +64,7 @@ pub fn take_pages(meta: &mut [u32], n: u32, m: u32, chunks: &[u64])
 {
     let mut i = 0;
     while i < chunks.len() {
-        take_marks(meta, chunk_page(chunks[i]), m);
+        take_marks(meta, chunk_page(chunks[i]), 0, m);
         i += 1;
     }
 }
@@ -76,7 +76,7 @@ pub fn clear_pages(meta: &mut [u32], n: u32, m: u32, chunks: &[u64])
 {
     let mut i = 0;
     while i < chunks.len() {
-        clear_marks(meta, chunk_page(chunks[i]), m);
+        clear_marks(meta, chunk_page(chunks[i]), 0, m);
         i += 1;
     }
 }

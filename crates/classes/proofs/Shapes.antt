@@ -1,5 +1,5 @@
 -- Every class's shape is sound: one computed test over each of the two size tables.
-use Prim.Native.Nat.{ℕ, _+_, _-_, _*_, _≤_, _<_}
+use Prim.Native.Nat.{ℕ, _+_, _-_, _*_, _≤_}
 use mathlib.Core.Path.{_≡_, refl}
 use mathlib.Core.Bool.{Bool, true, false, cond, _&&_}
 use lib.Dec.{leb, ltb}
@@ -7,7 +7,7 @@ use borrow.Author.Tests.{leb-true}
 use lib.ListN.{getD}
 use Rattle.facts.proofs.Bools.{and-left, and-right}
 use Rattle.classes.specs.declared.Shape.{Shape}
-use Rattle.classes.specs.Sizes.{smallSizes, mediumSizes, pageBytes}
+use Rattle.classes.specs.Sizes.{smallSizes, mediumSizes}
 use Rattle.classes.specs.Shape.{smallShape, mediumShape, shapeOf}
 use Rattle.classes.specs.Sound.{Sound}
 use Rattle.classes.proofs.Table.{every-at}
@@ -49,13 +49,18 @@ pub shape-sound : (c : ℕ) → Sound (shapeOf c)
 unfolding shapeOf
 shape-sound c = is-sound (shapeOf c) (true-cond sound (ltb c 64) _ _ (small-sound c) (medium-sound (c - 64)))
 
--- medium block sizes are positive, and at most a page
-abbrev usable : ℕ → Bool
-usable size = within 1 size pageBytes
+-- a block is no longer than a page
+abbrev narrow : Shape → Bool
+narrow s = leb (s .block) 4096
 
-pub medium-usable : (c : ℕ) → (0 < getD mediumSizes c 65472) × (getD mediumSizes c 65472 ≤ pageBytes)
-unfolding mediumSizes
-medium-usable c =
-    let size = getD mediumSizes c 65472 in
-    let u : usable size ≡ true = every-at usable mediumSizes 65472 c refl refl in
-    (leb-true 1 size (search and-left), leb-true size pageBytes (search and-right))
+small-narrow : (c : ℕ) → narrow (smallShape (getD smallSizes c 16384)) ≡ true
+unfolding smallShape smallSizes
+small-narrow c = every-at (λ size. narrow (smallShape size)) smallSizes 16384 c refl refl
+
+medium-narrow : (c : ℕ) → narrow (mediumShape (getD mediumSizes c 65472)) ≡ true
+unfolding mediumShape mediumSizes
+medium-narrow c = every-at (λ size. narrow (mediumShape size)) mediumSizes 65472 c refl refl
+
+pub shape-narrow : (c : ℕ) → shapeOf c .block ≤ 4096
+unfolding shapeOf
+shape-narrow c = leb-true (shapeOf c .block) 4096 (true-cond narrow (ltb c 64) _ _ (small-narrow c) (medium-narrow (c - 64)))

@@ -1,5 +1,6 @@
 pub mod Sizes
 pub mod Shape
+pub mod Row
 pub mod Sound
 pub mod Lookup
 pub mod Near

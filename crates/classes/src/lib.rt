@@ -5,15 +5,17 @@ mod in_tables;
 mod lookup;
 mod medium_lut;
 mod near;
+mod row;
 mod runs;
 mod sizes;
 
 pub use by_class::medium_size;
-pub use by_class::small_size;
 pub use class_lut::small_classes;
 pub use in_tables::class_in;
 pub use lookup::size_class;
 pub use medium_lut::medium_classes;
+pub use row::part_in;
+pub use row::row_of;
 pub use runs::shape_of;
 pub use sizes::CLASS_COUNT;
 pub use sizes::NUM_CLASSES;

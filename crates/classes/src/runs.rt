@@ -1,48 +1,48 @@
-// The shape of a class, made from its block size.
+// The shape of a class, made from its word.
 ghost use mathlib.Core.Path.{_≡_};
 ghost use Prim.Native.Nat.{_<_, _≤_};
-ghost use Rattle.classes.specs.Sizes.{pageBytes, smallCapacity};
-ghost use Rattle.classes.specs.Shape.{smallShape, mediumShape, shapeOf};
+ghost use Rattle.classes.specs.Shape.{shapeOf};
+ghost use Rattle.classes.specs.Row.{rowOf};
 use super::Shape;
-use super::by_class::medium_size;
-use super::by_class::small_capacity;
-use super::by_class::small_size;
+use super::row::block_in;
+use super::row::capacity_in;
+use super::row::pages_in;
+use super::row::row_of;
 use super::sizes::NUM_CLASSES;
 use super::sizes::PAGE_HEADER;
 use super::sizes::SPAN_HEADER;
-use super::sizes::medium_capacity_for;
-use super::sizes::span_pages_for;
 
 const GRANULE: u32 = 16;
 
 // At most 64 blocks a take. As many empty pages as a rule can allow, so that its rule alone limits them.
-fn small_shape(size: u32, capacity: u32) -> Shape
-    requires { ⌜ capacity ≡ smallCapacity size ⌝ }
-    ensures { λ r. ⌜ r ≡ smallShape size ⌝ }
+fn small_shape(id: u32, row: u64) -> Shape
+    requires { ⌜ id < 64 ⌝ }
+    requires { ⌜ row ≡ rowOf id ⌝ }
+    ensures { λ r. ⌜ r ≡ shapeOf id ⌝ }
 {
     Shape {
         kind: words::Word::SMALL,
-        block: size / GRANULE,
+        block: block_in(row),
         header: PAGE_HEADER / GRANULE,
         pages: 1,
-        capacity,
+        capacity: capacity_in(row),
         batch: 64,
         emptypages: 256,
     }
 }
 
 // At most a span's blocks a take, and 128 pages, which is 8 MiB, in empty spans.
-fn medium_shape(size: u32) -> Shape
-    requires { ⌜ 0 < size ⌝ }
-    requires { ⌜ size ≤ pageBytes ⌝ }
-    ensures { λ r. ⌜ r ≡ mediumShape size ⌝ }
+fn medium_shape(id: u32, row: u64) -> Shape
+    requires { ⌜ 64 ≤ id ⌝ }
+    requires { ⌜ row ≡ rowOf id ⌝ }
+    ensures { λ r. ⌜ r ≡ shapeOf id ⌝ }
 {
-    let capacity = medium_capacity_for(size);
+    let capacity = capacity_in(row);
     Shape {
         kind: words::Word::MEDIUM,
-        block: size / GRANULE,
+        block: block_in(row),
         header: SPAN_HEADER / GRANULE,
-        pages: span_pages_for(size),
+        pages: pages_in(row),
         capacity,
         batch: capacity,
         emptypages: 128,
@@ -53,9 +53,10 @@ fn medium_shape(size: u32) -> Shape
 pub fn shape_of(id: u32) -> Shape
     ensures { λ r. ⌜ r ≡ shapeOf id ⌝ }
 {
+    let row = row_of(id);
     if id < NUM_CLASSES {
-        small_shape(small_size(id), small_capacity(id))
+        small_shape(id, row)
     } else {
-        medium_shape(medium_size(id - NUM_CLASSES))
+        medium_shape(id, row)
     }
 }

@@ -1,7 +1,7 @@
 -- A call inside a walk by hand: what it asks is made, and what it answers is taken apart. It says nothing of the crate.
 --     Plain        plain data: its machine value as a function of the denotation, and its laws
 --     Arg, arg     an argument that is plain data
---     asks, asks-lent, asks-new, asks-both     what a call asks of plain data; of a reference with its token; of one that is lent for this call; of both
+--     asks, asks-lent, asks-new     what a call asks of plain data; of a reference with its token; of one that is lent for this call
 --     calls        a call, once what it asks is at the head. Afterwards there are the tokens and what says the last values, and of the result its relation and what the `ensures` says
 --     calls-plain, calls-lent     a call with plain data; with a reference that is Copy, which is kept, as its token is
 -- Assumes `Given`.
@@ -80,16 +80,6 @@ module _ {M : Type 1} {𝓤 : URA M} {H : Heap 𝓤} {A : Atoms 𝓤} (W : Given
 
     pub asks-new : (O : Fml) (κ : Lft) (q : Share) → ent 𝓤 (sep 𝓤 (sem 𝓤 H A O) (sem 𝓤 H A (flft κ q))) (sep 𝓤 (sep 𝓤 (sep 𝓤 (sem 𝓤 H A (flft κ q)) (emp 𝓤)) (sem 𝓤 H A (fsep O (ownsAll gs)))) Q)
     asks-new O κ q = qed W (‵ O ∷ ‵ (flft κ q) ∷ []) ∵ use0 W (raw Q) req $ use0 W (‵ (ownsAll gs)) (all-had gs) $ move ! (2 ∷ 0 ∷ []) $ fjoin ! $ nothing ! $ move ! (3 ∷ 0 ∷ []) $ join ! $ join ! $ done !
-
-    pub asks-both : (O : Fml) (κ : Lft) (q : Share) (O′ : Fml) (κ′ : Lft) (q′ : Share)
-        → ent 𝓤 (sep 𝓤 (sep 𝓤 (sem 𝓤 H A O′) (sem 𝓤 H A (flft κ′ q′))) (sep 𝓤 (sem 𝓤 H A O) (sep 𝓤 (sem 𝓤 H A (flft κ q)) (emp 𝓤))))
-        (sep 𝓤 (sep 𝓤 (sep 𝓤 (sem 𝓤 H A (flft κ q)) (sep 𝓤 (sem 𝓤 H A (flft κ′ q′)) (emp 𝓤))) (sem 𝓤 H A (fsep O (fsep O′ (ownsAll gs))))) Q)
-    asks-both O κ q O′ κ′ q′ =
-        qed W ((‵ O′ ⊛ ‵ (flft κ′ q′)) ∷ (‵ O ⊛ (‵ (flft κ q) ⊛ ‵ ftrue)) ∷ []) ∵ split ! $ move ! (2 ∷ []) $ split ! $ move ! (1 ∷ []) $ split ! $
-        -- [the token; true; O; O′; its token]
-        use0 W (raw Q) req $ use0 W (‵ (ownsAll gs)) (all-had gs) $ move ! (5 ∷ 0 ∷ []) $ fjoin ! $ move ! (4 ∷ 0 ∷ []) $ fjoin ! $
-        -- [what the parameters own; the requires; the token; true; the new token]
-        move ! (4 ∷ 3 ∷ []) $ join ! $ move ! (3 ∷ 0 ∷ []) $ join ! $ join ! $ done !
 
 module _ {M : Type 1} {𝓤 : URA M} {H : Heap 𝓤} {A : Atoms 𝓤} {K : Type 0} {W : Given 𝓤 H A} {Γ : List (Item 𝓤)} {E : Env 𝓤 H} {C : Calls 𝓤 H} {Λ : Loops 𝓤 H} {q : Post 𝓤 H} {d : Place} {f : Name} {xs : List Operand} {rest : Body} where
   pub calls : K → FmC 𝓤 H (W .laws) C → (T : Ended) (c : Clauses 𝓤 T) → Triple 𝓤 (C f) (tripleOf 𝓤 H A (T .signature) (closing 𝓤 H A T c)) → (y : (x : Bound 𝓤 H A (T .signature)) × c (x .0) (x .3) .ghost)

@@ -4,7 +4,7 @@ use mathlib.Core.Path.{_≡_, refl, sym, ap, subst}
 use mathlib.Core.Logic.{_⊎_, inl, inr, ⊎-elim}
 use Prim.Native.Nat.{ℕ, suc, _+_, _-_, _*_, _/_, _<_, _≤_, _^_}
 use native.Mathlib.Omega.{arith}
-use mathlib.Core.Bool.{Bool, true, false, true≢false}
+use mathlib.Core.Bool.{true, false, true≢false}
 use mathlib.Core.List.{List, [], _∷_}
 use mathlib.Core.Option.{Option, none, some}
 use lib.Dec.{eqb, leb, ltb}
@@ -18,19 +18,13 @@ use Rattle.holes.specs.declared.holes.Best.{Best}
 use Rattle.holes.specs.Plan.{indexCode, planAs, planOf}
 use Rattle.holes.specs.Scan.{over, key, noBest, betterOf, weighed, bestOf, codeAt}
 
--- ---- one hole, and what is found
+-- ---- one hole
 module _ (need i k : ℕ) (h : Hole) (b : Best) (e : k ≡ key need h) where
   pub better-stays : b .key < k → b ≡ betterOf need i h b
   better-stays l = rw (← e, lt-leb k (b .key) l)
 
   pub better-goes : k ≤ b .key → record { key = k; code = i + 1 } ≡ betterOf need i h b
   better-goes l = rw (← e, le-leb k (b .key) l)
-
-pub found-fair : (fair : Bool) (need c : ℕ) (b : Best) → fair ≡ true → c ≡ codeAt need b → record { fair = fair; code = c } ≡ planAs fair (codeAt need b)
-found-fair fair need c b t e = rw (t, e)
-
-pub found-unfair : (fair : Bool) (c : ℕ) → fair ≡ false → record { fair = fair; code = 0 } ≡ planAs fair c
-found-unfair fair c t = rw t
 
 -- ---- the model's order of holes, as one of numbers
 abbrev rank : Hole → ℕ

@@ -4,12 +4,11 @@ pub mod Joins
 pub mod Acts
 pub mod PlanLaws
 mod Calling
-mod Filled
 mod Laid
 mod Least
-mod Lending
 mod Loading
 mod Looping
+mod Planning
 mod Proving
 mod Scanning
 mod Touching

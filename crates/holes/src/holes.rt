@@ -1,15 +1,14 @@
-// The hole store, lent as a slice of holes: loaded, and scanned for the least length that is enough.
+// Holes: loaded, tested, lent as a slice and scanned for the least length that is enough, and set beside a run.
 use model::Hole;
 use std::num::wrapping_sub_u32;
 ghost use mathlib.Core.Path.{_≡_};
 ghost use Prim.Native.Nat.{_+_, _<_, _≤_, _^_};
-ghost use mathlib.Core.Bool.{_&&_, cond};
-ghost use lib.ListN.{length, getD, take, drop};
-ghost use Rattle.facts.specs.Lists.{every};
-ghost use Rattle.fields.specs.Field.{hole, start, pages, word, Has};
-ghost use Rattle.arena.specs.Load.{loadHole, loadHoles};
+ghost use mathlib.Core.Bool.{cond};
+ghost use lib.ListN.{length, getD, take};
+ghost use Rattle.fields.specs.Field.{hole, pages, Has};
+ghost use Rattle.arena.specs.Load.{loadHole};
 ghost use Rattle.arena.specs.Fair.{holeFair};
-ghost use Rattle.holes.specs.Scan.{noHole, key, betterOf, bestOf, besideAt, besideOf};
+ghost use Rattle.holes.specs.Scan.{noHole, key, betterOf, bestOf, besideAt};
 
 pub fn hole_at(holes: &[Hole], i: usize) -> Hole
     requires { ⌜ i < length (now holes) ⌝ }
@@ -82,7 +81,7 @@ fn code_if(so: bool, i: u32, other: u32) -> u32
 }
 
 // The hole at `i` on the side where it touches the run, before those behind it.
-fn beside_at(run: Edges, i: u32, h: Hole, behind: Beside) -> Beside
+pub fn beside_at(run: Edges, i: u32, h: Hole, behind: Beside) -> Beside
     requires { ⌜ i + 1 < 2 ^ 32 ⌝ }
     ensures { λ r. ⌜ r ≡ besideAt run i h behind ⌝ }
 {
@@ -92,23 +91,6 @@ fn beside_at(run: Edges, i: u32, h: Hole, behind: Beside) -> Beside
         before: code_if(ends, i, behind.before),
         after: code_if(starts, i, behind.after),
     }
-}
-
-// The holes that touch a run, the lowest index of each, among the first `count`, which stand at the index `from` and on, and those behind
-// them. The last one is looked at first.
-pub fn touch(holes: &[Hole], from: u32, count: u32, run: Edges, behind: Beside) -> Beside
-    requires { ⌜ (count ≤ length (now holes)) × (from + count < 2 ^ 32) ⌝ }
-    ensures { λ r. ⌜ r ≡ besideOf run from (take count (now (holes .entry))) behind ⌝ }
-{
-    let mut found = behind;
-    let mut i = count;
-    while 0 < i {
-        let j = i - 1;
-        let h = hole_at(holes, j as usize);
-        found = beside_at(run, from + j, h, found);
-        i = j;
-    }
-    found
 }
 
 // The hole that the words hold at `i`.
@@ -122,37 +104,12 @@ pub fn hole_from(meta: &[u32], i: u32) -> Hole
     }
 }
 
-// All holes before this one are in their range, and so is this one: number 13's test. The sum has 64 bits, so it does not wrap.
-fn fair_too(fair: bool, h: Hole, total: u32, frontier: u32) -> bool
-    ensures { λ r. ⌜ r ≡ (fair && holeFair total frontier h) ⌝ }
+// Number 13's test. The sum has 64 bits, so it does not wrap.
+pub fn hole_fair(h: Hole, total: u32, frontier: u32) -> bool
+    ensures { λ r. ⌜ r ≡ holeFair total frontier h ⌝ }
 {
     let few = h.pages <= total;
     let some = 1 <= h.pages;
     let below = (h.first as u64) + (h.pages as u64) <= (frontier as u64);
-    fair & few & some & below
-}
-
-// The `count` holes that the words hold at the index `from` and on are stored, the others stay; the answer is whether each of those is in
-// its range, and so were others before.
-pub fn load_holes(
-    meta: &[u32],
-    holes: &mut [Hole],
-    others: bool,
-    from: u32,
-    count: u32,
-    total: u32,
-    frontier: u32,
-) -> bool
-    requires { ⌜ (count ≤ length (now holes)) × (from + count < 2 ^ 32) × (word (hole start (from + count)) ≤ length (now meta)) ⌝ }
-    ensures { λ r. ⌜ (r ≡ (others && every (holeFair total frontier) (loadHoles (now (meta .entry)) from count))) × (take count (now (holes .exit)) ≡ loadHoles (now (meta .entry)) from count) × (drop count (now (holes .exit)) ≡ drop count (now (holes .entry))) ⌝ }
-{
-    let mut fair = others;
-    let mut i: u32 = 0;
-    while i < count {
-        let h = hole_from(meta, from + i);
-        holes[i as usize] = h;
-        fair = fair_too(fair, h, total, frontier);
-        i += 1;
-    }
-    fair
+    few & some & below
 }

@@ -26,7 +26,7 @@ pub record StockInv (b₀ : List ℕ) (q k : ℕ) (b : List ℕ) (i : ℕ) : Typ
   pub long : length b ≡ length b₀
   pub done : b ≡ push b₀ q 0 (downs 0 i)
 
-pub stock-again : (b₀ : List ℕ) (q k : ℕ) (b b′ : List ℕ) (i : ℕ) → i < k → StockInv b₀ q k b i → b′ ≡ put b (slot q i) i → StockInv b₀ q k b′ (i + 1)
+stock-again : (b₀ : List ℕ) (q k : ℕ) (b b′ : List ℕ) (i : ℕ) → i < k → StockInv b₀ q k b i → b′ ≡ put b (slot q i) i → StockInv b₀ q k b′ (i + 1)
 stock-again b₀ q k b b′ i h v e =
     record {
       within = omega arith;
@@ -37,8 +37,21 @@ stock-again b₀ q k b b′ i h v e =
     same-put : (b : List ℕ) (i j v w : ℕ) → i ≡ j → v ≡ w → put b (slot q i) v ≡ put b (slot q j) w
     same-put b i j v w e f = cc
 
-pub stock-done : (b₀ : List ℕ) (q k : ℕ) (b : List ℕ) (i : ℕ) → k ≤ i → StockInv b₀ q k b i → b ≡ push b₀ q 0 (downs 0 k)
+stock-done : (b₀ : List ℕ) (q k : ℕ) (b : List ℕ) (i : ℕ) → k ≤ i → StockInv b₀ q k b i → b ≡ push b₀ q 0 (downs 0 k)
 stock-done b₀ q k b i h v = let e : i ≡ k = omega (arith, v .within) in v .done ∙ ap (λ z. push b₀ q 0 (downs 0 z)) e
+
+module _ (b₀ : List ℕ) (q k : ℕ) (b : List ℕ) (x : ℕ) (v : StockInv b₀ q k b (2 * x)) where
+  pub stock-pair : (b′ : List ℕ) → 2 * x + 1 < k → b′ ≡ put (put b (slot q (2 * x)) (2 * x)) (slot q (2 * x + 1)) (2 * x + 1) → StockInv b₀ q k b′ (2 * (x + 1))
+  stock-pair b′ h e =
+      let w = stock-again b₀ q k b (put b (slot q (2 * x)) (2 * x)) (2 * x) (omega arith) v refl in
+      let n : 2 * x + 1 + 1 ≡ 2 * (x + 1) = omega arith in
+      rw n at (stock-again b₀ q k (put b (slot q (2 * x)) (2 * x)) b′ (2 * x + 1) h w e)
+
+  pub stock-last : (b′ : List ℕ) → k ≤ 2 * x + 1 → 2 * x < k → b′ ≡ put b (slot q (2 * x)) (2 * x) → b′ ≡ push b₀ q 0 (downs 0 k)
+  stock-last b′ l h e = stock-done b₀ q k b′ (2 * x + 1) l (stock-again b₀ q k b b′ (2 * x) h v e)
+
+  pub stock-all : k ≤ 2 * x → b ≡ push b₀ q 0 (downs 0 k)
+  stock-all h = stock-done b₀ q k b (2 * x) h v
 
 -- ---- words of out bits and of marks
 pub word-done : (b : List ℕ) (q j : ℕ) (b₁ b₂ : List ℕ) → b₁ ≡ clearOut b q (32 * j) 32 → b₂ ≡ put b₁ (mark q j) 0 → b₂ ≡ put (clearOut b q (32 * j) 32) (mark q j) 0

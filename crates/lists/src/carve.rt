@@ -11,15 +11,18 @@ use crate::runs::name_run;
 use classes::Shape;
 use words::Word;
 
-// Blocks 0 to k - 1 lie on the page's stack, the highest on top.
+// Blocks 0 to k - 1 lie on the page's stack, the highest on top: two a turn, which are one word.
 fn stock(meta: &mut [u32], q: u32, k: u32)
     requires { ⌜ StockAsks (now meta) q k ⌝ }
     ensures { λ _. ⌜ now (meta .exit) ≡ push (now (meta .entry)) q 0 (downs 0 k) ⌝ }
 {
-    let mut i = 0;
-    while i < k {
-        fields::slot::set_entry(meta, q, i, i);
-        i += 1;
+    let mut x = 0;
+    while 2 * x + 1 < k {
+        fields::slot::set_pair(meta, q, x, 2 * x, 2 * x + 1);
+        x += 1;
+    }
+    if 2 * x < k {
+        fields::slot::set_entry(meta, q, 2 * x, 2 * x);
     }
 }
 

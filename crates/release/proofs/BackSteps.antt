@@ -35,11 +35,11 @@ use Rattle.release.proofs.FairSteps.{page-room, page-carved, links-fair
 use Rattle.release.proofs.ParkSteps.{moves, unlisted-changes, relisted-changes, carve-changes}
 
 -- ---- the page with its blocks back: of the words that are tested, only FREE and VIRGIN are other ones
-abbrev onStack : Field → Bool
+abbrev pub onStack : Field → Bool
 onStack f = eqb (region f) 6 || (eqb (region f) 4 && (eqb (off f) 4 || eqb (off f) 7))
 
 module _ (b : List ℕ) (q : ℕ) (is : List ℕ) (l : get b (page free q) + length is ≤ 4096) where
-  push-changes : Changes onStack b (pushed b q is)
+  pub push-changes : Changes onStack b (pushed b q is)
   push-changes = changes-pushed onStack b q refl refl (λ i. refl) is l
 
   links-kept : linksFair (pushed b q is) q ≡ linksFair b q

@@ -1,13 +1,16 @@
 pub mod Bits
 pub mod BlockSteps
 pub mod RunSteps
+pub mod SpanSteps
 pub mod Spots
 pub mod FairSteps
 pub mod OutLaws
 pub mod RunLaws
 pub mod MarkLaws
 pub mod TakeMarks
+pub mod MarkBits
 pub mod MarkSteps
+pub mod StretchSteps
 pub mod RunMarks
 pub mod MarkWords
 pub mod CleanSteps
@@ -19,3 +22,4 @@ pub mod Testing
 pub mod ParkSteps
 pub mod BackSteps
 pub mod ReleaseSteps
+pub mod OneSteps

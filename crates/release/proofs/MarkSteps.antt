@@ -1,9 +1,11 @@
--- `mark_block`, `mark_one` and `ready_by`: their ways out; and the loop of `mark_run`.
-use Prim.Native.Nat.{ℕ, suc, _+_, _*_, _/_, _%_, _^_, _≤_, _<_}
+-- `mark_one` and `ready_by`: their ways out; and the loops of `mark_few` and `mark_by`.
+use Prim.Native.Nat.{ℕ, suc, _+_, _*_, _/_, _≤_, _<_}
 use native.Mathlib.Omega.{arith}
+use native.Mathlib.Nat.{le-refl}
+use native.Mathlib.Decide.{ℕ-discrete, decLe}
 use native.Mathlib.Numerals.{add-one}
 use mathlib.Core.Bool.{Bool, true, false, cond, _&&_, and-assoc}
-use mathlib.Core.List.{List, [], _∷_}
+use mathlib.Core.List.{List}
 use mathlib.Core.Path.{_≡_, refl, sym, ap, _∙_}
 use mir.Val.{Fits}
 use mir.Syntax.{w32}
@@ -13,8 +15,7 @@ use lib.Seq.{drop-cons}
 use borrow.Author.Tests.{eq-eqb, ne-eqb}
 use Rattle.classes.specs.declared.Shape.{Shape}
 use Rattle.classes.specs.Sound.{Sound}
-use Rattle.fields.specs.Field.{bits, mark, out, read, place, get, put, words, Has}
-use Rattle.fields.proofs.Parts.{read-place, place-read}
+use Rattle.fields.specs.Field.{mark, out, get, words, Has}
 use Rattle.model.specs.Release.{ofKind}
 use Rattle.pages.specs.Stack.{indexOf, isBlock}
 use Rattle.calls.specs.Out.{outIn, markIn}
@@ -22,46 +23,19 @@ use Rattle.facts.proofs.Bools.{and-left, and-right}
 use Rattle.release.specs.declared.Found.{Found}
 use Rattle.release.specs.declared.Found.the-variants.{At, Nothing}
 use Rattle.release.specs.Blocks.{blockIn}
-use Rattle.release.specs.Marks.{markAt, setMark, freshAt, markedIn, freshIn, readyIn, freshCount, freshBook}
-use Rattle.release.specs.MarkAsks.{MarkedBlock, MarkedOne, MarkedIn}
+use Rattle.release.specs.Marks.{setMark, freshAt, markedIn, freshIn, readyIn, freshCount, freshBook}
+use Rattle.release.specs.MarkAsks.{MarkedBlock, MarkedOne, MarkedIn, MarkedTo, Reaches, Alone}
 use Rattle.release.proofs.Bits.{out-in, below-capacity}
 use Rattle.release.proofs.BlockSteps.{none-found, found-at}
 use Rattle.facts.proofs.Lists.{drop-past}
 
 -- ---- one block
-module _ (b : List ℕ) (q i : ℕ) where
-  pub bit-there : Has b (mark q (i / 32)) → Has b (out q i)
-  bit-there h = omega arith
-
-  module _ (x : ℕ) (k : x ≡ get b (out q i)) where
-    pub bit-clear : (x ≡ 1 → ⊥) → MarkedBlock false b b q i
-    bit-clear d =
-        let y : eqb (get b (out q i)) 1 ≡ false = rw (← k) (ne-eqb x 1 d) in
-        record { answer = rw y; left = rw y }
-
-    module _ (o : x ≡ 1) (m p : ℕ) (j : m ≡ get b (mark q (i / 32))) (e : p ≡ place (bits (i % 32) 1) m 1) where
-      out-here : eqb (get b (out q i)) 1 ≡ true
-      out-here = rw (← k) (eq-eqb x 1 o)
-
-      mark-is : markAt b q i ≡ read (bits (i % 32) 1) m
-      mark-is = rw (← j)
-
-      pub was-marked : p ≡ m → MarkedBlock false b b q i
-      was-marked d =
-          let l : 1 < 2 ^ 1 = omega arith in
-          let y : markAt b q i ≡ 1 = mark-is ∙ ap (read (bits (i % 32) 1)) (sym d ∙ e) ∙ read-place (bits (i % 32) 1) m 1 l in
-          let z : freshAt b q i ≡ false = rw (out-here, y) in
-          record { answer = sym z; left = rw z }
-
-      pub now-marked : (p ≡ m → ⊥) → (b′ : List ℕ) → b′ ≡ put b (mark q (i / 32)) p → MarkedBlock true b′ b q i
-      now-marked d b′ l =
-          let y : markAt b q i ≡ 1 → ⊥ = λ u. d (e ∙ ap (place (bits (i % 32) 1) m) (sym (sym mark-is ∙ u)) ∙ place-read (bits (i % 32) 1) m) in
-          let z : freshAt b q i ≡ true = rw (out-here, ne-eqb (markAt b q i) 1 y) in
-          record { answer = sym z; left = rw z (l ∙ rw (e, j)) }
+pub bit-there : (b : List ℕ) (q i : ℕ) → Has b (mark q (i / 32)) → Has b (out q i)
+bit-there b q i h = omega arith
 
 -- ---- one word
 module _ (b : List ℕ) (sh : Shape) (q w : ℕ) where
-  fresh-in : freshIn b sh q w ≡ ((ofKind (sh .kind) w && isBlock sh q w) && freshAt b q (indexOf sh q w))
+  pub fresh-in : freshIn b sh q w ≡ ((ofKind (sh .kind) w && isBlock sh q w) && freshAt b q (indexOf sh q w))
   unfolding freshIn
   fresh-in = sym (and-assoc (ofKind (sh .kind) w) (isBlock sh q w) _)
 
@@ -116,49 +90,117 @@ module _ (b : List ℕ) (sh : Shape) (q w : ℕ) where
 pub span-fits : (sh : Shape) → Sound sh → Fits w32 (sh .capacity * sh .block)
 span-fits sh s = record { fits = omega (arith, s .fits, s .short) }
 
-pub record MarkInv (b : List ℕ) (sh : Shape) (q : ℕ) (ws : List ℕ) (from : ℕ) (b′ : List ℕ) (i : ℕ) : Type 0 where
-  pub within : i ≤ length ws
+module _ (b : List ℕ) (sh : Shape) (q : ℕ) (ws : List ℕ) where
+  pub stays : (i : ℕ) → i ≤ length ws → Reaches i b b sh q ws i
+  stays i h = record { onward = le-refl i; within = h; answer = refl; left = refl }
+
+  pub reaches-on : (from i r : ℕ) (b′ b″ : List ℕ) → Reaches i b′ b sh q ws from → Reaches r b″ b′ sh q ws i → Reaches r b″ b sh q ws from
+  reaches-on from i r b′ b″ v o = record { onward = omega (arith, v .onward, o .onward); within = o .within; answer = o .answer ∙ v .answer; left = o .left ∙ v .left }
+
+  -- a word that is not marked, and the list's end
+  no-more : (i : ℕ) → i < length ws → freshIn b sh q (getD ws i 0) ≡ false → (freshCount b sh q (drop i ws) ≡ 0) × (freshBook b sh q (drop i ws) ≡ b)
+  unfolding freshCount freshBook
+  no-more i l o = rw (drop-cons ws i 0 l, o) (refl, refl)
+
+  no-words : (i : ℕ) → length ws ≤ i → (freshCount b sh q (drop i ws) ≡ 0) × (freshBook b sh q (drop i ws) ≡ b)
+  unfolding freshCount freshBook
+  no-words i l = rw (drop-past ws i l) (refl, refl)
+
+  ended : (from i : ℕ) (b₀ : List ℕ) → Reaches i b b₀ sh q ws from → (freshCount b sh q (drop i ws) ≡ 0) × (freshBook b sh q (drop i ws) ≡ b) → MarkedIn i b b₀ sh q ws from
+  ended from i b₀ v z = record { answer = omega (arith, v .answer, z .0); left = sym (z .1) ∙ v .left }
+
+  no-block-here : (i : ℕ) → blockIn sh q (getD ws i 0) ≡ Nothing → freshIn b sh q (getD ws i 0) ≡ false
+  no-block-here i h =
+      let w = getD ws i 0 in
+      fresh-in b sh q w ∙ rw (none-found (ofKind (sh .kind) w && isBlock sh q w) (indexOf sh q w) (sym h))
+
+-- ---- one by one, below place e
+pub record FewInv (b : List ℕ) (sh : Shape) (q : ℕ) (ws : List ℕ) (from e : ℕ) (b′ : List ℕ) (i : ℕ) : Type 0 where
+  pub on : Reaches i b′ b sh q ws from
+  pub low : i ≤ e
   pub long : length b′ ≡ length b
-  pub answer : i + freshCount b′ sh q (drop i ws) ≡ from + freshCount b sh q (drop from ws)
-  pub left : freshBook b′ sh q (drop i ws) ≡ freshBook b sh q (drop from ws)
+
+module _ (b : List ℕ) (sh : Shape) (q : ℕ) (ws : List ℕ) (from e : ℕ) (f : e ≤ length ws) where
+  pub few-starts : from ≤ e → FewInv b sh q ws from e b from
+  few-starts h = record { on = stays b sh q ws from (omega arith); low = h; long = refl }
+
+  module _ (b′ b″ : List ℕ) (i : ℕ) (r : Bool) (v : FewInv b sh q ws from e b′ i) (l : i < e) (o : MarkedOne r b″ b′ sh q (getD ws i 0)) (k : length b″ ≡ length b′) where
+    pub few-goes-on : r ≡ true → FewInv b sh q ws from e b″ (i + 1)
+    unfolding freshCount freshBook
+    few-goes-on t =
+        let z = sym (o .answer) ∙ t in
+        let u = rw z at (o .left) in
+        let h : i < length ws = omega arith in
+        let c : freshCount b′ sh q (drop i ws) ≡ suc (freshCount b″ sh q (drop (i + 1) ws)) = rw (add-one i, drop-cons ws i 0 h, z, u) in
+        let d : freshBook b″ sh q (drop (i + 1) ws) ≡ freshBook b′ sh q (drop i ws) = rw (add-one i, drop-cons ws i 0 h, z, u) in
+        record {
+          on = reaches-on b sh q ws from i (i + 1) b′ b″ (v .on) (record { onward = omega arith; within = omega arith; answer = omega (arith, c); left = d });
+          low = omega arith;
+          long = k ∙ v .long;
+        }
+
+    pub few-stops : r ≡ false → MarkedTo i b″ b sh q ws from e
+    few-stops t =
+        let z = sym (o .answer) ∙ t in
+        let u = rw z at (o .left) in
+        rw u (record { on = v .on; low = v .low; stops = λ h. z })
+
+  pub few-ends : (b′ : List ℕ) (i : ℕ) → FewInv b sh q ws from e b′ i → e ≤ i → MarkedTo i b′ b sh q ws from e
+  few-ends b′ i v l = record { on = v .on; low = v .low; stops = λ h. absurd (omega arith) }
+
+-- ---- a stretch, or a few
+pub record MarkInv (b : List ℕ) (sh : Shape) (q : ℕ) (ws : List ℕ) (from : ℕ) (b′ : List ℕ) (i : ℕ) : Type 0 where
+  pub on : Reaches i b′ b sh q ws from
+  pub long : length b′ ≡ length b
 
 module _ (b : List ℕ) (sh : Shape) (q : ℕ) (ws : List ℕ) (from : ℕ) where
-  next-count : (b′ b″ xs ys : List ℕ) (w : ℕ) → xs ≡ w ∷ ys → freshIn b′ sh q w ≡ true → b″ ≡ markedIn b′ sh q w → freshCount b′ sh q xs ≡ suc (freshCount b″ sh q ys)
-  unfolding freshCount
-  next-count b′ b″ xs ys w e o u = rw (e, o, u)
-
-  no-count : (b′ xs ys : List ℕ) (w : ℕ) → xs ≡ w ∷ ys → freshIn b′ sh q w ≡ false → freshCount b′ sh q xs ≡ 0
-  unfolding freshCount
-  no-count b′ xs ys w e o = rw (e, o)
-
   pub mark-starts : from ≤ length ws → MarkInv b sh q ws from b from
-  mark-starts h = record { within = h; long = refl; answer = refl; left = refl }
-
-  module _ (b′ b″ : List ℕ) (i : ℕ) (r : Bool) (v : MarkInv b sh q ws from b′ i) (l : i < length ws) (o : MarkedOne r b″ b′ sh q (getD ws i 0)) (k : length b″ ≡ length b′) where
-    pub mark-goes-on : r ≡ true → MarkInv b sh q ws from b″ (i + 1)
-    unfolding freshCount freshBook
-    mark-goes-on t =
-        let e = sym (o .answer) ∙ t in
-        let u = rw e at (o .left) in
-        record {
-          within = omega arith;
-          long = k ∙ v .long;
-          answer = omega (arith, next-count b′ b″ (drop i ws) (drop (i + 1) ws) (getD ws i 0) (rw add-one (drop-cons ws i 0 l)) e u, v .answer);
-          left = rw (add-one i, u) (rw (drop-cons ws i 0 l, e) at (v .left));
-        }
-
-    pub mark-stops : r ≡ false → MarkedIn i b″ b sh q ws from
-    unfolding freshCount freshBook
-    mark-stops t =
-        let e = sym (o .answer) ∙ t in
-        let u = rw e at (o .left) in
-        record {
-          answer = omega (arith, no-count b′ (drop i ws) (drop (suc i) ws) (getD ws i 0) (drop-cons ws i 0 l) e, v .answer);
-          left = u ∙ rw (drop-cons ws i 0 l, e) at (v .left);
-        }
+  mark-starts h = record { on = stays b sh q ws from h; long = refl }
 
   pub mark-ends : (b′ : List ℕ) (i : ℕ) → MarkInv b sh q ws from b′ i → length ws ≤ i → MarkedIn i b′ b sh q ws from
-  unfolding freshCount freshBook
-  mark-ends b′ i v l =
-      let d : drop i ws ≡ [] = drop-past ws i l in
-      record { answer = omega (arith, rw d at (v .answer)); left = rw d at (v .left) }
+  mark-ends b′ i v l = ended b′ sh q ws from i b (v .on) (no-words b′ sh q ws i l)
+
+  module _ (b′ b₁ : List ℕ) (i next : ℕ) (v : MarkInv b sh q ws from b′ i) (o : Reaches next b₁ b′ sh q ws i) where
+    pub mark-goes-on : length b₁ ≡ length b′ → MarkInv b sh q ws from b₁ next
+    mark-goes-on k = record { on = reaches-on b sh q ws from i next b′ b₁ (v .on) o; long = k ∙ v .long }
+
+    module _ (d : next ≡ i) (b₂ : List ℕ) (stop e : ℕ) (m : MarkedTo stop b₂ b₁ sh q ws i e) where
+      few-on : Reaches stop b₂ b sh q ws from
+      few-on = reaches-on b sh q ws from i stop b₁ b₂ (rw d at (reaches-on b sh q ws from i next b′ b₁ (v .on) o)) (m .on)
+
+      pub few-stop : e ≤ length ws → (stop ≡ e → ⊥) → MarkedIn stop b₂ b sh q ws from
+      few-stop f n =
+          let l : stop < e = omega (arith, m .low, n) in
+          ended b₂ sh q ws from stop b few-on (no-more b₂ sh q ws stop (omega arith) (m .stops l))
+
+      pub few-on-to : stop ≡ e → length b₂ ≡ length b₁ → length b₁ ≡ length b′ → MarkInv b sh q ws from b₂ e
+      few-on-to z h k = record { on = rw z at few-on; long = h ∙ k ∙ v .long }
+
+  pub none-left : from ≤ length ws → length ws ≤ from → MarkedIn from b b sh q ws from
+  none-left h l = mark-ends b from (mark-starts h) l
+
+  -- all words of the list
+  pub few-all : (r : ℕ) (b′ : List ℕ) → MarkedTo r b′ b sh q ws from (length ws) → MarkedIn r b′ b sh q ws from
+  few-all r b′ m =
+      elim (ℕ-discrete r (length ws)) [
+        | yes e ↦ ended b′ sh q ws from r b (m .on) (no-words b′ sh q ws r (omega arith))
+        | no n ↦
+            let h : r < length ws = omega (arith, m .low, n) in
+            ended b′ sh q ws from r b (m .on) (no-more b′ sh q ws r h (m .stops h))
+      ]
+
+  -- a word alone
+  pub alone-ends : (r : ℕ) (b′ : List ℕ) (t : Bool) → from < length ws → Alone t sh q ws from → t ≡ true → MarkedTo r b′ b sh q ws from (from + 1) → MarkedIn r b′ b sh q ws from
+  alone-ends r b′ t l a z m =
+      elim (ℕ-discrete r (from + 1)) [
+        | yes e ↦
+            elim (decLe (length ws) (from + 1)) [
+              | yes h ↦ ended b′ sh q ws from r b (m .on) (no-words b′ sh q ws r (omega arith))
+              | no h ↦
+                  let g : from + 1 < length ws = omega (arith, h) in
+                  ended b′ sh q ws from r b (m .on) (no-more b′ sh q ws r (omega arith) (rw e (no-block-here b′ sh q ws (from + 1) (a .told z g))))
+            ]
+        | no n ↦
+            let h : r < from + 1 = omega (arith, m .low, n) in
+            ended b′ sh q ws from r b (m .on) (no-more b′ sh q ws r (omega arith) (m .stops h))
+      ]

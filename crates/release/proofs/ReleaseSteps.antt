@@ -2,7 +2,7 @@
 --     fair-kept        number 13's last test reads no out bit and no mark
 --     one-ready, all-ready    what the shorter ways tell: none of numbers 9, 13 for a mark, 15, 10 and 11 applies
 --     finished         13's last test, and the act
-use Prim.Native.Nat.{ℕ, zero, suc, _+_, _*_, _^_, _≤_, _<_}
+use Prim.Native.Nat.{ℕ, zero, suc, _+_, _/_, _%_, _^_, _≤_, _<_}
 use native.Mathlib.Omega.{arith}
 use mathlib.Core.Bool.{Bool, true, false, cond, _&&_, true≢false}
 use mathlib.Core.List.{List, [], _∷_, map}
@@ -14,14 +14,12 @@ use Rattle.facts.specs.Lists.{isNil, every}
 use Rattle.facts.proofs.Bools.{and-left, and-right}
 use Rattle.classes.specs.declared.Shape.{Shape}
 use Rattle.classes.specs.Sound.{Sound}
-use Rattle.fields.specs.Clear.{clearMarks}
 use Rattle.fields.specs.Field.{arena, class, page, frontier, partial, empty, emptyCount, cold, coldCount, first, next, prev, free, carved, listed, virgin, get, words, Has, hole, emptyLimit, coldLimit}
 use Rattle.fields.proofs.Changes.{Changes}
 use Rattle.model.specs.Release.{ofKind}
 use Rattle.arena.proofs.Frames.{give-kept}
 use Rattle.arena.specs.Calls.{given}
 use Rattle.pages.specs.Asks.{ClearAsks}
-use Rattle.pages.specs.Carve.{outWords}
 use Rattle.pages.specs.Fair.{headerFair}
 use Rattle.pages.specs.Stack.{marks, pushed, indexOf, isBlock, pageAt, back}
 use Rattle.pages.proofs.Downs.{small, every-mono}
@@ -41,7 +39,8 @@ use Rattle.release.specs.declared.Marked.the-variants.{Run, Not}
 use Rattle.release.specs.Asks.{ClassAsks, StartAsks, TakeAsks}
 use Rattle.release.specs.Blocks.{runAt}
 use Rattle.release.specs.Fair.{FairAsks}
-use Rattle.release.specs.Marks.{readyIn, freshCount, freshBook, noMarks, takeMarks}
+use Rattle.release.specs.Marks.{readyIn, freshCount, freshBook, noMarks, clearWords, takeMarks}
+use Rattle.release.specs.Spans.{SpanOf, SpanAsks}
 use Rattle.release.specs.MarkAsks.{FieldAsks, MarkedIn, FaultAsks, Faulted}
 use Rattle.release.specs.Act.{settleAt, takenBy, answerAs, SettleAsks, ListAsks, RunAsks, MarkedAsks, PassedAsks, Parked, Answered, PreparedAt, Prepared, Attempted, MarkedAll, Finished}
 use Rattle.release.proofs.Bits.{isBit, out-in}
@@ -159,7 +158,7 @@ some-listed (w ∷ ws) z = omega arith
 
 not-marked-at : (n : ℕ) (b : List ℕ) (c : ℕ) (sh : Shape) (ws : List ℕ) → PassedAsks n b c sh ws → (q : ℕ) → startOf b (firstOf ws) ≡ q → every (λ w. eqb (startOf b w) q) ws ≡ true
     → PreparedAt q 0 b n b c sh ws
-unfolding clearMarks
+unfolding clearWords
 not-marked-at n b c sh ws a q e u = record { passed = a; start = e; alone = u; few = omega arith; long = refl; same = refl; taken = refl; cleared = refl }
 
 module _ (n : ℕ) (b : List ℕ) (c : ℕ) (sh : Shape) (ws : List ℕ) (a : PassedAsks n b c sh ws) where
@@ -234,7 +233,7 @@ module _ (n : ℕ) (b : List ℕ) (c : ℕ) (sh : Shape) (ws : List ℕ) (q m : 
     same = rw (p .taken) (fair-kept b _ (taken-changes n b c sh sound-of q ws here) n c sh (length ws) q (p .passed .class .known) ∙ sym (p .same));
   }
 
-  finished : (h : ℕ) (r : Released) (b″ : List ℕ) → Finished r b″ n b′ c sh h q m ws → Answered r b″ (releaseBlocks n b c sh h ws)
+  pub finished : (h : ℕ) (r : Released) (b″ : List ℕ) → Finished r b″ n b′ c sh h q m ws → Answered r b″ (releaseBlocks n b c sh h ws)
   unfolding Finished
   finished h (Fate f) b″ z =
       let is = map (indexOf sh q) ws in
@@ -332,6 +331,11 @@ module _ (n : ℕ) (b : List ℕ) (c : ℕ) (sh : Shape) where
       let z = found-at (inRunOf n b sh c (getD ws 0 0)) (startOf b (getD ws 0 0)) q (sym y ∙ e) in
       record { class = a .class; some = a .some; run = run-found n b c sh (getD ws 0 0) f e q y; start = ap (startOf b) (first-is ws (a .some)) ∙ sym (z .1) }
 
+pub only-one : (ws : List ℕ) → length ws ≡ 1 → ws ≡ getD ws 0 0 ∷ []
+only-one [] l = absurd (omega arith)
+only-one (w ∷ []) l = refl
+only-one (w ∷ (v ∷ ws)) l = absurd (omega arith)
+
 -- ---- the run of the first word
 module _ (n : ℕ) (b : List ℕ) (c : ℕ) (sh : Shape) (q : ℕ) (ws : List ℕ) (a : RunAsks n b c sh q ws) where
   sound : Sound sh
@@ -373,12 +377,7 @@ module _ (n : ℕ) (b : List ℕ) (c : ℕ) (sh : Shape) (q : ℕ) (ws : List �
     one-fault = passes n b c sh (getD ws 0 0 ∷ []) (rw (one-out, one-clean)) (rw one-out) refl
 
     the-one : ws ≡ getD ws 0 0 ∷ []
-    the-one = by ws one
-      where
-        by : (vs : List ℕ) → length vs ≡ 1 → vs ≡ getD vs 0 0 ∷ []
-        by [] l = absurd (omega arith)
-        by (v ∷ []) l = refl
-        by (v ∷ (u ∷ vs)) l = absurd (omega arith)
+    the-one = only-one ws one
 
     every-one : (t : ℕ → Bool) → t (getD ws 0 0) ≡ true → every t ws ≡ true
     every-one t h = ap (every t) the-one ∙ rw h
@@ -390,65 +389,63 @@ module _ (n : ℕ) (b : List ℕ) (c : ℕ) (sh : Shape) (q : ℕ) (ws : List �
         (record { class = a .class; some = a .some; kinds = every-one (ofKind (sh .kind)) one-kind; passed = ap (outFault n b c sh) the-one ∙ one-fault })
         q (a .start) (every-one (λ w. eqb (startOf b w) q) (eq-eqb (startOf b (getD ws 0 0)) q one-start))
 
+  pub span-asks : SpanAsks sh q ws
+  span-asks = record { sound = sound; below = field-asks .below; some = some-listed ws (a .some) }
+
   -- ---- by words of marks
-  module _ (m : ℕ) (i : m ≡ outWords sh) where
-    few-words : m ≤ 128
-    few-words = omega (arith, sound .few)
+  module _ (m : ℕ) (i : SpanOf m sh q ws) where
+    pub words-asks : ClearAsks b q (m % 256 + m / 256)
+    words-asks = record { few = i .few; there = field-asks .there }
 
-    all-words : sh .capacity ≤ 32 * m
-    all-words = omega arith
-
-    pub words-asks : ClearAsks b q m
-    words-asks = record { few = few-words; there = field-asks .there }
-
-    module _ (t : Bool) (e : t ≡ noMarks b q m) (x : t ≡ true) (k : ℕ) (b′ : List ℕ) (s : MarkedIn k b′ b sh q ws 0) where
-      none-set : noMarks b q m ≡ true
-      none-set = sym e ∙ x
-
+    module _ (k : ℕ) (b′ : List ℕ) (s : MarkedIn k b′ b sh q ws 0) where
       marked-is : b′ ≡ freshBook b sh q ws
       marked-is = s .left
 
       marked-changes : Changes isBit b (freshBook b sh q ws)
-      marked-changes = mark-bits b _ (fresh-changes sh sound q m few-words all-words b ws)
+      marked-changes = mark-bits b _ (fresh-changes sh sound q b ws)
 
-      pub clear-asks : ClearAsks b′ q m
-      clear-asks = rw marked-is (record { few = few-words; there = omega (arith, marked-changes .long, field-asks .there) })
+      pub clear-asks : ClearAsks b′ q (m % 256 + m / 256)
+      clear-asks = rw marked-is (record { few = i .few; there = omega (arith, marked-changes .long, field-asks .there) })
 
-      pub cleared : (b″ : List ℕ) → b″ ≡ clearMarks b′ q m → MarkedAll false b″ n b c sh q m ws
-      cleared b″ l = record { ready = λ z. absurd (true≢false (sym z)); left = λ z. l ∙ rw marked-is (clears-run sh sound q m few-words all-words b ws none-set) }
+      module _ (t : Bool) (e : t ≡ noMarks b q (m / 256) (m % 256)) (x : t ≡ true) where
+        none-set : noMarks b q (m / 256) (m % 256) ≡ true
+        none-set = sym e ∙ x
 
-      module _ (y : k ≡ length ws) where
-        all-marked : freshCount b sh q ws ≡ length ws
-        all-marked = omega (arith, s .answer)
+        pub cleared : (b″ : List ℕ) → b″ ≡ clearWords b′ q (m / 256) (m % 256) → MarkedAll false b″ n b c sh q m ws
+        cleared b″ l = record { ready = λ z. absurd (true≢false (sym z)); left = λ z. l ∙ rw marked-is (clears-run sh sound q (m / 256) (m % 256) (i .few) b ws (i .covers) none-set) }
 
-        fresh : AllFresh sh sound q m few-words all-words n c b ws
-        fresh = all-fresh sh sound q m few-words all-words n c b ws (a .run) all-marked
+        module _ (y : k ≡ length ws) where
+          all-marked : freshCount b sh q ws ≡ length ws
+          all-marked = omega (arith, s .answer)
 
-        hb : leb (words n) (length b) ≡ true
-        hb = le-leb (words n) (length b) (a .class .long)
+          fresh : AllFresh sh sound q n c b ws
+          fresh = all-fresh sh sound q n c b ws (a .run) all-marked
 
-        taken-is : takenBy (freshBook b sh q ws) sh q m ws ≡ marks b q 0 (map (indexOf sh q) ws)
-        taken-is = rw (ne-eqb m 0 (λ z. omega (arith, sound .blocks))) (takes-all sh sound q m few-words all-words b ws (field-asks .there) none-set all-marked)
+          hb : leb (words n) (length b) ≡ true
+          hb = le-leb (words n) (length b) (a .class .long)
 
-        pub all-ready : MarkedAll true b′ n b c sh q m ws
-        all-ready = record {
-          ready = λ z. rw marked-is (record {
-            passed = record {
-              class = a .class;
-              some = a .some;
-              kinds = fresh .kinds;
-              passed = fault-none n b c sh ws (not-marked sh sound q m few-words all-words n c b ws none-set fresh) (not-repeated sh sound q m few-words all-words n c b ws fresh hb) (fresh .out);
-            };
-            start = a .start;
-            alone = fresh .start;
-            few = few-words;
-            long = marked-changes .long;
-            same = fair-kept b _ marked-changes n c sh (length ws) q (a .class .known);
-            taken = taken-is;
-            cleared = clears-run sh sound q m few-words all-words b ws none-set;
-          });
-          left = λ z. absurd (true≢false z);
-        }
+          taken-is : takenBy (freshBook b sh q ws) sh q m ws ≡ marks b q 0 (map (indexOf sh q) ws)
+          taken-is = rw (ne-eqb m 0 (λ z. omega (arith, i .some))) (takes-all sh sound q (m / 256) (m % 256) (i .few) b ws (i .covers) (field-asks .there) none-set all-marked)
+
+          pub all-ready : MarkedAll true b′ n b c sh q m ws
+          all-ready = record {
+            ready = λ z. rw marked-is (record {
+              passed = record {
+                class = a .class;
+                some = a .some;
+                kinds = fresh .kinds;
+                passed = fault-none n b c sh ws (not-marked sh sound q n c (m / 256) (m % 256) b ws (i .covers) none-set fresh) (not-repeated sh sound q n c b ws fresh hb) (fresh .out);
+              };
+              start = a .start;
+              alone = fresh .start;
+              few = i .few;
+              long = marked-changes .long;
+              same = fair-kept b _ marked-changes n c sh (length ws) q (a .class .known);
+              taken = taken-is;
+              cleared = clears-run sh sound q (m / 256) (m % 256) (i .few) b ws (i .covers) none-set;
+            });
+            left = λ z. absurd (true≢false z);
+          }
 
   pub not-all : (m : ℕ) → MarkedAll false b n b c sh q m ws
   not-all m = record { ready = λ z. absurd (true≢false (sym z)); left = λ z. refl }
@@ -458,14 +455,14 @@ module _ (b : List ℕ) (sh : Shape) (q m : ℕ) (ws b′ : List ℕ) where
   pub by-list : m ≡ 0 → b′ ≡ marks b q 0 (map (indexOf sh q) ws) → b′ ≡ takenBy b sh q m ws
   by-list z e = rw z e
 
-  pub by-words : (m ≡ 0 → ⊥) → b′ ≡ takeMarks b q m → b′ ≡ takenBy b sh q m ws
+  pub by-words : (m ≡ 0 → ⊥) → b′ ≡ takeMarks b q (m / 256) (m % 256) → b′ ≡ takenBy b sh q m ws
   by-words z e = rw (ne-eqb m 0 z) e
 
-pub sweep-asks : (b : List ℕ) (sh : Shape) (q m : ℕ) (ws : List ℕ) → TakeAsks b sh q ws → m ≤ 128 → ClearAsks b q m
+pub sweep-asks : (b : List ℕ) (sh : Shape) (q m : ℕ) (ws : List ℕ) → TakeAsks b sh q ws → m % 256 + m / 256 ≤ 128 → ClearAsks b q (m % 256 + m / 256)
 sweep-asks b sh q m ws a l = record { few = l; there = a .run .there }
 
 module _ (n : ℕ) (b : List ℕ) (c : ℕ) (sh : Shape) (q m : ℕ) (ws : List ℕ) (a : MarkedAsks n b c sh q m ws) where
-  pub marked-there : ClearAsks b q m
+  pub marked-there : ClearAsks b q (m % 256 + m / 256)
   marked-there = record { few = a .few; there = omega (arith, a .inside, a .class .sound .paged, a .class .long) }
 
   pub marked-fair : FairAsks b c sh q
@@ -492,6 +489,6 @@ module _ (n : ℕ) (b : List ℕ) (c : ℕ) (sh : Shape) (q m : ℕ) (ws : List 
       unfolding Finished
       marked-taken h r b″ p = record { fair = sym f ∙ x; act = rw e at p }
 
-    pub marked-cleared : t ≡ false → (h : ℕ) (b′ : List ℕ) → b′ ≡ clearMarks b q m → Finished (Refused 13) b′ n b c sh h q m ws
+    pub marked-cleared : t ≡ false → (h : ℕ) (b′ : List ℕ) → b′ ≡ clearWords b q (m / 256) (m % 256) → Finished (Refused 13) b′ n b c sh h q m ws
     unfolding Finished
     marked-cleared x h b′ e = record { number = refl; unfair = sym f ∙ x; left = e }

@@ -89,7 +89,7 @@ pub or-none : (a d : ℕ) → eqb (bitOr a d) 0 ≡ (eqb a 0 && eqb d 0)
 or-none zero d = rw (or-zero-l d)
 or-none (suc a) d = ne-eqb (bitOr (suc a) d) 0 (λ z. omega (arith, or-add-and (suc a) d, and-le-r (suc a) d)) ∙ sym (rw (ne-eqb (suc a) 0 (λ z. omega arith)))
 
-xor-none : (a k : ℕ) → eqb (bitXor a k) 0 ≡ eqb a k
+pub xor-none : (a k : ℕ) → eqb (bitXor a k) 0 ≡ eqb a k
 xor-none a k =
     elim (ℕ-discrete a k) [
       | yes z ↦ rw (eq-eqb a k z) (eq-eqb (bitXor a k) 0 (rw z (xor-self k)))

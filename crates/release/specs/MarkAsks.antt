@@ -1,10 +1,10 @@
 -- What marking and its tests ask and answer, and the book that they leave.
-use Prim.Native.Nat.{ℕ, _+_, _*_, _≤_}
-use mathlib.Core.Bool.{Bool, true, cond, not, _&&_}
+use Prim.Native.Nat.{ℕ, _+_, _*_, _%_, _^_, _≤_, _<_}
+use mathlib.Core.Bool.{Bool, true, false, cond, not, _&&_}
 use mathlib.Core.List.{List}
 use mathlib.Core.Path.{_≡_}
 use lib.Dec.{eqb}
-use lib.ListN.{length, drop}
+use lib.ListN.{length, getD, drop}
 use Rattle.facts.specs.Lists.{every}
 use Rattle.classes.specs.declared.Shape.{Shape}
 use Rattle.classes.specs.Sound.{Sound}
@@ -14,8 +14,10 @@ use Rattle.model.specs.Page.{wordOf}
 use Rattle.model.specs.Release.{ofKind}
 use Rattle.calls.specs.Out.{outIn, outAt, unmarked, repeats, outFault}
 use Rattle.stack.specs.Inverse.{inverse}
+use Rattle.release.specs.declared.Found.the-variants.{Nothing}
+use Rattle.release.specs.Blocks.{blockIn}
 use Rattle.release.specs.Asks.{ClassAsks}
-use Rattle.release.specs.Marks.{markAt, setMark, freshAt, isMarkedIn, markedIn, isMarked, marked, markCount, markBook, freshIn, freshCount, freshBook}
+use Rattle.release.specs.Marks.{markAt, setMark, freshAt, freshBits, setBits, isMarkedIn, markedIn, isMarked, marked, markCount, markBook, freshIn, freshCount, freshBook}
 
 -- the run at q, in an arena; its pages' granules are those of words of one kind
 pub record FieldAsks (b : List ℕ) (sh : Shape) (q : ℕ) : Type 0 where
@@ -31,6 +33,10 @@ pub record Near (sh : Shape) (q base span inv : ℕ) : Type 0 where
   pub all : span ≡ sh .capacity * sh .block
   pub by : inv ≡ inverse (sh .block)
 
+pub record MarkedBits (r : Bool) (b′ b : List ℕ) (q j s n : ℕ) : Type 0 where
+  pub answer : r ≡ freshBits b q j s n
+  pub left : b′ ≡ cond (freshBits b q j s n) (setBits b q j s n) b
+
 pub record MarkedBlock (r : Bool) (b′ b : List ℕ) (q i : ℕ) : Type 0 where
   pub answer : r ≡ freshAt b q i
   pub left : b′ ≡ cond (freshAt b q i) (setMark b q i) b
@@ -43,6 +49,30 @@ pub record MarkedOne (r : Bool) (b′ b : List ℕ) (sh : Shape) (q w : ℕ) : T
 pub record MarkedIn (r : ℕ) (b′ b : List ℕ) (sh : Shape) (q : ℕ) (ws : List ℕ) (i : ℕ) : Type 0 where
   pub answer : r ≡ i + freshCount b sh q (drop i ws)
   pub left : b′ ≡ freshBook b sh q (drop i ws)
+
+-- n words from place i on, each a step behind the one before, in 64 bits
+pub record Stretched (n : ℕ) (ws : List ℕ) (step i room : ℕ) : Type 0 where
+  pub some : 1 ≤ n
+  pub most : n ≤ room
+  pub within : i + n ≤ length ws
+  pub each : (k : ℕ) → k < n → getD ws (i + k) 0 ≡ (getD ws i 0 + k * step) % 2 ^ 64
+
+-- on the way from place i and b: place r and b′
+pub record Reaches (r : ℕ) (b′ b : List ℕ) (sh : Shape) (q : ℕ) (ws : List ℕ) (i : ℕ) : Type 0 where
+  pub onward : i ≤ r
+  pub within : r ≤ length ws
+  pub answer : r + freshCount b′ sh q (drop r ws) ≡ i + freshCount b sh q (drop i ws)
+  pub left : freshBook b′ sh q (drop r ws) ≡ freshBook b sh q (drop i ws)
+
+-- up to place e, or to the first word that is not marked
+pub record MarkedTo (r : ℕ) (b′ b : List ℕ) (sh : Shape) (q : ℕ) (ws : List ℕ) (i e : ℕ) : Type 0 where
+  pub on : Reaches r b′ b sh q ws i
+  pub low : r ≤ e
+  pub stops : r < e → freshIn b′ sh q (getD ws r 0) ≡ false
+
+-- the word behind place i is no block of the run at q, if there is one
+pub record Alone (t : Bool) (sh : Shape) (q : ℕ) (ws : List ℕ) (i : ℕ) : Type 0 where
+  pub told : t ≡ true → i + 1 < length ws → blockIn sh q (getD ws (i + 1) 0) ≡ Nothing
 
 -- a word that is not out is passed over
 abbrev pub passes : Bool → Bool → Bool

@@ -4,8 +4,9 @@
 --     markCount, markBook     marking in turn: how many words were passed before one that is marked already, and the book then
 --     clearBook               the words of marks of the listed blocks that are out, set to 0, whole
 --     freshCount, freshBook   the same in the run at q alone, up to the first word that is not out there or is marked
+--     freshBits, setBits      blocks of one word of marks at once
 --     takeMarks               in one run: the marked blocks' out bits cleared and the marks with them, a word at a time
-use Prim.Native.Nat.{ℕ, zero, suc, _+_, _*_, _/_, _%_}
+use Prim.Native.Nat.{ℕ, zero, suc, _+_, _-_, _*_, _/_, _%_, _^_}
 use mathlib.Core.Bool.{Bool, true, cond, not, _&&_}
 use mathlib.Core.List.{List, [], _∷_}
 use lib.Dec.{eqb}
@@ -73,13 +74,24 @@ unfoldable pub freshBook : List ℕ → Shape → ℕ → List ℕ → List ℕ
 freshBook b sh q [] = b
 freshBook b sh q (w ∷ ws) = cond (freshIn b sh q w) (freshBook (markedIn b sh q w) sh q ws) b
 
--- ---- the marks of the run at q, 32 at a time: words 0 to m - 1 (cleared: `clearMarks`)
+-- ---- the marks of the run at q, 32 at a time: words i to i + m - 1
 -- the out bits of blocks 32 j to 32 j + 31 are this word
 abbrev pub outWord : ℕ → ℕ → ℕ
 outWord q j = 40016 + 4112 * q + j
 
-abbrev pub noMarks : List ℕ → ℕ → ℕ → Bool
-noMarks b q m = every (λ j. eqb (get b (mark q j)) 0) (below m)
+-- the n blocks from 32 j + s on, whose bits are in one word: they are out and not marked; the book with them marked
+abbrev pub freshBits : List ℕ → ℕ → ℕ → ℕ → ℕ → Bool
+freshBits b q j s n = eqb (read (bits s n) (getD b (outWord q j) 0)) (2 ^ n - 1) && eqb (read (bits s n) (get b (mark q j))) 0
+
+abbrev pub setBits : List ℕ → ℕ → ℕ → ℕ → ℕ → List ℕ
+setBits b q j s n = put b (mark q j) (place (bits s n) (get b (mark q j)) (2 ^ n - 1))
+
+abbrev pub noMarks : List ℕ → ℕ → ℕ → ℕ → Bool
+noMarks b q i m = every (λ j. eqb (get b (mark q (j + i))) 0) (below m)
+
+unfoldable pub clearWords : List ℕ → ℕ → ℕ → ℕ → List ℕ
+clearWords b q i zero = b
+clearWords b q i (suc m) = put (clearWords b q i m) (mark q (m + i)) 0
 
 abbrev pub flipWord : List ℕ → ℕ → ℕ → ℕ → List ℕ
 flipWord b q j x = set b (outWord q j) (bitXor (getD b (outWord q j) 0) x)
@@ -88,9 +100,9 @@ flipWord b q j x = set b (outWord q j) (bitXor (getD b (outWord q j) 0) x)
 unfoldable pub takeWord : List ℕ → ℕ → ℕ → List ℕ
 takeWord b q j = put (flipWord b q j (get b (mark q j))) (mark q j) 0
 
-unfoldable pub takeMarks : List ℕ → ℕ → ℕ → List ℕ
-takeMarks b q zero = b
-takeMarks b q (suc m) = takeWord (takeMarks b q m) q m
+unfoldable pub takeMarks : List ℕ → ℕ → ℕ → ℕ → List ℕ
+takeMarks b q i zero = b
+takeMarks b q i (suc m) = takeWord (takeMarks b q i m) q (m + i)
 
 -- ---- number 13 word by word: in the run at q; in the class's runs
 unfoldable pub cleanIn : List ℕ → Shape → ℕ → ℕ → Bool

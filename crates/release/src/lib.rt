@@ -3,8 +3,10 @@ mod blocks;
 mod fair;
 mod kinds;
 mod marks;
+mod one;
 mod park;
 mod release;
+mod spans;
 mod tests;
 
 pub use fair::limits_at;
@@ -16,9 +18,11 @@ pub use marks::clear_marks;
 pub use marks::mark_run;
 pub use marks::no_marks;
 pub use marks::take_marks;
+pub use one::release_one;
 pub use park::park_empty_page;
 pub use park::relist;
 pub use release::release_blocks;
+pub use release::release_list;
 pub use tests::out_fault;
 
 // What a release answers: a refusal's number, or the page's fate.
@@ -27,8 +31,8 @@ pub enum Released {
     Fate(u32),
 }
 
-// What the tests before 13's last come to: a refusal's number; or the run that has all listed blocks, and in how many words of its marks
-// they are marked, 0 for none.
+// What the tests before 13's last come to: a refusal's number; or the run that has all listed blocks, and in which words of its marks
+// they are marked (`span_of`), 0 for none.
 pub enum Ready {
     No(u32),
     In(u32, u32),

@@ -1,13 +1,13 @@
-// The words of marks of one run (document 02, A.3): a list's blocks are marked one by one, up to the first that is not out in the run or
-// is marked already, and the marks are taken away 32 at a time.
+// The words of marks of one run (document 02, A.3): a list's blocks are marked, up to the first that is not out in the run or is marked
+// already: up to 32 at a time where they follow one another, as in a list that a take gave, else one by one. The marks are taken away 32 at
+// a time.
 ghost use mathlib.Core.Path.{_≡_};
-ghost use Prim.Native.Nat.{_/_, _≤_};
+ghost use Prim.Native.Nat.{_+_, _/_, _≤_, _<_, min};
 ghost use lib.ListN.{length};
-ghost use Rattle.fields.specs.Clear.{clearMarks};
 ghost use Rattle.fields.specs.Field.{mark, Has};
 ghost use Rattle.pages.specs.Asks.{ClearAsks};
-ghost use Rattle.release.specs.Marks.{markAt, setMark, readyIn, noMarks, flipWord, takeWord, takeMarks};
-ghost use Rattle.release.specs.MarkAsks.{FieldAsks, Near, MarkedBlock, MarkedOne, MarkedIn};
+ghost use Rattle.release.specs.Marks.{markAt, setMark, readyIn, noMarks, clearWords, flipWord, takeWord, takeMarks};
+ghost use Rattle.release.specs.MarkAsks.{FieldAsks, Near, MarkedBits, MarkedBlock, MarkedOne, MarkedIn, MarkedTo, Stretched, Reaches, Alone};
 use super::Found;
 use super::blocks::block_in;
 use classes::Shape;
@@ -30,25 +30,35 @@ pub fn set_mark(meta: &mut [u32], q: u32, i: u32)
     fields::marks::set_word(meta, q, i / 32, fields::bits::set_ones(marks, i % 32, 1));
 }
 
-// Whether block i of the run at q is out and not marked; it then is marked. A mark that was there is seen by the word with it set, which is
-// the same then.
+// Whether the n blocks from 32 j + s on, whose bits are in one word, are out and not marked; they then are marked.
+fn mark_bits(meta: &mut [u32], q: u32, j: u32, s: u32, n: u32) -> bool
+    requires { ⌜ Has (now meta) (mark q j) ⌝ }
+    requires { ⌜ (s < 32) × (s + n ≤ 32) ⌝ }
+    ensures { λ r. ⌜ MarkedBits r (now (meta .exit)) (now (meta .entry)) q j s n ⌝ }
+{
+    let at = fields::page::page_word(q, 16 + j as usize);
+    let mask = fields::bits::set_ones(0, s, n);
+    let outs = meta[at];
+    let marks = meta[at + 128];
+    if outs & mask != mask {
+        return false;
+    }
+    if marks & mask != 0 {
+        return false;
+    }
+    meta[at + 128] = fields::bits::set_ones(marks, s, n);
+    true
+}
+
+// The same of block i.
 fn mark_block(meta: &mut [u32], q: u32, i: u32) -> bool
     requires { ⌜ Has (now meta) (mark q (i / 32)) ⌝ }
     ensures { λ r. ⌜ MarkedBlock r (now (meta .exit)) (now (meta .entry)) q i ⌝ }
 {
-    if fields::out::bit(meta, q, i) != 1 {
-        return false;
-    }
-    let marks = fields::marks::word(meta, q, i / 32);
-    let more = fields::bits::set_ones(marks, i % 32, 1);
-    if more == marks {
-        return false;
-    }
-    fields::marks::set_word(meta, q, i / 32, more);
-    true
+    mark_bits(meta, q, i / 32, i % 32, 1)
 }
 
-// The same of a word's block in the run at q.
+// And of a word's block in the run at q.
 fn mark_one(meta: &mut [u32], shape: Shape, q: u32, base: u64, span: u32, inv: u64, w: u64) -> bool
     requires { ⌜ FieldAsks (now meta) shape q ⌝ }
     requires { ⌜ Near shape q base span inv ⌝ }
@@ -61,17 +71,137 @@ fn mark_one(meta: &mut [u32], shape: Shape, q: u32, base: u64, span: u32, inv: u
     mark_block(meta, q, i)
 }
 
-// The listed words from place i on are marked, up to the first that is not out in the run at q or is marked: its place.
-pub fn mark_run(meta: &mut [u32], shape: Shape, q: u32, list: &[u64], from: usize) -> usize
-    requires { ⌜ FieldAsks (now meta) shape q ⌝ }
-    requires { ⌜ from ≤ length (now list) ⌝ }
-    ensures { λ r. ⌜ MarkedIn r (now (meta .exit)) (now (meta .entry)) shape q (now (list .entry)) from ⌝ }
+fn least(a: usize, b: usize) -> usize
+    ensures { λ r. ⌜ r ≡ min a b ⌝ }
 {
-    let base = word_of(shape, q, 0);
-    let span = shape.capacity * shape.block;
-    let inv = inverse_of(shape.block);
+    if a < b { a } else { b }
+}
+
+// How many listed words from place i on, at most `room`, are each one step behind the one before.
+fn stretch(list: &[u64], step: u64, i: usize, room: usize) -> usize
+    requires { ⌜ i < length (now list) ⌝ }
+    requires { ⌜ 1 ≤ room ⌝ }
+    ensures { λ r. ⌜ Stretched r (now (list .entry)) step i room ⌝ }
+{
+    let most = least(room, list.len() - i);
+    let mut want = std::num::wrapping_add_u64(list[i], step);
+    let mut n = 1;
+    while n < most {
+        if list[i + n] != want {
+            return n;
+        }
+        want = std::num::wrapping_add_u64(want, step);
+        n += 1;
+    }
+    n
+}
+
+// The blocks from place i on that follow one another upwards and lie in one word of marks are marked at once: the place behind them. Where one
+// of them would stop the marking, none is marked: i.
+fn mark_up(
+    meta: &mut [u32],
+    shape: Shape,
+    q: u32,
+    base: u64,
+    span: u32,
+    inv: u64,
+    list: &[u64],
+    i: usize,
+) -> usize
+    requires { ⌜ FieldAsks (now meta) shape q ⌝ }
+    requires { ⌜ Near shape q base span inv ⌝ }
+    requires { ⌜ i < length (now list) ⌝ }
+    ensures { λ r. ⌜ Reaches r (now (meta .exit)) (now (meta .entry)) shape q (now (list .entry)) i ⌝ }
+{
+    let block = block_in(shape, q, base, span, inv, list[i]);
+    let Found::At(t) = block else {
+        return i;
+    };
+    let s = t % 32;
+    let room = least(32 - s as usize, (shape.capacity - t) as usize);
+    let n = stretch(list, shape.block as u64, i, room);
+    if mark_bits(meta, q, t / 32, s, n as u32) {
+        return i + n;
+    }
+    i
+}
+
+// The same downwards.
+fn mark_down(
+    meta: &mut [u32],
+    shape: Shape,
+    q: u32,
+    base: u64,
+    span: u32,
+    inv: u64,
+    list: &[u64],
+    i: usize,
+) -> usize
+    requires { ⌜ FieldAsks (now meta) shape q ⌝ }
+    requires { ⌜ Near shape q base span inv ⌝ }
+    requires { ⌜ i < length (now list) ⌝ }
+    ensures { λ r. ⌜ Reaches r (now (meta .exit)) (now (meta .entry)) shape q (now (list .entry)) i ⌝ }
+{
+    let block = block_in(shape, q, base, span, inv, list[i]);
+    let Found::At(t) = block else {
+        return i;
+    };
+    let top = t % 32 + 1;
+    let step = std::num::wrapping_sub_u64(0, shape.block as u64);
+    let n = stretch(list, step, i, top as usize);
+    if mark_bits(meta, q, t / 32, top - n as u32, n as u32) {
+        return i + n;
+    }
+    i
+}
+
+// The same upwards or downwards, as the next word tells; i where it does neither.
+fn mark_stretch(
+    meta: &mut [u32],
+    shape: Shape,
+    q: u32,
+    base: u64,
+    span: u32,
+    inv: u64,
+    list: &[u64],
+    i: usize,
+) -> usize
+    requires { ⌜ FieldAsks (now meta) shape q ⌝ }
+    requires { ⌜ Near shape q base span inv ⌝ }
+    requires { ⌜ i < length (now list) ⌝ }
+    ensures { λ r. ⌜ Reaches r (now (meta .exit)) (now (meta .entry)) shape q (now (list .entry)) i ⌝ }
+{
+    if i + 1 < list.len() {
+        let step = std::num::wrapping_sub_u64(list[i + 1], list[i]);
+        if step == shape.block as u64 {
+            return mark_up(meta, shape, q, base, span, inv, list, i);
+        }
+        if std::num::wrapping_add_u64(step, shape.block as u64) == 0 {
+            return mark_down(meta, shape, q, base, span, inv, list, i);
+        }
+    }
+    i
+}
+
+// The words from place i on, below `end`, are marked one by one, up to the first that stops the marking: its place.
+fn mark_few(
+    meta: &mut [u32],
+    shape: Shape,
+    q: u32,
+    base: u64,
+    span: u32,
+    inv: u64,
+    list: &[u64],
+    from: usize,
+    end: usize,
+) -> usize
+    requires { ⌜ FieldAsks (now meta) shape q ⌝ }
+    requires { ⌜ Near shape q base span inv ⌝ }
+    requires { ⌜ (from ≤ end) × (end ≤ length (now list)) ⌝ }
+    ensures { λ r. ⌜ MarkedTo r (now (meta .exit)) (now (meta .entry)) shape q (now (list .entry)) from end ⌝ }
+{
     let mut i = from;
-    while i < list.len() {
+    while i < end {
         if mark_one(meta, shape, q, base, span, inv, list[i]) {
             i += 1;
         } else {
@@ -79,6 +209,89 @@ pub fn mark_run(meta: &mut [u32], shape: Shape, q: u32, list: &[u64], from: usiz
         }
     }
     i
+}
+
+// So many words go one by one before a stretch is looked for again: the look costs most of what it costs to mark a block.
+const FEW: usize = 16;
+
+fn mark_by(
+    meta: &mut [u32],
+    shape: Shape,
+    q: u32,
+    base: u64,
+    span: u32,
+    inv: u64,
+    list: &[u64],
+    from: usize,
+) -> usize
+    requires { ⌜ FieldAsks (now meta) shape q ⌝ }
+    requires { ⌜ Near shape q base span inv ⌝ }
+    requires { ⌜ from ≤ length (now list) ⌝ }
+    ensures { λ r. ⌜ MarkedIn r (now (meta .exit)) (now (meta .entry)) shape q (now (list .entry)) from ⌝ }
+{
+    let mut i = from;
+    while i < list.len() {
+        let next = mark_stretch(meta, shape, q, base, span, inv, list, i);
+        if next == i {
+            let end = i + least(FEW, list.len() - i);
+            let stop = mark_few(meta, shape, q, base, span, inv, list, i, end);
+            if stop != end {
+                return stop;
+            }
+            i = end;
+        } else {
+            i = next;
+        }
+    }
+    i
+}
+
+// Whether the word behind place i is no block of the run at q, or there is none: so it is with most words of a mixed list of many runs.
+fn alone(shape: Shape, q: u32, base: u64, span: u32, inv: u64, list: &[u64], i: usize) -> bool
+    requires { ⌜ Near shape q base span inv ⌝ }
+    requires { ⌜ i < length (now list) ⌝ }
+    ensures { λ r. ⌜ Alone r shape q (now (list .entry)) i ⌝ }
+{
+    if i + 1 < list.len() {
+        return std::num::wrapping_sub_u64(list[i + 1], base) >= span as u64;
+    }
+    true
+}
+
+// The listed words from place i on are marked, up to the first that is not out in the run at q or is marked: its place.
+pub fn mark_run(meta: &mut [u32], shape: Shape, q: u32, list: &[u64], from: usize) -> usize
+    requires { ⌜ FieldAsks (now meta) shape q ⌝ }
+    requires { ⌜ from ≤ length (now list) ⌝ }
+    ensures { λ r. ⌜ MarkedIn r (now (meta .exit)) (now (meta .entry)) shape q (now (list .entry)) from ⌝ }
+{
+    if from >= list.len() {
+        return from;
+    }
+    let base = word_of(shape, q, 0);
+    let span = shape.capacity * shape.block;
+    let inv = inverse_of(shape.block);
+    if alone(shape, q, base, span, inv, list, from) {
+        return mark_few(meta, shape, q, base, span, inv, list, from, from + 1);
+    }
+    mark_by(meta, shape, q, base, span, inv, list, from)
+}
+
+// A list of fewer goes one by one: handing it to `mark_by` costs more than a stretch saves (docs/BACKEND.md).
+const SHORT: usize = 8;
+
+// The same of a list whose words are meant for one run. It is not `mark_run` so that `mark_by` has two callers and stands for itself, and `mark_run`,
+// being short then, is taken into the loop of a mixed list.
+pub fn mark_here(meta: &mut [u32], shape: Shape, q: u32, list: &[u64]) -> usize
+    requires { ⌜ FieldAsks (now meta) shape q ⌝ }
+    ensures { λ r. ⌜ MarkedIn r (now (meta .exit)) (now (meta .entry)) shape q (now (list .entry)) 0 ⌝ }
+{
+    let base = word_of(shape, q, 0);
+    let span = shape.capacity * shape.block;
+    let inv = inverse_of(shape.block);
+    if list.len() < SHORT {
+        return mark_few(meta, shape, q, base, span, inv, list, 0, list.len());
+    }
+    mark_by(meta, shape, q, base, span, inv, list, 0)
 }
 
 // Whether a word's block of the run at q is out, and its word of marks is 0.
@@ -112,28 +325,28 @@ pub fn ready_one(meta: &[u32], shape: Shape, q: u32, w: u64) -> bool
     )
 }
 
-// Words 0 to m - 1 of the run's marks are 0; they are gathered to the end, as in `all_of_kind`.
-pub fn no_marks(meta: &[u32], q: u32, m: u32) -> bool
-    requires { ⌜ ClearAsks (now meta) q m ⌝ }
-    ensures { λ r. ⌜ r ≡ noMarks (now (meta .entry)) q m ⌝ }
+// Words i to i + m - 1 of the run's marks are 0; they are gathered to the end, as in `all_of_kind`.
+pub fn no_marks(meta: &[u32], q: u32, i: u32, m: u32) -> bool
+    requires { ⌜ ClearAsks (now meta) q (m + i) ⌝ }
+    ensures { λ r. ⌜ r ≡ noMarks (now (meta .entry)) q i m ⌝ }
 {
     let mut any = 0;
     let mut j = 0;
     while j < m {
-        any |= fields::marks::word(meta, q, j);
+        any |= fields::marks::word(meta, q, j + i);
         j += 1;
     }
     any == 0
 }
 
 // They become 0.
-pub fn clear_marks(meta: &mut [u32], q: u32, m: u32)
-    requires { ⌜ ClearAsks (now meta) q m ⌝ }
-    ensures { λ _. ⌜ now (meta .exit) ≡ clearMarks (now (meta .entry)) q m ⌝ }
+pub fn clear_marks(meta: &mut [u32], q: u32, i: u32, m: u32)
+    requires { ⌜ ClearAsks (now meta) q (m + i) ⌝ }
+    ensures { λ _. ⌜ now (meta .exit) ≡ clearWords (now (meta .entry)) q i m ⌝ }
 {
     let mut j = 0;
     while j < m {
-        fields::marks::set_word(meta, q, j, 0);
+        fields::marks::set_word(meta, q, j + i, 0);
         j += 1;
     }
 }
@@ -156,14 +369,14 @@ fn take_word(meta: &mut [u32], q: u32, j: u32)
     fields::marks::set_word(meta, q, j, 0);
 }
 
-// Words 0 to m - 1 of the marks become 0, and the blocks that were marked are out no longer.
-pub fn take_marks(meta: &mut [u32], q: u32, m: u32)
-    requires { ⌜ ClearAsks (now meta) q m ⌝ }
-    ensures { λ _. ⌜ now (meta .exit) ≡ takeMarks (now (meta .entry)) q m ⌝ }
+// Words i to i + m - 1 of the marks become 0, and the blocks that were marked are out no longer.
+pub fn take_marks(meta: &mut [u32], q: u32, i: u32, m: u32)
+    requires { ⌜ ClearAsks (now meta) q (m + i) ⌝ }
+    ensures { λ _. ⌜ now (meta .exit) ≡ takeMarks (now (meta .entry)) q i m ⌝ }
 {
     let mut j = 0;
     while j < m {
-        take_word(meta, q, j);
+        take_word(meta, q, j + i);
         j += 1;
     }
 }

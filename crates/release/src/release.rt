@@ -2,18 +2,20 @@
 ghost use mathlib.Core.Path.{_≡_};
 ghost use mathlib.Core.Bool.{true};
 ghost use mathlib.Core.List.{map};
-ghost use Prim.Native.Nat.{_≤_};
+ghost use Prim.Native.Nat.{_+_, _/_, _%_, _≤_};
 ghost use Rattle.facts.specs.Lists.{every};
 ghost use lib.Dec.{eqb, ltb};
 ghost use lib.ListN.{length};
+ghost use Rattle.classes.specs.Shape.{shapeOf};
 ghost use Rattle.fields.specs.Field.{words};
 ghost use Rattle.pages.specs.Stack.{marks, indexOf, pageAt};
 ghost use Rattle.calls.specs.Out.{startOf};
 ghost use Rattle.calls.specs.Release.{releaseBlocks};
 ghost use Rattle.release.specs.Asks.{ClassAsks, StartAsks, TakeAsks};
-ghost use Rattle.pages.specs.Carve.{outWords};
+ghost use Rattle.release.specs.Spans.{SpanOf};
 ghost use Rattle.release.specs.Act.{takenBy, RunAsks, MarkedAsks, PassedAsks, ListAsks, Answered, MarkedAll, Attempted, Prepared, Finished};
 use super::Found;
+use super::KEPT_FATE;
 use super::Marked;
 use super::Ready;
 use super::Released;
@@ -21,13 +23,16 @@ use super::blocks::run_of;
 use super::fair::release_fair;
 use super::kinds::all_of_kind;
 use super::marks::clear_marks;
-use super::marks::mark_run;
+use super::marks::mark_here;
 use super::marks::no_marks;
 use super::marks::ready_one;
 use super::marks::take_marks;
+use super::one::release_one;
 use super::park::settle;
+use super::spans::span_of;
 use super::tests::out_fault;
 use classes::Shape;
+use classes::shape_of;
 use pages::page_within;
 use stack::index_by;
 use stack::inverse_of;
@@ -69,17 +74,17 @@ fn take_list(meta: &mut [u32], shape: Shape, q: u32, list: &[u64])
     }
 }
 
-// They are, by m words of their marks, or by the list where they are not marked.
+// They are, by the words of marks that m stands for, or by the list where they are not marked.
 fn take_all(meta: &mut [u32], shape: Shape, q: u32, m: u32, list: &[u64])
     requires { ⌜ TakeAsks (now meta) shape q (now list) ⌝ }
-    requires { ⌜ m ≤ 128 ⌝ }
+    requires { ⌜ m % 256 + m / 256 ≤ 128 ⌝ }
     ensures { λ _. ⌜ now (meta .exit) ≡ takenBy (now (meta .entry)) shape q m (now (list .entry)) ⌝ }
 {
     if m == 0 {
         take_list(meta, shape, q, list);
         return;
     }
-    take_marks(meta, q, m);
+    take_marks(meta, q, m / 256, m % 256);
 }
 
 // 13's last test, and the act; else the marks are cleared.
@@ -100,7 +105,7 @@ fn finish(
         take_all(meta, shape, q, m, list);
         return Released::Fate(settle(meta, n, c, shape, host, q, list));
     }
-    clear_marks(meta, q, m);
+    clear_marks(meta, q, m / 256, m % 256);
     Released::Refused(13)
 }
 
@@ -143,19 +148,19 @@ fn try_one(meta: &[u32], n: u32, c: u32, shape: Shape, q: u32, list: &[u64]) -> 
     Marked::Not
 }
 
-// A list whose words are all blocks out in the run at q, no mark of which is set: they are marked, in words 0 to m - 1. Else the book is as
-// it was.
+// A list whose words are all blocks out in the run at q: they are marked, in words of marks that m stands for, all 0 before. Else the book
+// is as it was.
 fn mark_all(meta: &mut [u32], n: u32, c: u32, shape: Shape, q: u32, m: u32, list: &[u64]) -> bool
     requires { ⌜ RunAsks n (now meta) c shape q (now list) ⌝ }
-    requires { ⌜ m ≡ outWords shape ⌝ }
+    requires { ⌜ SpanOf m shape q (now list) ⌝ }
     ensures { λ r. ⌜ MarkedAll r (now (meta .exit)) n (now (meta .entry)) c shape q m (now (list .entry)) ⌝ }
 {
-    if no_marks(meta, q, m) {
-        let count = mark_run(meta, shape, q, list, 0);
+    if no_marks(meta, q, m / 256, m % 256) {
+        let count = mark_here(meta, shape, q, list);
         if count == list.len() {
             return true;
         }
-        clear_marks(meta, q, m);
+        clear_marks(meta, q, m / 256, m % 256);
         return false;
     }
     false
@@ -165,7 +170,7 @@ fn try_run(meta: &mut [u32], n: u32, c: u32, shape: Shape, q: u32, list: &[u64])
     requires { ⌜ RunAsks n (now meta) c shape q (now list) ⌝ }
     ensures { λ r. ⌜ Attempted r (now (meta .exit)) n (now (meta .entry)) c shape (now (list .entry)) ⌝ }
 {
-    let m = (shape.capacity + 31) / 32;
+    let m = span_of(shape, q, list);
     if mark_all(meta, n, c, shape, q, m, list) {
         return Marked::Run(q, m);
     }
@@ -199,7 +204,7 @@ fn prepare(meta: &mut [u32], n: u32, c: u32, shape: Shape, list: &[u64]) -> Read
 }
 
 // From number 7 on.
-pub fn release_blocks(
+fn release_shaped(
     meta: &mut [u32],
     n: u32,
     c: u32,
@@ -218,4 +223,26 @@ pub fn release_blocks(
         Ready::No(k) => Released::Refused(k),
         Ready::In(q, m) => finish(meta, n, c, shape, host, q, m, list),
     }
+}
+
+// The shape is made here: handed over it would go through memory (docs/BACKEND.md).
+pub fn release_list(meta: &mut [u32], n: u32, c: u32, host: u32, list: &[u64]) -> Released
+    requires { ⌜ ClassAsks n (now meta) c (shapeOf c) ⌝ }
+    ensures { λ r. ⌜ Answered r (now (meta .exit)) (releaseBlocks n (now (meta .entry)) c (shapeOf c) host (now (list .entry))) ⌝ }
+{
+    release_shaped(meta, n, c, shape_of(c), host, list)
+}
+
+// The same, at once where one block is listed and others of its run stay out.
+pub fn release_blocks(meta: &mut [u32], n: u32, c: u32, host: u32, list: &[u64]) -> Released
+    requires { ⌜ ClassAsks n (now meta) c (shapeOf c) ⌝ }
+    ensures { λ r. ⌜ Answered r (now (meta .exit)) (releaseBlocks n (now (meta .entry)) c (shapeOf c) host (now (list .entry))) ⌝ }
+{
+    if list.len() != 1 {
+        return release_list(meta, n, c, host, list);
+    }
+    if release_one(meta, n, c, list[0]) {
+        return Released::Fate(KEPT_FATE);
+    }
+    release_list(meta, n, c, host, list)
 }

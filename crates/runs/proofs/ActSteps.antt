@@ -151,6 +151,14 @@ module _ (n : ℕ) (b : List ℕ) (a : Arena) (m h w d : ℕ) where
       let u : r .frontier ≡ a .frontier + m = ap (λ z. z .frontier) e in
       rw (le-leb (a .frontier + m) n (omega arith)) (subst (λ z. Answers s x (settle b z m (a .frontier) true h w d)) e k)
 
+  -- settled; c is the record made anew
+  module _ (x : List ℕ) (r : Arena) (e : r ≡ advanced m a) (l : r .frontier ≤ n) (t : Bool) (k : ℕ) (f : k ≡ h) (u : t ≡ commitGranted k) where
+    pub frontier-granted : t ≡ true → x ≡ endRun b r m (a .frontier) true w d .book → Answers (Run (a .frontier) true) x (fromFrontier n b a m h w d)
+    frontier-granted v o = from-room (Run (a .frontier) true) x r e l (settles-run b r m (a .frontier) true h w d t k x f u v o)
+
+    pub frontier-given : t ≡ false → (c : Arena) → c ≡ r → x ≡ endGiven b c m (a .frontier) true .book → Answers Nothing x (fromFrontier n b a m h w d)
+    frontier-given v c z o = from-room Nothing x r e l (settles-given b r m (a .frontier) true h w d t k x f u v (o ∙ ap (λ y. endGiven b y m (a .frontier) true .book) z))
+
   module _ (c : ℕ) where
     pub none-drawn : (s : Commit) (y : List ℕ) → c ≡ 0 → Answers s y (fromFrontier n b a m h w d) → Answers s y (commitDrawn n b a c m h w d)
     unfolding commitDrawn
@@ -168,6 +176,25 @@ module _ (n : ℕ) (b : List ℕ) (a : Arena) (m h w d : ℕ) where
     pub planned-on : (s : ℕ) (y : Commit) (x : List ℕ) (r : Arena) → s ≡ nextState (a .state) h → r ≡ withState s a → (s ≡ 2 → ⊥) → Answers y x (commitDrawn n b r c m h w d) → Answers y x (commitPlanned n b a c m h w d)
     unfolding commitPlanned
     planned-on s y x r e f t k = rw (← e, ne-eqb s 2 t) (rw f at k)
+
+module _ (b : List ℕ) (a : Arena) (m i : ℕ) (g : Hole) (here : g ≡ loadHole b i) (h w d : ℕ) (x y : List ℕ) (r : Arena) (e : Draws b a m i x r) (t : Bool) (k : ℕ) (f : k ≡ h) (u : t ≡ commitGranted k) where
+  pub hole-granted : t ≡ true → y ≡ endRun x r m (g .first) false w d .book → Answers (Run (g .first) false) y (holeDrawn b a i m h w d)
+  hole-granted v o = from-drawn b a m i g here h w d (Run (g .first) false) x y r e (settles-run x r m (g .first) false h w d t k y f u v o)
+
+  pub hole-given : t ≡ false → (c : Arena) → c ≡ r → y ≡ endGiven x c m (g .first) false .book → Answers Nothing y (holeDrawn b a i m h w d)
+  hole-given v c z o = from-drawn b a m i g here h w d Nothing x y r e (settles-given x r m (g .first) false h w d t k y f u v (o ∙ ap (λ q. endGiven x q m (g .first) false .book) z))
+
+-- the record made anew is of the same run
+pub run-anew : (b : List ℕ) (a c : Arena) (first : ℕ) (q : Request) → c ≡ a → RunIn b a first q → RunIn b c first q
+run-anew b a c first q e k = subst (λ z. RunIn b z first q) (sym e) k
+
+pub frontier-ends : (b : List ℕ) (a r c : Arena) (q : Request) (t : Bool) (k : ℕ) → RequestIn b q → RecordIn (q .size) a → (commitGranted (q .host) ≡ false → a .frontier + q .pages ≤ q .size → EndsIn b a) → r ≡ advanced (q .pages) a → r .frontier ≤ q .size
+    → c ≡ r → k ≡ q .host → t ≡ commitGranted k → t ≡ false → EndsIn b c
+frontier-ends b a r c q t k rq ra re e l z f u v = run-ends-in b c (a .frontier) q t k (run-anew b r c (a .frontier) q z (frontier-run b a r q rq ra re e l)) f u v
+
+pub hole-ends : (b : List ℕ) (a : Arena) (i : ℕ) (x : List ℕ) (r c : Arena) (q : Request) (t : Bool) (k : ℕ) → RequestIn b q → Draws b a (q .pages) i x r → RecordIn (q .size) a → HoleIn a i (loadHole b i) (q .pages) → EndsIn b a
+    → c ≡ r → k ≡ q .host → t ≡ commitGranted k → t ≡ false → EndsIn x c
+hole-ends b a i x r c q t k rq d ra rh re z f u v = run-ends-in x c (loadHole b i .first) q t k (run-anew x r c (loadHole b i .first) q z (hole-run b a (q .pages) i (loadHole b i) refl x r q d refl rq ra rh re)) f u v
 
 -- STATE
 pub state-stays : (s h : ℕ) → (s ≡ 0 → ⊥) → s ≡ nextState s h

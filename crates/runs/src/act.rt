@@ -16,7 +16,7 @@ ghost use lib.ListN.{length};
 ghost use Rattle.words.specs.Limits.{maxPages};
 ghost use Rattle.words.specs.Host.{commitGranted};
 ghost use Rattle.arena.specs.Load.{loadHole};
-ghost use Rattle.holes.specs.Act.{Draws, endRun, endGiven, settle, fromFrontier, holeDrawn, commitDrawn, nextState, commitPlanned};
+ghost use Rattle.holes.specs.Act.{Draws, endRun, endGiven, fromFrontier, holeDrawn, commitDrawn, nextState, commitPlanned};
 ghost use Rattle.runs.specs.Asks.{RecordIn, HoleIn, PlanIn, EndsIn, RequestIn, RunIn};
 ghost use Rattle.runs.specs.Answer.{Answers};
 
@@ -56,16 +56,19 @@ fn end_given(meta: &mut [u32], a: Arena, first: u32, fresh: bool, q: Request)
     }
 }
 
-pub fn settle(meta: &mut [u32], a: Arena, first: u32, fresh: bool, q: Request) -> Commit
-    requires { ⌜ RunIn (now meta) a first q ⌝ }
-    ensures { λ r. ⌜ Answers r (now (meta .exit)) (settle (now (meta .entry)) a (q .pages) first fresh (q .host) (q .owner) (q .held)) ⌝ }
+// The same record, made anew: the one that is handed over is in memory, and the other can stay in registers.
+fn anew(a: Arena) -> Arena
+    ensures { λ r. ⌜ r ≡ a ⌝ }
 {
-    if Host::of(q.host).commit_granted() {
-        end_run(meta, a, first, fresh, q);
-        return Commit::Run(first, fresh);
+    Arena {
+        state: a.state,
+        frontier: a.frontier,
+        count: a.count,
+        total: a.total,
+        commits: a.commits,
+        reuses: a.reuses,
+        abandoned: a.abandoned,
     }
-    end_given(meta, a, first, fresh, q);
-    Commit::Nothing
 }
 
 pub fn from_frontier(meta: &mut [u32], a: Arena, q: Request) -> Commit
@@ -77,7 +80,12 @@ pub fn from_frontier(meta: &mut [u32], a: Arena, q: Request) -> Commit
         store::store_record(meta, a);
         return Commit::Nothing;
     }
-    settle(meta, b, a.frontier, true, q)
+    if Host::of(q.host).commit_granted() {
+        end_run(meta, b, a.frontier, true, q);
+        return Commit::Run(a.frontier, true);
+    }
+    end_given(meta, anew(b), a.frontier, true, q);
+    Commit::Nothing
 }
 
 fn from_hole(meta: &mut [u32], a: Arena, i: u32, q: Request) -> Commit
@@ -86,7 +94,12 @@ fn from_hole(meta: &mut [u32], a: Arena, i: u32, q: Request) -> Commit
 {
     let x = hole_from(meta, i);
     let b = draw(meta, a, i, x, q.pages);
-    settle(meta, b, x.first, false, q)
+    if Host::of(q.host).commit_granted() {
+        end_run(meta, b, x.first, false, q);
+        return Commit::Run(x.first, false);
+    }
+    end_given(meta, anew(b), x.first, false, q);
+    Commit::Nothing
 }
 
 fn commit_drawn(meta: &mut [u32], a: Arena, code: u32, q: Request) -> Commit

@@ -7,18 +7,16 @@ pub mod owners;
 mod store;
 pub mod would;
 
-use holes::Arena;
 use holes::plans;
 ghost use mathlib.Core.Path.{_≡_};
-ghost use mathlib.Core.Bool.{true};
-ghost use Prim.Native.Nat.{_+_, _≤_};
+ghost use mathlib.Core.Bool.{true, cond};
+ghost use Prim.Native.Nat.{_+_, _*_, _≤_, _^_};
 ghost use Rattle.words.specs.Limits.{maxPages};
 ghost use Rattle.arena.specs.Fair.{recordFair};
 ghost use Rattle.arena.specs.Calls.{commitFor};
-ghost use Rattle.holes.specs.Record.{recordOf};
 ghost use Rattle.holes.specs.Act.{commitRead};
 ghost use Rattle.runs.specs.Asks.{BookIn, RequestIn};
-ghost use Rattle.runs.specs.Answer.{Answers};
+ghost use Rattle.runs.specs.Answer.{Answers, wordOf, commitOf};
 
 // What is asked of the arena: pages for an owner, in an arena of so many pages; the host word, and HELD as it was.
 pub struct Request {
@@ -36,11 +34,11 @@ pub enum Commit {
     Nothing,
 }
 
-// Some holes are stored.
-fn commit_among(meta: &mut [u32], a: Arena, q: Request) -> Commit
-    requires { ⌜ RequestIn (now meta) q × (recordFair (q .size) (now meta) ≡ true) × (a ≡ recordOf (now meta)) ⌝ }
+fn commit_read(meta: &mut [u32], q: Request) -> Commit
+    requires { ⌜ RequestIn (now meta) q × (recordFair (q .size) (now meta) ≡ true) ⌝ }
     ensures { λ r. ⌜ Answers r (now (meta .exit)) (commitRead (q .size) (now (meta .entry)) (q .host) (q .pages) (q .owner) (q .held)) ⌝ }
 {
+    let a = load::load_record(meta);
     let p = plans::plan(meta, a, q.pages);
     if p.fair {
         return act::commit_planned(meta, a, p.code, q);
@@ -48,20 +46,7 @@ fn commit_among(meta: &mut [u32], a: Arena, q: Request) -> Commit
     Commit::Refused(13)
 }
 
-// With no hole stored none is read.
-fn commit_read(meta: &mut [u32], q: Request) -> Commit
-    requires { ⌜ RequestIn (now meta) q × (recordFair (q .size) (now meta) ≡ true) ⌝ }
-    ensures { λ r. ⌜ Answers r (now (meta .exit)) (commitRead (q .size) (now (meta .entry)) (q .host) (q .pages) (q .owner) (q .held)) ⌝ }
-{
-    let a = load::load_record(meta);
-    if a.count == 0 {
-        return act::commit_planned(meta, a, 0, q);
-    }
-    commit_among(meta, a, q)
-}
-
-// A run of more pages than any arena has is asked for by one page more than that.
-pub fn commit_for(meta: &mut [u32], size: u32, host: u32, pages: u32, owner: u32) -> Commit
+fn commit_tested(meta: &mut [u32], size: u32, host: u32, pages: u32, owner: u32) -> Commit
     requires { ⌜ BookIn (now meta) size × (pages ≤ maxPages + 1) ⌝ }
     ensures { λ r. ⌜ Answers r (now (meta .exit)) (commitFor size (now (meta .entry)) host pages owner) ⌝ }
 {
@@ -76,4 +61,54 @@ pub fn commit_for(meta: &mut [u32], size: u32, host: u32, pages: u32, owner: u32
         return commit_read(meta, q);
     }
     Commit::Refused(13)
+}
+
+fn run_word(first: u32, fresh: bool) -> u64
+    ensures { λ r. ⌜ r ≡ first * 2 ^ 32 + cond fresh 2 1 ⌝ }
+{
+    let upper = (first as u64) * 4_294_967_296;
+    if fresh {
+        return upper + 2;
+    }
+    upper + 1
+}
+
+// An answer as one number: an enum would go through memory.
+fn word_of(c: Commit) -> u64
+    ensures { λ r. ⌜ r ≡ wordOf c ⌝ }
+{
+    match c {
+        Commit::Refused(k) => (k as u64) * 4_294_967_296,
+        Commit::Run(q, f) => run_word(q, f),
+        Commit::Nothing => 3,
+    }
+}
+
+pub fn commit_of(w: u64) -> Commit
+    ensures { λ r. ⌜ r ≡ commitOf w ⌝ }
+{
+    let v = (w / 4_294_967_296) as u32;
+    let k = w % 4;
+    if k == 0 {
+        return Commit::Refused(v);
+    }
+    if k == 3 {
+        return Commit::Nothing;
+    }
+    Commit::Run(v, k == 2)
+}
+
+// A run of more pages than any arena has is asked for by one page more than that.
+pub fn commit_word(meta: &mut [u32], size: u32, host: u32, pages: u32, owner: u32) -> u64
+    requires { ⌜ BookIn (now meta) size × (pages ≤ maxPages + 1) ⌝ }
+    ensures { λ r. ⌜ Answers (commitOf r) (now (meta .exit)) (commitFor size (now (meta .entry)) host pages owner) ⌝ }
+{
+    word_of(commit_tested(meta, size, host, pages, owner))
+}
+
+pub fn commit_for(meta: &mut [u32], size: u32, host: u32, pages: u32, owner: u32) -> Commit
+    requires { ⌜ BookIn (now meta) size × (pages ≤ maxPages + 1) ⌝ }
+    ensures { λ r. ⌜ Answers r (now (meta .exit)) (commitFor size (now (meta .entry)) host pages owner) ⌝ }
+{
+    commit_of(commit_word(meta, size, host, pages, owner))
 }

@@ -3,20 +3,55 @@ use Prim.Native.Nat.{ℕ, zero, suc, _+_, _-_, _*_, _/_, _%_, _≤_, _<_, min}
 use native.Mathlib.Omega.{arith}
 use native.Mathlib.Nat.{add-zero}
 use native.Mathlib.Numerals.{add-one}
-use mathlib.Core.List.{List, [], _∷_, map}
+use mathlib.Core.List.{List, [], _∷_, _++_, map, reverse, reverse-append}
+use mathlib.Core.Bool.{true}
 use mathlib.Core.Path.{_≡_, refl, sym, ap, _∙_}
-use lib.ListN.{length, set, length-set, length-map}
+use lib.Dec.{eqb}
+use lib.ListN.{length, set, length-set, length-map, length-reverse}
+use borrow.Author.Tests.{lt-ltb, eqb-true}
+use Rattle.facts.specs.Lists.{every}
+use Rattle.facts.proofs.Bools.{by-cases, and-left, and-right}
 use Rattle.classes.specs.declared.Shape.{Shape}
 use Rattle.fields.specs.Field.{out, put}
 use Rattle.fields.specs.Mark.{markOut}
-use Rattle.fields.proofs.Laws.{length-put}
+use Rattle.fields.proofs.Laws.{length-put, put-comm}
 use Rattle.model.specs.Page.{wordOf}
 use Rattle.pages.specs.Stack.{downs, marks, spliced, Gave}
-use Rattle.pages.specs.Asks.{NameAsks}
-use Rattle.pages.proofs.Downs.{length-downs}
+use Rattle.pages.specs.Asks.{NameAsks, FreshAsks}
+use Rattle.pages.proofs.Downs.{small, length-downs, downs-below}
+use Rattle.pages.proofs.Marks.{marks-append}
 use Rattle.pages.proofs.Spliced.{spliced-none, spliced-one, spliced-twice}
 
 -- ---- words
+-- j blocks' words stand below `at`, and one more is written before them
+named-more : (sh : Shape) (q : ℕ) (l₀ : List ℕ) (at j i w : ℕ) (xs l l′ : List ℕ) → j < at → at ≤ length l₀ → length xs ≡ j → length l ≡ length l₀ → l ≡ spliced l₀ (at - j) (map (wordOf sh q) xs) → w ≡ wordOf sh q i → l′ ≡ set l (at - 1 - j) w
+    → l′ ≡ spliced l₀ (at - (j + 1)) (map (wordOf sh q) (i ∷ xs))
+named-more sh q l₀ at j i w xs l l′ r p n long v e f =
+    let ws = map (wordOf sh q) xs in
+    let many : length ws ≡ j = length-map xs (wordOf sh q) ∙ n in
+    let place : at - 1 - j + length (w ∷ []) ≡ at - j = omega arith in
+    let room : at - j + length ws ≤ length l₀ = omega arith in
+    let from : at - 1 - j ≡ at - (j + 1) = omega arith in
+    f
+    ∙ sym (spliced-one l (at - 1 - j) w (omega arith))
+    ∙ ap (λ z. spliced z (at - 1 - j) (w ∷ [])) v
+    ∙ spliced-twice l₀ (at - j) (at - 1 - j) (w ∷ []) ws place room
+    ∙ ap (λ z. spliced l₀ z (w ∷ ws)) from
+    ∙ ap (λ z. spliced l₀ (at - (j + 1)) (z ∷ ws)) e
+
+-- downs from its lowest on
+downs-last : (a k : ℕ) → downs a (suc k) ≡ downs (suc a) k ++ (a ∷ [])
+downs-last a zero = ap (λ z. z ∷ []) (add-zero a)
+downs-last a (suc k) =
+    let e : a + suc k ≡ suc a + k = omega arith in
+    ap (λ z. z ∷ downs a (suc k)) e ∙ ap (λ z. (suc a + k) ∷ z) (downs-last a k)
+
+rising-more : (a k : ℕ) → reverse (downs a (suc k)) ≡ a ∷ reverse (downs (suc a) k)
+rising-more a k = ap reverse (downs-last a k) ∙ reverse-append (downs (suc a) k) (a ∷ [])
+
+length-rising : (a k : ℕ) → length (reverse (downs a k)) ≡ k
+length-rising a k = length-reverse (downs a k) ∙ length-downs a k
+
 module _ (sh : Shape) (q : ℕ) (l₀ : List ℕ) (at a k : ℕ) where
   pub record Naming (l : List ℕ) (j : ℕ) : Type 0 where
     pub within : j ≤ k
@@ -28,28 +63,50 @@ module _ (sh : Shape) (q : ℕ) (l₀ : List ℕ) (at a k : ℕ) where
 
   pub naming-more : (l l′ : List ℕ) (j w : ℕ) → NameAsks sh q l₀ at a k → j < k → Naming l j → w ≡ wordOf sh q (a + j) → l′ ≡ set l (at - 1 - j) w → Naming l′ (j + 1)
   naming-more l l′ j w h u v e f =
-      let ws = map (wordOf sh q) (downs a j) in
-      let many : length ws ≡ j = length-map (downs a j) (wordOf sh q) ∙ length-downs a j in
-      let place : at - 1 - j + length (w ∷ []) ≡ at - j = omega (arith, h .room) in
-      let long : at - j + length ws ≤ length l₀ = omega (arith, h .room, h .places) in
-      let from : at - 1 - j ≡ at - (j + 1) = omega arith in
-      let more : w ∷ ws ≡ map (wordOf sh q) (downs a (j + 1)) = ap (λ z. z ∷ ws) e ∙ ap (λ z. map (wordOf sh q) (downs a z)) (sym (add-one j)) in
       record {
         within = omega arith;
         long = ap length f ∙ length-set l (at - 1 - j) w ∙ v .long;
         named =
-            f
-            ∙ sym (spliced-one l (at - 1 - j) w (omega (arith, h .room, h .places, v .long)))
-            ∙ ap (λ z. spliced z (at - 1 - j) (w ∷ [])) (v .named)
-            ∙ spliced-twice l₀ (at - j) (at - 1 - j) (w ∷ []) ws place long
-            ∙ ap (λ z. spliced l₀ z (w ∷ ws)) from
-            ∙ ap (spliced l₀ (at - (j + 1))) more;
+            named-more sh q l₀ at j (a + j) w (downs a j) l l′ (omega (arith, h .room)) (h .places) (length-downs a j) (v .long) (v .named) e f
+            ∙ ap (λ z. spliced l₀ (at - (j + 1)) (map (wordOf sh q) (downs a z))) (sym (add-one j));
       }
 
   pub naming-done : (l : List ℕ) (j : ℕ) → k ≤ j → Naming l j → l ≡ spliced l₀ (at - k) (map (wordOf sh q) (downs a k))
   naming-done l j h v =
       let e : j ≡ k = omega (arith, v .within) in
       rw e at (v .named)
+
+  -- the highest j of them, the lowest first
+  pub record Raising (l : List ℕ) (j : ℕ) : Type 0 where
+    pub within : j ≤ k
+    pub long : length l ≡ length l₀
+    pub named : l ≡ spliced l₀ (at - j) (map (wordOf sh q) (reverse (downs (a + (k - j)) j)))
+
+  pub raising-none : Raising l₀ 0
+  raising-none = record { within = omega arith; long = refl; named = sym (spliced-none l₀ (at - 0)) }
+
+  pub raising-more : (l l′ : List ℕ) (j w : ℕ) → NameAsks sh q l₀ at a k → j < k → Raising l j → w ≡ wordOf sh q (a + (k - 1 - j)) → l′ ≡ set l (at - 1 - j) w → Raising l′ (j + 1)
+  raising-more l l′ j w h u v e f =
+      let i = a + (k - 1 - j) in
+      let next : a + (k - j) ≡ suc i = omega arith in
+      let same : i ≡ a + (k - (j + 1)) = omega arith in
+      let xs = reverse (downs (suc i) j) in
+      let was : l ≡ spliced l₀ (at - j) (map (wordOf sh q) xs) = v .named ∙ ap (λ z. spliced l₀ (at - j) (map (wordOf sh q) (reverse (downs z j)))) next in
+      let more : i ∷ xs ≡ reverse (downs (a + (k - (j + 1))) (j + 1)) = sym (rising-more i j) ∙ ap (λ z. reverse (downs i z)) (sym (add-one j)) ∙ ap (λ z. reverse (downs z (j + 1))) same in
+      record {
+        within = omega arith;
+        long = ap length f ∙ length-set l (at - 1 - j) w ∙ v .long;
+        named =
+            named-more sh q l₀ at j i w xs l l′ (omega (arith, h .room)) (h .places) (length-rising (suc i) j) (v .long) was e f
+            ∙ ap (λ z. spliced l₀ (at - (j + 1)) (map (wordOf sh q) z)) more;
+      }
+
+  pub raising-done : (l : List ℕ) (j : ℕ) → k ≤ j → Raising l j → l ≡ spliced l₀ (at - k) (map (wordOf sh q) (reverse (downs a k)))
+  raising-done l j h v =
+      let e : j ≡ k = omega (arith, v .within) in
+      let z : a + (k - k) ≡ a = omega arith in
+      let d : l ≡ spliced l₀ (at - k) (map (wordOf sh q) (reverse (downs (a + (k - k)) k))) = rw e at (v .named) in
+      d ∙ ap (λ y. spliced l₀ (at - k) (map (wordOf sh q) (reverse (downs y k)))) z
 
 -- ---- out bits
 mark-more : (b : List ℕ) (q a m n : ℕ) → markOut (markOut b q a m) q (a + m) n ≡ markOut b q a (m + n)
@@ -107,3 +164,30 @@ pub carved-done : (b : List ℕ) (sh : Shape) (q : ℕ) (l : List ℕ) (at a k :
     → Gave b sh q l at (downs a k) b′ l′
 carved-done b sh q l at a k b′ l′ e f =
     record { outs = f; list = e ∙ ap (λ z. spliced l (at - z) (map (wordOf sh q) (downs a k))) (sym (length-downs a k)) }
+
+-- ---- the order in which bits are set is all one
+mark-first : (b : List ℕ) (q a : ℕ) (is : List ℕ) → small a ≡ true → every small is ≡ true → put (marks b q 1 is) (out q a) 1 ≡ marks (put b (out q a) 1) q 1 is
+mark-first b q a [] s t = refl
+mark-first b q a (i ∷ is) s t =
+    let si = and-left (small i) (every small is) t in
+    let r = mark-first b q a is s (and-right (small i) (every small is) t) in
+    by-cases (eqb i a)
+    (λ e. let z : i ≡ a = eqb-true i a e in rw z (ap (λ y. put y (out q a) 1) r))
+    (λ e. put-comm (marks b q 1 is) (out q i) (out q a) 1 1 si s (rw e) ∙ ap (λ y. put y (out q i) 1) r)
+
+mark-rising : (b : List ℕ) (q a k : ℕ) → a + k ≤ 4096 → marks b q 1 (reverse (downs a k)) ≡ marks b q 1 (downs a k)
+mark-rising b q a zero h = refl
+mark-rising b q a (suc k) h =
+    ap (marks b q 1) (rising-more a k)
+    ∙ ap (λ z. put z (out q a) 1) (mark-rising b q (suc a) k (omega arith))
+    ∙ mark-first b q a (downs (suc a) k) (lt-ltb a 4096 (omega arith)) (downs-below (suc a) k 4096 (omega arith))
+    ∙ marks-append b q 1 (downs (suc a) k) (a ∷ [])
+    ∙ ap (marks b q 1) (sym (downs-last a k))
+
+pub raised-done : (b : List ℕ) (sh : Shape) (q : ℕ) (l : List ℕ) (at a k : ℕ) (b′ l′ : List ℕ) → FreshAsks b sh q l at a k → l′ ≡ spliced l (at - k) (map (wordOf sh q) (reverse (downs a k))) → b′ ≡ marks b q 1 (downs a k)
+    → Gave b sh q l at (reverse (downs a k)) b′ l′
+raised-done b sh q l at a k b′ l′ h e f =
+    record {
+      outs = f ∙ sym (mark-rising b q a k (omega (arith, h .blocks, h .sound .few)));
+      list = e ∙ ap (λ z. spliced l (at - z) (map (wordOf sh q) (reverse (downs a k)))) (sym (length-rising a k));
+    }

@@ -4,3 +4,4 @@ pub mod PopSteps
 pub mod CarveSteps
 pub mod InverseLaws
 pub mod PushSteps
+pub mod StretchSteps

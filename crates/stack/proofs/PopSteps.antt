@@ -12,11 +12,12 @@ use Rattle.facts.specs.Lists.{every}
 use Rattle.facts.proofs.Bools.{and-right}
 use Rattle.classes.specs.declared.Shape.{Shape}
 use Rattle.fields.specs.Field.{slot, get}
-use Rattle.pages.specs.Stack.{tops, Gave}
-use Rattle.pages.specs.Asks.{GiveAsks, PopAsks}
+use Rattle.pages.specs.Stack.{tops, downs, Gave}
+use Rattle.pages.specs.Asks.{GiveAsks, PopAsks, FreshAsks}
 use Rattle.pages.proofs.Downs.{small, every-reverse, every-below}
 use Rattle.pages.proofs.Tops.{length-tops, tops-fewer, tops-kept, popped-more, every-tops}
 use Rattle.pages.proofs.Marks.{marks-kept}
+use Rattle.stack.specs.Stretch.{StretchAsks}
 use Rattle.stack.proofs.DrawSteps.{gave-none, gave-more, gave-long}
 
 tops-join : (b : List ℕ) (q h n t : ℕ) → h ≤ t → tops b q (h + n) t ≡ tops b q h t ++ tops b q n (t - h)
@@ -214,3 +215,49 @@ module _ (b : List ℕ) (sh : Shape) (q : ℕ) (l : List ℕ) (at t k : ℕ) (a 
 
       pub some-done : (b₃ l₃ : List ℕ) → Gave b₂ sh q l₂ (at - many) (reverse (tops b₂ q (k - many) (t - many))) b₃ l₃ → Gave b sh q l at (reverse (tops b q k t)) b₃ l₃
       some-done b₃ l₃ g″ = rw all at (gave-then b sh q l at t k a many b₂ l₂ both (k - many) all-of b₃ l₃ g″)
+
+-- ---- whole words: none, or blocks that follow one another from the top or from the lowest entry on
+module _ (b : List ℕ) (sh : Shape) (q : ℕ) (l : List ℕ) (at x k : ℕ) (a : PopAsks b sh q l at (2 * x) (2 * k)) where
+  pub pairs-empty : k ≡ 0 → Gave b sh q l at (reverse (tops b q (2 * k) (2 * x))) b l
+  pairs-empty h = end-none b sh q l at (2 * x) (2 * k) a (omega arith)
+
+  module _ (s : k ≡ 0 → ⊥) (t w : ℕ) (et : t ≡ get b (slot q (2 * x - 1))) (ew : w ≡ get b (slot q (2 * (x - k)))) where
+    top-below : t < sh .capacity
+    top-below = entry-below b sh q l at (2 * x) (2 * k) a 0 t (omega (arith, s)) et
+
+    low-below : w < sh .capacity
+    low-below =
+        let e : 2 * (x - k) ≡ 2 * x - suc (2 * k - 1) = omega (arith, s) in
+        entry-below b sh q l at (2 * x) (2 * k) a (2 * k - 1) w (omega (arith, s)) (ew ∙ ap (λ z. get b (slot q z)) e)
+
+    pub ends-below : (t < 4096) × (w < 4096)
+    ends-below = (omega (arith, top-below, a .sound .few), omega (arith, low-below, a .sound .few))
+
+    taken : 2 * x - 2 * (x - k) ≡ 2 * k
+    taken = omega (arith, a .enough)
+
+    module _ (f : ℕ) (h : f + 2 * k ≤ sh .capacity) where
+      stretch : StretchAsks b q (x - k) x f
+      stretch = record { there = a .there; begins = omega arith; slots = a .slots; blocks = rw taken (omega (arith, a .sound .few)) }
+
+      fresh : FreshAsks b sh q l at f (2 * k)
+      fresh = record { sound = a .sound; below = a .below; there = a .there; blocks = h; room = a .room; places = a .places }
+
+    pub rise-asks : w + 2 * k ≡ t + 1 → StretchAsks b q (x - k) x w
+    rise-asks e = stretch w (omega (arith, top-below))
+
+    pub raise-asks : w + 2 * k ≡ t + 1 → FreshAsks b sh q l at w (2 * k)
+    raise-asks e = fresh w (omega (arith, top-below))
+
+    pub fall-asks : t + 2 * k ≡ w + 1 → StretchAsks b q (x - k) x t
+    fall-asks e = stretch t (omega (arith, low-below))
+
+    pub lower-asks : t + 2 * k ≡ w + 1 → FreshAsks b sh q l at t (2 * k)
+    lower-asks e = fresh t (omega (arith, low-below))
+
+    module _ (r : Bool) (e : r ≡ true) (b′ l′ : List ℕ) where
+      pub raised : (r ≡ true → tops b q (2 * x - 2 * (x - k)) (2 * x) ≡ downs w (2 * x - 2 * (x - k))) → Gave b sh q l at (reverse (downs w (2 * k))) b′ l′ → Gave b sh q l at (reverse (tops b q (2 * k) (2 * x))) b′ l′
+      raised h g = let z : tops b q (2 * k) (2 * x) ≡ downs w (2 * k) = rw taken at (h e) in rw z g
+
+      pub lowered : (r ≡ true → reverse (tops b q (2 * x - 2 * (x - k)) (2 * x)) ≡ downs t (2 * x - 2 * (x - k))) → Gave b sh q l at (downs t (2 * k)) b′ l′ → Gave b sh q l at (reverse (tops b q (2 * k) (2 * x))) b′ l′
+      lowered h g = let z : reverse (tops b q (2 * k) (2 * x)) ≡ downs t (2 * k) = rw taken at (h e) in rw z g

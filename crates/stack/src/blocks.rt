@@ -2,6 +2,7 @@
 ghost use mathlib.Core.Path.{_≡_};
 ghost use Prim.Native.Nat.{_+_, _-_, _/_, _^_, _≤_, min};
 ghost use lib.ListN.{length};
+ghost use Rattle.classes.specs.Shape.{shapeOf};
 ghost use Rattle.fields.specs.Field.{words};
 ghost use Rattle.model.specs.Page.{wordOf};
 ghost use mathlib.Core.Bool.{true};
@@ -9,6 +10,8 @@ ghost use Rattle.pages.specs.Stack.{hasMore, indexOf, isBlock};
 ghost use Rattle.pages.specs.Asks.{WordAsks, IndexAsks};
 ghost use Rattle.stack.specs.Inverse.{inverse};
 use classes::Shape;
+use classes::part_in;
+use classes::row_of;
 use words::Word;
 
 // Granules of a page.
@@ -46,8 +49,8 @@ pub fn index_of(shape: Shape, q: u32, w: u64) -> u32
     ((granule - start) / shape.block as u64) as u32
 }
 
-// The most that is no more than a word when it is multiplied by a block's granules. A division takes as long as all else of a release of one
-// block; a `match` becomes a read-only table (docs/BACKEND.md).
+// How often a block's granules go into the largest number of 32 bits. A division takes as long as all else of a short list; a `match` becomes a
+// table of jumps (docs/BACKEND.md).
 fn part_of(block: u32) -> u32
     requires { ⌜ 1 ≤ block ⌝ }
     ensures { λ r. ⌜ r ≡ (2 ^ 32 - 1) / block ⌝ }
@@ -127,6 +130,13 @@ pub fn inverse_of(block: u32) -> u64
     ensures { λ r. ⌜ r ≡ inverse block ⌝ }
 {
     part_of(block) as u64 + 1
+}
+
+// The same by the class.
+pub fn inverse_at(c: u32) -> u64
+    ensures { λ r. ⌜ r ≡ inverse (shapeOf c .block) ⌝ }
+{
+    part_in(row_of(c)) as u64 + 1
 }
 
 // As `index_of`, with the inverse of the block's granules. A run is less than 2^16 granules long.

@@ -1,5 +1,5 @@
-// New blocks given: their words one after another, their out bits word by word.
-ghost use mathlib.Core.List.{map};
+// Blocks given that follow one another, new ones above all: their words one after another, their out bits word by word.
+ghost use mathlib.Core.List.{map, reverse};
 ghost use mathlib.Core.Path.{_≡_};
 ghost use Prim.Native.Nat.{_-_};
 ghost use Rattle.model.specs.Page.{wordOf};
@@ -17,6 +17,18 @@ fn name_blocks(shape: Shape, q: u32, list: &mut [u64], at: u32, from: u32, k: u3
     let mut j = 0;
     while j < k {
         list[(at - 1 - j) as usize] = word_of(shape, q, from + j);
+        j += 1;
+    }
+}
+
+// The same with the lowest block's word first.
+fn raise_names(shape: Shape, q: u32, list: &mut [u64], at: u32, from: u32, k: u32)
+    requires { ⌜ NameAsks shape q (now list) at from k ⌝ }
+    ensures { λ _. ⌜ now (list .exit) ≡ spliced (now (list .entry)) (at - k) (map (wordOf shape q) (reverse (downs from k))) ⌝ }
+{
+    let mut j = 0;
+    while j < k {
+        list[(at - 1 - j) as usize] = word_of(shape, q, from + (k - 1 - j));
         j += 1;
     }
 }
@@ -51,5 +63,22 @@ pub fn carve_blocks(
     ensures { λ _. ⌜ Gave (now (meta .entry)) shape q (now (list .entry)) at (downs from k) (now (meta .exit)) (now (list .exit)) ⌝ }
 {
     name_blocks(shape, q, list, at, from, k);
+    mark_blocks(meta, q, from, k);
+}
+
+// k blocks from block `from` on that lie on the stack, the highest on top.
+pub fn raise_blocks(
+    meta: &mut [u32],
+    shape: Shape,
+    q: u32,
+    list: &mut [u64],
+    at: u32,
+    from: u32,
+    k: u32,
+)
+    requires { ⌜ FreshAsks (now meta) shape q (now list) at from k ⌝ }
+    ensures { λ _. ⌜ Gave (now (meta .entry)) shape q (now (list .entry)) at (reverse (downs from k)) (now (meta .exit)) (now (list .exit)) ⌝ }
+{
+    raise_names(shape, q, list, at, from, k);
     mark_blocks(meta, q, from, k);
 }

@@ -7,7 +7,7 @@ use mathlib.Core.List.{List}
 use mathlib.Core.Option.{Option, none, some}
 use mathlib.Core.Path.{_≡_, refl, sym, ap, _∙_}
 use lib.Dec.{eqb}
-use lib.ListN.{length, replicate, length-replicate}
+use lib.ListN.{length}
 use borrow.Author.Tests.{lt-ltb, le-ltb, le-leb, ne-eqb, eqb-true, not-true, not-false}
 use Rattle.facts.specs.Lists.{isSome}
 use Rattle.facts.proofs.Bools.{by-cases}
@@ -64,7 +64,7 @@ module _ (n : ℕ) (b : List ℕ) (sh : Shape) where
     new-wanted l = rw (← e, not-false t h) (omega arith)
 
 -- a run that the arena gave, with no block out, gives what is wanted, up to its capacity
-module _ (b : List ℕ) (c : ℕ) (sh : Shape) (l : List ℕ) (q : ℕ) (a : TakeRunAsks b c sh l q) where
+module _ (b : List ℕ) (c : ℕ) (sh : Shape) (q : ℕ) (a : TakeRunAsks b c sh q) where
   gives : (m k top : ℕ) → k ≤ top → min m k + min (m - k) (top - k) ≡ min m top
   gives m k top h = omega arith
 
@@ -77,25 +77,16 @@ module _ (b : List ℕ) (c : ℕ) (sh : Shape) (l : List ℕ) (q : ℕ) (a : Tak
 
   run-count : (l′ : List ℕ) → onRun b c sh l′ (some q) .count ≡ min (sh .batch) (sh .capacity)
   unfolding onRun
-  run-count l′ = ap (λ z. z .count) (linked-planned b c sh l q a) ∙ run-gives
+  run-count l′ = ap (λ z. z .count) (linked-planned b c sh q a) ∙ run-gives
 
 module _ (n : ℕ) (b : List ℕ) (c : ℕ) (sh : Shape) (t : TakeAsks n b c sh) (alone : get b (class partial c) ≡ 0) (l : List ℕ) where
   abbrev commits : Committed
   commits = commitFor n b 15 (sh .pages) (suc c)
 
-  places : List ℕ
-  places = replicate (sh .batch) 0
-
-  wide : sh .batch ≤ length places
-  unfolding places
-  wide = omega (arith, length-replicate {A = ℕ} (sh .batch) 0)
-
-  fits : (q : ℕ) → commits .code ≡ 0 → commits .run ≡ some q → TakeRunAsks (commits .book) c sh places q
+  fits : (q : ℕ) → commits .code ≡ 0 → commits .run ≡ some q → TakeRunAsks (commits .book) c sh q
   fits q e f =
-      new-runs n b c sh 15 places (Made.Run q (commits .fresh)) q (commits .fresh) (commits .book)
-      (record { asks = t; alone = alone; places = wide })
-      (rw add-one (record { answer = rw (e, f); book = refl }))
-      refl
+      new-runs n b c sh 15 (Made.Run q (commits .fresh)) (commits .book) (rw add-one (record { answer = rw (e, f); book = refl })) q (commits .fresh) refl
+      (record { asks = t; alone = alone })
 
   new-is : takeNew n b c sh 15 l .count ≡ newCount n b sh
   unfolding takeNew newCount onRun
@@ -107,7 +98,7 @@ module _ (n : ℕ) (b : List ℕ) (c : ℕ) (sh : Shape) (t : TakeAsks n b c sh)
     where
       go : (o : Option ℕ) → commits .run ≡ o → commits .code ≡ 0 → onRun (commits .book) c sh l (commits .run) .count ≡ cond (isSome (commits .run)) (min (sh .batch) (sh .capacity)) 0
       go none f e = rw f
-      go (some q) f e = rw f (run-count (commits .book) c sh places q (fits q e f) l)
+      go (some q) f e = rw f (run-count (commits .book) c sh q (fits q e f) l)
 
 -- ---- the sources in their order
 module _ (n : ℕ) (b : List ℕ) (c : ℕ) (sh : Shape) (f : ℕ) (e : f ≡ get b (arena frontier)) where

@@ -11,3 +11,4 @@ pub mod TakeGranted
 pub mod TakeNew
 pub mod TakeSteps
 pub mod CountSteps
+pub mod AnswerSteps

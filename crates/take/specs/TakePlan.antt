@@ -10,12 +10,13 @@ use lib.Dec.{eqb, leb}
 use lib.ListN.{length, drop}
 use Rattle.classes.specs.declared.Shape.{Shape}
 use Rattle.classes.specs.Sound.{Sound}
-use Rattle.fields.specs.Field.{arena, class, page, frontier, partial, owner, free, carved, next, prev, words, get}
+use Rattle.fields.specs.Field.{arena, class, page, frontier, partial, empty, owner, free, carved, next, prev, words, get}
 use Rattle.fields.specs.Ranges.{maxPages}
 use Rattle.model.specs.Page.{wordOf}
 use Rattle.pages.specs.Stack.{latest, draw, spliced, pageSlots}
 use Rattle.pages.specs.Links.{top, wake}
 use Rattle.pages.specs.declared.Park.{Park}
+use Rattle.pages.specs.declared.Park.the-variants.{Empty, Cold}
 use Rattle.pages.specs.Asks.{DrawAsks}
 use Rattle.take.specs.declared.take_plan.Plan.{Plan}
 use Rattle.calls.specs.Take.{sound, walk, Filled, unlistSpent, fillFrom}
@@ -60,25 +61,27 @@ pub record ParkedAsks (n : ℕ) (b : List ℕ) (c : ℕ) (sh : Shape) (k : Park)
   pub alone : get b (class partial c) ≡ 0
   pub some : 0 < get b (class (top k) c)
 
+-- the first store that has a page, or the last
+abbrev pub firstStore : List ℕ → ℕ → Park
+firstStore b c = cond (eqb (get b (class empty c)) 0) Cold Empty
+
 -- its newest page heads the partial list
 abbrev pub woken : List ℕ → ℕ → Park → List ℕ
 woken b c k = wake b c k (get b (class (top k) c) - 1)
 
 -- ---- a run that the arena gave, where the class has no page
-pub record TakeRunAsks (b : List ℕ) (c : ℕ) (sh : Shape) (l : List ℕ) (q : ℕ) : Type 0 where
+pub record TakeRunAsks (b : List ℕ) (c : ℕ) (sh : Shape) (q : ℕ) : Type 0 where
   pub pages : ℕ
   pub asks : TakeAsks pages b c sh
   pub alone : get b (class partial c) ≡ 0
   pub ends : q + sh .pages ≤ pages
   pub under : q + sh .pages ≤ get b (arena frontier)
   pub owners : (i : ℕ) → i < sh .pages → get b (page owner (q + i)) ≡ suc c
-  pub places : sh .batch ≤ length l
 
 -- a take from the arena, and from whatever source
-pub record TakeNewAsks (n : ℕ) (b : List ℕ) (c : ℕ) (sh : Shape) (l : List ℕ) : Type 0 where
+pub record TakeNewAsks (n : ℕ) (b : List ℕ) (c : ℕ) (sh : Shape) : Type 0 where
   pub asks : TakeAsks n b c sh
   pub alone : get b (class partial c) ≡ 0
-  pub places : sh .batch ≤ length l
 
 pub record BlocksAsks (n : ℕ) (b : List ℕ) (c : ℕ) (sh : Shape) (l : List ℕ) : Type 0 where
   pub known : c < 76

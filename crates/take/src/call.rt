@@ -1,11 +1,11 @@
 // Takes of blocks, small and medium, from number 13 on: the first source that has a page is planned, then the list is filled.
-ghost use mathlib.Core.Option.{some};
-ghost use Prim.Native.Nat.{_≤_};
-ghost use lib.ListN.{length};
+ghost use mathlib.Core.Path.{_≡_};
 ghost use Rattle.classes.specs.Shape.{shapeOf};
-ghost use Rattle.calls.specs.Take.{fromPartial, fromPark, onRun, takeNew, takeBlocks, takeCall};
-ghost use Rattle.take.specs.TakePlan.{TakeAsks, ParkedAsks, TakeRunAsks, TakeNewAsks, BlocksAsks, CallAsks};
-ghost use Rattle.take.specs.TakeAnswer.{Takes};
+ghost use Rattle.pages.specs.Asks.{RowAsks};
+ghost use Rattle.calls.specs.Take.{fromPartial, fromPark, takeNew, takeBlocks, takeCall};
+ghost use Rattle.take.specs.TakePlan.{TakeAsks, ParkedAsks, TakeRunAsks, TakeNewAsks, BlocksAsks, CallAsks, firstStore};
+ghost use Rattle.take.specs.TakeCount.{CountAsks};
+ghost use Rattle.take.specs.TakeAnswer.{answerIn, Takes, Readies, onRunAt};
 use crate::take_fill::fill;
 use crate::take_plan::plan_parked;
 use crate::take_plan::plan_partial;
@@ -14,89 +14,119 @@ use classes::Shape;
 use pages::Park;
 use runs::Commit;
 
+// The numbers of 32 bits.
+const WORD: u64 = 4_294_967_296;
+
 // A refusal's number, or how many blocks stand in the list, and whether all are virgin.
 pub enum Take {
     Refused(u32),
     Took(u32, bool),
 }
 
-// From the partial list.
-fn take_partial(meta: &mut [u32], n: u32, c: u32, shape: Shape, list: &mut [u64]) -> Take
+// What a source has: a refusal's number, no page, or how many blocks the partial list gives now, and whether all are virgin.
+pub enum Ready {
+    Refused(u32),
+    Nothing,
+    Fill(u32, bool),
+}
+
+// The partial list.
+fn ready_partial(meta: &[u32], n: u32, c: u32, shape: Shape) -> Ready
     requires { ⌜ TakeAsks n (now meta) c shape ⌝ }
-    requires { ⌜ shape .batch ≤ length (now list) ⌝ }
-    ensures { λ r. ⌜ Takes r (now (meta .exit)) (now (list .exit)) (fromPartial n (now (meta .entry)) c shape (now (list .entry))) ⌝ }
+    ensures { λ r. ⌜ Readies r (now (meta .entry)) c shape (fromPartial n (now (meta .entry)) c shape) ⌝ }
 {
     let plan = plan_partial(meta, n, c, shape);
     if !plan.fair {
-        return Take::Refused(13);
+        return Ready::Refused(13);
     }
-    fill(meta, c, shape, list, plan.count);
-    Take::Took(plan.count, plan.virgin)
+    Ready::Fill(plan.count, plan.virgin)
 }
 
 // The newest page of a store, where there is no partial page.
-fn take_parked(meta: &mut [u32], n: u32, c: u32, shape: Shape, park: Park, list: &mut [u64]) -> Take
+fn ready_parked(meta: &mut [u32], n: u32, c: u32, shape: Shape, park: Park) -> Ready
     requires { ⌜ ParkedAsks n (now meta) c shape park ⌝ }
-    requires { ⌜ shape .batch ≤ length (now list) ⌝ }
-    ensures { λ r. ⌜ Takes r (now (meta .exit)) (now (list .exit)) (fromPark n (now (meta .entry)) c shape park (now (list .entry))) ⌝ }
+    ensures { λ r. ⌜ Readies r (now (meta .exit)) c shape (fromPark n (now (meta .entry)) c shape park) ⌝ }
 {
     let plan = plan_parked(meta, n, c, shape, park);
     if !plan.fair {
-        return Take::Refused(13);
+        return Ready::Refused(13);
     }
     let q = lists::store_top(meta, c, park) - 1;
     lists::wake(meta, c, park, q);
-    fill(meta, c, shape, list, plan.count);
-    Take::Took(plan.count, plan.virgin)
+    Ready::Fill(plan.count, plan.virgin)
 }
 
 // A run that the arena gave, as the class's only page.
-fn take_run(meta: &mut [u32], c: u32, shape: Shape, list: &mut [u64], q: u32) -> Take
-    requires { ⌜ TakeRunAsks (now meta) c shape (now list) q ⌝ }
-    ensures { λ r. ⌜ Takes r (now (meta .exit)) (now (list .exit)) (onRun (now (meta .entry)) c shape (now (list .entry)) (some q)) ⌝ }
+fn ready_run(meta: &mut [u32], c: u32, shape: Shape, q: u32) -> Ready
+    requires { ⌜ TakeRunAsks (now meta) c shape q ⌝ }
+    ensures { λ r. ⌜ Readies r (now (meta .exit)) c shape (onRunAt (now (meta .entry)) c shape q) ⌝ }
 {
     lists::new_run(meta, shape, q);
     let count = supply(meta, shape, q, shape.batch);
     lists::link_partial(meta, c, q);
-    fill(meta, c, shape, list, count);
-    Take::Took(count, true)
+    Ready::Fill(count, true)
 }
 
 // A new run from the arena; none is a take of no block.
-fn take_new(meta: &mut [u32], n: u32, c: u32, shape: Shape, host: u32, list: &mut [u64]) -> Take
-    requires { ⌜ TakeNewAsks n (now meta) c shape (now list) ⌝ }
-    ensures { λ r. ⌜ Takes r (now (meta .exit)) (now (list .exit)) (takeNew n (now (meta .entry)) c shape host (now (list .entry))) ⌝ }
+fn ready_new(meta: &mut [u32], n: u32, c: u32, shape: Shape, host: u32) -> Ready
+    requires { ⌜ TakeNewAsks n (now meta) c shape ⌝ }
+    ensures { λ r. ⌜ Readies r (now (meta .exit)) c shape (takeNew n (now (meta .entry)) c shape host) ⌝ }
 {
     let commit = runs::commit_for(meta, n, host, shape.pages, c + 1);
     match commit {
-        Commit::Refused(k) => Take::Refused(k),
-        Commit::Nothing => Take::Took(0, false),
-        Commit::Run(q, _) => take_run(meta, c, shape, list, q),
+        Commit::Refused(k) => Ready::Refused(k),
+        Commit::Nothing => Ready::Nothing,
+        Commit::Run(q, _) => ready_run(meta, c, shape, q),
     }
 }
 
-// The first source that has a page.
+// The store that a take turns to first.
+fn first_store(meta: &[u32], c: u32) -> Park
+    requires { ⌜ RowAsks (now meta) c ⌝ }
+    ensures { λ r. ⌜ r ≡ firstStore (now (meta .entry)) c ⌝ }
+{
+    if fields::class::empty(meta, c) != 0 {
+        return Park::Empty;
+    }
+    Park::Cold
+}
+
+// The first source that has a page. Each stands once, so that all of it is one function and its structs stay in registers (docs/BACKEND.md).
+fn make_ready(meta: &mut [u32], n: u32, c: u32, shape: Shape, host: u32) -> Ready
+    requires { ⌜ CountAsks n (now meta) c shape ⌝ }
+    ensures { λ r. ⌜ Readies r (now (meta .exit)) c shape (takeBlocks n (now (meta .entry)) c shape host) ⌝ }
+{
+    if n < fields::arena::frontier(meta) {
+        return Ready::Refused(13);
+    }
+    if fields::class::partial(meta, c) != 0 {
+        return ready_partial(meta, n, c, shape);
+    }
+    let park = first_store(meta, c);
+    if lists::store_top(meta, c, park) == 0 {
+        return ready_new(meta, n, c, shape, host);
+    }
+    ready_parked(meta, n, c, shape, park)
+}
+
+// From the first source that has a page.
 fn take_blocks(meta: &mut [u32], n: u32, c: u32, shape: Shape, host: u32, list: &mut [u64]) -> Take
     requires { ⌜ BlocksAsks n (now meta) c shape (now list) ⌝ }
     ensures { λ r. ⌜ Takes r (now (meta .exit)) (now (list .exit)) (takeBlocks n (now (meta .entry)) c shape host (now (list .entry))) ⌝ }
 {
-    if n < fields::arena::frontier(meta) {
-        return Take::Refused(13);
+    let found = make_ready(meta, n, c, shape, host);
+    match found {
+        Ready::Refused(k) => Take::Refused(k),
+        Ready::Nothing => Take::Took(0, false),
+        Ready::Fill(m, v) => {
+            fill(meta, c, shape, list, m);
+            Take::Took(m, v)
+        }
     }
-    if fields::class::partial(meta, c) != 0 {
-        return take_partial(meta, n, c, shape, list);
-    }
-    if fields::class::empty(meta, c) != 0 {
-        return take_parked(meta, n, c, shape, Park::Empty, list);
-    }
-    if fields::class::cold(meta, c) != 0 {
-        return take_parked(meta, n, c, shape, Park::Cold, list);
-    }
-    take_new(meta, n, c, shape, host, list)
 }
 
 // A class's take from number 5 on, on the book of an arena of n pages.
-pub fn take_call(meta: &mut [u32], n: u32, c: u32, host: u32, list: &mut [u64]) -> Take
+fn take_sized(meta: &mut [u32], n: u32, c: u32, host: u32, list: &mut [u64]) -> Take
     requires { ⌜ CallAsks n (now meta) c ⌝ }
     ensures { λ r. ⌜ Takes r (now (meta .exit)) (now (list .exit)) (takeCall n (now (meta .entry)) c (shapeOf c) host (now (list .entry))) ⌝ }
 {
@@ -105,4 +135,45 @@ pub fn take_call(meta: &mut [u32], n: u32, c: u32, host: u32, list: &mut [u64]) 
         return Take::Refused(5);
     }
     take_blocks(meta, n, c, shape, host, list)
+}
+
+// An answer as one word: it is returned in a register, where an enum goes through memory (docs/BACKEND.md).
+fn packed(answer: Take) -> u64
+    ensures { λ r. ⌜ answerIn r ≡ answer ⌝ }
+{
+    match answer {
+        Take::Refused(k) => k as u64,
+        Take::Took(m, v) => {
+            if v {
+                2 * WORD + m as u64
+            } else {
+                WORD + m as u64
+            }
+        }
+    }
+}
+
+pub fn answer_in(w: u64) -> Take
+    ensures { λ r. ⌜ r ≡ answerIn w ⌝ }
+{
+    let m = (w % WORD) as u32;
+    if w < WORD {
+        return Take::Refused(m);
+    }
+    Take::Took(m, 2 * WORD <= w)
+}
+
+// The take with its answer as one word.
+pub fn take_packed(meta: &mut [u32], n: u32, c: u32, host: u32, list: &mut [u64]) -> u64
+    requires { ⌜ CallAsks n (now meta) c ⌝ }
+    ensures { λ r. ⌜ Takes (answerIn r) (now (meta .exit)) (now (list .exit)) (takeCall n (now (meta .entry)) c (shapeOf c) host (now (list .entry))) ⌝ }
+{
+    packed(take_sized(meta, n, c, host, list))
+}
+
+pub fn take_call(meta: &mut [u32], n: u32, c: u32, host: u32, list: &mut [u64]) -> Take
+    requires { ⌜ CallAsks n (now meta) c ⌝ }
+    ensures { λ r. ⌜ Takes r (now (meta .exit)) (now (list .exit)) (takeCall n (now (meta .entry)) c (shapeOf c) host (now (list .entry))) ⌝ }
+{
+    answer_in(take_packed(meta, n, c, host, list))
 }

@@ -1,19 +1,20 @@
 -- The ways out of the calls that a trace's words stand for.
 use Prim.Native.Nat.{ℕ, _-_, _≤_, _<_}
 use native.Mathlib.Omega.{arith}
+use mathlib.Core.Bool.{Bool, true, false}
 use mathlib.Core.List.{List, [], _∷_}
 use mathlib.Core.Path.{_≡_, refl}
 use borrow.Author.Tests.{lt-ltb, le-ltb, le-leb, lt-leb}
-use Rattle.classes.specs.declared.Shape.{Shape}
 use Rattle.classes.specs.Shape.{shapeOf}
 use Rattle.classes.proofs.Shapes.{shape-sound}
 use Rattle.fields.specs.Field.{page, owner, get}
 use Rattle.pages.specs.Stack.{pageAt}
 use Rattle.calls.specs.Release.{releaseBlocks}
 use Rattle.release.specs.declared.Released.{Released}
-use Rattle.release.specs.declared.Released.the-variants.{Refused}
+use Rattle.release.specs.declared.Released.the-variants.{Refused, Fate}
 use Rattle.release.specs.Asks.{ClassAsks}
 use Rattle.release.specs.Act.{Answered}
+use Rattle.release.specs.One.{OneBack}
 use Rattle.trace.specs.Words.{ownerAt, backNow}
 use Rattle.trace.specs.Asks.{BookAsks}
 
@@ -36,9 +37,19 @@ module _ (n : ℕ) (b : List ℕ) (w k : ℕ) (e : k ≡ ownerAt n b w) where
   unfolding backNow
   back-high z h = rw (← e, le-leb 1 k (omega (arith, z)), lt-leb k 76 h) (record { answer = refl; left = refl })
 
-  pub back-asks : (k ≡ 0 → ⊥) → k ≤ 76 → BookAsks n b → (sh : Shape) → sh ≡ shapeOf (k - 1) → ClassAsks n b (k - 1) sh
-  back-asks z h a sh f = record { known = omega (arith, z); sound = rw f (shape-sound (k - 1)); few = a .few; long = a .long }
+  pub back-asks : (k ≡ 0 → ⊥) → k ≤ 76 → BookAsks n b → ClassAsks n b (k - 1) (shapeOf (k - 1))
+  back-asks z h a = record { known = omega (arith, z); sound = shape-sound (k - 1); few = a .few; long = a .long }
 
-  pub back-done : (k ≡ 0 → ⊥) → k ≤ 76 → (sh : Shape) → sh ≡ shapeOf (k - 1) → (r : Released) (b′ : List ℕ) → Answered r b′ (releaseBlocks n b (k - 1) sh 15 (w ∷ [])) → Answered r b′ (backNow n b w)
+  done : (k ≡ 0 → ⊥) → k ≤ 76 → (r : Released) (b′ : List ℕ) → Answered r b′ (releaseBlocks n b (k - 1) (shapeOf (k - 1)) 15 (w ∷ [])) → Answered r b′ (backNow n b w)
   unfolding backNow
-  back-done z h sh f r b′ a = rw (← e, le-leb 1 k (omega (arith, z)), le-leb k 76 h) (rw f at a)
+  done z h r b′ a = rw (← e, le-leb 1 k (omega (arith, z)), le-leb k 76 h) a
+
+  module _ (z : k ≡ 0 → ⊥) (h : k ≤ 76) (t : Bool) (b′ : List ℕ) (o : OneBack t b′ n b (k - 1) (shapeOf (k - 1)) w) where
+    pub back-one : t ≡ true → Answered (Fate 0) b′ (backNow n b w)
+    back-one x = done z h (Fate 0) b′ (o .done x 15)
+
+    pub rest-asks : t ≡ false → BookAsks n b → ClassAsks n b′ (k - 1) (shapeOf (k - 1))
+    rest-asks x a = rw (o .left x) (back-asks z h a)
+
+    pub back-rest : t ≡ false → (r : Released) (b″ : List ℕ) → Answered r b″ (releaseBlocks n b′ (k - 1) (shapeOf (k - 1)) 15 (w ∷ [])) → Answered r b″ (backNow n b w)
+    back-rest x r b″ a = done z h r b″ (rw (o .left x) at a)

@@ -50,8 +50,11 @@ pub fn back_now(meta: &mut [u32], n: u32, w: u64) -> Released
     if 76 < k {
         return Released::Refused(10);
     }
+    if release::release_one(meta, n, k - 1, w) {
+        return Released::Fate(release::KEPT_FATE);
+    }
     let list = [w];
-    release::release_blocks(meta, n, k - 1, classes::shape_of(k - 1), HOST, &list)
+    release::release_list(meta, n, k - 1, HOST, &list)
 }
 
 // Is there room for the blocks of a take: for 64 there always is; else they are counted first.

@@ -29,18 +29,17 @@ class-asks b c n sh z j f w =
     let k = book-in b z n f in
     record { known = j; sound = rw w (shape-sound c); few = k .small; long = k .long }
 
-pub release-asks : (b : List ℕ) (h r low many c n : ℕ) (sh : Shape) → low + many ≤ 76 → r ≡ classFault b h many c → r ≡ 0 → n ≡ get b (arena size) → sh ≡ shapeOf (low + c) → ClassAsks n b (low + c) sh
-release-asks b h r low many c n sh u e z f w = class-asks b (low + c) n sh (class-book b h many c r e z) (omega (arith, class-below b h many c r e z)) f w
+pub release-asks : (b : List ℕ) (h r low many c n : ℕ) → low + many ≤ 76 → r ≡ classFault b h many c → r ≡ 0 → n ≡ get b (arena size) → ClassAsks n b (low + c) (shapeOf (low + c))
+release-asks b h r low many c n u e z f = class-asks b (low + c) n (shapeOf (low + c)) (class-book b h many c r e z) (omega (arith, class-below b h many c r e z)) f refl
 
 module _ (b : List ℕ) (h many c r : ℕ) (e : r ≡ classFault b h many c) (low : ℕ) (l : List ℕ) where
   pub release-unfit : (r ≡ 0 → ⊥) → Answered (Refused r) b (releaseOn low many b c h l)
   unfolding releaseOn
   release-unfit d = rw (← e, ne-eqb r 0 d) (record { answer = refusal r d _; left = refl })
 
-  pub release-goes : (n : ℕ) (sh : Shape) (s : Released) (x : List ℕ) → r ≡ 0 → n ≡ get b (arena size) → sh ≡ shapeOf (low + c)
-      → Answered s x (releaseBlocks n b (low + c) sh h l) → Answered s x (releaseOn low many b c h l)
+  pub release-goes : (n : ℕ) (s : Released) (x : List ℕ) → r ≡ 0 → n ≡ get b (arena size) → Answered s x (releaseBlocks n b (low + c) (shapeOf (low + c)) h l) → Answered s x (releaseOn low many b c h l)
   unfolding releaseOn
-  release-goes n sh s x z f w t = rw (← e, eq-eqb r 0 z) (rw w at (rw f at t))
+  release-goes n s x z f t = rw (← e, eq-eqb r 0 z) (rw f at t)
 
 module _ (o : Back.Released) (x : List ℕ) (s : Released) (k : Answered s x o) where
   pub release-ends-refused : (c f : ℕ) → s ≡ Refused c → ReleaseEnds o c x f f

@@ -23,7 +23,7 @@ fn release_on(
     }
     let size = fields::arena::size(meta);
     let id = low + class;
-    release::release_blocks(meta, size, id, classes::shape_of(id), host, list)
+    release::release_blocks(meta, size, id, host, list)
 }
 
 #[no_mangle]

@@ -28,4 +28,4 @@ pub settle-chunks-spec : {M : Type 1} → statement M
 settle-chunks-spec =
     tie.close
     (tie.spec
-    (λ c κs. search needs) place-chunks-requires give-chunks-requires (λ c. search needs) (λ c. search needs) returns)
+    (λ c κs. (search needs, search needs)) place-chunks-requires give-chunks-requires (λ c. search needs) (λ c. search needs) returns)

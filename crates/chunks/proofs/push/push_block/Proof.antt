@@ -1,4 +1,4 @@
-use Rattle.chunks.proofs.PushLaws.{one-page, one-index, slot-there, next-fits, one-done}
+use Rattle.chunks.proofs.PushLaws.{one-page, one-index, one-block, slot-there, next-fits, one-done}
 use borrow.Author.Needs.{needs}
 use Rattle.chunks.proofs.push.push_block.Statement.{statement}
 use Rattle.chunks.proofs.push.push_block.Tie as tie
@@ -7,5 +7,5 @@ pub push-block-spec : {M : Type 1} → statement M
 push-block-spec =
     tie.close
     (tie.spec
-    (λ c κs. search one-page) (λ c κs. search needs) (λ c κs. search (needs, one-index)) (λ c κs. search slot-there) (λ c. search next-fits) (λ c κs. search needs)
+    (λ c κs. search one-page) (λ c κs. search needs) (λ c κs. (search one-index, (search needs, search one-block))) (λ c κs. search slot-there) (λ c. search next-fits) (λ c κs. search needs)
     (λ c. search needs) (λ c. search one-done))

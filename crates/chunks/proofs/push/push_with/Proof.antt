@@ -1,5 +1,6 @@
 use borrow.Author.Needs.{needs}
-use Rattle.chunks.proofs.PushLaws.{Pushing, pushing-none, pushing-asks, pushing-more, pushing-done}
+use Rattle.chunks.proofs.PushLaws.{Pushing, pushing-none, pushing-done}
+use Rattle.chunks.proofs.PushRuns.{first-long, with-asks, with-more, with-less}
 use Rattle.chunks.proofs.push.push_with.Statement.{statement}
 use Rattle.chunks.proofs.push.push_with.Tie as tie
 
@@ -13,5 +14,4 @@ pub push-with-spec : {M : Type 1} → statement M
 push-with-spec =
     tie.close
     (tie.spec
-    Inv-loop μ-loop (λ c. search pushing-none) (λ c. search needs) (λ c. search needs) (λ c. search needs)
-    (λ c κs. (search pushing-asks, search needs)) (λ c. search needs) (λ c. search pushing-more) (λ c. search needs) (λ c. search pushing-done))
+    Inv-loop μ-loop (λ c. search pushing-none) (λ c. search (needs, first-long)) (λ c κs. search with-asks) (λ c. search with-less) (λ c. search with-more) (λ c. search needs) (λ c. search pushing-done))

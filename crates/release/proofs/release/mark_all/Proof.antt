@@ -7,4 +7,4 @@ pub mark-all-spec : {M : Type 1} → statement M
 mark-all-spec =
     tie.close
     (tie.spec
-    (λ c κs. search words-asks) (λ c κs. (search field-asks, search needs)) (λ c. search needs) (λ c. search all-ready) (λ c κs. search clear-asks) (λ c. search needs) (λ c. search cleared) (λ c. search needs) (λ c. search not-all))
+    (λ c κs. search words-asks) (λ c κs. search field-asks) (λ c. search needs) (λ c. search all-ready) (λ c κs. search clear-asks) (λ c. search needs) (λ c. search cleared) (λ c. search needs) (λ c. search not-all))

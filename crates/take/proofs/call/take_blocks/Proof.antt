@@ -1,5 +1,5 @@
 use borrow.Author.Needs.{needs}
-use Rattle.take.proofs.TakeSteps.{blocks-unfair, blocks-partial, blocks-empty, blocks-cold, blocks-new}
+use Rattle.take.proofs.TakeSteps.{take-refused, take-none, take-fills, take-took}
 use Rattle.take.proofs.call.take_blocks.Statement.{statement}
 use Rattle.take.proofs.call.take_blocks.Tie as tie
 
@@ -9,23 +9,13 @@ take-blocks-spec =
     (tie.spec
     (λ c κs. search needs)
     (λ c. search needs)
-    (λ c. search blocks-unfair)
-    (λ c κs. search needs)
-    (λ c κs. search needs)
     (λ c. search needs)
     (λ c. search needs)
-    (λ c. search blocks-partial)
-    (λ c κs. search needs)
-    (λ c κs. search needs)
+    (λ c κs. search take-fills)
+    (λ c. search needs)
+    (λ c. search take-refused)
+    (λ c. search needs)
+    (λ c. search take-none)
     (λ c. search needs)
     (λ c. search needs)
-    (λ c. search blocks-empty)
-    (λ c κs. search needs)
-    (λ c κs. search needs)
-    (λ c. search needs)
-    (λ c. search needs)
-    (λ c. search blocks-cold)
-    (λ c κs. search needs)
-    (λ c. search needs)
-    (λ c. search needs)
-    (λ c. search blocks-new))
+    (λ c. search take-took))

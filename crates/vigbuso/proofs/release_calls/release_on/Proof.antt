@@ -10,4 +10,4 @@ release-on-spec =
     tie.close
     (tie.spec
     (λ c κs. search needs) (λ c. search needs) (λ c. search release-unfit) (λ c κs. search (has-size, class-book))
-    (λ c. search id-fits) (λ c κs. search needs) (λ c κs. search release-asks) (λ c. search needs) (λ c. search release-goes))
+    (λ c. search id-fits) (λ c κs. search release-asks) (λ c. search needs) (λ c. search release-goes))

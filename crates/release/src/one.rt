@@ -1,0 +1,108 @@
+// A release of one block that leaves others of its run out, which is most releases of one: each word that it needs is read once, and where there is a
+// doubt the book is as it was.
+ghost use mathlib.Core.Path.{_≡_};
+ghost use mathlib.Core.List.{_∷_, []};
+ghost use Prim.Native.Nat.{_/_};
+ghost use Rattle.classes.specs.Shape.{shapeOf};
+ghost use Rattle.fields.specs.Field.{mark, Has};
+ghost use Rattle.pages.specs.Stack.{back};
+ghost use Rattle.calls.specs.Release.{relisted};
+ghost use Rattle.stack.specs.Inverse.{inverse};
+ghost use Rattle.release.specs.Act.{RunAsks};
+ghost use Rattle.release.specs.Asks.{ClassAsks};
+ghost use Rattle.release.specs.Fair.{FairAsks};
+ghost use Rattle.release.specs.One.{readyAt, StaysFair, PutAsks, BackAsks, BackOne, OneBack};
+use super::Found;
+use super::blocks::block_in;
+use super::blocks::run_of;
+use super::fair::page_fair;
+use super::fair::row_fair;
+use super::park::relist;
+use classes::Shape;
+use classes::shape_of;
+use stack::inverse_at;
+use stack::push_one;
+use stack::word_of;
+
+// Block i of the run at q is out, and its word of marks is 0.
+fn is_ready(meta: &[u32], q: u32, i: u32) -> bool
+    requires { ⌜ Has (now meta) (mark q (i / 32)) ⌝ }
+    ensures { λ r. ⌜ r ≡ readyAt (now (meta .entry)) q i ⌝ }
+{
+    if fields::out::bit(meta, q, i) != 1 {
+        return false;
+    }
+    fields::marks::word(meta, q, i / 32) == 0
+}
+
+// Number 13's last test passes for one block of the run at q, and others stay out.
+fn stays_fair(meta: &[u32], n: u32, c: u32, shape: Shape, q: u32) -> bool
+    requires { ⌜ FairAsks (now meta) c shape q ⌝ }
+    ensures { λ r. ⌜ StaysFair r n (now (meta .entry)) c shape q ⌝ }
+{
+    if fields::arena::frontier(meta) > n {
+        return false;
+    }
+    if page_fair(meta, shape, 1, q) {
+        if row_fair(meta, c) {
+            return fields::page::carved(meta, q) - fields::page::free(meta, q) != 1;
+        }
+    }
+    false
+}
+
+// Block i back on its page's stack; the page is in the partial list.
+fn put_back(meta: &mut [u32], c: u32, q: u32, i: u32)
+    requires { ⌜ PutAsks (now meta) c q i ⌝ }
+    ensures { λ _. ⌜ now (meta .exit) ≡ relisted (back (now (meta .entry)) q (i ∷ [])) c q ⌝ }
+{
+    fields::out::unmark(meta, q, i);
+    push_one(meta, q, i);
+    relist(meta, c, q);
+}
+
+fn back_one(meta: &mut [u32], n: u32, c: u32, shape: Shape, q: u32, i: u32) -> bool
+    requires { ⌜ BackAsks n (now meta) c shape q i ⌝ }
+    ensures { λ r. ⌜ BackOne r (now (meta .exit)) n (now (meta .entry)) c shape q i ⌝ }
+{
+    if is_ready(meta, q, i) {
+        if stays_fair(meta, n, c, shape, q) {
+            put_back(meta, c, q, i);
+            return true;
+        }
+    }
+    false
+}
+
+// The block is in the run at q.
+fn one_in(meta: &mut [u32], n: u32, c: u32, shape: Shape, inv: u64, q: u32, w: u64) -> bool
+    requires { ⌜ RunAsks n (now meta) c shape q (w ∷ []) ⌝ }
+    requires { ⌜ inv ≡ inverse (shape .block) ⌝ }
+    ensures { λ r. ⌜ OneBack r (now (meta .exit)) n (now (meta .entry)) c shape w ⌝ }
+{
+    let block = block_in(
+        shape,
+        q,
+        word_of(shape, q, 0),
+        shape.capacity * shape.block,
+        inv,
+        w,
+    );
+    let Found::At(i) = block else {
+        return false;
+    };
+    back_one(meta, n, c, shape, q, i)
+}
+
+// Its fate is then that it is kept.
+pub fn release_one(meta: &mut [u32], n: u32, c: u32, w: u64) -> bool
+    requires { ⌜ ClassAsks n (now meta) c (shapeOf c) ⌝ }
+    ensures { λ r. ⌜ OneBack r (now (meta .exit)) n (now (meta .entry)) c (shapeOf c) w ⌝ }
+{
+    let shape = shape_of(c);
+    let run = run_of(meta, n, c, shape, w);
+    let Found::At(q) = run else {
+        return false;
+    };
+    one_in(meta, n, c, shape, inverse_at(c), q, w)
+}
