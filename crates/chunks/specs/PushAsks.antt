@@ -81,7 +81,7 @@ pub record LastAsks (b : List ℕ) (sh : Shape) (m : ℕ) (ws : List ℕ) : Type
   pub by : m ≡ inverse (sh .block)
   pub some : 1 ≤ length ws
 
--- the words from place r on lie there, and were laid
+-- the words from place r on lie on page q and were laid on its stack; FREE is as it was
 pub record LaidFrom (r : ℕ) (b′ b : List ℕ) (sh : Shape) (q t : ℕ) (ws : List ℕ) : Type 0 where
   pub within : r ≤ length ws
   pub on : every (onPage q) (drop r ws) ≡ true

@@ -30,7 +30,7 @@ fn all_on(list: &[u64], p: u64) -> bool
     any == 0
 }
 
-// Whether the chunk is the list's.
+// Whether chunk g is the list's: its page is in the arena, all listed words lie on it, and its count is theirs.
 fn one_matches(n: u32, list: &[u64], g: u64) -> bool
     ensures { λ r. ⌜ r ≡ arenaMatch n (now (list .entry)) (g ∷ []) ⌝ }
 {
@@ -47,6 +47,7 @@ fn one_matches(n: u32, list: &[u64], g: u64) -> bool
     false
 }
 
+// One chunk at once, more by TALLY.
 pub fn all_match(meta: &mut [u32], n: u32, list: &[u64], chunks: &[u64]) -> bool
     requires { ⌜ MatchAsks n (now meta) (now chunks) ⌝ }
     ensures { λ r. ⌜ Matched r (now (meta .exit)) n (now (meta .entry)) (now (list .entry)) (now (chunks .entry)) ⌝ }

@@ -21,7 +21,7 @@ fn take_marked(meta: &mut [u32], n: u32, c: u32, shape: Shape, m: u32, chunks: &
     false
 }
 
-// The chunks' pages have no mark set: the listed blocks are marked one by one.
+// The chunks' pages have no mark set: the listed blocks are marked.
 fn mark_and_take(
     meta: &mut [u32],
     n: u32,

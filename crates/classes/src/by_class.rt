@@ -1,4 +1,4 @@
-// The block size of a class by `match`, which is the entry of the constant table.
+// The block size of a medium class by `match`, which is the entry of the constant table.
 ghost use mathlib.Core.Path.{_≡_};
 ghost use lib.ListN.{getD};
 ghost use Rattle.classes.specs.Sizes.{mediumSizes};

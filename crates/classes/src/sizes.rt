@@ -1,4 +1,4 @@
-// The block sizes, in bytes: every other number of a class comes from these.
+// The block sizes, in bytes: by the definitions every other number of a class comes from these (in the code: `row`).
 ghost use mathlib.Core.Path.{_≡_};
 ghost use Prim.Native.Nat.{_<_, _≤_};
 ghost use Rattle.classes.specs.Sizes.{smallSizes, mediumSizes, pageBytes, spanPages, spanCapacity};
@@ -101,7 +101,8 @@ const MEDIUM_CLASSES: [u32; 12] = [
     65472,
 ];
 
-// The two tables whole. A read of a constant array builds it anew, so the code reads single entries by the `match`es of `by_class`.
+// The two tables whole. A read of a constant array builds it anew, so the code reads a class's numbers by the `match`
+// of `row`, and a medium size by that of `by_class`.
 pub fn small_table() -> [u32; 64]
     ensures { λ r. ⌜ r ≡ smallSizes ⌝ }
 {

@@ -127,7 +127,7 @@ pub record PopAsks (b : List ℕ) (sh : Shape) (q : ℕ) (l : List ℕ) (at t k 
   pub room : k ≤ at
   pub places : at ≤ length l
 
--- k new blocks from block a on
+-- k blocks that follow one another, from block a on
 pub record FreshAsks (b : List ℕ) (sh : Shape) (q : ℕ) (l : List ℕ) (at a k : ℕ) : Type 0 where
   pub sound : Sound sh
   pub below : q + sh .pages ≤ maxPages

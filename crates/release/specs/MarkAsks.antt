@@ -57,7 +57,7 @@ pub record Stretched (n : ℕ) (ws : List ℕ) (step i room : ℕ) : Type 0 wher
   pub within : i + n ≤ length ws
   pub each : (k : ℕ) → k < n → getD ws (i + k) 0 ≡ (getD ws i 0 + k * step) % 2 ^ 64
 
--- on the way from place i and b: place r and b′
+-- marking on from place r and b′ ends as marking on from place i and b
 pub record Reaches (r : ℕ) (b′ b : List ℕ) (sh : Shape) (q : ℕ) (ws : List ℕ) (i : ℕ) : Type 0 where
   pub onward : i ≤ r
   pub within : r ≤ length ws

@@ -1,6 +1,5 @@
-// The words of marks of one run (document 02, A.3): a list's blocks are marked, up to the first that is not out in the run or is marked
-// already: up to 32 at a time where they follow one another, as in a list that a take gave, else one by one. The marks are taken away 32 at
-// a time.
+// The words of marks of one run (document 02, A.3). A list's blocks are marked until one is not out in the run or is marked already: up to 32 at once
+// where they follow one another, as in a list that a take gave, else one by one. The marks are taken away 32 at once.
 ghost use mathlib.Core.Path.{_≡_};
 ghost use Prim.Native.Nat.{_+_, _/_, _≤_, _<_, min};
 ghost use lib.ListN.{length};
@@ -155,7 +154,7 @@ fn mark_down(
     i
 }
 
-// The same upwards or downwards, as the next word tells; i where it does neither.
+// The same upwards or downwards, as the next word tells; i where it is a neighbour in neither.
 fn mark_stretch(
     meta: &mut [u32],
     shape: Shape,
@@ -183,7 +182,7 @@ fn mark_stretch(
     i
 }
 
-// The words from place i on, below `end`, are marked one by one, up to the first that stops the marking: its place.
+// The words from place `from` on, below `end`, are marked one by one, up to the first that stops the marking: its place.
 fn mark_few(
     meta: &mut [u32],
     shape: Shape,
@@ -214,6 +213,7 @@ fn mark_few(
 // So many words go one by one before a stretch is looked for again: the look costs most of what it costs to mark a block.
 const FEW: usize = 16;
 
+// The words from place `from` on: stretches at once, others FEW at a time; the place of the first that stops the marking.
 fn mark_by(
     meta: &mut [u32],
     shape: Shape,
@@ -246,7 +246,7 @@ fn mark_by(
     i
 }
 
-// Whether the word behind place i is no block of the run at q, or there is none: so it is with most words of a mixed list of many runs.
+// Whether the word behind place i lies outside the run's blocks, or there is none: so it is with most words of a mixed list of many runs.
 fn alone(shape: Shape, q: u32, base: u64, span: u32, inv: u64, list: &[u64], i: usize) -> bool
     requires { ⌜ Near shape q base span inv ⌝ }
     requires { ⌜ i < length (now list) ⌝ }
@@ -258,7 +258,7 @@ fn alone(shape: Shape, q: u32, base: u64, span: u32, inv: u64, list: &[u64], i: 
     true
 }
 
-// The listed words from place i on are marked, up to the first that is not out in the run at q or is marked: its place.
+// The listed words from place `from` on are marked, up to the first that is not out in the run at q or is marked: its place.
 pub fn mark_run(meta: &mut [u32], shape: Shape, q: u32, list: &[u64], from: usize) -> usize
     requires { ⌜ FieldAsks (now meta) shape q ⌝ }
     requires { ⌜ from ≤ length (now list) ⌝ }

@@ -1,5 +1,5 @@
-// A release of one block that leaves others of its run out, which is most releases of one: each word that it needs is read once, and where there is a
-// doubt the book is as it was.
+// A release of one block that leaves others of its run out, which is most releases of one: without marks and without a list. Where there is a doubt the
+// book is as it was.
 ghost use mathlib.Core.Path.{_≡_};
 ghost use mathlib.Core.List.{_∷_, []};
 ghost use Prim.Native.Nat.{_/_};
@@ -51,7 +51,7 @@ fn stays_fair(meta: &[u32], n: u32, c: u32, shape: Shape, q: u32) -> bool
     false
 }
 
-// Block i back on its page's stack; the page is in the partial list.
+// Block i is out no longer and lies on its page's stack, and the page is in the partial list.
 fn put_back(meta: &mut [u32], c: u32, q: u32, i: u32)
     requires { ⌜ PutAsks (now meta) c q i ⌝ }
     ensures { λ _. ⌜ now (meta .exit) ≡ relisted (back (now (meta .entry)) q (i ∷ [])) c q ⌝ }
@@ -74,7 +74,7 @@ fn back_one(meta: &mut [u32], n: u32, c: u32, shape: Shape, q: u32, i: u32) -> b
     false
 }
 
-// The block is in the run at q.
+// Of a word whose granule is in the run at q.
 fn one_in(meta: &mut [u32], n: u32, c: u32, shape: Shape, inv: u64, q: u32, w: u64) -> bool
     requires { ⌜ RunAsks n (now meta) c shape q (w ∷ []) ⌝ }
     requires { ⌜ inv ≡ inverse (shape .block) ⌝ }
@@ -94,7 +94,7 @@ fn one_in(meta: &mut [u32], n: u32, c: u32, shape: Shape, inv: u64, q: u32, w: u
     back_one(meta, n, c, shape, q, i)
 }
 
-// Its fate is then that it is kept.
+// True: the release is carried out, and its fate is KEPT_FATE. False: the book is as it was.
 pub fn release_one(meta: &mut [u32], n: u32, c: u32, w: u64) -> bool
     requires { ⌜ ClassAsks n (now meta) c (shapeOf c) ⌝ }
     ensures { λ r. ⌜ OneBack r (now (meta .exit)) n (now (meta .entry)) c (shapeOf c) w ⌝ }

@@ -1,5 +1,5 @@
-// In which words of marks a list is marked, as one number m: words m / 256 to m / 256 + m % 256 - 1. All words of the run are swept twice, so
-// where they are many and the list is short, few are taken if they can be.
+// In which words of marks a list is marked, as one number m: words m / 256 to m / 256 + m % 256 - 1. All words of marks of a run would be
+// swept twice; where they are more than 32 and the list has at most 64 blocks, all in one stretch, only that stretch's are.
 ghost use mathlib.Core.Path.{_≡_};
 ghost use Prim.Native.Nat.{_/_, _<_};
 ghost use lib.Dec.{eqb};
@@ -11,7 +11,7 @@ use classes::Shape;
 use stack::inverse_of;
 use stack::word_of;
 
-// In which stretch of 512 granules from the run's first block on a word lies; base is that block's word. A word before it wraps to a late one.
+// In which stretch of 512 granules from the run's first block on a word lies; base is that block's word. A word before it wraps to a late stretch.
 fn stretch_of(base: u64, w: u64) -> u64
     ensures { λ r. ⌜ r ≡ stretchOf base w ⌝ }
 {
@@ -39,7 +39,7 @@ fn all_within(list: &[u64], base: u64, k: u64) -> bool
     any == 0
 }
 
-// The word of marks of the block at granule x behind the run's first.
+// The word of marks of the block x granules behind the run's first block.
 fn mark_word(shape: Shape, inv: u64, x: u64) -> u32
     requires { ⌜ Sound shape ⌝ }
     requires { ⌜ inv ≡ inverse (shape .block) ⌝ }

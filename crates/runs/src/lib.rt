@@ -84,6 +84,7 @@ fn word_of(c: Commit) -> u64
     }
 }
 
+// And back.
 pub fn commit_of(w: u64) -> Commit
     ensures { λ r. ⌜ r ≡ commitOf w ⌝ }
 {
@@ -98,7 +99,7 @@ pub fn commit_of(w: u64) -> Commit
     Commit::Run(v, k == 2)
 }
 
-// A run of more pages than any arena has is asked for by one page more than that.
+// The answer in one word. A run longer than any arena is asked for by one page more than that.
 pub fn commit_word(meta: &mut [u32], size: u32, host: u32, pages: u32, owner: u32) -> u64
     requires { ⌜ BookIn (now meta) size × (pages ≤ maxPages + 1) ⌝ }
     ensures { λ r. ⌜ Answers (commitOf r) (now (meta .exit)) (commitFor size (now (meta .entry)) host pages owner) ⌝ }

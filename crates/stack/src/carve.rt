@@ -1,4 +1,4 @@
-// Blocks given that follow one another, new ones above all: their words one after another, their out bits word by word.
+// Blocks that follow one another, new or from the stack, given at once: their words one after another, their out bits word by word.
 ghost use mathlib.Core.List.{map, reverse};
 ghost use mathlib.Core.Path.{_≡_};
 ghost use Prim.Native.Nat.{_-_};
@@ -49,7 +49,7 @@ fn mark_blocks(meta: &mut [u32], q: u32, from: u32, k: u32)
     }
 }
 
-// k new blocks, from block `from` on.
+// k blocks from block `from` on: new ones, or on the stack, the lowest on top.
 pub fn carve_blocks(
     meta: &mut [u32],
     shape: Shape,

@@ -1,4 +1,5 @@
 // Blocks given from a page's stack, the top first: two a turn, which are one word of the stack, and one at either end where it is half a word.
+// Where the blocks follow one another they are given at once.
 ghost use mathlib.Core.Bool.{_&&_, true};
 ghost use mathlib.Core.List.{[], _∷_, reverse};
 ghost use mathlib.Core.Path.{_≡_};
@@ -56,7 +57,7 @@ fn pair_is(meta: &[u32], q: u32, x: u32, low: u32, high: u32, before: bool) -> b
     h & l & before
 }
 
-// Whether the entries of words x to y - 1 are a and those after it, the highest on top. No way out of the loop, as in all such tests.
+// Whether the entries of words x to y - 1 are a and those after it, the highest on top. The loop has no other way out (docs/BACKEND.md, "Tests").
 fn rises(meta: &[u32], q: u32, x: u32, y: u32, a: u32) -> bool
     requires { ⌜ StretchAsks (now meta) q x y a ⌝ }
     ensures { λ r. ⌜ (r ≡ true → tops (now (meta .entry)) q (2 * y - 2 * x) (2 * y) ≡ downs a (2 * y - 2 * x)) ⌝ }
@@ -88,7 +89,7 @@ fn falls(meta: &[u32], q: u32, x: u32, y: u32, a: u32) -> bool
     so
 }
 
-// Those of k words from a stack of x, one by one.
+// The blocks of the k upper words of a stack of x words, pair by pair.
 fn pop_mixed(meta: &mut [u32], shape: Shape, q: u32, list: &mut [u64], at: u32, x: u32, k: u32)
     requires { ⌜ PopAsks (now meta) shape q (now list) at (2 * x) (2 * k) ⌝ }
     ensures { λ _. ⌜ Gave (now (meta .entry)) shape q (now (list .entry)) at (reverse (tops (now (meta .entry)) q (2 * k) (2 * x))) (now (meta .exit)) (now (list .exit)) ⌝ }
@@ -100,7 +101,7 @@ fn pop_mixed(meta: &mut [u32], shape: Shape, q: u32, list: &mut [u64], at: u32, 
     }
 }
 
-// Those of k words from a stack of x. Blocks that follow one another, as they mostly come back, are given at once.
+// The same; blocks that follow one another, as they mostly come back, are given at once.
 fn pop_pairs(meta: &mut [u32], shape: Shape, q: u32, list: &mut [u64], at: u32, x: u32, k: u32)
     requires { ⌜ PopAsks (now meta) shape q (now list) at (2 * x) (2 * k) ⌝ }
     ensures { λ _. ⌜ Gave (now (meta .entry)) shape q (now (list .entry)) at (reverse (tops (now (meta .entry)) q (2 * k) (2 * x))) (now (meta .exit)) (now (list .exit)) ⌝ }

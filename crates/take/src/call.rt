@@ -1,4 +1,4 @@
-// Takes of blocks, small and medium, from number 13 on: the first source that has a page is planned, then the list is filled.
+// Takes of blocks, small and medium, from number 5 on: the first source that has a page is made ready, then the list is filled.
 ghost use mathlib.Core.Path.{_≡_};
 ghost use Rattle.classes.specs.Shape.{shapeOf};
 ghost use Rattle.pages.specs.Asks.{RowAsks};
@@ -14,7 +14,7 @@ use classes::Shape;
 use pages::Park;
 use runs::Commit;
 
-// The numbers of 32 bits.
+// 2^32: the halves of an answer's word.
 const WORD: u64 = 4_294_967_296;
 
 // A refusal's number, or how many blocks stand in the list, and whether all are virgin.
@@ -153,6 +153,7 @@ fn packed(answer: Take) -> u64
     }
 }
 
+// And back.
 pub fn answer_in(w: u64) -> Take
     ensures { λ r. ⌜ r ≡ answerIn w ⌝ }
 {
@@ -171,6 +172,7 @@ pub fn take_packed(meta: &mut [u32], n: u32, c: u32, host: u32, list: &mut [u64]
     packed(take_sized(meta, n, c, host, list))
 }
 
+// The same, with its answer as it is.
 pub fn take_call(meta: &mut [u32], n: u32, c: u32, host: u32, list: &mut [u64]) -> Take
     requires { ⌜ CallAsks n (now meta) c ⌝ }
     ensures { λ r. ⌜ Takes r (now (meta .exit)) (now (list .exit)) (takeCall n (now (meta .entry)) c (shapeOf c) host (now (list .entry))) ⌝ }
