@@ -1,0 +1,3 @@
+pub mod Stock
+pub mod Pool
+pub mod Told
