@@ -20,7 +20,7 @@ abbrev pub stockLeast : ℕ
 stockLeast = 8
 
 abbrev pub stockLimit : ℕ
-stockLimit = 64
+stockLimit = 255
 
 -- between the two
 abbrev pub clamped : ℕ → ℕ

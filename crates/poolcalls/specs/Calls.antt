@@ -6,6 +6,7 @@
 use Prim.Native.Nat.{ℕ, _-_, _*_}
 use mathlib.Core.Bool.{Bool, cond, not, _&&_}
 use mathlib.Core.List.{List, [], _∷_}
+use mathlib.Core.Path.{_≡_}
 use lib.Dec.{eqb, ltb, leb}
 use lib.ListN.{getD}
 use lib.ListN as ListN
@@ -98,3 +99,15 @@ abbrev pub wishOn : ℕ → List ℕ → ℕ → Wish → Said
 wishOn n b c (alloc h) = allocOn n b c h
 wishOn n b c (free h w) = freeOn n b c h w
 wishOn n b c (trim h) = trimOn n b c h
+
+-- ---- that the code ended so
+-- an alloc's or a trim's; w is the out-parameter before the call, w′ after it
+pub record BlockEnds (s : Said) (r : ℕ) (b : List ℕ) (w w′ : ℕ) : Type 0 where
+  pub code : r ≡ codeOf (s .answer)
+  pub book : b ≡ s .book
+  pub block : w′ ≡ blockOut (s .answer) w
+
+-- a free's
+pub record FreeEnds (s : Said) (r : ℕ) (b : List ℕ) : Type 0 where
+  pub code : r ≡ codeOf (s .answer)
+  pub book : b ≡ s .book

@@ -10,7 +10,6 @@ pub mod TakeParked
 pub mod TakeGranted
 pub mod TakeNew
 pub mod TakeSteps
-pub mod TakeLow
 pub mod TakeSpares
 pub mod CountSteps
 pub mod AnswerSteps
