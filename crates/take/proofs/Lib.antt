@@ -12,3 +12,4 @@ pub mod TakeNew
 pub mod TakeSteps
 pub mod CountSteps
 pub mod AnswerSteps
+pub mod InArena
