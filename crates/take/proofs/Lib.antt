@@ -13,3 +13,4 @@ pub mod TakeSteps
 pub mod TakeSpares
 pub mod CountSteps
 pub mod AnswerSteps
+pub mod InArena
