@@ -1,20 +1,20 @@
 -- The ways out of the functions on a stock's places, and what the loop over a list keeps.
-use Prim.Native.Nat.{ℕ, suc, _+_, _*_, _≤_, _<_}
+use Prim.Native.Nat.{ℕ, suc, _+_, _*_, _/_, _%_, _^_, _≤_, _<_}
 use native.Mathlib.Omega.{arith}
+use native.Mathlib.Nat.{mod-lt}
 use native.Mathlib.Numerals.{add-one}
-use mathlib.Core.Bool.{true, false, _&&_}
+use mathlib.Core.Bool.{false}
 use mathlib.Core.List.{List, _∷_}
 use mathlib.Core.Path.{_≡_, refl, sym, ap, _∙_}
-use lib.Dec.{eqb, ltb}
+use lib.Dec.{eqb}
 use lib.ListN.{length, getD, take, drop, length-set, length-take}
 use lib.Seq.{drop-cons, getD-take}
-use borrow.Author.Tests.{lt-ltb, le-ltb, ltb-true}
-use Rattle.facts.specs.Lists.{every}
-use Rattle.facts.proofs.Lists.{drop-past, every-get}
+use borrow.Author.Tests.{lt-ltb, le-ltb}
+use Rattle.facts.proofs.Lists.{drop-past}
 use Rattle.words.specs.Word.{granuleOf}
 use Rattle.take.specs.TakePlan.{CallAsks}
-use Rattle.take.specs.TakeAnswer.{inArena}
-use Rattle.poolcalls.specs.Stock.{countIn, entryIn, placeIn, stocked, putCount, putEntry, putPlace, put, pushed, putAll}
+use Rattle.poolcalls.specs.Stock.{placeAt, countIn, entryIn, placeIn, stocked, putCount, putEntry, putPlace, put, pushed, putAll}
+use Rattle.stock.specs.Asks.{ListAsks}
 
 pub push-step : (b b₁ b₂ : List ℕ) (c k g : ℕ) → k ≡ countIn b c → b₁ ≡ put b c k g → b₂ ≡ putCount b₁ c (k + 1) → b₂ ≡ pushed b c g
 push-step b b₁ b₂ c k g p q r = r ∙ rw (q, p) (ap (putCount (put b c (countIn b c) g) c) (omega arith))
@@ -28,7 +28,15 @@ module _ (b : List ℕ) (c g k m : ℕ) (p : k ≡ placeIn b g) (q : m ≡ count
   unfolding stocked
   stocked-no t = rw (← p, ← q, le-ltb k m t)
 
-pub put-long : (b : List ℕ) (c k g : ℕ) → length (put b c k g) ≡ length b
+-- a place is 8 bits
+pub place-low : (b : List ℕ) (g k : ℕ) → k ≡ placeIn b g → k < 256
+unfolding placeIn
+place-low b g k e = let l : getD b (placeAt g) 0 / 2 ^ (8 * (g % 4)) % 2 ^ 8 < 2 ^ 8 = mod-lt (getD b (placeAt g) 0 / 2 ^ (8 * (g % 4))) (omega arith) in omega arith
+
+pub put-granule : (b b′ : List ℕ) (c k v w g : ℕ) → v ≡ w → g ≡ granuleOf v → b′ ≡ put b c k g → b′ ≡ put b c k (granuleOf w)
+put-granule b b′ c k v w g e h q = q ∙ ap (put b c k) (h ∙ ap granuleOf e)
+
+put-long : (b : List ℕ) (c k g : ℕ) → length (put b c k g) ≡ length b
 unfolding putPlace putEntry
 put-long b c k g = simp length-set
 
@@ -42,21 +50,20 @@ pub record Putting (n : ℕ) (b₀ : List ℕ) (c m : ℕ) (ws b : List ℕ) (k 
 pub putting-starts : (n : ℕ) (b : List ℕ) (c m : ℕ) (ws : List ℕ) → CallAsks n b c → Putting n b c m ws b 0
 putting-starts n b c m ws a = record { asks = a; upto = omega arith; same = refl; rest = refl }
 
-module _ (n : ℕ) (b₀ : List ℕ) (c m : ℕ) (ws b : List ℕ) (k : ℕ) (i : Putting n b₀ c m ws b k) where
-  pub putting-goes : (b′ : List ℕ) (w : ℕ) → k < m → m ≤ length ws → w ≡ getD ws k 0 → b′ ≡ put b c k (granuleOf w) → Putting n b₀ c m ws b′ (k + 1)
-  putting-goes b′ w h f ew q =
+module _ (n : ℕ) (b₀ : List ℕ) (c m : ℕ) (ws b : List ℕ) (k : ℕ) (i : Putting n b₀ c m ws b k) (a : ListAsks n ws m) where
+  pub putting-goes : (b′ : List ℕ) (w : ℕ) → k < m → w ≡ getD ws k 0 → b′ ≡ put b c k (granuleOf w) → Putting n b₀ c m ws b′ (k + 1)
+  putting-goes b′ w h ew q =
       let l : length b′ ≡ length b = ap length q ∙ put-long b c k (granuleOf w) in
       let next : putAll b c k (getD (take m ws) k 0 ∷ drop (suc k) (take m ws)) ≡ putAll b′ c (k + 1) (drop (k + 1) (take m ws)) = rw (add-one k, q, ew, getD-take) in
       record {
         asks = record { known = i .asks .known; few = i .asks .few; long = omega (arith, i .asks .long) };
         upto = omega arith;
         same = l ∙ i .same;
-        rest = i .rest ∙ ap (putAll b c k) (drop-cons (take m ws) k 0 (rw length-take (omega arith))) ∙ next;
+        rest = i .rest ∙ ap (putAll b c k) (drop-cons (take m ws) k 0 (rw length-take (omega (arith, a .there)))) ∙ next;
       }
 
   pub putting-ends : m ≤ k → b ≡ putAll b₀ c 0 (take m ws)
   putting-ends h = sym (i .rest ∙ ap (putAll b c k) (drop-past (take m ws) k (rw length-take (omega arith))))
 
-  pub putting-low : every (inArena n) (take m ws) ≡ true → k < m → m ≤ length ws → granuleOf (getD ws k 0) < 4096 * n
-  putting-low e h f =
-      ltb-true (granuleOf (getD ws k 0)) (4096 * n) (rw getD-take at (every-get (inArena n) (take m ws) k e (rw length-take (omega arith))))
+  pub putting-low : k < m → granuleOf (getD ws k 0) < 4096 * n
+  putting-low h = a .low k h

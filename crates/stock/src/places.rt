@@ -1,14 +1,11 @@
 // Blocks in a stock, by their granules.
 ghost use mathlib.Core.Path.{_≡_};
-ghost use mathlib.Core.Bool.{true};
-ghost use Prim.Native.Nat.{_*_, _≤_, _<_};
-ghost use lib.ListN.{length, take};
-ghost use Rattle.facts.specs.Lists.{every};
+ghost use Prim.Native.Nat.{_*_, _<_};
+ghost use lib.ListN.{take};
 ghost use Rattle.words.specs.Word.{granuleOf};
 ghost use Rattle.poolcalls.specs.Stock.{countIn, stocked, put, pushed, putAll};
 ghost use Rattle.take.specs.TakePlan.{CallAsks};
-ghost use Rattle.take.specs.TakeAnswer.{inArena};
-ghost use Rattle.stock.specs.Asks.{GranuleAsks};
+ghost use Rattle.stock.specs.Asks.{GranuleAsks, ListAsks};
 use crate::cells::count;
 use crate::cells::entry;
 use crate::cells::place;
@@ -63,9 +60,7 @@ fn put_block(meta: &mut [u32], n: u32, c: u32, k: u32, w: u64)
 // The first m blocks of the list come into the first m places.
 pub fn put_all(meta: &mut [u32], n: u32, c: u32, list: &[u64], m: u32)
     requires { ⌜ CallAsks n (now meta) c ⌝ }
-    requires { ⌜ m ≤ 64 ⌝ }
-    requires { ⌜ m ≤ length (now list) ⌝ }
-    requires { ⌜ every (inArena n) (take m (now list)) ≡ true ⌝ }
+    requires { ⌜ ListAsks n (now list) m ⌝ }
     ensures { λ _. ⌜ now (meta .exit) ≡ putAll (now (meta .entry)) c 0 (take m (now (list .entry))) ⌝ }
 {
     let mut k: u32 = 0;

@@ -1,5 +1,5 @@
 use borrow.Author.Needs.{needs}
-use Rattle.stock.proofs.PlaceSteps.{stocked-yes, stocked-no}
+use Rattle.stock.proofs.PlaceSteps.{stocked-yes, stocked-no, place-low}
 use Rattle.stock.proofs.places.is_stocked.Statement.{statement}
 use Rattle.stock.proofs.places.is_stocked.Tie as tie
 
@@ -10,7 +10,7 @@ count-requires : tie.Need-count-requires
 count-requires c κs = search needs
 
 entry-requires : tie.Need-entry-requires
-entry-requires c κs = search needs
+entry-requires c κs = (search needs, search place-low)
 
 returns : tie.Need-returns
 returns c = search stocked-yes

@@ -3,9 +3,6 @@ use Rattle.stock.proofs.PlaceSteps.{push-step}
 use Rattle.stock.proofs.places.push.Statement.{statement}
 use Rattle.stock.proofs.places.push.Tie as tie
 
-count-requires : tie.Need-count-requires
-count-requires c κs = search needs
-
 put-requires : tie.Need-put-requires
 put-requires c κs = search needs
 
@@ -22,6 +19,4 @@ returns : tie.Need-returns
 returns c = search push-step
 
 pub push-spec : {M : Type 1} → statement M
-push-spec =
-    tie.close
-    (tie.spec count-requires put-requires add-set-count set-count-requires same-length returns)
+push-spec = tie.close (tie.spec put-requires add-set-count set-count-requires same-length returns)
