@@ -1,0 +1,61 @@
+-- The ways of a wish, each with what is known then: seven, so that what follows goes by these and not by nested tests.
+use Prim.Native.Nat.{ℕ}
+use mathlib.Core.Path.{_≡_, refl, sym, ap}
+use mathlib.Core.List.{List, [], _∷_}
+use mathlib.Core.Bool.{Bool, true, false, cond, not}
+use lib.Dec.{ltb}
+use lib.ListN.{length}
+use borrow.Author.Tests.{not-false}
+use Rattle.facts.proofs.Bools.{by-cases}
+use Rattle.words.specs.Host.{badHost}
+use Rattle.classes.specs.declared.Shape.{Shape}
+use Rattle.classes.specs.Shape.{shapeOf, classCount}
+use Rattle.model.specs.Calls.{take, giveBack}
+use Rattle.model.specs.Class.{Class}
+use Rattle.model.specs.Release.{ofKind}
+use Rattle.pool.specs.Stock.{stockMost, blank}
+use Rattle.pool.specs.Pool.{Plan, turn, stays, goes, Wish, alloc, free, trim, hostIn, planAlloc, planFree, planTrim, planOf, plan, isGranted, granted, noBlock, freed}
+
+pub data Planned (c : ℕ) (s : Class) (st : List ℕ) : Wish → Plan → Type 0 where
+  is-turned : {x : Wish} (n : ℕ) → Planned c s st x (turn n)
+  is-popped : {h : ℕ} {w : ℕ} {ws : List ℕ} → ltb c classCount ≡ true → st ≡ w ∷ ws → Planned c s st (alloc h) (stays (granted w) ws)
+  is-taken : {h : ℕ} → badHost h ≡ false → ltb c classCount ≡ true → st ≡ [] → Planned c s st (alloc h) (goes (take h blank) [])
+  is-put : {h w : ℕ} → ltb c classCount ≡ true → isGranted (shapeOf c) s st w ≡ true → Planned c s st (free h w) (stays freed (w ∷ st))
+  is-given : {h w : ℕ} → badHost h ≡ false → ltb c classCount ≡ true → ofKind (shapeOf c .kind) w ≡ true → isGranted (shapeOf c) s st w ≡ true → Planned c s st (free h w) (goes (giveBack h (w ∷ [])) st)
+  is-bare : {h : ℕ} → st ≡ [] → Planned c s st (trim h) (stays noBlock [])
+  is-trimmed : {h : ℕ} {w : ℕ} {ws : List ℕ} → badHost h ≡ false → ltb c classCount ≡ true → st ≡ w ∷ ws → Planned c s st (trim h) (goes (giveBack h (w ∷ [])) ws)
+
+planned-cond : {c : ℕ} {s : Class} {st : List ℕ} {x : Wish} (b : Bool) (n : ℕ) (p : Plan) → (b ≡ false → Planned c s st x p) → Planned c s st x (cond b (turn n) p)
+planned-cond true n p f = is-turned n
+planned-cond false n p f = f refl
+
+module _ (c : ℕ) (s : Class) (low : ltb c classCount ≡ true) where
+  alloc-planned : (st : List ℕ) (h : ℕ) → badHost h ≡ false → Planned c s st (alloc h) (planAlloc h st)
+  unfolding planAlloc
+  alloc-planned [] h ok = is-taken ok low refl
+  alloc-planned (w ∷ ws) h ok = is-popped low refl
+
+  trim-planned : (st : List ℕ) (h : ℕ) → badHost h ≡ false → Planned c s st (trim h) (planTrim h st)
+  unfolding planTrim
+  trim-planned [] h ok = is-bare refl
+  trim-planned (w ∷ ws) h ok = is-trimmed ok low refl
+
+  granted-planned : (st : List ℕ) (h w : ℕ) → badHost h ≡ false → ofKind (shapeOf c .kind) w ≡ true → isGranted (shapeOf c) s st w ≡ true
+      → Planned c s st (free h w) (cond (ltb (length st) (stockMost c)) (stays freed (w ∷ st)) (goes (giveBack h (w ∷ [])) st))
+  granted-planned st h w ok k out = by-cases (ltb (length st) (stockMost c)) (λ e. rw e (is-put low out)) (λ e. rw e (is-given ok low k out))
+
+  free-planned : (st : List ℕ) (h w : ℕ) → badHost h ≡ false → Planned c s st (free h w) (planFree (shapeOf c) (stockMost c) s st h w)
+  unfolding planFree
+  free-planned st h w ok =
+      planned-cond _ 9 _ (λ k.
+      planned-cond _ 10 _ (λ g.
+      granted-planned st h w ok (not-false (ofKind (shapeOf c .kind) w) k) (not-false (isGranted (shapeOf c) s st w) g)))
+
+  wish-planned : (st : List ℕ) (x : Wish) → badHost (hostIn x) ≡ false → Planned c s st x (planOf c s st x)
+  wish-planned st (alloc h) ok = alloc-planned st h ok
+  wish-planned st (free h w) ok = free-planned st h w ok
+  wish-planned st (trim h) ok = trim-planned st h ok
+
+pub planned : (c : ℕ) (s : Class) (st : List ℕ) (x : Wish) → Planned c s st x (plan c s st x)
+unfolding plan
+planned c s st x = planned-cond _ 3 _ (λ ok. planned-cond _ 4 _ (λ l. wish-planned c s (not-false (ltb c classCount) l) st x ok))
