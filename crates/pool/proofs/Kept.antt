@@ -283,7 +283,7 @@ history-kept size k P gs f K [] = record { calls = k; kept = K }
 history-kept size k P gs f K (x ∷ xs) =
     history-kept size (suc k) (poolStep size P x .pool) _ _ (call-kept size (K .number) k P (K .entries) gs f (K .lost) (K .holds) x) xs
 
-new-kept : (size : ℕ) (rules : Rules) → PoolKept size 0 (newPool rules) [] (λ x. false)
+pub new-kept : (size : ℕ) (rules : Rules) → PoolKept size 0 (newPool rules) [] (λ x. false)
 unfolding newPool
 new-kept size rules = record {
   number = 0;

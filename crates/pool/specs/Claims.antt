@@ -2,23 +2,23 @@
 use Prim.Native.Nat.{ℕ, _≤_}
 use mathlib.Core.Path.{_≡_}
 use mathlib.Core.Logic.{_⊎_, _↔_}
-use mathlib.Core.List.{List, [], _∷_, _++_}
+use mathlib.Core.List.{List, [], _++_}
 use mathlib.Core.Option.{none}
 use mathlib.Core.Bool.{true, false}
-use lib.Dec.{ltb, eqb}
+use lib.Dec.{ltb}
 use lib.ListN.{length, replicate}
 use Rattle.facts.specs.Lists.{All, elem, distinct, isSome}
 use Rattle.words.specs.Host.{badHost}
 use Rattle.classes.specs.Shape.{shapeOf, classCount}
 use Rattle.rules.specs.Rules.{Rules}
-use Rattle.model.specs.Calls.{Call, names, isRefused}
+use Rattle.model.specs.Calls.{names, isRefused}
 use Rattle.model.specs.Arena as Arenas
 use Rattle.model.specs.Class.{Class}
 use Rattle.model.specs.Release.{ofKind, outHere}
 use Rattle.model.specs.History.{events, heapAfter}
 use Rattle.model.specs.Entries.{OutIn}
 use Rattle.model.specs.Demands.{Disjoint}
-use Rattle.pool.specs.Pool.{Pool, PoolCall, Wish, PoolAnswer, to, alloc, free, trim, poolStep, refused, noBlock, freed}
+use Rattle.pool.specs.Pool.{PoolCall, Wish, PoolAnswer, to, alloc, free, trim, poolStep, refused, noBlock, freed}
 use Rattle.pool.specs.Told.{poolEvents, poolAfter, heapCalls, toldOf, poolCallsOf, poolAnswersOf, poolRunsOf}
 
 -- two grants not yet freed share a byte exactly when they are the same grant, and none has a byte of a page held by hand
@@ -35,11 +35,11 @@ pub record OnHeap (size : ℕ) (rules : Rules) (xs : List PoolCall) : Type 0 whe
 abbrev pub answerTo : ℕ → Rules → List PoolCall → ℕ → Wish → PoolAnswer
 answerTo size rules xs c x = poolStep size (poolAfter size rules xs) (to c x) .answer
 
--- a free is carried out exactly if its block is a grant of that class not yet freed; else it has the first number that applies
+-- numbers 3 and 4; then a free is carried out exactly if its block is a grant of that class not yet freed, and else is number 9 or 10
 pub record Frees (size : ℕ) (rules : Rules) (xs : List PoolCall) (c h w : ℕ) : Type 0 where
-  pub done : (answerTo size rules xs c (free h w) ≡ freed) ↔ ((badHost h ≡ false) × OutIn (toldOf (poolEvents size rules xs)) c w)
   pub host : badHost h ≡ true → answerTo size rules xs c (free h w) ≡ refused 3
   pub class : badHost h ≡ false → ltb c classCount ≡ false → answerTo size rules xs c (free h w) ≡ refused 4
+  pub done : badHost h ≡ false → ltb c classCount ≡ true → (answerTo size rules xs c (free h w) ≡ freed) ↔ OutIn (toldOf (poolEvents size rules xs)) c w
   pub kind : badHost h ≡ false → ltb c classCount ≡ true → ofKind (shapeOf c .kind) w ≡ false → answerTo size rules xs c (free h w) ≡ refused 9
   pub stale : badHost h ≡ false → ltb c classCount ≡ true → ofKind (shapeOf c .kind) w ≡ true → (OutIn (toldOf (poolEvents size rules xs)) c w → ⊥)
       → answerTo size rules xs c (free h w) ≡ refused 10
