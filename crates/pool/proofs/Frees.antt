@@ -43,7 +43,7 @@ use Rattle.pool.specs.Told.{toldOf, poolEvents, poolAfter}
 use Rattle.pool.specs.Claims.{Bare, Frees, Unchanged}
 use Rattle.pool.proofs.Kept.{PoolInv, pool-kept, at-most, grant-one}
 use Rattle.pool.proofs.Plans.{Planned, is-turned, is-popped, is-taken, is-put, is-given, is-bare, is-trimmed, planned}
-use Rattle.pool.proofs.HeapCalls.{step-take, step-give, give-done, take-done, take-few}
+use Rattle.pool.proofs.HeapCalls.{step-take, step-give, give-done, take-done, take-few, Within, take-within}
 
 pub count-none : (w : ℕ) (s : List ℕ) → count w s ≡ 0 → elem w s ≡ false
 count-none w s z = by-cases (elem w s) (λ e. absurd (omega (arith, elem-count w s e))) (λ e. e)
@@ -160,6 +160,10 @@ module _ (size : ℕ) (P : Pool) (c h : ℕ) where
   pub took-few : badHost h ≡ false → ltb c classCount ≡ true → length (blocksOf (took .answer)) ≤ 64
   unfolding classCall interact finish
   took-few ok low = rw (step-take size (P .heap) c h blank ok low) (take-few (shapeOf c) (shape-sound c) (P .heap .rules c) _ (P .heap .classes c) h)
+
+  pub took-within : badHost h ≡ false → ltb c classCount ≡ true → Within (took .answer)
+  unfolding classCall interact finish
+  took-within ok low = rw (step-take size (P .heap) c h blank ok low) (take-within (shapeOf c) (shape-sound c) (P .heap .rules c) _ (P .heap .classes c) h)
 
 -- a class's take answers no block exactly if it has no page and the arena no run
 module _ (size h : ℕ) (a : Arena) (lim : Limits) (sh : Shape) (ok : Sound sh) where

@@ -19,7 +19,7 @@ use Rattle.classes.proofs.Shapes.{shape-sound}
 use Rattle.model.specs.Page.{Page, Popped, isOut, pop, carvedNow, carve, reused}
 use Rattle.model.proofs.NewRun.{length-words}
 use native.Mathlib.Omega.{arith}
-use lib.ListN.{length, length-append, length-reverse, length-take}
+use lib.ListN.{length, drop, length-append, length-reverse, length-take}
 use lib.Seq.{take-append-seam}
 use Rattle.model.specs.Class.{Class, Cold, Ask, Filled, after, fillFromList, thawed, serve, refuse, takeFrom, served, onRun}
 use Rattle.model.proofs.Sites.{Tells, locate-tells}
@@ -120,7 +120,41 @@ module _ (sh : Shape) (ok : Sound sh) (lim : Limits) (g : Option ℕ) where
   unfolding answer
   take-done s h = rw (le-ltb 64 (sh .batch) (ok .limited)) (from-done blank (s .partial) (s .empty) (s .cold) (s .full))
 
--- and answers at most 64 blocks
+-- and its count is within its list
+abbrev pub Within : Answer → Type 0
+Within (Calls.refused n) = Unit {0}
+Within (Calls.taken n l v) = n ≤ length l
+Within (Calls.fate n) = Unit {0}
+Within (Calls.fates l) = Unit {0}
+Within (Calls.run q f) = Unit {0}
+Within Calls.noRun = Unit {0}
+Within Calls.released = Unit {0}
+Within (Calls.grown b) = Unit {0}
+Within (Calls.contained b) = Unit {0}
+Within (Calls.reported f) = Unit {0}
+
+module _ (sh : Shape) where
+  served-within : (l : List ℕ) (f : Filled) (es : List Page) (cs : List Cold) (fs : List Page) → Within (served l f es cs fs .answer)
+  unfolding served
+  served-within l f es cs fs = omega (arith, length-append (f .blocks) (drop (length (f .blocks)) l))
+
+  run-within : (l : List ℕ) (fs : List Page) (g : Option ℕ) → Within (onRun sh l fs g .answer)
+  unfolding onRun
+  run-within l fs none = omega arith
+  run-within l fs (some q) = served-within l _ [] [] fs
+
+  from-within : (g : Option ℕ) (l : List ℕ) (ps es : List Page) (cs : List Cold) (fs : List Page) → Within (serve (takeFrom sh l ps es cs fs) g .answer)
+  unfolding takeFrom
+  from-within g l (p ∷ ps) es cs fs = served-within l _ es cs fs
+  from-within g l [] (e ∷ es) cs fs = served-within l _ es cs fs
+  from-within g l [] [] (c ∷ cs) fs = served-within l _ [] cs fs
+  from-within g l [] [] [] fs = run-within l fs g
+
+pub take-within : (sh : Shape) → Sound sh → (lim : Limits) (g : Option ℕ) (s : Class) (h : ℕ) → Within (serve (answer sh lim s (take h blank)) g .answer)
+unfolding answer
+take-within sh ok lim g s h = rw (le-ltb 64 (sh .batch) (ok .limited)) (from-within sh g blank (s .partial) (s .empty) (s .cold) (s .full))
+
+-- and it answers at most 64 blocks
 module _ (sh : Shape) where
   pop-few : (n : ℕ) (p : Page) → length (pop sh n p .blocks) ≤ n
   unfolding pop carvedNow

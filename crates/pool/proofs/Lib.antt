@@ -1,3 +1,4 @@
+pub mod Most
 pub mod Lives
 pub mod Plans
 pub mod HeapCalls

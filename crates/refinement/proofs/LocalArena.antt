@@ -36,10 +36,10 @@ abbrev pub RunIn : (ℕ → Bool) → ℕ → ℕ → Type 0
 RunIn S q m = (x : ℕ) → q ≤ x → x < q + m → PageIn S x
 
 module _ {S : ℕ → Bool} (a : ArenaIn S) (d : List ℕ) where
-  in-arena : (k : ArenaField) → S (word (arena k)) ≡ true
+  pub in-arena : (k : ArenaField) → S (word (arena k)) ≡ true
   in-arena k = a .low (arenaOff k) (omega (arith, arenaOff-lt k))
 
-  in-hole : (k : HoleField) (i : ℕ) → i < 4096 → S (word (hole k i)) ≡ true
+  pub in-hole : (k : HoleField) (i : ℕ) → i < 4096 → S (word (hole k i)) ≡ true
   in-hole HoleField.start i l = at-word S (omega arith) (a .high (2 * i) (omega arith))
   in-hole HoleField.pages i l = at-word S (omega arith) (a .high (2 * i + 1) (omega arith))
 

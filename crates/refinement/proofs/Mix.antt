@@ -78,17 +78,17 @@ pub at-word : (S : ℕ → Bool) {i j : ℕ} → i ≡ j → S i ≡ true → S 
 at-word S e h = rw (sym e) h
 
 module _ {S : ℕ → Bool} {q : ℕ} (p : PageIn S q) (b d : List ℕ) where
-  in-page : (k : PageField) → S (word (page k q)) ≡ true
+  pub in-page : (k : PageField) → S (word (page k q)) ≡ true
   in-page k =
       by-cases (ltb (pageOff k) 2) (λ e. rw e (p .pairs (pageOff k) (ltb-true _ _ e))) (λ e. rw e (p .words (pageOff k) (omega (arith, pageOff-lt k))))
 
-  in-slot : (i : ℕ) → i < 4096 → S (word (slot q i)) ≡ true
+  pub in-slot : (i : ℕ) → i < 4096 → S (word (slot q i)) ≡ true
   in-slot i h = at-word S (omega arith) (p .words (272 + i / 2) (omega arith))
 
-  in-out : (i : ℕ) → i < 4096 → S (word (out q i)) ≡ true
+  pub in-out : (i : ℕ) → i < 4096 → S (word (out q i)) ≡ true
   in-out i h = at-word S (omega arith) (p .words (16 + i / 32) (omega arith))
 
-  in-mark : (j : ℕ) → j < 128 → S (word (mark q j)) ≡ true
+  pub in-mark : (j : ℕ) → j < 128 → S (word (mark q j)) ≡ true
   in-mark j h = at-word S (omega arith) (p .words (144 + j) (omega arith))
 
   pub get-page : (k : PageField) → get (mix S b d) (page k q) ≡ get b (page k q)
@@ -110,7 +110,7 @@ module _ {S : ℕ → Bool} {q : ℕ} (p : PageIn S q) (b d : List ℕ) where
   put-mark j v h = put-in S b d (mark q j) v (in-mark j h)
 
 module _ {S : ℕ → Bool} {c : ℕ} (r : RowIn S c) (b d : List ℕ) where
-  in-row : (k : ClassField) → S (word (class k c)) ≡ true
+  pub in-row : (k : ClassField) → S (word (class k c)) ≡ true
   in-row k = r .words (classOff k) (classOff-lt k)
 
   pub get-row : (k : ClassField) → get (mix S b d) (class k c) ≡ get b (class k c)
