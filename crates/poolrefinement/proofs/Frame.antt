@@ -76,8 +76,13 @@ page-in q = record { words = word-heap q; pairs = λ j l. at-word heapWord (omeg
 pub row-in : (c : ℕ) → ltb c 76 ≡ true → RowIn heapWord c
 unfolding heapWord
 row-in c h = record {
-  words = λ j l. rw (lt-ltb (160 + 8 * c + j) 40000 (omega (arith, ltb-true c 76 h)), lt-ltb (160 + 8 * c + j) 9216 (omega (arith, ltb-true c 76 h)),
-      ne-eqb ((160 + 8 * c + j) % 8) 7 (omega arith), and-no (ltb (160 + 8 * c + j) 768), and-no (leb 160 (160 + 8 * c + j)));
+  words = λ j l. rw (
+    lt-ltb (160 + 8 * c + j) 40000 (omega (arith, ltb-true c 76 h)),
+    lt-ltb (160 + 8 * c + j) 9216 (omega (arith, ltb-true c 76 h)),
+    ne-eqb ((160 + 8 * c + j) % 8) 7 (omega arith),
+    and-no (ltb (160 + 8 * c + j) 768),
+    and-no (leb 160 (160 + 8 * c + j)),
+  );
 }
 
 -- ---- a class's call
