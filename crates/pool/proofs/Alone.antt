@@ -3,40 +3,37 @@ use Prim.Native.Nat.{ℕ, zero, suc, _+_, _≤_, min}
 use mathlib.Core.Path.{_≡_, refl, sym, ap, _∙_, subst, ap₂}
 use mathlib.Core.List.{List, [], _∷_, map, reverse, reverseAux, head-eq-of-cons-eq, tail-eq-of-cons-eq}
 use mathlib.Core.Option.{Option, none, some}
-use mathlib.Core.Bool.{Bool, true, false, cond, not}
-use mathlib.Core.Logic.{_↔_}
+use mathlib.Core.Bool.{Bool, true, false, cond}
 use native.Mathlib.Omega.{arith}
-use lib.Dec.{eqb, ltb}
-use lib.ListN.{length, take, length-reverse}
+use lib.Dec.{eqb}
+use lib.ListN.{length, take, length-map, length-reverse}
 use borrow.Author.Tests.{eqb-true, le-ltb}
-use Rattle.facts.specs.Lists.{below, isNil, every}
+use Rattle.facts.specs.Lists.{below, every}
 use Rattle.facts.proofs.Bools.{by-cases}
-use Rattle.words.specs.Host.{badHost}
 use Rattle.classes.specs.declared.Shape.{Shape}
-use Rattle.classes.specs.Shape.{shapeOf, classCount}
+use Rattle.classes.specs.Shape.{shapeOf}
 use Rattle.classes.specs.Sound.{Sound}
 use Rattle.classes.proofs.Shapes.{shape-sound}
 use Rattle.rules.specs.declared.Limits.{Limits}
 use Rattle.rules.specs.Rules.{Rules}
-use Rattle.model.specs.declared.Hole.{Hole}
 use Rattle.model.specs.Calls as Calls
-use Rattle.model.specs.Calls.{Call, Answer, Request, names, blocksOf, isRefused}
+use Rattle.model.specs.Calls.{Request, blocksOf}
 use Rattle.model.specs.Page.{Page, isMedium, isOut, wordOf, wordsFrom}
-use Rattle.model.specs.Class.{Class, newClass, Cold, Result, Ask, done, asks, serve, refuse, takeFrom, onRun}
+use Rattle.model.specs.Class.{Class, newClass, Cold, Result, Ask, done, serve, takeFrom, onRun}
 use Rattle.model.specs.Release.{Site, onPage, releaseList}
 use Rattle.model.specs.Chunks.{answer}
-use Rattle.model.specs.Heap.{Heap, Outcome, step, classCall, interact, finish, newHeap, runWith}
+use Rattle.model.specs.Heap.{Heap, step, classCall, interact, finish, newHeap, runWith}
 use Rattle.model.proofs.Ways.{goes}
 use Rattle.model.proofs.Update.{update-same, update-other}
 use Rattle.model.proofs.NewRun.{newBlocks, blocks-come, run-blocks}
 use Rattle.model.proofs.Alone as Heaps
-use Rattle.model.proofs.Alone.{Fits, Own, own-call, other, step-rules, runs-first}
+use Rattle.model.proofs.Alone.{Fits, own-call, other, step-rules, runs-first}
 use Rattle.pool.specs.Stock.{blank}
 use Rattle.pool.specs.Pool as Pools
-use Rattle.pool.specs.Pool.{Pool, newPool, PoolCall, Plan, Wish, PoolAnswer, Done, to, direct, Direct, alloc, free, trim, turn, stays, poolStep, carry, pass, plan, bring, ends, callFor, callBy, granted, noBlock, refused}
+use Rattle.pool.specs.Pool.{Pool, newPool, PoolCall, Plan, Wish, PoolAnswer, Done, to, direct, Direct, trim, turn, stays, poolStep, carry, pass, plan, bring, ends, callFor, callBy, noBlock, refused}
 use Rattle.pool.specs.Told.{PoolEvent, eventOf, poolEventsFrom, poolEvents, isOf, poolCallsOf, poolAnswersOf, poolRunsOf}
 use Rattle.pool.specs.Claims.{PoolAlone}
-use Rattle.pool.proofs.Lives.{names-take, names-give, named, direct-none}
+use Rattle.pool.proofs.Lives.{direct-none}
 use Rattle.pool.proofs.Plans.{Planned, is-turned, is-popped, is-taken, is-put, is-given, is-bare, is-trimmed, planned}
 use Rattle.pool.proofs.HeapCalls.{step-take, step-give, take-done}
 
@@ -70,12 +67,8 @@ module _ (sh : Shape) (ok : Sound sh) where
   stock-map : (b : Bool) (q : ℕ) → reverse (newBlocks sh ok b q) ≡ map (λ i. wordOf sh q (0 + i)) (reverse (indices b))
   stock-map b q = ap reverse (blocks-map b q) ∙ sym (map-reverseAux (λ i. wordOf sh q (0 + i)) (indices b) [])
 
-  length-map : (f : ℕ → ℕ) (s : List ℕ) → length (map f s) ≡ length s
-  length-map f [] = refl
-  length-map f (x ∷ s) = ap suc (length-map f s)
-
   some-block : (b : Bool) → 1 ≤ length (reverse (indices b))
-  some-block b = omega (arith, blocks-come sh ok b 0, length-reverse (newBlocks sh ok b 0), ap length (stock-map b 0), length-map (λ i. wordOf sh 0 (0 + i)) (reverse (indices b)))
+  some-block b = omega (arith, blocks-come sh ok b 0, length-reverse (newBlocks sh ok b 0), ap length (stock-map b 0), length-map (reverse (indices b)) (λ i. wordOf sh 0 (0 + i)))
 
   first-tells : (is : List ℕ) (q q′ : ℕ) → 1 ≤ length is → bring (map (λ i. wordOf sh q (0 + i)) is) .answer ≡ bring (map (λ i. wordOf sh q′ (0 + i)) is) .answer → q ≡ q′
   unfolding wordOf

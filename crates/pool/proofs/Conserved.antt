@@ -2,13 +2,13 @@
 use Prim.Native.Nat.{ℕ, zero, suc, _+_, _≤_}
 use mathlib.Core.Path.{_≡_, refl, sym, ap, _∙_, subst}
 use mathlib.Core.List.{List, [], _∷_, _++_}
-use mathlib.Core.Bool.{Bool, true, false, not}
-use mathlib.Core.Logic.{_⊎_, inl, inr}
+use mathlib.Core.Bool.{Bool, true, false}
+use mathlib.Core.Logic.{inl, inr}
 use native.Mathlib.Omega.{arith}
-use lib.Dec.{eqb, ltb}
+use lib.Dec.{ltb}
 use lib.ListN.{length, replicate}
 use borrow.Author.Tests.{eq-eqb}
-use Rattle.facts.specs.Lists.{count, distinct, elem, total}
+use Rattle.facts.specs.Lists.{count, distinct, elem}
 use Rattle.facts.proofs.Bools.{by-cases}
 use Rattle.words.specs.Limits.{maxPages}
 use Rattle.words.specs.Host.{badHost}
@@ -17,15 +17,14 @@ use Rattle.classes.proofs.Shapes.{shape-sound}
 use Rattle.rules.specs.Rules.{Rules}
 use Rattle.model.specs.Entries.{Entry}
 use Rattle.model.specs.Yields.{Listed}
-use Rattle.model.proofs.Counts.{elem-count, count-elem}
-use Rattle.model.proofs.EntryCounts.{is}
+use Rattle.model.proofs.Counts.{elem-count, count-elem, count-not}
 use Rattle.model.proofs.Sites.{here-out}
 use Rattle.model.proofs.Theorems.{yielding}
 use Rattle.pool.specs.Pool.{Pool, newPool, PoolCall, to, trim, poolStep, plan, planTrim, carry, ends}
 use Rattle.pool.specs.Told.{toldOf, poolEvents, poolFrom, poolAfter, heapCalls}
 use Rattle.pool.specs.Claims.{AllocNone, Conserved}
 use Rattle.pool.proofs.Kept.{PoolInv, PoolKept, pool-kept, call-kept, at-most}
-use Rattle.pool.proofs.Frees.{count-none, out-there, stock-out, gives, told-out, out-told, none-when}
+use Rattle.pool.proofs.Frees.{out-there, stock-out, gives, told-out, out-told, none-when}
 use Rattle.pool.proofs.OnHeap.{on-heap}
 
 pub pool-append : (size : ℕ) (P : Pool) (xs ys : List PoolCall) → poolFrom size P (xs ++ ys) ≡ poolFrom size (poolFrom size P xs) ys
@@ -70,7 +69,7 @@ once-each : (s : List ℕ) → ((w : ℕ) → count w s ≤ 1) → distinct s �
 once-each [] h = refl
 once-each (x ∷ s) h =
     let here : 1 + count x s ≤ 1 = rw (eq-eqb x x refl) at (h x) in
-    rw (count-none x s (omega arith)) (once-each s (λ w. omega (arith, h w)))
+    rw (count-not x s (omega arith)) (once-each s (λ w. omega (arith, h w)))
 
 pub conserved : (size : ℕ) → size ≤ maxPages → (rules : Rules) (xs : List PoolCall) → Conserved size rules xs
 conserved size small rules xs =
@@ -89,7 +88,7 @@ conserved size small rules xs =
           | inr e ↦ out-there size small _ _ P _ _ _ _ I c w (omega (arith, I .split c w, elem-count w (P .stock c) e))
         ]),
       );
-      either = λ c w u. count-none w (P .stock c) (omega (arith, out-told vs c w u, I .split c w, at-most (I .inv) c w));
+      either = λ c w u. count-not w (P .stock c) (omega (arith, out-told vs c w u, I .split c w, at-most (I .inv) c w));
       once = λ c. once-each (P .stock c) (λ w. omega (arith, I .split c w, at-most (I .inv) c w));
       trims = λ c h k ok low few. ap (λ Q. Q .stock c) (pool-append size (newPool rules) xs (replicate k (to c (trim h)))) ∙ trims-left size small c h ok low k (A .calls) P _ _ K few;
     }

@@ -1,15 +1,15 @@
 -- When a free is carried out, when an alloc answers none, and that a refusal changes nothing.
 use Prim.Native.Nat.{ℕ, _+_, _≤_}
-use mathlib.Core.Path.{_≡_, refl, sym, ap, _∙_, subst}
+use mathlib.Core.Path.{_≡_, refl, sym, ap, _∙_}
 use mathlib.Core.List.{List, [], _∷_, reverse, reverse-reverse}
 use mathlib.Core.Option.{Option, none, some}
-use mathlib.Core.Bool.{Bool, true, false, not, true≢false}
+use mathlib.Core.Bool.{Bool, true, false, true≢false}
 use mathlib.Core.Logic.{_↔_}
 use native.Mathlib.Omega.{arith}
 use lib.Dec.{ltb}
 use lib.ListN.{length}
 use borrow.Author.Tests.{eq-eqb, le-ltb}
-use Rattle.facts.specs.Lists.{All, isNil, total, count, elem}
+use Rattle.facts.specs.Lists.{All, isNil, total, count}
 use Rattle.facts.proofs.Bools.{by-cases}
 use Rattle.words.specs.Limits.{maxPages}
 use Rattle.words.specs.Word.{kindOf}
@@ -27,26 +27,23 @@ use Rattle.model.specs.Page.{Page, hasMore, reused}
 use Rattle.model.specs.Class.{Cold, serve, takeFrom, onRun, thawed}
 use Rattle.model.specs.Chunks.{answer}
 use Rattle.model.specs.Release.{ofKind, outHere}
-use Rattle.model.specs.Heap.{Heap, Outcome, offer, step, classCall, interact, finish}
+use Rattle.model.specs.Heap.{Outcome, offer, step, classCall, interact, finish}
 use Rattle.model.specs.Entries.{Entry, OutIn}
 use Rattle.model.specs.History.{Event}
 use Rattle.model.specs.Yields.{Listed}
-use Rattle.model.proofs.Counts.{elem-count}
+use Rattle.model.proofs.Counts.{count-not}
 use Rattle.model.proofs.Fold.{liveFrom, live-in, in-live}
 use Rattle.model.proofs.EntryCounts.{is, is-self, in-total, counted}
 use Rattle.model.proofs.Sites.{out-here}
 use Rattle.model.proofs.Apart.{entry-kind}
 use Rattle.model.proofs.Yields.{served-yields, thawed-more, new-more}
 use Rattle.pool.specs.Stock.{stockMost, blank}
-use Rattle.pool.specs.Pool.{Pool, PoolCall, Plan, Wish, to, alloc, free, poolStep, carry, plan, planFree, planAlloc, isGranted, bring, ends, callFor, refused, granted, noBlock, freed, trimmed}
+use Rattle.pool.specs.Pool.{Pool, PoolCall, Plan, Wish, to, alloc, free, turn, poolStep, carry, plan, planFree, planAlloc, isGranted, bring, ends, callFor, refused, noBlock, freed, trimmed}
 use Rattle.pool.specs.Told.{toldOf, poolEvents, poolAfter}
 use Rattle.pool.specs.Claims.{Bare, Frees, Unchanged}
 use Rattle.pool.proofs.Kept.{PoolInv, pool-kept, at-most, grant-one}
-use Rattle.pool.proofs.Plans.{Planned, is-turned, is-popped, is-taken, is-put, is-given, is-bare, is-trimmed, planned}
+use Rattle.pool.proofs.Plans.{Planned, is-turned, is-popped, is-taken, is-put, is-given, is-bare, is-trimmed, planned, plan-low}
 use Rattle.pool.proofs.HeapCalls.{step-take, step-give, give-done, take-done, take-few, Within, take-within}
-
-pub count-none : (w : ℕ) (s : List ℕ) → count w s ≡ 0 → elem w s ≡ false
-count-none w s z = by-cases (elem w s) (λ e. absurd (omega (arith, elem-count w s e))) (λ e. e)
 
 -- ---- the tests of a free
 module _ (size : ℕ) (small : size ≤ maxPages) (n k : ℕ) (P : Pool) (es gs : List Entry) (f : ℕ → Bool) (l : ℕ → ℕ) (K : PoolInv size n k P es gs f l) (c w : ℕ) where
@@ -69,7 +66,7 @@ module _ (size : ℕ) (small : size ≤ maxPages) (n k : ℕ) (P : Pool) (es gs 
   unfolding isGranted
   grant-tested h =
       let s = K .split c w in
-      rw (out-there (omega arith), count-none w (P .stock c) (omega (arith, at-most (K .inv) c w)))
+      rw (out-there (omega arith), count-not w (P .stock c) (omega (arith, at-most (K .inv) c w)))
 
   -- a release of one block that is out is not refused
   pub gives : (h : ℕ) → badHost h ≡ false → ltb c classCount ≡ true → 1 ≤ total (is c w) es → isRefused (step size (P .heap) (callFor c (giveBack h (w ∷ []))) .answer) ≡ false
@@ -220,20 +217,28 @@ module _ (size : ℕ) (P : Pool) (c h : ℕ) (ok : badHost h ≡ false) (low : l
 
 -- ---- a refusal
 module _ (size : ℕ) (small : size ≤ maxPages) (n k : ℕ) (P : Pool) (es gs : List Entry) (f : ℕ → Bool) (l : ℕ → ℕ) (K : PoolInv size n k P es gs f l) (c m : ℕ) where
-  refused-still : {x : Wish} {p : Plan} → Planned c (P .heap .classes c) (P .stock c) x p → carry size P c x p .answer ≡ refused m → (carry size P c x p .pool ≡ P) × (carry size P c x p .calls ≡ [])
+  -- none comes of the heap
+  refused-turn : {x : Wish} {p : Plan} → Planned c (P .heap .classes c) (P .stock c) x p → carry size P c x p .answer ≡ refused m → p ≡ turn m
   unfolding carry ends
-  refused-still (is-turned j) e = (refl, refl)
-  refused-still (is-popped low y) e = let z : _≡_ {A = ℕ} 0 1 = cc in absurd (omega arith)
-  refused-still (is-taken {h = h} ok low y) e = absurd (not-brought (reverse (blocksOf (took size P c h .answer))) m (rw (took-done size P c h ok low) at e))
-  refused-still (is-put low g) e = let z : _≡_ {A = ℕ} 0 1 = cc in absurd (omega arith)
-  refused-still (is-given {h = h} {w = w} ok low kd g) e =
+  refused-turn (is-turned j) e = let z : j ≡ m = cc in ap turn z
+  refused-turn (is-popped low y) e = let z : _≡_ {A = ℕ} 0 1 = cc in absurd (omega arith)
+  refused-turn (is-taken {h = h} ok low y) e = absurd (not-brought (reverse (blocksOf (took size P c h .answer))) m (rw (took-done size P c h ok low) at e))
+  refused-turn (is-put low g) e = let z : _≡_ {A = ℕ} 0 1 = cc in absurd (omega arith)
+  refused-turn (is-given {h = h} {w = w} ok low kd g) e =
       let d : freed ≡ refused m = rw (gives size small n k P es gs f l K c w h ok low (omega (arith, grant-one size n k P es gs f l K c low w g .0))) at e in
       let z : _≡_ {A = ℕ} 0 1 = cc in absurd (omega arith)
-  refused-still (is-bare y) e = let z : _≡_ {A = ℕ} 0 1 = cc in absurd (omega arith)
-  refused-still (is-trimmed {h = h} {w = w} {ws = ws} ok low y) e =
+  refused-turn (is-bare y) e = let z : _≡_ {A = ℕ} 0 1 = cc in absurd (omega arith)
+  refused-turn (is-trimmed {h = h} {w = w} {ws = ws} ok low y) e =
       let d : trimmed w ≡ refused m = rw (gives size small n k P es gs f l K c w h ok low (stock-out size small n k P es gs f l K c w ws y), y) at e in
       let z : _≡_ {A = ℕ} 0 1 = cc in absurd (omega arith)
 
+turned-still : (size : ℕ) (P : Pool) (c : ℕ) (x : Wish) (p : Plan) (m : ℕ) → p ≡ turn m → (carry size P c x p .pool ≡ P) × (carry size P c x p .calls ≡ [])
+unfolding carry
+turned-still size P c x p m e = rw e (refl, refl)
+
 pub unchanged : (size : ℕ) → size ≤ maxPages → (rules : Rules) (xs : List PoolCall) (c : ℕ) (x : Wish) → Unchanged size rules xs c x
 unfolding poolStep
-unchanged size small rules xs c x = record { same = λ n e. refused-still size small _ _ _ _ _ _ _ (pool-kept size rules xs .kept .holds) c n (planned c _ _ x) e }
+unchanged size small rules xs c x = record {
+  same = λ n e. turned-still size (poolAfter size rules xs) c x _ n (refused-turn size small _ _ _ _ _ _ _ (pool-kept size rules xs .kept .holds) c n (planned c _ _ x) e);
+  low = λ n e. plan-low c _ _ x n (refused-turn size small _ _ _ _ _ _ _ (pool-kept size rules xs .kept .holds) c n (planned c _ _ x) e);
+}

@@ -1,21 +1,20 @@
 -- What the heap answers to the calls that the pool makes: none is refused, a take brings at most 64 blocks, a release none.
 use Prim.Native.Nat.{ℕ, _-_, _≤_}
-use mathlib.Core.Path.{_≡_, refl, ap, sym, _∙_}
+use mathlib.Core.Path.{_≡_, refl}
 use mathlib.Core.List.{List, [], _∷_}
 use mathlib.Core.Option.{Option, none, some}
-use mathlib.Core.Bool.{Bool, true, false, cond, not, true≢false, false≢true}
+use mathlib.Core.Bool.{Bool, true, false, cond, false≢true}
 use lib.Dec.{eqb, ltb}
 use borrow.Author.Tests.{le-ltb}
-use Rattle.facts.specs.Lists.{isNil, every, isSome}
+use Rattle.facts.specs.Lists.{every, isSome}
 use Rattle.facts.proofs.Bools.{by-cases}
 use Rattle.words.specs.Host.{badHost}
 use Rattle.classes.specs.declared.Shape.{Shape}
 use Rattle.classes.specs.Shape.{shapeOf, classCount}
 use Rattle.rules.specs.declared.Limits.{Limits}
 use Rattle.model.specs.Calls as Calls
-use Rattle.model.specs.Calls.{Call, Answer, Request, names, hostIn, wayOf, blocksOf, isRefused, take, giveBack}
+use Rattle.model.specs.Calls.{Answer, hostIn, wayOf, blocksOf, isRefused, take, giveBack}
 use Rattle.classes.specs.Sound.{Sound}
-use Rattle.classes.proofs.Shapes.{shape-sound}
 use Rattle.model.specs.Page.{Page, Popped, isOut, pop, carvedNow, carve, reused}
 use Rattle.model.proofs.NewRun.{length-words}
 use native.Mathlib.Omega.{arith}
@@ -23,9 +22,9 @@ use lib.ListN.{length, drop, length-append, length-reverse, length-take}
 use lib.Seq.{take-append-seam}
 use Rattle.model.specs.Class.{Class, Cold, Ask, Filled, after, fillFromList, thawed, serve, refuse, takeFrom, served, onRun}
 use Rattle.model.proofs.Sites.{Tells, locate-tells}
-use Rattle.model.specs.Release.{Site, ofKind, outHere, repeats, onPage, siteOfFirst, releaseList, locate}
+use Rattle.model.specs.Release.{Site, ofKind, outHere, repeats, onPage, releaseList, locate}
 use Rattle.model.specs.Chunks.{answer}
-use Rattle.model.specs.Heap.{Heap, step, route, classCall, interact, finish}
+use Rattle.model.specs.Heap.{Heap, step, classCall, interact, finish}
 use Rattle.pool.specs.Stock.{blank}
 use Rattle.pool.specs.Pool.{callFor, numberOf}
 use Rattle.pool.proofs.Lives.{names-take, names-give}

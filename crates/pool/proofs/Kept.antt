@@ -2,11 +2,11 @@
 use Prim.Native.Nat.{ℕ, suc, _+_, _≤_}
 use mathlib.Core.Path.{_≡_, refl, sym, ap, _∙_, subst}
 use mathlib.Core.List.{List, [], _∷_, reverse}
-use mathlib.Core.Option.{Option, none, some}
-use mathlib.Core.Bool.{Bool, true, false, cond, not, _&&_}
+use mathlib.Core.Option.{some}
+use mathlib.Core.Bool.{Bool, true, false, not}
 use native.Mathlib.Omega.{arith}
-use lib.Dec.{eqb, leb, ltb}
-use borrow.Author.Tests.{eqb-true, leb-true, leb-false, not-true, eq-eqb}
+use lib.Dec.{eqb, ltb}
+use borrow.Author.Tests.{eqb-true, not-true, eq-eqb}
 use Rattle.facts.specs.Lists.{total, count, elem, update}
 use Rattle.facts.proofs.Bools.{by-cases, and-left, and-right}
 use Rattle.words.specs.Host.{badHost}
@@ -14,9 +14,9 @@ use Rattle.classes.specs.Shape.{shapeOf, classCount}
 use Rattle.classes.proofs.Shapes.{shape-sound}
 use Rattle.rules.specs.Rules.{Rules}
 use Rattle.model.specs.Calls as Calls
-use Rattle.model.specs.Calls.{Call, Answer, Request, names, blocksOf, releasedBy, isRefused, take, giveBack, listOf}
-use Rattle.model.specs.Release.{outHere, ofKind}
-use Rattle.model.specs.Heap.{Heap, Outcome, newHeap, step, classCall}
+use Rattle.model.specs.Calls.{Answer, Request, names, blocksOf, isRefused, take, giveBack}
+use Rattle.model.specs.Release.{outHere}
+use Rattle.model.specs.Heap.{Heap, Outcome, step}
 use Rattle.model.specs.Entries.{Entry, directNext, directFrom}
 use Rattle.model.proofs.Counts.{count-reverse, count-elem}
 use Rattle.model.proofs.Fold.{liveNext, liveFrom}
@@ -24,12 +24,12 @@ use Rattle.model.proofs.EntryCounts.{is, at}
 use Rattle.model.proofs.Sites.{here-out, out-once}
 use Rattle.model.proofs.HeapLaws.{Inv, start, restate, step-inv}
 use Rattle.model.proofs.Accounts.{held-le}
-use Rattle.pool.specs.Pool.{Pool, newPool, PoolCall, Wish, PoolAnswer, Plan, Done, End, to, direct, Direct, alloc, free, trim, turn, stays, goes, carry, pass, poolStep, plan, callFor, callBy, isGranted, bring, ends, endOf, after, withStock, numberOf, refused, granted, noBlock, freed, trimmed, answered}
+use Rattle.pool.specs.Pool.{Pool, newPool, PoolCall, Wish, PoolAnswer, Plan, Done, to, direct, Direct, alloc, free, trim, carry, pass, poolStep, callFor, callBy, isGranted, bring, ends, after, withStock, numberOf, refused, granted, noBlock, freed, trimmed}
 use Rattle.pool.specs.Stock.{blank}
-use Rattle.pool.specs.Told.{wishCall, asCall, asAnswer, told, toldOf, poolEventsFrom, poolEvents, poolFrom, poolAfter}
+use Rattle.pool.specs.Told.{wishCall, asCall, asAnswer, toldOf, poolEventsFrom, poolEvents, poolFrom, poolAfter}
 use Rattle.pool.proofs.Lives.{named, next, own-stay, own-gone, other, still-once, still-past, live-refused, names-take, names-give, take-quiet, give-quiet, wish-quiet, direct-none}
 use Rattle.pool.proofs.Plans.{Planned, is-turned, is-popped, is-taken, is-put, is-given, is-bare, is-trimmed, planned}
-use Rattle.pool.proofs.HeapCalls.{step-take, step-give, give-none, refused-is}
+use Rattle.pool.proofs.HeapCalls.{step-give, give-none, refused-is}
 
 -- of a pool after k calls, with the grants not yet freed, and the pages held by hand as the answers tell; the heap has made n calls
 pub record PoolInv (size n k : ℕ) (P : Pool) (es gs : List Entry) (f : ℕ → Bool) (l : ℕ → ℕ) : Type 0 where

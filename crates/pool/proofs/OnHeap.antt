@@ -12,7 +12,7 @@ use Rattle.model.specs.Heap.{Heap, step}
 use Rattle.model.specs.History.{Event, eventOf, eventsFrom, heapFrom}
 use Rattle.model.specs.Entries.{Entry}
 use Rattle.model.proofs.Pages.{all-append}
-use Rattle.pool.specs.Pool.{Pool, newPool, PoolCall, Plan, Wish, Direct, to, direct, turn, stays, goes, poolStep, carry, pass, plan, callBy}
+use Rattle.pool.specs.Pool.{Pool, newPool, PoolCall, Plan, Wish, Direct, to, direct, turn, stays, goes, poolStep, carry, pass, plan}
 use Rattle.pool.specs.Told.{poolFrom, heapCallsFrom}
 use Rattle.pool.specs.Claims.{OnHeap}
 use Rattle.pool.proofs.Lives.{direct-none}

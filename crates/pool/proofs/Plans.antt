@@ -1,20 +1,21 @@
 -- The ways of a wish, each with what is known then: seven, so that what follows goes by these and not by nested tests.
 use Prim.Native.Nat.{ℕ}
-use mathlib.Core.Path.{_≡_, refl, sym, ap}
+use native.Mathlib.Omega.{arith}
+use mathlib.Core.Path.{_≡_, refl, subst}
 use mathlib.Core.List.{List, [], _∷_}
 use mathlib.Core.Bool.{Bool, true, false, cond, not}
 use lib.Dec.{ltb}
 use lib.ListN.{length}
 use borrow.Author.Tests.{not-false}
+use Rattle.facts.specs.Lists.{elem}
 use Rattle.facts.proofs.Bools.{by-cases}
 use Rattle.words.specs.Host.{badHost}
-use Rattle.classes.specs.declared.Shape.{Shape}
 use Rattle.classes.specs.Shape.{shapeOf, classCount}
-use Rattle.model.specs.Calls.{take, giveBack}
+use Rattle.model.specs.Calls.{Request, take, giveBack}
 use Rattle.model.specs.Class.{Class}
 use Rattle.model.specs.Release.{ofKind}
 use Rattle.pool.specs.Stock.{stockMost, blank}
-use Rattle.pool.specs.Pool.{Plan, turn, stays, goes, Wish, alloc, free, trim, hostIn, planAlloc, planFree, planTrim, planOf, plan, isGranted, granted, noBlock, freed}
+use Rattle.pool.specs.Pool.{Plan, PoolAnswer, turn, stays, goes, Wish, alloc, free, trim, hostIn, planAlloc, planFree, planTrim, planOf, plan, isGranted, granted, noBlock, freed}
 
 pub data Planned (c : ℕ) (s : Class) (st : List ℕ) : Wish → Plan → Type 0 where
   is-turned : {x : Wish} (n : ℕ) → Planned c s st x (turn n)
@@ -59,3 +60,47 @@ module _ (c : ℕ) (s : Class) (low : ltb c classCount ≡ true) where
 pub planned : (c : ℕ) (s : Class) (st : List ℕ) (x : Wish) → Planned c s st x (plan c s st x)
 unfolding plan
 planned c s st x = planned-cond _ 3 _ (λ ok. planned-cond _ 4 _ (λ l. wish-planned c s (not-false (ltb c classCount) l) st x ok))
+
+-- ---- the numbers of a wish that is turned away
+record Low (p : Plan) : Type 0 where
+  low : (n : ℕ) → p ≡ turn n → elem n (3 ∷ 4 ∷ 9 ∷ 10 ∷ []) ≡ true
+
+low-turn : (m : ℕ) → elem m (3 ∷ 4 ∷ 9 ∷ 10 ∷ []) ≡ true → Low (turn m)
+low-turn m h = record { low = λ n e. let z : m ≡ n = cc in subst (λ j. elem j (3 ∷ 4 ∷ 9 ∷ 10 ∷ []) ≡ true) z h }
+
+low-stays : (a : PoolAnswer) (st : List ℕ) → Low (stays a st)
+low-stays a st = record { low = λ n e. let z : _≡_ {A = ℕ} 0 1 = cc in absurd (omega arith) }
+
+low-goes : (r : Request) (st : List ℕ) → Low (goes r st)
+low-goes r st = record { low = λ n e. let z : _≡_ {A = ℕ} 0 1 = cc in absurd (omega arith) }
+
+low-cond : (b : Bool) (p q : Plan) → Low p → Low q → Low (cond b p q)
+low-cond true p q h k = h
+low-cond false p q h k = k
+
+free-low : (c : ℕ) (s : Class) (st : List ℕ) (h w : ℕ) → Low (planFree (shapeOf c) (stockMost c) s st h w)
+unfolding planFree
+free-low c s st h w =
+    low-cond (not (ofKind (shapeOf c .kind) w)) (turn 9) _ (low-turn 9 refl)
+    (low-cond (not (isGranted (shapeOf c) s st w)) (turn 10) _ (low-turn 10 refl)
+    (low-cond (ltb (length st) (stockMost c)) (stays freed (w ∷ st)) (goes (giveBack h (w ∷ [])) st) (low-stays freed (w ∷ st)) (low-goes (giveBack h (w ∷ [])) st)))
+
+alloc-low : (h : ℕ) (st : List ℕ) → Low (planAlloc h st)
+unfolding planAlloc
+alloc-low h [] = low-goes (take h blank) []
+alloc-low h (w ∷ ws) = low-stays (granted w) ws
+
+trim-low : (h : ℕ) (st : List ℕ) → Low (planTrim h st)
+unfolding planTrim
+trim-low h [] = low-stays noBlock []
+trim-low h (w ∷ ws) = low-goes (giveBack h (w ∷ [])) ws
+
+wish-low : (c : ℕ) (s : Class) (st : List ℕ) (x : Wish) → Low (planOf c s st x)
+wish-low c s st (alloc h) = alloc-low h st
+wish-low c s st (free h w) = free-low c s st h w
+wish-low c s st (trim h) = trim-low h st
+
+pub plan-low : (c : ℕ) (s : Class) (st : List ℕ) (x : Wish) (n : ℕ) → plan c s st x ≡ turn n → elem n (3 ∷ 4 ∷ 9 ∷ 10 ∷ []) ≡ true
+unfolding plan
+plan-low c s st x =
+    low-cond (badHost (hostIn x)) (turn 3) _ (low-turn 3 refl) (low-cond (not (ltb c classCount)) (turn 4) (planOf c s st x) (low-turn 4 refl) (wish-low c s st x)) .low

@@ -2,7 +2,7 @@
 use Prim.Native.Nat.{ℕ, _≤_}
 use mathlib.Core.Path.{_≡_}
 use mathlib.Core.Logic.{_⊎_, _↔_}
-use mathlib.Core.List.{List, [], _++_}
+use mathlib.Core.List.{List, [], _∷_, _++_}
 use mathlib.Core.Option.{none}
 use mathlib.Core.Bool.{true, false}
 use lib.Dec.{ltb}
@@ -57,10 +57,11 @@ pub record AllocNone (size : ℕ) (rules : Rules) (xs : List PoolCall) (c h : �
       ↔ ((poolAfter size rules xs .stock c ≡ []) × Bare (poolAfter size rules xs .heap .classes c)
       × (Arenas.commit size h (shapeOf c .pages) (poolAfter size rules xs .heap .arena) .run ≡ none))
 
--- a refused call changes nothing, and makes no call of the heap
+-- a refused call changes nothing, and makes no call of the heap; its number is 3, 4, 9 or 10
 pub record Unchanged (size : ℕ) (rules : Rules) (xs : List PoolCall) (c : ℕ) (x : Wish) : Type 0 where
   pub same : (n : ℕ) → answerTo size rules xs c x ≡ refused n
       → (poolStep size (poolAfter size rules xs) (to c x) .pool ≡ poolAfter size rules xs) × (poolStep size (poolAfter size rules xs) (to c x) .calls ≡ [])
+  pub low : (n : ℕ) → answerTo size rules xs c x ≡ refused n → elem n (3 ∷ 4 ∷ 9 ∷ 10 ∷ []) ≡ true
 
 -- a block out of the heap is granted or in stock, and each of these once
 pub record Conserved (size : ℕ) (rules : Rules) (xs : List PoolCall) : Type 0 where

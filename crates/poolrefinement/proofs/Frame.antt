@@ -1,5 +1,5 @@
 -- The heap's calls leave the pool's words, and the pool's writes leave every field: both ways by the words in which a field may lie.
---     class-frame, direct-frame    a call of a class, a direct call
+--     class-frame, direct-frame    a call of a class, a direct call; heap-frame, any call after a history
 --     field-in, set-changes        every field lies in such a word; a write to another changes no field
 --     represents-still             and the book stands for the same heap
 use Prim.Native.Nat.{ℕ, zero, suc, _+_, _-_, _*_, _/_, _%_, _≤_, _<_}
@@ -7,21 +7,26 @@ use native.Mathlib.Omega.{arith}
 use mathlib.Core.Bool.{Bool, true, false, true≢false, false≢true}
 use mathlib.Core.List.{List, [], _∷_}
 use mathlib.Core.Logic.{inr}
+use mathlib.Core.Option.{Option, none, some}
 use mathlib.Core.Path.{_≡_, refl, sym, ap, _∙_, subst}
 use lib.Dec.{ltb, leb}
 use lib.ListN.{length, getD, set, length-set}
 use lib.Seq.{getD-set-other}
 use borrow.Author.Tests.{lt-ltb, le-ltb, ltb-true, ne-eqb, lt-leb}
 use Rattle.facts.proofs.Bools.{by-cases, and-no}
+use Rattle.words.specs.Host.{badHost}
 use Rattle.classes.specs.Shape.{shapeOf}
 use Rattle.classes.proofs.Shapes.{shape-sound}
+use Rattle.rules.specs.Rules.{Rules}
 use Rattle.fields.specs.Ranges.{maxPages}
 use Rattle.fields.specs.Field.{Field, arena, mark, class, hole, page, out, slot, word, part, read, get, ok}
 use Rattle.fields.proofs.Changes.{Changes, changes-mono}
 use Rattle.model.specs.Calls as Calls
-use Rattle.model.specs.Calls.{Call, Request}
+use Rattle.model.specs.Calls.{Call, Request, Named, names, hostIn, wayOf, wayTo}
 use Rattle.model.specs.Heap.{Heap, badRun, badGrowth, direct}
+use Rattle.model.specs.History.{heapAfter}
 use Rattle.model.specs.Yields.{Listed}
+use Rattle.model.proofs.Theorems.{yielding}
 use Rattle.model.proofs.ArenaTidy.{few-give}
 use Rattle.arena.specs.Owners.{ownerCode}
 use Rattle.arena.specs.Load.{loadArena}
@@ -29,9 +34,10 @@ use Rattle.arena.specs.Fair.{commitFair, growFair, giveFair}
 use Rattle.arena.specs.Calls.{commitFor, commitCall, growCall, releaseCall, heldDirect}
 use Rattle.refinement.specs.Represents.{Represents}
 use Rattle.refinement.specs.Direct.{directReply}
-use Rattle.refinement.specs.Run.{classReply}
+use Rattle.refinement.specs.Run.{classReply, replyAs, callReply}
 use Rattle.refinement.proofs.ArenaFrames.{committed-changes, grown-changes, given-changes}
-use Rattle.refinement.proofs.ArenaReached.{Reached}
+use Rattle.refinement.proofs.ArenaReached.{Reached, reached-after}
+use Rattle.refinement.proofs.ChangePlaces.{ours}
 use Rattle.refinement.proofs.ArenaFair.{loads-number}
 use Rattle.refinement.proofs.Frames.{Only, ofClass, only-rule}
 use Rattle.refinement.proofs.Kept.{class-beside}
@@ -39,10 +45,9 @@ use Rattle.refinement.proofs.GiveClass.{arena-only}
 use Rattle.refinement.proofs.Mix.{mix, mix-same, PageIn, RowIn, at-word, in-page, in-slot, in-out, in-mark, in-row}
 use Rattle.refinement.proofs.LocalFill.{Home}
 use Rattle.refinement.proofs.LocalArena.{ArenaIn, in-arena, in-hole, committed-in, grown-in, given-in}
-use Rattle.refinement.proofs.LocalList.{Roams}
 use Rattle.refinement.proofs.Lengths.{Ours, reply-long}
 use Rattle.refinement.proofs.LocalReply.{Abroad, reply-local, ours-row}
-use Rattle.poolrefinement.specs.Represents.{ofPlaces, heapWord}
+use Rattle.poolrefinement.specs.Represents.{heapWord}
 
 pub not-mix : (S : ℕ → Bool) (b d : List ℕ) (i : ℕ) → S i ≡ false → length b ≡ length d → getD (mix S b d) i 0 ≡ getD d i 0
 unfolding mix
@@ -112,6 +117,11 @@ set-changes b i v e = record {
   long = length-set b i v;
   kept = λ g o t. ap (read (part g)) (getD-set-other b i (word g) v 0 (λ z. true≢false (sym (field-in g o) ∙ ap heapWord z ∙ e)));
 }
+
+-- a book with the same words of the heap
+pub words-changes : (b b′ : List ℕ) → length b′ ≡ length b → ((i : ℕ) → heapWord i ≡ true → getD b′ i 0 ≡ getD b i 0) → Changes (λ f. false) b b′
+unfolding get
+words-changes b b′ l h = record { long = l; kept = λ g o t. ap (read (part g)) (h (word g) (field-in g o)) }
 
 pub represents-still : (n : ℕ) (b : List ℕ) (H : Heap) → Represents n b H → Reached n H → (b′ : List ℕ) → Changes (λ f. false) b b′ → Represents n b′ H
 represents-still n b H R ok b′ h =
@@ -184,3 +194,13 @@ module _ (n : ℕ) (b : List ℕ) (H : Heap) (R : Represents n b H) (ok : Reache
   direct-frame (Calls.release h q m) i e = release-framed q m .frame i e
   direct-frame (Calls.contains o k) i e = refl
   direct-frame Calls.report i e = refl
+
+-- ---- any call
+module _ (n : ℕ) (hn : n ≤ maxPages) (rules : Rules) (made : List Call) (b : List ℕ) (R : Represents n b (heapAfter n rules made)) where
+  pub heap-frame : (x : Call) (i : ℕ) → heapWord i ≡ false → getD (callReply n b x .book) i 0 ≡ getD b i 0
+  unfolding callReply wayOf
+  heap-frame x i o = by-cases (badHost (hostIn x)) (λ t. rw t) (λ t. rw t (go (names x) refl))
+    where
+      go : (p : Option Named) → names x ≡ p → getD (replyAs n b x (wayTo p) .book) i 0 ≡ getD b i 0
+      go none e = direct-frame n b (heapAfter n rules made) R (reached-after n rules made) x i o
+      go (some p) e = class-frame n hn b (heapAfter n rules made) R (reached-after n rules made) (p .class) (yielding n rules made .listed (p .class)) (p .request) (ours x p e) i o

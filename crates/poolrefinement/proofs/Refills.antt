@@ -22,7 +22,7 @@ use Rattle.model.specs.Heap.{Heap, Outcome, step}
 use Rattle.model.specs.Entries.{Entry, directNext}
 use Rattle.model.specs.Yields.{Listed}
 use Rattle.model.proofs.EntryCounts.{is}
-use Rattle.model.proofs.Counts.{elem-count, count-reverse}
+use Rattle.model.proofs.Counts.{elem-count, count-not, count-reverse}
 use Rattle.model.proofs.Update.{update-same, update-other, other-way}
 use Rattle.calls.specs.Take.{Took, takeCall}
 use Rattle.refinement.specs.Represents.{Represents}
@@ -37,7 +37,7 @@ use Rattle.pool.proofs.Lives as Lives
 use Rattle.pool.proofs.Apart.{out-apart, out-low, out-word}
 use Rattle.pool.proofs.Kept.{PoolInv, PoolKept, at-most, brought}
 use Rattle.pool.proofs.HeapCalls.{step-take, Within}
-use Rattle.pool.proofs.Frees.{took-done, took-few, took-within, count-none}
+use Rattle.pool.proofs.Frees.{took-done, took-few, took-within}
 use Rattle.poolcalls.specs.Stock.{countIn, entryIn, blockIn, filled}
 use Rattle.poolcalls.specs.Calls.{Said, said, bringOn, tookOn, allocOn}
 use Rattle.poolcalls.proofs.Laws.{in-stock}
@@ -74,7 +74,7 @@ fresh-of n c [] st once sound = tt
 fresh-of n c (w ∷ ws) st once sound =
     let here : count w (w ∷ ws) ≡ 1 + count w ws = rw (eq-eqb w w refl) in
     let s = sound w (omega arith) in
-    (s .0, s .1, count-none w st (omega (arith, once w)), fresh-of n c ws (w ∷ st) (λ v. omega (arith, once v)) (λ v h. sound v (omega arith)))
+    (s .0, s .1, count-not w st (omega (arith, once w)), fresh-of n c ws (w ∷ st) (λ v. omega (arith, once v)) (λ v h. sound v (omega arith)))
 
 module _ (n : ℕ) (hn : n ≤ maxPages) (P : Pool) (b : List ℕ) (R : PoolRep n b P) (ok : Reached n (P .heap)) (listed : (c : ℕ) → Listed (shapeOf c) (P .heap .classes c))
     (m k : ℕ) (es gs : List Entry) (f : ℕ → Bool) (l : ℕ → ℕ) (K : PoolInv n m k P es gs f l) (c : ℕ) (hc : ltb c classCount ≡ true) (h : ℕ) (fine : badHost h ≡ false) (bare : P .stock c ≡ []) where

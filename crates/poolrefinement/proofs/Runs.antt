@@ -1,37 +1,35 @@
 -- Whole histories of the pool on an opened book.
-use Prim.Native.Nat.{ℕ, zero, suc, _≤_, _<_}
+use Prim.Native.Nat.{ℕ, zero, suc, _≤_}
 use native.Mathlib.Omega.{arith}
 use mathlib.Core.Bool.{true, false, true≢false}
 use mathlib.Core.List.{List, [], _∷_, _++_, map}
-use mathlib.Core.Option.{none}
 use mathlib.Core.Path.{_≡_, refl, sym, ap, ap₂, _∙_, subst}
 use lib.Dec.{ltb, leb}
 use lib.ListN.{length, getD}
 use lib.Seq.{getD-set-other}
 use borrow.Author.Tests.{ltb-true, lt-ltb, leb-true}
-use Rattle.facts.proofs.Bools.{by-cases}
-use Rattle.words.specs.Host.{badHost}
 use Rattle.rules.specs.Rules.{Rules, Fit}
 use Rattle.fields.specs.Ranges.{maxPages}
 use Rattle.fields.specs.Field.{Field, arena, class, size, emptyLimit, coldLimit, word, words, ok, put}
 use Rattle.arena.specs.Open.{opened, ruled, cleared, headWords}
-use Rattle.model.specs.Calls.{Call, names, hostIn, wayOf}
+use Rattle.model.specs.Calls.{Call}
 use Rattle.model.specs.Heap.{step}
+use Rattle.model.specs.History.{heapAfter}
 use Rattle.refinement.specs.Represents.{Represents}
 use Rattle.refinement.specs.Direct.{Agrees}
 use Rattle.refinement.specs.Run.{callReply}
 use Rattle.refinement.proofs.OpenRep.{opened-represents, cleared-at}
-use Rattle.refinement.proofs.DirectCalls.{direct-represents}
+use Rattle.refinement.proofs.Whole.{call-whole}
 use Rattle.pool.specs.Pool.{Pool, newPool, PoolCall, Direct, to, direct, callBy, pass, poolStep, answered}
-use Rattle.pool.specs.Told.{poolFrom, poolAfter, poolEventsFrom}
-use Rattle.pool.proofs.Lives.{direct-none}
+use Rattle.pool.specs.Told.{poolFrom, poolAfter, poolEventsFrom, heapCalls}
+use Rattle.pool.proofs.OnHeap.{on-heap}
 use Rattle.pool.proofs.Conserved.{pool-append}
 use Rattle.poolcalls.specs.Stock.{countAt, countIn, stockFrom}
 use Rattle.poolrefinement.specs.Represents.{heapWord, StockRep, PoolRep, PoolAgrees}
 use Rattle.poolrefinement.specs.Run.{onCall, saidFrom, bookFrom, PoolRuns}
-use Rattle.poolrefinement.proofs.Frame.{field-in, direct-frame}
+use Rattle.poolrefinement.proofs.Frame.{field-in, heap-frame}
 use Rattle.poolrefinement.proofs.Stocks.{stock-still, count-word}
-use Rattle.poolrefinement.proofs.Whole.{reached, pool-agrees}
+use Rattle.poolrefinement.proofs.Whole.{pool-agrees}
 
 -- ---- an opened book has empty stocks
 put-off : (b : List ℕ) (f : Field) (v i : ℕ) → ok f ≡ true → heapWord i ≡ false → getD (put b f v) i 0 ≡ getD b i 0
@@ -71,28 +69,25 @@ module _ (n : ℕ) (hn : n ≤ maxPages) (rules : Rules) (xs : List PoolCall) (b
   abbrev P : Pool
   P = poolAfter n rules xs
 
-  record Fares (x : Call) : Type 0 where
-    agrees : Agrees (Represents n) (callReply n b x) (step n (P .heap) x)
-    frame : (i : ℕ) → heapWord i ≡ false → getD (callReply n b x .book) i 0 ≡ getD b i 0
+  abbrev made : List Call
+  made = heapCalls n rules xs
 
-  fares : (x : Call) → names x ≡ none → Fares x
-  unfolding callReply step wayOf
-  fares x e =
-      let r = reached n hn rules xs in
-      by-cases (badHost (hostIn x))
-      (λ t. record { agrees = rw t (record { answer = refl; fair = λ z. omega arith; heap = R .heap }); frame = λ i o. rw t })
-      (λ t. record { agrees = rw (t, e) (direct-represents n b (P .heap) (R .heap) r x); frame = λ i o. rw (t, e) (direct-frame n b (P .heap) (R .heap) r x i o) })
+  on : P .heap ≡ heapAfter n rules made
+  on = on-heap n hn rules xs .heap
+
+  pub stands : Represents n b (heapAfter n rules made)
+  stands = subst (Represents n b) on (R .heap)
 
   direct-agrees : (d : Direct) → PoolAgrees n (onCall n b (direct d)) (poolStep n P (direct d))
   unfolding onCall poolStep pass
   direct-agrees d =
-      let z = fares (callBy d) (direct-none d) in
+      let a = subst (λ H. Agrees (Represents n) (callReply n b (callBy d)) (step n H (callBy d))) (sym on) (call-whole n hn rules made b stands (callBy d)) in
       record {
-        answer = ap answered (z .agrees .answer);
-        pool = record { heap = z .agrees .heap; stocks = λ c hc. stock-still n b _ c (P .stock c) hc (z .frame) (R .stocks c hc) };
+        answer = ap answered (a .answer);
+        pool = record { heap = a .heap; stocks = λ c hc. stock-still n b _ c (P .stock c) hc (heap-frame n hn rules made b stands (callBy d)) (R .stocks c hc) };
       }
 
-  call-agrees : (x : PoolCall) → PoolAgrees n (onCall n b x) (poolStep n P x)
+  pub call-agrees : (x : PoolCall) → PoolAgrees n (onCall n b x) (poolStep n P x)
   unfolding onCall
   call-agrees (to c x) = pool-agrees n hn rules xs b R c x
   call-agrees (direct d) = direct-agrees d

@@ -1,5 +1,5 @@
 -- Every wish on the words is the model's, after every history of the pool: so number 13 never answers.
-use Prim.Native.Nat.{ℕ, zero, suc, _+_, _≤_, _<_}
+use Prim.Native.Nat.{ℕ, zero, suc, _+_, _≤_}
 use native.Mathlib.Omega.{arith}
 use mathlib.Core.Bool.{Bool, true, false, cond, not}
 use mathlib.Core.List.{List, [], _∷_, _++_}
@@ -93,7 +93,7 @@ agrees-cond n P b R c x false j s p h = h refl
 
 -- after every history of the pool, on every book that stands for it
 module _ (n : ℕ) (hn : n ≤ maxPages) (rules : Rules) (xs : List PoolCall) where
-  pub reached : Reached n (poolAfter n rules xs .heap)
+  reached : Reached n (poolAfter n rules xs .heap)
   reached = subst (Reached n) (sym (on-heap n hn rules xs .heap)) (reached-after n rules (heapCalls n rules xs))
 
   reached-next : (y : Call) → Reached n (step n (poolAfter n rules xs .heap) y .heap)

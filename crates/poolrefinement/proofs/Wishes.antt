@@ -1,7 +1,7 @@
 -- A wish on the words is the model's: pop, push, a block back to the heap, a free that is refused.
-use Prim.Native.Nat.{ℕ, zero, suc, _+_, _-_, _*_, _≤_, _<_}
+use Prim.Native.Nat.{ℕ, zero, suc, _-_, _*_, _≤_, _<_}
 use native.Mathlib.Omega.{arith}
-use mathlib.Core.Bool.{Bool, true, false, cond, not, true≢false}
+use mathlib.Core.Bool.{Bool, true, false, cond, true≢false}
 use mathlib.Core.List.{List, [], _∷_}
 use mathlib.Core.Option.{none}
 use mathlib.Core.Path.{_≡_, refl, sym, ap, _∙_, subst}
@@ -21,11 +21,11 @@ use Rattle.model.specs.Calls as Calls
 use Rattle.model.specs.Calls.{Answer, isRefused}
 use Rattle.model.specs.Class.{Class}
 use Rattle.model.specs.Release.{ofKind, outHere}
-use Rattle.model.specs.Heap.{Heap, Outcome, step, classCall}
+use Rattle.model.specs.Heap.{Heap, Outcome, step}
 use Rattle.model.specs.Entries.{Entry}
 use Rattle.model.specs.Yields.{Listed}
 use Rattle.model.proofs.EntryCounts.{is}
-use Rattle.model.proofs.Counts.{elem-count}
+use Rattle.model.proofs.Counts.{elem-count, count-not}
 use Rattle.calls.specs.Out.{outAt}
 use Rattle.calls.specs.Release.{Released, releaseBlocks}
 use Rattle.refinement.specs.Represents.{Represents}
@@ -36,12 +36,12 @@ use Rattle.refinement.proofs.Book.{setting-of}
 use Rattle.refinement.proofs.Found.{out-here}
 use Rattle.refinement.proofs.ReleaseWhole.{release-whole}
 use Rattle.pool.specs.Stock.{stockRoom, stockMost}
-use Rattle.pool.specs.Pool.{Pool, alloc, free, trim, stays, goes, carry, ends, firstOf, callFor, isGranted, planFree, withStock, refused, granted, trimmed, noBlock, freed}
+use Rattle.pool.specs.Pool.{Pool, alloc, free, trim, stays, goes, carry, ends, firstOf, callFor, isGranted, planFree, refused, granted, noBlock, freed}
 use Rattle.pool.proofs.Most.{most-room}
 use Rattle.pool.proofs.Apart.{out-apart, out-low, out-word}
 use Rattle.pool.proofs.Kept.{PoolInv, grant-one}
 use Rattle.pool.proofs.HeapCalls.{step-give}
-use Rattle.pool.proofs.Frees.{gives, count-none, stock-out}
+use Rattle.pool.proofs.Frees.{gives}
 use Rattle.poolcalls.specs.Stock.{countAt, countIn, entryIn, blockIn, stockFrom, stocked, put, putCount, pushed}
 use Rattle.poolcalls.specs.Calls.{said, countFair, topFair, allocOn, gaveOn, freedOn, freeOn, trimOn}
 use Rattle.poolcalls.proofs.Laws.{in-stock}
@@ -133,7 +133,7 @@ module _ (n : ℕ) (hn : n ≤ maxPages) (P : Pool) (b : List ℕ) (R : PoolRep 
     word = out-word n hn m k P es gs f l K c w (omega (arith, one))
 
     not-in : elem (blockWord (shapeOf c .kind) (granuleOf w)) st ≡ false
-    not-in = subst (λ v. elem v st ≡ false) word (count-none w st (grant-one n m k P es gs f l K c hc w g .2))
+    not-in = subst (λ v. elem v st ≡ false) word (count-not w st (grant-one n m k P es gs f l K c hc w g .2))
 
     pub not-stocked : stocked b c (granuleOf w) ≡ false
     not-stocked = stocked-is n b c (granuleOf w) st rep ∙ not-in

@@ -9,7 +9,7 @@ use lib.ListN.{length}
 use Rattle.facts.proofs.Bools.{by-cases}
 use Rattle.words.specs.Host.{reservationGranted, commitGranted}
 use Rattle.classes.specs.declared.Shape.{Shape}
-use Rattle.fields.specs.Field.{ArenaField, HoleField, arena, hole, page, out, size, state, frontier, holes, holePages, commits, commitsHigh, reuses, reusesHigh, abandoned, abandonedHigh, held, start, pages, owner, first, listed, arenaOff, word, get, put}
+use Rattle.fields.specs.Field.{ArenaField, HoleField, arena, hole, page, out, frontier, holes, held, start, pages, owner, first, listed, arenaOff, word, get, put}
 use Rattle.fields.specs.Clear.{clearOut, clearMarks}
 use Rattle.fields.proofs.Laws.{arenaOff-lt}
 use Rattle.model.specs.declared.Hole.{Hole}
