@@ -11,12 +11,12 @@ pub fn page_word(p: u32, k: usize) -> usize
     40000 + 4112 * (p as usize) + k
 }
 
-// Word k of page p's pair: 2 × (p % 256) is 2 p less 512 for each group of pages before p's.
+// Word k of page p's pair. A group's pairs take 512 words, and 2 × 526,080 more lead to the next group's.
 fn pair_word(p: u32, k: usize) -> usize
     requires { ⌜ k < 2 ⌝ }
     ensures { λ r. ⌜ r ≡ pair p + k ⌝ }
 {
-    43344 + 2 * (p as usize) + 1052160 * ((p / 256) as usize) + k
+    43344 + 2 * ((p as usize) + 526080 * ((p as usize) / 256)) + k
 }
 
 pub fn owner(meta: &[u32], p: u32) -> u32
