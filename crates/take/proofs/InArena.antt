@@ -5,16 +5,16 @@ use native.Mathlib.Nat.{mul-le-mul-right}
 use mathlib.Core.Bool.{Bool, true, false, cond, not}
 use mathlib.Core.List.{List, [], _∷_, _++_, map}
 use mathlib.Core.Option.{Option, none, some}
-use mathlib.Core.Path.{_≡_, refl, sym, _∙_}
+use mathlib.Core.Path.{_≡_, refl, _∙_}
 use lib.Dec.{eqb, ltb, leb}
-use lib.ListN.{length, drop, getD}
+use lib.ListN.{length, getD}
 use borrow.Author.Tests.{ltb-true, ltb-false, leb-true, le-leb, lt-ltb, eqb-true, eqb-false, not-true, not-false}
 use Rattle.facts.specs.Lists.{All, every}
 use Rattle.facts.proofs.Bools.{by-cases, and-left, and-right}
 use Rattle.words.specs.Word.{granuleOf}
 use Rattle.classes.specs.declared.Shape.{Shape}
 use Rattle.classes.specs.Sound.{Sound}
-use Rattle.fields.specs.Field.{arena, class, page, frontier, partial, empty, cold, virgin, get, words}
+use Rattle.fields.specs.Field.{arena, class, frontier, partial, empty, cold, get, words}
 use Rattle.fields.specs.Ranges.{maxPages}
 use Rattle.model.specs.Page.{wordOf}
 use Rattle.model.proofs.Pages.{all-append}
@@ -25,7 +25,7 @@ use Rattle.pages.specs.Carve.{newRun}
 use Rattle.pages.specs.declared.Park.{Park}
 use Rattle.pages.specs.declared.Park.the-variants.{Empty, Cold}
 use Rattle.pages.proofs.Draws.{latest-below}
-use Rattle.calls.specs.Take.{Took, Filled, tookNone, took, walk, parkFair, fillFrom, unlistSpent, filled, fromPartial, fromPark, onRun, takeNew, takeBlocks, takeCall}
+use Rattle.calls.specs.Take.{Took, tookNone, walk, parkFair, fillFrom, unlistSpent, filled, fromPartial, fromPark, onRun, takeNew, takeBlocks, takeCall}
 use Rattle.take.specs.TakePlan.{TakeAsks, ParkedAsks, TakeRunAsks, walksFrom, fills, woken}
 use Rattle.take.proofs.TakePages.{whole-below, positive}
 use Rattle.take.proofs.Walk.{stops, walk-step}
