@@ -1,15 +1,20 @@
 -- The ways out of the exported calls of the pool.
-use Prim.Native.Nat.{ℕ}
+use Prim.Native.Nat.{ℕ, _-_, _≤_, _<_}
 use native.Mathlib.Omega.{arith}
+use mathlib.Core.Bool.{cond}
 use mathlib.Core.List.{List}
-use mathlib.Core.Path.{_≡_, refl}
-use borrow.Author.Tests.{eq-eqb, ne-eqb}
+use mathlib.Core.Path.{_≡_, refl, sym, _∙_}
+use borrow.Author.Tests.{eq-eqb, ne-eqb, le-leb, lt-leb}
 use Rattle.fields.specs.Field.{arena, size, get}
+use Rattle.fields.specs.Ranges.{metaFault}
 use Rattle.take.specs.TakePlan.{CallAsks}
+use Rattle.trace.specs.Asks.{BookAsks}
+use Rattle.trace.specs.Words.{ownerAt, known}
 use Rattle.pool.specs.Pool.{Wish, alloc, free, trim, hostIn}
 use Rattle.poolcalls.specs.Calls.{wishOn, allocOn, freeOn, trimOn}
 use Rattle.vigbuso.specs.Faults.{classFault}
-use Rattle.vigbuso.specs.Pool.{poolOn, BlockEnds, FreeEnds}
+use Rattle.vigbuso.specs.Pool.{poolOn, classOn, BlockEnds, FreeEnds}
+use Rattle.vigbuso.proofs.DirectSteps.{book-in}
 use Rattle.vigbuso.proofs.TakeSteps.{take-asks}
 
 pub pool-asks : (b : List ℕ) (h r c n : ℕ) → r ≡ classFault b h 76 c → r ≡ 0 → n ≡ get b (arena size) → CallAsks n b c
@@ -42,3 +47,32 @@ module _ (b : List ℕ) (c r h : ℕ) (e : r ≡ classFault b h 76 c) where
 
     pub trim-goes : (old new : ℕ) → BlockEnds (trimOn n b c h) s b′ old new → BlockEnds (poolOn b c (trim h)) s b′ old new
     trim-goes old new t = rw (goes (trim h) refl) t
+
+-- ---- the class that has a block's page
+module _ (b : List ℕ) (w r : ℕ) (e : r ≡ metaFault b) where
+  pub class-unfit : (r ≡ 0 → ⊥) → 76 ≡ classOn b w
+  unfolding classOn
+  class-unfit d = rw (← e, ne-eqb r 0 d)
+
+  module _ (z : r ≡ 0) where
+    pub book-fair : metaFault b ≡ 0
+    book-fair = sym e ∙ z
+
+    module _ (n : ℕ) (f : n ≡ get b (arena size)) where
+      pub owner-asks : BookAsks n b
+      owner-asks = let k = book-in b book-fair n f in record { few = k .small; long = k .long }
+
+      module _ (k : ℕ) (ek : k ≡ ownerAt n b w) where
+        held : classOn b w ≡ cond (known k) (k - 1) 76
+        unfolding classOn
+        held = rw (← e, eq-eqb r 0 z, ← f, ← ek)
+
+        pub class-none : k ≡ 0 → 76 ≡ classOn b w
+        class-none o = sym (held ∙ rw o)
+
+        module _ (d : k ≡ 0 → ⊥) where
+          pub class-high : 76 < k → 76 ≡ classOn b w
+          class-high h = sym (held ∙ rw (le-leb 1 k (omega (arith, d)), lt-leb k 76 h))
+
+          pub class-held : k ≤ 76 → k - 1 ≡ classOn b w
+          class-held h = sym (held ∙ rw (le-leb 1 k (omega (arith, d)), le-leb k 76 h))
