@@ -192,6 +192,12 @@ static void trace(void) {
     IS(figures[5], 7);
     IS(vigbuso_trace(book, words, PAGES, says, 3, blocks, 4, figures, 6, done), 0);
     IS(done[0], 3);
+    /* A place that no word can name stops the trace, and releases no other. */
+    IS(VIGBUSO_TRACE_RELEASE(((uint32_t)1 << 30) - 1), UINT32_C(0x7fffffff));
+    const uint32_t beyond[2] = {VIGBUSO_TRACE_TAKE(45), VIGBUSO_TRACE_RELEASE((uint64_t)1 << 32)};
+    IS(VIGBUSO_TRACE_RELEASE((uint32_t)1 << 30), beyond[1]);
+    IS(vigbuso_trace(book, words, PAGES, beyond, 2, blocks, 4, figures, 6, done), VIGBUSO_STOPPED);
+    IS(done[0], 1);
 }
 
 static void class_table(void) {
