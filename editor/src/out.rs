@@ -1,0 +1,123 @@
+//! What a pool has handed out.
+
+use alloc::vec;
+use alloc::vec::Vec;
+
+use crate::block::PAGE_GRANULES;
+use crate::{Block, Class};
+
+/// The blocks that a pool has handed out: a bit for each granule, set where such a block begins, and whose the pages are. All is 0
+/// at first, so that only the part of pages in use is ever touched.
+pub(crate) struct Out {
+    /// 64 granules to a word, 512 bytes to a page.
+    begins: Vec<u64>,
+    /// By page: the place of the class that had blocks there last. It counts where a bit is set: as long as a block is out, the heap
+    /// gives its page to no other class.
+    classes: Vec<u8>,
+}
+
+impl Out {
+    /// Words of a page's granules.
+    const PAGE: usize = index(PAGE_GRANULES) / 64;
+
+    pub(crate) fn new(pages: u64) -> Out {
+        let pages = index(pages);
+        Out { begins: vec![0; pages.saturating_mul(Out::PAGE)], classes: vec![0; pages] }
+    }
+
+    /// The heap has given these blocks to a class, and so their pages.
+    #[allow(clippy::cast_possible_truncation)] // there are 76 classes
+    pub(crate) fn give(&mut self, class: Class, blocks: &[Block]) {
+        for block in blocks {
+            if let Some(holder) = self.classes.get_mut(index(block.page())) {
+                *holder = class.index() as u8;
+            }
+        }
+    }
+
+    /// From now on a block is out. It is false if it is already, or not in the arena: then nothing changes.
+    #[inline]
+    pub(crate) fn add(&mut self, block: Block) -> bool {
+        let (place, bit) = Out::place(block);
+        let Some(word) = self.begins.get_mut(place) else {
+            return false;
+        };
+        let new = *word & bit == 0;
+        *word |= bit;
+        new
+    }
+
+    /// The class that a block is out in; none if it is not out.
+    #[inline]
+    pub(crate) fn class_of(&self, block: Block) -> Option<Class> {
+        let (place, bit) = Out::place(block);
+        let class = Class::at((*self.classes.get(index(block.page()))?).into());
+        let out = self.begins.get(place)? & bit != 0 && class.kind() == block.kind();
+        out.then_some(class)
+    }
+
+    /// From now on a block is not out any more. Answers the class that it was out in; none if it was not, and nothing changes.
+    #[inline]
+    pub(crate) fn remove(&mut self, block: Block) -> Option<Class> {
+        let class = self.class_of(block)?;
+        let (place, bit) = Out::place(block);
+        *self.begins.get_mut(place)? &= !bit;
+        Some(class)
+    }
+
+    /// The word of a block's first granule, and its bit there.
+    #[inline]
+    const fn place(block: Block) -> (usize, u64) {
+        let granule = block.granule();
+        (index(granule / 64), 1 << (granule % 64))
+    }
+}
+
+/// A page, or a word of granules, as an index.
+#[inline]
+#[allow(clippy::cast_possible_truncation)] // the library links into 64-bit programs only
+const fn index(number: u64) -> usize {
+    number as usize
+}
+
+#[cfg(test)]
+mod tests {
+    use super::*;
+    use crate::MAX_PAGES;
+    use std::{fs, string::String};
+
+    /// Only the exact word is out, in the class that its page was given to.
+    #[test]
+    fn a_block_is_out_once_and_by_its_own_word() {
+        let [small, medium] = [100, 20_000].map(|bytes| Class::for_size(bytes).expect("a class"));
+        let block = |granule| Block::small(granule).expect("62 bits");
+        let mut out = Out::new(2);
+        assert_eq!(out.class_of(block(3)), None);
+        out.give(small, &[block(4_096 + 3), block(8_192)]);
+        assert!(out.add(block(4_096 + 3)) && !out.add(block(4_096 + 3)));
+        assert!(!out.add(block(8_192)), "there are two pages");
+        assert_eq!(out.class_of(block(4_096 + 3)), Some(small));
+        let others = [3, 4_096 + 2, 4_096 + 4, 8_192, (1 << 62) - 1].map(block);
+        for other in others.into_iter().chain(Block::medium(4_096 + 3)) {
+            assert_eq!((out.class_of(other), out.remove(other)), (None, None), "{other:?}");
+        }
+        assert_eq!((out.remove(block(4_096 + 3)), out.remove(block(4_096 + 3))), (Some(small), None));
+        out.give(medium, &[block(4_096 + 3)]);
+        assert!(out.add(Block::medium(4_096 + 3).expect("62 bits")));
+        assert_eq!(out.remove(block(4_096 + 3)), None, "a small block on a page of a medium class");
+    }
+
+    /// The record of the longest arena has 513 MiB, of which an opening touches nothing.
+    #[test]
+    fn an_opening_touches_no_page() {
+        let resident = || -> usize {
+            let pages: String = fs::read_to_string("/proc/self/statm").expect("this is Linux");
+            pages.split(' ').nth(1).and_then(|pages| pages.parse().ok()).expect("a number of pages")
+        };
+        let before = resident();
+        let out = Out::new(MAX_PAGES);
+        let touched = resident().saturating_sub(before);
+        assert_eq!(out.begins.len() * 8 + out.classes.len(), 513 << 20);
+        assert!(touched < 1 << 12, "{touched} pages of the system are touched");
+    }
+}
