@@ -81,6 +81,21 @@ fn pages_without_a_block_in_use_serve_every_class() {
     }
 }
 
+/// A span has up to 8 pages, and they come all from a hole or all from the fresh pages.
+#[test]
+fn a_pool_with_nothing_in_use_has_a_span_from_15_pages_on() {
+    let span_after = |used: usize, pages: u64| {
+        let mut pool = Pool::open(pages).expect("a length");
+        let blocks: Vec<Block> = (0..3 * used).map(|_| pool.alloc(16_384).expect("three to a page")).collect();
+        for block in blocks {
+            pool.free(block).expect("it is out");
+        }
+        pool.alloc(Class::MAX_BYTES).is_ok()
+    };
+    assert!((15..24).all(|pages| (0..=pages as usize).all(|used| span_after(used, pages))));
+    assert!(!span_after(7, 14), "a hole of 7 pages, 7 fresh ones");
+}
+
 /// A record of a server, with its number in its first and in its last bytes.
 struct Kept {
     block: Block,
