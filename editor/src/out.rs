@@ -11,8 +11,7 @@ use crate::{Block, Class};
 pub(crate) struct Out {
     /// 64 granules to a word, 512 bytes to a page.
     begins: Vec<u64>,
-    /// By page: the place of the class that had blocks there last. It counts where a bit is set: as long as a block is out, the heap
-    /// gives its page to no other class.
+    /// By page: the place of the class that had blocks there last. As long as one is out, it is not changed.
     classes: Vec<u8>,
 }
 
@@ -25,14 +24,26 @@ impl Out {
         Out { begins: vec![0; pages.saturating_mul(Out::PAGE)], classes: vec![0; pages] }
     }
 
-    /// The heap has given these blocks to a class, and so their pages.
+    /// The heap has given these blocks to a class, and so their pages. It is false if a page is not in the arena, or a block of another
+    /// class is out there.
     #[allow(clippy::cast_possible_truncation)] // there are 76 classes
-    pub(crate) fn give(&mut self, class: Class, blocks: &[Block]) {
-        for block in blocks {
-            if let Some(holder) = self.classes.get_mut(index(block.page())) {
-                *holder = class.index() as u8;
-            }
+    pub(crate) fn give(&mut self, class: Class, blocks: &[Block]) -> bool {
+        let class = class.index() as u8;
+        blocks.iter().all(|block| match self.classes.get(index(block.page())) {
+            Some(&holder) => holder == class || self.pass(block.page(), class),
+            None => false,
+        })
+    }
+
+    /// A page passes to another class, unless a block is out there.
+    #[cold]
+    fn pass(&mut self, page: u64, class: u8) -> bool {
+        let first = index(page) * Out::PAGE;
+        let free = self.begins[first..first + Out::PAGE].iter().all(|&word| word == 0);
+        if free {
+            self.classes[index(page)] = class;
         }
+        free
     }
 
     /// From now on a block is out. It is false if it is already, or not in the arena: then nothing changes.
@@ -50,7 +61,11 @@ impl Out {
     /// The class that a block is out in; none if it is not out.
     #[inline]
     pub(crate) fn class_of(&self, block: Block) -> Option<Class> {
-        let (place, bit) = Out::place(block);
+        self.class_at(block, Out::place(block))
+    }
+
+    #[inline]
+    fn class_at(&self, block: Block, (place, bit): (usize, u64)) -> Option<Class> {
         let class = Class::at((*self.classes.get(index(block.page()))?).into());
         let out = self.begins.get(place)? & bit != 0 && class.kind() == block.kind();
         out.then_some(class)
@@ -59,9 +74,9 @@ impl Out {
     /// From now on a block is not out any more. Answers the class that it was out in; none if it was not, and nothing changes.
     #[inline]
     pub(crate) fn remove(&mut self, block: Block) -> Option<Class> {
-        let class = self.class_of(block)?;
         let (place, bit) = Out::place(block);
-        *self.begins.get_mut(place)? &= !bit;
+        let class = self.class_at(block, (place, bit))?;
+        self.begins[place] &= !bit;
         Some(class)
     }
 
@@ -93,7 +108,7 @@ mod tests {
         let block = |granule| Block::small(granule).expect("62 bits");
         let mut out = Out::new(2);
         assert_eq!(out.class_of(block(3)), None);
-        out.give(small, &[block(4_096 + 3), block(8_192)]);
+        assert!(out.give(small, &[block(4_096 + 3)]) && !out.give(small, &[block(8_192)]));
         assert!(out.add(block(4_096 + 3)) && !out.add(block(4_096 + 3)));
         assert!(!out.add(block(8_192)), "there are two pages");
         assert_eq!(out.class_of(block(4_096 + 3)), Some(small));
@@ -101,8 +116,9 @@ mod tests {
         for other in others.into_iter().chain(Block::medium(4_096 + 3)) {
             assert_eq!((out.class_of(other), out.remove(other)), (None, None), "{other:?}");
         }
+        assert!(!out.give(medium, &[block(4_096 + 9)]), "a block of another class is out");
         assert_eq!((out.remove(block(4_096 + 3)), out.remove(block(4_096 + 3))), (Some(small), None));
-        out.give(medium, &[block(4_096 + 3)]);
+        assert!(out.give(medium, &[block(4_096 + 3)]));
         assert!(out.add(Block::medium(4_096 + 3).expect("62 bits")));
         assert_eq!(out.remove(block(4_096 + 3)), None, "a small block on a page of a medium class");
     }

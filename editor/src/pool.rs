@@ -51,6 +51,9 @@ pub struct Pool<B = Vec<u32>> {
     out: Out,
 }
 
+/// The heap hands out no block and no page that is in use, unless its book was damaged.
+const DAMAGED: AllocError = AllocError::Refused(Refusal::BookWord);
+
 /// A class's blocks that the heap has handed out and no record stands in.
 #[derive(Clone, Default)]
 struct Stock {
@@ -151,35 +154,36 @@ impl<B: AsRef<[u32]> + AsMut<[u32]>> Pool<B> {
     /// [`AllocError::Refused`] only on a damaged book.
     #[inline]
     pub fn alloc_in(&mut self, class: Class) -> Result<Block, AllocError> {
-        let block = match self.stocks[class.index()].blocks.pop() {
-            Some(block) => block,
-            None => self.refill(class)?,
-        };
-        if !self.out.add(block) {
-            // The heap hands no block out twice, but a book that was damaged may make it.
-            return Err(AllocError::Refused(Refusal::BookWord));
+        if self.stocks[class.index()].blocks.is_empty() {
+            self.refill(class)?;
         }
-        self.stocks[class.index()].used += 1;
+        let stock = &mut self.stocks[class.index()];
+        let block = stock.blocks.pop().ok_or(AllocError::Full)?;
+        if !self.out.add(block) {
+            return Err(DAMAGED);
+        }
+        stock.used += 1;
         Ok(block)
     }
 
-    /// A block for a stock that has none. If the arena is full, all stocks go back first: their pages may be enough.
+    /// Takes blocks for a stock that has none. If the arena is full, all stocks go back first: their pages may be enough.
     #[cold]
-    fn refill(&mut self, class: Class) -> Result<Block, AllocError> {
-        if let Some(block) = self.take(class)? {
-            return Ok(block);
+    fn refill(&mut self, class: Class) -> Result<(), AllocError> {
+        if self.take(class)? == 0 {
+            self.flush().map_err(|error| AllocError::Refused(error.refusal()))?;
+            self.take(class)?;
         }
-        self.flush().map_err(|error| AllocError::Refused(error.refusal()))?;
-        self.take(class)?.ok_or(AllocError::Full)
+        Ok(())
     }
 
-    /// Takes blocks for a stock that has none, and one of them out of it: the last of the answer.
-    fn take(&mut self, class: Class) -> Result<Option<Block>, AllocError> {
+    /// Takes blocks for a stock, and answers how many came.
+    fn take(&mut self, class: Class) -> Result<usize, AllocError> {
         let taken = self.heap.take(class).map_err(AllocError::Refused)?;
-        self.out.give(class, &taken);
-        let stock = &mut self.stocks[class.index()].blocks;
-        stock.extend_from_slice(&taken);
-        Ok(stock.pop())
+        if !self.out.give(class, &taken) {
+            return Err(DAMAGED);
+        }
+        self.stocks[class.index()].blocks.extend_from_slice(&taken);
+        Ok(taken.len())
     }
 
     /// Takes a block back that the pool has handed out.

@@ -205,14 +205,14 @@ impl AsMut<[u32]> for Forgetful {
     }
 }
 
-/// Whatever is done to the book, no block that is in use is handed out.
+/// Whatever is done to the book, no block that is in use is handed out again, and no page with one to another class.
 #[test]
 fn a_book_that_forgets() {
     let opened = Heap::open(4).expect("four pages").into_book();
     let book = Forgetful { book: opened.clone(), opened };
     let mut pool = Pool::new(Heap::resume(book).expect("as it was opened"));
     let mut blocks: Vec<Block> = (0..64).map(|_| pool.alloc(100).expect("there is room")).collect();
-    assert_eq!(pool.alloc(100), Err(AllocError::Refused(Refusal::BookWord)));
+    assert_eq!([100, 200].map(|bytes| pool.alloc(bytes)), [Err(AllocError::Refused(Refusal::BookWord)); 2]);
     blocks.sort_unstable();
     blocks.dedup();
     assert_eq!(blocks.len(), 64);
