@@ -46,11 +46,12 @@ impl Out {
         free
     }
 
-    /// From now on a block is out. It is false if it is already, or not in the arena: then nothing changes.
+    /// From now on a block is out in a class. It is false, and nothing changes, if it is out already or its page is not the class's.
     #[inline]
-    pub(crate) fn add(&mut self, block: Block) -> bool {
+    pub(crate) fn add(&mut self, class: Class, block: Block) -> bool {
         let (place, bit) = Out::place(block);
-        let Some(word) = self.begins.get_mut(place) else {
+        let held = self.classes.get(index(block.page())).is_some_and(|&holder| usize::from(holder) == class.index());
+        let Some(word) = self.begins.get_mut(place).filter(|_| held) else {
             return false;
         };
         let new = *word & bit == 0;
@@ -109,8 +110,9 @@ mod tests {
         let mut out = Out::new(2);
         assert_eq!(out.class_of(block(3)), None);
         assert!(out.give(small, &[block(4_096 + 3)]) && !out.give(small, &[block(8_192)]));
-        assert!(out.add(block(4_096 + 3)) && !out.add(block(4_096 + 3)));
-        assert!(!out.add(block(8_192)), "there are two pages");
+        assert!(out.add(small, block(4_096 + 3)) && !out.add(small, block(4_096 + 3)));
+        assert!(!out.add(small, block(8_192)), "there are two pages");
+        assert!(!out.add(medium, block(4_096 + 30)), "the page is another class's");
         assert_eq!(out.class_of(block(4_096 + 3)), Some(small));
         let others = [3, 4_096 + 2, 4_096 + 4, 8_192, (1 << 62) - 1].map(block);
         for other in others.into_iter().chain(Block::medium(4_096 + 3)) {
@@ -119,7 +121,7 @@ mod tests {
         assert!(!out.give(medium, &[block(4_096 + 9)]), "a block of another class is out");
         assert_eq!((out.remove(block(4_096 + 3)), out.remove(block(4_096 + 3))), (Some(small), None));
         assert!(out.give(medium, &[block(4_096 + 3)]));
-        assert!(out.add(Block::medium(4_096 + 3).expect("62 bits")));
+        assert!(out.add(medium, Block::medium(4_096 + 3).expect("62 bits")));
         assert_eq!(out.remove(block(4_096 + 3)), None, "a small block on a page of a medium class");
     }
 

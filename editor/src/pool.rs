@@ -159,7 +159,7 @@ impl<B: AsRef<[u32]> + AsMut<[u32]>> Pool<B> {
         }
         let stock = &mut self.stocks[class.index()];
         let block = stock.blocks.pop().ok_or(AllocError::Full)?;
-        if !self.out.add(block) {
+        if !self.out.add(class, block) {
             return Err(DAMAGED);
         }
         stock.used += 1;

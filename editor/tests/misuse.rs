@@ -205,18 +205,38 @@ impl AsMut<[u32]> for Forgetful {
     }
 }
 
+fn forgetful_pool() -> Pool<Forgetful> {
+    let opened = Heap::open(4).expect("four pages").into_book();
+    let book = Forgetful { book: opened.clone(), opened };
+    Pool::new(Heap::resume(book).expect("as it was opened"))
+}
+
+const DAMAGED: Result<Block, AllocError> = Err(AllocError::Refused(Refusal::BookWord));
+
 /// Whatever is done to the book, no block that is in use is handed out again, and no page with one to another class.
 #[test]
 fn a_book_that_forgets() {
-    let opened = Heap::open(4).expect("four pages").into_book();
-    let book = Forgetful { book: opened.clone(), opened };
-    let mut pool = Pool::new(Heap::resume(book).expect("as it was opened"));
+    let mut pool = forgetful_pool();
     let mut blocks: Vec<Block> = (0..64).map(|_| pool.alloc(100).expect("there is room")).collect();
-    assert_eq!([100, 200].map(|bytes| pool.alloc(bytes)), [Err(AllocError::Refused(Refusal::BookWord)); 2]);
+    assert_eq!([100, 200].map(|bytes| pool.alloc(bytes)), [DAMAGED; 2]);
     blocks.sort_unstable();
     blocks.dedup();
     assert_eq!(blocks.len(), 64);
     let held = blocks[0];
     pool.free(held).expect("it is out");
     assert_eq!(pool.alloc(100), Ok(held));
+}
+
+/// What is in stock for a class is not handed out on a page that another class has got.
+#[test]
+fn a_book_that_forgets_a_stock() {
+    let mut pool = forgetful_pool();
+    let block = pool.alloc(100).expect("there is room");
+    pool.free(block).expect("it is out");
+    let other = pool.alloc(200).expect("its page has no block in use");
+    assert_eq!(other.page(), block.page());
+    assert_eq!(pool.alloc(100), DAMAGED);
+    assert_eq!(pool.class_of(other), Class::for_size(200));
+    pool.free(other).expect("it is out");
+    assert_eq!(pool.report().expect("an opened book").used, 0);
 }
