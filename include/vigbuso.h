@@ -55,6 +55,10 @@ extern "C" {
 #define VIGBUSO_ROW 4u
 #define VIGBUSO_LIMIT 256u
 
+/* The one row with which no class keeps a run whose blocks are all back, so that its pages serve every class:
+ * const uint32_t row[VIGBUSO_ROW] = VIGBUSO_NOTHING_PARKED; */
+#define VIGBUSO_NOTHING_PARKED {0u, VIGBUSO_SMALL_CLASSES + VIGBUSO_MEDIUM_CLASSES - 1u, 0u, 0u}
+
 /* How many figures vigbuso_report writes. */
 #define VIGBUSO_FIGURES 6u
 
