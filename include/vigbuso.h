@@ -27,9 +27,9 @@ extern "C" {
 
 /* The version of this header and of the archive that it is for. */
 #define VIGBUSO_VERSION_MAJOR 0
-#define VIGBUSO_VERSION_MINOR 4
+#define VIGBUSO_VERSION_MINOR 5
 #define VIGBUSO_VERSION_PATCH 0
-#define VIGBUSO_VERSION "0.4.0"
+#define VIGBUSO_VERSION "0.5.0"
 
 /* Bytes of a page, and of a granule: every block starts at a multiple of it. */
 #define VIGBUSO_PAGE_BYTES 65536u

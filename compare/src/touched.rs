@@ -1,5 +1,5 @@
-//! The memory that one direct commit touches on the port. Who holds a page stands in the page's own words, 16 KB from the next
-//! page's, so a long run touches a page of the system's for each of its own (document 02, A.11).
+//! The memory that one direct commit touches on the port. Who holds 256 pages stands side by side in the book, so a long run touches a
+//! page of the system's for each 256 of its own (document 02, A.11).
 
 use std::fs;
 use std::time::Instant;

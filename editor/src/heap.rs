@@ -171,6 +171,9 @@ impl<B: AsRef<[u32]> + AsMut<[u32]>> Heap<B> {
     /// are tested here; if other words of it were damaged, calls that come to them are refused as
     /// [`BookWord`](Refusal::BookWord).
     ///
+    /// The book must be of this version: before 0.5.0 its words stood elsewhere, and no word of it says so. Such a book is as a damaged
+    /// one: calls on it are safe, and their answers mean nothing.
+    ///
     /// ```
     /// use vigbuso::{Class, Heap};
     ///

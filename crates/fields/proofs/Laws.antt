@@ -4,8 +4,8 @@
 --     put-get                        a write of what is there changes nothing
 --     length-put                     a write keeps the length
 --     get-room                       what is read is a value that the field can hold
--- All arithmetic of the layout is in `separate`.
-use Prim.Native.Nat.{ℕ, _+_, _*_, _≤_, _<_}
+-- All arithmetic of the layout is in `separate` and, for the fields of pages, in the laws on `Lies` before it.
+use Prim.Native.Nat.{ℕ, _+_, _*_, _/_, _≤_, _<_}
 use native.Mathlib.Omega.{arith}
 use native.Mathlib.Decide.{ℕ-discrete, decLe}
 use mathlib.Core.Bool.{true, false, _&&_}
@@ -15,9 +15,9 @@ use mathlib.Core.Path.{_≡_, refl, sym, ap, _∙_}
 use lib.Dec.{eqb, ltb, leb}
 use lib.ListN.{length, getD, set, length-set}
 use lib.Seq.{getD-set-same, getD-set-other, set-getD, set-set, set-comm, set-out}
-use borrow.Author.Tests.{leb-true, ltb-true, eqb-false, lt-ltb}
-use Rattle.facts.proofs.Bools.{and-left, and-right, and-false}
-use Rattle.fields.specs.Field.{Field, arena, mark, class, hole, page, out, slot, ArenaField, ClassField, HoleField, PageField, arenaOff, classOff, holeOff, pageOff, word, Part, bits, part, read, place, get, put, same, ok, valid, words, room}
+use borrow.Author.Tests.{leb-true, ltb-true, ltb-false, eqb-false, lt-ltb}
+use Rattle.facts.proofs.Bools.{by-cases, and-left, and-right, and-false}
+use Rattle.fields.specs.Field.{Field, arena, mark, class, hole, page, out, slot, ArenaField, ClassField, HoleField, PageField, arenaOff, classOff, holeOff, pageOff, pair, word, Part, bits, part, read, place, get, put, same, ok, valid, words, room}
 use Rattle.fields.proofs.Parts.{Split, below, above, holdable, read-place, read-small, place-read, place-place, read-place-other, place-comm}
 
 -- ---- the offsets
@@ -48,7 +48,7 @@ holeOff-lt : (k : HoleField) → holeOff k < 2
 holeOff-lt HoleField.start = omega arith
 holeOff-lt HoleField.pages = omega arith
 
-pageOff-lt : (k : PageField) → pageOff k < 16
+pub pageOff-lt : (k : PageField) → pageOff k < 16
 pageOff-lt PageField.owner = omega arith
 pageOff-lt PageField.first = omega arith
 pageOff-lt PageField.next = omega arith
@@ -58,6 +58,35 @@ pageOff-lt PageField.carved = omega arith
 pageOff-lt PageField.listed = omega arith
 pageOff-lt PageField.virgin = omega arith
 pageOff-lt PageField.tally = omega arith
+
+-- ---- a page's field: OWNER and FIRST lie in the page's pair, the others in its own words
+Lies : PageField → ℕ → Type 0
+Lies k p = ((pageOff k < 2) × (word (page k p) ≡ pair p + pageOff k)) ⊎ ((2 ≤ pageOff k) × (pageOff k < 16) × (word (page k p) ≡ 40000 + 4112 * p + pageOff k))
+
+lies : (k : PageField) (p : ℕ) → Lies k p
+unfolding Lies
+lies k p = by-cases (ltb (pageOff k) 2) (λ e. inl (ltb-true _ _ e, rw e)) (λ e. inr (ltb-false _ _ e, pageOff-lt k, rw e))
+
+-- it is past the rows and the holes
+past-head : (k : PageField) (p : ℕ) → 40000 ≤ word (page k p)
+unfolding Lies
+past-head k p = ⊎-elim (λ h. omega arith) (λ h. omega arith) (lies k p)
+
+-- it is in the book of every arena that has the page
+page-in : (k : PageField) (p n : ℕ) → p < n → word (page k p) < words n
+unfolding Lies
+page-in k p n l = ⊎-elim (λ h. omega arith) (λ h. omega arith) (lies k p)
+
+-- it is none of a page's out bits, marks and stack
+aside : (k : PageField) (p q r : ℕ) → 16 ≤ r → r < 2320 → word (page k p) ≡ 40000 + 4112 * q + r → ⊥
+unfolding Lies
+aside k p q r lo hi e = ⊎-elim (λ h. omega arith) (λ h. omega arith) (lies k p)
+
+-- two in one word are one
+one-page : (k l : PageField) (p q : ℕ) → word (page k p) ≡ word (page l q) → (pageOff k ≡ pageOff l) × (p ≡ q)
+unfolding Lies
+one-page k l p q e =
+    ⊎-elim (λ h. ⊎-elim (λ i. omega arith) (λ i. omega arith) (lies l q)) (λ h. ⊎-elim (λ i. omega arith) (λ i. omega arith) (lies l q)) (lies k p)
 
 -- ---- tests
 
@@ -101,49 +130,49 @@ separate (arena k) (arena l) u v e = inl (λ z. both (arenaOff k) (arenaOff l) 0
 separate (arena k) (mark q j) u v e = inl (λ z. omega (arith, ltb-true, arenaOff-lt k))
 separate (arena k) (class l d) u v e = inl (λ z. omega (arith, ltb-true, arenaOff-lt k, classOff-lt l))
 separate (arena k) (hole l j) u v e = inl (λ z. omega (arith, ltb-true, arenaOff-lt k, holeOff-lt l))
-separate (arena k) (page l q) u v e = inl (λ z. omega (arith, ltb-true, arenaOff-lt k, pageOff-lt l))
+separate (arena k) (page l q) u v e = inl (λ z. omega (arith, arenaOff-lt k, past-head l q))
 separate (arena k) (out q j) u v e = inl (λ z. omega (arith, ltb-true, arenaOff-lt k))
 separate (arena k) (slot q j) u v e = inl (λ z. omega (arith, ltb-true, arenaOff-lt k))
 separate (mark p i) (arena l) u v e = inl (λ z. omega (arith, ltb-true, arenaOff-lt l))
 separate (mark p i) (mark q j) u v e = inl (λ z. both i j p q e (omega (arith, ltb-true)) (omega (arith, ltb-true)))
 separate (mark p i) (class l d) u v e = inl (λ z. omega (arith, ltb-true, classOff-lt l))
 separate (mark p i) (hole l j) u v e = inl (λ z. omega (arith, ltb-true, holeOff-lt l))
-separate (mark p i) (page l q) u v e = inl (λ z. omega (arith, ltb-true, pageOff-lt l))
+separate (mark p i) (page l q) u v e = inl (λ z. aside l q p (144 + i) (omega arith) (omega (arith, ltb-true)) (omega (arith, z)))
 separate (mark p i) (out q j) u v e = inl (λ z. omega (arith, ltb-true))
 separate (mark p i) (slot q j) u v e = inl (λ z. omega (arith, ltb-true))
 separate (class k c) (arena l) u v e = inl (λ z. omega (arith, ltb-true, classOff-lt k, arenaOff-lt l))
 separate (class k c) (mark q j) u v e = inl (λ z. omega (arith, ltb-true, classOff-lt k))
 separate (class k c) (class l d) u v e = inl (λ z. both (classOff k) (classOff l) c d e (omega (arith, ltb-true, classOff-lt k, classOff-lt l)) (omega (arith, ltb-true, classOff-lt k, classOff-lt l)))
 separate (class k c) (hole l j) u v e = inl (λ z. omega (arith, ltb-true, classOff-lt k, holeOff-lt l))
-separate (class k c) (page l q) u v e = inl (λ z. omega (arith, ltb-true, classOff-lt k, pageOff-lt l))
+separate (class k c) (page l q) u v e = inl (λ z. omega (arith, ltb-true, classOff-lt k, past-head l q))
 separate (class k c) (out q j) u v e = inl (λ z. omega (arith, ltb-true, classOff-lt k))
 separate (class k c) (slot q j) u v e = inl (λ z. omega (arith, ltb-true, classOff-lt k))
 separate (hole k i) (arena l) u v e = inl (λ z. omega (arith, ltb-true, holeOff-lt k, arenaOff-lt l))
 separate (hole k i) (mark q j) u v e = inl (λ z. omega (arith, ltb-true, holeOff-lt k))
 separate (hole k i) (class l d) u v e = inl (λ z. omega (arith, ltb-true, holeOff-lt k, classOff-lt l))
 separate (hole k i) (hole l j) u v e = inl (λ z. both (holeOff k) (holeOff l) i j e (omega (arith, ltb-true, holeOff-lt k, holeOff-lt l)) (omega (arith, ltb-true, holeOff-lt k, holeOff-lt l)))
-separate (hole k i) (page l q) u v e = inl (λ z. omega (arith, ltb-true, holeOff-lt k, pageOff-lt l))
+separate (hole k i) (page l q) u v e = inl (λ z. omega (arith, ltb-true, holeOff-lt k, past-head l q))
 separate (hole k i) (out q j) u v e = inl (λ z. omega (arith, ltb-true, holeOff-lt k))
 separate (hole k i) (slot q j) u v e = inl (λ z. omega (arith, ltb-true, holeOff-lt k))
-separate (page k p) (arena l) u v e = inl (λ z. omega (arith, ltb-true, pageOff-lt k, arenaOff-lt l))
-separate (page k p) (mark q j) u v e = inl (λ z. omega (arith, ltb-true, pageOff-lt k))
-separate (page k p) (class l d) u v e = inl (λ z. omega (arith, ltb-true, pageOff-lt k, classOff-lt l))
-separate (page k p) (hole l j) u v e = inl (λ z. omega (arith, ltb-true, pageOff-lt k, holeOff-lt l))
-separate (page k p) (page l q) u v e = inl (λ z. both (pageOff k) (pageOff l) p q e (omega (arith, ltb-true, pageOff-lt k, pageOff-lt l)) (omega (arith, ltb-true, pageOff-lt k, pageOff-lt l)))
-separate (page k p) (out q j) u v e = inl (λ z. omega (arith, ltb-true, pageOff-lt k))
-separate (page k p) (slot q j) u v e = inl (λ z. omega (arith, ltb-true, pageOff-lt k))
+separate (page k p) (arena l) u v e = inl (λ z. omega (arith, past-head k p, arenaOff-lt l))
+separate (page k p) (mark q j) u v e = inl (λ z. aside k p q (144 + j) (omega arith) (omega (arith, ltb-true)) (omega (arith, z)))
+separate (page k p) (class l d) u v e = inl (λ z. omega (arith, ltb-true, past-head k p, classOff-lt l))
+separate (page k p) (hole l j) u v e = inl (λ z. omega (arith, ltb-true, past-head k p, holeOff-lt l))
+separate (page k p) (page l q) u v e = inl (λ z. both (pageOff k) (pageOff l) p q e (one-page k l p q z .0) (one-page k l p q z .1))
+separate (page k p) (out q j) u v e = inl (λ z. aside k p q (16 + j / 32) (omega arith) (omega (arith, ltb-true)) (omega (arith, z)))
+separate (page k p) (slot q j) u v e = inl (λ z. aside k p q (272 + j / 2) (omega arith) (omega (arith, ltb-true)) (omega (arith, z)))
 separate (out p i) (arena l) u v e = inl (λ z. omega (arith, ltb-true, arenaOff-lt l))
 separate (out p i) (mark q j) u v e = inl (λ z. omega (arith, ltb-true))
 separate (out p i) (class l d) u v e = inl (λ z. omega (arith, ltb-true, classOff-lt l))
 separate (out p i) (hole l j) u v e = inl (λ z. omega (arith, ltb-true, holeOff-lt l))
-separate (out p i) (page l q) u v e = inl (λ z. omega (arith, ltb-true, pageOff-lt l))
+separate (out p i) (page l q) u v e = inl (λ z. aside l q p (16 + i / 32) (omega arith) (omega (arith, ltb-true)) (omega (arith, z)))
 separate (out p i) (out q j) u v e = outs p q i j (ltb-true _ _ u) (ltb-true _ _ v) e
 separate (out p i) (slot q j) u v e = inl (λ z. omega (arith, ltb-true))
 separate (slot p i) (arena l) u v e = inl (λ z. omega (arith, ltb-true, arenaOff-lt l))
 separate (slot p i) (mark q j) u v e = inl (λ z. omega (arith, ltb-true))
 separate (slot p i) (class l d) u v e = inl (λ z. omega (arith, ltb-true, classOff-lt l))
 separate (slot p i) (hole l j) u v e = inl (λ z. omega (arith, ltb-true, holeOff-lt l))
-separate (slot p i) (page l q) u v e = inl (λ z. omega (arith, ltb-true, pageOff-lt l))
+separate (slot p i) (page l q) u v e = inl (λ z. aside l q p (272 + i / 2) (omega arith) (omega (arith, ltb-true)) (omega (arith, z)))
 separate (slot p i) (out q j) u v e = inl (λ z. omega (arith, ltb-true))
 separate (slot p i) (slot q j) u v e = slots p q i j (ltb-true _ _ u) (ltb-true _ _ v) e
 
@@ -174,7 +203,7 @@ within n (mark p j) e =
     omega (arith, ltb-true j 128 (and-left _ (ltb p n) e), ltb-true p n (and-right (ltb j 128) _ e))
 within n (class k c) e = omega (arith, ltb-true, classOff-lt k)
 within n (hole k i) e = omega (arith, ltb-true, holeOff-lt k)
-within n (page k p) e = omega (arith, ltb-true, pageOff-lt k)
+within n (page k p) e = page-in k p n (ltb-true p n e)
 within n (out p i) e =
     omega (arith, ltb-true i 4096 (and-left _ (ltb p n) e), ltb-true p n (and-right (ltb i 4096) _ e))
 within n (slot p i) e =

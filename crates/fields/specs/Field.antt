@@ -9,7 +9,7 @@
 -- A mark (document 02, A.3) is a bit of a page's words 144 to 271; its field is the whole word, 32 blocks' marks, since marks are cleared so.
 -- Words 12 to 159 have no field.
 use Prim.Native.Nat.{ℕ, _+_, _-_, _*_, _/_, _%_, _^_, _<_}
-use mathlib.Core.Bool.{Bool, true, _&&_}
+use mathlib.Core.Bool.{Bool, true, cond, _&&_}
 use mathlib.Core.List.{List}
 use lib.Dec.{eqb, ltb}
 use lib.ListN.{length, getD, set}
@@ -76,12 +76,21 @@ pageOff listed = 6
 pageOff virgin = 7
 pageOff tally = 8
 
+-- a page's pair, OWNER and FIRST: those of pages 256 j to 256 j + 255 stand side by side in words 3,344 to 3,855 of page 256 j, so that a long run's lie
+-- together
+abbrev pub pair : ℕ → ℕ
+pair p = 43344 + 4112 * (256 * (p / 256)) + 2 * (p % 256)
+
+-- OWNER and FIRST are in the pair, the others in the page's own words
+abbrev pub pageWord : PageField → ℕ → ℕ
+pageWord k p = cond (ltb (pageOff k) 2) (pair p + pageOff k) (40000 + 4112 * p + pageOff k)
+
 abbrev pub word : Field → ℕ
 word (arena k) = arenaOff k
 word (mark p j) = 40144 + 4112 * p + j
 word (class k c) = 160 + 8 * c + classOff k
 word (hole k i) = 1024 + 2 * i + holeOff k
-word (page k p) = 40000 + 4112 * p + pageOff k
+word (page k p) = pageWord k p
 word (out p i) = 40016 + 4112 * p + i / 32
 word (slot p i) = 40272 + 4112 * p + i / 2
 

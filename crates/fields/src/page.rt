@@ -1,7 +1,7 @@
 // A page's header.
 ghost use mathlib.Core.Path.{_≡_};
 ghost use Prim.Native.Nat.{_+_, _*_, _^_, _<_};
-ghost use Rattle.fields.specs.Field.{page, owner, first, next, prev, free, carved, listed, virgin, tally, Has, get, put};
+ghost use Rattle.fields.specs.Field.{pair, page, owner, first, next, prev, free, carved, listed, virgin, tally, Has, get, put};
 
 // Word k of page p.
 pub fn page_word(p: u32, k: usize) -> usize
@@ -11,32 +11,40 @@ pub fn page_word(p: u32, k: usize) -> usize
     40000 + 4112 * (p as usize) + k
 }
 
+// Word k of page p's pair. A group's pairs take 512 words, and 2 × 526,080 more lead to the next group's.
+fn pair_word(p: u32, k: usize) -> usize
+    requires { ⌜ k < 2 ⌝ }
+    ensures { λ r. ⌜ r ≡ pair p + k ⌝ }
+{
+    43344 + 2 * ((p as usize) + 526080 * ((p as usize) / 256)) + k
+}
+
 pub fn owner(meta: &[u32], p: u32) -> u32
     requires { ⌜ Has (now meta) (page owner p) ⌝ }
     ensures { λ r. ⌜ r ≡ get (now (meta .entry)) (page owner p) ⌝ }
 {
-    meta[page_word(p, 0)]
+    meta[pair_word(p, 0)]
 }
 
 pub fn set_owner(meta: &mut [u32], p: u32, v: u32)
     requires { ⌜ Has (now meta) (page owner p) ⌝ }
     ensures { λ _. ⌜ now (meta .exit) ≡ put (now (meta .entry)) (page owner p) v ⌝ }
 {
-    meta[page_word(p, 0)] = v;
+    meta[pair_word(p, 0)] = v;
 }
 
 pub fn first(meta: &[u32], p: u32) -> u32
     requires { ⌜ Has (now meta) (page first p) ⌝ }
     ensures { λ r. ⌜ r ≡ get (now (meta .entry)) (page first p) ⌝ }
 {
-    meta[page_word(p, 1)]
+    meta[pair_word(p, 1)]
 }
 
 pub fn set_first(meta: &mut [u32], p: u32, v: u32)
     requires { ⌜ Has (now meta) (page first p) ⌝ }
     ensures { λ _. ⌜ now (meta .exit) ≡ put (now (meta .entry)) (page first p) v ⌝ }
 {
-    meta[page_word(p, 1)] = v;
+    meta[pair_word(p, 1)] = v;
 }
 
 pub fn next(meta: &[u32], p: u32) -> u32

@@ -1,7 +1,7 @@
 -- What lies in a class's words, and what in the others.
 --     foot-home          a class's steps keep to its own words
 --     off-home, off-arena, off-page    those of another class, and the arena's, to the other words
-use Prim.Native.Nat.{ℕ, suc, _+_, _-_, _*_, _/_, _<_}
+use Prim.Native.Nat.{ℕ, suc, _+_, _-_, _*_, _/_, _≤_, _<_}
 use native.Mathlib.Omega.{arith}
 use mathlib.Core.Bool.{true, false}
 use mathlib.Core.List.{List}
@@ -10,20 +10,22 @@ use lib.Dec.{eqb, ltb}
 use borrow.Author.Tests.{eq-eqb, ne-eqb, lt-ltb, le-ltb, ltb-true}
 use Rattle.classes.specs.declared.Shape.{Shape}
 use Rattle.classes.specs.Sound.{Sound}
-use Rattle.fields.specs.Field.{page, owner, get}
+use Rattle.fields.specs.Field.{page, owner, pair, get}
 use Rattle.facts.proofs.Bools.{by-cases}
 use Rattle.pages.specs.Runs.{whole}
-use Rattle.refinement.specs.Foot.{foot, off}
+use Rattle.refinement.specs.Foot.{pageOf, foot, off}
 use Rattle.refinement.proofs.Frames.{whole-owner}
 use Rattle.refinement.proofs.Mix.{PageIn}
 use Rattle.refinement.proofs.LocalFill.{Home}
 use Rattle.refinement.proofs.LocalArena.{ArenaIn}
 
-less : (q j : ℕ) → 40000 + 4112 * q + j - 40000 ≡ 4112 * q + j
-less q j = omega arith
+word-at : (q j : ℕ) → j < 2320 → pageOf (40000 + 4112 * q + j - 40000) ≡ q
+unfolding pageOf
+word-at q j l = omega arith
 
-page-at : (q j : ℕ) → j < 4112 → (4112 * q + j) / 4112 ≡ q
-page-at q j l = omega arith
+pair-at : (q j : ℕ) → j < 2 → pageOf (pair q + j - 40000) ≡ q
+unfolding pageOf
+pair-at q j l = omega arith
 
 row-at : (c j : ℕ) → j < 8 → (160 + 8 * c + j) / 8 ≡ 20 + c
 row-at c j l = omega arith
@@ -33,15 +35,20 @@ module _ (n : ℕ) (b : List ℕ) (sh : Shape) (c : ℕ) (hc : ltb c 76 ≡ true
   unfolding foot
   low-foot i l = rw (lt-ltb i 40000 l)
 
-  page-foot : (q j : ℕ) → j < 4112 → foot n b sh c (40000 + 4112 * q + j) ≡ whole n b sh c q
+  page-foot : (q i : ℕ) → 40000 ≤ i → pageOf (i - 40000) ≡ q → foot n b sh c i ≡ whole n b sh c q
   unfolding foot
-  page-foot q j l =
-      rw (le-ltb (40000 + 4112 * q + j) 40000 (omega arith), less q j, page-at q j l)
+  page-foot q i l e = rw (le-ltb i 40000 l, e)
+
+  word-foot : (q j : ℕ) → j < 2320 → foot n b sh c (40000 + 4112 * q + j) ≡ whole n b sh c q
+  word-foot q j l = page-foot q (40000 + 4112 * q + j) (omega arith) (word-at q j l)
+
+  pair-foot : (q j : ℕ) → j < 2 → foot n b sh c (pair q + j) ≡ whole n b sh c q
+  pair-foot q j l = page-foot q (pair q + j) (omega arith) (pair-at q j l)
 
   pub foot-home : Home (foot n b sh c) n b c sh
   foot-home = record {
     row = record { words = λ j l. low-foot (160 + 8 * c + j) (omega (arith, ltb-true)) ∙ eq-eqb ((160 + 8 * c + j) / 8) (20 + c) (row-at c j l) };
-    pages = λ q e. record { words = λ j l. page-foot q j l ∙ e };
+    pages = λ q e. record { words = λ j l. word-foot q j l ∙ e; pairs = λ j l. pair-foot q j l ∙ e };
   }
 
   low-off : (i : ℕ) → i < 40000 → (i / 8 ≡ 20 + c → ⊥) → off n b sh c i ≡ true
@@ -50,7 +57,7 @@ module _ (n : ℕ) (b : List ℕ) (sh : Shape) (c : ℕ) (hc : ltb c 76 ≡ true
 
   pub off-page : (q : ℕ) → whole n b sh c q ≡ false → PageIn (off n b sh c) q
   unfolding off
-  off-page q e = record { words = λ j l. rw (page-foot q j l, e) }
+  off-page q e = record { words = λ j l. rw (word-foot q j l, e); pairs = λ j l. rw (pair-foot q j l, e) }
 
   pub off-arena : ArenaIn (off n b sh c)
   off-arena = record {

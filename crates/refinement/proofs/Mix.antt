@@ -2,15 +2,19 @@
 --     mix S b d      the words of S from b, the others from d; a step F keeps to S where F (mix S b d) ≡ mix S (F b) d, which says at
 --                    once that it reads only words of S and writes only words of S
 --     get-in, put-in a read and a write of a field that lies in S
---     PageIn, RowIn  all words of a page lie in S; all words of a class's row do
+--     PageIn, RowIn  a page's words that have a field lie in S, its pair too; all words of a class's row do
 --     swapped        two steps, one that keeps to S and one that keeps to the other words, may change places
 use Prim.Native.Nat.{ℕ, zero, suc, _+_, _*_, _/_, _<_}
 use native.Mathlib.Omega.{arith}
 use mathlib.Core.Bool.{Bool, true, false, cond, not}
 use mathlib.Core.List.{List, [], _∷_}
 use mathlib.Core.Path.{_≡_, refl, sym, ap, _∙_}
+use lib.Dec.{ltb}
 use lib.ListN.{length, getD, set, drop}
-use Rattle.fields.specs.Field.{Field, ClassField, PageField, class, page, mark, slot, out, partial, empty, emptyCount, cold, coldCount, owner, first, next, prev, free, carved, listed, virgin, tally, classOff, pageOff, part, place, read, word, get, put}
+use borrow.Author.Tests.{ltb-true}
+use Rattle.facts.proofs.Bools.{by-cases}
+use Rattle.fields.specs.Field.{Field, ClassField, PageField, class, page, mark, slot, out, partial, empty, emptyCount, cold, coldCount, classOff, pageOff, pair, part, place, read, word, get, put}
+use Rattle.fields.proofs.Laws.{pageOff-lt}
 
 unfoldable pub mix : (ℕ → Bool) → List ℕ → List ℕ → List ℕ
 mix S [] d = []
@@ -64,7 +68,8 @@ module _ (S : ℕ → Bool) (b d : List ℕ) (f : Field) where
   put-in v e = ap (λ w. set (mix S b d) (word f) (place (part f) w v)) (getD-mix S b d (word f) e) ∙ set-mix S b d (word f) _ e
 
 pub record PageIn (S : ℕ → Bool) (q : ℕ) : Type 0 where
-  pub words : (j : ℕ) → j < 4112 → S (40000 + 4112 * q + j) ≡ true
+  pub words : (j : ℕ) → j < 2320 → S (40000 + 4112 * q + j) ≡ true
+  pub pairs : (j : ℕ) → j < 2 → S (pair q + j) ≡ true
 
 pub record RowIn (S : ℕ → Bool) (c : ℕ) : Type 0 where
   pub words : (j : ℕ) → j < 8 → S (160 + 8 * c + j) ≡ true
@@ -74,18 +79,8 @@ at-word S e h = rw (sym e) h
 
 module _ {S : ℕ → Bool} {q : ℕ} (p : PageIn S q) (b d : List ℕ) where
   in-page : (k : PageField) → S (word (page k q)) ≡ true
-  in-page k = p .words (pageOff k) (off-lt k)
-    where
-      off-lt : (k : PageField) → pageOff k < 4112
-      off-lt PageField.owner = omega arith
-      off-lt PageField.first = omega arith
-      off-lt PageField.next = omega arith
-      off-lt PageField.prev = omega arith
-      off-lt PageField.free = omega arith
-      off-lt PageField.carved = omega arith
-      off-lt PageField.listed = omega arith
-      off-lt PageField.virgin = omega arith
-      off-lt PageField.tally = omega arith
+  in-page k =
+      by-cases (ltb (pageOff k) 2) (λ e. rw e (p .pairs (pageOff k) (ltb-true _ _ e))) (λ e. rw e (p .words (pageOff k) (omega (arith, pageOff-lt k))))
 
   in-slot : (i : ℕ) → i < 4096 → S (word (slot q i)) ≡ true
   in-slot i h = at-word S (omega arith) (p .words (272 + i / 2) (omega arith))

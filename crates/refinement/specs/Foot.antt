@@ -6,16 +6,21 @@
 -- none of these takes a page of this class or makes one. A call on another class, also one that reaches the arena, keeps to the words that
 -- are not this class's.
 -- A word of OWNER at or above FRONTIER may hold anything, and so does not make its page the class's; `whole` says what does.
-use Prim.Native.Nat.{ℕ, _+_, _-_, _/_}
+use Prim.Native.Nat.{ℕ, _+_, _-_, _/_, _%_}
 use mathlib.Core.Bool.{Bool, cond, not}
 use mathlib.Core.List.{List}
 use lib.Dec.{eqb, ltb}
 use Rattle.classes.specs.declared.Shape.{Shape}
 use Rattle.pages.specs.Runs.{whole}
 
--- the rows, of 8 words each, begin at word 160; pages, of 4,112 words each, at word 40,000
+-- the page that a word is of, counted from word 40,000 on: a page has 4,112 words, and those from 3,344 on of page 256 j are OWNER and FIRST of that page
+-- and the 255 after it, two words a page (`fields: pair`). Of a word that has no field it names some page.
+unfoldable pub pageOf : ℕ → ℕ
+pageOf j = j / 4112 + (j % 4112 - 3344) / 2
+
+-- the rows, of 8 words each, begin at word 160
 unfoldable pub foot : ℕ → List ℕ → Shape → ℕ → ℕ → Bool
-foot n b sh c i = cond (ltb i 40000) (eqb (i / 8) (20 + c)) (whole n b sh c ((i - 40000) / 4112))
+foot n b sh c i = cond (ltb i 40000) (eqb (i / 8) (20 + c)) (whole n b sh c (pageOf (i - 40000)))
 
 -- the others
 unfoldable pub off : ℕ → List ℕ → Shape → ℕ → ℕ → Bool

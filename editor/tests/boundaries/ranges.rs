@@ -73,6 +73,28 @@ fn give(granules: &[u64]) -> impl Fn(&mut Heap) -> Answer<u32> + '_ {
     move |heap| heap.give(Family::Small, CLASS, ALL, granules)
 }
 
+/// OWNER and FIRST of a page, one word after the other: those of 256 pages stand in the record of the first.
+#[test]
+fn owner_and_first() {
+    for ahead in [1, 255, 256, 300, 511] {
+        let opened = || {
+            let mut heap = Heap::open(512);
+            assert_eq!(heap.commit(ALL, ahead), Ok(Some((0, true))));
+            let (blocks, _) = take(&mut heap).expect("a page");
+            assert_eq!(give(&blocks[..1])(&mut heap), Ok(0));
+            heap
+        };
+        let at = usize::try_from(ahead).expect("64 bits");
+        let (owner, first) = (page(at / 256 * 256, 3_344) + 2 * (at % 256), u32::try_from(ahead).expect("32 bits"));
+        for (word, value) in [(owner, 46), (owner + 1, first)] {
+            with_on(opened(), word, value, false, take);
+            for other in [0, value - 1, value + 1, u32::MAX] {
+                with_on(opened(), word, other, true, take);
+            }
+        }
+    }
+}
+
 #[test]
 fn the_arenas_record() {
     up_to(1, 2, report);

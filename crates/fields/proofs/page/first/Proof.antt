@@ -7,4 +7,4 @@ pub first-spec : {M : Type 1} → statement M
 unfolding get
 first-spec =
     tie.close
-    (tie.spec (λ c κs. search needs) (λ c. search needs) (λ c. search needs) (λ c. rw (c .before .page-word .ensures)))
+    (tie.spec (λ c κs. search needs) (λ c. search needs) (λ c. search needs) (λ c. rw (c .before .pair-word .ensures)))

@@ -7,4 +7,4 @@ pub owner-spec : {M : Type 1} → statement M
 unfolding get
 owner-spec =
     tie.close
-    (tie.spec (λ c κs. search needs) (λ c. search needs) (λ c. search needs) (λ c. rw (c .before .page-word .ensures)))
+    (tie.spec (λ c κs. search needs) (λ c. search needs) (λ c. search needs) (λ c. rw (c .before .pair-word .ensures)))

@@ -7,4 +7,4 @@ pub set-first-spec : {M : Type 1} → statement M
 unfolding put
 set-first-spec =
     tie.close
-    (tie.spec (λ c κs. search needs) (λ c. search needs) (λ c. search needs) (λ c. search needs) (λ c. rw (c .page-word .ensures)))
+    (tie.spec (λ c κs. search needs) (λ c. search needs) (λ c. search needs) (λ c. search needs) (λ c. rw (c .pair-word .ensures)))
