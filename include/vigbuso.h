@@ -58,6 +58,10 @@ extern "C" {
 #define VIGBUSO_ROW 4u
 #define VIGBUSO_LIMIT 256u
 
+/* The one row with which no class keeps a run whose blocks are all back, so that its pages serve every class:
+ * const uint32_t row[VIGBUSO_ROW] = VIGBUSO_NOTHING_PARKED; */
+#define VIGBUSO_NOTHING_PARKED {0u, VIGBUSO_SMALL_CLASSES + VIGBUSO_MEDIUM_CLASSES - 1u, 0u, 0u}
+
 /* How many figures vigbuso_report writes. */
 #define VIGBUSO_FIGURES 6u
 
@@ -101,7 +105,8 @@ enum vigbuso_kind { VIGBUSO_NONE = 0, VIGBUSO_SMALL = 1, VIGBUSO_MEDIUM = 2, VIG
  * its page had out. */
 enum vigbuso_fate { VIGBUSO_KEPT = 0, VIGBUSO_COLD = 1, VIGBUSO_TO_ARENA = 2, VIGBUSO_RETIRED = 4 };
 
-/* Numbers of refusals, in checking order; vigbuso_refusal_text says what each means. */
+/* Numbers of refusals, in checking order; vigbuso_refusal_text says what each means. 13 stands twice in that order: in a release by list or
+ * by chunks a word of marks that is not 0 comes between 9 and 15, every other book word last. */
 enum vigbuso_refusal {
     VIGBUSO_ARENA_LENGTH = 1,
     VIGBUSO_BOOK_TOO_SHORT = 2,
@@ -370,9 +375,11 @@ uint32_t vigbuso_class_of(const uint32_t *book, size_t book_len, uint64_t block)
 uint32_t vigbuso_trace(uint32_t *book, size_t book_len, uint64_t pages, const uint32_t *trace, size_t trace_len,
                        uint64_t *blocks, size_t blocks_len, uint64_t *figures, size_t figures_len, uint64_t *done);
 
-/* The words of a trace. */
+/* The words of a trace. A release names a place below 2^30; of a greater one it makes a word of kind 3, which stops the trace. It evaluates
+ * its argument twice. */
 #define VIGBUSO_TRACE_TAKE(size_class) ((uint32_t)(size_class))
-#define VIGBUSO_TRACE_RELEASE(place) (((uint32_t)1 << 30) | (uint32_t)(place))
+#define VIGBUSO_TRACE_RELEASE(place) \
+    ((uint64_t)(place) >> 30 ? (uint32_t)3 << 30 : ((uint32_t)1 << 30) | (uint32_t)(place))
 #define VIGBUSO_TRACE_REPORT ((uint32_t)2 << 30)
 
 /*

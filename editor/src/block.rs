@@ -51,8 +51,8 @@ pub enum Kind {
 /// - A block that is out in another class is `NotOut` in this one.
 /// - A block that is out and stands twice in one list is refused as [`Repeated`](crate::Refusal::Repeated).
 ///
-/// No such block makes a call read or write anything but the book. A [`Pool`](crate::Pool) refuses stale and foreign blocks
-/// at once in debug builds, the stale ones also after the heap has them back.
+/// No such block makes a call read or write anything but the book. A [`Pool`](crate::Pool) refuses all of these at once, until it has
+/// handed the same block out again.
 ///
 /// ```
 /// use vigbuso::{Block, Class, Heap, Kind};

@@ -151,7 +151,7 @@ impl Error for OpenError {}
 pub enum AllocError {
     /// The record exceeds [`Class::MAX_BYTES`](crate::Class::MAX_BYTES): it is for a run of pages.
     TooLarge,
-    /// The arena has no page left for its class.
+    /// The arena has no page left for its class; for a medium one, not enough of them side by side.
     Full,
     /// The take was refused, which only a damaged book can cause.
     Refused(Refusal),

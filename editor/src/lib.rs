@@ -43,11 +43,11 @@
 //! | [`Heap::report`], [`Heap::contains`] | [`Heap::release`], [`Heap::release_all`] |
 //! | [`Heap::commit`], [`Heap::grow_frontier`], [`Heap::release_run`] | [`Heap::release_chunks`] |
 //!
-//! The code behind the methods is proved: what each call answers and leaves behind is a definition, and the library is
-//! built only if the code does just that. This crate is the part that is not proved: types over those calls, and [`Pool`] and
-//! [`Store`] on top. Document 01, which the comments cite, is the paper that states the heap's rules; `docs/CALLS.md` of the
-//! repository describes the C functions, `docs/REORDER.md` which of them may change places, `docs/DEMANDS.md` what is proved of
-//! them.
+//! The code behind the methods of [`Heap`] is proved: what each call answers and leaves behind is a definition, and the library is
+//! built only if the code does just that. This crate is the part that is not proved but tested, what can be misused in debug and in
+//! release builds: types over those calls, and [`Pool`] and [`Store`] on top, which refuse every block that is not out. Document 01,
+//! which the comments cite, is the paper that states the heap's rules; `docs/CALLS.md` of the repository describes the C functions,
+//! `docs/REORDER.md` which of them may change places, `docs/DEMANDS.md` what is proved of them.
 //!
 //! The crate needs no `std`, only `alloc`.
 #![no_std]
@@ -68,6 +68,7 @@ mod game;
 mod heap;
 mod host;
 mod listing;
+mod out;
 mod plan;
 mod pool;
 mod refusal;

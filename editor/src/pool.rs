@@ -2,9 +2,10 @@
 
 use alloc::vec;
 use alloc::vec::Vec;
-use core::{fmt, mem, slice};
+use core::fmt;
 
-use crate::{AllocError, Block, Class, Heap, Refusal, ReleaseError, Report, Rules, BATCH};
+use crate::out::Out;
+use crate::{AllocError, Block, Class, Committed, Heap, Host, Refusal, ReleaseError, Report, Rules, Run, BATCH};
 
 /// By class: blocks in stock above which the older half goes back. It is two batches, but no more than 256 KiB, or eight
 /// blocks where that is less.
@@ -25,9 +26,11 @@ static STOCK: [usize; Class::COUNT] = {
 /// A heap with a stock of blocks for each class, so that records come and go one by one while the heap is called for
 /// batches.
 ///
-/// A pool knows the class of a block by its page. In debug builds it also knows which blocks it has handed out, and refuses
-/// every other one at once; otherwise a block that is freed twice is refused when the heap gets it back, in a later
-/// [`free`](Pool::free) or [`flush`](Pool::flush), and may have been handed out twice by then.
+/// In every build a pool knows which blocks it has handed out, by their class and their first granule, and refuses every other one at
+/// once: freed twice, stale, of another class or kind, inside another block, or never its own. So no block that is in use is handed out
+/// again. That takes 513 bytes for each page, of which only those of pages in use are ever touched.
+///
+/// What the heap does is proved; what the pool does on top of it is tested.
 ///
 /// ```
 /// use vigbuso::{Pool, PAGE_BYTES};
@@ -45,10 +48,11 @@ pub struct Pool<B = Vec<u32>> {
     heap: Heap<B>,
     /// By class.
     stocks: Vec<Stock>,
-    /// By page: the class that had a block there last.
-    classes: Vec<Option<Class>>,
     out: Out,
 }
+
+/// The heap hands out no block and no page that is in use, unless its book was damaged.
+const DAMAGED: AllocError = AllocError::Refused(Refusal::BookWord);
 
 /// A class's blocks that the heap has handed out and no record stands in.
 #[derive(Clone, Default)]
@@ -59,30 +63,35 @@ struct Stock {
 }
 
 impl Pool {
-    /// A pool on a new heap for an arena of so many pages.
+    /// A pool on a new heap for an arena of so many pages. No class parks a run, so that whatever has no block in use serves every
+    /// class.
     ///
     /// ```
     /// # use vigbuso::Pool;
-    /// assert_eq!(Pool::open(64)?.heap().pages(), 64);
-    /// # Ok::<(), vigbuso::Refusal>(())
+    /// let mut pool = Pool::open(1)?;
+    /// let small = pool.alloc(16)?;
+    /// pool.free(small)?;
+    /// assert!(pool.alloc(32).is_ok(), "the page is nobody's any more");
+    /// # Ok::<(), Box<dyn std::error::Error>>(())
     /// ```
     ///
     /// # Errors
     ///
     /// As [`Heap::open`].
     pub fn open(pages: u64) -> Result<Pool, Refusal> {
-        Heap::open(pages).map(Pool::new)
+        Pool::open_with(pages, &Rules::every(0, 0))
     }
 
-    /// A pool on a new heap with parking rules of its own.
+    /// A pool on a new heap with parking rules of its own. What a class has parked is at hand for this class, and no other can
+    /// have it.
     ///
     /// ```
-    /// # use vigbuso::{Pool, Rules};
-    /// let mut pool = Pool::open_with(64, &Rules::every(0, 0))?;
-    /// let block = pool.alloc(100)?;
-    /// pool.free(block)?;
-    /// pool.flush()?;
-    /// assert_eq!(pool.report()?.arena.held, 0);
+    /// # use vigbuso::{AllocError, Pool, Rules};
+    /// let mut pool = Pool::open_with(1, &Rules::every(1, 0))?;
+    /// let small = pool.alloc(16)?;
+    /// pool.free(small)?;
+    /// assert_eq!(pool.alloc(32), Err(AllocError::Full));
+    /// assert!(pool.alloc(16).is_ok());
     /// # Ok::<(), Box<dyn std::error::Error>>(())
     /// ```
     ///
@@ -95,7 +104,7 @@ impl Pool {
 }
 
 impl<B: AsRef<[u32]> + AsMut<[u32]>> Pool<B> {
-    /// A pool on a heap. Blocks that are out already are not the pool's: they go back to the heap itself.
+    /// A pool on a heap. Blocks that are out already are not the pool's: they can go back when [the pool is left](Pool::into_heap).
     ///
     /// ```
     /// use vigbuso::{book_words, Heap, Pool};
@@ -107,8 +116,8 @@ impl<B: AsRef<[u32]> + AsMut<[u32]>> Pool<B> {
     /// ```
     #[must_use]
     pub fn new(heap: Heap<B>) -> Pool<B> {
-        let pages = usize::try_from(heap.pages()).unwrap_or(usize::MAX);
-        Pool { heap, stocks: vec![Stock::default(); Class::COUNT], classes: vec![None; pages], out: Out::new(pages) }
+        let out = Out::new(heap.pages());
+        Pool { heap, stocks: vec![Stock::default(); Class::COUNT], out }
     }
 
     /// A block for a record of so many bytes.
@@ -123,7 +132,7 @@ impl<B: AsRef<[u32]> + AsMut<[u32]>> Pool<B> {
     ///
     /// # Errors
     ///
-    /// [`AllocError::TooLarge`] above [`Class::MAX_BYTES`], [`AllocError::Full`] if the arena has no page left for the class.
+    /// [`AllocError::TooLarge`] above [`Class::MAX_BYTES`]; else as [`Pool::alloc_in`].
     #[inline]
     pub fn alloc(&mut self, bytes: usize) -> Result<Block, AllocError> {
         self.alloc_in(Class::for_size(bytes).ok_or(AllocError::TooLarge)?)
@@ -141,58 +150,64 @@ impl<B: AsRef<[u32]> + AsMut<[u32]>> Pool<B> {
     ///
     /// # Errors
     ///
-    /// [`AllocError::Full`] if the arena has no page left for the class.
+    /// [`AllocError::Full`] if the arena has no page left for the class, also after a [`flush`](Pool::flush).
+    /// [`AllocError::Refused`] only on a damaged book.
     #[inline]
     pub fn alloc_in(&mut self, class: Class) -> Result<Block, AllocError> {
+        if self.stocks[class.index()].blocks.is_empty() {
+            self.refill(class)?;
+        }
         let stock = &mut self.stocks[class.index()];
-        let block = match stock.blocks.pop() {
-            Some(block) => block,
-            None => self.refill(class)?,
-        };
-        self.stocks[class.index()].used += 1;
-        self.out.add(block);
+        let block = stock.blocks.pop().ok_or(AllocError::Full)?;
+        if !self.out.add(class, block) {
+            return Err(DAMAGED);
+        }
+        stock.used += 1;
         Ok(block)
     }
 
-    /// Takes blocks for a stock that has none, and one of them out of it: the last of the answer.
+    /// Takes blocks for a stock that has none. If the arena is full, all stocks go back first: their pages may be enough.
     #[cold]
-    fn refill(&mut self, class: Class) -> Result<Block, AllocError> {
-        let taken = self.heap.take(class).map_err(AllocError::Refused)?;
-        for block in &taken {
-            if let Some(holder) = self.classes.get_mut(index(block.page())) {
-                *holder = Some(class);
-            }
+    fn refill(&mut self, class: Class) -> Result<(), AllocError> {
+        if self.take(class)? == 0 {
+            self.flush().map_err(|error| AllocError::Refused(error.refusal()))?;
+            self.take(class)?;
         }
-        let stock = &mut self.stocks[class.index()].blocks;
-        stock.extend_from_slice(&taken);
-        stock.pop().ok_or(AllocError::Full)
+        Ok(())
+    }
+
+    /// Takes blocks for a stock, and answers how many came.
+    fn take(&mut self, class: Class) -> Result<usize, AllocError> {
+        let taken = self.heap.take(class).map_err(AllocError::Refused)?;
+        if !self.out.give(class, &taken) {
+            return Err(DAMAGED);
+        }
+        self.stocks[class.index()].blocks.extend_from_slice(&taken);
+        Ok(taken.len())
     }
 
     /// Takes a block back that the pool has handed out.
     ///
     /// ```
-    /// # use vigbuso::{Block, Pool};
+    /// # use vigbuso::{Pool, Refusal};
     /// let mut pool = Pool::open(64)?;
     /// let block = pool.alloc(100)?;
     /// pool.free(block)?;
-    /// if cfg!(debug_assertions) {
-    ///     let error = pool.free(block).unwrap_err();
-    ///     assert_eq!(error.block(), Some((0, block)));
-    /// }
+    /// let error = pool.free(block).unwrap_err();
+    /// assert_eq!((error.refusal(), error.block()), (Refusal::NotOut, Some((0, block))));
     /// # Ok::<(), Box<dyn std::error::Error>>(())
     /// ```
     ///
     /// # Errors
     ///
-    /// [`Refusal::NotOut`] for a block of a page where the pool has had none, in debug builds for every block that it has
-    /// not out, and for a stale block that is found when some of the stock goes back to the heap; or [`Refusal::Repeated`] then, for
-    /// one that was freed twice. A block that is refused is in no stock afterwards.
+    /// [`Refusal::NotOut`] for every block that the pool has not out at this time; nothing changes then. Another refusal only on a
+    /// damaged book, of blocks that were to go back to the heap: they stay in stock, and so does this one.
     #[inline]
     pub fn free(&mut self, block: Block) -> Result<(), ReleaseError> {
-        let class = self.class_of(block).filter(|_| self.out.remove(block));
+        let class = self.out.remove(block);
         let class = class.ok_or_else(|| ReleaseError::new(Refusal::NotOut, Some((0, block))))?;
         let stock = &mut self.stocks[class.index()];
-        stock.used = stock.used.saturating_sub(1);
+        stock.used -= 1;
         stock.blocks.push(block);
         let most = STOCK[class.index()];
         if stock.blocks.len() > most {
@@ -201,50 +216,31 @@ impl<B: AsRef<[u32]> + AsMut<[u32]>> Pool<B> {
         Ok(())
     }
 
-    /// The class of a block that the pool has handed out: that of its page. None if the pool has had no block there, or only of
-    /// the other kind.
+    /// The class of a block that the pool has handed out; none for every other one.
     ///
     /// ```
     /// # use vigbuso::{Class, Pool};
     /// let mut pool = Pool::open(64)?;
     /// let block = pool.alloc(100)?;
     /// assert_eq!(pool.class_of(block), Class::for_size(100));
+    /// pool.free(block)?;
+    /// assert_eq!(pool.class_of(block), None);
     /// # Ok::<(), Box<dyn std::error::Error>>(())
     /// ```
     #[must_use]
     #[inline]
     pub fn class_of(&self, block: Block) -> Option<Class> {
-        let class = self.classes.get(index(block.page())).copied().flatten();
-        class.filter(|class| class.kind() == block.kind())
+        self.out.class_of(block)
     }
 
-    /// Whether a block is out in a class, as far as that is known.
-    pub(crate) fn has_out(&self, class: Class, block: Block) -> bool {
-        self.class_of(block) == Some(class) && self.out.has(block)
-    }
-
-    /// Gives the blocks back that have been longest in a stock, so that so many stay. Those that the heap refuses are dropped,
-    /// and the first of them is answered.
+    /// Gives the blocks back that have been longest in a stock, so that so many stay.
     #[cold]
     fn give_back(&mut self, class: Class, stay: usize) -> Result<(), ReleaseError> {
         let stock = &mut self.stocks[class.index()].blocks;
         let oldest = stock.len() - stay;
-        let mut rest = &mut stock[..oldest];
-        let mut outcome = Ok(());
-        while let Err(error) = self.heap.release_all(class, rest) {
-            outcome = outcome.and(Err(error));
-            let Some((place, _)) = error.block() else {
-                // It is not told which, so each goes by itself; those that are refused are dropped too.
-                for block in &mut rest[error.released()..] {
-                    let _ = self.heap.release_all(class, slice::from_mut(block));
-                }
-                break;
-            };
-            // The first ones are back; the refused one joins them.
-            rest.swap(error.released(), place);
-            rest = &mut mem::take(&mut rest)[error.released() + 1..];
-        }
-        stock.drain(..oldest);
+        let outcome = self.heap.release_all(class, &mut stock[..oldest]);
+        let back = outcome.map_or_else(|error| error.released(), |()| oldest);
+        stock.drain(..back);
         outcome
     }
 
@@ -262,7 +258,7 @@ impl<B: AsRef<[u32]> + AsMut<[u32]>> Pool<B> {
     ///
     /// # Errors
     ///
-    /// The first refusal, of a block that was freed and not out, or freed twice. All others are back nevertheless.
+    /// None on a book that only this heap has written. On a damaged one the first refusal; what was not refused is back nevertheless.
     pub fn flush(&mut self) -> Result<(), ReleaseError> {
         let mut outcome = Ok(());
         for class in Class::all() {
@@ -291,7 +287,7 @@ impl<B: AsRef<[u32]> + AsMut<[u32]>> Pool<B> {
         Ok(self.heap)
     }
 
-    /// The heap, to be asked.
+    /// The heap, to be asked: its report, its length, whether bytes are in the arena.
     ///
     /// ```
     /// # use vigbuso::Pool;
@@ -303,19 +299,78 @@ impl<B: AsRef<[u32]> + AsMut<[u32]>> Pool<B> {
         &self.heap
     }
 
-    /// The heap, for runs of pages and for blocks taken beside the pool. A block of the pool that is released here is stale in
-    /// the pool, and all are if the heap is reopened.
+    /// Sets the host word of all calls that follow, as [`Heap::set_host`].
+    ///
+    /// ```
+    /// # use vigbuso::{Host, Pool};
+    /// let mut pool = Pool::open(64)?;
+    /// pool.set_host(Host::RESERVATION);
+    /// assert!(pool.alloc(100).is_err(), "the commit was not granted");
+    /// # Ok::<(), vigbuso::Refusal>(())
+    /// ```
+    pub fn set_host(&mut self, host: Host) {
+        self.heap.set_host(host);
+    }
+
+    /// Asks for a run of so many pages, as [`Heap::commit`]. If the arena has none, the pool is flushed and the arena is asked once
+    /// more. The run is not the pool's: it goes back by [`Pool::release_run`].
+    ///
+    /// ```
+    /// # use vigbuso::Pool;
+    /// let mut pool = Pool::open(2)?;
+    /// let [one, two] = [pool.alloc(100)?, pool.alloc(200)?]; // each on a page
+    /// pool.free(one)?;
+    /// pool.free(two)?;
+    /// let run = pool.commit(2)?.expect("nothing is in use").run;
+    /// pool.release_run(run)?;
+    /// # Ok::<(), Box<dyn std::error::Error>>(())
+    /// ```
+    ///
+    /// # Errors
+    ///
+    /// As [`Heap::commit`].
+    pub fn commit(&mut self, pages: u64) -> Result<Option<Committed>, Refusal> {
+        if let Some(answer) = self.heap.commit(pages)? {
+            return Ok(Some(answer));
+        }
+        self.flush()?;
+        self.heap.commit(pages)
+    }
+
+    /// Grows a run in place, as [`Heap::grow_frontier`].
     ///
     /// ```
     /// # use vigbuso::Pool;
     /// let mut pool = Pool::open(64)?;
-    /// let run = pool.heap_mut().commit(3)?.expect("64 pages").run;
-    /// assert_eq!(run.pages, 3);
+    /// let run = pool.commit(3)?.expect("64 pages").run;
+    /// assert_eq!(pool.grow_frontier(run, 5)?.map(|run| run.pages), Some(5));
     /// # Ok::<(), vigbuso::Refusal>(())
     /// ```
-    #[must_use]
-    pub fn heap_mut(&mut self) -> &mut Heap<B> {
-        &mut self.heap
+    ///
+    /// # Errors
+    ///
+    /// As [`Heap::grow_frontier`].
+    pub fn grow_frontier(&mut self, run: Run, new_pages: u64) -> Result<Option<Run>, Refusal> {
+        self.heap.grow_frontier(run, new_pages)
+    }
+
+    /// Gives pages back that [`Pool::commit`] and [`Pool::grow_frontier`] have answered, as [`Heap::release_run`]. A page with the
+    /// pool's blocks is none of these.
+    ///
+    /// ```
+    /// # use vigbuso::{Pool, Refusal, Run};
+    /// let mut pool = Pool::open(64)?;
+    /// let block = pool.alloc(100)?;
+    /// let run = Run { first: block.page(), pages: 1 };
+    /// assert_eq!(pool.release_run(run), Err(Refusal::NotHeld));
+    /// # Ok::<(), Box<dyn std::error::Error>>(())
+    /// ```
+    ///
+    /// # Errors
+    ///
+    /// As [`Heap::release_run`].
+    pub fn release_run(&mut self, run: Run) -> Result<(), Refusal> {
+        self.heap.release_run(run)
     }
 
     /// The blocks in stock. A page with none of these and none handed out is parked, or the heap has it back.
@@ -399,57 +454,5 @@ impl fmt::Display for PoolReport {
         let PoolReport { used, used_bytes, stocked, arena, .. } = self;
         let plural = if *used == 1 { "" } else { "s" };
         write!(f, "{used} block{plural} of {used_bytes} bytes in use, {stocked} in stock; {arena}")
-    }
-}
-
-/// A page, or a word of granules, as an index.
-#[inline]
-#[allow(clippy::cast_possible_truncation)] // the library links into 64-bit programs only
-const fn index(number: u64) -> usize {
-    number as usize
-}
-
-/// The blocks that a pool has handed out: in debug builds a bit for each granule, otherwise nothing.
-struct Out(Vec<u64>);
-
-impl Out {
-    /// Words of a page's granules.
-    const PAGE: usize = crate::PAGE_BYTES / crate::GRANULE_BYTES / 64;
-
-    fn new(pages: usize) -> Out {
-        Out(vec![0; if cfg!(debug_assertions) { pages.saturating_mul(Out::PAGE) } else { 0 }])
-    }
-
-    /// The kind need not be told apart: no two blocks that are out have the same granule.
-    #[inline]
-    fn bit(&mut self, block: Block) -> Option<(&mut u64, u64)> {
-        let granule = block.granule();
-        if !cfg!(debug_assertions) {
-            return None;
-        }
-        Some((self.0.get_mut(index(granule / 64))?, 1 << (granule % 64)))
-    }
-
-    #[inline]
-    fn add(&mut self, block: Block) {
-        if let Some((word, bit)) = self.bit(block) {
-            *word |= bit;
-        }
-    }
-
-    /// Whether it was out, as far as that is known.
-    #[inline]
-    fn remove(&mut self, block: Block) -> bool {
-        let was = self.has(block);
-        if let Some((word, bit)) = self.bit(block) {
-            *word &= !bit;
-        }
-        was
-    }
-
-    #[inline]
-    fn has(&self, block: Block) -> bool {
-        let granule = block.granule();
-        !cfg!(debug_assertions) || self.0.get(index(granule / 64)).is_some_and(|word| word >> (granule % 64) & 1 == 1)
     }
 }

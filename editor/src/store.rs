@@ -126,7 +126,7 @@ impl<'a, T: Record, B: AsRef<[u32]> + AsMut<[u32]>> Store<'a, T, B> {
         Ok(block)
     }
 
-    /// The record in a block; none where the pool has no block of such a class, in debug builds also if it is not out.
+    /// The record in a block; none if the pool has it not out in the record's class.
     ///
     /// ```
     /// # use vigbuso::{Pool, Store, PAGE_BYTES};
@@ -178,7 +178,7 @@ impl<'a, T: Record, B: AsRef<[u32]> + AsMut<[u32]>> Store<'a, T, B> {
     }
 
     fn has(&self, block: Block) -> bool {
-        Class::for_size(T::BYTES).is_some_and(|class| self.pool.has_out(class, block))
+        Class::for_size(T::BYTES).is_some_and(|class| self.pool.class_of(block) == Some(class))
     }
 }
 

@@ -92,6 +92,25 @@ static void rules(void) {
     IS(fate, VIGBUSO_KEPT);
 }
 
+/* A page and a span: either goes to the arena when its blocks are back, and then nothing is held. */
+static void nothing_parked(void) {
+    const uint32_t row[VIGBUSO_ROW] = VIGBUSO_NOTHING_PARKED;
+    uint64_t list[VIGBUSO_BATCH], figures[VIGBUSO_FIGURES];
+    uint32_t count = 0, virgin = 0, fate = 7;
+    IS(row[1], 75);
+    IS(vigbuso_open(book, words, PAGES, row, VIGBUSO_ROW), 0);
+    IS(vigbuso_take_blocks(book, words, 0, HOST, list, VIGBUSO_BATCH, &count, &virgin), 0);
+    IS(vigbuso_release_blocks(book, words, 0, HOST, list, count, &fate), 0);
+    IS(fate, VIGBUSO_TO_ARENA);
+    fate = 7;
+    IS(vigbuso_medium_take_blocks(book, words, 11, HOST, list, VIGBUSO_BATCH, &count, &virgin), 0);
+    IS(count, 8);
+    IS(vigbuso_medium_release_blocks(book, words, 11, HOST, list, count, &fate), 0);
+    IS(fate, VIGBUSO_TO_ARENA);
+    IS(vigbuso_report(book, words, figures), 0);
+    IS(figures[3], 0);
+}
+
 static void small_blocks(void) {
     uint64_t list[VIGBUSO_BATCH];
     uint32_t count = 7, virgin = 7, fate = 7;
@@ -218,6 +237,12 @@ static void trace(void) {
     IS(figures[5], 7);
     IS(vigbuso_trace(book, words, PAGES, says, 3, blocks, 4, figures, 6, done), 0);
     IS(done[0], 3);
+    /* A place that no word can name stops the trace, and releases no other. */
+    IS(VIGBUSO_TRACE_RELEASE(((uint32_t)1 << 30) - 1), UINT32_C(0x7fffffff));
+    const uint32_t beyond[2] = {VIGBUSO_TRACE_TAKE(45), VIGBUSO_TRACE_RELEASE((uint64_t)1 << 32)};
+    IS(VIGBUSO_TRACE_RELEASE((uint32_t)1 << 30), beyond[1]);
+    IS(vigbuso_trace(book, words, PAGES, beyond, 2, blocks, 4, figures, 6, done), VIGBUSO_STOPPED);
+    IS(done[0], 1);
 }
 
 static void class_table(void) {
@@ -288,6 +313,7 @@ int main(void) {
     plan();
     short_histories();
     rules();
+    nothing_parked();
     free(book);
     printf("%d differences\n", differences);
     return differences != 0;

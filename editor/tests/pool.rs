@@ -1,17 +1,18 @@
-//! Pools: records keep their bytes, and blocks that are not out are caught.
+//! Pools: records keep their bytes, and an arena is full only if its pages are in use. `misuse.rs` has the blocks that are not out.
 
-use std::collections::{HashMap, HashSet};
+use vigbuso::{book_words, AllocError, Block, Class, Heap, Pool, Refusal, Run, PAGE_BYTES};
 
-use vigbuso::{book_words, AllocError, Block, Class, Heap, Pool, Refusal, Store, PAGE_BYTES};
+/// The next number of a sequence, below a limit.
+fn below(random: &mut u64, limit: usize) -> usize {
+    *random = random.wrapping_mul(6_364_136_223_846_793_005).wrapping_add(1_442_695_040_888_963_407);
+    (*random >> 33) as usize % limit
+}
 
 /// Records of all sizes come and go, and each is found as it was written.
 #[test]
 fn records_keep_their_bytes() {
     let mut random: u64 = 7;
-    let mut below = |limit: usize| {
-        random = random.wrapping_mul(6_364_136_223_846_793_005).wrapping_add(1_442_695_040_888_963_407);
-        (random >> 33) as usize % limit
-    };
+    let mut below = |limit: usize| below(&mut random, limit);
     let mut arena = vec![0; 2_048 * PAGE_BYTES];
     let mut pool = Pool::open(2_048).expect("2,048 pages");
     let mut records: Vec<(Block, usize, u8)> = Vec::new();
@@ -29,7 +30,7 @@ fn records_keep_their_bytes() {
             pool.free(block).expect("it is out");
         }
         if turn % 5_000 == 0 {
-            pool.flush().expect("nothing was freed twice");
+            pool.flush().expect("all that was freed was out");
         }
     }
     let report = pool.report().expect("an opened book");
@@ -37,7 +38,7 @@ fn records_keep_their_bytes() {
     for (block, ..) in records {
         pool.free(block).expect("it is out");
     }
-    pool.flush().expect("nothing was freed twice");
+    pool.flush().expect("all that was freed was out");
     let report = pool.report().expect("an opened book");
     assert_eq!((report.used, report.used_bytes, report.stocked), (0, 0, 0));
 }
@@ -54,72 +55,118 @@ fn too_large_and_full() {
     assert_eq!(pool.alloc(16_384), Ok(blocks[3]));
 }
 
-/// A block on a page where the pool has none, or of another kind than those there, is caught in every build.
+/// Neither a stock nor a class that once had the page keeps it from others.
 #[test]
-fn foreign_blocks_are_refused() {
-    let mut pool = Pool::open(64).expect("64 pages");
-    let block = pool.alloc(100).expect("there is room");
-    let other_kind = Block::medium(block.granule()).expect("62 bits");
-    let granules = [4_096 + 3, (1 << 32) + block.granule(), (1 << 62) - 1];
-    for foreign in granules.into_iter().filter_map(Block::small).chain([other_kind]) {
-        let error = pool.free(foreign).expect_err("it is not the pool's");
-        assert_eq!((error.refusal(), error.block()), (Refusal::NotOut, Some((0, foreign))));
-    }
-    pool.free(block).expect("it is out");
-}
-
-#[test]
-#[cfg(debug_assertions)]
-fn stale_blocks_are_refused_at_once() {
-    let mut pool = Pool::open(64).expect("64 pages");
-    let [one, two] = [100, 100].map(|bytes| pool.alloc(bytes).expect("there is room"));
-    let between = Block::small(one.granule() + 1).expect("62 bits");
-    assert!(pool.free(between).is_err(), "no block starts there");
-    pool.free(one).expect("it is out");
-    assert_eq!(pool.free(one).map_err(|error| error.block()), Err(Some((0, one))));
-    pool.flush().expect("the refused one is in no stock");
-    assert!(pool.free(one).is_err());
-    pool.free(two).expect("it is out");
-    assert_eq!(pool.report().expect("an opened book").used, 0);
-}
-
-/// In other builds the heap finds it, among the blocks that go back together.
-#[test]
-#[cfg(not(debug_assertions))]
-fn blocks_freed_twice_are_refused_by_a_flush() {
-    let mut pool = Pool::open(64).expect("64 pages");
-    let [one, two] = [100, 100].map(|bytes| pool.alloc(bytes).expect("there is room"));
-    for block in [one, two, one] {
-        pool.free(block).expect("it goes to the stock");
-    }
-    let error = pool.flush().expect_err("one was freed twice");
-    assert_eq!((error.refusal(), error.block().map(|(_, block)| block)), (Refusal::Repeated, Some(one)));
-    pool.flush().expect("nothing is left");
-}
-
-/// What the pool cannot see at once the heap refuses: here blocks that went back behind the pool's back.
-#[test]
-fn stale_blocks_are_dropped_by_a_flush() {
-    for (pages, bytes) in [(64, 1_000), (512, 20_000)] {
-        let mut pool = Pool::open(pages).expect("a length");
-        let blocks: Vec<Block> = (0..300).map(|_| pool.alloc(bytes).expect("there is room")).collect();
-        let class = pool.class_of(blocks[0]).expect("the pool's");
-        pool.flush().expect("nothing was freed twice");
-        for stale in [7, 120] {
-            pool.heap_mut().release(class, &blocks[stale..=stale]).expect("it is out");
+fn pages_without_a_block_in_use_serve_every_class() {
+    for flush in [false, true] {
+        let mut pool = Pool::open(1).expect("a page");
+        for bytes in [16, 32, 16_384, 100] {
+            let block = pool.alloc(bytes).expect("nothing is in use");
+            pool.free(block).expect("it is out");
+            if flush {
+                pool.flush().expect("all that was freed was out");
+            }
         }
-        let refusals: Vec<Refusal> =
-            blocks.iter().filter_map(|&block| pool.free(block).err()).map(Into::into).collect();
-        let flushed = pool.flush().err().map(Into::into);
-        let found: Vec<Refusal> = refusals.into_iter().chain(flushed).collect();
-        assert_eq!(found, [Refusal::NotOut; 2], "each is found, now or then");
-        // All others are back: so many blocks can be had again without another page.
-        let report = pool.report().expect("an opened book");
-        assert_eq!(report.stocked, 0);
-        let again: HashSet<Block> = (0..300).map(|_| pool.alloc(bytes).expect("there is room")).collect();
-        assert_eq!(again.len(), 300);
-        assert_eq!(pool.report().expect("an opened book").arena.held, report.arena.held);
+        let mut pool = Pool::open(8).expect("eight pages");
+        let blocks = [16, 32, 48, 64, 80, 96, 112, 128].map(|bytes| pool.alloc(bytes).expect("a page for each"));
+        assert_eq!(pool.alloc(Class::MAX_BYTES), Err(AllocError::Full));
+        assert_eq!(pool.report().expect("an opened book").stocked, 0, "it was flushed");
+        for block in blocks {
+            pool.free(block).expect("it is out");
+        }
+        let span = pool.alloc(Class::MAX_BYTES).expect("nothing is in use");
+        assert_eq!(pool.commit(1), Ok(None));
+        pool.free(span).expect("it is out");
+        assert_eq!(pool.commit(8).map(|answer| answer.map(|answer| answer.run.pages)), Ok(Some(8)));
     }
+}
+
+/// A span has up to 8 pages, and they come all from a hole or all from the fresh pages.
+#[test]
+fn a_pool_with_nothing_in_use_has_a_span_from_15_pages_on() {
+    let span_after = |used: usize, pages: u64| {
+        let mut pool = Pool::open(pages).expect("a length");
+        let blocks: Vec<Block> = (0..3 * used).map(|_| pool.alloc(16_384).expect("three to a page")).collect();
+        for block in blocks {
+            pool.free(block).expect("it is out");
+        }
+        pool.alloc(Class::MAX_BYTES).is_ok()
+    };
+    assert!((15..24).all(|pages| (0..=pages as usize).all(|used| span_after(used, pages))));
+    assert!(!span_after(7, 14), "a hole of 7 pages, 7 fresh ones");
+}
+
+/// A record of a server, with its number in its first and in its last bytes.
+struct Kept {
+    block: Block,
+    bytes: usize,
+    number: u64,
+}
+
+impl Kept {
+    fn write(&self, arena: &mut [u8]) {
+        let bytes = &mut arena[self.block.range(self.bytes)];
+        bytes[..8].copy_from_slice(&self.number.to_le_bytes());
+        bytes[self.bytes - 8..].copy_from_slice(&self.number.to_le_bytes());
+    }
+
+    fn free(self, arena: &[u8], pool: &mut Pool) {
+        let (bytes, number) = (&arena[self.block.range(self.bytes)], self.number.to_le_bytes());
+        assert!(bytes.starts_with(&number) && bytes.ends_with(&number), "{:?} was overwritten", self.block);
+        pool.free(self.block).expect("it is out");
+    }
+}
+
+/// A server with records of all sizes throws everything away when it is refused. Then it must not be refused again.
+#[test]
+fn a_server_can_always_go_on() {
+    let steps = if cfg!(debug_assertions) { 200_000 } else { 2_000_000 };
+    for pages in [16, 64, 256] {
+        let mut random: u64 = 3;
+        let mut below = |limit: usize| below(&mut random, limit);
+        let (mut pool, mut arena) = (Pool::open(pages as u64).expect("a length"), vec![0; pages * PAGE_BYTES]);
+        let (mut records, mut emptied): (Vec<Kept>, usize) = (Vec::new(), 0);
+        for number in 0..steps {
+            if !records.is_empty() && below(16) < 7 {
+                records.swap_remove(below(records.len())).free(&arena, &mut pool);
+                continue;
+            }
+            let most = [64, 64, 256, 256, 1_024, 4_096, 16_384, 65_472][below(8)];
+            let bytes = 16 + below(most - 15);
+            let block = pool.alloc(bytes).or_else(|error| {
+                assert_eq!(error, AllocError::Full);
+                emptied += 1;
+                records.drain(..).for_each(|record| record.free(&arena, &mut pool));
+                pool.alloc(bytes)
+            });
+            let record = Kept { block: block.expect("nothing is in use"), bytes, number };
+            record.write(&mut arena);
+            records.push(record);
+        }
+        assert!(emptied >= 10, "{emptied} times on {pages} pages");
+        assert_eq!(pool.report().expect("an opened book").used, records.len());
+        for record in records {
+            record.free(&arena, &mut pool);
+        }
+        pool.flush().expect("all that was freed was out");
+        assert_eq!(pool.report().expect("an opened book").arena.held, 0);
+    }
+}
+
+/// The direct calls beside the blocks: neither can give back what the other has.
+#[test]
+fn runs_beside_blocks() {
+    let mut pool = Pool::open(8).expect("eight pages");
+    let block = pool.alloc(100).expect("there is room");
+    let run = pool.commit(2).expect("a length").expect("there is room").run;
+    assert_eq!(run, Run { first: 1, pages: 2 });
+    let run = pool.grow_frontier(run, 7).expect("it is held").expect("it ends at the frontier");
+    assert_eq!((pool.grow_frontier(run, 8), pool.commit(1)), (Ok(None), Ok(None)));
+    assert_eq!(pool.release_run(Run { first: 0, pages: 8 }), Err(Refusal::NotHeld));
+    assert!(Block::small(4_096 + 3).is_some_and(|inside| pool.free(inside).is_err()));
+    pool.release_run(run).expect("it is held");
+    assert_eq!(pool.release_run(run), Err(Refusal::NotHeld));
+    pool.free(block).expect("it is out");
 }
 
 #[test]
@@ -128,29 +175,8 @@ fn a_pool_on_a_lent_book() {
     let mut pool = Pool::new(Heap::on(&mut book[..], 8).expect("eight pages"));
     let block = pool.alloc(100).expect("there is room");
     let class = pool.class_of(block).expect("the pool's");
-    pool.into_heap().expect("nothing was freed twice");
+    pool.into_heap().expect("all that was freed was out");
     let mut heap = Heap::resume(&mut book[..]).expect("as the pool left it");
     heap.release(class, &[block]).expect("it is out still");
     assert!(heap.release(class, &[block]).is_err());
-}
-
-#[test]
-fn a_store_of_records() {
-    let mut arena = vec![0; 64 * PAGE_BYTES];
-    let mut pool = Pool::open(64).expect("64 pages");
-    let mut places = HashMap::new();
-    let mut words = Store::<[u8; 20]>::on(&mut pool, &mut arena);
-    for number in 0..200_u8 {
-        places.insert(number, words.put(&[number; 20]).expect("there is room"));
-    }
-    for (&number, &block) in &places {
-        assert_eq!(words.get(block), Some([number; 20]));
-        assert_eq!(words.replace(block, &[0; 20]), Some([number; 20]));
-    }
-    let mut numbers = Store::<u64>::on(&mut pool, &mut arena);
-    assert_eq!(numbers.get(places[&0]), None, "a page of another class");
-    assert!(numbers.remove(places[&0]).is_err());
-    let mut words = Store::<[u8; 20]>::on(&mut pool, &mut arena);
-    assert!(places.values().all(|&block| words.remove(block) == Ok([0; 20])));
-    assert_eq!(pool.report().expect("an opened book").used, 0);
 }

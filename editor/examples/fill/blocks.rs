@@ -71,16 +71,16 @@ impl Blocks {
 
     /// A run of pages; none if the arena has no such run left.
     pub fn commit(&mut self, pages: usize) -> Outcome<Option<Run>> {
-        Ok(self.pool.heap_mut().commit(pages as u64)?.map(|answer| answer.run))
+        Ok(self.pool.commit(pages as u64)?.map(|answer| answer.run))
     }
 
     /// The run with one page more, if it can grow where it is.
     pub fn grow(&mut self, run: Run) -> Outcome<Option<Run>> {
-        Ok(self.pool.heap_mut().grow_frontier(run, run.pages + 1)?)
+        Ok(self.pool.grow_frontier(run, run.pages + 1)?)
     }
 
     pub fn release_run(&mut self, run: Run) -> Outcome<()> {
-        Ok(self.pool.heap_mut().release_run(run)?)
+        Ok(self.pool.release_run(run)?)
     }
 
     /// Blocks that no record stands in and that are out nevertheless.

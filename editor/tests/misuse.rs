@@ -1,0 +1,242 @@
+//! Blocks that a pool has not out are refused at once and named, in debug and in release builds.
+
+use std::collections::HashMap;
+
+use vigbuso::{AllocError, Block, Class, Heap, Pool, Refusal, Rules};
+
+/// Frees a block that is not out: it is named, and nothing changes.
+#[track_caller]
+fn refused(pool: &mut Pool, block: Block) {
+    let before = pool.report();
+    assert_eq!(pool.class_of(block), None);
+    let error = pool.free(block).expect_err("it is not out");
+    assert_eq!((error.refusal(), error.block()), (Refusal::NotOut, Some((0, block))));
+    assert_eq!(pool.report(), before);
+}
+
+#[track_caller]
+fn alloc(pool: &mut Pool, bytes: usize) -> Block {
+    pool.alloc(bytes).expect("there is room")
+}
+
+/// As many blocks as there is room for.
+fn alloc_all(pool: &mut Pool, bytes: usize) -> Vec<Block> {
+    std::iter::from_fn(|| pool.alloc(bytes).ok()).collect()
+}
+
+fn free_all(pool: &mut Pool, blocks: &[Block]) {
+    for &block in blocks {
+        pool.free(block).expect("it is out");
+    }
+}
+
+/// Were the second `free` done, the next two records would stand in one block.
+#[test]
+fn a_block_freed_twice() {
+    let mut pool = Pool::open(64).expect("64 pages");
+    let block = alloc(&mut pool, 100);
+    pool.free(block).expect("it is out");
+    refused(&mut pool, block);
+    assert_ne!(alloc(&mut pool, 100), alloc(&mut pool, 100));
+    pool.free(block).expect("it is out again");
+    pool.flush().expect("all that was freed was out");
+    refused(&mut pool, block);
+}
+
+/// Were the stale block taken back, the page's last granule would be handed out for a record of 16,384 bytes.
+#[test]
+fn stale_blocks_of_a_page_that_another_class_has() {
+    let mut pool = Pool::open_with(1, &Rules::every(0, 0)).expect("a page");
+    let stale = alloc_all(&mut pool, 16);
+    assert_eq!(stale.len(), 4_093);
+    free_all(&mut pool, &stale);
+    pool.flush().expect("all that was freed was out");
+    let large = alloc(&mut pool, 16_384);
+    let last = Block::small(4_095).expect("62 bits");
+    assert!(stale.contains(&last) && stale.contains(&large));
+    refused(&mut pool, last);
+    for &block in stale.iter().filter(|&&block| block != large) {
+        refused(&mut pool, block);
+    }
+    let granules = alloc_all(&mut pool, 16_384).into_iter().map(Block::granule);
+    let mut granules: Vec<u64> = granules.chain([large.granule()]).collect();
+    granules.sort_unstable();
+    assert_eq!(granules, [3, 1_027, 2_051], "the page has three, and no other");
+}
+
+/// Also where no block of the span begins on a page of it, and where one begins at the very granule.
+#[test]
+fn stale_blocks_of_pages_that_a_span_has() {
+    for small in [16, 1_000, 16_384] {
+        for medium in [20_000, 65_472] {
+            let pages = Class::for_size(medium).expect("a class").pages();
+            let mut pool = Pool::open(pages as u64).expect("a span");
+            let stale = alloc_all(&mut pool, small);
+            free_all(&mut pool, &stale);
+            let spans = alloc_all(&mut pool, medium);
+            assert!(spans.len() >= 8, "the stock of the small class was flushed");
+            for &block in &stale {
+                refused(&mut pool, block);
+            }
+            let began = |block: &Block| stale.contains(&Block::small(block.granule()).expect("62 bits"));
+            assert!(small != 16 || spans.iter().any(began));
+            free_all(&mut pool, &spans);
+            assert_eq!(alloc_all(&mut pool, small).len(), stale.len());
+            for &block in &spans {
+                refused(&mut pool, block);
+            }
+        }
+    }
+}
+
+#[test]
+fn blocks_inside_and_beside_others() {
+    for bytes in [1_000, 20_000] {
+        let mut pool = Pool::open(64).expect("64 pages");
+        let [one, two] = [bytes; 2].map(|bytes| alloc(&mut pool, bytes));
+        let kinds = [Block::small, Block::medium];
+        for granule in 0..3 * 4_096 {
+            for block in kinds.into_iter().filter_map(|kind| kind(granule)).filter(|block| ![one, two].contains(block))
+            {
+                refused(&mut pool, block);
+            }
+        }
+        free_all(&mut pool, &[one, two]);
+    }
+}
+
+/// The heap has them out, but nobody has had them of the pool.
+#[test]
+fn blocks_in_stock() {
+    let mut pool = Pool::open(64).expect("64 pages");
+    alloc(&mut pool, 100);
+    let stock: Vec<Block> = pool.stock().collect();
+    assert_eq!(stock.len(), 63);
+    for block in stock {
+        refused(&mut pool, block);
+    }
+}
+
+#[test]
+fn foreign_blocks() {
+    let mut heap = Heap::open(64).expect("64 pages");
+    let class = Class::for_size(100).expect("a class");
+    let before = heap.take(class).expect("an opened book");
+    let mut pool = Pool::new(heap);
+    let block = alloc(&mut pool, 100);
+    for &foreign in &before {
+        refused(&mut pool, foreign);
+    }
+    let granules = [4_096 + 3, 64 * 4_096, (1 << 32) + block.granule(), (1 << 62) - 1];
+    for foreign in granules.into_iter().flat_map(|granule| [Block::small(granule), Block::medium(granule)]).flatten() {
+        refused(&mut pool, foreign);
+    }
+    pool.free(block).expect("it is out");
+    let mut heap = pool.into_heap().expect("all that was freed was out");
+    heap.release(class, &before).expect("they were out all the time");
+}
+
+/// Right and wrong frees mixed, against a list of what is in use.
+#[test]
+fn just_the_blocks_in_use_can_be_freed() {
+    let mut random: u64 = 11;
+    let mut below = |limit: usize| {
+        random = random.wrapping_mul(6_364_136_223_846_793_005).wrapping_add(1_442_695_040_888_963_407);
+        (random >> 33) as usize % limit
+    };
+    let mut pool = Pool::open(24).expect("24 pages");
+    let (mut used, mut classes): (Vec<Block>, HashMap<Block, Class>) = Default::default();
+    let (mut seen, mut wrong, mut full) = (Vec::new(), 0, 0);
+    for _ in 0..100_000 {
+        match below(8) {
+            0..=2 => {
+                let bytes = [16, 16, 32, 100, 1_000, 16_384, 20_000, 65_472][below(8)];
+                if let Ok(block) = pool.alloc(bytes) {
+                    let class = Class::for_size(bytes).expect("a class");
+                    assert_eq!(classes.insert(block, class), None, "{block:?} was in use");
+                    used.push(block);
+                    seen.push(block);
+                    continue;
+                }
+                full += 1;
+                free_all(&mut pool, &used);
+                used.clear();
+                classes.clear();
+            }
+            3..=4 if !used.is_empty() => {
+                let block = used.swap_remove(below(used.len()));
+                pool.free(block).expect("it is in use");
+                classes.remove(&block);
+            }
+            way if !seen.is_empty() => {
+                let stale = seen[below(seen.len())];
+                let granule = stale.granule() + [0, 0, 1, 64, 4_096][below(5)];
+                let kind = if way == 7 { [Block::small, Block::medium][below(2)] } else { Block::small };
+                let block = if way == 5 { stale } else { kind(granule).expect("62 bits") };
+                assert_eq!(pool.class_of(block), classes.get(&block).copied(), "{block:?}");
+                if !classes.contains_key(&block) {
+                    refused(&mut pool, block);
+                    wrong += 1;
+                }
+            }
+            _ => {}
+        }
+    }
+    assert!(wrong > 20_000 && full > 20, "{wrong} wrong frees, {full} times full");
+    assert_eq!(pool.report().expect("an opened book").used, used.len());
+}
+
+/// A book that is as it was at its opening whenever the heap writes it.
+struct Forgetful {
+    book: Vec<u32>,
+    opened: Vec<u32>,
+}
+
+impl AsRef<[u32]> for Forgetful {
+    fn as_ref(&self) -> &[u32] {
+        &self.book
+    }
+}
+
+impl AsMut<[u32]> for Forgetful {
+    fn as_mut(&mut self) -> &mut [u32] {
+        self.book.copy_from_slice(&self.opened);
+        &mut self.book
+    }
+}
+
+fn forgetful_pool() -> Pool<Forgetful> {
+    let opened = Heap::open(4).expect("four pages").into_book();
+    let book = Forgetful { book: opened.clone(), opened };
+    Pool::new(Heap::resume(book).expect("as it was opened"))
+}
+
+const DAMAGED: Result<Block, AllocError> = Err(AllocError::Refused(Refusal::BookWord));
+
+/// Whatever is done to the book, no block that is in use is handed out again, and no page with one to another class.
+#[test]
+fn a_book_that_forgets() {
+    let mut pool = forgetful_pool();
+    let mut blocks: Vec<Block> = (0..64).map(|_| pool.alloc(100).expect("there is room")).collect();
+    assert_eq!([100, 200].map(|bytes| pool.alloc(bytes)), [DAMAGED; 2]);
+    blocks.sort_unstable();
+    blocks.dedup();
+    assert_eq!(blocks.len(), 64);
+    let held = blocks[0];
+    pool.free(held).expect("it is out");
+    assert_eq!(pool.alloc(100), Ok(held));
+}
+
+/// What is in stock for a class is not handed out on a page that another class has got.
+#[test]
+fn a_book_that_forgets_a_stock() {
+    let mut pool = forgetful_pool();
+    let block = pool.alloc(100).expect("there is room");
+    pool.free(block).expect("it is out");
+    let other = pool.alloc(200).expect("its page has no block in use");
+    assert_eq!(other.page(), block.page());
+    assert_eq!(pool.alloc(100), DAMAGED);
+    assert_eq!(pool.class_of(other), Class::for_size(200));
+    pool.free(other).expect("it is out");
+    assert_eq!(pool.report().expect("an opened book").used, 0);
+}
