@@ -8,7 +8,7 @@
  * VIGBUSO_BOOK_WORDS(pages). The heap keeps all that it knows there and nothing elsewhere. It never reads or writes the
  * arena's bytes, so they may stand anywhere.
  *
- * vigbuso_size_class and vigbuso_contains return their answer. Every other function of the archive returns 0 if it was carried out, otherwise
+ * vigbuso_size_class, vigbuso_contains and vigbuso_class_of return their answer. Every other function of the archive returns 0 if it was carried out, otherwise
  * the number of its refusal (enum vigbuso_refusal); the first that applies is returned. A refused call leaves the book, every
  * list and every out-parameter as they were; only a trace that stopped (16) leaves what its earlier words did.
  *
@@ -44,6 +44,9 @@ extern "C" {
 /* Small classes are 0 to 63, medium ones 0 to 11. */
 #define VIGBUSO_SMALL_CLASSES 64u
 #define VIGBUSO_MEDIUM_CLASSES 12u
+
+/* The pool's calls number all classes: 0 to 63 small, then 64 to 75 medium. */
+#define VIGBUSO_CLASSES 76u
 
 /* The most blocks of one take: the length of a list that is long enough for every class. */
 #define VIGBUSO_BATCH 64u
@@ -320,6 +323,41 @@ uint32_t vigbuso_medium_release_blocks(uint32_t *book, size_t book_len, uint32_t
 uint32_t vigbuso_release_bin_chunks(uint32_t *book, size_t book_len, uint32_t size_class, uint32_t host,
                                     const uint64_t *list, size_t list_len, const uint64_t *chunks, size_t chunks_len,
                                     uint32_t *fates, size_t fates_len);
+
+/*
+ * The pool: one block out, one block back. It keeps a stock of blocks for each class in the book itself, and makes at most one take
+ * or release for a call. Classes are 0 to 75 by one number: 0 to 63 small, 64 to 75 medium. Of a class that a pool is used for, no
+ * block is taken or released by the other calls; those of other classes and the direct calls go on beside it.
+ *
+ * A block that nobody was given before.
+ *   book   book_len words, written
+ *   block  its word; VIGBUSO_NONE for none, where the stock is empty and the arena has no run for the class
+ * Returns 0, or 1, 2, 3, 4, 13.
+ */
+uint32_t vigbuso_alloc(uint32_t *book, size_t book_len, uint32_t size_class, uint32_t host, uint64_t *block);
+
+/*
+ * Takes a block back that vigbuso_alloc gave in that class and that was not given back since. Any other is refused: 9 for the
+ * other kind, 10 for one that is not out or is in stock.
+ *   book   book_len words, written
+ * Returns 0, or 1, 2, 3, 4, 9, 10, 13.
+ */
+uint32_t vigbuso_free(uint32_t *book, size_t book_len, uint32_t size_class, uint32_t host, uint64_t block);
+
+/*
+ * Gives one block of a class's stock back to the heap. A stock is emptied by calls until block is VIGBUSO_NONE.
+ *   book   book_len words, written
+ *   block  the block that went back; VIGBUSO_NONE where the stock is empty
+ * Returns 0, or 1, 2, 3, 4, 13.
+ */
+uint32_t vigbuso_trim(uint32_t *book, size_t book_len, uint32_t size_class, uint32_t host, uint64_t *block);
+
+/*
+ * The class that has the page of a block's word: for vigbuso_free where the class is not at hand. It does not say that the block is out.
+ *   book   book_len words, read
+ * Returns 0 to 75; VIGBUSO_CLASSES where no class has the page, and on a book that another call refuses as 1 or 2.
+ */
+uint32_t vigbuso_class_of(const uint32_t *book, size_t book_len, uint64_t block);
 
 /*
  * Opens the heap as vigbuso_open does and carries a trace out on it, with everything granted (VIGBUSO_HOST_ALL). A word of the

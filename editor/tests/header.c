@@ -189,6 +189,32 @@ static void chunks(void) {
     IS(fates[1], 7);
 }
 
+/* One block out and back: a wrong free is refused, and the stock's blocks go back one by one. */
+static void pool(void) {
+    uint64_t block = 7, other = 7;
+    IS(vigbuso_alloc(book, words, VIGBUSO_CLASSES, HOST, &block), VIGBUSO_CLASS);
+    IS(block, 7);
+    IS(vigbuso_alloc(book, words, 10, HOST, &block), 0);
+    IS(VIGBUSO_KIND(block), VIGBUSO_SMALL);
+    IS(vigbuso_alloc(book, words, 75, HOST, &other), 0);
+    IS(VIGBUSO_KIND(other), VIGBUSO_MEDIUM);
+    IS(vigbuso_class_of(book, words, block), 10);
+    IS(vigbuso_class_of(book, words, other), 75);
+    IS(vigbuso_class_of(book, words, UINT64_MAX), VIGBUSO_CLASSES);
+    IS(vigbuso_free(book, words, 75, HOST, block), VIGBUSO_WRONG_KIND);
+    IS(vigbuso_free(book, words, 11, HOST, block), VIGBUSO_NOT_OUT);
+    IS(vigbuso_free(book, words, 10, HOST, block + 1), VIGBUSO_NOT_OUT);
+    IS(vigbuso_free(book, words, 10, HOST, block), 0);
+    IS(vigbuso_free(book, words, 10, HOST, block), VIGBUSO_NOT_OUT);
+    IS(vigbuso_free(book, words, 75, HOST, other), 0);
+    for (uint32_t left = VIGBUSO_BATCH; left > 0; left--) {
+        IS(vigbuso_trim(book, words, 10, HOST, &block), 0);
+        IS(VIGBUSO_KIND(block), VIGBUSO_SMALL);
+    }
+    IS(vigbuso_trim(book, words, 10, HOST, &block), 0);
+    IS(block, VIGBUSO_NONE);
+}
+
 /* A take, a release and a report; then a place that is not out. On a book of its own: a trace opens it. */
 static void trace(void) {
     const uint32_t says[4] = {VIGBUSO_TRACE_TAKE(45), VIGBUSO_TRACE_RELEASE(1), VIGBUSO_TRACE_REPORT, VIGBUSO_TRACE_RELEASE(1)};
@@ -280,6 +306,7 @@ int main(void) {
     runs();
     report();
     chunks();
+    pool();
     trace();
     class_table();
     game();

@@ -21,7 +21,7 @@ use Rattle.fields.specs.Field.{Field, arena, mark, class, hole, page, ou
 use Rattle.fields.proofs.Parts.{Split, below, above, holdable, read-place, read-small, place-read, place-place, read-place-other, place-comm}
 
 -- ---- the offsets
-arenaOff-lt : (k : ArenaField) → arenaOff k < 12
+pub arenaOff-lt : (k : ArenaField) → arenaOff k < 12
 arenaOff-lt ArenaField.size = omega arith
 arenaOff-lt ArenaField.state = omega arith
 arenaOff-lt ArenaField.frontier = omega arith
@@ -35,7 +35,8 @@ arenaOff-lt ArenaField.abandoned = omega arith
 arenaOff-lt ArenaField.abandonedHigh = omega arith
 arenaOff-lt ArenaField.held = omega arith
 
-classOff-lt : (k : ClassField) → classOff k < 8
+-- the last word of a row has no field
+pub classOff-lt : (k : ClassField) → classOff k < 7
 classOff-lt ClassField.partial = omega arith
 classOff-lt ClassField.empty = omega arith
 classOff-lt ClassField.emptyCount = omega arith
@@ -44,7 +45,7 @@ classOff-lt ClassField.coldCount = omega arith
 classOff-lt ClassField.emptyLimit = omega arith
 classOff-lt ClassField.coldLimit = omega arith
 
-holeOff-lt : (k : HoleField) → holeOff k < 2
+pub holeOff-lt : (k : HoleField) → holeOff k < 2
 holeOff-lt HoleField.start = omega arith
 holeOff-lt HoleField.pages = omega arith
 

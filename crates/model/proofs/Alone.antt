@@ -27,7 +27,7 @@ use Rattle.model.proofs.Update.{update-same, update-other}
 use Rattle.model.proofs.NewRun.{Tells, run-tells}
 
 -- a request of a class is done, or asks for one of its runs and tells in its answer which it was given
-data Shows (sh : Shape) : Ask → Type 0 where
+pub data Shows (sh : Shape) : Ask → Type 0 where
   is-done : {r : Result} → Shows sh (done r)
   is-asked : {k : Option ℕ → Result} → Tells k → Shows sh (asks (sh .pages) k)
 
@@ -48,14 +48,14 @@ module _ (sh : Shape) (ok : Sound sh) (lim : Limits) where
   page-shows h s ws none = is-done
   page-shows h s ws (some x) = search (shows-cond, is-done)
 
-  answer-shows : (s : Class) (r : Request) → Shows sh (answer sh lim s r)
+  pub answer-shows : (s : Class) (r : Request) → Shows sh (answer sh lim s r)
   unfolding answer releaseList releaseChunks
   answer-shows s (Calls.take h l) = search (shows-cond, is-done, take-shows)
   answer-shows s (Calls.giveBack h ws) = search (shows-cond, is-done, page-shows)
   answer-shows s (Calls.giveChunks h ws gs fs) = search (shows-cond, is-done) depth 9
 
 -- a call that does not ask is given none
-abbrev Fits : Ask → Option ℕ → Type 0
+abbrev pub Fits : Ask → Option ℕ → Type 0
 Fits (done r) g = g ≡ none
 Fits (asks n k) g = Unit {0}
 
@@ -122,12 +122,12 @@ direct-keeps size H (Calls.contains o b) = search
 direct-keeps size H Calls.report = search
 
 -- a call of class c: what it was given, and what it made of it
-record Own (c : ℕ) (o : Outcome) (q : Ask) : Type 0 where
-  gift : Option ℕ
-  run : o .run ≡ runWith (shapeOf c .pages) gift
-  class : o .heap .classes c ≡ serve q gift .class
-  answer : o .answer ≡ serve q gift .answer
-  fits : Fits q gift
+pub record Own (c : ℕ) (o : Outcome) (q : Ask) : Type 0 where
+  pub gift : Option ℕ
+  pub run : o .run ≡ runWith (shapeOf c .pages) gift
+  pub class : o .heap .classes c ≡ serve q gift .class
+  pub answer : o .answer ≡ serve q gift .answer
+  pub fits : Fits q gift
 
 asked-pages : {sh : Shape} {q : Ask} (g : Option ℕ) → Shows sh q → Fits q g → runWith (asked q) g ≡ runWith (sh .pages) g
 asked-pages g is-done f = rw f
@@ -139,13 +139,13 @@ offer-fits size h H (done r) = refl
 offer-fits size h H (asks n k) = tt
 
 module _ (size : ℕ) (H : Heap) where
-  other : (c : ℕ) (x : Call) {w : Way} → Goes x w → isOf c (names x) ≡ false → route size H x w .heap .classes c ≡ H .classes c
+  pub other : (c : ℕ) (x : Call) {w : Way} → Goes x w → isOf c (names x) ≡ false → route size H x w .heap .classes c ≡ H .classes c
   unfolding classCall interact finish
   other c x (is-turned t) e = refl
   other c x (is-straight t n) e = ap (λ f. f c) (direct-keeps size H x .kept)
   other c x (is-class d t n) e = update-other (H .classes) (d .class) c _ (rw n at e)
 
-  own-call : (c : ℕ) (r : Request) → Own c (classCall size H c r) (answer (shapeOf c) (H .rules c) (H .classes c) r)
+  pub own-call : (c : ℕ) (r : Request) → Own c (classCall size H c r) (answer (shapeOf c) (H .rules c) (H .classes c) r)
   unfolding classCall interact finish
   own-call c r =
       let q = answer (shapeOf c) (H .rules c) (H .classes c) r in
@@ -214,7 +214,7 @@ run-first n none (some q) e = cc
 run-first n (some q) none e = cc
 run-first n (some q) (some q′) e = ap some (ap (λ o. elim o [ none ↦ q | some h ↦ h .first ]) e)
 
-runs-first : (n : ℕ) (gs gs′ : List (Option ℕ)) → map (runWith n) gs ≡ map (runWith n) gs′ → gs ≡ gs′
+pub runs-first : (n : ℕ) (gs gs′ : List (Option ℕ)) → map (runWith n) gs ≡ map (runWith n) gs′ → gs ≡ gs′
 runs-first n [] [] e = refl
 runs-first n [] (g ∷ gs) e = cc
 runs-first n (g ∷ gs) [] e = cc

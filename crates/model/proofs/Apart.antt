@@ -11,7 +11,7 @@ use borrow.Author.Tests.{leb-true, leb-false, ltb-true, ltb-false, eqb-true, eq-
 use Rattle.facts.specs.Lists.{All, total, count}
 use Rattle.facts.proofs.Bools.{by-cases}
 use Rattle.words.specs.Limits.{maxPages}
-use Rattle.words.specs.Word.{granuleOf}
+use Rattle.words.specs.Word.{granuleOf, kindOf}
 use Rattle.classes.specs.declared.Shape.{Shape}
 use Rattle.classes.specs.Shape.{shapeOf}
 use Rattle.classes.specs.Sizes.{granuleBytes, pageBytes}
@@ -67,6 +67,10 @@ module _ (sh : Shape) (ok : Sound sh) where
     unfolding wordOf
     granule = omega (arith, s .names, ends, ok .wide)
 
+    kind : kindOf w ≡ sh .kind
+    unfolding wordOf
+    kind = omega (arith, s .names, ends, ok .wide)
+
     on-page : (b : ℕ) → Bytes w b → on sh (b / pageBytes) p ≡ 1
     on-page b h = covers-in (sh .pages) (p .first) (b / pageBytes) (omega (arith, granule, h .from)) (omega (arith, granule, ends, h .to))
 
@@ -121,6 +125,11 @@ module _ (sh : Shape) (ok : Sound sh) where
     inside (p ∷ ps) w k (inl s) = omega (arith, low-page p ps k, granule p w (low p ps k) s, ends p w (low p ps k) s)
     inside (p ∷ ps) w k (inr s) = inside ps w (low-rest p ps k) s
 
+    kinds : (ps : List Page) (w : ℕ) → Low ps → InPages ps w → kindOf w ≡ sh .kind
+    kinds [] w k s = absurd s
+    kinds (p ∷ ps) w k (inl s) = kind p w (low p ps k) s
+    kinds (p ∷ ps) w k (inr s) = kinds ps w (low-rest p ps k) s
+
     same-word : (ps : List Page) (w v b : ℕ) → Low ps → total (on sh (b / pageBytes)) ps ≤ 1 → InPages ps w → InPages ps v → Bytes w b → Bytes v b → w ≡ v
     same-word [] w v b k one s t hw hv = absurd s
     same-word (p ∷ ps) w v b k one (inl s) (inl t) hw hv = one-word p w v b (low p ps k) s t hw hv
@@ -150,14 +159,14 @@ module _ (sh : Shape) (ok : Sound sh) where
 
 -- one element of a measure's total of at most one
 module _ (f : Entry → ℕ) where
-  in-one : (a b : Entry) (l : List Entry) → In a l → In b l → total f l ≤ 1 → 1 ≤ f a → 1 ≤ f b → a ≡ b
+  pub in-one : (a b : Entry) (l : List Entry) → In a l → In b l → total f l ≤ 1 → 1 ≤ f a → 1 ≤ f b → a ≡ b
   in-one a b [] m k one p q = absurd m
   in-one a b (x ∷ l) (inl m) (inl k) one p q = m ∙ sym k
   in-one a b (x ∷ l) (inl m) (inr k) one p q = absurd (omega (arith, ap f m, in-total f b l k))
   in-one a b (x ∷ l) (inr m) (inl k) one p q = absurd (omega (arith, ap f k, in-total f a l m))
   in-one a b (x ∷ l) (inr m) (inr k) one p q = in-one a b l m k (omega arith) p q
 
-at-self : (e : Entry) → at (e .call) (e .place) e ≡ 1
+pub at-self : (e : Entry) → at (e .call) (e .place) e ≡ 1
 at-self e = rw (eq-eqb (e .call) (e .call) refl, eq-eqb (e .place) (e .place) refl)
 
 module _ (size n : ℕ) (H : Heap) (es : List Entry) (f : ℕ → Bool) (l : ℕ → ℕ) (inv : Inv size n H es f l) (small : size ≤ maxPages) where
@@ -188,7 +197,7 @@ module _ (size n : ℕ) (H : Heap) (es : List Entry) (f : ℕ → Bool) (l : ℕ
   bytes : (e : Entry) (b : ℕ) → HasByte e b → Bytes (shapeOf (e .class)) (shape-sound (e .class)) (e .word) b
   bytes e b h = record { from = omega (arith, h .from); to = omega (arith, h .to) }
 
-  entry-held : (e : Entry) → In e es → (b : ℕ) → HasByte e b → 1 ≤ heldBy (e .class) (H .holder (b / pageBytes))
+  pub entry-held : (e : Entry) → In e es → (b : ℕ) → HasByte e b → 1 ≤ heldBy (e .class) (H .holder (b / pageBytes))
   entry-held e m b h =
       omega (
         arith,
@@ -196,16 +205,19 @@ module _ (size n : ℕ) (H : Heap) (es : List Entry) (f : ℕ → Bool) (l : ℕ
         covered (shapeOf (e .class)) (shape-sound (e .class)) size small (pagesOf (e .class)) (e .word) b (all-low (e .class)) (entry-sits e m) (bytes e b h),
       )
 
-  entry-inside : (e : Entry) → In e es → firstByte e + blockBytes e ≤ size * pageBytes
+  pub entry-inside : (e : Entry) → In e es → firstByte e + blockBytes e ≤ size * pageBytes
   entry-inside e m = inside (shapeOf (e .class)) (shape-sound (e .class)) size small (pagesOf (e .class)) (e .word) (all-low (e .class)) (entry-sits e m)
 
-  class-same : (e e′ : Entry) → In e es → In e′ es → (b : ℕ) → HasByte e b → HasByte e′ b → e .class ≡ e′ .class
+  pub entry-kind : (e : Entry) → In e es → kindOf (e .word) ≡ shapeOf (e .class) .kind
+  entry-kind e m = kinds (shapeOf (e .class)) (shape-sound (e .class)) size small (pagesOf (e .class)) (e .word) (all-low (e .class)) (entry-sits e m)
+
+  pub class-same : (e e′ : Entry) → In e es → In e′ es → (b : ℕ) → HasByte e b → HasByte e′ b → e .class ≡ e′ .class
   class-same e e′ m m′ b h h′ =
       by-cases (eqb (e .class) (e′ .class))
       (λ d. eqb-true (e .class) (e′ .class) d)
       (λ d. absurd (omega (arith, entry-held e m b h, entry-held e′ m′ b h′, held-two (e′ .class) (e .class) (H .holder (b / pageBytes)) d, inv .one (b / pageBytes))))
 
-  word-same : (e e′ : Entry) → In e es → In e′ es → (b : ℕ) → HasByte e b → HasByte e′ b → e .word ≡ e′ .word
+  pub word-same : (e e′ : Entry) → In e es → In e′ es → (b : ℕ) → HasByte e b → HasByte e′ b → e .word ≡ e′ .word
   word-same e e′ m m′ b h h′ =
       let k = class-same e e′ m m′ b h h′ in
       same-word (shapeOf (e .class)) (shape-sound (e .class)) size small (pagesOf (e .class)) (e .word) (e′ .word) b (all-low (e .class)) (one-run (e .class) (b / pageBytes))

@@ -32,7 +32,7 @@ module _ (sh : Shape) (ok : Sound sh) where
   words-tell (suc n) (suc k) q q′ h h′ e = let d = head-eq-of-cons-eq e in omega arith
 
   -- the blocks that a new run gives: a span's linked ones, a small page's carved now
-  abbrev newBlocks : Bool → ℕ → List ℕ
+  abbrev pub newBlocks : Bool → ℕ → List ℕ
   newBlocks true q = reverse (take (sh .batch) (wordsFrom sh q 0 (sh .capacity)))
   newBlocks false q = wordsFrom sh q 0 (min (sh .batch) (sh .capacity))
 
@@ -43,7 +43,7 @@ module _ (sh : Shape) (ok : Sound sh) where
       rw (ne-eqb (sh .batch) 0 (omega (arith, ok .gives))) (rw none-left)
   new-blocks false v q = rw (ne-eqb (sh .batch) 0 (omega (arith, ok .gives))) (simp (sub-zero, take-nil, append-nil))
 
-  blocks-come : (b : Bool) (q : ℕ) → 1 ≤ length (newBlocks b q)
+  pub blocks-come : (b : Bool) (q : ℕ) → 1 ≤ length (newBlocks b q)
   blocks-come true q = rw (length-reverse, length-take, length-words) (omega (arith, ok .gives, ok .blocks))
   blocks-come false q = rw length-words (omega (arith, ok .gives, ok .blocks))
 

@@ -93,7 +93,7 @@ module _ (sh : Shape) (ok : Sound sh) (lim : Limits) where
     abbrev servedFrom : Result
     servedFrom = served l (fillFromList sh (sh .batch) (p ∷ ps)) es cs fs
 
-    served-yields : isNil (blocksOf (servedFrom .answer)) ≡ false
+    pub served-yields : isNil (blocksOf (servedFrom .answer)) ≡ false
     unfolding served
     served-yields = rw take-append-seam (length-nil (fillFromList sh (sh .batch) (p ∷ ps) .blocks) (fill-gives (sh .batch) p ps (ok .gives) m))
 
@@ -101,11 +101,11 @@ module _ (sh : Shape) (ok : Sound sh) (lim : Limits) where
     unfolding served
     served-listed y z = record { partial = fill-more (sh .batch) (p ∷ ps) (m, y); empty = z }
 
-  thawed-more : (c : Cold) → More (thawed sh c)
+  pub thawed-more : (c : Cold) → More (thawed sh c)
   unfolding thawed
   thawed-more c = carve-more (isMedium sh) (c .first) _
 
-  new-more : (q : ℕ) (v : Bool) → More (carve sh q v)
+  pub new-more : (q : ℕ) (v : Bool) → More (carve sh q v)
   new-more q v = carve-more (isMedium sh) q v
 
   take-yields : (l : List ℕ) (ps es : List Page) (cs : List Cold) (fs : List Page) → Listed sh (lists ps es cs fs) → TakeYields (takeFrom sh l ps es cs fs)

@@ -78,7 +78,7 @@ named-ours : (t : Bool) (c : ℕ) (r : Request) (p : Named) → (t ≡ true → 
 named-ours true c r p o e = let z : record { class = c; request = r } ≡ p = cc in subst (λ (p : Named). Ours (p .class) (p .request)) z (o refl)
 named-ours false c r p o e = absurd (let z : _≡_ {A = ℕ} 0 1 = cc in omega arith)
 
-ours : (x : Call) (p : Named) → names x ≡ some p → Ours (p .class) (p .request)
+pub ours : (x : Call) (p : Named) → names x ≡ some p → Ours (p .class) (p .request)
 ours (Calls.takeBlocks c h l) p e = named-ours (ltb c 64) c (take h l) p (small-class c) e
 ours (Calls.mediumTakeBlocks c h l) p e = named-ours (ltb c 12) (64 + c) (take h l) p (medium-class c) e
 ours (Calls.releaseBlocks c h ws) p e = named-ours (ltb c 64) c (giveBack h ws) p (small-class c) e

@@ -8,7 +8,7 @@ use Prim.Native.Nat.{ℕ, zero, suc, _+_, _-_, _*_, _/_, _≤_, _<_}
 use native.Mathlib.Omega.{arith}
 use native.Mathlib.Nat.{zero-add, mul-le-mul-right, mul-div-cancel}
 use native.Mathlib.Decide.{ℕ-discrete, decLe}
-use mathlib.Core.Bool.{Bool, true, false, not, _&&_}
+use mathlib.Core.Bool.{Bool, true, not, _&&_}
 use mathlib.Core.List.{List, [], _∷_, map}
 use mathlib.Core.Path.{_≡_, refl, sym, ap, _∙_}
 use lib.Dec.{eqb, ltb, leb}
@@ -22,7 +22,7 @@ use Rattle.fields.specs.Field.{arena, page, out, first, frontier, get}
 use Rattle.fields.specs.Ranges.{maxPages}
 use Rattle.model.specs.Page.{Page, wordOf, wordsFrom, isOut, carvedWords}
 use Rattle.model.specs.Release.{ofKind}
-use Rattle.model.proofs.Counts.{elem-count, count-elem}
+use Rattle.model.proofs.Counts.{elem-count, count-elem, count-not}
 use Rattle.model.proofs.Pages.{word-rises}
 use Rattle.model.proofs.Apart.{which}
 use Rattle.words.specs.Host.{digit}
@@ -38,9 +38,6 @@ both s t e f = rw (e, f)
 pub in-elem : (x : ℕ) (ys : List ℕ) → 1 ≤ count x ys → elem x ys ≡ true
 in-elem x [] h = absurd (omega arith)
 in-elem x (y ∷ ys) h = by-cases (eqb x y) (λ u. rw u) (λ u. rw (u, in-elem x ys (let z : 1 ≤ 0 + count x ys = rw u at h in omega arith)))
-
-pub count-not : (x : ℕ) (ys : List ℕ) → count x ys ≡ 0 → elem x ys ≡ false
-count-not x ys h = by-cases (elem x ys) (λ u. absurd (omega (arith, elem-count x ys u))) (λ u. u)
 
 -- ---- words of a run's blocks
 module _ {sh : Shape} (ok : Sound sh) where

@@ -27,7 +27,7 @@ pair-at : (q j : ℕ) → j < 2 → pageOf (pair q + j - 40000) ≡ q
 unfolding pageOf
 pair-at q j l = omega arith
 
-row-at : (c j : ℕ) → j < 8 → (160 + 8 * c + j) / 8 ≡ 20 + c
+row-at : (c j : ℕ) → j < 7 → (160 + 8 * c + j) / 8 ≡ 20 + c
 row-at c j l = omega arith
 
 module _ (n : ℕ) (b : List ℕ) (sh : Shape) (c : ℕ) (hc : ltb c 76 ≡ true) where

@@ -9,8 +9,9 @@ use lib.ListN.{length}
 use Rattle.facts.proofs.Bools.{by-cases}
 use Rattle.words.specs.Host.{reservationGranted, commitGranted}
 use Rattle.classes.specs.declared.Shape.{Shape}
-use Rattle.fields.specs.Field.{ArenaField, HoleField, arena, hole, page, out, size, state, frontier, holes, holePages, commits, commitsHigh, reuses, reusesHigh, abandoned, abandonedHigh, held, start, pages, owner, first, listed, arenaOff, word, get, put}
+use Rattle.fields.specs.Field.{ArenaField, HoleField, arena, hole, page, out, frontier, holes, held, start, pages, owner, first, listed, arenaOff, word, get, put}
 use Rattle.fields.specs.Clear.{clearOut, clearMarks}
+use Rattle.fields.proofs.Laws.{arenaOff-lt}
 use Rattle.model.specs.declared.Hole.{Hole}
 use Rattle.model.specs.Arena.{Arena, Status, unasked, ready, disabled}
 use Rattle.model.specs.Arena as Model
@@ -18,7 +19,7 @@ use Rattle.model.proofs.ArenaTidy.{few-give, few-draw}
 use Rattle.arena.specs.Load.{loadHoles, loadStore, loadArena}
 use Rattle.arena.specs.Store.{storeHoles, storeCounts, storeTop, storeArena}
 use Rattle.arena.specs.Owners.{own, ownFresh, ownRun}
-use Rattle.arena.specs.Calls.{settledArena, readyArena, arenaAs, committedArena, advance, passedTo, committed, commitBook, given}
+use Rattle.arena.specs.Calls.{settledArena, readyArena, arenaAs, committedArena, grownArena, grownBy, grownBook, growBook, advance, passedTo, committed, commitBook, given}
 use Rattle.pages.specs.Runs.{nameRun}
 use Rattle.pages.specs.Carve.{stocked, outWords, bareRun, newRun}
 use Rattle.pages.proofs.Frames.{stocked-le}
@@ -35,24 +36,10 @@ abbrev pub RunIn : (ℕ → Bool) → ℕ → ℕ → Type 0
 RunIn S q m = (x : ℕ) → q ≤ x → x < q + m → PageIn S x
 
 module _ {S : ℕ → Bool} (a : ArenaIn S) (d : List ℕ) where
-  in-arena : (k : ArenaField) → S (word (arena k)) ≡ true
-  in-arena k = a .low (arenaOff k) (off-lt k)
-    where
-      off-lt : (k : ArenaField) → arenaOff k < 160
-      off-lt ArenaField.size = omega arith
-      off-lt ArenaField.state = omega arith
-      off-lt ArenaField.frontier = omega arith
-      off-lt ArenaField.holes = omega arith
-      off-lt ArenaField.holePages = omega arith
-      off-lt ArenaField.commits = omega arith
-      off-lt ArenaField.commitsHigh = omega arith
-      off-lt ArenaField.reuses = omega arith
-      off-lt ArenaField.reusesHigh = omega arith
-      off-lt ArenaField.abandoned = omega arith
-      off-lt ArenaField.abandonedHigh = omega arith
-      off-lt ArenaField.held = omega arith
+  pub in-arena : (k : ArenaField) → S (word (arena k)) ≡ true
+  in-arena k = a .low (arenaOff k) (omega (arith, arenaOff-lt k))
 
-  in-hole : (k : HoleField) (i : ℕ) → i < 4096 → S (word (hole k i)) ≡ true
+  pub in-hole : (k : HoleField) (i : ℕ) → i < 4096 → S (word (hole k i)) ≡ true
   in-hole HoleField.start i l = at-word S (omega arith) (a .high (2 * i) (omega arith))
   in-hole HoleField.pages i l = at-word S (omega arith) (a .high (2 * i + 1) (omega arith))
 
@@ -132,6 +119,25 @@ module _ {S : ℕ → Bool} (a : ArenaIn S) (d : List ℕ) where
           own-run-in (g .run) m w r (ownFresh x (get b (arena frontier)) (g .arena .frontier)),
         )
         (put-arena _ held _)
+
+  grown-arena-in : (n : ℕ) (b : List ℕ) (h e m : ℕ) (a : Arena) → length (a .store .holes) ≤ 4096 → grownArena n h e m (mix S b d) a ≡ mix S (grownArena n h e m b a) d
+  unfolding grownArena
+  grown-arena-in n b h e m a l = by-cases (Model.canGrow n e m a) (λ t. rw t (settled-in b h m (Model.withFrontier (e + m) a) (some e) true l)) (λ t. rw t (arena-in b a l))
+
+  pub grown-in : (n : ℕ) (b : List ℕ) (h e m : ℕ) (a : Arena) → length (a .store .holes) ≤ 4096 → RunIn S (get b (arena frontier)) (Model.grow n h e m a .arena .frontier - get b (arena frontier))
+      → ((q : ℕ) → grownBy (Model.grow n h e m a .grew) e ≡ some q → RunIn S q m) → growBook n (mix S b d) h e m a ≡ mix S (growBook n b h e m a) d
+  unfolding grownBook passedTo advance
+  grown-in n b h e m a l f r =
+      let g = Model.grow n h e m a in
+      let x = grownArena n h e m b a in
+      rw (
+        get-arena b held,
+        get-arena b frontier,
+        grown-arena-in n b h e m a l,
+        own-in (g .arena .frontier - get b (arena frontier)) (get b (arena frontier)) 0 f x,
+        own-run-in (grownBy (g .grew) e) m _ r (ownFresh x (get b (arena frontier)) (g .arena .frontier)),
+      )
+      (put-arena _ held _)
 
   pub given-in : (b : List ℕ) (q m : ℕ) → get b (arena holes) ≤ 4096 → length (Model.give m q (loadArena b) .store .holes) ≤ 4096 → RunIn S q m → given (mix S b d) q m ≡ mix S (given b q m) d
   unfolding given

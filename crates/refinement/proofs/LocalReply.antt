@@ -47,20 +47,20 @@ use Rattle.refinement.proofs.Lengths.{Ours, reply-long}
 use Rattle.refinement.specs.Foot.{foot, off}
 use Rattle.refinement.proofs.Foot.{foot-home, off-home, off-arena, off-page}
 
-ours-row : (c : ℕ) (x : Request) → Ours c x → ltb c 76 ≡ true
+pub ours-row : (c : ℕ) (x : Request) → Ours c x → ltb c 76 ≡ true
 ours-row c (take h l) e = e
 ours-row c (giveBack h ws) e = e
 ours-row c (giveChunks h ws gs fs) e = small-class c e
 
 -- a call that may reach the arena
-record Abroad (S : ℕ → Bool) (H H′ : Heap) (c : ℕ) : Type 0 where
-  roams : Roams S H c
-  idle : (x : ℕ) → (x < H .arena .frontier → H .holder x ≡ nobody) → PageIn S x
-  arena : H′ .arena ≡ H .arena
+pub record Abroad (S : ℕ → Bool) (H H′ : Heap) (c : ℕ) : Type 0 where
+  pub roams : Roams S H c
+  pub idle : (x : ℕ) → (x < H .arena .frontier → H .holder x ≡ nobody) → PageIn S x
+  pub arena : H′ .arena ≡ H .arena
 
 module _ {S : ℕ → Bool} (n : ℕ) (hn : n ≤ maxPages) (b : List ℕ) (H : Heap) (R : Represents n b H) (ok : Reached n H) (d : List ℕ) (H′ : Heap) (R′ : Represents n (mix S b d) H′) (ok′ : Reached n H′)
     (c : ℕ) (listed : Listed (shapeOf c) (H .classes c)) (et : H′ .classes c ≡ H .classes c) (hm : Home S n b c (shapeOf c)) where
-  reply-local : (x : Request) → Ours c x → StaysHome (answer (shapeOf c) (H .rules c) (H .classes c) x) ⊎ Abroad S H H′ c
+  pub reply-local : (x : Request) → Ours c x → StaysHome (answer (shapeOf c) (H .rules c) (H .classes c) x) ⊎ Abroad S H H′ c
       → classReply n (mix S b d) c x .book ≡ mix S (classReply n b c x .book) d
   unfolding answer
   reply-local (take h l) hc a =

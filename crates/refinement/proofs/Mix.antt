@@ -2,7 +2,7 @@
 --     mix S b d      the words of S from b, the others from d; a step F keeps to S where F (mix S b d) ≡ mix S (F b) d, which says at
 --                    once that it reads only words of S and writes only words of S
 --     get-in, put-in a read and a write of a field that lies in S
---     PageIn, RowIn  a page's words that have a field lie in S, its pair too; all words of a class's row do
+--     PageIn, RowIn  a page's words that have a field lie in S, its pair too; those of a class's row do
 --     swapped        two steps, one that keeps to S and one that keeps to the other words, may change places
 use Prim.Native.Nat.{ℕ, zero, suc, _+_, _*_, _/_, _<_}
 use native.Mathlib.Omega.{arith}
@@ -13,8 +13,8 @@ use lib.Dec.{ltb}
 use lib.ListN.{length, getD, set, drop}
 use borrow.Author.Tests.{ltb-true}
 use Rattle.facts.proofs.Bools.{by-cases}
-use Rattle.fields.specs.Field.{Field, ClassField, PageField, class, page, mark, slot, out, partial, empty, emptyCount, cold, coldCount, classOff, pageOff, pair, part, place, read, word, get, put}
-use Rattle.fields.proofs.Laws.{pageOff-lt}
+use Rattle.fields.specs.Field.{Field, ClassField, PageField, class, page, mark, slot, out, classOff, pageOff, pair, part, place, read, word, get, put}
+use Rattle.fields.proofs.Laws.{classOff-lt, pageOff-lt}
 
 unfoldable pub mix : (ℕ → Bool) → List ℕ → List ℕ → List ℕ
 mix S [] d = []
@@ -72,23 +72,23 @@ pub record PageIn (S : ℕ → Bool) (q : ℕ) : Type 0 where
   pub pairs : (j : ℕ) → j < 2 → S (pair q + j) ≡ true
 
 pub record RowIn (S : ℕ → Bool) (c : ℕ) : Type 0 where
-  pub words : (j : ℕ) → j < 8 → S (160 + 8 * c + j) ≡ true
+  pub words : (j : ℕ) → j < 7 → S (160 + 8 * c + j) ≡ true
 
 pub at-word : (S : ℕ → Bool) {i j : ℕ} → i ≡ j → S i ≡ true → S j ≡ true
 at-word S e h = rw (sym e) h
 
 module _ {S : ℕ → Bool} {q : ℕ} (p : PageIn S q) (b d : List ℕ) where
-  in-page : (k : PageField) → S (word (page k q)) ≡ true
+  pub in-page : (k : PageField) → S (word (page k q)) ≡ true
   in-page k =
       by-cases (ltb (pageOff k) 2) (λ e. rw e (p .pairs (pageOff k) (ltb-true _ _ e))) (λ e. rw e (p .words (pageOff k) (omega (arith, pageOff-lt k))))
 
-  in-slot : (i : ℕ) → i < 4096 → S (word (slot q i)) ≡ true
+  pub in-slot : (i : ℕ) → i < 4096 → S (word (slot q i)) ≡ true
   in-slot i h = at-word S (omega arith) (p .words (272 + i / 2) (omega arith))
 
-  in-out : (i : ℕ) → i < 4096 → S (word (out q i)) ≡ true
+  pub in-out : (i : ℕ) → i < 4096 → S (word (out q i)) ≡ true
   in-out i h = at-word S (omega arith) (p .words (16 + i / 32) (omega arith))
 
-  in-mark : (j : ℕ) → j < 128 → S (word (mark q j)) ≡ true
+  pub in-mark : (j : ℕ) → j < 128 → S (word (mark q j)) ≡ true
   in-mark j h = at-word S (omega arith) (p .words (144 + j) (omega arith))
 
   pub get-page : (k : PageField) → get (mix S b d) (page k q) ≡ get b (page k q)
@@ -110,17 +110,8 @@ module _ {S : ℕ → Bool} {q : ℕ} (p : PageIn S q) (b d : List ℕ) where
   put-mark j v h = put-in S b d (mark q j) v (in-mark j h)
 
 module _ {S : ℕ → Bool} {c : ℕ} (r : RowIn S c) (b d : List ℕ) where
-  in-row : (k : ClassField) → S (word (class k c)) ≡ true
-  in-row k = r .words (classOff k) (off-lt k)
-    where
-      off-lt : (k : ClassField) → classOff k < 8
-      off-lt ClassField.partial = omega arith
-      off-lt ClassField.empty = omega arith
-      off-lt ClassField.emptyCount = omega arith
-      off-lt ClassField.cold = omega arith
-      off-lt ClassField.coldCount = omega arith
-      off-lt ClassField.emptyLimit = omega arith
-      off-lt ClassField.coldLimit = omega arith
+  pub in-row : (k : ClassField) → S (word (class k c)) ≡ true
+  in-row k = r .words (classOff k) (classOff-lt k)
 
   pub get-row : (k : ClassField) → get (mix S b d) (class k c) ≡ get b (class k c)
   get-row k = get-in S b d (class k c) (in-row k)

@@ -37,7 +37,7 @@ unfolding cleared
 cleared-length b zero = refl
 cleared-length b (suc k) = length-set (cleared b k) k 0 ∙ cleared-length b k
 
-cleared-at : (b : List ℕ) (k i : ℕ) → k ≤ length b → i < k → getD (cleared b k) i 0 ≡ 0
+pub cleared-at : (b : List ℕ) (k i : ℕ) → k ≤ length b → i < k → getD (cleared b k) i 0 ≡ 0
 unfolding cleared
 cleared-at b zero i l u = absurd (omega arith)
 cleared-at b (suc k) i l u =

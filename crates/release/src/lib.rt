@@ -9,6 +9,8 @@ mod release;
 mod spans;
 mod tests;
 
+pub use blocks::block_at;
+pub use blocks::run_of;
 pub use fair::limits_at;
 pub use fair::page_fair;
 pub use fair::row_fair;

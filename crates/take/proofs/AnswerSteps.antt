@@ -1,16 +1,16 @@
--- An answer as one word.
-use Prim.Native.Nat.{ℕ, _+_, _*_, _%_, _^_, _≤_, _<_}
+-- An answer as one word, and what an answer tells.
+use Prim.Native.Nat.{ℕ, zero, suc, _+_, _*_, _%_, _^_, _≤_, _<_}
 use native.Mathlib.Omega.{arith}
 use native.Mathlib.Nat.{mod-eq-of-lt}
 use mathlib.Core.Bool.{Bool, true, false}
 use mathlib.Core.List.{List}
-use mathlib.Core.Path.{_≡_, sym, ap, ap₂, _∙_}
+use mathlib.Core.Path.{_≡_, refl, sym, ap, ap₂, _∙_}
 use lib.Dec.{leb}
 use borrow.Author.Tests.{lt-ltb, le-ltb, le-leb, lt-leb}
 use Rattle.take.specs.declared.call.Take.{Take}
 use Rattle.take.specs.declared.call.Take.the-variants.{Refused, Took}
 use Rattle.calls.specs.Take as Heap
-use Rattle.take.specs.TakeAnswer.{answerIn, Takes}
+use Rattle.take.specs.TakeAnswer.{answerOf, answerIn, Takes}
 
 pub word-refused : (w : ℕ) → w < 2 ^ 32 → Refused (w % 2 ^ 32) ≡ answerIn w
 word-refused w h = rw (lt-ltb w (2 ^ 32) h)
@@ -39,3 +39,20 @@ module _ (w : ℕ) (r : Take) (b l : List ℕ) (t : Heap.Took) where
 
   pub takes-told : r ≡ answerIn w → Takes (answerIn w) b l t → Takes r b l t
   takes-told e h = rw (← e) at h
+
+-- ---- a refusal's number, or the count
+pub told-refused : (k j : ℕ) (w : Bool) (m : ℕ) → answerOf k j w ≡ Refused m → k ≡ 0 → ⊥
+told-refused zero j w m e y = let z : _≡_ {A = ℕ} 0 1 = cc in omega arith
+told-refused (suc k) j w m e y = omega arith
+
+pub told-code : (k j : ℕ) (w : Bool) (m : ℕ) (v : Bool) → answerOf k j w ≡ Took m v → k ≡ 0
+told-code zero j w m v e = refl
+told-code (suc k) j w m v e = cc
+
+pub told-count : (k j : ℕ) (w : Bool) (m : ℕ) (v : Bool) → answerOf k j w ≡ Took m v → m ≡ j
+told-count zero j w m v e = cc
+told-count (suc k) j w m v e = cc
+
+pub told-number : (k j : ℕ) (w : Bool) (m : ℕ) → answerOf k j w ≡ Refused m → m ≡ k
+told-number zero j w m e = cc
+told-number (suc k) j w m e = cc

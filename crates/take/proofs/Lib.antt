@@ -10,5 +10,7 @@ pub mod TakeParked
 pub mod TakeGranted
 pub mod TakeNew
 pub mod TakeSteps
+pub mod TakeSpares
 pub mod CountSteps
 pub mod AnswerSteps
+pub mod InArena

@@ -153,7 +153,7 @@ module _ (b : List ℕ) (c : ℕ) (sh : Shape) (q : ℕ) where
     long₁ : leb (words n) (length (newRun b sh q)) ≡ true
     long₁ = rw (changes .long) hb
 
-    linked-asks : TakeAsks n (link (newRun b sh q) c q) c sh
+    pub linked-asks : TakeAsks n (link (newRun b sh q) c q) c sh
     linked-asks =
         let v = link-changes n (newRun b sh q) long₁ c hc q (lt-ltb q n in-arena) alone in
         record {
@@ -170,7 +170,7 @@ module _ (b : List ℕ) (c : ℕ) (sh : Shape) (q : ℕ) where
     wants : sh .batch ≡ 0 → ⊥
     wants z = omega (arith, a .asks .shape .gives)
 
-    linked-walks : walksFrom n (link (newRun b sh q) c q) c sh ≡ true
+    pub linked-walks : walksFrom n (link (newRun b sh q) c q) c sh ≡ true
     linked-walks = alone-walks n (newRun b sh q) long₁ c hc q (lt-ltb q n in-arena) alone sh (a .asks .shape .few) 0 (sh .batch) fair wants under₁ (sh .batch) (a .asks .shape .gives)
 
     pub linked-planned : foreseen (fills (link (newRun b sh q) c q) c sh) ≡ record { count = length (latest (newRun b sh q) sh q (sh .batch)); virgin = true }

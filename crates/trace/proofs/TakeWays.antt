@@ -16,7 +16,8 @@ use Rattle.classes.proofs.Shapes.{shape-sound}
 use Rattle.calls.specs.Take.{takeCall}
 use Rattle.take.specs.declared.call.Take.{Take}
 use Rattle.take.specs.declared.call.Take.the-variants.{Refused, Took}
-use Rattle.take.specs.TakeAnswer.{answerOf, Takes}
+use Rattle.take.specs.TakeAnswer.{Takes}
+use Rattle.take.proofs.AnswerSteps.{told-refused, told-code, told-count}
 use Rattle.take.specs.TakeCount.{Counts}
 use Rattle.trace.specs.declared.steps.Tally.{Tally}
 use Rattle.trace.specs.declared.steps.Step.the-variants.{Stops, Goes}
@@ -27,18 +28,6 @@ use Rattle.trace.specs.Asks.{MoreAsks, TakesAt, mayTake}
 use Rattle.trace.specs.Steps.{CarriedBlocks}
 use Rattle.trace.proofs.Refused.{take-spares}
 use Rattle.trace.proofs.StepWays.{or-true}
-
-told-refused : (k j : ℕ) (w : Bool) (m : ℕ) → answerOf k j w ≡ Refused m → k ≡ 0 → ⊥
-told-refused zero j w m e y = let z : _≡_ {A = ℕ} 0 1 = cc in omega arith
-told-refused (suc k) j w m e y = omega arith
-
-told-code : (k j : ℕ) (w : Bool) (m : ℕ) (v : Bool) → answerOf k j w ≡ Took m v → k ≡ 0
-told-code zero j w m v e = refl
-told-code (suc k) j w m v e = cc
-
-told-count : (k j : ℕ) (w : Bool) (m : ℕ) (v : Bool) → answerOf k j w ≡ Took m v → m ≡ j
-told-count zero j w m v e = cc
-told-count (suc k) j w m v e = cc
 
 leb-shift : (m i k : ℕ) → i ≤ k → leb m (k - i) ≡ leb (i + m) k
 leb-shift m i k h =

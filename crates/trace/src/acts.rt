@@ -15,7 +15,7 @@ use take::call::Take;
 pub const HOST: u32 = 15;
 
 // OWNER of the block's page: its class and 1. No book is read beyond its pages.
-fn owner_at(meta: &[u32], n: u32, w: u64) -> u32
+pub fn owner_at(meta: &[u32], n: u32, w: u64) -> u32
     requires { ⌜ BookAsks n (now meta) ⌝ }
     ensures { λ r. ⌜ r ≡ ownerAt n (now (meta .entry)) w ⌝ }
 {

@@ -1,6 +1,7 @@
 mod FaultSteps
 mod DirectSteps
 mod TakeSteps
+mod PoolSteps
 mod ReleaseSteps
 mod ChunkSteps
 mod SizeSteps

@@ -3,3 +3,4 @@ pub mod Direct
 pub mod Blocks
 pub mod Sizes
 pub mod Trace
+pub mod Pool

@@ -1,0 +1,94 @@
+-- A block out of the heap is granted or in stock, and each of these once; an alloc that answers none; trims that empty a stock.
+use Prim.Native.Nat.{ℕ, zero, suc, _+_, _≤_}
+use mathlib.Core.Path.{_≡_, refl, sym, ap, _∙_, subst}
+use mathlib.Core.List.{List, [], _∷_, _++_}
+use mathlib.Core.Bool.{Bool, true, false}
+use mathlib.Core.Logic.{inl, inr}
+use native.Mathlib.Omega.{arith}
+use lib.Dec.{ltb}
+use lib.ListN.{length, replicate}
+use borrow.Author.Tests.{eq-eqb}
+use Rattle.facts.specs.Lists.{count, distinct, elem}
+use Rattle.facts.proofs.Bools.{by-cases}
+use Rattle.words.specs.Limits.{maxPages}
+use Rattle.words.specs.Host.{badHost}
+use Rattle.classes.specs.Shape.{shapeOf, classCount}
+use Rattle.classes.proofs.Shapes.{shape-sound}
+use Rattle.rules.specs.Rules.{Rules}
+use Rattle.model.specs.Entries.{Entry}
+use Rattle.model.specs.Yields.{Listed}
+use Rattle.model.proofs.Counts.{elem-count, count-elem, count-not}
+use Rattle.model.proofs.Sites.{here-out}
+use Rattle.model.proofs.Theorems.{yielding}
+use Rattle.pool.specs.Pool.{Pool, newPool, PoolCall, to, trim, poolStep, plan, planTrim, carry, ends}
+use Rattle.pool.specs.Told.{toldOf, poolEvents, poolFrom, poolAfter, heapCalls}
+use Rattle.pool.specs.Claims.{AllocNone, Conserved}
+use Rattle.pool.proofs.Kept.{PoolInv, PoolKept, pool-kept, call-kept, at-most}
+use Rattle.pool.proofs.Frees.{out-there, stock-out, gives, told-out, out-told, none-when}
+use Rattle.pool.proofs.OnHeap.{on-heap}
+
+pub pool-append : (size : ℕ) (P : Pool) (xs ys : List PoolCall) → poolFrom size P (xs ++ ys) ≡ poolFrom size (poolFrom size P xs) ys
+pool-append size P [] ys = refl
+pool-append size P (x ∷ xs) ys = pool-append size (poolStep size P x .pool) xs ys
+
+-- every page that the class has listed yields a block
+pub listed-after : (size : ℕ) → size ≤ maxPages → (rules : Rules) (xs : List PoolCall) (c : ℕ) → Listed (shapeOf c) (poolAfter size rules xs .heap .classes c)
+listed-after size small rules xs c = subst (λ H. Listed (shapeOf c) (H .classes c)) (sym (on-heap size small rules xs .heap)) (yielding size rules (heapCalls size rules xs) .listed c)
+
+pub alloc-none : (size : ℕ) → size ≤ maxPages → (rules : Rules) (xs : List PoolCall) (c h : ℕ) → AllocNone size rules xs c h
+alloc-none size small rules xs c h = record { none = λ ok low. none-when size (poolAfter size rules xs) c h ok low (listed-after size small rules xs c) }
+
+-- ---- trims
+abbrev rest : List ℕ → List ℕ
+rest [] = []
+rest (w ∷ ws) = ws
+
+rest-few : (s : List ℕ) (k : ℕ) → length s ≤ suc k → length (rest s) ≤ k
+rest-few [] k h = omega arith
+rest-few (w ∷ ws) k h = omega arith
+
+none-few : (s : List ℕ) → length s ≤ 0 → s ≡ []
+none-few [] h = refl
+none-few (w ∷ ws) h = absurd (omega arith)
+
+module _ (size : ℕ) (small : size ≤ maxPages) (c h : ℕ) (ok : badHost h ≡ false) (low : ltb c classCount ≡ true) where
+  module _ (n k : ℕ) (P : Pool) (es gs : List Entry) (f : ℕ → Bool) (l : ℕ → ℕ) (K : PoolInv size n k P es gs f l) where
+    trimmed-left : (st : List ℕ) → P .stock c ≡ st → poolStep size P (to c (trim h)) .pool .stock c ≡ rest st
+    unfolding poolStep plan planTrim carry ends
+    trimmed-left [] e = rw (ok, low, e, eq-eqb c c refl)
+    trimmed-left (w ∷ ws) e = rw (ok, low, e, gives size small n k P es gs f l K c w h ok low (stock-out size small n k P es gs f l K c w ws e), eq-eqb c c refl)
+
+  trims-left : (j k : ℕ) (P : Pool) (gs : List Entry) (f : ℕ → Bool) → PoolKept size k P gs f → length (P .stock c) ≤ j → poolFrom size P (replicate j (to c (trim h))) .stock c ≡ []
+  trims-left zero k P gs f K few = none-few (P .stock c) few
+  trims-left (suc j) k P gs f K few =
+      let e = trimmed-left (K .number) k P (K .entries) gs f (K .lost) (K .holds) (P .stock c) refl in
+      trims-left j (suc k) (poolStep size P (to c (trim h)) .pool) _ _ (call-kept size (K .number) k P (K .entries) gs f (K .lost) (K .holds) (to c (trim h))) (rw e (rest-few (P .stock c) j few))
+
+-- ---- each once
+once-each : (s : List ℕ) → ((w : ℕ) → count w s ≤ 1) → distinct s ≡ true
+once-each [] h = refl
+once-each (x ∷ s) h =
+    let here : 1 + count x s ≤ 1 = rw (eq-eqb x x refl) at (h x) in
+    rw (count-not x s (omega arith)) (once-each s (λ w. omega (arith, h w)))
+
+pub conserved : (size : ℕ) → size ≤ maxPages → (rules : Rules) (xs : List PoolCall) → Conserved size rules xs
+conserved size small rules xs =
+    let vs = toldOf (poolEvents size rules xs) in
+    let P = poolAfter size rules xs in
+    let A = pool-kept size rules xs in
+    let K = A .kept in
+    let I = K .holds in
+    record {
+      out = λ c w. (
+        (λ o. let t = here-out (shapeOf c) (shape-sound c) (P .heap .classes c) (I .inv .good c) w o in
+            by-cases (elem w (P .stock c)) (λ e. inr e)
+            (λ e. inl (told-out vs c w (omega (arith, t, I .inv .outs c w, I .split c w, count-elem w (P .stock c) e))))),
+        (λ o. elim o [
+          | inl u ↦ out-there size small _ _ P _ _ _ _ I c w (omega (arith, I .split c w, out-told vs c w u))
+          | inr e ↦ out-there size small _ _ P _ _ _ _ I c w (omega (arith, I .split c w, elem-count w (P .stock c) e))
+        ]),
+      );
+      either = λ c w u. count-not w (P .stock c) (omega (arith, out-told vs c w u, I .split c w, at-most (I .inv) c w));
+      once = λ c. once-each (P .stock c) (λ w. omega (arith, I .split c w, at-most (I .inv) c w));
+      trims = λ c h k ok low few. ap (λ Q. Q .stock c) (pool-append size (newPool rules) xs (replicate k (to c (trim h)))) ∙ trims-left size small c h ok low k (A .calls) P _ _ K few;
+    }

@@ -1,0 +1,11 @@
+pub mod Most
+pub mod Lives
+pub mod Plans
+pub mod HeapCalls
+pub mod Kept
+pub mod Frees
+pub mod OnHeap
+pub mod Apart
+pub mod Conserved
+pub mod Alone
+pub mod Examples

@@ -1,0 +1,4 @@
+pub mod Stock
+pub mod Pool
+pub mod Told
+pub mod Claims

@@ -1,0 +1,173 @@
+-- The pool on values: one block out, one block back, over the heap's calls. Each of its calls makes at most one call of the heap.
+use Prim.Native.Nat.{ℕ, _-_}
+use mathlib.Core.List.{List, [], _∷_, reverse}
+use mathlib.Core.Option.{Option, none}
+use mathlib.Core.Bool.{Bool, cond, not, _&&_}
+use lib.Dec.{ltb}
+use lib.ListN.{length}
+use Rattle.facts.specs.Lists.{elem, update}
+use Rattle.words.specs.Host.{badHost}
+use Rattle.classes.specs.declared.Shape.{Shape}
+use Rattle.classes.specs.Shape.{shapeOf, classCount}
+use Rattle.rules.specs.Rules.{Rules}
+use Rattle.model.specs.declared.Hole.{Hole}
+use Rattle.model.specs.Calls as Calls
+use Rattle.model.specs.Calls.{Call, Answer, Request, take, giveBack, giveChunks, isRefused, blocksOf}
+use Rattle.model.specs.Class.{Class}
+use Rattle.model.specs.Release.{ofKind, outHere}
+use Rattle.model.specs.Heap.{Heap, Outcome, newHeap, step}
+use Rattle.pool.specs.Stock.{stockMost, blank}
+
+-- the heap and, by class, the blocks in stock, the next to be granted first
+pub record Pool : Type 0 where
+  pub heap : Heap
+  pub stock : ℕ → List ℕ
+
+unfoldable pub newPool : Rules → Pool
+newPool rules = record { heap = newHeap rules; stock = λ c. [] }
+
+-- what a class is asked; a trim sends the next block in stock back to the heap
+pub data Wish : Type 0 where
+  alloc : (host : ℕ) → Wish
+  free : (host word : ℕ) → Wish
+  trim : (host : ℕ) → Wish
+
+abbrev pub hostIn : Wish → ℕ
+hostIn (alloc h) = h
+hostIn (free h w) = h
+hostIn (trim h) = h
+
+-- the heap's calls that name no class
+pub data Direct : Type 0 where
+  commit : (host pages : ℕ) → Direct
+  growFrontier : (host first old new : ℕ) → Direct
+  release : (host first pages : ℕ) → Direct
+  contains : (offset bytes : ℕ) → Direct
+  report : Direct
+
+abbrev pub callBy : Direct → Call
+callBy (commit h n) = Calls.commit h n
+callBy (growFrontier h q old new) = Calls.growFrontier h q old new
+callBy (release h q n) = Calls.release h q n
+callBy (contains o b) = Calls.contains o b
+callBy report = Calls.report
+
+-- a class's id is 0 to 63 for the small ones, 64 to 75 for the medium ones
+pub data PoolCall : Type 0 where
+  to : (class : ℕ) → Wish → PoolCall
+  direct : Direct → PoolCall
+
+-- an alloc is granted a block or has none; a trim has the block that went back, or none; a direct call is answered by the heap
+pub data PoolAnswer : Type 0 where
+  refused : (number : ℕ) → PoolAnswer
+  granted : (word : ℕ) → PoolAnswer
+  trimmed : (word : ℕ) → PoolAnswer
+  noBlock freed : PoolAnswer
+  answered : Answer → PoolAnswer
+
+-- ---- what becomes of a wish: it is turned away; or done with the stock alone, told as it is afterwards; or it goes to the heap, with
+-- the stock as it is but for what the heap brings
+pub data Plan : Type 0 where
+  turn : (number : ℕ) → Plan
+  stays : PoolAnswer → List ℕ → Plan
+  goes : Request → List ℕ → Plan
+
+unfoldable pub planAlloc : ℕ → List ℕ → Plan
+planAlloc h [] = goes (take h blank) []
+planAlloc h (w ∷ ws) = stays (granted w) ws
+
+unfoldable pub planTrim : ℕ → List ℕ → Plan
+planTrim h [] = stays noBlock []
+planTrim h (w ∷ ws) = goes (giveBack h (w ∷ [])) ws
+
+-- a block is granted in a class: out of the heap there, and not in stock
+unfoldable pub isGranted : Shape → Class → List ℕ → ℕ → Bool
+isGranted sh s st w = outHere sh s w && not (elem w st)
+
+-- numbers 9 and 10; `most` is how many blocks a free lets the stock hold
+unfoldable pub planFree : Shape → ℕ → Class → List ℕ → ℕ → ℕ → Plan
+planFree sh most s st h w =
+    cond (not (ofKind (sh .kind) w)) (turn 9)
+    (cond (not (isGranted sh s st w)) (turn 10)
+    (cond (ltb (length st) most) (stays freed (w ∷ st)) (goes (giveBack h (w ∷ [])) st)))
+
+abbrev pub planOf : ℕ → Class → List ℕ → Wish → Plan
+planOf c s st (alloc h) = planAlloc h st
+planOf c s st (free h w) = planFree (shapeOf c) (stockMost c) s st h w
+planOf c s st (trim h) = planTrim h st
+
+-- numbers 3 and 4 come first
+unfoldable pub plan : ℕ → Class → List ℕ → Wish → Plan
+plan c s st x = cond (badHost (hostIn x)) (turn 3) (cond (not (ltb c classCount)) (turn 4) (planOf c s st x))
+
+-- ---- a wish that goes to the heap
+abbrev pub callFor : ℕ → Request → Call
+callFor c (take h l) = cond (ltb c 64) (Calls.takeBlocks c h l) (Calls.mediumTakeBlocks (c - 64) h l)
+callFor c (giveBack h ws) = cond (ltb c 64) (Calls.releaseBlocks c h ws) (Calls.mediumReleaseBlocks (c - 64) h ws)
+callFor c (giveChunks h ws gs fs) = Calls.releaseBinChunks c h ws gs fs
+
+-- what is answered, and the stock afterwards
+pub record End : Type 0 where
+  pub answer : PoolAnswer
+  pub stock : List ℕ
+
+-- of a take's blocks the one that was popped first, the last of its list, is granted; the others come into stock
+abbrev pub bring : List ℕ → End
+bring [] = record { answer = noBlock; stock = [] }
+bring (w ∷ ws) = record { answer = granted w; stock = ws }
+
+abbrev pub firstOf : List ℕ → PoolAnswer
+firstOf [] = noBlock
+firstOf (w ∷ ws) = trimmed w
+
+-- `old` and `new` are the stock before, and as the plan leaves it
+abbrev pub endOf : Wish → (old new : List ℕ) → Answer → End
+endOf (alloc h) old new a = bring (reverse (blocksOf a))
+endOf (free h w) old new a = record { answer = freed; stock = new }
+endOf (trim h) old new a = record { answer = firstOf old; stock = new }
+
+abbrev pub numberOf : Answer → ℕ
+numberOf (Calls.refused n) = n
+numberOf (Calls.taken n l v) = 0
+numberOf (Calls.fate n) = 0
+numberOf (Calls.fates l) = 0
+numberOf (Calls.run q f) = 0
+numberOf Calls.noRun = 0
+numberOf Calls.released = 0
+numberOf (Calls.grown b) = 0
+numberOf (Calls.contained b) = 0
+numberOf (Calls.reported f) = 0
+
+-- the heap's refusal is the pool's, and nothing changes
+unfoldable pub ends : Wish → (old new : List ℕ) → Answer → End
+ends x old new a = cond (isRefused a) (record { answer = refused (numberOf a); stock = old }) (endOf x old new a)
+
+-- ---- one call: the pool afterwards, the answer, the heap's calls that were made, and what the arena gave at them
+pub record Done : Type 0 where
+  pub pool : Pool
+  pub answer : PoolAnswer
+  pub calls : List Call
+  pub run : Option Hole
+
+abbrev pub withStock : Pool → ℕ → Heap → List ℕ → Pool
+withStock P c H st = record { heap = H; stock = update (P .stock) c st }
+
+abbrev pub after : Pool → ℕ → Wish → Call → List ℕ → Outcome → Done
+after P c x y new o =
+    let e = ends x (P .stock c) new (o .answer) in
+    record { pool = withStock P c (o .heap) (e .stock); answer = e .answer; calls = y ∷ []; run = o .run }
+
+unfoldable pub carry : ℕ → Pool → ℕ → Wish → Plan → Done
+carry size P c x (turn n) = record { pool = P; answer = refused n; calls = []; run = none }
+carry size P c x (stays a st) = record { pool = withStock P c (P .heap) st; answer = a; calls = []; run = none }
+carry size P c x (goes r st) = after P c x (callFor c r) st (step size (P .heap) (callFor c r))
+
+-- a direct call goes to the heap as it is
+unfoldable pub pass : ℕ → Pool → Direct → Done
+pass size P d =
+    let o = step size (P .heap) (callBy d) in
+    record { pool = record { heap = o .heap; stock = P .stock }; answer = answered (o .answer); calls = callBy d ∷ []; run = o .run }
+
+unfoldable pub poolStep : ℕ → Pool → PoolCall → Done
+poolStep size P (to c x) = carry size P c x (plan c (P .heap .classes c) (P .stock c) x)
+poolStep size P (direct d) = pass size P d

@@ -1,0 +1,113 @@
+-- An alloc, a free and a trim on the words, from number 9 on: the answer and the book, for any book. n is the arena's length, c the
+-- class's id, h the host word, w a block's. A refusal leaves the book.
+--     allocOn    the stock's top, or one take into a list of the pool's own: the last of its blocks is granted, the others are the stock
+--     freeOn     numbers 9, 10 and 13; then into the stock, or back to the heap where that holds enough
+--     trimOn     the stock's top goes back to the heap
+use Prim.Native.Nat.{ℕ, _-_, _*_}
+use mathlib.Core.Bool.{Bool, cond, not, _&&_}
+use mathlib.Core.List.{List, [], _∷_}
+use mathlib.Core.Path.{_≡_}
+use lib.Dec.{eqb, ltb, leb}
+use lib.ListN.{getD}
+use lib.ListN as ListN
+use Rattle.words.specs.Word.{granuleOf, noneWord}
+use Rattle.classes.specs.Shape.{shapeOf}
+use Rattle.model.specs.Release.{ofKind}
+use Rattle.calls.specs.Out.{outAt}
+use Rattle.calls.specs.Take.{Took, takeCall}
+use Rattle.calls.specs.Release.{Released, releaseBlocks}
+use Rattle.pool.specs.Stock.{stockRoom, stockMost, blank}
+use Rattle.pool.specs.Pool.{Wish, alloc, free, trim, PoolAnswer, refused, granted, trimmed, noBlock, freed, answered}
+use Rattle.poolcalls.specs.Stock.{countIn, entryIn, blockIn, stocked, putCount, pushed, filled}
+
+pub record Said : Type 0 where
+  pub answer : PoolAnswer
+  pub book : List ℕ
+
+abbrev pub said : PoolAnswer → List ℕ → Said
+said a b = record { answer = a; book = b }
+
+-- ---- as numbers: what a call returns, and its out-parameter, which a refusal leaves; none is the word of kind 0
+abbrev pub codeOf : PoolAnswer → ℕ
+codeOf (refused n) = n
+codeOf (granted w) = 0
+codeOf (trimmed w) = 0
+codeOf noBlock = 0
+codeOf freed = 0
+codeOf (answered a) = 0
+
+abbrev pub blockOut : PoolAnswer → ℕ → ℕ
+blockOut (refused n) old = old
+blockOut (granted w) old = w
+blockOut (trimmed w) old = w
+blockOut noBlock old = noneWord
+blockOut freed old = old
+blockOut (answered a) old = old
+
+-- ---- number 13: COUNT, and the ENTRY on top
+unfoldable pub countFair : List ℕ → ℕ → Bool
+countFair b c = leb (countIn b c) stockRoom
+
+unfoldable pub topFair : ℕ → List ℕ → ℕ → Bool
+topFair n b c = countFair b c && ltb (entryIn b c (countIn b c - 1)) (4096 * n)
+
+-- ---- alloc
+-- m blocks of a list
+unfoldable pub bringOn : List ℕ → ℕ → ℕ → List ℕ → Said
+bringOn b c m l = cond (eqb m 0) (said noBlock b) (said (granted (getD l (m - 1) 0)) (filled b c (ListN.take (m - 1) l)))
+
+unfoldable pub tookOn : ℕ → Took → Said
+tookOn c t = cond (eqb (t .code) 0) (bringOn (t .book) c (t .count) (t .list)) (said (refused (t .code)) (t .book))
+
+unfoldable pub allocOn : ℕ → List ℕ → ℕ → ℕ → Said
+allocOn n b c h =
+    cond (eqb (countIn b c) 0) (tookOn c (takeCall n b c (shapeOf c) h blank))
+    (cond (topFair n b c) (said (granted (blockIn b c (countIn b c - 1))) (putCount b c (countIn b c - 1))) (said (refused 13) b))
+
+-- ---- free
+-- a release of one block: `a` and the book `b` where it is not refused
+unfoldable pub gaveOn : PoolAnswer → List ℕ → Released → Said
+gaveOn a b z = cond (eqb (z .code) 0) (said a b) (said (refused (z .code)) (z .book))
+
+-- a granted block: into the stock, or back to the heap
+unfoldable pub freedOn : ℕ → List ℕ → ℕ → ℕ → ℕ → Said
+freedOn n b c h w =
+    cond (ltb (countIn b c) (stockMost c)) (said freed (pushed b c (granuleOf w)))
+    (cond (countFair b c)
+    (let z = releaseBlocks n b c (shapeOf c) h (w ∷ []) in gaveOn freed (z .book) z)
+    (said (refused 13) b))
+
+-- the heap has the block out in the class, which therefore lies in the arena; and it is not in stock
+unfoldable pub freeOn : ℕ → List ℕ → ℕ → ℕ → ℕ → Said
+freeOn n b c h w =
+    cond (not (ofKind (shapeOf c .kind) w)) (said (refused 9) b)
+    (cond (not (outAt n b c (shapeOf c) w)) (said (refused 10) b)
+    (cond (stocked b c (granuleOf w)) (said (refused 10) b)
+    (freedOn n b c h w)))
+
+-- ---- trim
+unfoldable pub trimOn : ℕ → List ℕ → ℕ → ℕ → Said
+trimOn n b c h =
+    cond (eqb (countIn b c) 0) (said noBlock b)
+    (cond (topFair n b c)
+    (let w = blockIn b c (countIn b c - 1) in
+    let z = releaseBlocks n b c (shapeOf c) h (w ∷ []) in
+    gaveOn (trimmed w) (putCount (z .book) c (countIn b c - 1)) z)
+    (said (refused 13) b))
+
+abbrev pub wishOn : ℕ → List ℕ → ℕ → Wish → Said
+wishOn n b c (alloc h) = allocOn n b c h
+wishOn n b c (free h w) = freeOn n b c h w
+wishOn n b c (trim h) = trimOn n b c h
+
+-- ---- that the code ended so
+-- an alloc's or a trim's; w is the out-parameter before the call, w′ after it
+pub record BlockEnds (s : Said) (r : ℕ) (b : List ℕ) (w w′ : ℕ) : Type 0 where
+  pub code : r ≡ codeOf (s .answer)
+  pub book : b ≡ s .book
+  pub block : w′ ≡ blockOut (s .answer) w
+
+-- a free's
+pub record FreeEnds (s : Said) (r : ℕ) (b : List ℕ) : Type 0 where
+  pub code : r ≡ codeOf (s .answer)
+  pub book : b ≡ s .book

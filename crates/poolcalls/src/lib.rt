@@ -1,0 +1,1 @@
+// The pool's calls on the words, as definitions. There is no code here.

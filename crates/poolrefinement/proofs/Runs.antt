@@ -1,0 +1,112 @@
+-- Whole histories of the pool on an opened book.
+use Prim.Native.Nat.{ℕ, zero, suc, _≤_}
+use native.Mathlib.Omega.{arith}
+use mathlib.Core.Bool.{true, false, true≢false}
+use mathlib.Core.List.{List, [], _∷_, _++_, map}
+use mathlib.Core.Path.{_≡_, refl, sym, ap, ap₂, _∙_, subst}
+use lib.Dec.{ltb, leb}
+use lib.ListN.{length, getD}
+use lib.Seq.{getD-set-other}
+use borrow.Author.Tests.{ltb-true, lt-ltb, leb-true}
+use Rattle.rules.specs.Rules.{Rules, Fit}
+use Rattle.fields.specs.Ranges.{maxPages}
+use Rattle.fields.specs.Field.{Field, arena, class, size, emptyLimit, coldLimit, word, words, ok, put}
+use Rattle.arena.specs.Open.{opened, ruled, cleared, headWords}
+use Rattle.model.specs.Calls.{Call}
+use Rattle.model.specs.Heap.{step}
+use Rattle.model.specs.History.{heapAfter}
+use Rattle.refinement.specs.Represents.{Represents}
+use Rattle.refinement.specs.Direct.{Agrees}
+use Rattle.refinement.specs.Run.{callReply}
+use Rattle.refinement.proofs.OpenRep.{opened-represents, cleared-at}
+use Rattle.refinement.proofs.Whole.{call-whole}
+use Rattle.pool.specs.Pool.{Pool, newPool, PoolCall, Direct, to, direct, callBy, pass, poolStep, answered}
+use Rattle.pool.specs.Told.{poolFrom, poolAfter, poolEventsFrom, heapCalls}
+use Rattle.pool.proofs.OnHeap.{on-heap}
+use Rattle.pool.proofs.Conserved.{pool-append}
+use Rattle.poolcalls.specs.Stock.{countAt, countIn, stockFrom}
+use Rattle.poolrefinement.specs.Represents.{heapWord, StockRep, PoolRep, PoolAgrees}
+use Rattle.poolrefinement.specs.Run.{onCall, saidFrom, bookFrom, PoolRuns}
+use Rattle.poolrefinement.proofs.Frame.{field-in, heap-frame}
+use Rattle.poolrefinement.proofs.Stocks.{stock-still, count-word}
+use Rattle.poolrefinement.proofs.Whole.{pool-agrees}
+
+-- ---- an opened book has empty stocks
+put-off : (b : List ℕ) (f : Field) (v i : ℕ) → ok f ≡ true → heapWord i ≡ false → getD (put b f v) i 0 ≡ getD b i 0
+unfolding put
+put-off b f v i o e = getD-set-other b (word f) i _ 0 (λ z. true≢false (sym (field-in f o) ∙ ap heapWord (sym z) ∙ e))
+
+ruled-off : (b : List ℕ) (rules : Rules) (k i : ℕ) → k ≤ 76 → heapWord i ≡ false → getD (ruled b rules k) i 0 ≡ getD b i 0
+unfolding ruled
+ruled-off b rules zero i h e = refl
+ruled-off b rules (suc k) i h e =
+    put-off _ (class coldLimit k) _ i (lt-ltb k 76 (omega arith)) e ∙ put-off _ (class emptyLimit k) _ i (lt-ltb k 76 (omega arith)) e ∙ ruled-off b rules k i (omega arith) e
+
+module _ (n : ℕ) (rules : Rules) (b : List ℕ) (long : leb (words n) (length b) ≡ true) where
+  opened-count : (c : ℕ) → ltb c 76 ≡ true → countIn (opened n rules b) c ≡ 0
+  unfolding countIn opened headWords
+  opened-count c hc =
+      let e = count-word c hc in
+      let lo = ltb-true c 76 hc in
+      ruled-off _ rules 76 (countAt c) (omega arith) e ∙ put-off (cleared b 768) (arena size) n (countAt c) refl e ∙ cleared-at b 768 (countAt c) (omega (arith, leb-true (words n) (length b) long)) (omega arith)
+
+  opened-stock : (c : ℕ) → ltb c 76 ≡ true → StockRep n (opened n rules b) c []
+  opened-stock c hc =
+      let z = opened-count c hc in
+      record {
+        same = ap (stockFrom (opened n rules b) c) z;
+        few = omega arith;
+        low = λ k h. absurd (omega arith);
+        placed = λ k h. absurd (omega arith);
+      }
+
+  pub opened-pool : ((c : ℕ) → Fit (rules c)) → PoolRep n (opened n rules b) (newPool rules)
+  unfolding newPool
+  opened-pool fit = record { heap = opened-represents n rules b long fit; stocks = opened-stock }
+
+-- ---- a direct call
+module _ (n : ℕ) (hn : n ≤ maxPages) (rules : Rules) (xs : List PoolCall) (b : List ℕ) (R : PoolRep n b (poolAfter n rules xs)) where
+  abbrev P : Pool
+  P = poolAfter n rules xs
+
+  abbrev made : List Call
+  made = heapCalls n rules xs
+
+  on : P .heap ≡ heapAfter n rules made
+  on = on-heap n hn rules xs .heap
+
+  pub stands : Represents n b (heapAfter n rules made)
+  stands = subst (Represents n b) on (R .heap)
+
+  direct-agrees : (d : Direct) → PoolAgrees n (onCall n b (direct d)) (poolStep n P (direct d))
+  unfolding onCall poolStep pass
+  direct-agrees d =
+      let a = subst (λ H. Agrees (Represents n) (callReply n b (callBy d)) (step n H (callBy d))) (sym on) (call-whole n hn rules made b stands (callBy d)) in
+      record {
+        answer = ap answered (a .answer);
+        pool = record { heap = a .heap; stocks = λ c hc. stock-still n b _ c (P .stock c) hc (heap-frame n hn rules made b stands (callBy d)) (R .stocks c hc) };
+      }
+
+  pub call-agrees : (x : PoolCall) → PoolAgrees n (onCall n b x) (poolStep n P x)
+  unfolding onCall
+  call-agrees (to c x) = pool-agrees n hn rules xs b R c x
+  call-agrees (direct d) = direct-agrees d
+
+-- ---- in turn
+record Goes (n : ℕ) (P : Pool) (b : List ℕ) (ys : List PoolCall) : Type 0 where
+  answers : saidFrom (onCall n) b ys ≡ map (λ v. v .answer) (poolEventsFrom n P ys)
+  book : PoolRep n (bookFrom (onCall n) b ys) (poolFrom n P ys)
+
+runs-on : (n : ℕ) → n ≤ maxPages → (rules : Rules) (xs ys : List PoolCall) (b : List ℕ) → PoolRep n b (poolAfter n rules xs) → Goes n (poolAfter n rules xs) b ys
+runs-on n hn rules xs [] b R = record { answers = refl; book = R }
+runs-on n hn rules xs (y ∷ ys) b R =
+    let a = call-agrees n hn rules xs b R y in
+    let next = pool-append n (newPool rules) xs (y ∷ []) in
+    let ih = subst (λ Q. Goes n Q (onCall n b y .book) ys) next (runs-on n hn rules (xs ++ y ∷ []) ys (onCall n b y .book) (subst (λ Q. PoolRep n (onCall n b y .book) Q) (sym next) (a .pool))) in
+    record { answers = ap₂ _∷_ (a .answer) (ih .answers); book = ih .book }
+
+-- every history of the pool on every book that opens
+pub pool-runs : (n : ℕ) → n ≤ maxPages → (rules : Rules) → ((c : ℕ) → Fit (rules c)) → (b : List ℕ) → leb (words n) (length b) ≡ true → (xs : List PoolCall) → PoolRuns n rules (opened n rules b) xs
+pool-runs n hn rules fit b long xs =
+    let g = runs-on n hn rules [] xs (opened n rules b) (opened-pool n rules b long fit) in
+    record { answers = g .answers; book = g .book }

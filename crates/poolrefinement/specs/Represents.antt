@@ -1,0 +1,40 @@
+-- A book stands for a pool. n is the arena's length.
+--     heapWord      a word in which a field of the heap may lie: all but COUNT, words 9,216 to 39,999 and a page's words of PLACE
+--     StockRep      a class's stock: COUNT in its range, each entry in the arena, and PLACE of entry k is k
+--     PoolRep       the heap, and each class's stock
+--     PoolAgrees    what is said is the model's, and the book stands for the pool afterwards
+use Prim.Native.Nat.{ℕ, _-_, _*_, _%_, _≤_, _<_}
+use mathlib.Core.Bool.{Bool, true, cond, not, _&&_}
+use mathlib.Core.List.{List}
+use mathlib.Core.Path.{_≡_}
+use lib.Dec.{eqb, ltb, leb}
+use Rattle.refinement.specs.Represents.{Represents}
+use Rattle.pool.specs.Stock.{stockRoom}
+use Rattle.pool.specs.Pool.{Pool, Done}
+use Rattle.poolcalls.specs.Stock.{countIn, entryIn, placeIn, stockIn}
+use Rattle.poolcalls.specs.Calls.{Said}
+
+-- the last word of a class's row
+abbrev pub lastOfRow : ℕ → Bool
+lastOfRow i = leb 160 i && (ltb i 768 && eqb (i % 8) 7)
+
+-- a word of a page that has PLACEs
+abbrev pub ofPlaces : ℕ → Bool
+ofPlaces j = leb 2320 j && ltb j 3344
+
+unfoldable pub heapWord : ℕ → Bool
+heapWord i = cond (ltb i 40000) (ltb i 9216 && not (lastOfRow i)) (not (ofPlaces ((i - 40000) % 4112)))
+
+pub record StockRep (n : ℕ) (b : List ℕ) (c : ℕ) (st : List ℕ) : Type 0 where
+  pub same : stockIn b c ≡ st
+  pub few : countIn b c ≤ stockRoom
+  pub low : (k : ℕ) → k < countIn b c → entryIn b c k < 4096 * n
+  pub placed : (k : ℕ) → k < countIn b c → placeIn b (entryIn b c k) ≡ k
+
+pub record PoolRep (n : ℕ) (b : List ℕ) (P : Pool) : Type 0 where
+  pub heap : Represents n b (P .heap)
+  pub stocks : (c : ℕ) → ltb c 76 ≡ true → StockRep n b c (P .stock c)
+
+pub record PoolAgrees (n : ℕ) (s : Said) (d : Done) : Type 0 where
+  pub answer : s .answer ≡ d .answer
+  pub pool : PoolRep n (s .book) (d .pool)

@@ -1,0 +1,89 @@
+-- The ways out of an alloc.
+use Prim.Native.Nat.{ℕ, _-_, _*_, _≤_, _<_}
+use native.Mathlib.Omega.{arith}
+use mathlib.Core.Bool.{Bool, true, false, not}
+use mathlib.Core.List.{List}
+use mathlib.Core.Path.{_≡_, refl, sym, ap, _∙_}
+use lib.ListN as ListN
+use lib.ListN.{length, getD, length-take}
+use borrow.Author.Tests.{eq-eqb, ne-eqb, not-true, not-false}
+use Rattle.words.specs.Word.{blockWord, granuleOf}
+use Rattle.classes.specs.Shape.{shapeOf}
+use Rattle.classes.proofs.Shapes.{shape-sound}
+use Rattle.calls.specs.Take.{takeCall}
+use Rattle.take.specs.declared.call.Take.{Take}
+use Rattle.take.specs.declared.call.Take.the-variants.{Refused, Took}
+use Rattle.take.specs.TakeAnswer.{Takes}
+use Rattle.take.specs.TakePlan.{CallAsks}
+use Rattle.take.proofs.AnswerSteps.{told-refused, told-code, told-count, told-number}
+use Rattle.take.proofs.TakeSpares.{call-spares}
+use Rattle.take.proofs.InArena.{take-in-arena}
+use Rattle.pool.specs.Stock.{blank}
+use Rattle.poolcalls.specs.Stock.{countIn, entryIn, putCount, putAll}
+use Rattle.poolcalls.specs.Calls.{topFair, bringOn, tookOn, allocOn, BlockEnds}
+use Rattle.stock.specs.Asks.{ListAsks}
+use Rattle.stock.specs.Ends.{Brings}
+
+-- ---- of m blocks the last is granted
+module _ (b : List ℕ) (c m : ℕ) (l : List ℕ) where
+  pub bring-none : m ≡ 0 → Brings 0 b (bringOn b c m l)
+  unfolding bringOn
+  bring-none z = rw (eq-eqb m 0 z) (record { code = refl; block = λ old. refl; book = refl })
+
+  module _ (some : m ≡ 0 → ⊥) (n : ℕ) (a : ListAsks n l m) where
+    pub others-asks : ListAsks n l (m - 1)
+    others-asks = record { few = omega (arith, a .few); there = omega (arith, a .there); low = λ i h. a .low i (omega arith) }
+
+    pub bring-last : (b₁ b₂ : List ℕ) (w : ℕ) → b₁ ≡ putAll b c 0 (ListN.take (m - 1) l) → b₂ ≡ putCount b₁ c (m - 1) → w ≡ getD l (m - 1) 0 → Brings w b₂ (bringOn b c m l)
+    unfolding bringOn
+    bring-last b₁ b₂ w e f g =
+        let k : length (ListN.take (m - 1) l) ≡ m - 1 = rw length-take (omega (arith, a .there)) in
+        rw (ne-eqb m 0 some, k) (record { code = refl; block = λ old. g; book = f ∙ ap (λ z. putCount z c (m - 1)) e })
+
+-- ---- a take
+module _ (n : ℕ) (b : List ℕ) (c h : ℕ) (s : Take) (b₁ l : List ℕ) (t : Takes s b₁ l (takeCall n b c (shapeOf c) h blank)) where
+  pub refill-refused : (k old : ℕ) → s ≡ Refused k → BlockEnds (tookOn c (takeCall n b c (shapeOf c) h blank)) k b₁ old old
+  unfolding tookOn
+  refill-refused k old e =
+      let x = takeCall n b c (shapeOf c) h blank in
+      let z = told-refused (x .code) (x .count) (x .virgin) k (sym (t .answer) ∙ e) in
+      rw (ne-eqb (x .code) 0 z) (record { code = told-number (x .code) (x .count) (x .virgin) k (sym (t .answer) ∙ e); book = t .book; block = refl })
+
+  module _ (m : ℕ) (v : Bool) (e : s ≡ Took m v) where
+    counted : m ≡ takeCall n b c (shapeOf c) h blank .count
+    counted = let x = takeCall n b c (shapeOf c) h blank in told-count (x .code) (x .count) (x .virgin) m v (sym (t .answer) ∙ e)
+
+    pub took-asks : CallAsks n b c → ListAsks n l m
+    took-asks a =
+        let x = takeCall n b c (shapeOf c) h blank in
+        rw (counted, t .list) (record {
+          few = call-spares n b c h blank .few;
+          there = call-spares n b c h blank .within;
+          low = take-in-arena n (a .few) c (shapeOf c) (shape-sound c) b h blank (a .known) (a .long) .low;
+        })
+
+    pub refill-took : (r : ℕ) (b₂ : List ℕ) (old : ℕ) → Brings r b₂ (bringOn b₁ c m l) → BlockEnds (tookOn c (takeCall n b c (shapeOf c) h blank)) 0 b₂ old r
+    unfolding tookOn
+    refill-took r b₂ old g =
+        let x = takeCall n b c (shapeOf c) h blank in
+        let g′ : Brings r b₂ (bringOn (x .book) c (x .count) (x .list)) = rw (← counted, ← (t .book), ← (t .list)) g in
+        rw (told-code (x .code) (x .count) (x .virgin) m v (sym (t .answer) ∙ e)) (record { code = sym (g′ .code); book = g′ .book; block = g′ .block old })
+
+-- ---- the whole
+module _ (n : ℕ) (b : List ℕ) (c h k : ℕ) (e : k ≡ countIn b c) where
+  pub alloc-took : k ≡ 0 → (r : ℕ) (b′ : List ℕ) (old new : ℕ) → BlockEnds (tookOn c (takeCall n b c (shapeOf c) h blank)) r b′ old new → BlockEnds (allocOn n b c h) r b′ old new
+  unfolding allocOn
+  alloc-took z r b′ old new t = rw (eq-eqb (countIn b c) 0 (sym e ∙ z)) t
+
+  module _ (some : k ≡ 0 → ⊥) (f : Bool) (ef : f ≡ topFair n b c) where
+    there : countIn b c ≡ 0 → ⊥
+    there z = some (e ∙ z)
+
+    pub alloc-unfair : (old : ℕ) → not f ≡ true → BlockEnds (allocOn n b c h) 13 b old old
+    unfolding allocOn
+    alloc-unfair old u = rw (ne-eqb (countIn b c) 0 there, ← ef, not-true f u) (record { code = refl; book = refl; block = refl })
+
+    pub alloc-popped : (g w old : ℕ) (b′ : List ℕ) → not f ≡ false → g ≡ entryIn b c (k - 1) → w ≡ blockWord (shapeOf c .kind) g → b′ ≡ putCount b c (k - 1) → BlockEnds (allocOn n b c h) 0 b′ old w
+    unfolding allocOn
+    alloc-popped g w old b′ u eg ew q =
+        rw (ne-eqb (countIn b c) 0 there, ← ef, not-false f u, ← e) (record { code = refl; book = q; block = ew ∙ ap (blockWord (shapeOf c .kind)) eg })

@@ -1,0 +1,59 @@
+-- The ways out of `give`.
+use Prim.Native.Nat.{ℕ, zero, suc}
+use native.Mathlib.Omega.{arith}
+use mathlib.Core.Bool.{Bool, true, false}
+use mathlib.Core.List.{List, [], _∷_}
+use mathlib.Core.Path.{_≡_, refl, sym, _∙_}
+use Rattle.classes.specs.declared.Shape.{Shape}
+use Rattle.classes.specs.Shape.{shapeOf}
+use Rattle.classes.proofs.Shapes.{shape-sound}
+use Rattle.calls.specs.Release as Heap
+use Rattle.calls.specs.Release.{releaseBlocks}
+use Rattle.release.specs.declared.Released.{Released}
+use Rattle.release.specs.declared.Released.the-variants.{Refused, Fate}
+use Rattle.release.specs.Act.{answerAs, Answered}
+use Rattle.release.specs.Asks.{ClassAsks}
+use Rattle.release.specs.One.{OneBack}
+use Rattle.take.specs.TakePlan.{CallAsks}
+use Rattle.stock.specs.Ends.{Gave}
+
+-- what the heap's functions ask of a class
+pub class-asks : (n : ℕ) (b : List ℕ) (c : ℕ) (sh : Shape) → CallAsks n b c → sh ≡ shapeOf c → ClassAsks n b c sh
+class-asks n b c sh a e = record { known = a .known; sound = rw e (shape-sound c); few = a .few; long = a .long }
+
+pub class-asks-of : (n : ℕ) (b : List ℕ) (c : ℕ) → CallAsks n b c → ClassAsks n b c (shapeOf c)
+class-asks-of n b c a = class-asks n b c (shapeOf c) a refl
+
+-- the heap's answer as a number
+told-refused : (j f k : ℕ) → Refused k ≡ answerAs j f → k ≡ j
+told-refused zero f k e = cc
+told-refused (suc j) f k e = cc
+
+told-fate : (j f g : ℕ) → Fate g ≡ answerAs j f → 0 ≡ j
+told-fate zero f g e = refl
+told-fate (suc j) f g e = cc
+
+module _ (z : Heap.Released) (b′ : List ℕ) (a : Released) (h : Answered a b′ z) where
+  number : (k : ℕ) → a ≡ Refused k → Gave k b′ z
+  number k e = record { code = told-refused (z .code) (z .fate) k (sym e ∙ h .answer); book = h .left }
+
+  none : (f : ℕ) → a ≡ Fate f → Gave 0 b′ z
+  none f e = record { code = told-fate (z .code) (z .fate) f (sym e ∙ h .answer); book = h .left }
+
+module _ (n : ℕ) (b : List ℕ) (c h w : ℕ) (t : Bool) (b₁ : List ℕ) (o : OneBack t b₁ n b c (shapeOf c) w) where
+  pub gave-one : t ≡ true → Gave 0 b₁ (releaseBlocks n b c (shapeOf c) h (w ∷ []))
+  gave-one e = none (releaseBlocks n b c (shapeOf c) h (w ∷ [])) b₁ (Fate 0) (o .done e h) 0 refl
+
+  module _ (e : t ≡ false) where
+    pub list-asks : CallAsks n b c → ClassAsks n b₁ c (shapeOf c)
+    list-asks a = rw (o .left e) (class-asks-of n b c a)
+
+    module _ (r : Released) (b₂ : List ℕ) (a : Answered r b₂ (releaseBlocks n b₁ c (shapeOf c) h (w ∷ []))) where
+      answered : Answered r b₂ (releaseBlocks n b c (shapeOf c) h (w ∷ []))
+      answered = rw (o .left e) at a
+
+      pub gave-refused : (k : ℕ) → r ≡ Refused k → Gave k b₂ (releaseBlocks n b c (shapeOf c) h (w ∷ []))
+      gave-refused = number (releaseBlocks n b c (shapeOf c) h (w ∷ [])) b₂ r answered
+
+      pub gave-fate : (f : ℕ) → r ≡ Fate f → Gave 0 b₂ (releaseBlocks n b c (shapeOf c) h (w ∷ []))
+      gave-fate = none (releaseBlocks n b c (shapeOf c) h (w ∷ [])) b₂ r answered

@@ -1,0 +1,251 @@
+-- The ways out of the tests whether a word is a block out in the class.
+use Prim.Native.Nat.{ℕ, zero, suc, _+_, _-_, _*_, _/_, _%_, _^_, _≤_, _<_}
+use native.Mathlib.Omega.{arith}
+use native.Mathlib.Nat.{add-zero, div-add-mod', le-div-iff-mul-le, div-lt-iff-lt-mul, mul-le-mul-right}
+use mathlib.Core.Bool.{Bool, true, false, cond, not, _&&_, and-false, true≢false}
+use mathlib.Core.List.{List}
+use mathlib.Core.Path.{_≡_, refl, sym, ap, _∙_}
+use lib.Dec.{eqb, ltb, leb}
+use lib.ListN.{length}
+use mir.Val.{Fits}
+use mir.Syntax.{w32, w64}
+use borrow.Author.Tests.{lt-ltb, le-ltb, le-leb, lt-leb, eq-eqb, ne-eqb, eqb-true, leb-true, ltb-true, ltb-false}
+use Rattle.facts.proofs.Bools.{by-cases, bool-eq, and-left, and-right}
+use Rattle.words.specs.Word.{granuleOf}
+use Rattle.classes.specs.declared.Shape.{Shape}
+use Rattle.classes.specs.Shape.{shapeOf, smallShape}
+use Rattle.classes.specs.Sound.{Sound}
+use Rattle.classes.proofs.Shapes.{shape-sound}
+use Rattle.fields.specs.Field.{arena, page, out, frontier, owner, first, get, words, Has}
+use Rattle.fields.specs.Ranges.{maxPages}
+use Rattle.pages.specs.Runs.{whole}
+use Rattle.pages.specs.Stack.{pageAt, blocksFrom, indexOf, isBlock}
+use Rattle.calls.specs.Out.{startOf, inRunOf, outIn, outAt}
+use Rattle.stack.specs.Inverse.{inverse}
+use Rattle.stack.proofs.InverseLaws.{product-fits, quotient-fits, divides, behind-point, past-point, narrow}
+use Rattle.release.specs.declared.Found.{Found}
+use Rattle.release.specs.declared.Found.the-variants.{At, Nothing}
+use Rattle.release.specs.Asks.{InAsks}
+use Rattle.release.specs.Blocks.{found, blockAt, runAt}
+use Rattle.release.proofs.BlockSteps.{none-found, found-at, found-block, has-bit}
+use Rattle.release.proofs.RunSteps.{run-there}
+use Rattle.take.specs.TakePlan.{CallAsks}
+use Rattle.stock.specs.Asks.{PageAsks, SmallAsks}
+
+pub inverse-by : (c : ℕ) (sh : Shape) (m : ℕ) → sh ≡ shapeOf c → m ≡ inverse (shapeOf c .block) → m ≡ inverse (sh .block)
+inverse-by c sh m e i = rw e i
+
+-- ---- by the run that has the word's granule
+module _ (b : List ℕ) (sh : Shape) (q w : ℕ) (f : Found) (e : f ≡ blockAt sh q w) where
+  pub out-no-block : f ≡ Nothing → false ≡ outIn b sh q w
+  unfolding outIn
+  out-no-block h = rw (none-found (isBlock sh q w) (indexOf sh q w) (sym h ∙ e))
+
+  pub out-bit : (i : ℕ) → f ≡ At i → (x : ℕ) → x ≡ get b (out q i) → eqb x 1 ≡ outIn b sh q w
+  unfolding outIn
+  out-bit i h x k = let z = found-block sh q w f i e h in rw (z .0, ← (z .1), k)
+
+module _ (n : ℕ) (b : List ℕ) (c : ℕ) (sh : Shape) (es : sh ≡ shapeOf c) (w : ℕ) (f : Found) (e : f ≡ runAt n b sh c w) where
+  pub out-no-run : f ≡ Nothing → false ≡ outAt n b c (shapeOf c) w
+  unfolding outAt
+  out-no-run h = rw (← es, none-found (inRunOf n b sh c w) (startOf b w) (sym h ∙ e))
+
+  pub out-run : (q : ℕ) (r : Bool) → f ≡ At q → r ≡ outIn b sh q w → r ≡ outAt n b c (shapeOf c) w
+  unfolding outAt
+  out-run q r h k = let z = found-at (inRunOf n b sh c w) (startOf b w) q (sym h ∙ e) in rw (← es, z .0, ← (z .1)) k
+
+  pub run-asks : (q : ℕ) → f ≡ At q → CallAsks n b c → InAsks b sh q
+  run-asks q h a = run-there n b c sh w f e q h (rw es (shape-sound c)) (a .few) (a .long)
+
+-- ---- a small class: its runs are one page, its blocks begin behind 3 granules
+module _ (c : ℕ) (h : c < 64) where
+  pub small-pages : shapeOf c .pages ≡ 1
+  unfolding shapeOf smallShape
+  small-pages = rw (lt-ltb c 64 h)
+
+  pub small-header : shapeOf c .header ≡ 3
+  unfolding shapeOf smallShape
+  small-header = rw (lt-ltb c 64 h)
+
+module _ (n : ℕ) (b : List ℕ) (c p : ℕ) (a : PageAsks n b c p) where
+  whole-page : whole n b (shapeOf c) c p ≡ (ltb p (get b (arena frontier)) && (eqb (get b (page owner p)) (suc c) && eqb (get b (page first p)) p))
+  unfolding whole
+  whole-page =
+      rw (small-pages c (a .small), add-zero p, le-leb (p + 1) n (omega (arith, a .below)))
+      (by-cases (ltb p (get b (arena frontier)))
+      (λ t. rw (t, le-leb (p + 1) (get b (arena frontier)) (omega (arith, ltb-true p (get b (arena frontier)) t))) (and-true _))
+      (λ t. rw (t, none t)))
+    where
+      and-true : (x : Bool) → (x && true) ≡ x
+      and-true true = refl
+      and-true false = refl
+
+      none : ltb p (get b (arena frontier)) ≡ false → leb (p + 1) (get b (arena frontier)) ≡ false
+      none t = lt-leb (p + 1) (get b (arena frontier)) (omega (arith, ltb-false p (get b (arena frontier)) t))
+
+  module _ (f : ℕ) (ef : f ≡ get b (arena frontier)) where
+    pub page-past : f ≤ p → false ≡ whole n b (shapeOf c) c p
+    page-past h = sym (whole-page ∙ rw (← ef, le-ltb p f h))
+
+    module _ (h : p < f) (o : ℕ) (eo : o ≡ get b (page owner p)) where
+      pub page-other : (o ≡ c + 1 → ⊥) → false ≡ whole n b (shapeOf c) c p
+      page-other d = sym (whole-page ∙ rw (← ef, lt-ltb p f h, ← eo, ne-eqb o (suc c) (λ z. d (omega arith))))
+
+      pub page-own : o ≡ c + 1 → (q : ℕ) → q ≡ get b (page first p) → eqb q p ≡ whole n b (shapeOf c) c p
+      page-own d q eq = sym (whole-page ∙ rw (← ef, lt-ltb p f h, ← eo, eq-eqb o (suc c) (omega arith), ← eq))
+
+-- the block of the run at the word's page: y is its granule there, counted from the first block, round the page's end
+module _ (c w : ℕ) (small : c < 64) (sh : Shape) (es : sh ≡ shapeOf c) (m : ℕ) (em : m ≡ inverse (shapeOf c .block)) (x : ℕ) (ex : (x + 3) % 2 ^ 64 ≡ w) (fit : x < 2 ^ 64) where
+  abbrev y : ℕ
+  y = x % 4096
+
+  near : y < 2 ^ 16
+  near = omega arith
+
+  sd : Sound (shapeOf c)
+  sd = shape-sound c
+
+  pub small-product : Fits w64 (y * m)
+  small-product = product-fits (shapeOf c) y m em near
+
+  pub small-index : Fits w32 (y * m / 2 ^ 32)
+  small-index = quotient-fits (shapeOf c) y m em near sd
+
+  index-is : y * m / 2 ^ 32 ≡ y / shapeOf c .block
+  index-is = divides (shapeOf c) y m em near sd
+
+  room : shapeOf c .capacity * shapeOf c .block ≤ 4093
+  room = omega (arith, sd .fits, small-pages c small, small-header c small)
+
+  at-page : granuleOf w ≡ pageAt w * 4096 + granuleOf w % 4096
+  at-page = sym (div-add-mod' (granuleOf w) 4096)
+
+  -- a word in the header
+  header-none : granuleOf w % 4096 < 3 → isBlock (shapeOf c) (pageAt w) w ≡ false
+  unfolding isBlock
+  header-none l = rw (lt-leb (blocksFrom (shapeOf c) (pageAt w)) (granuleOf w) (omega (arith, at-page, small-header c small)))
+
+  header-far : granuleOf w % 4096 < 3 → 4093 ≤ y
+  header-far l = omega arith
+
+  behind : 3 ≤ granuleOf w % 4096 → granuleOf w ≡ y + blocksFrom (shapeOf c) (pageAt w)
+  behind l = let z : y ≡ granuleOf w % 4096 - 3 = omega arith in omega (arith, at-page, small-header c small)
+
+  module _ (l : 3 ≤ granuleOf w % 4096) where
+    from : leb (blocksFrom (shapeOf c) (pageAt w)) (granuleOf w) ≡ true
+    from = le-leb (blocksFrom (shapeOf c) (pageAt w)) (granuleOf w) (omega (arith, behind l))
+
+    difference : granuleOf w - blocksFrom (shapeOf c) (pageAt w) ≡ y
+    difference = omega (arith, behind l)
+
+    index-here : indexOf (shapeOf c) (pageAt w) w ≡ y / shapeOf c .block
+    unfolding indexOf
+    index-here = ap (λ z. z / shapeOf c .block) difference
+
+    here : isBlock (shapeOf c) (pageAt w) w ≡ (eqb (y / shapeOf c .block * shapeOf c .block) y && ltb (y / shapeOf c .block) (shapeOf c .capacity))
+    unfolding isBlock
+    here = rw (from, index-here, difference)
+
+  -- not the first granule of a block
+  part-none : m ≤ y * m % 2 ^ 32 → y / shapeOf c .block * shapeOf c .block ≡ y → ⊥
+  part-none g z =
+      let r : y % shapeOf c .block ≡ 0 = omega (arith, div-add-mod' y (shapeOf c .block)) in
+      omega (arith, rw em at g, behind-point y (shapeOf c .block) near (sd .wide) (narrow (shapeOf c) sd) r)
+
+  whole-block : y * m % 2 ^ 32 < m → y / shapeOf c .block * shapeOf c .block ≡ y
+  whole-block g = by (y % shapeOf c .block) refl
+    where
+      by : (r : ℕ) → y % shapeOf c .block ≡ r → y / shapeOf c .block * shapeOf c .block ≡ y
+      by zero e = omega (arith, div-add-mod' y (shapeOf c .block))
+      by (suc r) e = absurd (omega (arith, rw em at g, past-point y (shapeOf c .block) near (sd .wide) (narrow (shapeOf c) sd) (omega arith)))
+
+  none-at : isBlock (shapeOf c) (pageAt w) w ≡ false → Nothing ≡ blockAt (shapeOf c) (pageAt w) w
+  none-at e = rw e
+
+  -- 3 or more, or in the header
+  sides : {P : Type 0} → (granuleOf w % 4096 < 3 → P) → (3 ≤ granuleOf w % 4096 → P) → P
+  sides f g = by-cases (ltb (granuleOf w % 4096) 3) (λ t. f (ltb-true _ _ t)) (λ t. g (omega (arith, ltb-false (granuleOf w % 4096) 3 t)))
+
+  pub small-between : m ≤ y * m % 2 ^ 32 → Nothing ≡ blockAt (shapeOf c) (pageAt w) w
+  small-between g = none-at (sides header-none (λ l. here l ∙ rw (ne-eqb _ _ (part-none g))))
+
+  module _ (i : ℕ) (ei : i ≡ y * m / 2 ^ 32) where
+    index : i ≡ y / shapeOf c .block
+    index = ei ∙ index-is
+
+    pub small-past : sh .capacity ≤ i → Nothing ≡ blockAt (shapeOf c) (pageAt w) w
+    small-past g =
+        let k : shapeOf c .capacity ≤ y / shapeOf c .block = rw (← index, ← es) g in
+        none-at (sides header-none (λ l. here l ∙ rw (le-ltb (y / shapeOf c .block) (shapeOf c .capacity) k) and-none))
+      where
+        and-none : (eqb (y / shapeOf c .block * shapeOf c .block) y && false) ≡ false
+        and-none = simp and-false
+
+    pub small-found : y * m % 2 ^ 32 < m → i < sh .capacity → At i ≡ blockAt (shapeOf c) (pageAt w) w
+    small-found g l =
+        let k : y / shapeOf c .block < shapeOf c .capacity = rw (← index, ← es) l in
+        let n : y < shapeOf c .capacity * shapeOf c .block = div-lt-iff-lt-mul {k = shapeOf c .block} {x = y} {y = shapeOf c .capacity} (omega (arith, sd .wide)) .0 k in
+        sides (λ o. absurd (omega (arith, header-far o, room)))
+        (λ o.
+        let yes : isBlock (shapeOf c) (pageAt w) w ≡ true = here o ∙ rw (eq-eqb (y / shapeOf c .block * shapeOf c .block) y (whole-block g), lt-ltb (y / shapeOf c .block) (shapeOf c .capacity) k) in
+        rw (yes, index-here o) (ap At index))
+
+-- ---- and the whole
+module _ (n : ℕ) (b : List ℕ) (c w p : ℕ) (a : SmallAsks n b c w) (ep : p ≡ pageAt w) where
+  pub page-asks : PageAsks n b c p
+  page-asks = record { small = a .small; few = a .few; long = a .long; below = omega (arith, a .low) }
+
+  -- a run of one page that has the granule begins at its page
+  run-starts : inRunOf n b (shapeOf c) c w ≡ true → startOf b w ≡ p
+  unfolding inRunOf
+  run-starts t =
+      let t₁ = and-right (ltb (pageAt w) (get b (arena frontier))) _ (and-right (ltb (pageAt w) n) _ t) in
+      let l = leb-true (startOf b w) (pageAt w) (and-left _ _ t₁) in
+      let h = ltb-true (pageAt w) (startOf b w + shapeOf c .pages) (and-left _ _ (and-right (leb (startOf b w) (pageAt w)) _ t₁)) in
+      omega (arith, small-pages c (a .small))
+
+  run-whole : inRunOf n b (shapeOf c) c w ≡ true → whole n b (shapeOf c) c p ≡ true
+  unfolding inRunOf
+  run-whole t =
+      let t₁ = and-right (ltb (pageAt w) (get b (arena frontier))) _ (and-right (ltb (pageAt w) n) _ t) in
+      rw (← (run-starts t)) (and-right (ltb (pageAt w) (startOf b w + shapeOf c .pages)) _ (and-right (leb (startOf b w) (pageAt w)) _ t₁))
+
+  module _ (o : Bool) (eo : o ≡ whole n b (shapeOf c) c p) where
+    pub small-away : o ≡ false → false ≡ outAt n b c (shapeOf c) w
+    unfolding outAt
+    small-away z =
+        by-cases (inRunOf n b (shapeOf c) c w) (λ t. absurd (let u : true ≡ false = sym (run-whole t) ∙ sym eo ∙ z in true≢false u)) (λ t. rw t)
+
+    module _ (z : o ≡ true) where
+      w-whole : whole n b (shapeOf c) c p ≡ true
+      w-whole = sym eo ∙ z
+
+      starts : startOf b w ≡ p
+      unfolding startOf
+      starts =
+          let q = and-right (eqb (get b (page owner p)) (suc c)) _ (and-right (ltb p (get b (arena frontier))) _ (sym (whole-page n b c p page-asks) ∙ w-whole)) in
+          rw (← ep) (eqb-true (get b (page first p)) p q)
+
+      in-run : inRunOf n b (shapeOf c) c w ≡ true
+      unfolding inRunOf
+      in-run =
+          let f = ltb-true p (get b (arena frontier)) (and-left _ _ (sym (whole-page n b c p page-asks) ∙ w-whole)) in
+          rw (starts, ← ep, lt-ltb p n (page-asks .below), lt-ltb p (get b (arena frontier)) f, le-leb p p (omega arith), lt-ltb p (p + shapeOf c .pages) (omega (arith, small-pages c (a .small)))) w-whole
+
+      out-here : outAt n b c (shapeOf c) w ≡ outIn b (shapeOf c) p w
+      unfolding outAt
+      out-here = rw (in-run, starts)
+
+      module _ (f : Found) (e : f ≡ blockAt (shapeOf c) (pageAt w) w) where
+        at-run : f ≡ blockAt (shapeOf c) p w
+        at-run = rw ep e
+
+        pub small-no-block : f ≡ Nothing → false ≡ outAt n b c (shapeOf c) w
+        small-no-block h = out-no-block b (shapeOf c) p w f at-run h ∙ sym out-here
+
+        module _ (i : ℕ) (h : f ≡ At i) where
+          pub small-has-bit : Has b (out p i)
+          small-has-bit = has-bit b (shapeOf c) p w f i (shape-sound c) (omega (arith, page-asks .below, a .long)) at-run h
+
+          pub small-bit : (x : ℕ) → x ≡ get b (out p i) → eqb x 1 ≡ outAt n b c (shapeOf c) w
+          small-bit x k = out-bit b (shapeOf c) p w f at-run i h x k ∙ sym out-here

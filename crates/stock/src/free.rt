@@ -1,0 +1,89 @@
+// A free: the tests in their order, then the stock, or the heap where the stock holds enough.
+ghost use mathlib.Core.Path.{_≡_};
+ghost use mathlib.Core.Bool.{true, false};
+ghost use lib.Dec.{ltb};
+ghost use Rattle.take.specs.TakePlan.{CallAsks};
+ghost use Rattle.pool.specs.Stock.{stockMost};
+ghost use Rattle.poolcalls.specs.Calls.{freeOn, FreeEnds};
+ghost use Rattle.stock.specs.Asks.{FreeAsks};
+ghost use Rattle.stock.specs.Ends.{Kept, farFault, unfairFault};
+use crate::cells::count;
+use crate::give::give;
+use crate::out::is_out;
+use crate::out::out_at;
+use crate::places::is_stocked;
+use crate::places::push;
+use crate::room::STOCK_ROOM;
+use crate::room::has_room;
+use crate::top::block_word;
+
+// 2^62: words of one kind.
+const KIND: u64 = 4_611_686_018_427_387_904;
+
+// A word that lies x behind its class's first, and not in the arena: 9 for another kind.
+fn far_fault(x: u64) -> u32
+    ensures { λ r. ⌜ r ≡ farFault x ⌝ }
+{
+    if x >= KIND {
+        return 9;
+    }
+    10
+}
+
+// A stock of k blocks that has room for the block at granule g.
+fn keep(meta: &mut [u32], n: u32, c: u32, k: u32, g: u32, w: u64) -> u32
+    requires { ⌜ FreeAsks n (now meta) c k g w ⌝ }
+    requires { ⌜ ltb k (stockMost c) ≡ true ⌝ }
+    ensures { λ r. ⌜ Kept r (now (meta .exit)) n (now (meta .entry)) c w ⌝ }
+{
+    if is_stocked(meta, n, c, g) {
+        return 10;
+    }
+    if is_out(meta, n, c, w) {
+        push(meta, n, c, k, g);
+        return 0;
+    }
+    10
+}
+
+// COUNT is out of its range.
+fn unfair(meta: &[u32], n: u32, c: u32, w: u64) -> u32
+    requires { ⌜ CallAsks n (now meta) c ⌝ }
+    ensures { λ r. ⌜ r ≡ unfairFault n (now (meta .entry)) c w ⌝ }
+{
+    if out_at(meta, n, c, w) {
+        return 13;
+    }
+    10
+}
+
+// A stock of k blocks, which has none: the heap tests the block itself.
+fn pass_on(meta: &mut [u32], n: u32, c: u32, host: u32, k: u32, g: u32, w: u64) -> u32
+    requires { ⌜ FreeAsks n (now meta) c k g w ⌝ }
+    requires { ⌜ ltb k (stockMost c) ≡ false ⌝ }
+    ensures { λ r. ⌜ FreeEnds (freeOn n (now (meta .entry)) c host w) r (now (meta .exit)) ⌝ }
+{
+    if is_stocked(meta, n, c, g) {
+        return 10;
+    }
+    if k > STOCK_ROOM {
+        return unfair(meta, n, c, w);
+    }
+    give(meta, n, c, host, w)
+}
+
+// One difference tells the block's kind and its granule.
+pub fn free(meta: &mut [u32], n: u32, c: u32, host: u32, w: u64) -> u32
+    requires { ⌜ CallAsks n (now meta) c ⌝ }
+    ensures { λ r. ⌜ FreeEnds (freeOn n (now (meta .entry)) c host w) r (now (meta .exit)) ⌝ }
+{
+    let x = std::num::wrapping_sub_u64(w, block_word(c, 0));
+    if x >= 4096 * (n as u64) {
+        return far_fault(x);
+    }
+    let k = count(meta, c);
+    if has_room(c, k) {
+        return keep(meta, n, c, k, x as u32, w);
+    }
+    pass_on(meta, n, c, host, k, x as u32, w)
+}

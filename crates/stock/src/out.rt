@@ -1,0 +1,106 @@
+// Whether a word is a block out in the class, by the heap's own words.
+ghost use mathlib.Core.Path.{_≡_};
+ghost use Prim.Native.Nat.{_*_, _^_, _<_};
+ghost use Rattle.words.specs.Word.{granuleOf};
+ghost use Rattle.classes.specs.Shape.{shapeOf};
+ghost use Rattle.pages.specs.Runs.{whole};
+ghost use Rattle.pages.specs.Stack.{pageAt};
+ghost use Rattle.calls.specs.Out.{outIn, outAt};
+ghost use Rattle.release.specs.Asks.{InAsks};
+ghost use Rattle.release.specs.Blocks.{blockAt};
+ghost use Rattle.take.specs.TakePlan.{CallAsks};
+ghost use Rattle.stock.specs.Asks.{PageAsks, SmallAsks};
+use classes::Shape;
+use classes::shape_of;
+use pages::page_within;
+use release::Found;
+use release::block_at;
+use release::run_of;
+use stack::inverse_at;
+
+// The block of the run at q that the word is, is out.
+fn out_in(meta: &[u32], c: u32, shape: Shape, q: u32, w: u64) -> bool
+    requires { ⌜ InAsks (now meta) shape q ⌝ }
+    requires { ⌜ shape ≡ shapeOf c ⌝ }
+    ensures { λ r. ⌜ r ≡ outIn (now (meta .entry)) shape q w ⌝ }
+{
+    let block = block_at(shape, inverse_at(c), q, w);
+    let Found::At(i) = block else {
+        return false;
+    };
+    fields::out::bit(meta, q, i) == 1
+}
+
+// For any class.
+pub fn out_at(meta: &[u32], n: u32, c: u32, w: u64) -> bool
+    requires { ⌜ CallAsks n (now meta) c ⌝ }
+    ensures { λ r. ⌜ r ≡ outAt n (now (meta .entry)) c (shapeOf c) w ⌝ }
+{
+    let shape = shape_of(c);
+    let run = run_of(meta, n, c, shape, w);
+    let Found::At(q) = run else {
+        return false;
+    };
+    out_in(meta, c, shape, q, w)
+}
+
+// Page p is a run of the small class.
+fn is_run(meta: &[u32], n: u32, c: u32, p: u32) -> bool
+    requires { ⌜ PageAsks n (now meta) c p ⌝ }
+    ensures { λ r. ⌜ r ≡ whole n (now (meta .entry)) (shapeOf c) c p ⌝ }
+{
+    if p >= fields::arena::frontier(meta) {
+        return false;
+    }
+    if fields::page::owner(meta, p) != c + 1 {
+        return false;
+    }
+    fields::page::first(meta, p) == p
+}
+
+// The block of a small class's run that the word is, in the run that its page would be. The header is 3 granules; what lies in it wraps to behind the
+// blocks.
+fn small_at(c: u32, w: u64) -> Found
+    requires { ⌜ c < 64 ⌝ }
+    ensures { λ r. ⌜ r ≡ blockAt (shapeOf c) (pageAt w) w ⌝ }
+{
+    let shape = shape_of(c);
+    let inv = inverse_at(c);
+    let product = std::num::wrapping_sub_u64(w, 3) % 4096 * inv;
+    if product % 4294967296 >= inv {
+        return Found::Nothing;
+    }
+    let i = (product >> 32) as u32;
+    if i >= shape.capacity {
+        return Found::Nothing;
+    }
+    Found::At(i)
+}
+
+// A small class has a way of its own: its numbers stay in registers (docs/BACKEND.md).
+fn small_out(meta: &[u32], n: u32, c: u32, w: u64) -> bool
+    requires { ⌜ SmallAsks n (now meta) c w ⌝ }
+    ensures { λ r. ⌜ r ≡ outAt n (now (meta .entry)) c (shapeOf c) w ⌝ }
+{
+    let p = page_within(w);
+    if is_run(meta, n, c, p) {
+        let block = small_at(c, w);
+        let Found::At(i) = block else {
+            return false;
+        };
+        return fields::out::bit(meta, p, i) == 1;
+    }
+    false
+}
+
+// Of a word whose granule is in the arena.
+pub fn is_out(meta: &[u32], n: u32, c: u32, w: u64) -> bool
+    requires { ⌜ CallAsks n (now meta) c ⌝ }
+    requires { ⌜ granuleOf w < 4096 * n ⌝ }
+    ensures { λ r. ⌜ r ≡ outAt n (now (meta .entry)) c (shapeOf c) w ⌝ }
+{
+    if c < 64 {
+        return small_out(meta, n, c, w);
+    }
+    out_at(meta, n, c, w)
+}

@@ -1,0 +1,29 @@
+// Whether a free puts its block into the stock.
+ghost use mathlib.Core.Path.{_≡_};
+ghost use lib.Dec.{ltb};
+ghost use Rattle.pool.specs.Stock.{stockMost};
+use classes::shape_of;
+
+// As crate pool's Stock.antt has them: the fewest and the most blocks, and the granules of 256 KiB.
+const STOCK_LEAST: u32 = 8;
+
+const STOCK_LIMIT: u32 = 255;
+
+const STOCK_GRANULES: u32 = 16_384;
+
+// No stock holds more: a place in it is 8 bits.
+pub const STOCK_ROOM: u32 = 255;
+
+// A stock of k blocks holds fewer than the class's most. No division: k is below a quotient if k + 1 times the divisor is at most the dividend.
+pub fn has_room(c: u32, k: u32) -> bool
+    ensures { λ r. ⌜ r ≡ ltb k (stockMost c) ⌝ }
+{
+    if k < STOCK_LEAST {
+        return true;
+    }
+    if k >= STOCK_LIMIT {
+        return false;
+    }
+    let shape = shape_of(c);
+    (k + 1) * shape.block <= STOCK_GRANULES
+}

@@ -1,0 +1,78 @@
+-- The ways out of the exported calls of the pool.
+use Prim.Native.Nat.{ℕ, _-_, _≤_, _<_}
+use native.Mathlib.Omega.{arith}
+use mathlib.Core.Bool.{cond}
+use mathlib.Core.List.{List}
+use mathlib.Core.Path.{_≡_, refl, sym, _∙_}
+use borrow.Author.Tests.{eq-eqb, ne-eqb, le-leb, lt-leb}
+use Rattle.fields.specs.Field.{arena, size, get}
+use Rattle.fields.specs.Ranges.{metaFault}
+use Rattle.take.specs.TakePlan.{CallAsks}
+use Rattle.trace.specs.Asks.{BookAsks}
+use Rattle.trace.specs.Words.{ownerAt, known}
+use Rattle.pool.specs.Pool.{Wish, alloc, free, trim, hostIn}
+use Rattle.poolcalls.specs.Calls.{wishOn, allocOn, freeOn, trimOn}
+use Rattle.vigbuso.specs.Faults.{classFault}
+use Rattle.vigbuso.specs.Pool.{poolOn, classOn, BlockEnds, FreeEnds}
+use Rattle.vigbuso.proofs.DirectSteps.{book-in}
+use Rattle.vigbuso.proofs.TakeSteps.{take-asks}
+
+pub pool-asks : (b : List ℕ) (h r c n : ℕ) → r ≡ classFault b h 76 c → r ≡ 0 → n ≡ get b (arena size) → CallAsks n b c
+pool-asks b h r c n e z f = let a = take-asks b h r 0 76 c n (omega arith) e z f in record { known = omega (arith, a .known); few = a .few; long = a .long }
+
+module _ (b : List ℕ) (c r h : ℕ) (e : r ≡ classFault b h 76 c) where
+  module _ (d : r ≡ 0 → ⊥) where
+    pub alloc-unfit : (w : ℕ) → BlockEnds (poolOn b c (alloc h)) r b w w
+    unfolding poolOn
+    alloc-unfit w = rw (← e, ne-eqb r 0 d) (record { code = refl; book = refl; block = refl })
+
+    pub free-unfit : (w : ℕ) → FreeEnds (poolOn b c (free h w)) r b
+    unfolding poolOn
+    free-unfit w = rw (← e, ne-eqb r 0 d) (record { code = refl; book = refl })
+
+    pub trim-unfit : (w : ℕ) → BlockEnds (poolOn b c (trim h)) r b w w
+    unfolding poolOn
+    trim-unfit w = rw (← e, ne-eqb r 0 d) (record { code = refl; book = refl; block = refl })
+
+  module _ (z : r ≡ 0) (n : ℕ) (f : n ≡ get b (arena size)) (s : ℕ) (b′ : List ℕ) where
+    goes : (x : Wish) → hostIn x ≡ h → poolOn b c x ≡ wishOn n b c x
+    unfolding poolOn
+    goes x i = rw (i, ← e, eq-eqb r 0 z, f)
+
+    pub alloc-goes : (old new : ℕ) → BlockEnds (allocOn n b c h) s b′ old new → BlockEnds (poolOn b c (alloc h)) s b′ old new
+    alloc-goes old new t = rw (goes (alloc h) refl) t
+
+    pub free-goes : (w : ℕ) → FreeEnds (freeOn n b c h w) s b′ → FreeEnds (poolOn b c (free h w)) s b′
+    free-goes w t = rw (goes (free h w) refl) t
+
+    pub trim-goes : (old new : ℕ) → BlockEnds (trimOn n b c h) s b′ old new → BlockEnds (poolOn b c (trim h)) s b′ old new
+    trim-goes old new t = rw (goes (trim h) refl) t
+
+-- ---- the class that has a block's page
+module _ (b : List ℕ) (w r : ℕ) (e : r ≡ metaFault b) where
+  pub class-unfit : (r ≡ 0 → ⊥) → 76 ≡ classOn b w
+  unfolding classOn
+  class-unfit d = rw (← e, ne-eqb r 0 d)
+
+  module _ (z : r ≡ 0) where
+    pub book-fair : metaFault b ≡ 0
+    book-fair = sym e ∙ z
+
+    module _ (n : ℕ) (f : n ≡ get b (arena size)) where
+      pub owner-asks : BookAsks n b
+      owner-asks = let k = book-in b book-fair n f in record { few = k .small; long = k .long }
+
+      module _ (k : ℕ) (ek : k ≡ ownerAt n b w) where
+        held : classOn b w ≡ cond (known k) (k - 1) 76
+        unfolding classOn
+        held = rw (← e, eq-eqb r 0 z, ← f, ← ek)
+
+        pub class-none : k ≡ 0 → 76 ≡ classOn b w
+        class-none o = sym (held ∙ rw o)
+
+        module _ (d : k ≡ 0 → ⊥) where
+          pub class-high : 76 < k → 76 ≡ classOn b w
+          class-high h = sym (held ∙ rw (le-leb 1 k (omega (arith, d)), lt-leb k 76 h))
+
+          pub class-held : k ≤ 76 → k - 1 ≡ classOn b w
+          class-held h = sym (held ∙ rw (le-leb 1 k (omega (arith, d)), le-leb k 76 h))

@@ -1,0 +1,62 @@
+// One block out, one block back, and a stocked block back to the heap. Any number and any book is taken: numbers 1 to 4 stand before each call, for
+// classes 0 to 75 by one number.
+use crate::faults::class_fault;
+use classes::CLASS_COUNT;
+ghost use mathlib.Core.Path.{_≡_};
+ghost use Rattle.pool.specs.Pool.{alloc, free, trim};
+ghost use Rattle.vigbuso.specs.Pool.{poolOn, classOn, BlockEnds, FreeEnds};
+
+#[no_mangle]
+pub extern "C" fn vigbuso_alloc(meta: &mut [u32], class: u32, host: u32, block: &mut u64) -> u32
+    ensures { λ r. ⌜ BlockEnds (poolOn (now (meta .entry)) class (alloc host)) r (now (meta .exit)) (now (block .entry)) (now (block .exit)) ⌝ }
+{
+    let fault = class_fault(meta, host, CLASS_COUNT, class);
+    if fault != 0 {
+        return fault;
+    }
+    let size = fields::arena::size(meta);
+    stock::alloc::alloc(meta, size, class, host, block)
+}
+
+#[no_mangle]
+pub extern "C" fn vigbuso_free(meta: &mut [u32], class: u32, host: u32, block: u64) -> u32
+    ensures { λ r. ⌜ FreeEnds (poolOn (now (meta .entry)) class (free host block)) r (now (meta .exit)) ⌝ }
+{
+    let fault = class_fault(meta, host, CLASS_COUNT, class);
+    if fault != 0 {
+        return fault;
+    }
+    let size = fields::arena::size(meta);
+    stock::free::free(meta, size, class, host, block)
+}
+
+#[no_mangle]
+pub extern "C" fn vigbuso_trim(meta: &mut [u32], class: u32, host: u32, block: &mut u64) -> u32
+    ensures { λ r. ⌜ BlockEnds (poolOn (now (meta .entry)) class (trim host)) r (now (meta .exit)) (now (block .entry)) (now (block .exit)) ⌝ }
+{
+    let fault = class_fault(meta, host, CLASS_COUNT, class);
+    if fault != 0 {
+        return fault;
+    }
+    let size = fields::arena::size(meta);
+    stock::trim::trim(meta, size, class, host, block)
+}
+
+// The class that has the block's page, or CLASS_COUNT.
+#[no_mangle]
+pub extern "C" fn vigbuso_class_of(meta: &[u32], block: u64) -> u32
+    ensures { λ r. ⌜ r ≡ classOn (now (meta .entry)) block ⌝ }
+{
+    if fields::fault::meta_fault(meta) != 0 {
+        return CLASS_COUNT;
+    }
+    let size = fields::arena::size(meta);
+    let owner = trace::acts::owner_at(meta, size, block);
+    if owner == 0 {
+        return CLASS_COUNT;
+    }
+    if owner > CLASS_COUNT {
+        return CLASS_COUNT;
+    }
+    owner - 1
+}
