@@ -32,11 +32,12 @@ use Rattle.model.specs.History.{heapAfter}
 use Rattle.model.specs.BestFit.{Commits, from-hole, from-frontier, unusable, ungranted, exhausted}
 use Rattle.model.specs.Yields.{TakeYields, refuses, yields, asks-first}
 use Rattle.model.proofs.Theorems.{best-fit, yielding, conserved}
+use Rattle.model.proofs.Ways.{host-of}
 use Rattle.arena.specs.Load.{loadArena}
 use Rattle.demands.specs.Run.{Opens, bookAfter, next}
 use Rattle.demands.specs.Demands.{CommitFits, RunFits, unasked, nothing, given, Asks, Spent}
 use Rattle.demands.proofs.Histories.{run-represents, next-agrees}
-use Rattle.demands.proofs.Codes.{host-of, next-host, next-step, next-answer, next-unrefused, next-zero}
+use Rattle.demands.proofs.Codes.{next-host, next-step, next-answer, next-unrefused, next-zero}
 
 -- ---- a request stays with its class, or goes to the arena for m pages; A says that it should
 data Reaches (m : ℕ) (A : Type 0) : Ask → Type 0 where

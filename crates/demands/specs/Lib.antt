@@ -5,6 +5,7 @@ pub mod Start
 pub mod Contracts
 pub mod Returns
 pub mod Demands
+pub mod Reservation
 pub mod Order
 pub mod Ranges
 pub mod Reads

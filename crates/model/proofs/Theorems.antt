@@ -16,6 +16,8 @@ use Rattle.model.specs.Demands.{BestFit, Joining, Yielding, Outs, Conser
 use Rattle.model.proofs.HistoryArena as Arenas
 use Rattle.model.proofs.SameHeaps as Orders
 use Rattle.model.proofs.Yields as Yields
+use Rattle.model.specs.Reservation.{Reserved}
+use Rattle.model.proofs.Reservation as Reservation
 use Rattle.model.proofs.Conserved as Pages
 use Rattle.model.proofs.Figured as Figures
 use Rattle.model.proofs.Alone as Alone
@@ -41,6 +43,10 @@ yielding = Yields.yielding
 -- number 10 by the history
 pub outs : (size : ℕ) (rules : Rules) (xs : List Call) → Outs size rules xs
 outs = Blocks.outs
+
+-- the reservation by the history, and `contains`
+pub reserved : (size : ℕ) (rules : Rules) (xs : List Call) → Reserved size rules xs
+reserved = Reservation.reserved
 
 -- every page is in exactly one place
 pub conserved : (size : ℕ) (rules : Rules) (xs : List Call) → Conserved size rules xs
