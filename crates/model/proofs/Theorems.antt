@@ -18,6 +18,13 @@ use Rattle.model.proofs.SameHeaps as Orders
 use Rattle.model.proofs.Yields as Yields
 use Rattle.model.specs.Reservation.{Reserved}
 use Rattle.model.proofs.Reservation as Reservation
+use Rattle.classes.specs.declared.Shape.{Shape}
+use Rattle.rules.specs.declared.Limits.{Limits}
+use Rattle.model.specs.Class.{Class}
+use Rattle.model.specs.Counted.{Counted}
+use Rattle.model.proofs.Counted as Counts
+use Rattle.model.specs.Groups.{GroupsGive}
+use Rattle.model.proofs.Groups as Groups
 use Rattle.model.proofs.Conserved as Pages
 use Rattle.model.proofs.Figured as Figures
 use Rattle.model.proofs.Alone as Alone
@@ -60,6 +67,14 @@ conserved size rules xs = record {
 -- document 02, A.5: a report's figures
 pub figured : (size : ℕ) (rules : Rules) (xs : List Call) → Figured size rules xs (figures size (heapAfter size rules xs))
 figured = Figures.figured
+
+-- a report's three counts, by the history
+pub counted : (size : ℕ) (rules : Rules) (xs : List Call) → Counted size rules xs (figures size (heapAfter size rules xs))
+counted = Counts.counted-by
+
+-- what a group release gives, by its answer
+pub groups-give : (sh : Shape) (lim : Limits) (s : Class) → GroupsGive sh lim s
+groups-give = Groups.groups-give
 
 -- Demand 3, both halves; a word has room for the granules of no longer arena
 pub demand-3 : (size : ℕ) → size ≤ maxPages → Demand3 size
