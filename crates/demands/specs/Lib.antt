@@ -6,6 +6,8 @@ pub mod Contracts
 pub mod Returns
 pub mod Demands
 pub mod Reservation
+pub mod Counted
+pub mod Groups
 pub mod Order
 pub mod Ranges
 pub mod Reads
