@@ -16,6 +16,7 @@ pub mod Refusals
 pub mod ClassTables
 pub mod Game
 pub mod Listing
+pub mod ListedRuns
 pub mod Plan
 pub mod Idle
 pub mod Parking
