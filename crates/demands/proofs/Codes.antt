@@ -1,24 +1,24 @@
 -- A reply's number is 0 exactly if its answer is no refusal; so a call that names a class is refused exactly by number 3 or if the model's
 -- class refuses it.
---     host-of                      a call of a class brings its request's host word
 --     next-host                    one that is not refused passed number 3
 --     next-step, next-answer       one that passed it goes to its class, whose answer is the reply's; `next-class`, on the words
 --     next-unrefused, next-zero    and then it is refused exactly if the class refuses it
-use Prim.Native.Nat.{ℕ, _+_}
+use Prim.Native.Nat.{ℕ}
 use native.Mathlib.Omega.{arith}
-use mathlib.Core.Bool.{Bool, true, false, cond, false≢true}
+use mathlib.Core.Bool.{true, false, cond, false≢true}
 use mathlib.Core.List.{List}
-use mathlib.Core.Option.{some, Option·none-ne-some}
+use mathlib.Core.Option.{some}
 use mathlib.Core.Path.{_≡_, sym, ap, _∙_}
-use lib.Dec.{eqb, ltb}
+use lib.Dec.{eqb}
 use borrow.Author.Tests.{eqb-true}
 use Rattle.facts.proofs.Bools.{by-cases}
 use Rattle.words.specs.Host.{badHost}
 use Rattle.rules.specs.Rules.{rulesOf}
 use Rattle.model.specs.Calls as Calls
-use Rattle.model.specs.Calls.{Call, Answer, Named, named, names, hostIn, wayOf, hostOf, Request, refused, isRefused}
+use Rattle.model.specs.Calls.{Call, Answer, Named, names, wayOf, hostOf, Request, refused, isRefused}
 use Rattle.model.specs.Heap.{Outcome, classCall, step}
 use Rattle.model.specs.History.{heapAfter}
+use Rattle.model.proofs.Ways.{host-of}
 use Rattle.refinement.specs.Run.{classReply, callReply}
 use Rattle.demands.specs.Run.{Opens, bookAfter, next}
 use Rattle.demands.proofs.Histories.{next-is, next-agrees}
@@ -38,23 +38,6 @@ class-unrefused : (n : ℕ) (b : List ℕ) (c : ℕ) (r : Request) → classRepl
 class-unrefused n b c (Calls.take h l) e = rw e
 class-unrefused n b c (Calls.giveBack h ws) e = rw e
 class-unrefused n b c (Calls.giveChunks h ws gs fs) e = rw e
-
--- ---- a call of a class brings its request's host word
-named-host : (t : Bool) (c : ℕ) (r : Request) (d : Named) → named t c r ≡ some d → hostOf r ≡ hostOf (d .request)
-named-host true c r d e = let z : record { class = c; request = r } ≡ d = cc in ap (λ (x : Named). hostOf (x .request)) z
-named-host false c r d e = absurd (Option·none-ne-some d e)
-
-pub host-of : (x : Call) (d : Named) → names x ≡ some d → hostIn x ≡ hostOf (d .request)
-host-of (Calls.takeBlocks c h l) d e = named-host (ltb c 64) c _ d e
-host-of (Calls.mediumTakeBlocks c h l) d e = named-host (ltb c 12) (64 + c) _ d e
-host-of (Calls.releaseBlocks c h ws) d e = named-host (ltb c 64) c _ d e
-host-of (Calls.mediumReleaseBlocks c h ws) d e = named-host (ltb c 12) (64 + c) _ d e
-host-of (Calls.releaseBinChunks c h ws gs fs) d e = named-host (ltb c 64) c _ d e
-host-of (Calls.commit h m) d e = absurd (Option·none-ne-some d e)
-host-of (Calls.growFrontier h q old new) d e = absurd (Option·none-ne-some d e)
-host-of (Calls.release h q m) d e = absurd (Option·none-ne-some d e)
-host-of (Calls.contains o k) d e = absurd (Option·none-ne-some d e)
-host-of Calls.report d e = absurd (Option·none-ne-some d e)
 
 module _ (n : ℕ) (rows b : List ℕ) (o : Opens n rows b) (xs : List Call) (x : Call) (d : Named) (e : names x ≡ some d) where
   -- number 3

@@ -32,14 +32,15 @@ use Rattle.model.specs.History.{heapAfter}
 use Rattle.model.specs.BestFit.{Commits, from-hole, from-frontier, unusable, ungranted, exhausted}
 use Rattle.model.specs.Yields.{TakeYields, refuses, yields, asks-first}
 use Rattle.model.proofs.Theorems.{best-fit, yielding, conserved}
+use Rattle.model.proofs.Ways.{host-of}
 use Rattle.arena.specs.Load.{loadArena}
 use Rattle.demands.specs.Run.{Opens, bookAfter, next}
 use Rattle.demands.specs.Demands.{CommitFits, RunFits, unasked, nothing, given, Asks, Spent}
 use Rattle.demands.proofs.Histories.{run-represents, next-agrees}
-use Rattle.demands.proofs.Codes.{host-of, next-host, next-step, next-answer, next-unrefused, next-zero}
+use Rattle.demands.proofs.Codes.{next-host, next-step, next-answer, next-unrefused, next-zero}
 
 -- ---- a request stays with its class, or goes to the arena for m pages; A says that it should
-data Reaches (m : ℕ) (A : Type 0) : Ask → Type 0 where
+pub data Reaches (m : ℕ) (A : Type 0) : Ask → Type 0 where
   home : {r : Result} → (A → ⊥) → Reaches m A (done r)
   away : {k : Option ℕ → Result} → A → Reaches m A (asks m k)
 
@@ -60,7 +61,7 @@ module _ (sh : Shape) (lim : Limits) (m : ℕ) (A : Type 0) (no : A → ⊥) whe
   unfolding answer releaseList
   list-home s h ws = search (home-cond, at-home, page-home)
 
-  chunks-home : (s : Class) (h : ℕ) (ws gs fs : List ℕ) → Reaches m A (answer sh lim s (Calls.giveChunks h ws gs fs))
+  pub chunks-home : (s : Class) (h : ℕ) (ws gs fs : List ℕ) → Reaches m A (answer sh lim s (Calls.giveChunks h ws gs fs))
   unfolding answer releaseChunks
   chunks-home s h ws gs fs = search (home-cond, at-home) depth 9
 

@@ -21,7 +21,7 @@ use Rattle.demands.specs.Idle.{Idle}
 use Rattle.demands.proofs.Contracts.{shows-call}
 use Rattle.demands.proofs.Histories.{next-agrees}
 
-report-answer : (n : ℕ) (H : Heap) → step n H Calls.report .answer ≡ reported (figures n H)
+pub report-answer : (n : ℕ) (H : Heap) → step n H Calls.report .answer ≡ reported (figures n H)
 unfolding step wayOf directCall
 report-answer n H = refl
 

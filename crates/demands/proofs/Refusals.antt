@@ -5,13 +5,13 @@
 --     refused-exactly     a call is refused exactly when a number of its table applies
 use Prim.Native.Nat.{ℕ, zero, suc}
 use native.Mathlib.Omega.{arith}
-use mathlib.Core.Bool.{Bool, true, false, not, true≢false}
+use mathlib.Core.Bool.{Bool, true, false, cond, not, true≢false}
 use mathlib.Core.List.{List, [], _∷_}
 use mathlib.Core.Option.{Option, none, some}
 use mathlib.Core.Path.{_≡_, refl, sym, ap, _∙_}
 use mathlib.Core.Logic.{_↔_}
 use lib.Dec.{eqb, leb, ltb}
-use borrow.Author.Tests.{ltb-true, lt-leb, eqb-true}
+use borrow.Author.Tests.{ltb-true, lt-leb, eqb-true, eqb-false}
 use Rattle.facts.specs.Lists.{every, any}
 use Rattle.facts.proofs.Bools.{by-cases, and-left, and-right}
 use Rattle.words.specs.Host.{digit}
@@ -22,6 +22,7 @@ use Rattle.classes.proofs.Meaning.{small-first-fit, medium-first-fit, small-cla
 use Rattle.fields.specs.Field.{arena, size, state, get}
 use Rattle.fields.specs.Ranges.{metaFault}
 use Rattle.model.specs.Arena.{contains, isReady}
+use Rattle.model.proofs.Reservation.{contained-exactly}
 use Rattle.plan.specs.Plan.{badPlan}
 use Rattle.arena.specs.Load.{statusOf, loadArena}
 use Rattle.arena.specs.Calls.{containsCall}
@@ -31,7 +32,7 @@ use Rattle.take.specs.TakeAnswer as Takes
 use Rattle.release.specs.Act.{answerAs}
 use Rattle.vigbuso.specs.Direct.{firstOut, freshOut, grownOut, containsOn}
 use Rattle.vigbuso.specs.Blocks.{codeOut, countOut, virginOut, releaseCode, fateOut}
-use Rattle.demands.specs.Refusals.{Row, firstNumber, checkingOrder, inOrder, Refuses, OpenRefuses, CommitRefuses, GrowRefuses, GiveRefuses, ReportRefuses, TakeRefuses, ReleaseRefuses, ChunksRefuses, containsTable, ContainsAnswers, SizeAnswers, Demand1, TableRefuses, GameRefuses, PlanRefuses, ListingRefuses}
+use Rattle.demands.specs.Refusals.{Row, firstNumber, checkingOrder, inOrder, Refuses, OpenRefuses, CommitRefuses, GrowRefuses, GiveRefuses, ReportRefuses, TakeRefuses, ReleaseRefuses, ChunksRefuses, containsTable, ContainedIn, ContainsAnswers, SizeAnswers, Demand1, TableRefuses, GameRefuses, PlanRefuses, ListingRefuses}
 use Rattle.demands.proofs.RefusalsLaws.{Ends, book-turn}
 use Rattle.demands.proofs.TraceRefusals.{trace-refuses}
 use Rattle.demands.proofs.RefusalsCalls.{open-table, commit-table, grow-table, give-table, report-table, take-table, release-table, chunks-table, rate-table, game-table, listing-table}
@@ -145,22 +146,48 @@ beyond-ready (suc zero) e = e
 beyond-ready (suc (suc s)) e = refl
 
 module _ (b : List ℕ) (o k : ℕ) where
-  -- none of the rows applies where the book has its length and STATE is in its range
-  no-row : metaFault b ≡ 0 → leb (get b (arena state)) 2 ≡ true → firstNumber (containsTable b) ≡ 0
+  -- the rows are those of the book's length, and of STATE's range
+  row-first : cond (eqb (metaFault b) 0) (cond (leb (get b (arena state)) 2) 0 13) (metaFault b) ≡ firstNumber (containsTable b)
   unfolding metaFault
-  no-row z e =
-      let t = book-turn {R = ℕ} (λ x. x) (λ x. Unit {0}) ((13, not (leb (get b (arena state)) 2)) ∷ []) (λ x. x) 0 (λ x. refl) (λ x. tt) (record { number = rw e; kept = λ d. tt }) (get b (arena size)) b in
-      sym (t .number) ∙ (rw z)
+  row-first = book-turn {R = ℕ} (λ x. x) (λ x. Unit {0}) ((13, not (leb (get b (arena state)) 2)) ∷ []) (λ x. x) _ (λ x. refl) (λ x. tt) (record { number = in-range (leb (get b (arena state)) 2); kept = λ d. tt }) (get b (arena size)) b .number
+    where
+      in-range : (t : Bool) → cond t 0 13 ≡ firstNumber ((13, not t) ∷ [])
+      in-range true = refl
+      in-range false = refl
 
   contains-no : (firstNumber (containsTable b) ≡ 0 → ⊥) → containsOn b o k ≡ false
   unfolding containsOn containsCall contains loadArena
   contains-no d =
       by-cases (eqb (metaFault b) 0)
-      (λ e. by-cases (leb (get b (arena state)) 2) (λ i. absurd (d (no-row (eqb-true (metaFault b) 0 e) i))) (λ i. rw (e, beyond-ready (get b (arena state)) i)))
+      (λ e. by-cases (leb (get b (arena state)) 2) (λ i. absurd (d (sym row-first ∙ rw (e, i)))) (λ i. rw (e, beyond-ready (get b (arena state)) i)))
       (λ e. rw e)
 
+  contains-yes : (containsOn b o k ≡ true) ↔ ContainedIn b o k
+  unfolding containsOn containsCall
+  contains-yes = (yes, no)
+    where
+      yes : containsOn b o k ≡ true → ContainedIn b o k
+      yes e = record {
+        fair = by-cases (eqb (firstNumber (containsTable b)) 0) (λ z. eqb-true (firstNumber (containsTable b)) 0 z) (λ z. absurd (true≢false (sym e ∙ contains-no (λ y. eqb-false (firstNumber (containsTable b)) 0 z y))));
+        within = by-cases (eqb (metaFault b) 0) (λ z. contained-exactly (get b (arena size)) o k (loadArena b) .0 (rw z at e)) (λ z. absurd (true≢false (sym (rw z at e))));
+      }
+
+      no : ContainedIn b o k → containsOn b o k ≡ true
+      no c =
+          by-cases (eqb (metaFault b) 0)
+          (λ z. rw z (contained-exactly (get b (arena size)) o k (loadArena b) .1 (c .within)))
+          (λ z. absurd (eqb-false (metaFault b) 0 z (rw z at (row-first ∙ c .fair))))
+
+digit-one : (t : Bool) → digit t ≡ 1 → t ≡ true
+digit-one true e = refl
+digit-one false e = absurd (omega arith)
+
 pub contains-answers : ContainsAnswers
-contains-answers b o k r e = record { plain = rw e (digit-le (containsOn b o k)); no = λ d. e ∙ ap digit (contains-no b o k d) }
+contains-answers b o k r e = record {
+  plain = rw e (digit-le (containsOn b o k));
+  no = λ d. e ∙ ap digit (contains-no b o k d);
+  yes = (λ z. contains-yes b o k .0 (digit-one (containsOn b o k) (sym e ∙ z)), λ c. e ∙ ap digit (contains-yes b o k .1 c));
+}
 
 -- ---- the demand
 pub demand-1 : Demand1

@@ -23,7 +23,7 @@ use Rattle.refinement.specs.Run.{answersIn}
 use Rattle.demands.specs.Run.{Opens, answered, told, run}
 use Rattle.demands.proofs.Histories.{run-answers}
 
-abbrev bare : List Event → List Event
+abbrev pub bare : List Event → List Event
 bare [] = []
 bare (v ∷ vs) = record { call = v .call; answer = v .answer; run = none } ∷ bare vs
 

@@ -5,6 +5,9 @@ pub mod Start
 pub mod Contracts
 pub mod Returns
 pub mod Demands
+pub mod Reservation
+pub mod Counted
+pub mod Groups
 pub mod Order
 pub mod Ranges
 pub mod Reads
@@ -13,6 +16,7 @@ pub mod Refusals
 pub mod ClassTables
 pub mod Game
 pub mod Listing
+pub mod ListedRuns
 pub mod Plan
 pub mod Idle
 pub mod Parking

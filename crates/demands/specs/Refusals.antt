@@ -10,6 +10,7 @@
 use Prim.Native.Nat.{ℕ, _+_, _-_, _≤_, _<_}
 use mathlib.Core.Bool.{Bool, true, false, cond, not, _||_}
 use mathlib.Core.List.{List, [], _∷_, _++_}
+use mathlib.Core.Logic.{_↔_}
 use mathlib.Core.Path.{_≡_}
 use lib.Dec.{eqb, ltb, leb}
 use lib.ListN.{length}
@@ -30,9 +31,11 @@ use Rattle.fields.specs.Ranges.{maxPages}
 use Rattle.model.specs.Heap.{badRun, badGrowth}
 use Rattle.model.specs.Release.{ofKind}
 use Rattle.model.specs.Chunks.{chunksMax}
+use Rattle.model.specs.Reservation.{Contained}
 use Rattle.plan.specs.Plan.{badPlan}
 use Rattle.plan.specs.Code.{PlanEnds}
 use Rattle.listing.specs.Listing.{badListing, shortHistories, ListingEnds}
+use Rattle.arena.specs.Load.{loadArena}
 use Rattle.arena.specs.Calls.{heldDirect}
 use Rattle.direct.specs.Answer.{Releases}
 use Rattle.calls.specs.Out.{startOf, outAt, repeats}
@@ -310,13 +313,19 @@ TraceRefuses =
     → TraceEnds (traceOn b n ws bl fl dn) r b′ bl′ fl′ dn′
     → Refuses (traceTable b n ws bl fl) r ((r ≡ 16 → ⊥) → (b′ ≡ b) × (bl′ ≡ bl) × (fl′ ≡ fl) × (dn′ ≡ dn))
 
--- "Sizes and `contains` refuse nothing": `contains` is 1 or 0, yes or no, and no "on a book that 1, 2 or 13 would refuse".
-pub record Contains (b : List ℕ) (r : ℕ) : Type 0 where
+-- "Sizes and `contains` refuse nothing": `contains` is 1 or 0, yes or no, and no "on a book that 1, 2 or 13 would refuse"; on any other it is
+-- yes exactly if the k bytes from offset o on are the arena's, by the length and the reservation that stand in the book
+pub record ContainedIn (b : List ℕ) (o k : ℕ) : Type 0 where
+  pub fair : firstNumber (containsTable b) ≡ 0
+  pub within : Contained (get b (arena size)) (loadArena b .status) o k
+
+pub record Contains (b : List ℕ) (o k r : ℕ) : Type 0 where
   pub plain : r ≤ 1
   pub no : (firstNumber (containsTable b) ≡ 0 → ⊥) → r ≡ 0
+  pub yes : (r ≡ 1) ↔ ContainedIn b o k
 
 abbrev pub ContainsAnswers : Type 0
-ContainsAnswers = (b : List ℕ) (o k r : ℕ) → r ≡ digit (containsOn b o k) → Contains b r
+ContainsAnswers = (b : List ℕ) (o k r : ℕ) → r ≡ digit (containsOn b o k) → Contains b o k r
 
 -- Document 02, A.6: the lookup "answers small class, medium class, or too large". The class is the first whose blocks hold the size, and
 -- number 4 does not refuse it; a size that is too large leaves the out-parameter, c, as it was.

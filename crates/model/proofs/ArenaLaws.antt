@@ -44,7 +44,7 @@ give-all-frontier n (q ∷ qs) a = give-all-frontier n qs (give n q a) ∙ give-
 pub record Drawn (size n : ℕ) (a : Arena) (d : Given) : Type 0 where
   pub pages : (x : ℕ) → idle x (d .arena) + coversRun n (d .run) x ≡ idle x a
   rises : a .frontier ≤ d .arena .frontier
-  bound : a .frontier ≤ size → d .arena .frontier ≤ size
+  pub bound : a .frontier ≤ size → d .arena .frontier ≤ size
 
 module _ (size n : ℕ) (a : Arena) where
   drawn-cond : (b : Bool) (x y : Given) → (b ≡ true → Drawn size n a x) → (b ≡ false → Drawn size n a y) → Drawn size n a (cond b x y)

@@ -16,6 +16,15 @@ use Rattle.model.specs.Demands.{BestFit, Joining, Yielding, Outs, Conser
 use Rattle.model.proofs.HistoryArena as Arenas
 use Rattle.model.proofs.SameHeaps as Orders
 use Rattle.model.proofs.Yields as Yields
+use Rattle.model.specs.Reservation.{Reserved}
+use Rattle.model.proofs.Reservation as Reservation
+use Rattle.classes.specs.declared.Shape.{Shape}
+use Rattle.rules.specs.declared.Limits.{Limits}
+use Rattle.model.specs.Class.{Class}
+use Rattle.model.specs.Counted.{Counted}
+use Rattle.model.proofs.Counted as Counts
+use Rattle.model.specs.Groups.{GroupsGive}
+use Rattle.model.proofs.Groups as Groups
 use Rattle.model.proofs.Conserved as Pages
 use Rattle.model.proofs.Figured as Figures
 use Rattle.model.proofs.Alone as Alone
@@ -42,6 +51,10 @@ yielding = Yields.yielding
 pub outs : (size : ℕ) (rules : Rules) (xs : List Call) → Outs size rules xs
 outs = Blocks.outs
 
+-- the reservation by the history, and `contains`
+pub reserved : (size : ℕ) (rules : Rules) (xs : List Call) → Reserved size rules xs
+reserved = Reservation.reserved
+
 -- every page is in exactly one place
 pub conserved : (size : ℕ) (rules : Rules) (xs : List Call) → Conserved size rules xs
 conserved size rules xs = record {
@@ -54,6 +67,14 @@ conserved size rules xs = record {
 -- document 02, A.5: a report's figures
 pub figured : (size : ℕ) (rules : Rules) (xs : List Call) → Figured size rules xs (figures size (heapAfter size rules xs))
 figured = Figures.figured
+
+-- a report's three counts, by the history
+pub counted : (size : ℕ) (rules : Rules) (xs : List Call) → Counted size rules xs (figures size (heapAfter size rules xs))
+counted = Counts.counted-by
+
+-- what a group release gives, by its answer
+pub groups-give : (sh : Shape) (lim : Limits) (s : Class) → GroupsGive sh lim s
+groups-give = Groups.groups-give
 
 -- Demand 3, both halves; a word has room for the granules of no longer arena
 pub demand-3 : (size : ℕ) → size ≤ maxPages → Demand3 size

@@ -20,7 +20,9 @@ use Rattle.model.specs.Page.{Page, carveAs}
 use Rattle.model.specs.Class.{newClass, lists, Ask, serve, takeFrom}
 use Rattle.model.specs.Release.{Settled, park}
 use Rattle.model.specs.Chunks.{releaseChunks}
-use Rattle.model.specs.History.{answers, heapAfter}
+use Rattle.model.specs.Arena.{ready}
+use Rattle.model.specs.Heap.{Heap, nobody}
+use Rattle.model.specs.History.{answers, heapAfter, eventsFrom}
 
 -- what is told: the class of a size; of a history, each call's answer, and the holes stored after the last; an emptied run's fate, and
 -- how many empty and cold ones its class then has; whether a given run is stored; or a class's answer that needs no arena
@@ -44,6 +46,18 @@ onRuled rows xs zs hs = record { found = history (answers 64 (rulesOf rows) xs) 
 
 abbrev pub onNewHeap : List Call → List Answer → List Hole → Example
 onNewHeap xs zs hs = onRuled [] xs zs hs
+
+-- from a heap whose three counts are the highest that there are, with one hole, whose store says that it holds all the pages that a store may
+abbrev fullCounts : Heap
+fullCounts = record {
+  arena = record { status = ready; frontier = 0; store = store (hole 40 1 ∷ []) 65536; commits = 2 ^ 64 - 1; reuses = 2 ^ 64 - 1; abandoned = 2 ^ 64 - 1 };
+  holder = λ x. nobody;
+  classes = λ c. newClass;
+  rules = plainRules;
+}
+
+unfoldable pub onFullCounts : List Call → List Answer → Example
+onFullCounts xs zs = record { found = history (map (λ e. e .answer) (eventsFrom 64 fullCounts xs)) []; expected = history zs [] }
 
 -- a run of class c is empty, where e empty ones and k cold ones are kept; with these limits, and with document 01's
 abbrev countParked : Settled → Told
@@ -131,6 +145,12 @@ rules =
     -- "`contains` is no before the reservation"; up to the arena's end
     ∷ onNewHeap (contains 0 0 ∷ commit 15 1 ∷ contains 4194304 0 ∷ contains 4194303 1 ∷ contains 4194303 2 ∷ [])
     (contained false ∷ run 0 true ∷ contained true ∷ contained true ∷ contained false ∷ []) []
+    -- "the first one asks for the reservation": one longer than the arena, too; then bit 0 says nothing any more
+    ∷ onNewHeap (commit 15 65 ∷ contains 0 0 ∷ commit 14 1 ∷ [])
+    (noRun ∷ contained true ∷ run 0 true ∷ []) []
+    -- a take asks for it, and it is refused for good
+    ∷ onNewHeap (takeBlocks 45 14 (lent 64) ∷ take45 ∷ contains 0 0 ∷ [])
+    (taken 0 (lent 64) false ∷ taken 0 (lent 64) false ∷ contained false ∷ []) []
     -- "2 to the 48th or more"
     ∷ onNewHeap (commit 15 (2 ^ 48 - 1) ∷ commit 15 (2 ^ 48) ∷ [])
     (noRun ∷ refused 6 ∷ []) []
@@ -145,6 +165,9 @@ rules =
     -- "these counts, pages held, and idle pages": a fresh run is no reuse
     ∷ onNewHeap (commit 15 5 ∷ commit 15 4 ∷ release 15 0 5 ∷ commit 15 1 ∷ report ∷ [])
     (run 0 true ∷ run 5 true ∷ released ∷ run 0 false ∷ reported (record { commits = 3; reuses = 1; abandoned = 0; held = 5; idle = 59; overlap = 0 }) ∷ []) (hole 1 4 ∷ [])
+    -- "each kept modulo 2 to the 64th": a commit, an abandoned run, a commit from a hole
+    ∷ onFullCounts (commit 15 2 ∷ release 15 0 1 ∷ commit 15 1 ∷ report ∷ [])
+    (run 0 true ∷ released ∷ run 40 false ∷ reported (record { commits = 1; reuses = 0; abandoned = 0; held = 2; idle = 65597; overlap = 0 }) ∷ [])
     -- "Idle shall also count pages in the empty and cold stores of every class" (document 02, A.5): four empty pages, one of them retired,
     -- a cold one and a span of three; not the page with a block out
     ∷ onNewHeap (map (λ q. take45) (below 6) ++ map (λ q. give45 15 (threeOf (q * 4096))) (5 ∷ 4 ∷ 3 ∷ []) ++ releaseBinChunks 45 15 (threeOf 8192) (chunkWord 3 2 ∷ []) (9 ∷ []) ∷ give45 15 (threeOf 4096) ∷ give45 15 (smalls (2051 ∷ 1027 ∷ [])) ∷ mediumTakeBlocks 0 15 (lent 10) ∷ mediumReleaseBlocks 0 15 (mediums (rising 393280 18432 10)) ∷ report ∷ [])
@@ -203,6 +226,9 @@ rules =
     -- "treats groups in order": the second's page heads the partial list
     ∷ onNewHeap (take45 ∷ take45 ∷ releaseBinChunks 45 15 (smalls (2051 ∷ 6147 ∷ [])) (chunkWord 1 0 ∷ chunkWord 1 1 ∷ []) (9 ∷ 9 ∷ []) ∷ take45 ∷ [])
     (taken45 0 true ∷ taken45 4096 true ∷ fates (0 ∷ 0 ∷ []) ∷ taken 2 (smalls (2051 ∷ 6147 ∷ []) ++ lent 62) false ∷ []) []
+    -- they give their runs to the arena in their order
+    ∷ onRuled (0 ∷ 75 ∷ 0 ∷ 0 ∷ []) (map (λ q. take45) (below 4) ++ releaseBinChunks 45 15 (threeOf 0 ++ threeOf 8192) (chunkWord 3 2 ∷ chunkWord 3 0 ∷ []) (9 ∷ 9 ∷ []) ∷ [])
+    (map (λ q. taken45 (q * 4096) true) (0 ∷ 1 ∷ 2 ∷ 3 ∷ []) ++ fates (6 ∷ 6 ∷ []) ∷ []) (hole 2 1 ∷ hole 0 1 ∷ [])
     -- "last in first out", "the newest cold page"; virgin "from a cold page whose discard zeroed it": not with host word 7
     ∷ onNewHeap (map (λ q. take45) (below 6) ++ map (λ q. give45 15 (threeOf (q * 4096))) (5 ∷ 4 ∷ 3 ∷ 2 ∷ 1 ∷ []) ++ give45 7 (threeOf 0) ∷ map (λ q. take45) (below 6))
     (map (λ q. taken45 (q * 4096) true) (0 ∷ 1 ∷ 2 ∷ 3 ∷ 4 ∷ 5 ∷ []) ++ fate 0 ∷ fate 0 ∷ fate 0 ∷ fate 0 ∷ fate 1 ∷ fate 1 ∷ map (λ q. back45 (q * 4096)) (2 ∷ 3 ∷ 4 ∷ 5 ∷ []) ++ taken45 0 false ∷ taken45 4096 true ∷ []) []

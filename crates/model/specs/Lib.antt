@@ -12,6 +12,9 @@ pub mod History
 pub mod Entries
 pub mod Ledger
 pub mod Held
+pub mod Reservation
+pub mod Counted
+pub mod Groups
 pub mod BestFit
 pub mod Joining
 pub mod Order

@@ -38,7 +38,7 @@ Numbered b (Calls.releaseBinChunks c h ws gs fs) r Same = Refuses (chunksTable b
 Numbered b (Calls.commit h m) r Same = Refuses (commitTable b h m) r Same
 Numbered b (Calls.growFrontier h q old new) r Same = Refuses (growTable b h q old new) r Same
 Numbered b (Calls.release h q m) r Same = Refuses (giveTable b h q m) r Same
-Numbered b (Calls.contains o k) r Same = Contains b r
+Numbered b (Calls.contains o k) r Same = Contains b o k r
 Numbered b Calls.report r Same = Refuses (reportTable b) r Same
 
 -- the call x on the book b returned r; w is what is read of its answer and its book

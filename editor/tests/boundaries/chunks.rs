@@ -1,6 +1,7 @@
 //! Releases by chunks: 2,056 of them, their order, and the order of a chunk's blocks.
 
 use crate::heap::{Family, Heap, ALL};
+use crate::holes::holes;
 
 /// Three blocks to a page.
 const CLASS: u32 = 45;
@@ -58,4 +59,14 @@ fn chunks_are_treated_in_order() {
         let expected = vec![first + 2_051, first + 1_027, first + 3];
         assert_eq!(heap.take(Family::Small, CLASS, ALL), Ok((expected, virgin)));
     }
+}
+
+#[test]
+fn chunks_give_their_runs_in_order() {
+    // No page is kept.
+    let mut heap = Heap::open_with(16, &[0, 75, 0, 0]);
+    let pages: Vec<_> = (0..4).map(|_| heap.take(Family::Small, CLASS, ALL).expect("class 45").0).collect();
+    let list = [&pages[0][..], &pages[2]].concat();
+    assert_eq!(heap.give_chunks(CLASS, &list, &[(3, 2), (3, 0)], 2), Ok(vec![6, 6]));
+    assert_eq!(holes(&heap), [(2, 1), (0, 1)]);
 }

@@ -63,6 +63,27 @@ fn only_the_first_commit_asks_for_the_reservation() {
 }
 
 #[test]
+fn a_commit_longer_than_the_arena_asks_for_the_reservation() {
+    let mut heap = Heap::open(8);
+    assert_eq!(heap.commit(ALL, 9), Ok(None));
+    assert!(heap.contains(0, 0));
+    let mut heap = Heap::open(8);
+    assert_eq!(heap.commit(NO_RESERVATION, 9), Ok(None));
+    assert_eq!(heap.commit(ALL, 1), Ok(None));
+}
+
+#[test]
+fn a_take_asks_for_the_reservation() {
+    let mut heap = Heap::open(8);
+    assert_eq!(heap.take(Family::Small, 45, NO_COMMIT), Ok((vec![], false)));
+    assert!(heap.contains(0, 0));
+    let mut heap = Heap::open(8);
+    assert_eq!(heap.take(Family::Medium, 0, NO_RESERVATION), Ok((vec![], false)));
+    assert_eq!(heap.commit(ALL, 1), Ok(None));
+    assert!(!heap.contains(0, 0));
+}
+
+#[test]
 fn contains_is_no_before_the_reservation() {
     let mut heap = Heap::open(8);
     assert!(!heap.contains(0, 0));
@@ -102,4 +123,33 @@ fn the_reports_columns_are_told_apart() {
     assert_eq!(heap.commit(ALL, 20), Ok(Some((0, false))));
     assert_eq!(heap.commit(ALL, 30), Ok(Some((20, false))));
     assert_eq!(heap.report(), [9, 2, 1, 55, 65_536, 0]);
+}
+
+/// The counts' words (docs/RANGES.md), each low word, then high.
+const COUNTS: std::ops::Range<usize> = 5..11;
+
+/// A commit from the frontier, a growth, a commit from the hole, and a give that would pass 65,536 pages.
+fn count_once(heap: &mut Heap) {
+    assert_eq!(heap.commit(ALL, 65_536), Ok(Some((0, true))));
+    assert_eq!(heap.commit(ALL, 1), Ok(Some((65_536, true))));
+    assert_eq!(heap.grow(ALL, 65_536, 1, 2), Ok(true));
+    assert_eq!(heap.release(ALL, 0, 65_536), Ok(()));
+    assert_eq!(heap.release(ALL, 65_536, 1), Ok(()));
+    assert_eq!(heap.commit(ALL, 1), Ok(Some((0, false))));
+}
+
+#[test]
+fn the_counts_are_kept_modulo_two_to_the_64th() {
+    let mut heap = Heap::open(65_600);
+    heap.book[COUNTS].fill(u32::MAX);
+    assert_eq!(heap.report(), [u64::MAX, u64::MAX, u64::MAX, 0, 65_600, 0]);
+    count_once(&mut heap);
+    assert_eq!(heap.report(), [3, 0, 0, 2, 65_597, 0]);
+    // From the highest low word on, the high one counts.
+    let mut heap = Heap::open(65_600);
+    for count in heap.book[COUNTS].chunks_mut(2) {
+        count.copy_from_slice(&[u32::MAX, 0]);
+    }
+    count_once(&mut heap);
+    assert_eq!(heap.report(), [(1 << 32) + 3, 1 << 32, 1 << 32, 2, 65_597, 0]);
 }
