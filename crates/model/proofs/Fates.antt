@@ -73,11 +73,11 @@ module _ (sh : Shape) (lim : Limits) (h : ℕ) where
   chunk-fated s ws none = stay-fated s
   chunk-fated s ws (some x) = settle-fated true _ x
 
-  record AllFated (ws gs : List ℕ) (s : Class) : Type 0 where
-    many : length (settleChunks sh lim h ws s gs .fates) ≡ length gs
+  pub record AllFated (ws gs : List ℕ) (s : Class) : Type 0 where
+    pub many : length (settleChunks sh lim h ws s gs .fates) ≡ length gs
     fates : total toArena (settleChunks sh lim h ws s gs .fates) ≡ length (settleChunks sh lim h ws s gs .gives)
 
-  chunks-fated : (ws gs : List ℕ) (s : Class) → AllFated ws gs s
+  pub chunks-fated : (ws gs : List ℕ) (s : Class) → AllFated ws gs s
   unfolding settleChunks
   chunks-fated ws [] s = record { many = refl; fates = refl }
   chunks-fated ws (g ∷ gs) s =

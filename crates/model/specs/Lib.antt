@@ -12,6 +12,7 @@ pub mod History
 pub mod Entries
 pub mod Ledger
 pub mod Held
+pub mod Offered
 pub mod BestFit
 pub mod Joining
 pub mod Order
