@@ -55,7 +55,7 @@ module _ (sh : Shape) (ok : Sound sh) (lim : Limits) where
   answer-shows s (Calls.giveChunks h ws gs fs) = search (shows-cond, is-done) depth 9
 
 -- a call that does not ask is given none
-abbrev Fits : Ask → Option ℕ → Type 0
+abbrev pub Fits : Ask → Option ℕ → Type 0
 Fits (done r) g = g ≡ none
 Fits (asks n k) g = Unit {0}
 

@@ -46,7 +46,7 @@ module _ (sh : Shape) (ok : Sound sh) where
   unfolding wordOf
   word-rises q i j h = omega (arith, mul-le-mul-right (sh .block) h, ok .wide)
 
-  words-below : (q k w : ℕ) → wordOf sh q k ≤ w → count w (wordsFrom sh q 0 k) ≡ 0
+  pub words-below : (q k w : ℕ) → wordOf sh q k ≤ w → count w (wordsFrom sh q 0 k) ≡ 0
   words-below q zero w h = refl
   words-below q (suc k) w h =
       let r : wordOf sh q k < wordOf sh q (suc k) = word-rises q k (suc k) (omega arith) in

@@ -56,7 +56,6 @@ gotAt q none = false
 gotAt q (some r) = eqb r q
 
 module _ (sh : Shape) (ok : Sound sh) (lim : Limits) (q : ℕ) where
-
   -- what is told of the run afterwards
   abbrev pub hasNext : Request → Option ℕ → Result → Bool → Bool
   hasNext a g r h = gotAt q g || (h && not (fated wentBack sh q a (r .answer)))

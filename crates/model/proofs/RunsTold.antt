@@ -7,7 +7,7 @@ use mathlib.Core.Bool.{Bool, true, false, cond, not, _&&_, _||_, true≢false, f
 use native.Mathlib.Omega.{arith}
 use lib.Dec.{eqb}
 use lib.ListN.{length}
-use borrow.Author.Tests.{eqb-true, eq-eqb, not-true}
+use borrow.Author.Tests.{eqb-true, eqb-false, eq-eqb, ne-eqb}
 use Rattle.facts.specs.Lists.{total, any, elem, count}
 use Rattle.facts.proofs.Bools.{by-cases, and-left, and-right, and-no}
 use Rattle.words.specs.Host.{discardZeroed}
@@ -36,9 +36,13 @@ clean v = cond v 1 0
 abbrev pub dirty : Bool → ℕ
 dirty v = cond v 0 1
 
-total-le : {A : Type 0} (f g : A → ℕ) (l : List A) → ((x : A) → f x ≤ g x) → total f l ≤ total g l
+pub total-le : {A : Type 0} (f g : A → ℕ) (l : List A) → ((x : A) → f x ≤ g x) → total f l ≤ total g l
 total-le f g [] h = omega arith
 total-le f g (x ∷ l) h = omega (arith, h x, total-le f g l h)
+
+totals-le : {A : Type 0} (f g h : A → ℕ) (l : List A) → ((x : A) → f x + g x ≤ h x) → total f l + total g l ≤ total h l
+totals-le f g h [] k = omega arith
+totals-le f g h (x ∷ l) k = omega (arith, k x, totals-le f g h l k)
 
 pub and-yes : (b : Bool) → (b && true) ≡ b
 and-yes true = refl
@@ -80,7 +84,7 @@ module _ (sh : Shape) (ok : Sound sh) where
 
   module _ (q : ℕ) where
     -- the runs that begin at q have the pages of the run there
-    at-le : (z f : ℕ) → covers (sh .pages) q z ≡ 1 → cond (eqb f q) 1 0 ≤ covers (sh .pages) f z
+    pub at-le : (z f : ℕ) → covers (sh .pages) q z ≡ 1 → cond (eqb f q) 1 0 ≤ covers (sh .pages) f z
     at-le z f c = by-cases (eqb f q) (λ e. rw e (omega (arith, ap (λ n. covers (sh .pages) n z) (eqb-true f q e)))) (λ e. rw e (omega arith))
 
     pub weigh-on : (s : Class) (z : ℕ) → covers (sh .pages) q z ≡ 1 → weigh sh q each s ≤ runsWith sh z s
@@ -92,6 +96,25 @@ module _ (sh : Shape) (ok : Sound sh) where
           total-le _ (on sh z) (s .empty) (λ (p : Page). at-le z (p .first) c),
           total-le _ (λ (p : Cold). covers (sh .pages) (p .first) z) (s .cold) (λ (p : Cold). at-le z (p .first) c),
         )
+
+    -- two runs that have a page in common are one
+    two-le : (q′ z f : ℕ) → eqb q q′ ≡ false → covers (sh .pages) q z ≡ 1 → covers (sh .pages) q′ z ≡ 1 → cond (eqb f q) 1 0 + cond (eqb f q′) 1 0 ≤ covers (sh .pages) f z
+    two-le q′ z f n c c′ =
+        by-cases (eqb f q)
+        (λ e. rw (e, ne-eqb f q′ (λ p. eqb-false q q′ n (sym (eqb-true f q e) ∙ p))) (omega (arith, ap (λ m. covers (sh .pages) m z) (eqb-true f q e))))
+        (λ e. by-cases (eqb f q′) (λ d. rw (e, d) (omega (arith, ap (λ m. covers (sh .pages) m z) (eqb-true f q′ d)))) (λ d. rw (e, d) (omega arith)))
+
+    pub two-runs : (s : Class) → Once sh s → (q′ z : ℕ) → covers (sh .pages) q z ≡ 1 → covers (sh .pages) q′ z ≡ 1 → 1 ≤ weigh sh q each s → 1 ≤ weigh sh q′ each s → q ≡ q′
+    two-runs s one q′ z c c′ n n′ =
+        by-cases (eqb q q′) (eqb-true q q′)
+        (λ e. absurd (omega (
+          arith,
+          one z,
+          totals-le _ _ (on sh z) (s .partial) (λ (p : Page). two-le q′ z (p .first) e c c′),
+          totals-le _ _ (on sh z) (s .full) (λ (p : Page). two-le q′ z (p .first) e c c′),
+          totals-le _ _ (on sh z) (s .empty) (λ (p : Page). two-le q′ z (p .first) e c c′),
+          totals-le _ _ (λ (p : Cold). covers (sh .pages) (p .first) z) (s .cold) (λ (p : Cold). two-le q′ z (p .first) e c c′),
+        )))
 
     pub weigh-once : (s : Class) → Once sh s → weigh sh q each s ≤ 1
     weigh-once s one = omega (arith, weigh-on s q (covers-in (sh .pages) q q (omega arith) (omega (arith, ok .paged))), one q)

@@ -16,12 +16,13 @@ use Rattle.rules.specs.declared.Limits.{Limits}
 use Rattle.model.specs.declared.Spot.{Spot}
 use Rattle.model.specs.declared.Spot.the-variants.{ToEmpty, ToCold, ToArena}
 use Rattle.model.specs.Page.{Page, Popped, isMedium, carveAs, carve, noneOut, hasMore, pop, returned, retire, reused}
-use Rattle.model.specs.Class.{Class, lists, Cold, Ask, done, asks, Filled, stays, after, fillFromList, served, thawed, onRun, takeFrom, serve}
+use Rattle.model.specs.Class.{Class, lists, Cold, Filled, stays, after, fillFromList, served, thawed, onRun, takeFrom, serve}
 use Rattle.model.specs.Release.{Found, Site, Settled, find, inPartial, inFull, orElse, mapFound, locate, parkIn, spotIn, park, markRetired, settle}
 use Rattle.model.specs.Chunks.{startsAt}
 use Rattle.model.specs.Offered.{wentCold, wentBack}
 use Rattle.model.proofs.Counts.{total-append, total-at}
 use Rattle.model.proofs.Find.{FoundLaws, found-law}
+use Rattle.model.proofs.Alone.{Fits}
 
 -- what a release with host word h leaves of a run, by the fate v
 abbrev pub cleaned : Shape → ℕ → ℕ → Bool
@@ -93,7 +94,7 @@ module _ (sh : Shape) (q : ℕ) where
         let y = after-weight (p .virgin) (pop sh n p) f in
         by-cases (eqb n 0) (λ e. rw e (omega arith)) (λ e. rw e (omega (arith, pop-weight n p)))
 
-    served-weight : (l : List ℕ) (n : ℕ) (ps es : List Page) (cs : List Cold) (fs : List Page)
+    pub served-weight : (l : List ℕ) (n : ℕ) (ps es : List Page) (cs : List Cold) (fs : List Page)
         → weigh (served l (fillFromList sh n ps) es cs fs .class) ≡ total pageWeight ps + total pageWeight fs + total emptyWeight es + total coldWeight cs
     unfolding served
     served-weight l n ps es cs fs = rw total-append (omega (arith, fill-weight n ps))
@@ -104,11 +105,7 @@ module _ (sh : Shape) (q : ℕ) where
     run-weight l fs (some r) = omega (arith, served-weight l (sh .batch) (carve sh r true ∷ []) [] [] fs, carve-weight (isMedium sh) r true)
 
     -- a take keeps the runs as they are, and adds the one that is given
-    abbrev pub fitsAsk : Ask → Option ℕ → Type 0
-    fitsAsk (done r) g = g ≡ none
-    fitsAsk (asks n h) g = Unit {0}
-
-    pub take-weight : (l : List ℕ) (ps es : List Page) (cs : List Cold) (fs : List Page) (g : Option ℕ) → fitsAsk (takeFrom sh l ps es cs fs) g
+    pub take-weight : (l : List ℕ) (ps es : List Page) (cs : List Cold) (fs : List Page) (g : Option ℕ) → Fits (takeFrom sh l ps es cs fs) g
         → weigh (serve (takeFrom sh l ps es cs fs) g .class) ≡ weigh (lists ps es cs fs) + newWeight g
     unfolding takeFrom
     take-weight l (p ∷ ps) es cs fs g e = rw e (omega (arith, served-weight l (sh .batch) (p ∷ ps) es cs fs))

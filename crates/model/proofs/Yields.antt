@@ -40,7 +40,7 @@ nil-length : (l : List ℕ) → isNil l ≡ false → 1 ≤ length l
 nil-length [] e = absurd (true≢false e)
 nil-length (x ∷ l) e = omega arith
 
-length-nil : (l : List ℕ) → 1 ≤ length l → isNil l ≡ false
+pub length-nil : (l : List ℕ) → 1 ≤ length l → isNil l ≡ false
 length-nil [] h = absurd (omega arith)
 length-nil (x ∷ l) h = refl
 
@@ -72,7 +72,7 @@ module _ (sh : Shape) (ok : Sound sh) (lim : Limits) where
   retire-again p = carve-more (isMedium sh) (p .first) false
 
   -- takes: a page with more gives a block
-  pop-gives : (n : ℕ) (p : Page) → 1 ≤ n → More p → 1 ≤ length (pop sh n p .blocks)
+  pub pop-gives : (n : ℕ) (p : Page) → 1 ≤ n → More p → 1 ≤ length (pop sh n p .blocks)
   unfolding pop hasMore carvedNow
   pop-gives n p h m =
       rw (length-append, length-words, length-reverse, length-take)
@@ -80,7 +80,7 @@ module _ (sh : Shape) (ok : Sound sh) (lim : Limits) where
       (λ e. let c : ltb (p .carved) (sh .capacity) ≡ true = rw e at m in omega (arith, ltb-true (p .carved) (sh .capacity) c))
       (λ e. omega (arith, nil-length (p .free) e)))
 
-  fill-gives : (n : ℕ) (p : Page) (ps : List Page) → 1 ≤ n → More p → 1 ≤ length (fillFromList sh n (p ∷ ps) .blocks)
+  pub fill-gives : (n : ℕ) (p : Page) (ps : List Page) → 1 ≤ n → More p → 1 ≤ length (fillFromList sh n (p ∷ ps) .blocks)
   unfolding fillFromList after
   fill-gives n p ps h m = rw (ne-eqb n 0 (omega arith)) (rw length-append (omega (arith, pop-gives n p h m)))
 
@@ -118,11 +118,11 @@ module _ (sh : Shape) (ok : Sound sh) (lim : Limits) where
       full = all-append Less (fillFromList sh (sh .batch) (p ∷ ps) .full) fs (fill-less (sh .batch) (p ∷ ps)) u;
     }
 
-  thawed-more : (c : Cold) → More (thawed sh c)
+  pub thawed-more : (c : Cold) → More (thawed sh c)
   unfolding thawed
   thawed-more c = carve-more (isMedium sh) (c .first) _
 
-  new-more : (q : ℕ) (v : Bool) → More (carve sh q v)
+  pub new-more : (q : ℕ) (v : Bool) → More (carve sh q v)
   new-more q v = carve-more (isMedium sh) q v
 
   take-yields : (l : List ℕ) (ps es : List Page) (cs : List Cold) (fs : List Page) → Listed sh (lists ps es cs fs) → TakeYields (takeFrom sh l ps es cs fs)

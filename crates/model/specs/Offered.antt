@@ -4,9 +4,8 @@
 --     Since           one of the events passes a test, and none after it another
 --     HasRun          the class has the run
 --     Full, Spent     all blocks of a run are out; those of every run that the class has
---     Sources         where the blocks of a take come from
 --     Clean, Virgin   the run was not released to since it was last new; a take's virgin
-use Prim.Native.Nat.{ℕ, _%_, _≤_}
+use Prim.Native.Nat.{ℕ, _%_}
 use mathlib.Core.List.{List, [], _∷_}
 use mathlib.Core.Option.{Option, none, some}
 use mathlib.Core.Bool.{Bool, true, false, not, _&&_, _||_}
@@ -23,6 +22,7 @@ use Rattle.model.specs.declared.Hole.{Hole}
 use Rattle.model.specs.Calls as Calls
 use Rattle.model.specs.Calls.{Answer, Named, names, Request, hostOf, blocksOf, releasedBy}
 use Rattle.model.specs.Page.{wordsFrom, isMedium}
+use Rattle.model.specs.Class.{Class}
 use Rattle.model.specs.Spot.{arenaFate}
 use Rattle.model.specs.History.{Event, isOf}
 use Rattle.model.specs.Entries.{OutIn}
@@ -112,19 +112,11 @@ pub record Spent (vs : List Event) (c : ℕ) : Type 0 where
 pub record NonePartial (vs : List Event) (c : ℕ) : Type 0 where
   pub full : (q : ℕ) → HasRun c q vs → Used vs c q → Full vs c q
 
--- the word is a block of a run of the class that has another out
-pub record OfUsed (vs : List Event) (c w : ℕ) : Type 0 where
-  pub run : ℕ
-  pub has : HasRun c run vs
-  pub used : Used vs c run
-  pub block : elem w (blocksAt (shapeOf c) run) ≡ true
-
--- where the blocks ws of a take come from, by the history vs before it; g is what the arena gave at it: "partial pages .., otherwise one
--- empty page, otherwise the newest cold page, otherwise a new one". A source comes with the reason why no earlier one is there.
-pub data Sources (vs : List Event) (c : ℕ) (g : Option Hole) (ws : List ℕ) : Type 0 where
-  from-partial : ((w : ℕ) → elem w ws ≡ true → OfUsed vs c w) → Sources vs c g ws
-  from-parked : NonePartial vs c → (q : ℕ) → HasRun c q vs → (Used vs c q → ⊥) → ((w : ℕ) → elem w ws ≡ true → elem w (blocksAt (shapeOf c) q) ≡ true) → Sources vs c g ws
-  from-new : Spent vs c → ((w : ℕ) → elem w ws ≡ true → (q : ℕ) × (startsRun q g ≡ true) × (elem w (blocksAt (shapeOf c) q) ≡ true)) → Sources vs c g ws
+-- the class's own lists say so: no page is partial, empty or cold
+pub record NoneListed (s : Class) : Type 0 where
+  pub partial : s .partial ≡ []
+  pub empty : s .empty ≡ []
+  pub cold : s .cold ≡ []
 
 -- ---- virgin
 abbrev pub virginOf : Answer → Bool
