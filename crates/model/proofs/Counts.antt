@@ -38,6 +38,9 @@ count-elem w (x ∷ s) e =
     (λ b. absurd (true≢false (rw b at e)))
     (λ b. let ih = count-elem w s (rw b at e) in rw b (omega arith))
 
+pub count-in : (w : ℕ) (s : List ℕ) → 1 ≤ count w s → elem w s ≡ true
+count-in w s h = by-cases (elem w s) (λ e. e) (λ e. absurd (omega (arith, count-elem w s e)))
+
 pub every-count : (t : ℕ → Bool) (w : ℕ) (s : List ℕ) → every t s ≡ true → 1 ≤ count w s → t w ≡ true
 every-count t w [] e h = absurd (omega arith)
 every-count t w (x ∷ s) e h =

@@ -1,16 +1,14 @@
 -- What is at hand is offered: a class's lists and what the history tells of its runs.
 use Prim.Native.Nat.{ℕ, zero, suc, _+_, _-_, _≤_, _<_}
 use mathlib.Core.Path.{_≡_, refl, sym, ap, _∙_, subst}
-use mathlib.Core.List.{List, [], _∷_, _++_}
-use mathlib.Core.Option.{Option, none, some}
+use mathlib.Core.List.{List, [], _∷_}
 use mathlib.Core.Logic.{_↔_}
 use mathlib.Core.Bool.{Bool, true, false, cond, not, _&&_, _||_, true≢false, false≢true}
 use native.Mathlib.Omega.{arith}
 use lib.Dec.{eqb, ltb}
-use lib.ListN.{length}
 use borrow.Author.Tests.{eqb-true, eq-eqb, ltb-true, ltb-false}
 use Rattle.facts.specs.Lists.{isNil, All, total, elem, count}
-use Rattle.facts.proofs.Bools.{by-cases, and-left, and-right}
+use Rattle.facts.proofs.Bools.{by-cases, and-right}
 use Rattle.classes.specs.declared.Shape.{Shape}
 use Rattle.classes.specs.Shape.{shapeOf}
 use Rattle.classes.specs.Sound.{Sound}
@@ -20,26 +18,21 @@ use Rattle.model.specs.Calls.{Call}
 use Rattle.model.specs.Cover.{covers}
 use Rattle.model.specs.Page.{Page, wordOf, wordsFrom, carvedWords, hasMore, reused}
 use Rattle.model.specs.Class.{Class, Cold, thawed}
-use Rattle.model.specs.Release.{outHere}
 use Rattle.model.specs.Chunks.{startsAt}
-use Rattle.model.specs.Ledger.{runsWith}
 use Rattle.model.specs.History.{Event, events, heapAfter}
 use Rattle.model.specs.Entries.{OutIn}
 use Rattle.model.specs.Yields.{Listed}
-use Rattle.model.specs.Offered.{blocksAt, gets, yieldsUp, renews, touches, HasRun, Full, Used, Spent, NonePartial, NoneListed, Clean}
-use Rattle.model.proofs.Counts.{elem-count, count-elem}
+use Rattle.model.specs.Offered.{blocksAt, gets, yieldsUp, renews, touches, HasRun, Spent, NonePartial, NoneListed, Clean}
+use Rattle.model.proofs.Counts.{elem-count, count-in}
 use Rattle.model.proofs.Pages.{outOf, on, beginsOn, out-on, words-below, words-once, words-join, GoodPage}
 use Rattle.model.proofs.Sites.{outCount, Once, GoodClass, here-out, out-here}
 use Rattle.model.proofs.Weights.{weigh}
-use Rattle.model.proofs.RunsTold.{each, clean, dirty, total-le, block-on, at-le, weigh-once, weigh-parts, Counted}
+use Rattle.model.proofs.RunsTold.{each, clean, total-le, block-on, at-le}
 use Rattle.model.proofs.Since.{sinceFrom, told, untold}
 use Rattle.model.proofs.HeapLaws.{kept}
 use Rattle.model.proofs.RunHistories.{inv-once, runs-told}
 use Rattle.model.proofs.Yields.{after-listed}
 use Rattle.model.proofs.Outs as Blocks
-
-pub elem-of : (w : ℕ) (ws : List ℕ) → 1 ≤ count w ws → elem w ws ≡ true
-elem-of w ws n = by-cases (elem w ws) (λ e. e) (λ e. absurd (omega (arith, count-elem w ws e)))
 
 module _ (sh : Shape) (ok : Sound sh) where
   -- the words of a run
@@ -85,7 +78,7 @@ module _ (sh : Shape) (ok : Sound sh) where
           let l = ltb-true (p .carved) (sh .capacity) b in
           record {
             word = wordOf sh (p .first) (p .carved);
-            block = elem-of _ (blocksAt sh (p .first)) (word-in (p .first) (p .carved) (sh .capacity) l);
+            block = count-in _ (blocksAt sh (p .first)) (word-in (p .first) (p .carved) (sh .capacity) l);
             in-hand = omega (arith, words-below sh ok (p .first) (p .carved) (wordOf sh (p .first) (p .carved)) (omega arith));
           }
       go [] d false b e = absurd (false≢true e)
@@ -93,7 +86,7 @@ module _ (sh : Shape) (ok : Sound sh) where
           let n : 1 ≤ count x (p .free) = rw (d, eq-eqb x x refl) (omega arith) in
           record {
             word = x;
-            block = elem-of x (blocksAt sh (p .first)) (omega (arith, good .linked x, carved-le (p .first) (p .carved) x (good .within)));
+            block = count-in x (blocksAt sh (p .first)) (omega (arith, good .linked x, carved-le (p .first) (p .carved) x (good .within)));
             in-hand = omega (arith, words-once sh ok (p .first) (p .carved) x);
           }
 
@@ -139,7 +132,7 @@ module _ (sh : Shape) (ok : Sound sh) where
   -- where all blocks of all runs are out, nothing is listed
   module _ (s : Class) (good : GoodClass sh s) (one : Once sh s) (listed : Listed sh s) (out : (q : ℕ) → 1 ≤ weigh sh q each s → (w : ℕ) → elem w (blocksAt sh q) ≡ true → 1 ≤ outCount sh w s) where
     first-block : (q : ℕ) → elem (wordOf sh q 0) (blocksAt sh q) ≡ true
-    first-block q = elem-of (wordOf sh q 0) (blocksAt sh q) (word-in q 0 (sh .capacity) (omega (arith, ok .blocks)))
+    first-block q = count-in (wordOf sh q 0) (blocksAt sh q) (word-in q 0 (sh .capacity) (omega (arith, ok .blocks)))
 
     no-partial : (ps : List Page) → s .partial ≡ ps → ps ≡ []
     no-partial [] e = refl

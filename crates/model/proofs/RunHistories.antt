@@ -1,28 +1,26 @@
 -- After every history, the runs of a class and the clean ones among them are those that the history tells.
-use Prim.Native.Nat.{ℕ, suc, _+_, _≤_}
-use mathlib.Core.Path.{_≡_, refl, sym, ap, _∙_, subst}
+use Prim.Native.Nat.{ℕ, suc}
+use mathlib.Core.Path.{_≡_, refl, sym, subst}
 use mathlib.Core.List.{List, [], _∷_}
 use mathlib.Core.Option.{Option, none, some}
-use mathlib.Core.Bool.{Bool, true, false, cond, not, _&&_, _||_}
+use mathlib.Core.Bool.{Bool, false}
 use native.Mathlib.Omega.{arith}
 use lib.Dec.{eqb}
-use borrow.Author.Tests.{eqb-true, eqb-false, eq-eqb, ne-eqb}
-use Rattle.facts.specs.Lists.{update}
-use Rattle.facts.proofs.Bools.{by-cases, and-no}
+use borrow.Author.Tests.{eqb-false, eq-eqb, ne-eqb}
+use Rattle.facts.proofs.Bools.{and-no}
 use Rattle.classes.specs.Shape.{shapeOf}
 use Rattle.classes.proofs.Shapes.{shape-sound}
 use Rattle.rules.specs.Rules.{Rules}
-use Rattle.model.specs.declared.Hole.{Hole}
 use Rattle.model.specs.Calls as Calls
 use Rattle.model.specs.Calls.{Call, Answer, Named, names, Request, Way, wayOf, hostOf}
-use Rattle.model.specs.Class.{Class, Ask, done, asks, serve}
+use Rattle.model.specs.Class.{Class, Ask, serve}
 use Rattle.model.specs.Chunks.{answer}
-use Rattle.model.specs.Heap.{Heap, Outcome, newHeap, runWith, asked, offer, finish, interact, classCall, directCall, route, step}
+use Rattle.model.specs.Heap.{Heap, newHeap, runWith, asked, offer, finish, interact, classCall, directCall, route, step}
 use Rattle.model.specs.History.{Event, eventOf, eventsFrom, events, heapFrom, heapAfter, isOf}
 use Rattle.model.specs.Entries.{Entry}
 use Rattle.model.specs.Offered.{wentBack, wentCold, fated, zeroes, hasBlock, named, startsRun, gets, touches, yieldsUp, renews}
 use Rattle.model.proofs.Ways.{Goes, is-turned, is-straight, is-class, goes}
-use Rattle.model.proofs.Update.{update-same, update-other}
+use Rattle.model.proofs.Update.{update-same}
 use Rattle.model.proofs.Alone.{direct-keeps}
 use Rattle.model.proofs.Accounts.{held-le}
 use Rattle.model.proofs.Sites.{Once, GoodClass}
@@ -30,7 +28,7 @@ use Rattle.model.proofs.HeapLaws.{Inv, at-class, step-inv, start}
 use Rattle.model.proofs.Yields.{AllListed, route-listed}
 use Rattle.model.proofs.Since.{sinceNext, sinceFrom}
 use Rattle.model.proofs.RunsTold.{Counted, and-yes}
-use Rattle.model.proofs.RunRequests.{gotAt, hasNext, cleanNext, Follow, Follows, follows-done, follows-asks, answer-follows, unfated}
+use Rattle.model.proofs.RunRequests.{gotAt, Follow, Follows, follows-done, follows-asks, answer-follows, unfated}
 
 -- every class, every page: does the class have a run there, is it clean
 abbrev Tellings : Type 0

@@ -9,9 +9,9 @@ use lib.Dec.{eqb}
 use lib.ListN.{length, drop}
 use lib.ListN as ListN
 use lib.Seq.{take-append-seam}
-use borrow.Author.Tests.{eqb-true, eq-eqb, not-true, not-false}
+use borrow.Author.Tests.{eqb-true, eqb-false, eq-eqb, ne-eqb, not-true, not-false}
 use Rattle.facts.specs.Lists.{isNil, filter, every, elem, any, distinct, count}
-use Rattle.facts.proofs.Bools.{by-cases, and-left, and-right, and-no, bool-eq}
+use Rattle.facts.proofs.Bools.{by-cases, and-left, and-right, and-no}
 use Rattle.words.specs.Word.{countOf, pageOf}
 use Rattle.classes.specs.declared.Shape.{Shape}
 use Rattle.classes.specs.Sound.{Sound}
@@ -19,21 +19,21 @@ use Rattle.rules.specs.declared.Limits.{Limits}
 use Rattle.model.specs.Calls as Calls
 use Rattle.model.specs.Calls.{Request, hostOf, releasedBy}
 use Rattle.model.specs.Page.{Page, isOut}
-use Rattle.model.specs.Class.{Class, lists, Cold, Result, Ask, done, asks, refuse, onRun, takeFrom}
-use Rattle.model.specs.Release.{Site, Settled, locate, settle, onPage, siteOfFirst, outHere, repeats, releaseList}
+use Rattle.model.specs.Class.{Class, lists, Cold, Result, Ask, done, asks, refuse, takeFrom}
+use Rattle.model.specs.Release.{Site, Settled, locate, settle, onPage, siteOfFirst, releaseList}
 use Rattle.model.specs.Chunks.{startsAt, blocksOn, fitsOn, chunkFits, chunked, chunkedOn, settleChunk, AllSettled, settleChunks, releaseChunks, answer}
 use Rattle.model.specs.Yields.{Listed}
-use Rattle.model.specs.Held.{fatesIn}
 use Rattle.model.specs.Offered.{blocksAt, hasBlock, wentCold, wentBack, fatedIn, fated, zeroes}
-use Rattle.model.proofs.Counts.{elem-count, count-elem, every-count, filter-le, filter-passes}
+use Rattle.model.proofs.Counts.{elem-count, count-in, every-count, filter-le, filter-passes}
 use Rattle.model.proofs.Sites.{Once, GoodClass, SiteLaw, SiteLaws, locate-law, Tells, locate-tells}
-use Rattle.model.proofs.Weights.{weigh, pageWeight, newWeight, take-weight, SiteWeight, SiteWeights, site-weight, leftOver, Weighs, settle-weighs}
-use Rattle.model.proofs.RunsTold.{each, clean, dirty, and-yes, Passing, any-passing, passing-any, block-of, one-run, weigh-once, weigh-parts, Counted, Back, apart, met, counted-back}
-use Rattle.model.proofs.Fates.{AllFated, chunks-fated}
+use Rattle.model.proofs.Weights.{weigh, newWeight, take-weight, SiteWeight, SiteWeights, site-weight, leftOver, Weighs, settle-weighs}
+use Rattle.model.proofs.RunsTold.{each, clean, and-yes, any-passing, passing-any, block-of, one-run, weigh-once, weigh-parts, Counted, Back, apart, met, counted-back}
+use Rattle.model.proofs.Fates.{chunks-fated}
 use Rattle.model.proofs.Yields as Yields
 
-flip : (m n : ℕ) → eqb m n ≡ eqb n m
-flip m n = bool-eq (eqb m n) (eqb n m) (λ e. eq-eqb n m (sym (eqb-true m n e))) (λ e. eq-eqb m n (sym (eqb-true n m e)))
+turned : (m n : ℕ) (b : Bool) → eqb m n ≡ b → eqb n m ≡ b
+turned m n true e = eq-eqb n m (sym (eqb-true m n e))
+turned m n false e = ne-eqb n m (λ p. eqb-false m n e (sym p))
 
 or-no : (b : Bool) → (b || false) ≡ b
 or-no true = refl
@@ -169,18 +169,18 @@ module _ (sh : Shape) (ok : Sound sh) (lim : Limits) (q : ℕ) where
     joined b r = record { class = r .class; fates = b .fate ∷ r .fates; gives = b .gives ++ r .gives }
 
     module _ (s : Class) (g : ℕ) (gs : List ℕ) (x : Site) (at : startsAt (pageOf g) (x .page) ≡ true) (weight : (k : Bool → ℕ) → SiteWeight sh q k s x) (b : Settled) (w : Weighs sh q lim h s (x .page) b) (r : AllSettled) where
-      starts : startsAt q (x .page) ≡ eqb q (pageOf g)
-      starts = ap (λ n. eqb n q) (eqb-true (x .page .first) (pageOf g) at) ∙ flip (pageOf g) q
+      starts : {b : Bool} → eqb q (pageOf g) ≡ b → startsAt q (x .page) ≡ b
+      starts e = ap (λ n. eqb n q) (eqb-true (x .page .first) (pageOf g) at) ∙ turned q (pageOf g) _ e
 
       here : eqb q (pageOf g) ≡ true → elem q (map pageOf gs) ≡ false → Among (b .class) gs r → Among s (g ∷ gs) (joined b r)
       here e n (no z f k) =
           yes (rw e) (b .fate) (x .page .virgin) (λ t. rw (e, f t) (or-no (t (b .fate))))
-          (λ m. let y : weigh sh q m (b .class) + m (x .page .virgin) ≡ weigh sh q m s + leftOver sh h m (b .fate) = rw (starts ∙ e) at (w .weighs m) in omega (arith, k m))
-          (λ m. let y : weigh sh q m (x .without) + m (x .page .virgin) ≡ weigh sh q m s = rw (starts ∙ e) at (weight m .rest) in omega arith)
+          (λ m. let y : weigh sh q m (b .class) + m (x .page .virgin) ≡ weigh sh q m s + leftOver sh h m (b .fate) = rw (starts e) at (w .weighs m) in omega (arith, k m))
+          (λ m. let y : weigh sh q m (x .without) + m (x .page .virgin) ≡ weigh sh q m s = rw (starts e) at (weight m .rest) in omega arith)
       here e n (yes z v d f k l) = absurd (true≢false (sym z ∙ n))
 
       same : eqb q (pageOf g) ≡ false → (m : Bool → ℕ) → weigh sh q m (b .class) ≡ weigh sh q m s
-      same e m = let y : weigh sh q m (b .class) + 0 ≡ weigh sh q m s + 0 = rw (starts ∙ e) at (w .weighs m) in omega arith
+      same e m = let y : weigh sh q m (b .class) + 0 ≡ weigh sh q m s + 0 = rw (starts e) at (w .weighs m) in omega arith
 
       there : eqb q (pageOf g) ≡ false → Among (b .class) gs r → Among s (g ∷ gs) (joined b r)
       there e (no z f k) = no (rw (e, z)) (λ t. rw (e, f t)) (λ m. k m ∙ same e m)
@@ -209,9 +209,6 @@ module _ (sh : Shape) (ok : Sound sh) (lim : Limits) (q : ℕ) where
         (chunks-among gs (settleChunk sh lim h s ws o .class) (k .listed) (and-right (not (elem (pageOf g) (map pageOf gs))) (distinct (map pageOf gs)) d)
         (Yields.all-fit sh ok lim ws (pageOf g) s _ (k .skip) gs n (and-right (chunkFits sh s ws g) (every (chunkFits sh s ws) gs) f)))
 
-  counted-elem : (w : ℕ) (ws : List ℕ) → 1 ≤ count w ws → elem w ws ≡ true
-  counted-elem w ws n = by-cases (elem w ws) (λ e. e) (λ e. absurd (omega (arith, count-elem w ws e)))
-
   module _ (s : Class) (good : GoodClass sh s) (one : Once sh s) (ws : List ℕ) where
     -- a chunk of the page at q has blocks of the run there
     chunk-here : (g : ℕ) → eqb q (pageOf g) ≡ true → (o : Option Site) → SiteLaws sh s o → Tells (startsAt (pageOf g)) s o → fitsOn sh ws g o ≡ true → hasBlock sh q ws ≡ true
@@ -223,8 +220,8 @@ module _ (sh : Shape) (ok : Sound sh) (lim : Limits) (q : ℕ) where
         go [] d f = absurd (true≢false (sym (and-right (not (eqb (countOf g) 0)) (eqb (countOf g) 0) f) ∙ not-true (eqb (countOf g) 0) (and-left (not (eqb (countOf g) 0)) (eqb (countOf g) 0) f)))
         go (w ∷ bs) d f =
             let n : 1 ≤ count w (filter (λ w. isOut sh w (x .page)) ws) = rw (d, eq-eqb w w refl) (omega arith) in
-            some-here s good one x law (ap (λ m. eqb m q) (eqb-true (x .page .first) (pageOf g) tells) ∙ flip (pageOf g) q ∙ e) ws w
-            (counted-elem w ws (omega (arith, filter-le (λ v. isOut sh v (x .page)) w ws))) (filter-passes (λ v. isOut sh v (x .page)) w ws n)
+            some-here s good one x law (ap (λ m. eqb m q) (eqb-true (x .page .first) (pageOf g) tells) ∙ turned q (pageOf g) true e) ws w
+            (count-in w ws (omega (arith, filter-le (λ v. isOut sh v (x .page)) w ws))) (filter-passes (λ v. isOut sh v (x .page)) w ws n)
 
     chunks-here : (gs : List ℕ) → every (chunkFits sh s ws) gs ≡ true → elem q (map pageOf gs) ≡ true → hasBlock sh q ws ≡ true
     unfolding chunkFits

@@ -1,15 +1,13 @@
 -- A class's runs, and which of them are clean, are what the history tells: one request, then every history.
-use Prim.Native.Nat.{ℕ, _+_, _-_, _*_, _≤_}
+use Prim.Native.Nat.{ℕ, _+_, _-_, _≤_}
 use mathlib.Core.Path.{_≡_, refl, sym, ap, _∙_}
-use mathlib.Core.List.{List, [], _∷_, map}
-use mathlib.Core.Option.{Option, none, some}
-use mathlib.Core.Bool.{Bool, true, false, cond, not, _&&_, _||_, true≢false, false≢true}
+use mathlib.Core.List.{List, [], _∷_}
+use mathlib.Core.Bool.{Bool, true, false, cond, not, _&&_, _||_, false≢true}
 use native.Mathlib.Omega.{arith}
 use lib.Dec.{eqb}
-use lib.ListN.{length}
 use borrow.Author.Tests.{eqb-true, eqb-false, eq-eqb, ne-eqb}
 use Rattle.facts.specs.Lists.{total, any, elem, count}
-use Rattle.facts.proofs.Bools.{by-cases, and-left, and-right, and-no}
+use Rattle.facts.proofs.Bools.{by-cases, and-left, and-no}
 use Rattle.words.specs.Host.{discardZeroed}
 use Rattle.classes.specs.declared.Shape.{Shape}
 use Rattle.classes.specs.Sound.{Sound}
@@ -20,7 +18,7 @@ use Rattle.model.specs.Release.{Site}
 use Rattle.model.specs.Chunks.{startsAt}
 use Rattle.model.specs.Ledger.{runsWith}
 use Rattle.model.specs.Offered.{blocksAt, hasBlock, wentCold, wentBack}
-use Rattle.model.proofs.Counts.{elem-count, count-elem}
+use Rattle.model.proofs.Counts.{elem-count, count-in}
 use Rattle.model.proofs.Runs.{covers-in, covers-le}
 use Rattle.model.proofs.Pages.{on, beginsOn, out-on, is-out, GoodPage, words-join, words-on}
 use Rattle.model.proofs.Sites.{Once, SiteLaw}
@@ -77,7 +75,7 @@ module _ (sh : Shape) (ok : Sound sh) where
       let j = words-join sh ok (p .first) (p .carved) (sh .capacity - p .carved) w in
       let c : p .carved + (sh .capacity - p .carved) ≡ sh .capacity = omega (arith, good .within) in
       let j′ : count w (blocksAt sh (p .first)) ≡ _ = rw c at j in
-      by-cases (elem w (blocksAt sh (p .first))) (λ b. b) (λ b. absurd (omega (arith, count-elem w (blocksAt sh (p .first)) b)))
+      count-in w (blocksAt sh (p .first)) (omega arith)
 
   pub block-on : (w q : ℕ) → elem w (blocksAt sh q) ≡ true → covers (sh .pages) q (beginsOn sh ok w) ≡ 1
   block-on w q e = omega (arith, covers-le (sh .pages) q (beginsOn sh ok w), words-on sh ok q (sh .capacity) w (omega arith), elem-count w (blocksAt sh q) e)

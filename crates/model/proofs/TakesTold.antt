@@ -1,10 +1,10 @@
 -- A take against the history: how many blocks it answers, and its virgin.
-use Prim.Native.Nat.{ℕ, suc, _+_, _-_, _≤_, _<_}
+use Prim.Native.Nat.{ℕ, _+_, _-_, _≤_, _<_}
 use mathlib.Core.Path.{_≡_, refl, sym, ap, _∙_, subst}
 use mathlib.Core.List.{List, [], _∷_, _++_}
 use mathlib.Core.Option.{Option, none, some}
-use mathlib.Core.Logic.{_↔_, inl, inr}
-use mathlib.Core.Bool.{Bool, true, false, cond, not, _&&_, _||_, true≢false, false≢true}
+use mathlib.Core.Logic.{inl, inr}
+use mathlib.Core.Bool.{Bool, true, false, _&&_, true≢false, false≢true}
 use native.Mathlib.Omega.{arith}
 use lib.Dec.{eqb, ltb}
 use lib.ListN.{length, take, drop, length-append, length-reverse, length-take, length-drop}
@@ -20,24 +20,24 @@ use Rattle.classes.proofs.Shapes.{shape-sound}
 use Rattle.rules.specs.declared.Limits.{Limits}
 use Rattle.rules.specs.Rules.{Rules}
 use Rattle.model.specs.Calls as Calls
-use Rattle.model.specs.Calls.{Call, Answer, names, hostIn, wayOf, hostOf, isRefused, blocksOf}
-use Rattle.model.specs.Page.{Page, isMedium, isOut, carve, hasMore, carvedNow, pop, reused}
-use Rattle.model.specs.Class.{Class, lists, Cold, Result, Ask, done, asks, serve, Filled, stays, after, fillFromList, served, thawed, onRun, takeFrom}
-use Rattle.model.specs.Chunks.{startsAt, answer}
+use Rattle.model.specs.Calls.{Call, Answer, names, hostIn, wayOf, isRefused, blocksOf}
+use Rattle.model.specs.Page.{Page, isMedium, carve, hasMore, carvedNow, pop, reused}
+use Rattle.model.specs.Class.{Class, lists, Cold, Result, serve, Filled, after, fillFromList, served, thawed, onRun, takeFrom}
+use Rattle.model.specs.Chunks.{answer}
 use Rattle.model.specs.Heap.{Heap, newHeap, offer, finish, interact, classCall, step}
 use Rattle.model.specs.History.{Event, eventOf, eventsFrom, events, heapFrom, heapAfter, withCall}
 use Rattle.model.specs.Yields.{Listed}
 use Rattle.model.specs.Offered.{blocksAt, NonePartial, CleanBlock, Virgin}
 use Rattle.model.specs.Demands.{Offered, Virgins}
-use Rattle.model.proofs.Counts.{count-append, elem-count}
+use Rattle.model.proofs.Counts.{count-append, elem-count, count-in}
 use Rattle.model.proofs.NewRun.{length-words}
-use Rattle.model.proofs.Pages.{beginsOn, GoodPage, EmptyPage, pop-good, pop-moves, out-is, carve-empty, reused-empty, thawed-empty}
+use Rattle.model.proofs.Pages.{beginsOn, GoodPage, pop-good, pop-moves, out-is, carve-empty, reused-empty, thawed-empty}
 use Rattle.model.proofs.Sites.{GoodClass}
 use Rattle.model.proofs.Update.{update-same}
 use Rattle.model.proofs.Weights.{pageWeight, weigh, served-weight}
 use Rattle.model.proofs.RunsTold.{each, clean, dirty, block-of, block-on, two-runs, weigh-parts}
 use Rattle.model.proofs.Yields as Yields
-use Rattle.model.proofs.Offers.{elem-of, good, once, run-counted, counted-run, clean-counted, counted-clean, spent-told, none-partial}
+use Rattle.model.proofs.Offers.{good, once, run-counted, counted-run, clean-counted, counted-clean, spent-told, none-partial}
 
 no-length : (l : List ℕ) → length l ≡ 0 → isNil l ≡ true
 no-length [] e = refl
@@ -74,12 +74,12 @@ module _ (sh : Shape) (ok : Sound sh) (lim : Limits) where
       rw e (rw (pop-spent n p (omega arith)) (fill-spent (n - length (pop sh n p .blocks)) ps (omega arith))))
 
   -- ---- from which pages
-  pop-block : (n : ℕ) (p : Page) → GoodPage sh p → (w : ℕ) → 1 ≤ count w (pop sh n p .blocks) → elem w (blocksAt sh (p .first)) ≡ true
+  pub pop-block : (n : ℕ) (p : Page) → GoodPage sh p → (w : ℕ) → 1 ≤ count w (pop sh n p .blocks) → elem w (blocksAt sh (p .first)) ≡ true
   unfolding pop
   pop-block n p good w h =
       block-of sh ok w (pop sh n p .page) (pop-good sh ok n p good) (out-is sh ok w (pop sh n p .page) (omega (arith, pop-moves sh ok n p good w)))
 
-  some-block : (ws : List ℕ) → 1 ≤ length ws → (w : ℕ) × (1 ≤ count w ws)
+  pub some-block : (ws : List ℕ) → 1 ≤ length ws → (w : ℕ) × (1 ≤ count w ws)
   some-block [] h = absurd (omega arith)
   some-block (w ∷ ws) h = (w, rw (eq-eqb w w refl) (omega arith))
 
@@ -93,7 +93,7 @@ module _ (sh : Shape) (ok : Sound sh) (lim : Limits) where
     pub block : elem w (blocksAt sh (page .first)) ≡ true
     pub is : page .virgin ≡ v
 
-  later : {v : Bool} {w : ℕ} (p : Page) {ps : List Page} → From v w ps → From v w (p ∷ ps)
+  pub later : {v : Bool} {w : ℕ} (p : Page) {ps : List Page} → From v w ps → From v w (p ∷ ps)
   later p f = record { page = f .page; among = λ m. omega (arith, f .among m); block = f .block; is = f .is }
 
   abbrev More : Page → Type 0
@@ -155,19 +155,15 @@ module _ (sh : Shape) (ok : Sound sh) (lim : Limits) where
   take-takes l [] [] [] fs good y g = run-takes l fs g
 
 -- ---- one more call
-events-with : (size : ℕ) (H : Heap) (xs : List Call) (x : Call) → eventsFrom size H (xs ++ x ∷ []) ≡ eventsFrom size H xs ++ eventOf x (step size (heapFrom size H xs) x) ∷ []
-events-with size H [] x = refl
-events-with size H (y ∷ xs) x = ap (λ (vs : List Event). eventOf y (step size H y) ∷ vs) (events-with size (step size H y .heap) xs x)
+record With (size : ℕ) (H : Heap) (xs : List Call) (x : Call) : Type 0 where
+  told : eventsFrom size H (xs ++ x ∷ []) ≡ eventsFrom size H xs ++ eventOf x (step size (heapFrom size H xs) x) ∷ []
+  heap : heapFrom size H (xs ++ x ∷ []) ≡ step size (heapFrom size H xs) x .heap
 
-heap-with : (size : ℕ) (H : Heap) (xs : List Call) (x : Call) → heapFrom size H (xs ++ x ∷ []) ≡ step size (heapFrom size H xs) x .heap
-heap-with size H [] x = refl
-heap-with size H (y ∷ xs) x = heap-with size (step size H y .heap) xs x
-
-pub with-call : (size : ℕ) (rules : Rules) (xs : List Call) (x : Call) → events size rules (xs ++ x ∷ []) ≡ withCall size rules xs x
-with-call size rules xs x = events-with size (newHeap rules) xs x
-
-pub heap-after : (size : ℕ) (rules : Rules) (xs : List Call) (x : Call) → heapAfter size rules (xs ++ x ∷ []) ≡ step size (heapAfter size rules xs) x .heap
-heap-after size rules xs x = heap-with size (newHeap rules) xs x
+one-more : (size : ℕ) (H : Heap) (xs : List Call) (x : Call) → With size H xs x
+one-more size H [] x = record { told = refl; heap = refl }
+one-more size H (y ∷ xs) x =
+    let ih = one-more size (step size H y .heap) xs x in
+    record { told = ap (λ (vs : List Event). eventOf y (step size H y) ∷ vs) (ih .told); heap = ih .heap }
 
 -- a take that is not refused
 module _ (size : ℕ) (H : Heap) (x : Call) (c h : ℕ) (l : List ℕ) (e : names x ≡ some (record { class = c; request = Calls.take h l })) (good : GoodClass (shapeOf c) (H .classes c)) (listed : Listed (shapeOf c) (H .classes c)) where
@@ -177,7 +173,7 @@ module _ (size : ℕ) (H : Heap) (x : Call) (c h : ℕ) (l : List ℕ) (e : name
     pub answers : step size H x .answer ≡ result .answer
     pub leaves : step size H x .heap .classes c ≡ result .class
 
-  took : isRefused (step size H x .answer) ≡ false → Took
+  pub took : isRefused (step size H x .answer) ≡ false → Took
   unfolding step wayOf classCall interact finish answer
   took u =
       by-cases (badHost (hostIn x)) (λ b. absurd (true≢false (rw b at u))) λ b.
@@ -196,7 +192,7 @@ module _ (size : ℕ) (H : Heap) (x : Call) (c h : ℕ) (l : List ℕ) (e : name
 
 -- ---- against the history
 module _ (c : ℕ) (lim : Limits) (l : List ℕ) where
-  came : (f : Filled) (es : List Page) (cs : List Cold) (fs : List Page) → blocksOf (served l f es cs fs .answer) ≡ f .blocks
+  pub came : (f : Filled) (es : List Page) (cs : List Cold) (fs : List Page) → blocksOf (served l f es cs fs .answer) ≡ f .blocks
   unfolding served
   came f es cs fs = take-append-seam _ _
 
@@ -249,7 +245,7 @@ module _ (size : ℕ) (rules : Rules) (xs : List Call) (c : ℕ) (lim : Limits) 
         λ v. (n, λ w m. clean-block ps es cs fs is w (fill-virgin sh (shape-sound c) lim (sh .batch) ps good v w (elem-count w (f .blocks) m))),
         λ k. by-cases (f .virgin) (λ v. v)
             (λ v. let s = fill-stale sh (shape-sound c) lim (sh .batch) ps good more v in
-            absurd (no-stale ps es cs fs is (s .word) (s .from) (k .1 (s .word) (elem-of (s .word) (f .blocks) (s .came))))),
+            absurd (no-stale ps es cs fs is (s .word) (s .from) (k .1 (s .word) (count-in (s .word) (f .blocks) (s .came))))),
       )
   takes-virgin (lacks fs) is = (λ v. absurd (false≢true v), λ k. absurd (true≢false (k .0)))
 
@@ -259,11 +255,11 @@ module _ (size : ℕ) (rules : Rules) (xs : List Call) where
     taking = took size (heapAfter size rules xs) x c h l e (good size rules xs c) (Yields.after-listed size rules xs c) u
 
     left : heapAfter size rules (xs ++ x ∷ []) .classes c ≡ taking .result .class
-    left = ap (λ (H : Heap). H .classes c) (heap-after size rules xs x) ∙ taking .leaves
+    left = ap (λ (H : Heap). H .classes c) (one-more size (newHeap rules) xs x .heap) ∙ taking .leaves
 
     fewer : length (blocksOf (step size (heapAfter size rules xs) x .answer)) < shapeOf c .batch → NonePartial (withCall size rules xs x) c
     fewer n =
-        subst (λ (vs : List Event). NonePartial vs c) (with-call size rules xs x)
+        subst (λ (vs : List Event). NonePartial vs c) (one-more size (newHeap rules) xs x .told)
         (none-partial size rules (xs ++ x ∷ []) c (ap (λ (s : Class). s .partial) left ∙ takes-partial c _ l (taking .takes) (rw (taking .answers) at n)))
 
     most : length (blocksOf (step size (heapAfter size rules xs) x .answer)) ≤ shapeOf c .batch
@@ -272,7 +268,7 @@ module _ (size : ℕ) (rules : Rules) (xs : List Call) where
     virgin : Virgin (withCall size rules xs x) c (step size (heapAfter size rules xs) x .answer)
     virgin =
         subst (λ (a : Answer). Virgin (withCall size rules xs x) c a) (sym (taking .answers))
-        (subst (λ (vs : List Event). Virgin vs c (taking .result .answer)) (with-call size rules xs x) (takes-virgin size rules (xs ++ x ∷ []) c _ l (taking .takes) left))
+        (subst (λ (vs : List Event). Virgin vs c (taking .result .answer)) (one-more size (newHeap rules) xs x .told) (takes-virgin size rules (xs ++ x ∷ []) c _ l (taking .takes) left))
 
   pub offered : Offered size rules xs
   offered = record { spent = spent-told size rules xs; fewer = fewer; most = most }

@@ -1,7 +1,7 @@
 -- The runs of a class that begin at page q, weighed by whether they are virgin as they come back: what a request does to that weight. With
 -- weight 1 it counts them, with 1 for the virgin ones the clean ones.
-use Prim.Native.Nat.{ℕ, _+_, _-_, _%_, _≤_}
-use mathlib.Core.Path.{_≡_, refl, sym, ap, _∙_}
+use Prim.Native.Nat.{ℕ, _+_, _-_, _%_}
+use mathlib.Core.Path.{_≡_, refl, ap, _∙_}
 use mathlib.Core.List.{List, [], _∷_}
 use mathlib.Core.Option.{Option, none, some}
 use mathlib.Core.Bool.{Bool, true, false, cond, not, _&&_}
@@ -15,7 +15,7 @@ use Rattle.classes.specs.declared.Shape.{Shape}
 use Rattle.rules.specs.declared.Limits.{Limits}
 use Rattle.model.specs.declared.Spot.{Spot}
 use Rattle.model.specs.declared.Spot.the-variants.{ToEmpty, ToCold, ToArena}
-use Rattle.model.specs.Page.{Page, Popped, isMedium, carveAs, carve, noneOut, hasMore, pop, returned, retire, reused}
+use Rattle.model.specs.Page.{Page, Popped, isMedium, carveAs, carve, noneOut, pop, returned, retire, reused}
 use Rattle.model.specs.Class.{Class, lists, Cold, Filled, stays, after, fillFromList, served, thawed, onRun, takeFrom, serve}
 use Rattle.model.specs.Release.{Found, Site, Settled, find, inPartial, inFull, orElse, mapFound, locate, parkIn, spotIn, park, markRetired, settle}
 use Rattle.model.specs.Chunks.{startsAt}

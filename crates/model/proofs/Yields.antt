@@ -125,12 +125,12 @@ module _ (sh : Shape) (ok : Sound sh) (lim : Limits) where
   pub new-more : (q : ℕ) (v : Bool) → More (carve sh q v)
   new-more q v = carve-more (isMedium sh) q v
 
-  take-yields : (l : List ℕ) (ps es : List Page) (cs : List Cold) (fs : List Page) → Listed sh (lists ps es cs fs) → TakeYields (takeFrom sh l ps es cs fs)
+  take-yields : (l : List ℕ) (ps es : List Page) (cs : List Cold) (fs : List Page) → All More ps → All Again es → TakeYields (takeFrom sh l ps es cs fs)
   unfolding takeFrom onRun
-  take-yields l (p ∷ ps) es cs fs y = yields (served-yields l p ps es cs fs (y .partial .0))
-  take-yields l [] (e ∷ es) cs fs y = yields (served-yields l (reused sh e) [] es cs fs (y .empty .0))
-  take-yields l [] [] (c ∷ cs) fs y = yields (served-yields l (thawed sh c) [] [] cs fs (thawed-more c))
-  take-yields l [] [] [] fs y = asks-first (λ q. served-yields l _ [] [] [] fs (new-more q _))
+  take-yields l (p ∷ ps) es cs fs y z = yields (served-yields l p ps es cs fs (y .0))
+  take-yields l [] (e ∷ es) cs fs y z = yields (served-yields l (reused sh e) [] es cs fs (z .0))
+  take-yields l [] [] (c ∷ cs) fs y z = yields (served-yields l (thawed sh c) [] [] cs fs (thawed-more c))
+  take-yields l [] [] [] fs y z = asks-first (λ q. served-yields l _ [] [] [] fs (new-more q _))
 
   yields-cond : (b : Bool) (x y : Ask) → TakeYields x → TakeYields y → TakeYields (cond b x y)
   yields-cond true x y p q = p
@@ -139,9 +139,9 @@ module _ (sh : Shape) (ok : Sound sh) (lim : Limits) where
   refuse-yields : (s : Class) (n : ℕ) → TakeYields (refuse s n)
   refuse-yields s n = refuses refl
 
-  pub answer-yields : (s : Class) (h : ℕ) (l : List ℕ) → Listed sh s → TakeYields (answer sh lim s (Calls.take h l))
+  pub answer-yields : (s : Class) (h : ℕ) (l : List ℕ) → All More (s .partial) → All Again (s .empty) → TakeYields (answer sh lim s (Calls.take h l))
   unfolding answer
-  answer-yields s h l y = search (yields-cond, refuse-yields, take-yields l (s .partial) (s .empty) (s .cold) (s .full) y)
+  answer-yields s h l y z = search (yields-cond, refuse-yields, take-yields l (s .partial) (s .empty) (s .cold) (s .full) y z)
 
   -- every request leaves the class so, whatever it is given
   pub data KeepsListed : Ask → Type 0 where
@@ -353,5 +353,5 @@ after-listed size rules xs = history-listed size (newHeap rules) (λ c. record {
 pub yielding : (size : ℕ) (rules : Rules) (xs : List Call) → Yielding size rules xs
 yielding size rules xs = record {
   listed = after-listed size rules xs;
-  takes = λ c h l. answer-yields (shapeOf c) (shape-sound c) _ _ h l (after-listed size rules xs c);
+  takes = λ c h l. answer-yields (shapeOf c) (shape-sound c) _ _ h l (after-listed size rules xs c .partial) (after-listed size rules xs c .empty);
 }
