@@ -2,12 +2,13 @@
 --     commit-fits    a direct commit that is not refused is answered by best fit
 --     run-fits       so is the commit that a class's call asks for, and it asks for one exactly as `Asks` says
 --     take-yields    a take that is not refused answers a block, or the arena has no run for it
-use Prim.Native.Nat.{ℕ, _≤_}
+--     take-fewer     one that answers fewer than it may leaves nothing at hand in a run in use; take-most, take-virgin
+use Prim.Native.Nat.{ℕ, _≤_, _<_}
 use mathlib.Core.Bool.{Bool, true, false, cond, false≢true}
-use mathlib.Core.List.{List, [], _∷_}
-use mathlib.Core.Logic.{_⊎_, inl, inr}
+use mathlib.Core.List.{List, [], _∷_, _++_}
+use mathlib.Core.Logic.{_⊎_, _↔_, inl, inr}
 use mathlib.Core.Option.{Option, none, some, Option·none-ne-some}
-use mathlib.Core.Path.{_≡_, refl, sym, ap, _∙_}
+use mathlib.Core.Path.{_≡_, refl, sym, ap, ap₂, _∙_, subst}
 use lib.Dec.{ltb}
 use lib.ListN.{length}
 use borrow.Author.Tests.{le-ltb}
@@ -19,7 +20,7 @@ use Rattle.classes.specs.Shape.{shapeOf}
 use Rattle.rules.specs.Rules.{rulesOf}
 use Rattle.rules.specs.declared.Limits.{Limits}
 use Rattle.model.specs.Calls as Calls
-use Rattle.model.specs.Calls.{Call, Named, names, wayOf, hostOf, Request, blocksOf, isRefused}
+use Rattle.model.specs.Calls.{Call, Answer, Named, names, wayOf, hostOf, Request, blocksOf, isRefused}
 use Rattle.model.specs.Page.{Page}
 use Rattle.model.specs.Arena as Arenas
 use Rattle.model.specs.Arena.{Arena}
@@ -28,15 +29,17 @@ use Rattle.model.specs.Class.{Class, Cold, Result, Ask, done, asks, serve, refu
 use Rattle.model.specs.Release.{Site, onPage, releaseList}
 use Rattle.model.specs.Chunks.{releaseChunks, answer}
 use Rattle.model.specs.Heap.{badRun, runWith, asked, offer, finish, interact, classCall, commitCall, directCall, step}
-use Rattle.model.specs.History.{heapAfter}
+use Rattle.model.specs.History.{Event, heapAfter, withCall}
 use Rattle.model.specs.BestFit.{Commits, from-hole, from-frontier, unusable, ungranted, exhausted}
 use Rattle.model.specs.Yields.{TakeYields, refuses, yields, asks-first}
-use Rattle.model.proofs.Theorems.{best-fit, yielding, conserved}
+use Rattle.model.specs.Offered.{Spent, NonePartial, NoneListed, Virgin}
+use Rattle.model.proofs.Theorems.{best-fit, yielding, offered, virgins, conserved}
 use Rattle.model.proofs.Ways.{host-of}
 use Rattle.arena.specs.Load.{loadArena}
-use Rattle.demands.specs.Run.{Opens, bookAfter, next}
-use Rattle.demands.specs.Demands.{CommitFits, RunFits, unasked, nothing, given, Asks, Spent}
+use Rattle.demands.specs.Run.{Opens, run, bookAfter, next, recounted, recountedWith}
+use Rattle.demands.specs.Demands.{CommitFits, RunFits, unasked, nothing, given, Asks}
 use Rattle.demands.proofs.Histories.{run-represents, next-agrees}
+use Rattle.demands.proofs.Told.{recounted-is}
 use Rattle.demands.proofs.Codes.{next-host, next-step, next-answer, next-unrefused, next-zero}
 
 -- ---- a request stays with its class, or goes to the arena for m pages; A says that it should
@@ -79,24 +82,24 @@ module _ (sh : Shape) (lim : Limits) where
   ask-unrefused l fs none = refl
   ask-unrefused l fs (some q) = refl
 
-  module _ (s : Class) (code : ℕ) (g : Option ℕ) where
+  module _ (vs : List Event) (c : ℕ) (s : Class) (spent : Spent vs c ↔ NoneListed s) (code : ℕ) (g : Option ℕ) where
     -- the number is 0 exactly if the class, given g, does not refuse
     record Codes (r : Request) : Type 0 where
       unrefused : code ≡ 0 → isRefused (serve (answer sh lim s r) g .answer) ≡ false
       zero : isRefused (serve (answer sh lim s r) g .answer) ≡ false → code ≡ 0
 
-    refused-home : (k : ℕ) (r : Request) → (code ≡ 0 → isRefused (serve (refuse s k) g .answer) ≡ false) → Reaches (sh .pages) (Asks s r code) (refuse s k)
+    refused-home : (k : ℕ) (r : Request) → (code ≡ 0 → isRefused (serve (refuse s k) g .answer) ≡ false) → Reaches (sh .pages) (Asks vs c r code) (refuse s k)
     refused-home k r z = home (λ a. false≢true (sym (z (a .unrefused))))
 
     take-home : (h : ℕ) (l : List ℕ) → (code ≡ 0 → isRefused (serve (answer sh lim s (Calls.take h l)) g .answer) ≡ false)
-        → (isRefused (serve (answer sh lim s (Calls.take h l)) g .answer) ≡ false → code ≡ 0) → Reaches (sh .pages) (Asks s (Calls.take h l) code) (answer sh lim s (Calls.take h l))
+        → (isRefused (serve (answer sh lim s (Calls.take h l)) g .answer) ≡ false → code ≡ 0) → Reaches (sh .pages) (Asks vs c (Calls.take h l) code) (answer sh lim s (Calls.take h l))
     unfolding answer
     take-home h l z y =
         by-cases (ltb (length l) (sh .batch)) (λ u. rw u (refused-home 5 (Calls.take h l) (rw u at z)))
-        (λ u. rw u (take-reaches (Asks s (Calls.take h l) code) l (s .partial) (s .empty) (s .cold) (s .full) (λ a. (a .spent .partial, a .spent .empty, a .spent .cold))
-        (λ p q r. record { take = refl; unrefused = (rw (u, p, q, r) at y) (ask-unrefused l (s .full) g); spent = record { partial = p; empty = q; cold = r } })))
+        (λ u. rw u (take-reaches (Asks vs c (Calls.take h l) code) l (s .partial) (s .empty) (s .cold) (s .full) (λ a. let n = spent .0 (a .spent) in (n .partial, n .empty, n .cold))
+        (λ p q r. record { take = refl; unrefused = (rw (u, p, q, r) at y) (ask-unrefused l (s .full) g); spent = spent .1 (record { partial = p; empty = q; cold = r }) })))
 
-    reaches : (r : Request) → Codes r → Reaches (sh .pages) (Asks s r code) (answer sh lim s r)
+    reaches : (r : Request) → Codes r → Reaches (sh .pages) (Asks vs c r code) (answer sh lim s r)
     reaches (Calls.take h l) z = take-home h l (z .unrefused) (z .zero)
     reaches (Calls.giveBack h ws) z = list-home sh lim (sh .pages) _ (λ a. false≢true (a .take)) s h ws
     reaches (Calls.giveChunks h ws gs fs) z = chunks-home sh lim (sh .pages) _ (λ a. false≢true (a .take)) s h ws gs fs
@@ -156,11 +159,17 @@ module _ (n : ℕ) (rows b : List ℕ) (o : Opens n rows b) (xs : List Call) whe
     abbrev gives : Option ℕ
     gives = offer n (hostOf (d .request)) (heapAfter n (rulesOf rows) xs .arena) ask .run
 
+    abbrev vs : List Event
+    vs = recounted n (rulesOf rows) xs (run n rows b xs)
+
     abbrev Asked : Type 0
-    Asked = Asks (heapAfter n (rulesOf rows) xs .classes (d .class)) (d .request) (next n rows b xs x .code)
+    Asked = Asks vs (d .class) (d .request) (next n rows b xs x .code)
+
+    spent : Spent vs (d .class) ↔ NoneListed (heapAfter n (rulesOf rows) xs .classes (d .class))
+    spent = rw (recounted-is n rows b o xs) (offered n (rulesOf rows) xs .spent (d .class))
 
     module _ (host : badHost (hostOf (d .request)) ≡ false) where
-      codes : Codes (shapeOf (d .class)) (heapAfter n (rulesOf rows) xs .rules (d .class)) (heapAfter n (rulesOf rows) xs .classes (d .class)) (next n rows b xs x .code) gives (d .request)
+      codes : Codes (shapeOf (d .class)) (heapAfter n (rulesOf rows) xs .rules (d .class)) vs (d .class) (heapAfter n (rulesOf rows) xs .classes (d .class)) spent (next n rows b xs x .code) gives (d .request)
       unfolding classCall interact finish
       codes = record {
         unrefused = next-unrefused n rows b o xs x d e host;
@@ -172,7 +181,7 @@ module _ (n : ℕ) (rows b : List ℕ) (o : Opens n rows b) (xs : List Call) whe
       served = next-answer n rows b o xs x d e host
 
       reached : Reaches (shapeOf (d .class) .pages) Asked ask
-      reached = reaches (shapeOf (d .class)) (heapAfter n (rulesOf rows) xs .rules (d .class)) (heapAfter n (rulesOf rows) xs .classes (d .class)) (next n rows b xs x .code) gives (d .request) codes
+      reached = reaches (shapeOf (d .class)) (heapAfter n (rulesOf rows) xs .rules (d .class)) vs (d .class) (heapAfter n (rulesOf rows) xs .classes (d .class)) spent (next n rows b xs x .code) gives (d .request) codes
 
       class-fits : RunFits n (hostOf (d .request)) (shapeOf (d .class) .pages) (loadArena (bookAfter n rows b xs)) Asked (classCall n (heapAfter n (rulesOf rows) xs) (d .class) (d .request) .run)
       unfolding classCall interact finish
@@ -194,14 +203,41 @@ module _ (n : ℕ) (rows b : List ℕ) (o : Opens n rows b) (xs : List Call) whe
     abbrev taking : Named
     taking = record { class = c; request = Calls.take h l }
 
-    spent : {A B : Type 0} → A ⊎ (Asked x taking e × B) → A ⊎ (Spent (heapAfter n (rulesOf rows) xs .classes c) × B)
-    spent (inl p) = inl p
-    spent (inr p) = inr (p .0 .spent, p .1)
+    nothing-left : {A B : Type 0} → A ⊎ (Asked x taking e × B) → A ⊎ (Spent (vs x taking e) c × B)
+    nothing-left (inl p) = inl p
+    nothing-left (inr p) = inr (p .0 .spent, p .1)
 
     pub take-yields : next n rows b xs x .code ≡ 0
-        → (isNil (blocksOf (next n rows b xs x .answer)) ≡ false) ⊎ (Spent (heapAfter n (rulesOf rows) xs .classes c) × Commits n h (shapeOf c .pages) (loadArena (bookAfter n rows b xs)) none false)
+        → (isNil (blocksOf (next n rows b xs x .answer)) ≡ false) ⊎ (Spent (vs x taking e) c × Commits n h (shapeOf c .pages) (loadArena (bookAfter n rows b xs)) none false)
     take-yields z =
         let t = next-host n rows b o xs x taking e z in
         rw (loads, served x taking e t)
-        (spent (offer-yields n h (shapeOf c .pages) (heapAfter n (rulesOf rows) xs .arena) (best-fit n (rulesOf rows) xs .commits h (shapeOf c .pages)) (reached x taking e t) (yielding n (rulesOf rows) xs .takes c h l)
+        (nothing-left (offer-yields n h (shapeOf c .pages) (heapAfter n (rulesOf rows) xs .arena) (best-fit n (rulesOf rows) xs .commits h (shapeOf c .pages)) (reached x taking e t) (yielding n (rulesOf rows) xs .takes c h l)
         (codes x taking e t .unrefused z)))
+
+    -- the history with the take at its end is the model's
+    with-take : recountedWith n (rulesOf rows) (bookAfter n rows b xs) xs (run n rows b xs) x ≡ withCall n (rulesOf rows) xs x
+    with-take =
+        ap₂ (λ (us : List Event) (a : Answer). us ++ record { call = x; answer = a; run = step n (heapAfter n (rulesOf rows) xs) x .run } ∷ [])
+        (recounted-is n rows b o xs) (next-agrees n rows b o xs x .answer)
+
+    module _ (z : next n rows b xs x .code ≡ 0) where
+      unrefused : isRefused (step n (heapAfter n (rulesOf rows) xs) x .answer) ≡ false
+      unfolding classCall interact finish
+      unrefused =
+          let t = next-host n rows b o xs x taking e z in
+          rw (next-step n rows b o xs x taking e t) (codes x taking e t .unrefused z)
+
+      agrees : next n rows b xs x .answer ≡ step n (heapAfter n (rulesOf rows) xs) x .answer
+      agrees = next-agrees n rows b o xs x .answer
+
+      pub take-fewer : length (blocksOf (next n rows b xs x .answer)) < shapeOf c .batch → NonePartial (recountedWith n (rulesOf rows) (bookAfter n rows b xs) xs (run n rows b xs) x) c
+      take-fewer k = subst (λ (us : List Event). NonePartial us c) (sym with-take) (offered n (rulesOf rows) xs .fewer x c h l e unrefused (rw agrees at k))
+
+      pub take-most : length (blocksOf (next n rows b xs x .answer)) ≤ shapeOf c .batch
+      take-most = rw agrees (offered n (rulesOf rows) xs .most x c h l e unrefused)
+
+      pub take-virgin : Virgin (recountedWith n (rulesOf rows) (bookAfter n rows b xs) xs (run n rows b xs) x) c (next n rows b xs x .answer)
+      take-virgin =
+          subst (λ (a : Answer). Virgin (recountedWith n (rulesOf rows) (bookAfter n rows b xs) xs (run n rows b xs) x) c a) (sym agrees)
+          (subst (λ (us : List Event). Virgin us c (step n (heapAfter n (rulesOf rows) xs) x .answer)) (sym with-take) (virgins n (rulesOf rows) xs .virgin x c h l e unrefused))

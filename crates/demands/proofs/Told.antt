@@ -1,6 +1,7 @@
 -- What is told of a history on the words, its calls with their answers, is what the model's events have of it; a class's answers, entries
 -- and holds read no more of events than that.
 --     told-is           the calls with their answers are the model's events without the runs
+--     recounted-is      with the runs they are the model's events
 --     told-answers      so a class's answers are the model's
 --     told-disjoint     and what the model's events have as `Disjoint` and `IsoDisjoint`, these have
 use Prim.Native.Nat.{ℕ, suc, _/_}
@@ -20,7 +21,7 @@ use Rattle.model.specs.Entries.{Entry, Live, OutIn, releases, directNext, direc
 use Rattle.model.specs.Demands.{Disjoint, IsoDisjoint}
 use Rattle.refinement.specs.Direct.{Reply}
 use Rattle.refinement.specs.Run.{answersIn}
-use Rattle.demands.specs.Run.{Opens, answered, told, run}
+use Rattle.demands.specs.Run.{Opens, answered, told, run, withRuns, recounted}
 use Rattle.demands.proofs.Histories.{run-answers}
 
 abbrev pub bare : List Event → List Event
@@ -35,6 +36,14 @@ answered-is n H (x ∷ xs) (r ∷ rs) e =
 
 pub told-is : (n : ℕ) (rows b : List ℕ) → Opens n rows b → (xs : List Call) → told n rows b xs ≡ bare (events n (rulesOf rows) xs)
 told-is n rows b o xs = answered-is n (newHeap (rulesOf rows)) xs (run n rows b xs) (run-answers n rows b o xs)
+
+-- with what the arena gave they are the model's events
+with-runs : (us : List Event) → withRuns (bare us) us ≡ us
+with-runs [] = refl
+with-runs (u ∷ us) = ap (λ (vs : List Event). u ∷ vs) (with-runs us)
+
+pub recounted-is : (n : ℕ) (rows b : List ℕ) → Opens n rows b → (xs : List Call) → recounted n (rulesOf rows) xs (run n rows b xs) ≡ events n (rulesOf rows) xs
+recounted-is n rows b o xs = ap (λ (vs : List Event). withRuns vs (events n (rulesOf rows) xs)) (told-is n rows b o xs) ∙ with-runs (events n (rulesOf rows) xs)
 
 -- ---- a class's answers
 bare-answers : (c : ℕ) (vs : List Event) → answersOf c (bare vs) ≡ answersOf c vs

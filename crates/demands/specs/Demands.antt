@@ -5,7 +5,7 @@ use mathlib.Core.List.{List, [], _∷_}
 use mathlib.Core.Logic.{_⊎_, _↔_}
 use mathlib.Core.Option.{Option, none, some}
 use mathlib.Core.Path.{_≡_}
-use lib.ListN.{getD}
+use lib.ListN.{length, getD}
 use Rattle.facts.specs.Lists.{isNil, every, total}
 use Rattle.words.specs.Host.{hostMax, commitGranted}
 use Rattle.classes.specs.Sizes.{smallSizes, mediumSizes, pageBytes}
@@ -17,12 +17,13 @@ use Rattle.model.specs.Calls as Calls
 use Rattle.model.specs.Calls.{Call, Answer, Named, names, hostOf, Request, blocksOf}
 use Rattle.model.specs.HoleStore.{hole}
 use Rattle.model.specs.Arena.{Arena, ready, withStatus, withFrontier, more, draw}
-use Rattle.model.specs.Class.{Class, serve}
+use Rattle.model.specs.Class.{serve}
 use Rattle.model.specs.Release.{ofKind}
 use Rattle.model.specs.Chunks.{answer}
 use Rattle.model.specs.Heap.{badRun, answerRun, offer, step}
 use Rattle.model.specs.History.{Event, answers, events, heapAfter, callsOf, answersOf, runsOf}
 use Rattle.model.specs.Entries.{Entry, Live, HasByte, blockBytes, OutIn, AllOut, directAfter}
+use Rattle.model.specs.Offered.{Spent, NonePartial, Virgin}
 use Rattle.model.specs.BestFit.{Commits, usable}
 use Rattle.model.specs.Joining.{NoTwoTouch, HasRoom, JoinedWhere}
 use Rattle.model.specs.Demands.{Disjoint, IsoDisjoint}
@@ -30,7 +31,7 @@ use Rattle.arena.specs.Load.{loadArena}
 use Rattle.refinement.specs.Direct.{Reply}
 use Rattle.refinement.specs.Run.{answersIn}
 use Rattle.demands.specs.Call.{call}
-use Rattle.demands.specs.Run.{answered}
+use Rattle.demands.specs.Run.{answered, recounted, recountedWith}
 use Rattle.demands.specs.Start.{Start, pages, Starts, calls, bookAfter, replies, told, rules}
 use Rattle.demands.specs.Returns.{Twice, OneRun, ListOut, groupsFit, Plain, ChunksOut}
 
@@ -53,22 +54,16 @@ pub record CommitFits (n h m : ℕ) (a : Arena) (x : Answer) : Type 0 where
   pub fits : Commits n h m a run fresh
   pub answer : x ≡ answerRun run fresh
 
--- no page of the class is at hand: none is partial, empty or cold
-pub record Spent (s : Class) : Type 0 where
-  pub partial : s .partial ≡ []
-  pub empty : s .empty ≡ []
-  pub cold : s .cold ≡ []
-
--- a class's call asks the arena for a run: it is a take, not refused, and no page of the class is at hand
+-- a class's call asks the arena for a run: it is a take, not refused, and every block of every run of the class is out by the history vs
 abbrev pub isTake : Request → Bool
 isTake (Calls.take h l) = true
 isTake (Calls.giveBack h ws) = false
 isTake (Calls.giveChunks h ws gs fs) = false
 
-pub record Asks (s : Class) (r : Request) (code : ℕ) : Type 0 where
+pub record Asks (vs : List Event) (c : ℕ) (r : Request) (code : ℕ) : Type 0 where
   pub take : isTake r ≡ true
   pub unrefused : code ≡ 0
-  pub spent : Spent s
+  pub spent : Spent vs c
 
 -- what the arena gives a class at a call that asks (Asked) or not: nothing if it does not ask; if it does, none with its reason, or a
 -- run of the class's length by best fit
@@ -125,11 +120,20 @@ pub record Demand2At (n : ℕ) (limits : Rules) (b : List ℕ) (xs : List Call) 
   pub arena : loadArena b ≡ heapAfter n limits xs .arena
   pub commits : (h m : ℕ) → h ≤ hostMax → badRun m ≡ false → CommitFits n h m (loadArena b) (call b (Calls.commit h m) .answer)
   pub runs : (x : Call) (d : Named) → names x ≡ some d
-      → RunFits n (hostOf (d .request)) (shapeOf (d .class) .pages) (loadArena b) (Asks (heapAfter n limits xs .classes (d .class)) (d .request) (call b x .code))
+      → RunFits n (hostOf (d .request)) (shapeOf (d .class) .pages) (loadArena b) (Asks (recounted n limits xs rs) (d .class) (d .request) (call b x .code))
       (step n (heapAfter n limits xs) x .run)
-  -- a take that is not refused answers a block, or its class has no page at hand and the arena no run for it
+  -- a take that is not refused answers a block, or every block of every run of its class is out and the arena has no run for it
   pub takes : (x : Call) (c h : ℕ) (l : List ℕ) → names x ≡ some (record { class = c; request = Calls.take h l }) → call b x .code ≡ 0
-      → (isNil (blocksOf (call b x .answer)) ≡ false) ⊎ (Spent (heapAfter n limits xs .classes c) × Commits n h (shapeOf c .pages) (loadArena b) none false)
+      → (isNil (blocksOf (call b x .answer)) ≡ false) ⊎ (Spent (recounted n limits xs rs) c × Commits n h (shapeOf c .pages) (loadArena b) none false)
+  -- one that answers fewer blocks than it may leaves none at hand in a run of its class that has one out; none answers more
+  pub fewer : (x : Call) (c h : ℕ) (l : List ℕ) → names x ≡ some (record { class = c; request = Calls.take h l }) → call b x .code ≡ 0
+      → length (blocksOf (call b x .answer)) < shapeOf c .batch → NonePartial (recountedWith n limits b xs rs x) c
+  pub most : (x : Call) (c h : ℕ) (l : List ℕ) → names x ≡ some (record { class = c; request = Calls.take h l }) → call b x .code ≡ 0
+      → length (blocksOf (call b x .answer)) ≤ shapeOf c .batch
+  -- its virgin is yes exactly if a block came and each came from a run that no unrefused release had a block of since the arena gave it or a
+  -- release parked it cold with a discard that zeroed it
+  pub virgin : (x : Call) (c h : ℕ) (l : List ℕ) → names x ≡ some (record { class = c; request = Calls.take h l }) → call b x .code ≡ 0
+      → Virgin (recountedWith n limits b xs rs x) c (call b x .answer)
   -- number 10 by the history: a release of one block is not refused exactly if the block is out in the class, which is that an entry of
   -- the class not yet released has its word
   pub returns : (c w : ℕ) (x : Call) (h : ℕ) → h ≤ hostMax → names x ≡ some (record { class = c; request = Calls.giveBack h (w ∷ []) })

@@ -3,16 +3,18 @@
 --     run         the replies to the calls of a history from that opening; `bookAfter` the book that it leaves
 --     next        the reply to one more call
 --     told        the calls with their answers, as the model's definitions of entries, holds and a class's answers read them
+--     recounted   the same with what the arena gave at each call, as the definitions of a class's runs read them
 use Prim.Native.Nat.{ℕ, _≤_}
-use mathlib.Core.List.{List, [], _∷_}
+use mathlib.Core.List.{List, [], _∷_, _++_}
 use mathlib.Core.Option.{none}
 use mathlib.Core.Path.{_≡_}
 use lib.ListN.{length}
-use Rattle.rules.specs.Rules.{rowsFault}
+use Rattle.rules.specs.Rules.{Rules, rowsFault}
 use Rattle.fields.specs.Field.{words}
 use Rattle.fields.specs.Ranges.{maxPages}
 use Rattle.model.specs.Calls.{Call}
-use Rattle.model.specs.History.{Event}
+use Rattle.model.specs.Heap.{step}
+use Rattle.model.specs.History.{Event, events, heapAfter}
 use Rattle.vigbuso.specs.Direct.{openOn}
 use Rattle.refinement.specs.Direct.{Reply}
 use Rattle.refinement.specs.Run.{repliesFrom, bookFrom}
@@ -47,3 +49,16 @@ answered (x ∷ xs) (r ∷ rs) = record { call = x; answer = r .answer; run = no
 
 abbrev pub told : ℕ → List ℕ → List ℕ → List Call → List Event
 told n rows b xs = answered xs (run n rows b xs)
+
+-- it is "worked from the opening over the arguments of all calls up to this one" (`events` sees no book)
+abbrev pub withRuns : List Event → List Event → List Event
+withRuns [] us = []
+withRuns (v ∷ vs) [] = []
+withRuns (v ∷ vs) (u ∷ us) = record { call = v .call; answer = v .answer; run = u .run } ∷ withRuns vs us
+
+abbrev pub recounted : ℕ → Rules → List Call → List Reply → List Event
+recounted n limits xs rs = withRuns (answered xs rs) (events n limits xs)
+
+-- and with one more call, on the book b that those before it left
+abbrev pub recountedWith : ℕ → Rules → List ℕ → List Call → List Reply → Call → List Event
+recountedWith n limits b xs rs x = recounted n limits xs rs ++ record { call = x; answer = call b x .answer; run = step n (heapAfter n limits xs) x .run } ∷ []

@@ -41,6 +41,9 @@ count-elem w (x ∷ s) e =
 pub count-not : (w : ℕ) (s : List ℕ) → count w s ≡ 0 → elem w s ≡ false
 count-not w s z = by-cases (elem w s) (λ e. absurd (omega (arith, elem-count w s e))) (λ e. e)
 
+pub count-in : (w : ℕ) (s : List ℕ) → 1 ≤ count w s → elem w s ≡ true
+count-in w s h = by-cases (elem w s) (λ e. e) (λ e. absurd (omega (arith, count-elem w s e)))
+
 pub every-count : (t : ℕ → Bool) (w : ℕ) (s : List ℕ) → every t s ≡ true → 1 ≤ count w s → t w ≡ true
 every-count t w [] e h = absurd (omega arith)
 every-count t w (x ∷ s) e h =

@@ -73,7 +73,7 @@ pub restate : {size n : ℕ} {H : Heap} {es : List Entry} {f f′ : ℕ → Bool
 restate k e d = record { one = λ x. omega (arith, k .one x, d x); bound = k .bound; good = k .good; mine = k .mine; outs = k .outs; directs = λ x. e x ∙ k .directs x; once = k .once; past = k .past }
 
 -- by class, where one of them changed
-at-class : (P : ℕ → Class → Type 0) (f : ℕ → Class) (c : ℕ) (s : Class) → P c s → ((d : ℕ) → eqb d c ≡ false → P d (f d)) → (d : ℕ) → P d (update f c s d)
+pub at-class : (P : ℕ → Class → Type 0) (f : ℕ → Class) (c : ℕ) (s : Class) → P c s → ((d : ℕ) → eqb d c ≡ false → P d (f d)) → (d : ℕ) → P d (update f c s d)
 at-class P f c s p q d = by-cases (eqb d c) (λ e. rw e (subst (λ k. P k s) (sym (eqb-true d c e)) p)) (λ e. rw e (q d e))
 
 -- a lawful request, offered what the arena gives

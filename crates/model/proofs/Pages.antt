@@ -14,8 +14,8 @@ use Rattle.model.specs.Cover.{covers}
 use Rattle.words.specs.Word.{kindBits}
 use Rattle.classes.specs.declared.Shape.{Shape}
 use Rattle.classes.specs.Sound.{Sound}
-use Rattle.model.specs.Page.{Page, pageGranules, wordOf, wordsFrom, isMedium, carveAs, carve, carvedWords, isOut, noneOut, hasMore, carvedNow, pop, returned, retire, reused}
-use Rattle.model.specs.Class.{Cold, Filled, after, fillFromList, thawed}
+use Rattle.model.specs.Page.{Page, pageGranules, wordOf, wordsFrom, isMedium, carveAs, carve, carvedWords, isOut, noneOut, carvedNow, pop, returned, retire, reused}
+use Rattle.model.specs.Class.{Cold, Filled, stays, after, fillFromList, thawed}
 use Rattle.model.proofs.Counts.{count-append, count-reverse, count-cut, elem-count, count-elem, every-count}
 use Rattle.model.proofs.Runs.{covers-in}
 
@@ -46,7 +46,7 @@ module _ (sh : Shape) (ok : Sound sh) where
   unfolding wordOf
   word-rises q i j h = omega (arith, mul-le-mul-right (sh .block) h, ok .wide)
 
-  words-below : (q k w : ℕ) → wordOf sh q k ≤ w → count w (wordsFrom sh q 0 k) ≡ 0
+  pub words-below : (q k w : ℕ) → wordOf sh q k ≤ w → count w (wordsFrom sh q 0 k) ≡ 0
   words-below q zero w h = refl
   words-below q (suc k) w h =
       let r : wordOf sh q k < wordOf sh q (suc k) = word-rises q k (suc k) (omega arith) in
@@ -64,7 +64,7 @@ module _ (sh : Shape) (ok : Sound sh) where
   abbrev pub beginsOn : ℕ → ℕ
   beginsOn w = (w - sh .kind * 2 ^ kindBits) / pageGranules
 
-  words-on : (q k w : ℕ) → k ≤ sh .capacity → count w (wordsFrom sh q 0 k) ≤ covers (sh .pages) q (beginsOn w)
+  pub words-on : (q k w : ℕ) → k ≤ sh .capacity → count w (wordsFrom sh q 0 k) ≤ covers (sh .pages) q (beginsOn w)
   unfolding wordOf
   words-on q zero w l = omega arith
   words-on q (suc k) w l =
@@ -100,7 +100,7 @@ module _ (sh : Shape) (ok : Sound sh) where
       let z : elem w (p .free) ≡ false = by-cases (elem w (p .free)) (λ e. absurd (omega (arith, elem-count w (p .free) e))) (λ e. e) in
       rw (a, z)
 
-  words-join : (q a k w : ℕ) → count w (wordsFrom sh q 0 (a + k)) ≡ count w (wordsFrom sh q a k) + count w (wordsFrom sh q 0 a)
+  pub words-join : (q a k w : ℕ) → count w (wordsFrom sh q 0 (a + k)) ≡ count w (wordsFrom sh q a k) + count w (wordsFrom sh q 0 a)
   words-join q a zero w = rw add-zero (omega arith)
   words-join q a (suc k) w = rw (add-suc, zero-add) (let ih = words-join q a k w in omega arith)
 
@@ -165,7 +165,7 @@ module _ (sh : Shape) (ok : Sound sh) where
   after-fills : (n : ℕ) (v : Bool) (p : Page) (ps : List Page) (f : Filled) → GoodPage sh p → Fills ps f → Fills (p ∷ ps) (after sh v (pop sh n p) f)
   unfolding after pop
   after-fills n v p ps f good r =
-      by-cases (hasMore sh (pop sh n p .page))
+      by-cases (stays sh (pop sh n p .page))
       (λ e. record {
         partial = rw e (pop-good n p good, r .partial);
         full = rw e (r .full);

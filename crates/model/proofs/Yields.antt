@@ -23,7 +23,7 @@ use Rattle.model.specs.declared.Spot.the-variants.{ToEmpty, ToCold, ToAr
 use Rattle.model.specs.Calls as Calls
 use Rattle.model.specs.Calls.{Call, Request, Way, turned, straight, toClass, wayOf, blocksOf, fates}
 use Rattle.model.specs.Page.{Page, isMedium, wordsFrom, carveAs, carve, isOut, noneOut, hasMore, carvedNow, pop, returned, retire, reused}
-use Rattle.model.specs.Class.{Class, lists, Cold, Result, Ask, done, asks, serve, refuse, after, fillFromList, served, thawed, onRun, takeFrom}
+use Rattle.model.specs.Class.{Class, lists, Cold, Result, Ask, done, asks, serve, refuse, stays, after, fillFromList, served, thawed, onRun, takeFrom}
 use Rattle.model.specs.Release.{Found, Site, Settled, find, inPartial, inFull, orElse, mapFound, locate, spotIn, park, parkIn, markRetired, settle, onPage, siteOfFirst, releaseList}
 use Rattle.model.specs.Chunks.{startsAt, blocksOn, fitsOn, chunkFits, settleChunk, settleChunks, releaseChunks, answer}
 use Rattle.model.specs.Heap.{Heap, step, route, classCall, interact, finish, newHeap}
@@ -32,6 +32,7 @@ use Rattle.model.specs.Yields.{Listed, TakeYields, refuses, yields, asks
 use Rattle.model.specs.Demands.{Yielding}
 use Rattle.model.proofs.Update.{update-all}
 use Rattle.model.proofs.NewRun.{length-words}
+use Rattle.model.proofs.Pages.{all-append}
 use Rattle.model.proofs.Find.{all-at, FoundLaws, found-law, firstOf, pageIn, located-first, Skips, partial-skips, full-skips}
 use Rattle.model.proofs.Alone.{direct-keeps}
 
@@ -39,13 +40,16 @@ nil-length : (l : List ℕ) → isNil l ≡ false → 1 ≤ length l
 nil-length [] e = absurd (true≢false e)
 nil-length (x ∷ l) e = omega arith
 
-length-nil : (l : List ℕ) → 1 ≤ length l → isNil l ≡ false
+pub length-nil : (l : List ℕ) → 1 ≤ length l → isNil l ≡ false
 length-nil [] h = absurd (omega arith)
 length-nil (x ∷ l) h = refl
 
 module _ (sh : Shape) (ok : Sound sh) (lim : Limits) where
   abbrev More : Page → Type 0
   More p = hasMore sh p ≡ true
+
+  abbrev Less : Page → Type 0
+  Less p = hasMore sh p ≡ false
 
   abbrev Again : Page → Type 0
   Again p = hasMore sh (reused sh p) ≡ true
@@ -68,7 +72,7 @@ module _ (sh : Shape) (ok : Sound sh) (lim : Limits) where
   retire-again p = carve-more (isMedium sh) (p .first) false
 
   -- takes: a page with more gives a block
-  pop-gives : (n : ℕ) (p : Page) → 1 ≤ n → More p → 1 ≤ length (pop sh n p .blocks)
+  pub pop-gives : (n : ℕ) (p : Page) → 1 ≤ n → More p → 1 ≤ length (pop sh n p .blocks)
   unfolding pop hasMore carvedNow
   pop-gives n p h m =
       rw (length-append, length-words, length-reverse, length-take)
@@ -76,7 +80,7 @@ module _ (sh : Shape) (ok : Sound sh) (lim : Limits) where
       (λ e. let c : ltb (p .carved) (sh .capacity) ≡ true = rw e at m in omega (arith, ltb-true (p .carved) (sh .capacity) c))
       (λ e. omega (arith, nil-length (p .free) e)))
 
-  fill-gives : (n : ℕ) (p : Page) (ps : List Page) → 1 ≤ n → More p → 1 ≤ length (fillFromList sh n (p ∷ ps) .blocks)
+  pub fill-gives : (n : ℕ) (p : Page) (ps : List Page) → 1 ≤ n → More p → 1 ≤ length (fillFromList sh n (p ∷ ps) .blocks)
   unfolding fillFromList after
   fill-gives n p ps h m = rw (ne-eqb n 0 (omega arith)) (rw length-append (omega (arith, pop-gives n p h m)))
 
@@ -87,7 +91,16 @@ module _ (sh : Shape) (ok : Sound sh) (lim : Limits) where
       let ih = fill-more (n - length (pop sh n p .blocks)) ps (h .1) in
       by-cases (eqb n 0)
       (λ e. rw e h)
-      (λ e. rw e (by-cases (hasMore sh (pop sh n p .page)) (λ b. rw b (b, ih)) (λ b. rw b ih)))
+      (λ e. rw e (by-cases (stays sh (pop sh n p .page)) (λ b. rw b (b, ih)) (λ b. rw b ih)))
+
+  fill-less : (n : ℕ) (ps : List Page) → All Less (fillFromList sh n ps .full)
+  unfolding fillFromList after
+  fill-less n [] = tt
+  fill-less n (p ∷ ps) =
+      let ih = fill-less (n - length (pop sh n p .blocks)) ps in
+      by-cases (eqb n 0)
+      (λ e. rw e tt)
+      (λ e. rw e (by-cases (stays sh (pop sh n p .page)) (λ b. rw b ih) (λ b. rw b (b, ih))))
 
   module _ (l : List ℕ) (p : Page) (ps es : List Page) (cs : List Cold) (fs : List Page) (m : More p) where
     abbrev servedFrom : Result
@@ -97,9 +110,13 @@ module _ (sh : Shape) (ok : Sound sh) (lim : Limits) where
     unfolding served
     served-yields = rw take-append-seam (length-nil (fillFromList sh (sh .batch) (p ∷ ps) .blocks) (fill-gives (sh .batch) p ps (ok .gives) m))
 
-    served-listed : All More ps → All Again es → Listed sh (servedFrom .class)
+    served-listed : All More ps → All Again es → All Less fs → Listed sh (servedFrom .class)
     unfolding served
-    served-listed y z = record { partial = fill-more (sh .batch) (p ∷ ps) (m, y); empty = z }
+    served-listed y z u = record {
+      partial = fill-more (sh .batch) (p ∷ ps) (m, y);
+      empty = z;
+      full = all-append Less (fillFromList sh (sh .batch) (p ∷ ps) .full) fs (fill-less (sh .batch) (p ∷ ps)) u;
+    }
 
   pub thawed-more : (c : Cold) → More (thawed sh c)
   unfolding thawed
@@ -108,12 +125,12 @@ module _ (sh : Shape) (ok : Sound sh) (lim : Limits) where
   pub new-more : (q : ℕ) (v : Bool) → More (carve sh q v)
   new-more q v = carve-more (isMedium sh) q v
 
-  take-yields : (l : List ℕ) (ps es : List Page) (cs : List Cold) (fs : List Page) → Listed sh (lists ps es cs fs) → TakeYields (takeFrom sh l ps es cs fs)
+  take-yields : (l : List ℕ) (ps es : List Page) (cs : List Cold) (fs : List Page) → All More ps → All Again es → TakeYields (takeFrom sh l ps es cs fs)
   unfolding takeFrom onRun
-  take-yields l (p ∷ ps) es cs fs y = yields (served-yields l p ps es cs fs (y .partial .0))
-  take-yields l [] (e ∷ es) cs fs y = yields (served-yields l (reused sh e) [] es cs fs (y .empty .0))
-  take-yields l [] [] (c ∷ cs) fs y = yields (served-yields l (thawed sh c) [] [] cs fs (thawed-more c))
-  take-yields l [] [] [] fs y = asks-first (λ q. served-yields l _ [] [] [] fs (new-more q _))
+  take-yields l (p ∷ ps) es cs fs y z = yields (served-yields l p ps es cs fs (y .0))
+  take-yields l [] (e ∷ es) cs fs y z = yields (served-yields l (reused sh e) [] es cs fs (z .0))
+  take-yields l [] [] (c ∷ cs) fs y z = yields (served-yields l (thawed sh c) [] [] cs fs (thawed-more c))
+  take-yields l [] [] [] fs y z = asks-first (λ q. served-yields l _ [] [] [] fs (new-more q _))
 
   yields-cond : (b : Bool) (x y : Ask) → TakeYields x → TakeYields y → TakeYields (cond b x y)
   yields-cond true x y p q = p
@@ -122,9 +139,9 @@ module _ (sh : Shape) (ok : Sound sh) (lim : Limits) where
   refuse-yields : (s : Class) (n : ℕ) → TakeYields (refuse s n)
   refuse-yields s n = refuses refl
 
-  pub answer-yields : (s : Class) (h : ℕ) (l : List ℕ) → Listed sh s → TakeYields (answer sh lim s (Calls.take h l))
+  pub answer-yields : (s : Class) (h : ℕ) (l : List ℕ) → All More (s .partial) → All Again (s .empty) → TakeYields (answer sh lim s (Calls.take h l))
   unfolding answer
-  answer-yields s h l y = search (yields-cond, refuse-yields, take-yields l (s .partial) (s .empty) (s .cold) (s .full) y)
+  answer-yields s h l y z = search (yields-cond, refuse-yields, take-yields l (s .partial) (s .empty) (s .cold) (s .full) y z)
 
   -- every request leaves the class so, whatever it is given
   pub data KeepsListed : Ask → Type 0 where
@@ -138,26 +155,26 @@ module _ (sh : Shape) (ok : Sound sh) (lim : Limits) where
   keeps-refuse : (s : Class) (n : ℕ) → Listed sh s → KeepsListed (refuse s n)
   keeps-refuse s n y = keeps-done y
 
-  run-listed : (l : List ℕ) (fs : List Page) (g : Option ℕ) → Listed sh (onRun sh l fs g .class)
+  run-listed : (l : List ℕ) (fs : List Page) → All Less fs → (g : Option ℕ) → Listed sh (onRun sh l fs g .class)
   unfolding onRun
-  run-listed l fs none = record { partial = tt; empty = tt }
-  run-listed l fs (some q) = served-listed l _ [] [] [] fs (new-more q _) tt tt
+  run-listed l fs u none = record { partial = tt; empty = tt; full = u }
+  run-listed l fs u (some q) = served-listed l _ [] [] [] fs (new-more q _) tt tt u
 
   take-keeps : (l : List ℕ) (ps es : List Page) (cs : List Cold) (fs : List Page) → Listed sh (lists ps es cs fs) → KeepsListed (takeFrom sh l ps es cs fs)
   unfolding takeFrom
-  take-keeps l (p ∷ ps) es cs fs y = keeps-done (served-listed l p ps es cs fs (y .partial .0) (y .partial .1) (y .empty))
-  take-keeps l [] (e ∷ es) cs fs y = keeps-done (served-listed l (reused sh e) [] es cs fs (y .empty .0) tt (y .empty .1))
-  take-keeps l [] [] (c ∷ cs) fs y = keeps-done (served-listed l (thawed sh c) [] [] cs fs (thawed-more c) tt tt)
-  take-keeps l [] [] [] fs y = keeps-asks (run-listed l fs)
+  take-keeps l (p ∷ ps) es cs fs y = keeps-done (served-listed l p ps es cs fs (y .partial .0) (y .partial .1) (y .empty) (y .full))
+  take-keeps l [] (e ∷ es) cs fs y = keeps-done (served-listed l (reused sh e) [] es cs fs (y .empty .0) tt (y .empty .1) (y .full))
+  take-keeps l [] [] (c ∷ cs) fs y = keeps-done (served-listed l (thawed sh c) [] [] cs fs (thawed-more c) tt tt (y .full))
+  take-keeps l [] [] [] fs y = keeps-asks (run-listed l fs (y .full))
 
   -- a page with blocks out: the class without it, and with another that has more
-  record SiteLaw (t : Page → Bool) (s : Class) (x : Site) : Type 0 where
-    passes : t (x .page) ≡ true
+  pub record SiteLaw (t : Page → Bool) (s : Class) (x : Site) : Type 0 where
+    pub passes : t (x .page) ≡ true
     rest : Listed sh (x .without)
     put : (p : Page) → More p → Listed sh (x .with p)
     skips : Skips s x
 
-  abbrev SiteLaws : (Page → Bool) → Class → Option Site → Type 0
+  abbrev pub SiteLaws : (Page → Bool) → Class → Option Site → Type 0
   SiteLaws t s none = Unit {0}
   SiteLaws t s (some x) = SiteLaw t s x
 
@@ -169,26 +186,28 @@ module _ (sh : Shape) (ok : Sound sh) (lim : Limits) where
         let all = all-at More (f .before) (f .page) (f .behind) .0 (subst (All More) (h .is) (y .partial)) in
         record {
           passes = h .passes;
-          rest = record { partial = all .1; empty = y .empty };
-          put = λ p m. record { partial = all-at More (f .before) p (f .behind) .1 (m, all .1); empty = y .empty };
+          rest = record { partial = all .1; empty = y .empty; full = y .full };
+          put = λ p m. record { partial = all-at More (f .before) p (f .behind) .1 (m, all .1); empty = y .empty; full = y .full };
           skips = partial-skips t s f h;
         }
 
     full-site : (o : Option Found) → FoundLaws t (s .full) o → SiteLaws t s (mapFound (inFull s) o)
     unfolding inFull
     full-site none h = tt
-    full-site (some f) h = record {
-      passes = h .passes;
-      rest = record { partial = y .partial; empty = y .empty };
-      put = λ p m. record { partial = (m, y .partial); empty = y .empty };
-      skips = full-skips t s f h;
-    }
+    full-site (some f) h =
+        let others = all-at Less (f .before) (f .page) (f .behind) .0 (subst (All Less) (h .is) (y .full)) .1 in
+        record {
+          passes = h .passes;
+          rest = record { partial = y .partial; empty = y .empty; full = others };
+          put = λ p m. record { partial = (m, y .partial); empty = y .empty; full = others };
+          skips = full-skips t s f h;
+        }
 
     either-site : (x z : Option Site) → SiteLaws t s x → SiteLaws t s z → SiteLaws t s (orElse x z)
     either-site none z p q = q
     either-site (some x) z p q = p
 
-    located : SiteLaws t s (locate t s)
+    pub located : SiteLaws t s (locate t s)
     unfolding locate
     located = either-site (mapFound (inPartial s) (find t (s .partial))) (mapFound (inFull s) (find t (s .full))) (partial-site (find t (s .partial)) (found-law t (s .partial))) (full-site (find t (s .full)) (found-law t (s .full)))
 
@@ -199,8 +218,8 @@ module _ (sh : Shape) (ok : Sound sh) (lim : Limits) where
 
   module _ (h : ℕ) (s : Class) (p : Page) (y : Listed sh s) (m : Again p) where
     park-in : (t : Spot) → Parked s (parkIn sh h s p t)
-    park-in ToEmpty = record { listed = record { partial = y .partial; empty = (m, y .empty) }; skip = λ u. refl }
-    park-in ToCold = record { listed = record { partial = y .partial; empty = y .empty }; skip = λ u. refl }
+    park-in ToEmpty = record { listed = record { partial = y .partial; empty = (m, y .empty); full = y .full }; skip = λ u. refl }
+    park-in ToCold = record { listed = record { partial = y .partial; empty = y .empty; full = y .full }; skip = λ u. refl }
     park-in ToArena = record { listed = y; skip = λ u. refl }
 
     parked : Parked s (park sh lim h s p)
@@ -208,9 +227,9 @@ module _ (sh : Shape) (ok : Sound sh) (lim : Limits) where
     parked = park-in (spotIn sh lim s)
 
   -- one page's release, of at least one block: every other page is found as before
-  record SettledLaw (s : Class) (q : ℕ) (b : Settled) : Type 0 where
-    listed : Listed sh (b .class)
-    skip : (r : ℕ) → eqb q r ≡ false → firstOf (startsAt r) (b .class) ≡ firstOf (startsAt r) s
+  pub record SettledLaw (s : Class) (q : ℕ) (b : Settled) : Type 0 where
+    pub listed : Listed sh (b .class)
+    pub skip : (r : ℕ) → eqb q r ≡ false → firstOf (startsAt r) (b .class) ≡ firstOf (startsAt r) s
 
   module _ (h : ℕ) (t : Page → Bool) (s : Class) (x : Site) (k : SiteLaw t s x) (w : ℕ) (ws : List ℕ) where
     abbrev back : Page
@@ -262,7 +281,7 @@ module _ (sh : Shape) (ok : Sound sh) (lim : Limits) where
       fits-page ws g (locate (startsAt (pageOf g)) s′) (locate (startsAt (pageOf g)) s)
       (located-first (startsAt (pageOf g)) s′ ∙ e ∙ sym (located-first (startsAt (pageOf g)) s)) ∙ h
 
-  all-fit : (ws : List ℕ) (q : ℕ) (s s′ : Class) → ((r : ℕ) → eqb q r ≡ false → firstOf (startsAt r) s′ ≡ firstOf (startsAt r) s)
+  pub all-fit : (ws : List ℕ) (q : ℕ) (s s′ : Class) → ((r : ℕ) → eqb q r ≡ false → firstOf (startsAt r) s′ ≡ firstOf (startsAt r) s)
       → (gs : List ℕ) → elem q (map pageOf gs) ≡ false → every (chunkFits sh s ws) gs ≡ true → every (chunkFits sh s′ ws) gs ≡ true
   all-fit ws q s s′ same [] n h = refl
   all-fit ws q s s′ same (g ∷ gs) n h =
@@ -272,7 +291,7 @@ module _ (sh : Shape) (ok : Sound sh) (lim : Limits) where
       (λ e. absurd (true≢false (rw e at n)))
       (λ e. rw (fits-still ws s s′ g (same (pageOf g) e) a) (all-fit ws q s s′ same gs (rw e at n) b))
 
-  chunk-law : (h : ℕ) (s : Class) (ws : List ℕ) (g : ℕ) (o : Option Site) → SiteLaws (startsAt (pageOf g)) s o → fitsOn sh ws g o ≡ true → SettledLaw s (pageOf g) (settleChunk sh lim h s ws o)
+  pub chunk-law : (h : ℕ) (s : Class) (ws : List ℕ) (g : ℕ) (o : Option Site) → SiteLaws (startsAt (pageOf g)) s o → fitsOn sh ws g o ≡ true → SettledLaw s (pageOf g) (settleChunk sh lim h s ws o)
   unfolding settleChunk
   chunk-law h s ws g none k f = absurd (false≢true f)
   chunk-law h s ws g (some x) k f = go (blocksOn sh ws (x .page)) f
@@ -309,10 +328,10 @@ module _ (sh : Shape) (ok : Sound sh) (lim : Limits) where
   serve-keeps q g (keeps-asks y) = y g
 
 -- after every history
-abbrev AllListed : Heap → Type 0
+abbrev pub AllListed : Heap → Type 0
 AllListed H = (c : ℕ) → Listed (shapeOf c) (H .classes c)
 
-route-listed : (size : ℕ) (H : Heap) → AllListed H → (x : Call) (w : Way) → AllListed (route size H x w .heap)
+pub route-listed : (size : ℕ) (H : Heap) → AllListed H → (x : Call) (w : Way) → AllListed (route size H x w .heap)
 unfolding classCall interact finish
 route-listed size H y x turned c = y c
 route-listed size H y x straight c = rw (direct-keeps size H x .kept) (y c)
@@ -327,12 +346,12 @@ unfolding step
 history-listed size H y [] = y
 history-listed size H y (x ∷ xs) = history-listed size (step size H x .heap) (route-listed size H y x (wayOf x)) xs
 
-after-listed : (size : ℕ) (rules : Rules) (xs : List Call) → AllListed (heapAfter size rules xs)
+pub after-listed : (size : ℕ) (rules : Rules) (xs : List Call) → AllListed (heapAfter size rules xs)
 unfolding newHeap
-after-listed size rules xs = history-listed size (newHeap rules) (λ c. record { partial = tt; empty = tt }) xs
+after-listed size rules xs = history-listed size (newHeap rules) (λ c. record { partial = tt; empty = tt; full = tt }) xs
 
 pub yielding : (size : ℕ) (rules : Rules) (xs : List Call) → Yielding size rules xs
 yielding size rules xs = record {
   listed = after-listed size rules xs;
-  takes = λ c h l. answer-yields (shapeOf c) (shape-sound c) _ _ h l (after-listed size rules xs c);
+  takes = λ c h l. answer-yields (shapeOf c) (shape-sound c) _ _ h l (after-listed size rules xs c .partial) (after-listed size rules xs c .empty);
 }

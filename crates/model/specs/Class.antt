@@ -52,11 +52,14 @@ pub record Filled : Type 0 where
   pub full : List Page
   pub virgin : Bool
 
+abbrev pub stays : Shape → Page → Bool
+stays sh p = hasMore sh p
+
 unfoldable pub after : Shape → Bool → Popped → Filled → Filled
 after sh v x f = record {
   blocks = f .blocks ++ x .blocks;
-  partial = cond (hasMore sh (x .page)) (x .page ∷ f .partial) (f .partial);
-  full = cond (hasMore sh (x .page)) (f .full) (x .page ∷ f .full);
+  partial = cond (stays sh (x .page)) (x .page ∷ f .partial) (f .partial);
+  full = cond (stays sh (x .page)) (f .full) (x .page ∷ f .full);
   virgin = v && f .virgin;
 }
 

@@ -5,18 +5,19 @@ use mathlib.Core.Logic.{_↔_}
 use mathlib.Core.List.{List, []}
 use mathlib.Core.Bool.{true, false}
 use mathlib.Core.Option.{some}
+use lib.ListN.{length}
 use Rattle.facts.specs.Lists.{total, below}
 use Rattle.classes.specs.Sizes.{pageBytes}
 use Rattle.classes.specs.Shape.{shapeOf}
 use Rattle.rules.specs.Rules.{Rules}
 use Rattle.model.specs.declared.Figures.{Figures}
-use Rattle.model.specs.Calls.{Call, Named, names, Request, take, listOf, Answer, isRefused}
+use Rattle.model.specs.Calls.{Call, Named, names, Request, take, listOf, Answer, isRefused, blocksOf}
 use Rattle.model.specs.Arena as Arenas
 use Rattle.model.specs.Class.{Class, Ask, done}
 use Rattle.model.specs.Release.{outHere}
 use Rattle.model.specs.Chunks.{answer}
 use Rattle.model.specs.Heap.{Heap, isHeld, isDirect, classCall, step}
-use Rattle.model.specs.History.{Event, events, heapAfter, callsOf, answersOf, runsOf, eventsFrom, heapFrom}
+use Rattle.model.specs.History.{Event, events, withCall, heapAfter, callsOf, answersOf, runsOf, eventsFrom, heapFrom}
 use Rattle.model.specs.Entries.{Entry, Live, OutIn, AllOut, HasByte, firstByte, blockBytes, directAfter}
 use Rattle.model.specs.Ledger.{inHoles, above, runsWith, heldBy, abandonedFrom}
 use Rattle.model.specs.Held.{gained, lost, parkedAt, idleAt}
@@ -25,6 +26,7 @@ use Rattle.model.specs.HoleStore.{accepts}
 use Rattle.model.specs.Joining.{NoTwoTouch, HasRoom, JoinedWhere}
 use Rattle.model.specs.Order.{SameHeap}
 use Rattle.model.specs.Yields.{Listed, TakeYields}
+use Rattle.model.specs.Offered.{Spent, NonePartial, NoneListed, Virgin}
 use Rattle.model.specs.Heap.{newHeap}
 
 -- Demand 2: a commit on the heap after a history answers by best fit, or none with its reason
@@ -49,6 +51,22 @@ pub record Orderless (size : ℕ) (rules : Rules) (xs ys : List Call) : Type 0 w
 pub record Yielding (size : ℕ) (rules : Rules) (xs : List Call) : Type 0 where
   pub listed : (c : ℕ) → Listed (shapeOf c) (heapAfter size rules xs .classes c)
   pub takes : (c h : ℕ) (l : List ℕ) → TakeYields (answer (shapeOf c) (heapAfter size rules xs .rules c) (heapAfter size rules xs .classes c) (take h l))
+
+-- Demand 2: what is at hand is offered. The runs of a class and their blocks are told from the history, and its lists say no more than that:
+-- a take asks the arena (`takeFrom`) exactly if every block of every run of its class is out. One that answers fewer blocks than it may
+-- leaves none at hand in a run that has one out, and none answers more.
+pub record Offered (size : ℕ) (rules : Rules) (xs : List Call) : Type 0 where
+  pub spent : (c : ℕ) → Spent (events size rules xs) c ↔ NoneListed (heapAfter size rules xs .classes c)
+  pub fewer : (x : Call) (c h : ℕ) (l : List ℕ) → names x ≡ some (record { class = c; request = take h l }) → isRefused (step size (heapAfter size rules xs) x .answer) ≡ false
+      → length (blocksOf (step size (heapAfter size rules xs) x .answer)) < shapeOf c .batch → NonePartial (withCall size rules xs x) c
+  pub most : (x : Call) (c h : ℕ) (l : List ℕ) → names x ≡ some (record { class = c; request = take h l }) → isRefused (step size (heapAfter size rules xs) x .answer) ≡ false
+      → length (blocksOf (step size (heapAfter size rules xs) x .answer)) ≤ shapeOf c .batch
+
+-- Demand 2: "Virgin is yes exactly if a block came and each came from a page not released to since it was last carved from the arena or from a
+-- cold page whose discard zeroed it", told from the history
+pub record Virgins (size : ℕ) (rules : Rules) (xs : List Call) : Type 0 where
+  pub virgin : (x : Call) (c h : ℕ) (l : List ℕ) → names x ≡ some (record { class = c; request = take h l }) → isRefused (step size (heapAfter size rules xs) x .answer) ≡ false
+      → Virgin (withCall size rules xs x) c (step size (heapAfter size rules xs) x .answer)
 
 -- Demand 2: number 10's "out in this class" is what the history tells, and a release that is not refused, by list or by groups, has no
 -- other word

@@ -1,7 +1,7 @@
 -- Histories from an opening: what was called and answered, and what a class saw of it (document 01, "The histories of demand 3").
 -- All is told from the arena's length, the opening's rules and the calls' arguments.
 use Prim.Native.Nat.{ℕ}
-use mathlib.Core.List.{List, [], _∷_, map}
+use mathlib.Core.List.{List, [], _∷_, _++_, map}
 use mathlib.Core.Option.{Option, none, some}
 use mathlib.Core.Bool.{Bool, false}
 use lib.Dec.{eqb}
@@ -38,6 +38,10 @@ heapAfter size rules xs = heapFrom size (newHeap rules) xs
 
 abbrev pub answers : ℕ → Rules → List Call → List Answer
 answers size rules xs = map (λ e. e .answer) (events size rules xs)
+
+-- with one more call
+abbrev pub withCall : ℕ → Rules → List Call → Call → List Event
+withCall size rules xs x = events size rules xs ++ eventOf x (step size (heapAfter size rules xs) x) ∷ []
 
 -- "A class's calls are the takes and releases, groups too, that name it."
 abbrev pub isOf : ℕ → Option Named → Bool

@@ -15,6 +15,7 @@ pub mod Held
 pub mod Reservation
 pub mod Counted
 pub mod Groups
+pub mod Offered
 pub mod BestFit
 pub mod Joining
 pub mod Order

@@ -104,5 +104,5 @@ module _ (sh : Shape) where
     unfolding answer
     take-stands lim t h l s long a =
         let y = stands-listed t (s .partial) (s .empty) (s .cold) a in
-        let g = answer-yields sh ok lim s h l (record { partial = y .0; empty = y .1 }) in
+        let g = answer-yields sh ok lim s h l (y .0) (y .1) in
         rw (le-ltb (length l) (sh .batch) long) (from-lists l t (s .partial) (s .empty) (s .cold) (s .full) a (rw (le-ltb (length l) (sh .batch) long) at g))

@@ -35,9 +35,6 @@ use Rattle.refinement.proofs.Frames.{whole-says}
 pub both : (s t : Bool) → s ≡ true → t ≡ true → (s && t) ≡ true
 both s t e f = rw (e, f)
 
-pub in-elem : (x : ℕ) (ys : List ℕ) → 1 ≤ count x ys → elem x ys ≡ true
-in-elem x [] h = absurd (omega arith)
-in-elem x (y ∷ ys) h = by-cases (eqb x y) (λ u. rw u) (λ u. rw (u, in-elem x ys (let z : 1 ≤ 0 + count x ys = rw u at h in omega arith)))
 
 -- ---- words of a run's blocks
 module _ {sh : Shape} (ok : Sound sh) where
