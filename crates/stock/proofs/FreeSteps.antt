@@ -1,24 +1,22 @@
 -- The ways out of a free.
-use Prim.Native.Nat.{ℕ, zero, suc, _+_, _*_, _/_, _%_, _^_, _≤_, _<_}
+use Prim.Native.Nat.{ℕ, _+_, _*_, _%_, _^_, _≤_, _<_}
 use native.Mathlib.Omega.{arith}
-use mathlib.Core.Bool.{Bool, true, false, cond, not, _&&_}
+use mathlib.Core.Bool.{Bool, true, false, cond, not}
 use mathlib.Core.List.{List, [], _∷_}
 use mathlib.Core.Path.{_≡_, refl, sym, ap, _∙_}
 use lib.Dec.{eqb, ltb, leb}
-use borrow.Author.Tests.{lt-ltb, le-ltb, le-leb, lt-leb, eq-eqb, ne-eqb, eqb-true, ltb-true, leb-true, leb-false}
-use Rattle.facts.specs.Lists.{every}
+use borrow.Author.Tests.{le-ltb, le-leb, lt-leb, eq-eqb, ne-eqb, eqb-true, ltb-true, leb-true, leb-false}
 use Rattle.facts.proofs.Bools.{by-cases}
 use Rattle.words.specs.Word.{kindOf, granuleOf, blockWord}
 use Rattle.classes.specs.declared.Shape.{Shape}
 use Rattle.classes.specs.Shape.{shapeOf}
 use Rattle.classes.proofs.Shapes.{shape-sound}
-use Rattle.fields.specs.Field.{arena, frontier, get}
 use Rattle.model.specs.Release.{ofKind}
 use Rattle.pages.specs.Stack.{pageAt}
 use Rattle.calls.specs.Out.{inRunOf, outAt, outFault, unmarked, repeats}
-use Rattle.calls.specs.Release.{Released, releasedNone, releaseBlocks}
+use Rattle.calls.specs.Release.{releasedNone, releaseBlocks}
 use Rattle.take.specs.TakePlan.{CallAsks}
-use Rattle.pool.specs.Stock.{stockLimit, stockMost}
+use Rattle.pool.specs.Stock.{stockMost}
 use Rattle.poolcalls.specs.Stock.{countIn, stocked, pushed}
 use Rattle.pool.specs.Pool.{refused, freed}
 use Rattle.poolcalls.specs.Calls.{said, countFair, gaveOn, freedOn, freeOn, FreeEnds}

@@ -1,23 +1,21 @@
 -- The ways out of the tests whether a word is a block out in the class.
 use Prim.Native.Nat.{ℕ, zero, suc, _+_, _-_, _*_, _/_, _%_, _^_, _≤_, _<_}
 use native.Mathlib.Omega.{arith}
-use native.Mathlib.Nat.{add-zero, div-add-mod', le-div-iff-mul-le, div-lt-iff-lt-mul, mul-le-mul-right}
-use mathlib.Core.Bool.{Bool, true, false, cond, not, _&&_, and-false, true≢false}
+use native.Mathlib.Nat.{add-zero, div-add-mod', div-lt-iff-lt-mul}
+use mathlib.Core.Bool.{Bool, true, false, _&&_, and-false, true≢false}
 use mathlib.Core.List.{List}
 use mathlib.Core.Path.{_≡_, refl, sym, ap, _∙_}
 use lib.Dec.{eqb, ltb, leb}
-use lib.ListN.{length}
 use mir.Val.{Fits}
 use mir.Syntax.{w32, w64}
 use borrow.Author.Tests.{lt-ltb, le-ltb, le-leb, lt-leb, eq-eqb, ne-eqb, eqb-true, leb-true, ltb-true, ltb-false}
-use Rattle.facts.proofs.Bools.{by-cases, bool-eq, and-left, and-right}
+use Rattle.facts.proofs.Bools.{by-cases, and-left, and-right}
 use Rattle.words.specs.Word.{granuleOf}
 use Rattle.classes.specs.declared.Shape.{Shape}
 use Rattle.classes.specs.Shape.{shapeOf, smallShape}
 use Rattle.classes.specs.Sound.{Sound}
 use Rattle.classes.proofs.Shapes.{shape-sound}
-use Rattle.fields.specs.Field.{arena, page, out, frontier, owner, first, get, words, Has}
-use Rattle.fields.specs.Ranges.{maxPages}
+use Rattle.fields.specs.Field.{arena, page, out, frontier, owner, first, get, Has}
 use Rattle.pages.specs.Runs.{whole}
 use Rattle.pages.specs.Stack.{pageAt, blocksFrom, indexOf, isBlock}
 use Rattle.calls.specs.Out.{startOf, inRunOf, outIn, outAt}
@@ -26,7 +24,7 @@ use Rattle.stack.proofs.InverseLaws.{product-fits, quotient-fits, divides, behi
 use Rattle.release.specs.declared.Found.{Found}
 use Rattle.release.specs.declared.Found.the-variants.{At, Nothing}
 use Rattle.release.specs.Asks.{InAsks}
-use Rattle.release.specs.Blocks.{found, blockAt, runAt}
+use Rattle.release.specs.Blocks.{blockAt, runAt}
 use Rattle.release.proofs.BlockSteps.{none-found, found-at, found-block, has-bit}
 use Rattle.release.proofs.RunSteps.{run-there}
 use Rattle.take.specs.TakePlan.{CallAsks}

@@ -1,5 +1,4 @@
 // An alloc: the stock's top, or a take that fills the stock.
-ghost use mathlib.Core.Path.{_≡_};
 ghost use Rattle.classes.specs.Shape.{shapeOf};
 ghost use Rattle.calls.specs.Take.{takeCall};
 ghost use Rattle.take.specs.TakePlan.{CallAsks};

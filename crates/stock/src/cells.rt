@@ -1,6 +1,6 @@
 // The pool's words: COUNT of a class, ENTRY of a place in its stock, PLACE of a granule.
 ghost use mathlib.Core.Path.{_≡_};
-ghost use Prim.Native.Nat.{_+_, _*_, _/_, _%_, _≤_, _<_};
+ghost use Prim.Native.Nat.{_+_, _*_, _/_, _%_, _<_};
 ghost use lib.ListN.{length};
 ghost use Rattle.poolcalls.specs.Stock.{countAt, entryAt, placeAt, countIn, entryIn, placeIn, putCount, putEntry, putPlace};
 ghost use Rattle.stock.specs.Asks.{StockAsks};

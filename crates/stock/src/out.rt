@@ -1,6 +1,6 @@
 // Whether a word is a block out in the class, by the heap's own words.
 ghost use mathlib.Core.Path.{_≡_};
-ghost use Prim.Native.Nat.{_*_, _^_, _<_};
+ghost use Prim.Native.Nat.{_*_, _<_};
 ghost use Rattle.words.specs.Word.{granuleOf};
 ghost use Rattle.classes.specs.Shape.{shapeOf};
 ghost use Rattle.pages.specs.Runs.{whole};

@@ -1,6 +1,6 @@
 // The block on top of a stock.
 ghost use mathlib.Core.Path.{_≡_};
-ghost use Prim.Native.Nat.{_^_, _<_};
+ghost use Prim.Native.Nat.{_<_};
 ghost use Rattle.words.specs.Word.{blockWord};
 ghost use Rattle.classes.specs.Shape.{shapeOf};
 ghost use Rattle.poolcalls.specs.Calls.{topFair};

@@ -1,4 +1,3 @@
-use borrow.Author.Needs.{needs}
 use Rattle.stock.proofs.FreeSteps.{far-other, far-away}
 use Rattle.stock.proofs.free.far_fault.Statement.{statement}
 use Rattle.stock.proofs.free.far_fault.Tie as tie

@@ -1,4 +1,3 @@
-use borrow.Author.Needs.{needs}
 use Rattle.stock.proofs.TopSteps.{kind-small, kind-medium}
 use Rattle.stock.proofs.top.kind_of.Statement.{statement}
 use Rattle.stock.proofs.top.kind_of.Tie as tie
