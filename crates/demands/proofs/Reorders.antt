@@ -1,22 +1,23 @@
 -- Exchanges of neighbouring calls, any number of them, leave the same book and what each class was answered (document 02, A.14).
 use Prim.Native.Nat.{ℕ}
 use mathlib.Core.Bool.{false}
-use mathlib.Core.List.{List, [], _∷_, _++_}
+use mathlib.Core.List.{List, [], _∷_, _++_, append-assoc}
 use mathlib.Core.Option.{none, some}
 use mathlib.Core.Path.{_≡_, refl, sym, ap, _∙_}
 use lib.Dec.{eqb}
 use borrow.Author.Tests.{eqb-true, eqb-false, ne-eqb}
 use Rattle.facts.proofs.Bools.{by-cases}
-use Rattle.rules.specs.Rules.{rulesOf}
 use Rattle.model.specs.Calls.{Call, Answer, Named, names}
 use Rattle.model.specs.History.{Event, isOf, answersOf}
 use Rattle.vigbuso.specs.Direct.{openOn}
 use Rattle.refinement.specs.Run.{repliesFrom, bookFrom}
 use Rattle.demands.specs.Call.{call}
-use Rattle.demands.specs.Run.{Opens, bookAfter, next, answered, told}
+use Rattle.demands.specs.Run.{answered}
+use Rattle.demands.specs.Start.{Start, pages, ruleRows, lent, begun, did, Starts, calls, bookAfter, next, told}
 use Rattle.demands.specs.ChangePlaces.{Swapped}
 use Rattle.demands.specs.Reorders.{Reorders, same, exchange, Reordered}
 use Rattle.demands.proofs.Histories.{book-split}
+use Rattle.demands.proofs.Starts.{as-opening, told-is}
 use Rattle.demands.proofs.ChangePlaces.{change-places}
 
 -- ---- what is told of calls in turn from a book
@@ -46,32 +47,41 @@ answers-swap c x y p q a d vs ex ey ne =
     (λ u. let other : eqb (q .class) c ≡ false = ne-eqb (q .class) c (λ z. eqb-false (p .class) (q .class) ne (eqb-true (p .class) c u ∙ sym z)) in rw (u, other))
     (λ u. by-cases (eqb (q .class) c) (λ v. rw (u, v)) (λ v. rw (u, v))))
 
-module _ (n : ℕ) (rows b : List ℕ) (xs : List Call) where
+module _ (s : Start) (o : Starts s) (xs : List Call) where
   -- a call after one more, on the book that this one leaves
-  after-one : (x y : Call) → next n rows b (xs ++ x ∷ []) y .answer ≡ call (call (bookAfter n rows b xs) x .book) y .answer
-  after-one x y = ap (λ (m : List ℕ). call m y .answer) (book-split (openOn b n rows .book) xs (x ∷ []))
+  after-one : (x y : Call) → next s (xs ++ x ∷ []) y .answer ≡ call (next s xs x .book) y .answer
+  after-one x y = ap (λ (m : List ℕ). call m y .answer) (book-split (begun s) xs (x ∷ []))
 
-  class-told : (c : ℕ) (ys : List Call) → answersOf c (told n rows b (xs ++ ys)) ≡ answersOf c (told n rows b xs) ++ answersOf c (toldFrom (bookAfter n rows b xs) ys)
-  class-told c ys = ap (answersOf c) (told-split (openOn b n rows .book) xs ys) ∙ answers-split c (told n rows b xs) (toldFrom (bookAfter n rows b xs) ys)
+  told-more : (ys : List Call) → told s (xs ++ ys) ≡ told s xs ++ toldFrom (bookAfter s xs) ys
+  told-more ys =
+      let begins = openOn (lent s) (pages s) (ruleRows s) .book in
+      told-is s o (xs ++ ys)
+      ∙ ap (toldFrom begins) (sym (append-assoc (did s) xs ys))
+      ∙ told-split begins (calls s xs) ys
+      ∙ ap (λ (vs : List Event). vs ++ toldFrom (bookFrom call begins (calls s xs)) ys) (sym (told-is s o xs))
+      ∙ ap (λ (m : List ℕ). told s xs ++ toldFrom m ys) (sym (as-opening s o xs .book))
 
-  exchanged : (x y : Call) (p q : Named) (zs : List Call) → names x ≡ some p → names y ≡ some q → eqb (p .class) (q .class) ≡ false → Swapped n rows b xs x y
-      → (c : ℕ) → answersOf c (told n rows b (xs ++ x ∷ y ∷ zs)) ≡ answersOf c (told n rows b (xs ++ y ∷ x ∷ zs))
-  exchanged x y p q zs ex ey ne s c =
-      let m = bookAfter n rows b xs in
-      let first : call m x .answer ≡ call (call m y .book) x .answer = s .first ∙ after-one y x in
-      let second : call (call m x .book) y .answer ≡ call m y .answer = sym (after-one x y) ∙ s .second in
+  class-told : (c : ℕ) (ys : List Call) → answersOf c (told s (xs ++ ys)) ≡ answersOf c (told s xs) ++ answersOf c (toldFrom (bookAfter s xs) ys)
+  class-told c ys = ap (answersOf c) (told-more ys) ∙ answers-split c (told s xs) (toldFrom (bookAfter s xs) ys)
+
+  exchanged : (x y : Call) (p q : Named) (zs : List Call) → names x ≡ some p → names y ≡ some q → eqb (p .class) (q .class) ≡ false → Swapped s xs x y
+      → (c : ℕ) → answersOf c (told s (xs ++ x ∷ y ∷ zs)) ≡ answersOf c (told s (xs ++ y ∷ x ∷ zs))
+  exchanged x y p q zs ex ey ne w c =
+      let m = bookAfter s xs in
+      let first : call m x .answer ≡ call (call m y .book) x .answer = w .first ∙ after-one y x in
+      let second : call (call m x .book) y .answer ≡ call m y .answer = sym (after-one x y) ∙ w .second in
       let books : call (call m x .book) y .book ≡ call (call m y .book) x .book
-      = sym (book-split (openOn b n rows .book) xs (x ∷ y ∷ [])) ∙ s .book [] ∙ book-split (openOn b n rows .book) xs (y ∷ x ∷ []) in
+      = sym (book-split (begun s) xs (x ∷ y ∷ [])) ∙ w .book [] ∙ book-split (begun s) xs (y ∷ x ∷ []) in
       rw (class-told c (x ∷ y ∷ zs), class-told c (y ∷ x ∷ zs))
-      (ap (λ (ws : List Answer). answersOf c (told n rows b xs) ++ ws)
+      (ap (λ (ws : List Answer). answersOf c (told s xs) ++ ws)
       (ap (λ (d : Answer). answersOf c (event x (call m x .answer) ∷ event y d ∷ toldFrom (call (call m x .book) y .book) zs)) second
       ∙ ap (λ (a : Answer). answersOf c (event x a ∷ event y (call m y .answer) ∷ toldFrom (call (call m x .book) y .book) zs)) first
       ∙ ap (λ (k : List ℕ). answersOf c (event x (call (call m y .book) x .answer) ∷ event y (call m y .answer) ∷ toldFrom k zs)) books
       ∙ answers-swap c x y p q (call (call m y .book) x .answer) (call m y .answer) (toldFrom (call (call m y .book) x .book) zs) ex ey ne))
 
-pub reordered : (n : ℕ) (rows b : List ℕ) → Opens n rows b → (xs ys : List Call) → Reorders n (rulesOf rows) xs ys → Reordered n rows b xs ys
-reordered n rows b o xs ys (same us) = record { book = refl; answers = λ c. refl }
-reordered n rows b o us ys (exchange xs x y p q zs ws ex ey ne one r) =
-    let s = change-places n rows b o xs x y p q ex ey ne one in
-    let ih = reordered n rows b o (xs ++ y ∷ x ∷ zs) ys r in
-    record { book = s .book zs ∙ ih .book; answers = λ c. exchanged n rows b xs x y p q zs ex ey ne s c ∙ ih .answers c }
+pub reordered : (s : Start) → Starts s → (xs ys : List Call) → Reorders s xs ys → Reordered s xs ys
+reordered s o xs ys (same us) = record { book = refl; answers = λ c. refl }
+reordered s o us ys (exchange xs x y p q zs ws ex ey ne one r) =
+    let w = change-places s o xs x y p q ex ey ne one in
+    let ih = reordered s o (xs ++ y ∷ x ∷ zs) ys r in
+    record { book = w .book zs ∙ ih .book; answers = λ c. exchanged s o xs x y p q zs ex ey ne w c ∙ ih .answers c }

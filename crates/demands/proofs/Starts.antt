@@ -1,20 +1,26 @@
 -- Histories from a trace are histories from an opening with its takes and releases in front.
 --     as-opening    the book and the replies are those
 --     told-is       so is what is told of them
+--     represents    so the book stands for the model's heap; `next-is` and `next-agrees` are of one more call
 use Prim.Native.Nat.{ℕ}
 use mathlib.Core.List.{List, [], _∷_, _++_}
-use mathlib.Core.Path.{_≡_, refl, sym, ap}
+use mathlib.Core.Path.{_≡_, refl, sym, ap, subst}
 use Rattle.model.specs.Calls.{Call}
-use Rattle.refinement.specs.Direct.{Reply}
-use Rattle.refinement.specs.Run.{repliesFrom, bookFrom}
+use Rattle.model.specs.Heap.{step}
+use Rattle.model.specs.History.{heapAfter}
+use Rattle.refinement.specs.Represents.{Represents}
+use Rattle.refinement.specs.Direct.{Reply, Agrees}
+use Rattle.refinement.specs.Run.{callReply, repliesFrom, bookFrom}
+use Rattle.refinement.proofs.Whole.{call-whole}
 use Rattle.demands.specs.Call.{call}
 use Rattle.demands.specs.Run as Opening
 use Rattle.demands.specs.Run.{answered}
-use Rattle.demands.specs.Start.{Start, opening, trace, pages, ruleRows, lent, begun, did, Starts, calls, told, AsOpening}
-use Rattle.demands.proofs.Histories.{book-split}
+use Rattle.demands.specs.Start.{Start, opening, trace, pages, ruleRows, rules, lent, begun, did, Starts, calls, bookAfter, next, told, AsOpening}
+use Rattle.demands.proofs.Calls.{room, call-is}
+use Rattle.demands.proofs.Histories.{book-split, run-represents}
 use Rattle.demands.proofs.Trace.{trace-opens}
 
-replies-append : (b : List ℕ) (xs ys : List Call) → repliesFrom call b (xs ++ ys) ≡ repliesFrom call b xs ++ repliesFrom call (bookFrom call b xs) ys
+pub replies-append : (b : List ℕ) (xs ys : List Call) → repliesFrom call b (xs ++ ys) ≡ repliesFrom call b xs ++ repliesFrom call (bookFrom call b xs) ys
 replies-append b [] ys = refl
 replies-append b (x ∷ xs) ys = ap (λ (rs : List Reply). call b x ∷ rs) (replies-append (call b x .book) xs ys)
 
@@ -30,3 +36,18 @@ as-opening s o xs = record {
 
 pub told-is : (s : Start) → Starts s → (xs : List Call) → told s xs ≡ Opening.told (pages s) (ruleRows s) (lent s) (calls s xs)
 told-is s o xs = ap (answered (calls s xs)) (as-opening s o xs .answers)
+
+module _ (s : Start) (o : Starts s) (xs : List Call) where
+  pub represents : Represents (pages s) (bookAfter s xs) (heapAfter (pages s) (rules s) (calls s xs))
+  represents =
+      subst (λ (d : List ℕ). Represents (pages s) d (heapAfter (pages s) (rules s) (calls s xs))) (sym (as-opening s o xs .book))
+      (run-represents (pages s) (ruleRows s) (lent s) o (calls s xs))
+
+  -- one more call
+  pub next-is : (x : Call) → next s xs x ≡ callReply (pages s) (bookAfter s xs) x
+  next-is x =
+      let r = room (pages s) (ruleRows s) (lent s) o in
+      call-is (pages s) (bookAfter s xs) (r .some-pages) (r .few-pages) (heapAfter (pages s) (rules s) (calls s xs)) represents x
+
+  pub next-agrees : (x : Call) → Agrees (Represents (pages s)) (next s xs x) (step (pages s) (heapAfter (pages s) (rules s) (calls s xs)) x)
+  next-agrees x = rw next-is (call-whole (pages s) (room (pages s) (ruleRows s) (lent s) o .few-pages) (rules s) (calls s xs) (bookAfter s xs) represents x)

@@ -59,6 +59,10 @@ calls s xs = did s ++ xs
 abbrev pub bookAfter : Start → List Call → List ℕ
 bookAfter s xs = bookFrom call (begun s) xs
 
+-- the reply to one more call
+abbrev pub next : Start → List Call → Call → Reply
+next s xs x = call (bookAfter s xs) x
+
 abbrev pub replies : Start → List Call → List Reply
 replies s xs = Opening.run (pages s) (ruleRows s) (lent s) (did s) ++ repliesFrom call (begun s) xs
 
