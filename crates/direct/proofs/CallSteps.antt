@@ -32,9 +32,9 @@ use Rattle.arena.specs.Owners.{ownerCode}
 use Rattle.holes.specs.Record.{recordOf}
 use Rattle.arena.specs.Fair.{recordFair, holesEndFair, giveFair, growGives, growFair}
 use Rattle.arena.specs.Open.{cleared, headWords, limited, ruled}
-use Rattle.arena.specs.Calls.{commitFor, commitCall, heldDirect, releaseCall, growCall, containsCall}
+use Rattle.arena.specs.Calls.{commitFor, commitCall, given, heldDirect, releaseCall, growCall, containsCall}
 use Rattle.holes.specs.Act.{endNone, endRun, endGiven, settle, fromFrontier, growWith, growActs, clamped}
-use Rattle.runs.specs.Asks.{GivenIf, BookIn, EndsIn}
+use Rattle.runs.specs.Asks.{GiveIn, BookIn, EndsIn}
 use Rattle.runs.specs.Answer.{answerOf, Answers, commitOf}
 use Rattle.runs.proofs.CommitSteps.{told-answer}
 use Rattle.direct.specs.Answer.{grownAs, growCommit, Grew, Grows, fairGrow, Releases, heldRelease}
@@ -174,13 +174,17 @@ module _ (n : ℕ) (b : List ℕ) (q m : ℕ) (t : Bool) (k : BookIn b n) (e : t
 
 -- ---- release
 module _ (n : ℕ) (b : List ℕ) (q m : ℕ) where
-  pub released : (t : Bool) (x : List ℕ) → GivenIf t x b n q m → t ≡ true → Releases 0 x (heldRelease n b q m)
-  unfolding heldRelease
-  released t x k v = let z : giveFair n b m ≡ true = sym (k .told) ∙ v in rw z (record { code = refl; book = rw z at (k .book) })
+  module _ (t : Bool) (e : t ≡ giveFair n b m) where
+    pub give-in : BookIn b n → q + m ≤ n → t ≡ true → GiveIn b n q m
+    give-in k l v = record { long = k .long; small = k .small; inside = l; fair = sym e ∙ v }
 
-  pub released-not : (t : Bool) (x : List ℕ) → GivenIf t x b n q m → t ≡ false → Releases 13 x (heldRelease n b q m)
-  unfolding heldRelease
-  released-not t x k v = let z : giveFair n b m ≡ false = sym (k .told) ∙ v in rw z (record { code = refl; book = rw z at (k .book) })
+    pub released : (x : List ℕ) → t ≡ true → x ≡ given b q m → Releases 0 x (heldRelease n b q m)
+    unfolding heldRelease
+    released x v g = rw (← e, v) (record { code = refl; book = g })
+
+    pub released-not : t ≡ false → Releases 13 b (heldRelease n b q m)
+    unfolding heldRelease
+    released-not v = rw (← e, v) (record { code = refl; book = refl })
 
   pub release-bad : (t : Bool) → t ≡ badRun m → t ≡ true → Releases 6 b (releaseCall n b q m)
   unfolding releaseCall

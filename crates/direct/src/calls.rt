@@ -55,7 +55,8 @@ fn release_held(meta: &mut [u32], size: u32, first: u32, pages: u32) -> u32
     requires { ⌜ BookIn (now meta) size × (first + pages ≤ size) ⌝ }
     ensures { λ r. ⌜ Releases r (now (meta .exit)) (heldRelease size (now (meta .entry)) first pages) ⌝ }
 {
-    if give::try_give(meta, size, first, pages) {
+    if give::give_fair(meta, size, pages) {
+        give::give(meta, size, first, pages);
         return 0;
     }
     13

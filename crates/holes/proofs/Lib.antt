@@ -3,13 +3,13 @@ pub mod EndsFair
 pub mod Joins
 pub mod Acts
 pub mod PlanLaws
-mod Calling
+pub mod Calling
 mod Laid
 mod Least
 mod Loading
 mod Looping
 mod Planning
-mod Proving
+pub mod Proving
 mod Scanning
 mod Touching
-mod Walk
+pub mod Walk

@@ -1,18 +1,19 @@
 -- What the walks by hand of this crate share: the names of the logic that they use, the laws of what is passed by value and of what is lent, and a slice's machine value.
---     number, unit, aHole, aBest, anArena, aGain     plain data
---     byValue, lent, recordMut                     a parameter: plain data, a `&[T]`, a `&mut Arena`
+--     number, unit, aHole, aBest, anArena, aDraw, aGain     plain data
+--     byValue, lent, recordMut, passedOn           a parameter: plain data, a `&[T]`, a `&mut Arena`, a `&mut [T]` that is passed on
 --     lentAt, holeVals, machine, Lent, scaled               a reference, a hole's and a slice's machine values, what a `&[T]` owns, and that an element's offset fits
 use mir.Syntax.{Width}
 use denote.Exit.{yes}
 use denote.Plain.{UInt, Nothing, uint-tells, uint-makes, uint-lawful, nothing-tells, nothing-makes, nothing-lawful}
 use denote.Ref.{ptr-vals, mut-tells}
-use denote.Signature.{plain, shrSliceOf, mutRefTo, AllWithin, nameOf, meetAt}
-use denote.Slice.{slice-vals, shr-slice-tells}
-use denote.Triple.Walked.{stay-none, stay-none-slice, stay-ref, goes-none, goes-none-slice, goes-ref}
+use denote.Signature.{plain, shrSliceOf, mutSliceOf, mutRefTo, AllWithin, nameOf, meetAt}
+use denote.Slice.{slice-vals, shr-slice-tells, mut-slice-tells}
+use denote.Triple.Walked.{stay-none, stay-none-slice, stay-ref, gave-slice, goes-none, goes-none-slice, goes-ref, goes-gave-slice}
 use denote.Struct.Laws as laws
 use Rattle.model.proofs.Hole as hole
 use Rattle.holes.proofs.Arena as arena
 use Rattle.holes.proofs.holes.Best as best
+use Rattle.holes.proofs.record.Draw as draw
 use Rattle.holes.proofs.record.Gain as gain
 use Rattle.holes.proofs.Calling.{Plain}
 use Rattle.holes.proofs.Proving.{Taken}
@@ -37,7 +38,7 @@ pub use prog.Wp.{Heap, Env, WpFn, Tables}
 pub use ghost.Atoms.{Atoms}
 pub use contract.Monad.{Fun}
 pub use contract.Running.{givenOf, tables, tablesOf}
-pub use types.Kit.{Given, Item, Sq, runs, atRet, ‵, raw, _⊛_, ⋆, some, later, _$_, _∵_, !, qed, by, move, keep, drop, use1, use2, use3, split, join, pick, rewrite, fsplit, fsplit3, fjoin, fjoin3, feqI, suffices, frame, await, done}
+pub use types.Kit.{Given, Item, Sq, runs, atRet, ‵, raw, _⊛_, ⋆, some, later, _$_, _∵_, !, qed, by, move, keep, drop, use1, use2, use3, split, join, pick, rewrite, fsplit, fsplit3, fjoin, fjoin3, feqI, feqL, suffices, frame, await, done}
 pub use types.Part.{whole, sub, look-in, agg}
 pub use types.Run.{look, look-raw, init, store, store-raw, forget, stop, hop, fld, from, load, lit, unit-lit, of-opd, un, bin, addr, and-then, no-more, first, blocks, stays, leaves-loop, exec, assigns, assigns-last, land, returns, enter, alloc1, alloc0, params1, pass1, pass0, free1, free0, again}
 pub use types.SemTy.{Body}
@@ -52,7 +53,7 @@ pub use denote.Builtin.{u32, usize}
 pub use denote.Index.{row, place-is, elem-out, elem-back, looks-slice, shuts-slice}
 pub use denote.Lend.{lends-ref, ref-back}
 pub use denote.Ref.{RefT, MutRef, now}
-pub use denote.Slice.{sliceTy, sliceVal, ShrSlice, Room, shr-slice-lawful, shr-slice-copy}
+pub use denote.Slice.{sliceTy, sliceVal, ShrSlice, MutSlice, Room, finally, shr-slice-lawful, shr-slice-copy}
 pub use denote.Steps.{opens, closes, owned, peeks, nothing}
 pub use denote.Struct.Steps.{spelt}
 pub use denote.Triple.Entry.{Args, Vals, onEntry}
@@ -80,6 +81,9 @@ aBest = record { low = best.Laws.lowered; tells = laws.tells best.the-type best.
 abbrev pub anArena : Plain arena.the-row
 anArena = record { low = arena.Laws.lowered; tells = laws.tells arena.the-type arena.Laws.the-laws; makes = λ 𝓤 H A W. laws.makes arena.the-type arena.Laws.the-plain 𝓤 H A; lawful = λ 𝓤 H A W. laws.lawful arena.the-type arena.Laws.the-laws 𝓤 H A W; silent = λ x f. refl }
 
+abbrev pub aDraw : Plain draw.the-row
+aDraw = record { low = draw.Laws.lowered; tells = laws.tells draw.the-type draw.Laws.the-laws; makes = λ 𝓤 H A W. laws.makes draw.the-type draw.Laws.the-plain 𝓤 H A; lawful = λ 𝓤 H A W. laws.lawful draw.the-type draw.Laws.the-laws 𝓤 H A W; silent = λ x f. refl }
+
 abbrev pub aGain : Plain gain.the-row
 aGain = record { low = gain.Laws.lowered; tells = laws.tells gain.the-type gain.Laws.the-laws; makes = λ 𝓤 H A W. laws.makes gain.the-type gain.Laws.the-plain 𝓤 H A; lawful = λ 𝓤 H A W. laws.lawful gain.the-type gain.Laws.the-laws 𝓤 H A W; silent = λ x f. refl }
 
@@ -94,6 +98,10 @@ module _ {n : ℕ} where
 
     abbrev pub recordMut : Taken {n = n} (mutRefTo (j ∷ []) ok (plain (λ _. R))) yes
     recordMut = record { stay = stay-ref (j ∷ []) ok (plain (λ _. R)); goes = λ 𝓤 H A W. goes-ref 𝓤 H A W n j ok (plain (λ _. R)); vals = λ κs. ptr-vals; tells = λ κs. mut-tells (nameOf (j ∷ [])) (meetAt n (j ∷ []) ok κs) R }
+
+    -- a `&mut [T]` that is passed on for good
+    abbrev pub passedOn : Taken {n = n} (mutSliceOf (j ∷ []) ok (plain (λ _. R))) yes
+    passedOn = record { stay = gave-slice (j ∷ []) ok (plain (λ _. R)); goes = λ 𝓤 H A W. goes-gave-slice 𝓤 H A W n j ok (plain (λ _. R)); vals = λ κs. slice-vals; tells = λ κs. mut-slice-tells (nameOf (j ∷ [])) (meetAt n (j ∷ []) ok κs) R }
 
 -- ---- what is lent: a reference to x at the place (b, o), under the name γ
 abbrev pub lentAt : {X : Type 0} → ℕ → ℕ → GName → X → RefT X

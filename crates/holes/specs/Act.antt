@@ -1,7 +1,7 @@
 -- What the code writes for a step of the arena: the few words that change, the holes' first, then the record, the owners and
 -- HELD. That this is the model's step with the whole arena stored (Calls) is proved in proofs/Acts. a is the record as it is to be
 -- written, m a run's pages, q its first page.
-use Prim.Native.Nat.{ℕ, zero, suc, _+_, _-_}
+use Prim.Native.Nat.{ℕ, zero, suc, _+_, _-_, _≤_}
 use mathlib.Core.List.{List}
 use mathlib.Core.Option.{none, some}
 use mathlib.Core.Bool.{Bool, true, false, cond}
@@ -14,6 +14,8 @@ use Rattle.model.specs.HoleStore as Model
 use Rattle.model.specs.HoleStore.{holeSlots, holePagesMax, withBefore, withAfter, withBoth}
 use Rattle.model.specs.declared.Hole.{Hole}
 use Rattle.holes.specs.declared.Arena.{Arena}
+use Rattle.holes.specs.declared.record.Gain.{Gain}
+use Rattle.holes.specs.Change.{gainedBy}
 use Rattle.holes.specs.declared.Plan.{Plan}
 use Rattle.holes.specs.declared.Neighbours.{Neighbours}
 use Rattle.holes.specs.declared.holes.Edges.{Edges}
@@ -49,10 +51,11 @@ placeRecord a m (suc i) zero = withHoles (a .count) (a .total + m) a
 placeRecord a m zero (suc j) = withHoles (a .count) (a .total + m) a
 placeRecord a m (suc i) (suc j) = withHoles (a .count - 1) (a .total + m) a
 
--- the words x and the record r after it
-pub record Places (b : List ℕ) (a : Arena) (m q c d : ℕ) (x : List ℕ) (r : Arena) : Type 0 where
+-- the words x after it, and what it comes to, g
+pub record Places (b : List ℕ) (a : Arena) (m q c d : ℕ) (x : List ℕ) (g : Gain) : Type 0 where
   pub book : x ≡ placeWords b a m q c d
-  pub top : r ≡ placeRecord a m c d
+  pub top : gainedBy g a ≡ placeRecord a m c d
+  pub few : g .pages ≤ m
 
 -- the holes that a run of m pages at q touches
 abbrev pub edges : ℕ → ℕ → Edges
@@ -67,9 +70,10 @@ giveWords b a m q = let t = touching b a m q in cond (leb (a .total + m) holePag
 unfoldable pub giveRecord : List ℕ → Arena → ℕ → ℕ → Arena
 giveRecord b a m q = let t = touching b a m q in cond (leb (a .total + m) holePagesMax) (placeRecord a m (t .before) (t .after)) (abandoning a)
 
-pub record Gives (b : List ℕ) (a : Arena) (m q : ℕ) (x : List ℕ) (r : Arena) : Type 0 where
+pub record Gives (b : List ℕ) (a : Arena) (m q : ℕ) (x : List ℕ) (g : Gain) : Type 0 where
   pub book : x ≡ giveWords b a m q
-  pub top : r ≡ giveRecord b a m q
+  pub top : gainedBy g a ≡ giveRecord b a m q
+  pub few : g .pages ≤ m
 
 -- ---- a run from hole i: its front is cut off, or the last hole comes into its place
 unfoldable pub drawWords : List ℕ → Arena → ℕ → ℕ → List ℕ
@@ -80,9 +84,10 @@ drawWords b a m i =
 unfoldable pub drawRecord : List ℕ → Arena → ℕ → ℕ → Arena
 drawRecord b a m i = withHoles (cond (ltb m (loadHole b i .pages)) (a .count) (a .count - 1)) (a .total - m) a
 
-pub record Draws (b : List ℕ) (a : Arena) (m i : ℕ) (x : List ℕ) (r : Arena) : Type 0 where
+-- the words x after it, with k holes
+pub record Draws (b : List ℕ) (a : Arena) (m i : ℕ) (x : List ℕ) (k : ℕ) : Type 0 where
   pub book : x ≡ drawWords b a m i
-  pub top : r ≡ drawRecord b a m i
+  pub count : k ≡ drawRecord b a m i .count
 
 -- ---- the end of a commit: the record, the run's owner, and HELD; h is the host word, w the owner, d the pages held before
 unfoldable pub endNone : List ℕ → Arena → Committed

@@ -2,4 +2,4 @@ pub mod Record
 pub mod Plan
 pub mod Act
 pub mod Scan
-pub mod Step
+pub mod Change

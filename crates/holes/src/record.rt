@@ -1,19 +1,27 @@
-// The arena's record, lent by `&mut` for one step: it is read, and the record after the step is stored in it.
-// The functions by value lend a copy, so that a caller needs no reference.
+// The arena's record, lent by `&mut`: a commit and a give change it in place, each by what it came to.
 use crate::Arena;
 use std::num::wrapping_add_u64;
 ghost use mathlib.Core.Path.{_≡_};
-ghost use Prim.Native.Nat.{_+_, _<_, _^_};
+ghost use Prim.Native.Nat.{_+_, _≤_, _<_, _^_};
 ghost use mathlib.Core.Bool.{cond};
 ghost use Rattle.model.specs.Arena.{more};
-ghost use Rattle.holes.specs.Record.{advanced, counted, abandoning};
-ghost use Rattle.holes.specs.Step.{stepped};
+ghost use Rattle.holes.specs.Change.{drawnBy, gainedBy};
 
-// What a step adds: pages to the frontier, and one to each count that it names.
-pub struct Gain {
-    pub pages: u32,
+// What a commit comes to: the state and the number of holes that it leaves, the pages that the frontier moves on by or that the
+// holes lose, and whether it is counted, as a commit and as a reuse.
+pub struct Draw {
+    pub state: u32,
+    pub count: u32,
+    pub ahead: u32,
+    pub cut: u32,
     pub commit: bool,
     pub reuse: bool,
+}
+
+// What a give comes to: the number of holes that it leaves, the pages that they gain, and whether the run is abandoned.
+pub struct Gain {
+    pub count: u32,
+    pub pages: u32,
     pub abandoned: bool,
 }
 
@@ -30,72 +38,46 @@ fn more_if(n: u64, so: bool) -> u64
     if so { one_more(n) } else { n }
 }
 
-fn after(a: Arena, g: Gain) -> Arena
-    requires { ⌜ a .frontier + g .pages < 2 ^ 32 ⌝ }
-    ensures { λ r. ⌜ r ≡ stepped g a ⌝ }
+fn drawn(a: Arena, d: Draw) -> Arena
+    requires { ⌜ (a .frontier + d .ahead < 2 ^ 32) × (d .cut ≤ a .total) ⌝ }
+    ensures { λ r. ⌜ r ≡ drawnBy d a ⌝ }
 {
     Arena {
-        state: a.state,
-        frontier: a.frontier + g.pages,
-        count: a.count,
-        total: a.total,
-        commits: more_if(a.commits, g.commit),
-        reuses: more_if(a.reuses, g.reuse),
-        abandoned: more_if(a.abandoned, g.abandoned),
+        state: d.state,
+        frontier: a.frontier + d.ahead,
+        count: d.count,
+        total: a.total - d.cut,
+        commits: more_if(a.commits, d.commit),
+        reuses: more_if(a.reuses, d.reuse),
+        abandoned: a.abandoned,
     }
 }
 
-pub fn step(arena: &mut Arena, g: Gain)
-    requires { ⌜ now arena .frontier + g .pages < 2 ^ 32 ⌝ }
-    ensures { λ _. ⌜ now (arena .exit) ≡ stepped g (now (arena .entry)) ⌝ }
+pub fn commit(arena: &mut Arena, d: Draw)
+    requires { ⌜ (now arena .frontier + d .ahead < 2 ^ 32) × (d .cut ≤ now arena .total) ⌝ }
+    ensures { λ _. ⌜ now (arena .exit) ≡ drawnBy d (now (arena .entry)) ⌝ }
 {
-    *arena = after(*arena, g);
+    *arena = drawn(*arena, d);
 }
 
-fn step_by(mut arena: Arena, g: Gain) -> Arena
-    requires { ⌜ arena .frontier + g .pages < 2 ^ 32 ⌝ }
-    ensures { λ r. ⌜ r ≡ stepped g arena ⌝ }
+fn gained(a: Arena, p: Gain) -> Arena
+    requires { ⌜ a .total + p .pages < 2 ^ 32 ⌝ }
+    ensures { λ r. ⌜ r ≡ gainedBy p a ⌝ }
 {
-    step(&mut arena, g);
-    arena
+    Arena {
+        state: a.state,
+        frontier: a.frontier,
+        count: p.count,
+        total: a.total + p.pages,
+        commits: a.commits,
+        reuses: a.reuses,
+        abandoned: more_if(a.abandoned, p.abandoned),
+    }
 }
 
-// The frontier moves on.
-pub fn advanced_by(arena: Arena, pages: u32) -> Arena
-    requires { ⌜ arena .frontier + pages < 2 ^ 32 ⌝ }
-    ensures { λ r. ⌜ r ≡ advanced pages arena ⌝ }
+pub fn give(arena: &mut Arena, p: Gain)
+    requires { ⌜ now arena .total + p .pages < 2 ^ 32 ⌝ }
+    ensures { λ _. ⌜ now (arena .exit) ≡ gainedBy p (now (arena .entry)) ⌝ }
 {
-    let g = Gain {
-        pages,
-        commit: false,
-        reuse: false,
-        abandoned: false,
-    };
-    step_by(arena, g)
-}
-
-// A commit is counted, and a reuse unless the run is fresh.
-pub fn counted_as(arena: Arena, fresh: bool) -> Arena
-    ensures { λ r. ⌜ r ≡ counted fresh arena ⌝ }
-{
-    let g = Gain {
-        pages: 0,
-        commit: true,
-        reuse: !fresh,
-        abandoned: false,
-    };
-    step_by(arena, g)
-}
-
-// A run that no hole could take is counted.
-pub fn abandoning(arena: Arena) -> Arena
-    ensures { λ r. ⌜ r ≡ abandoning arena ⌝ }
-{
-    let g = Gain {
-        pages: 0,
-        commit: false,
-        reuse: false,
-        abandoned: true,
-    };
-    step_by(arena, g)
+    *arena = gained(*arena, p);
 }

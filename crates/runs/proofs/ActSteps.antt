@@ -12,20 +12,53 @@ use Rattle.words.specs.Limits.{holeSlots}
 use Rattle.words.specs.Host.{reservationGranted, commitGranted}
 use Rattle.fields.specs.Field.{arena, held, put}
 use Rattle.holes.specs.declared.Arena.{Arena}
+use Rattle.holes.specs.declared.record.Draw.{Draw}
+use Rattle.holes.specs.declared.record.Gain.{Gain}
 use Rattle.model.specs.declared.Hole.{Hole}
 use Rattle.model.specs.HoleStore.{hole}
 use Rattle.runs.specs.declared.Request.{Request}
+use Rattle.runs.specs.declared.Back.{Back}
 use Rattle.runs.specs.declared.Commit.{Commit}
 use Rattle.runs.specs.declared.Commit.the-variants.{Run, Nothing}
+use Rattle.holes.specs.Change.{drawnBy, gainedBy}
 use Rattle.holes.specs.Record.{storeRecord, advanced, counted}
 use Rattle.arena.specs.Owners.{own}
 use Rattle.arena.specs.Load.{loadHole, loadHoles}
 use Rattle.arena.specs.Store.{storeHole}
-use Rattle.holes.specs.Act.{withState, withHoles, Gives, drawWords, drawRecord, Draws, endNone, endRun, endGiven, settle, fromFrontier, holeDrawn, commitDrawn, nextState, commitPlanned}
-use Rattle.runs.specs.Asks.{RecordIn, HoleIn, PlanIn, EndsIn, RequestIn, RunIn}
+use Rattle.holes.specs.Act.{withState, Gives, drawWords, drawRecord, Draws, endNone, endRun, endGiven, settle, fromFrontier, holeDrawn, commitDrawn, nextState, commitPlanned}
+use Rattle.runs.specs.Asks.{RecordIn, HoleIn, PlanIn, EndsIn, RequestIn, RunIn, BackIn}
 use Rattle.runs.specs.Answer.{Answers}
 use Rattle.holes.proofs.StoreLaws.{hole-length}
 use Rattle.holes.proofs.EndsFair.{ends-more, draw-fair}
+
+-- ---- the record afterwards
+abbrev drawOf : ℕ → ℕ → ℕ → ℕ → Bool → Bool → Draw
+drawOf s k m c t u = record { state = s; count = k; ahead = m; cut = c; commit = t; reuse = u }
+
+module _ (s : ℕ) (a : Arena) where
+  same-frontier : a .frontier + 0 ≡ a .frontier
+  same-frontier = omega arith
+
+  same-total : a .total - 0 ≡ a .total
+  same-total = omega arith
+
+  none-is : drawnBy (drawOf s (a .count) 0 0 false false) a ≡ withState s a
+  none-is = let y = same-frontier in let z = same-total in cc
+
+  fresh-is : (m : ℕ) → drawnBy (drawOf s (a .count) m 0 false false) a ≡ advanced m (withState s a)
+  fresh-is m = let z = same-total in cc
+
+  fresh-counted : (m : ℕ) → drawnBy (drawOf s (a .count) m 0 true false) a ≡ counted true (advanced m (withState s a))
+  fresh-counted m = let z = same-total in cc
+
+  module _ (b : List ℕ) (m i k : ℕ) (e : k ≡ drawRecord b a m i .count) where
+    cut-is : drawnBy (drawOf s k 0 m false false) a ≡ drawRecord b (withState s a) m i
+    unfolding drawRecord
+    cut-is = let y = same-frontier in cc
+
+    cut-counted : drawnBy (drawOf s k 0 m true true) a ≡ counted false (drawRecord b (withState s a) m i)
+    unfolding drawRecord
+    cut-counted = let y = same-frontier in cc
 
 -- ---- a run from a hole, which is g
 module _ (b : List ℕ) (a : Arena) (m i : ℕ) (g : Hole) (here : g ≡ loadHole b i) where
@@ -35,17 +68,17 @@ module _ (b : List ℕ) (a : Arena) (m i : ℕ) (g : Hole) (here : g ≡ loadHol
   pub hole-in : HoleIn a i (loadHole b i) m → HoleIn a i g m
   hole-in k = subst (λ z. HoleIn a i z m) (sym here) k
 
-  pub draws-cut : (x : List ℕ) (r : Arena) → m < g .pages → x ≡ storeHole b i (hole (g .first + m) (g .pages - m)) → r ≡ withHoles (a .count) (a .total - m) a → Draws b a m i x r
+  pub draws-cut : (x : List ℕ) → m < g .pages → x ≡ storeHole b i (hole (g .first + m) (g .pages - m)) → Draws b a m i x (a .count)
   unfolding drawWords drawRecord
-  draws-cut x r l e f =
+  draws-cut x l e =
       let z = lt-ltb m (loadHole b i .pages) (omega (arith, same)) in
-      record { book = rw z (e ∙ ap (λ (y : Hole). storeHole b i (hole (y .first + m) (y .pages - m))) here); top = rw z f }
+      record { book = rw z (e ∙ ap (λ (y : Hole). storeHole b i (hole (y .first + m) (y .pages - m))) here); count = rw z }
 
-  pub draws-used : (last : Hole) (x : List ℕ) (r : Arena) → g .pages ≤ m → last ≡ loadHole b (a .count - 1) → x ≡ storeHole b i (hole (last .first) (last .pages)) → r ≡ withHoles (a .count - 1) (a .total - m) a → Draws b a m i x r
+  pub draws-used : (last : Hole) (x : List ℕ) → g .pages ≤ m → last ≡ loadHole b (a .count - 1) → x ≡ storeHole b i (hole (last .first) (last .pages)) → Draws b a m i x (a .count - 1)
   unfolding drawWords drawRecord
-  draws-used last x r l u e f =
+  draws-used last x l u e =
       let z = le-ltb m (loadHole b i .pages) (omega (arith, same)) in
-      record { book = rw z (e ∙ ap (storeHole b i) u); top = rw z f }
+      record { book = rw z (e ∙ ap (storeHole b i) u); count = rw z }
 
   draw-length : length (drawWords b a m i) ≡ length b
   unfolding drawWords
@@ -55,146 +88,147 @@ module _ (b : List ℕ) (a : Arena) (m i : ℕ) (g : Hole) (here : g ≡ loadHol
   unfolding drawRecord
   draw-count l = by-cases (ltb m (loadHole b i .pages)) (λ t. rw t l) (λ t. rw t (omega arith))
 
-  pub hole-run : (x : List ℕ) (r : Arena) (q : Request) → Draws b a m i x r → q .pages ≡ m → RequestIn b q → RecordIn (q .size) a → HoleIn a i (loadHole b i) m → EndsIn b a → RunIn x r (g .first) q
-  unfolding drawRecord
-  hole-run x r q d e rq ra rh re =
-      let l : length x ≡ length b = ap length (d .book) ∙ draw-length in
-      let t : r .total ≡ a .total - m = ap (λ z. z .total) (d .top) in
-      let u : r .frontier ≡ a .frontier = ap (λ z. z .frontier) (d .top) in
-      let c : r .count ≤ holeSlots = subst (λ z. z .count ≤ holeSlots) (sym (d .top)) (draw-count (ra .few)) in
-      let k = hole-in rh in
-      let h₁ = k .enough in
-      let h₂ = k .ends in
-      let h₃ = ra .moved in
-      let h₄ = rq .long in
-      let h₅ = rq .small in
-      let h₆ = ra .short in
-      let fair = draw-fair (a .frontier) (q .size) b (le-leb _ _ h₄) a m i (ra .few) (rh .stored) re in
-      record {
-        long = omega arith;
-        near = omega arith;
-        short = omega arith;
-        few = c;
-        low = omega arith;
-        owned = rq .owned;
-        ends = λ _. subst (λ y. EndsIn y r) (sym (d .book)) (subst (λ y. EndsIn (drawWords b a m i) y) (sym (d .top)) fair);
-      }
+  module _ (x : List ℕ) (k : ℕ) (q : Request) (d : Draws b a m i x k) (e : q .pages ≡ m) (rq : RequestIn b q) (ra : RecordIn (q .size) a) (rh : HoleIn a i (loadHole b i) m) where
+    long : length x ≡ length b
+    long = ap length (d .book) ∙ draw-length
 
-  pub from-drawn : (h w d : ℕ) (s : Commit) (x y : List ℕ) (r : Arena) → Draws b a m i x r → Answers s y (settle x r m (g .first) false h w d) → Answers s y (holeDrawn b a i m h w d)
-  unfolding holeDrawn
-  from-drawn h w d s x y r e k =
-      subst (λ (q : ℕ). Answers s y (settle (drawWords b a m i) (drawRecord b a m i) m q false h w d)) (ap (λ z. z .first) here) (rw (e .book, e .top) at k)
+    pub hole-cut : m ≤ a .total
+    hole-cut = omega (arith, rh .enough, rh .within)
+
+    pub hole-run : RunIn x (g .first) q
+    hole-run =
+        let l = long in
+        let h₁ = hole-in rh .enough in
+        let h₂ = hole-in rh .ends in
+        let h₃ = ra .moved in
+        let h₄ = rq .long in
+        let h₅ = rq .small in
+        record { long = omega arith; near = omega arith; owned = rq .owned }
+
+    pub hole-back : (s : ℕ) (t : Bool) → EndsIn b a → t ≡ false → BackIn x (drawnBy (drawOf s k 0 m t t) a) (record { first = g .first; pages = q .pages; clear = false })
+    unfolding drawRecord
+    hole-back s t re v =
+        let l = long in
+        let h₁ = hole-in rh .enough in
+        let h₂ = hole-in rh .ends in
+        let h₃ = ra .moved in
+        let h₄ = rq .long in
+        let h₅ = rq .small in
+        let h₆ = ra .short in
+        let few : k ≤ holeSlots = subst (λ z. z ≤ holeSlots) (sym (d .count)) (draw-count (ra .few)) in
+        let y = same-frontier s a in
+        let fair = draw-fair (a .frontier) (q .size) b (le-leb _ _ h₄) a m i (ra .few) (rh .stored) re in
+        let there : EndsIn x (drawnBy (drawOf s k 0 m t t) a) = rw (y, d .book, d .count) fair in
+        record {
+          long = omega arith;
+          store = record { long = omega arith; few = few; short = omega arith; low = omega arith; near = omega arith; ends = there };
+        }
 
 -- ---- no hole
-pub frontier-run : (b : List ℕ) (a r : Arena) (q : Request) → RequestIn b q → RecordIn (q .size) a → (commitGranted (q .host) ≡ false → a .frontier + q .pages ≤ q .size → EndsIn b a) → r ≡ advanced (q .pages) a → r .frontier ≤ q .size → RunIn b r (a .frontier) q
-frontier-run b a r q rq ra re e l =
-    let t : r .total ≡ a .total = ap (λ z. z .total) e in
-    let u : r .frontier ≡ a .frontier + q .pages = ap (λ z. z .frontier) e in
-    let c : r .count ≡ a .count = ap (λ z. z .count) e in
-    let h₁ = rq .long in
-    let h₂ = rq .small in
-    let h₃ = ra .short in
-    let h₄ = ra .few in
-    record {
-      long = omega arith;
-      near = omega arith;
-      short = omega arith;
-      few = omega arith;
-      low = omega arith;
-      owned = rq .owned;
-      ends = λ g. subst (λ y. EndsIn b y) (sym e) (ends-more (a .frontier) (a .frontier + q .pages) (omega arith) (loadHoles b 0 (a .count)) (re g (omega arith)));
-    }
+module _ (b : List ℕ) (a : Arena) (q : Request) (rq : RequestIn b q) (ra : RecordIn (q .size) a) (l : a .frontier + q .pages ≤ q .size) where
+  pub frontier-run : RunIn b (a .frontier) q
+  frontier-run = let h₁ = rq .long in let h₂ = rq .small in record { long = omega arith; near = omega arith; owned = rq .owned }
 
--- where it is not granted the holes are in a give's range
-pub run-ends-in : (b : List ℕ) (a : Arena) (first : ℕ) (q : Request) (t : Bool) (k : ℕ) → RunIn b a first q → k ≡ q .host → t ≡ commitGranted k → t ≡ false → EndsIn b a
-run-ends-in b a first q t k r e u v = r .ends (ap commitGranted (sym e) ∙ sym u ∙ v)
+  pub frontier-back : (s : ℕ) (t : Bool) (k : ℕ) → (commitGranted (q .host) ≡ false → a .frontier + q .pages ≤ q .size → EndsIn b a) → k ≡ q .host → t ≡ commitGranted k → t ≡ false
+      → BackIn b (drawnBy (drawOf s (a .count) (q .pages) 0 t false) a) (record { first = a .frontier; pages = q .pages; clear = true })
+  frontier-back s t k re e u v =
+      let h₁ = rq .long in
+      let h₂ = rq .small in
+      let h₃ = ra .short in
+      let h₄ = ra .few in
+      let fair = re (ap commitGranted (sym e) ∙ sym u ∙ v) l in
+      record {
+        long = omega arith;
+        store = record { long = omega arith; few = h₄; short = omega arith; low = omega arith; near = omega arith; ends = ends-more (a .frontier) (a .frontier + q .pages) (omega arith) (loadHoles b 0 (a .count)) fair };
+      }
 
 -- ---- the end
+pub none-ends : (b : List ℕ) (a : Arena) (s : ℕ) (x : List ℕ) → x ≡ storeRecord b (drawnBy (drawOf s (a .count) 0 0 false false) a) → x ≡ endNone b (withState s a) .book
+unfolding endNone
+none-ends b a s x e = e ∙ ap (storeRecord b) (none-is s a)
+
 module _ (b : List ℕ) (a : Arena) (m q : ℕ) where
-  pub given-fresh : (f : Bool) (x y z : List ℕ) (r : Arena) → Gives b a m q x r → y ≡ storeRecord x r → f ≡ true → z ≡ own y q m 0 → z ≡ endGiven b a m q f .book
-  unfolding endGiven
-  given-fresh f x y z r g e t o = rw t (o ∙ ap (λ w. own w q m 0) (e ∙ ap (λ w. storeRecord w r) (g .book) ∙ ap (storeRecord _) (g .top)))
+  module _ (f : Bool) (x y : List ℕ) (g : Gain) (k : Gives b a m q x g) (e : y ≡ storeRecord x (gainedBy g a)) where
+    pub given-fresh : (z : List ℕ) → f ≡ true → z ≡ own y q m 0 → z ≡ endGiven b a m q f .book
+    unfolding endGiven
+    given-fresh z t o = rw t (o ∙ ap (λ w. own w q m 0) (e ∙ ap (λ w. storeRecord w (gainedBy g a)) (k .book) ∙ ap (storeRecord _) (k .top)))
 
-  pub given-reuse : (f : Bool) (x y : List ℕ) (r : Arena) → Gives b a m q x r → y ≡ storeRecord x r → f ≡ false → y ≡ endGiven b a m q f .book
-  unfolding endGiven
-  given-reuse f x y r g e t = rw t (e ∙ ap (λ w. storeRecord w r) (g .book) ∙ ap (storeRecord _) (g .top))
+    pub given-reuse : f ≡ false → y ≡ endGiven b a m q f .book
+    unfolding endGiven
+    given-reuse t = rw t (e ∙ ap (λ w. storeRecord w (gainedBy g a)) (k .book) ∙ ap (storeRecord _) (k .top))
 
-  pub run-ends : (f : Bool) (w d : ℕ) (r : Arena) (x y z : List ℕ) → r ≡ counted f a → x ≡ storeRecord b r → y ≡ own x q m w → z ≡ put y (arena held) (d + m) → z ≡ endRun b a m q f w d .book
-  unfolding endRun
-  run-ends f w d r x y z e e₁ e₂ e₃ = e₃ ∙ ap (λ v. put v (arena held) (d + m)) (e₂ ∙ ap (λ v. own v q m w) (e₁ ∙ ap (storeRecord b) e))
-
-  module _ (f : Bool) (h w d : ℕ) where
-    pub settles-run : (t : Bool) (k : ℕ) (x : List ℕ) → k ≡ h → t ≡ commitGranted k → t ≡ true → x ≡ endRun b a m q f w d .book → Answers (Run q f) x (settle b a m q f h w d)
+  module _ (f : Bool) (h w d : ℕ) (t : Bool) (k : ℕ) (x : List ℕ) (e : k ≡ h) (u : t ≡ commitGranted k) where
+    pub settles-run : t ≡ true → x ≡ endRun b a m q f w d .book → Answers (Run q f) x (settle b a m q f h w d)
     unfolding settle endRun
-    settles-run t k x e u v o =
+    settles-run v o =
         let z : commitGranted h ≡ true = ap commitGranted (sym e) ∙ sym u ∙ v in
         rw z (record { answer = refl; book = o })
 
-    pub settles-given : (t : Bool) (k : ℕ) (x : List ℕ) → k ≡ h → t ≡ commitGranted k → t ≡ false → x ≡ endGiven b a m q f .book → Answers Nothing x (settle b a m q f h w d)
+    pub settles-given : t ≡ false → x ≡ endGiven b a m q f .book → Answers Nothing x (settle b a m q f h w d)
     unfolding settle endGiven
-    settles-given t k x e u v o =
+    settles-given v o =
         let z : commitGranted h ≡ false = ap commitGranted (sym e) ∙ sym u ∙ v in
         rw z (record { answer = refl; book = o })
 
--- ---- the whole
-module _ (n : ℕ) (b : List ℕ) (a : Arena) (m h w d : ℕ) where
-  pub no-room : (x : List ℕ) (r : Arena) → r ≡ advanced m a → n < r .frontier → x ≡ storeRecord b a → Answers Nothing x (fromFrontier n b a m h w d)
+-- ---- the whole; s is the state
+module _ (n : ℕ) (b : List ℕ) (a : Arena) (s m h w d : ℕ) where
+  pub no-room : (x : List ℕ) → n < a .frontier + m → x ≡ endNone b (withState s a) .book → Answers Nothing x (fromFrontier n b (withState s a) m h w d)
   unfolding fromFrontier endNone
-  no-room x r f l e =
-      let u : r .frontier ≡ a .frontier + m = ap (λ z. z .frontier) f in
-      rw (lt-leb (a .frontier + m) n (omega arith)) (record { answer = refl; book = e })
+  no-room x l e = rw (lt-leb (a .frontier + m) n l) (record { answer = refl; book = e })
 
-  pub from-room : (s : Commit) (x : List ℕ) (r : Arena) → r ≡ advanced m a → r .frontier ≤ n → Answers s x (settle b r m (a .frontier) true h w d)
-      → Answers s x (fromFrontier n b a m h w d)
-  unfolding fromFrontier
-  from-room s x r e l k =
-      let u : r .frontier ≡ a .frontier + m = ap (λ z. z .frontier) e in
-      rw (le-leb (a .frontier + m) n (omega arith)) (subst (λ z. Answers s x (settle b z m (a .frontier) true h w d)) e k)
+  module _ (x : List ℕ) (l : a .frontier + m ≤ n) (t : Bool) (k : ℕ) (f : k ≡ h) (u : t ≡ commitGranted k) where
+    pub frontier-granted : t ≡ true → x ≡ put (own (storeRecord b (drawnBy (drawOf s (a .count) m 0 t false) a)) (a .frontier) m w) (arena held) (d + m) → Answers (Run (a .frontier) true) x (fromFrontier n b (withState s a) m h w d)
+    unfolding fromFrontier endRun
+    frontier-granted v o =
+        let z : drawnBy (drawOf s (a .count) m 0 t false) a ≡ counted true (advanced m (withState s a)) = ap (λ y. drawnBy (drawOf s (a .count) m 0 y false) a) v ∙ fresh-counted s a m in
+        rw (le-leb (a .frontier + m) n l) (settles-run b (advanced m (withState s a)) m (a .frontier) true h w d t k x f u v (o ∙ ap (λ r. put (own (storeRecord b r) (a .frontier) m w) (arena held) (d + m)) z))
 
-  -- settled; c is the record made anew
-  module _ (x : List ℕ) (r : Arena) (e : r ≡ advanced m a) (l : r .frontier ≤ n) (t : Bool) (k : ℕ) (f : k ≡ h) (u : t ≡ commitGranted k) where
-    pub frontier-granted : t ≡ true → x ≡ endRun b r m (a .frontier) true w d .book → Answers (Run (a .frontier) true) x (fromFrontier n b a m h w d)
-    frontier-granted v o = from-room (Run (a .frontier) true) x r e l (settles-run b r m (a .frontier) true h w d t k x f u v o)
-
-    pub frontier-given : t ≡ false → (c : Arena) → c ≡ r → x ≡ endGiven b c m (a .frontier) true .book → Answers Nothing x (fromFrontier n b a m h w d)
-    frontier-given v c z o = from-room Nothing x r e l (settles-given b r m (a .frontier) true h w d t k x f u v (o ∙ ap (λ y. endGiven b y m (a .frontier) true .book) z))
+    pub frontier-given : t ≡ false → x ≡ endGiven b (drawnBy (drawOf s (a .count) m 0 t false) a) m (a .frontier) true .book → Answers Nothing x (fromFrontier n b (withState s a) m h w d)
+    unfolding fromFrontier
+    frontier-given v o =
+        let z : drawnBy (drawOf s (a .count) m 0 t false) a ≡ advanced m (withState s a) = ap (λ y. drawnBy (drawOf s (a .count) m 0 y false) a) v ∙ fresh-is s a m in
+        rw (le-leb (a .frontier + m) n l) (settles-given b (advanced m (withState s a)) m (a .frontier) true h w d t k x f u v (o ∙ ap (λ r. endGiven b r m (a .frontier) true .book) z))
 
   module _ (c : ℕ) where
-    pub none-drawn : (s : Commit) (y : List ℕ) → c ≡ 0 → Answers s y (fromFrontier n b a m h w d) → Answers s y (commitDrawn n b a c m h w d)
+    pub none-drawn : (r : Commit) (y : List ℕ) → c ≡ 0 → Answers r y (fromFrontier n b (withState s a) m h w d) → Answers r y (commitDrawn n b (withState s a) c m h w d)
     unfolding commitDrawn
-    none-drawn s y e k = rw (eq-eqb c 0 e) k
+    none-drawn r y e k = rw (eq-eqb c 0 e) k
 
-    pub hole-drawn : (s : Commit) (y : List ℕ) → (c ≡ 0 → ⊥) → Answers s y (holeDrawn b a (c - 1) m h w d) → Answers s y (commitDrawn n b a c m h w d)
+    pub hole-drawn : (r : Commit) (y : List ℕ) → (c ≡ 0 → ⊥) → Answers r y (holeDrawn b (withState s a) (c - 1) m h w d) → Answers r y (commitDrawn n b (withState s a) c m h w d)
     unfolding commitDrawn
-    hole-drawn s y e k = rw (ne-eqb c 0 e) k
+    hole-drawn r y e k = rw (ne-eqb c 0 e) k
 
-    pub planned-off : (s : ℕ) (x : List ℕ) (r : Arena) → s ≡ nextState (a .state) h → r ≡ withState s a → s ≡ 2 → x ≡ storeRecord b r → Answers Nothing x (commitPlanned n b a c m h w d)
+    pub planned-off : (x : List ℕ) → s ≡ nextState (a .state) h → s ≡ 2 → x ≡ endNone b (withState s a) .book → Answers Nothing x (commitPlanned n b a c m h w d)
     unfolding commitPlanned endNone
-    planned-off s x r e f t o =
-        rw (← e, eq-eqb s 2 t) (record { answer = refl; book = o ∙ ap (storeRecord b) f })
+    planned-off x e t o = rw (← e, eq-eqb s 2 t) (record { answer = refl; book = o })
 
-    pub planned-on : (s : ℕ) (y : Commit) (x : List ℕ) (r : Arena) → s ≡ nextState (a .state) h → r ≡ withState s a → (s ≡ 2 → ⊥) → Answers y x (commitDrawn n b r c m h w d) → Answers y x (commitPlanned n b a c m h w d)
+    pub planned-on : (r : Commit) (x : List ℕ) → s ≡ nextState (a .state) h → (s ≡ 2 → ⊥) → Answers r x (commitDrawn n b (withState s a) c m h w d) → Answers r x (commitPlanned n b a c m h w d)
     unfolding commitPlanned
-    planned-on s y x r e f t k = rw (← e, ne-eqb s 2 t) (rw f at k)
+    planned-on r x e t k = rw (← e, ne-eqb s 2 t) k
 
-module _ (b : List ℕ) (a : Arena) (m i : ℕ) (g : Hole) (here : g ≡ loadHole b i) (h w d : ℕ) (x y : List ℕ) (r : Arena) (e : Draws b a m i x r) (t : Bool) (k : ℕ) (f : k ≡ h) (u : t ≡ commitGranted k) where
-  pub hole-granted : t ≡ true → y ≡ endRun x r m (g .first) false w d .book → Answers (Run (g .first) false) y (holeDrawn b a i m h w d)
-  hole-granted v o = from-drawn b a m i g here h w d (Run (g .first) false) x y r e (settles-run x r m (g .first) false h w d t k y f u v o)
+module _ (b : List ℕ) (a : Arena) (s m i : ℕ) (g : Hole) (here : g ≡ loadHole b i) (h w d : ℕ) (x y : List ℕ) (k : ℕ) (e : Draws b a m i x k) (t : Bool) (j : ℕ) (f : j ≡ h) (u : t ≡ commitGranted j) where
+  first-is : g .first ≡ loadHole b i .first
+  first-is = ap (λ z. z .first) here
 
-  pub hole-given : t ≡ false → (c : Arena) → c ≡ r → y ≡ endGiven x c m (g .first) false .book → Answers Nothing y (holeDrawn b a i m h w d)
-  hole-given v c z o = from-drawn b a m i g here h w d Nothing x y r e (settles-given x r m (g .first) false h w d t k y f u v (o ∙ ap (λ q. endGiven x q m (g .first) false .book) z))
+  words-are : x ≡ drawWords b (withState s a) m i
+  unfolding drawWords
+  words-are = e .book
 
--- the record made anew is of the same run
-pub run-anew : (b : List ℕ) (a c : Arena) (first : ℕ) (q : Request) → c ≡ a → RunIn b a first q → RunIn b c first q
-run-anew b a c first q e k = subst (λ z. RunIn b z first q) (sym e) k
+  pub hole-granted : t ≡ true → y ≡ put (own (storeRecord x (drawnBy (drawOf s k 0 m t t) a)) (g .first) m w) (arena held) (d + m) → Answers (Run (g .first) false) y (holeDrawn b (withState s a) i m h w d)
+  unfolding holeDrawn endRun
+  hole-granted v o =
+      let z : drawnBy (drawOf s k 0 m t t) a ≡ counted false (drawRecord b (withState s a) m i) = ap (λ y. drawnBy (drawOf s k 0 m y y) a) v ∙ cut-counted s a b m i k (e .count) in
+      subst (λ p. Answers (Run (g .first) false) y (settle (drawWords b (withState s a) m i) (drawRecord b (withState s a) m i) m p false h w d)) first-is
+      (settles-run (drawWords b (withState s a) m i) (drawRecord b (withState s a) m i) m (g .first) false h w d t j y f u v
+      (o ∙ ap (λ r. put (own (storeRecord x r) (g .first) m w) (arena held) (d + m)) z ∙ ap (λ r. put (own (storeRecord r (counted false (drawRecord b (withState s a) m i))) (g .first) m w) (arena held) (d + m)) words-are))
 
-pub frontier-ends : (b : List ℕ) (a r c : Arena) (q : Request) (t : Bool) (k : ℕ) → RequestIn b q → RecordIn (q .size) a → (commitGranted (q .host) ≡ false → a .frontier + q .pages ≤ q .size → EndsIn b a) → r ≡ advanced (q .pages) a → r .frontier ≤ q .size
-    → c ≡ r → k ≡ q .host → t ≡ commitGranted k → t ≡ false → EndsIn b c
-frontier-ends b a r c q t k rq ra re e l z f u v = run-ends-in b c (a .frontier) q t k (run-anew b r c (a .frontier) q z (frontier-run b a r q rq ra re e l)) f u v
-
-pub hole-ends : (b : List ℕ) (a : Arena) (i : ℕ) (x : List ℕ) (r c : Arena) (q : Request) (t : Bool) (k : ℕ) → RequestIn b q → Draws b a (q .pages) i x r → RecordIn (q .size) a → HoleIn a i (loadHole b i) (q .pages) → EndsIn b a
-    → c ≡ r → k ≡ q .host → t ≡ commitGranted k → t ≡ false → EndsIn x c
-hole-ends b a i x r c q t k rq d ra rh re z f u v = run-ends-in x c (loadHole b i .first) q t k (run-anew x r c (loadHole b i .first) q z (hole-run b a (q .pages) i (loadHole b i) refl x r q d refl rq ra rh re)) f u v
+  pub hole-given : t ≡ false → y ≡ endGiven x (drawnBy (drawOf s k 0 m t t) a) m (g .first) false .book → Answers Nothing y (holeDrawn b (withState s a) i m h w d)
+  unfolding holeDrawn
+  hole-given v o =
+      let z : drawnBy (drawOf s k 0 m t t) a ≡ drawRecord b (withState s a) m i = ap (λ y. drawnBy (drawOf s k 0 m y y) a) v ∙ cut-is s a b m i k (e .count) in
+      subst (λ p. Answers Nothing y (settle (drawWords b (withState s a) m i) (drawRecord b (withState s a) m i) m p false h w d)) first-is
+      (settles-given (drawWords b (withState s a) m i) (drawRecord b (withState s a) m i) m (g .first) false h w d t j y f u v
+      (o ∙ ap (λ r. endGiven x r m (g .first) false .book) z ∙ ap (λ r. endGiven r (drawRecord b (withState s a) m i) m (g .first) false .book) words-are))
 
 -- STATE
 pub state-stays : (s h : ℕ) → (s ≡ 0 → ⊥) → s ≡ nextState s h
@@ -206,16 +240,6 @@ state-ready s h k t e f g v = rw (e, ← f, ← g, v)
 
 pub state-off : (s h k : ℕ) (t : Bool) → s ≡ 0 → k ≡ h → t ≡ reservationGranted k → t ≡ false → 2 ≡ nextState s h
 state-off s h k t e f g v = rw (e, ← f, ← g, v)
-
--- the record with another STATE is in the same ranges
-pub record-with : (n s : ℕ) (a r : Arena) → r ≡ withState s a → RecordIn n a → RecordIn n r
-record-with n s a r e k = subst (λ z. RecordIn n z) (sym e) (record { moved = k .moved; few = k .few; short = k .short })
-
-pub plan-with : (b : List ℕ) (s m c : ℕ) (a r : Arena) → r ≡ withState s a → PlanIn b a c m → PlanIn b r c m
-plan-with b s m c a r e k d = let z = k d in subst (λ y. HoleIn y (c - 1) (loadHole b (c - 1)) m) (sym e) (record { stored = z .stored; enough = z .enough; within = z .within; ends = z .ends })
-
-pub ends-with : (b : List ℕ) (s : ℕ) (a r : Arena) → r ≡ withState s a → EndsIn b a → EndsIn b r
-ends-with b s a r e k = subst (λ y. EndsIn b y) (sym e) k
 
 pub plan-hole : (b : List ℕ) (m c : ℕ) (a : Arena) → PlanIn b a c m → (c ≡ 0 → ⊥) → HoleIn a (c - 1) (loadHole b (c - 1)) m
 plan-hole b m c a k d = k d

@@ -18,7 +18,7 @@ use Rattle.holes.specs.Record.{recordOf, storeRecord}
 use Rattle.arena.specs.Fair.{recordFair, commitFair}
 use Rattle.holes.specs.Plan.{planOf}
 use Rattle.arena.specs.Calls.{Committed, commitFor}
-use Rattle.holes.specs.Act.{endNone, fromFrontier, commitPlanned, planned, commitRead, commitActs, growWith}
+use Rattle.holes.specs.Act.{withState, endNone, fromFrontier, commitPlanned, planned, commitRead, commitActs, growWith}
 use Rattle.runs.specs.Asks.{RecordIn, HoleIn, PlanIn, EndsIn, RequestIn, BookIn}
 use Rattle.runs.specs.Answer.{Answers, wordOf, commitAs, commitOf}
 use Rattle.holes.proofs.Acts.{fair-record, planned-is, ends-of, commit-acts}
@@ -52,7 +52,7 @@ module _ (n : ℕ) (b : List ℕ) (a : Arena) (h e m w d : ℕ) where
   pub grow-ends : (commitGranted h ≡ false → a .frontier ≡ e → a .frontier + m ≤ n → EndsIn b a) → a .frontier ≡ e → commitGranted h ≡ false → a .frontier + m ≤ n → EndsIn b a
   grow-ends k z g l = k g z l
 
-  pub grows-there : (s : Commit) (x : List ℕ) → a .frontier ≡ e → Answers s x (fromFrontier n b a m h w d) → Answers s x (growWith n b a h e m w d)
+  pub grows-there : (s : Commit) (x : List ℕ) → a .frontier ≡ e → Answers s x (fromFrontier n b (withState (a .state) a) m h w d) → Answers s x (growWith n b a h e m w d)
   unfolding growWith
   grows-there s x z k = rw (eq-eqb (a .frontier) e z) k
 

@@ -13,16 +13,13 @@ use Rattle.model.specs.Heap.{direct}
 use Rattle.arena.specs.Owners.{ownerCode}
 use Rattle.fields.specs.Field.{arena, page, owner, frontier, holes, held, get, put}
 use Rattle.holes.specs.declared.Arena.{Arena}
-use Rattle.holes.specs.Record.{recordOf, storeRecord}
+use Rattle.holes.specs.Record.{recordOf}
 use Rattle.arena.specs.Fair.{recordFair, holesEndFair, giveFair, growGives, growFair}
-use Rattle.arena.specs.Owners.{own}
 use Rattle.arena.specs.Load.{loadArena}
 use Rattle.arena.specs.Calls.{given, everyDirect, heldDirect}
-use Rattle.holes.specs.declared.Neighbours.{Neighbours}
-use Rattle.holes.specs.Act.{edges, touching, Gives, givenWith, giveActs}
-use Rattle.runs.specs.Asks.{StoreIn, LookIn, GiveIn, LoadedIn, BookIn, TryIn, GivenIf}
+use Rattle.holes.specs.Act.{endGiven, givenWith, giveActs}
+use Rattle.runs.specs.Asks.{StoreIn, GiveIn, BackIn}
 use Rattle.holes.proofs.Acts.{FairRecord, fair-record, give-acts}
-use Rattle.runs.proofs.RecordSteps.{told-fair}
 
 -- ---- giving
 module _ (n : ℕ) (b : List ℕ) (m : ℕ) where
@@ -41,83 +38,33 @@ module _ (n : ℕ) (b : List ℕ) (m : ℕ) where
   unfolding giveFair
   unfair-give t e v = rw (← e, v)
 
-pub gives-loaded : (b : List ℕ) (a : Arena) (d q m : ℕ) (x y z v : List ℕ) (r : Arena) → Gives b a m q x r → y ≡ storeRecord x r → z ≡ own y q m 0 → v ≡ put z (arena held) (d - m) → v ≡ givenWith b a d q m
-unfolding givenWith
-gives-loaded b a d q m x y z v r g e f o =
-    o ∙ ap (λ w. put w (arena held) (d - m)) (f ∙ ap (λ w. own w q m 0) (e ∙ ap (λ w. storeRecord w r) (g .book) ∙ ap (storeRecord _) (g .top)))
-
-looks-in : (b : List ℕ) (n : ℕ) (a : Arena) (q m : ℕ) → BookIn b n → q + m ≤ n → recordFair n b ≡ true → a ≡ recordOf b → LookIn b a q m
-looks-in b n a q m k l f e =
-    let z : a .count ≡ get b (arena holes) = ap (λ y. y .count) e in
-    let w = fair-record n b f .holes in
-    let l₁ = k .long in
-    let l₂ = k .small in
-    record { long = omega arith; few = omega arith; near = omega arith }
-
-pub give-look : (b : List ℕ) (n : ℕ) (a : Arena) (q m : ℕ) → GiveIn b n q m → a ≡ recordOf b → LookIn b a q m
-unfolding giveFair
-give-look b n a q m k = looks-in b n a q m (record { long = k .long; small = k .small }) (k .inside) (and-left _ _ (k .fair))
-
 module _ (b : List ℕ) (n : ℕ) (a : Arena) (d q m : ℕ) (k : GiveIn b n q m) (e : a ≡ recordOf b) (f : d ≡ get b (arena held)) where
   fair : FairRecord n b
   unfolding giveFair
   fair = fair-record n b (and-left _ _ (k .fair))
 
-  enough : m ≤ get b (arena held)
+  pub enough : m ≤ d
   unfolding giveFair
-  enough = leb-true m (get b (arena held)) (and-left _ _ (and-right (recordFair n b) _ (k .fair)))
+  enough = let z = leb-true m (get b (arena held)) (and-left _ _ (and-right (recordFair n b) _ (k .fair))) in omega arith
 
   ends : holesEndFair b ≡ true
   unfolding giveFair
   ends = and-right (leb m (get b (arena held))) _ (and-right (recordFair n b) _ (k .fair))
 
-  pub loaded-in : LoadedIn b a d q m
+  pub back-in : BackIn b a (record { first = q; pages = m; clear = true })
   unfolding holesEndFair
-  loaded-in =
+  back-in =
       let l₁ = k .long in
       let l₂ = k .small in
       let l₃ = k .inside in
       let z = fair in
-      let y = enough in
       let s : StoreIn b (recordOf b) q m = record { long = omega arith; few = z .holes; short = z .holePages; low = let x = z .frontier in omega arith; near = omega arith; ends = ends } in
-      record { long = omega arith; near = omega arith; store = subst (λ y. StoreIn b y q m) (sym e) s; owned = omega arith }
+      record { long = omega arith; store = subst (λ y. StoreIn b y q m) (sym e) s }
 
-  pub given-is : (x : List ℕ) → x ≡ givenWith b a d q m → x ≡ given b q m
-  unfolding giveActs
-  given-is x g =
-      g ∙ ap (λ y. givenWith b y d q m) e ∙ ap (λ y. givenWith b (recordOf b) y q m) f ∙ sym (give-acts n b (le-leb _ _ (k .long)) fair ends q m)
-
--- ---- a give that was not tested
-module _ (b : List ℕ) (n q m : ℕ) where
-  pub given-not : false ≡ giveFair n b m → GivenIf false b b n q m
-  given-not e = record { told = e; book = rw (← e) }
-
-  pub unfair-try : (t : Bool) → t ≡ recordFair n b → t ≡ false → GivenIf false b b n q m
-  unfair-try t e v = given-not (unfair-give n b m t e v)
-
-  pub short-try : (t : Bool) (d : ℕ) → t ≡ recordFair n b → t ≡ true → d ≡ get b (arena held) → d < m → GivenIf false b b n q m
-  short-try t d e v f l = given-not (short-give n b m t d e v f l)
-
-  pub try-in : (t : Bool) (d : ℕ) → BookIn b n → q + m ≤ n → t ≡ recordFair n b → t ≡ true → d ≡ get b (arena held) → m ≤ d → TryIn b n q m
-  try-in t d k l e v f w = record { book = k; inside = l; fair = sym e ∙ v; owned = omega arith }
-
-  module _ (a : Arena) (k : TryIn b n q m) (e : a ≡ recordOf b) where
-    pub try-look : LookIn b a q m
-    try-look = looks-in b n a q m (k .book) (k .inside) (k .fair) e
-
-    module _ (t : Neighbours) (f : t ≡ touching b a m q) where
-      looked : t .fair ≡ giveFair n b m
-      unfolding giveFair touching
-      looked = rw (k .fair, le-leb m (get b (arena held)) (k .owned)) (told-fair b a e t (edges m q) f)
-
-      pub try-not : t .fair ≡ false → GivenIf false b b n q m
-      try-not v = given-not (sym v ∙ looked)
-
-      pub try-fair : t .fair ≡ true → GiveIn b n q m
-      try-fair v = record { long = k .book .long; small = k .book .small; inside = k .inside; fair = sym looked ∙ v }
-
-      pub try-given : (x : List ℕ) → t .fair ≡ true → x ≡ given b q m → GivenIf true x b n q m
-      try-given x v g = let z = try-fair v .fair in record { told = sym z; book = rw z g }
+  pub given-is : (x y : List ℕ) → x ≡ endGiven b a m q true .book → y ≡ put x (arena held) (d - m) → y ≡ given b q m
+  unfolding giveActs givenWith endGiven
+  given-is x y g o =
+      o ∙ ap (λ z. put z (arena held) (d - m)) g ∙ ap (λ y. givenWith b y d q m) e ∙ ap (λ y. givenWith b (recordOf b) y q m) f ∙ sym (give-acts n b (le-leb _ _ (k .long)) fair ends q m)
 
 -- ---- the pages of a run, the last one first
 pub record Looking (b : List ℕ) (q m left : ℕ) : Type 0 where

@@ -18,6 +18,8 @@ use Rattle.fields.proofs.Laws.{length-put}
 use Rattle.holes.specs.declared.Arena.{Arena}
 use Rattle.holes.specs.declared.Neighbours.{Neighbours}
 use Rattle.holes.specs.declared.holes.Edges.{Edges}
+use Rattle.holes.specs.declared.record.Gain.{Gain}
+use Rattle.holes.specs.Change.{gainedBy, gains, lost}
 use Rattle.holes.specs.Record.{recordOf, abandoning}
 use Rattle.holes.specs.Plan.{indexCode, neighboursOf}
 use Rattle.arena.specs.Fair.{recordFair, holeEndsFair, holesEndFair}
@@ -28,7 +30,7 @@ use Rattle.arena.proofs.Frames.{loaded-length}
 use Rattle.model.specs.declared.Hole.{Hole}
 use Rattle.model.specs.HoleStore.{hole, holeAt, lowestThat, endsAt, startsAt, holeBefore, holeAfter, withBefore, withAfter, withBoth}
 use Rattle.model.proofs.Placing.{Found, found, not-found, finds}
-use Rattle.holes.specs.Act.{withHoles, bothWords, placeWords, placeRecord, Places, edges, touching, giveWords, giveRecord, Gives}
+use Rattle.holes.specs.Act.{bothWords, placeWords, placeRecord, Places, edges, touching, giveWords, giveRecord, Gives}
 use Rattle.holes.proofs.StoreLaws.{loaded-at}
 use Rattle.holes.proofs.EndsFair.{ends-at}
 use Rattle.runs.specs.Asks.{StoreIn, SlotIn, StoredIn, TouchIn, LookIn}
@@ -108,36 +110,48 @@ module _ (b : List ℕ) (a : Arena) (e : a ≡ recordOf b) where
 
 -- ---- a run placed among the holes, by the codes c and d of those that it touches
 module _ (b : List ℕ) (a : Arena) (m q : ℕ) where
-  pub appends-not : (r : Arena) → holeSlots ≤ a .count → r ≡ abandoning a → Places b a m q 0 0 b r
-  unfolding placeWords placeRecord
-  appends-not r l e = let z = le-ltb (a .count) holeSlots l in record { book = rw z; top = rw z e }
+  lost-is : gainedBy (lost (a .count)) a ≡ abandoning a
+  lost-is = let z : a .total + 0 ≡ a .total = omega arith in cc
 
-  pub appends : (x : List ℕ) (r : Arena) → a .count < holeSlots → x ≡ storeHole b (a .count) (hole q m) → r ≡ withHoles (a .count + 1) (a .total + m) a → Places b a m q 0 0 x r
+  pub appends-not : (g : Gain) → holeSlots ≤ a .count → g ≡ lost (a .count) → Places b a m q 0 0 b g
   unfolding placeWords placeRecord
-  appends x r l e f = let z = lt-ltb (a .count) holeSlots l in record { book = rw z e; top = rw z f }
+  appends-not g l e =
+      let z = le-ltb (a .count) holeSlots l in
+      let y = ap (λ v. v .pages) e in
+      record { book = rw z; top = rw z (ap (λ v. gainedBy v a) e ∙ lost-is); few = omega arith }
 
-  module _ (x : List ℕ) (r : Arena) where
-    pub places-none : (c d : ℕ) → c ≡ 0 → d ≡ 0 → Places b a m q 0 0 x r → Places b a m q c d x r
+  pub appends : (x : List ℕ) (g : Gain) → a .count < holeSlots → x ≡ storeHole b (a .count) (hole q m) → g ≡ gains (a .count + 1) m → Places b a m q 0 0 x g
+  unfolding placeWords placeRecord
+  appends x g l e f =
+      let z = lt-ltb (a .count) holeSlots l in
+      let y = ap (λ v. v .pages) f in
+      record { book = rw z e; top = rw z (ap (λ v. gainedBy v a) f); few = omega arith }
+
+  module _ (x : List ℕ) (g : Gain) where
+    gains-few : (k : ℕ) → g ≡ gains k m → g .pages ≤ m
+    gains-few k e = let y = ap (λ v. v .pages) e in omega arith
+
+    pub places-none : (c d : ℕ) → c ≡ 0 → d ≡ 0 → Places b a m q 0 0 x g → Places b a m q c d x g
     places-none c d e f k = rw (e, f) k
 
-    pub places-before : (c d : ℕ) → (c ≡ 0 → ⊥) → d ≡ 0 → (x ≡ storeHole b (c - 1) (withBefore m (loadHole b (c - 1)))) × (r ≡ withHoles (a .count) (a .total + m) a) → Places b a m q c d x r
+    pub places-before : (c d : ℕ) → (c ≡ 0 → ⊥) → d ≡ 0 → (x ≡ storeHole b (c - 1) (withBefore m (loadHole b (c - 1)))) × (g ≡ gains (a .count) m) → Places b a m q c d x g
     unfolding placeWords placeRecord
     places-before zero d ne e k = absurd (ne refl)
-    places-before (suc i) d ne e k = let z : suc i - 1 ≡ i = omega arith in rw e (record { book = rw z at (k .0); top = k .1 })
+    places-before (suc i) d ne e k = let z : suc i - 1 ≡ i = omega arith in rw e (record { book = rw z at (k .0); top = ap (λ v. gainedBy v a) (k .1); few = gains-few (a .count) (k .1) })
 
-    pub places-after : (c d : ℕ) → c ≡ 0 → (d ≡ 0 → ⊥) → (x ≡ storeHole b (d - 1) (withAfter m q (loadHole b (d - 1)))) × (r ≡ withHoles (a .count) (a .total + m) a) → Places b a m q c d x r
+    pub places-after : (c d : ℕ) → c ≡ 0 → (d ≡ 0 → ⊥) → (x ≡ storeHole b (d - 1) (withAfter m q (loadHole b (d - 1)))) × (g ≡ gains (a .count) m) → Places b a m q c d x g
     unfolding placeWords placeRecord
     places-after c zero e ne k = absurd (ne refl)
-    places-after c (suc j) e ne k = let z : suc j - 1 ≡ j = omega arith in rw e (record { book = rw z at (k .0); top = k .1 })
+    places-after c (suc j) e ne k = let z : suc j - 1 ≡ j = omega arith in rw e (record { book = rw z at (k .0); top = ap (λ v. gainedBy v a) (k .1); few = gains-few (a .count) (k .1) })
 
-    pub places-both : (c d : ℕ) → (c ≡ 0 → ⊥) → (d ≡ 0 → ⊥) → (x ≡ bothWords b a (c - 1) (d - 1) (withBoth m (loadHole b (c - 1)) (loadHole b (d - 1)))) × (r ≡ withHoles (a .count - 1) (a .total + m) a) → Places b a m q c d x r
+    pub places-both : (c d : ℕ) → (c ≡ 0 → ⊥) → (d ≡ 0 → ⊥) → (x ≡ bothWords b a (c - 1) (d - 1) (withBoth m (loadHole b (c - 1)) (loadHole b (d - 1)))) × (g ≡ gains (a .count - 1) m) → Places b a m q c d x g
     unfolding placeWords placeRecord
     places-both zero d ne nd k = absurd (ne refl)
     places-both (suc i) zero ne nd k = absurd (nd refl)
     places-both (suc i) (suc j) ne nd k =
         let z : suc i - 1 ≡ i = omega arith in
         let y : suc j - 1 ≡ j = omega arith in
-        record { book = rw (z, y) at (k .0); top = k .1 }
+        record { book = rw (z, y) at (k .0); top = ap (λ v. gainedBy v a) (k .1); few = gains-few (a .count - 1) (k .1) }
 
 pub touched : (b : List ℕ) (a : Arena) (c : ℕ) → TouchIn b a c → (c ≡ 0 → ⊥) → StoredIn b a (c - 1)
 touched b a c k d = k d
@@ -154,9 +168,12 @@ module _ (b : List ℕ) (a : Arena) (i j : ℕ) (v : Hole) where
 
 -- ---- giving
 module _ (b : List ℕ) (a : Arena) (m q : ℕ) where
-  pub gives-over : (r : Arena) → holePagesMax < a .total + m → r ≡ abandoning a → Gives b a m q b r
+  pub gives-over : (g : Gain) → holePagesMax < a .total + m → g ≡ lost (a .count) → Gives b a m q b g
   unfolding giveWords giveRecord
-  gives-over r l e = let z = lt-leb (a .total + m) holePagesMax l in record { book = rw z; top = rw z e }
+  gives-over g l e =
+      let z = lt-leb (a .total + m) holePagesMax l in
+      let y = ap (λ v. v .pages) e in
+      record { book = rw z; top = rw z (ap (λ v. gainedBy v a) e ∙ lost-is b a m q); few = omega arith }
 
   pub look-in : StoreIn b a q m → LookIn b a q m
   look-in s = record { long = s .long; few = s .few; near = s .near }
@@ -173,11 +190,11 @@ module _ (b : List ℕ) (a : Arena) (m q : ℕ) where
   slot-in s = record { long = s .long; few = s .few; short = s .short; near = let z = s .near in omega arith }
 
   module _ (t : Neighbours) (e : t ≡ touching b a m q) where
-    pub gives-placed : (x : List ℕ) (r : Arena) → a .total + m ≤ holePagesMax → Places b a m q (t .before) (t .after) x r → Gives b a m q x r
+    pub gives-placed : (x : List ℕ) (g : Gain) → a .total + m ≤ holePagesMax → Places b a m q (t .before) (t .after) x g → Gives b a m q x g
     unfolding giveWords giveRecord
-    gives-placed x r l k =
+    gives-placed x g l k =
         let y = le-leb (a .total + m) holePagesMax l in
-        record { book = rw (y, ← e) (k .book); top = rw (y, ← e) (k .top) }
+        record { book = rw (y, ← e) (k .book); top = rw (y, ← e) (k .top); few = k .few }
 
     module _ (s : StoreIn b a q m) where
       HS : List Hole

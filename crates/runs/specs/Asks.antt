@@ -1,19 +1,18 @@
 -- What the steps of a commit ask of the book, the record and the plan.
 use Prim.Native.Nat.{ℕ, _+_, _-_, _≤_, _<_}
 use mathlib.Core.List.{List}
-use mathlib.Core.Bool.{Bool, true, false, cond}
+use mathlib.Core.Bool.{true}
 use mathlib.Core.Path.{_≡_}
 use lib.ListN.{length}
 use Rattle.words.specs.Limits.{maxPages, holeSlots, holePagesMax}
 use Rattle.facts.specs.Lists.{every}
-use Rattle.words.specs.Host.{commitGranted}
-use Rattle.fields.specs.Field.{arena, hole, pages, held, get, words}
+use Rattle.fields.specs.Field.{hole, pages, get, words}
 use Rattle.model.specs.declared.Hole.{Hole}
 use Rattle.holes.specs.declared.Arena.{Arena}
 use Rattle.runs.specs.declared.Request.{Request}
+use Rattle.runs.specs.declared.Back.{Back}
 use Rattle.arena.specs.Load.{loadHole, loadHoles}
-use Rattle.arena.specs.Fair.{recordFair, holeEndsFair, giveFair}
-use Rattle.arena.specs.Calls.{given}
+use Rattle.arena.specs.Fair.{holeEndsFair, giveFair}
 
 -- a record in its ranges, in an arena of n pages
 pub record RecordIn (n : ℕ) (a : Arena) : Type 0 where
@@ -43,15 +42,11 @@ pub record RequestIn (b : List ℕ) (q : Request) : Type 0 where
   pub fits : q .pages ≤ maxPages + 1
   pub owned : q .held ≤ maxPages
 
--- a run of a request's pages, drawn from the arena that a is the record of
-pub record RunIn (b : List ℕ) (a : Arena) (first : ℕ) (q : Request) : Type 0 where
+-- a run of a request's pages
+pub record RunIn (b : List ℕ) (first : ℕ) (q : Request) : Type 0 where
   pub long : words (first + q .pages) ≤ length b
   pub near : first + q .pages ≤ maxPages
-  pub short : a .total ≤ holePagesMax
-  pub few : a .count ≤ holeSlots
-  pub low : a .frontier ≤ maxPages
   pub owned : q .held ≤ maxPages
-  pub ends : commitGranted (q .host) ≡ false → EndsIn b a
 
 -- a run that may be given, in an arena of n pages
 pub record GiveIn (b : List ℕ) (n first m : ℕ) : Type 0 where
@@ -90,26 +85,12 @@ pub record StoredIn (b : List ℕ) (a : Arena) (i : ℕ) : Type 0 where
 abbrev pub TouchIn : List ℕ → Arena → ℕ → Type 0
 TouchIn b a code = (code ≡ 0 → ⊥) → StoredIn b a (code - 1)
 
--- the same with the record and HELD at hand
-pub record LoadedIn (b : List ℕ) (a : Arena) (d first m : ℕ) : Type 0 where
-  pub long : words (first + m) ≤ length b
-  pub near : first + m ≤ maxPages
-  pub store : StoreIn b a first m
-  pub owned : m ≤ d
+-- the same of a run that may be nobody's afterwards
+pub record BackIn (b : List ℕ) (a : Arena) (r : Back) : Type 0 where
+  pub long : words (r .first + r .pages) ≤ length b
+  pub store : StoreIn b a (r .first) (r .pages)
 
 -- the book of an arena of n pages
 pub record BookIn (b : List ℕ) (n : ℕ) : Type 0 where
   pub long : words n ≤ length b
   pub small : n ≤ maxPages
-
--- a run whose give is fair but for the holes, which were not looked at
-pub record TryIn (b : List ℕ) (n first m : ℕ) : Type 0 where
-  pub book : BookIn b n
-  pub inside : first + m ≤ n
-  pub fair : recordFair n b ≡ true
-  pub owned : m ≤ get b (arena held)
-
--- r says whether the give is fair, and x is the book after it
-pub record GivenIf (r : Bool) (x b : List ℕ) (n first m : ℕ) : Type 0 where
-  pub told : r ≡ giveFair n b m
-  pub book : x ≡ cond (giveFair n b m) (given b first m) b

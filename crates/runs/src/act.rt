@@ -1,4 +1,5 @@
 // A commit: the plan reads and tests, the act writes, and nothing fails in it any more.
+use super::Back;
 use super::Commit;
 use super::Request;
 use super::give;
@@ -7,109 +8,140 @@ use super::store;
 use holes::Arena;
 use holes::holes::hole_from;
 use holes::record;
+use holes::record::Draw;
 use model::Hole;
 use words::Host;
 ghost use mathlib.Core.Path.{_≡_};
 ghost use mathlib.Core.Bool.{false};
-ghost use Prim.Native.Nat.{_+_, _≤_};
+ghost use Prim.Native.Nat.{_+_, _≤_, _<_, _^_};
 ghost use lib.ListN.{length};
 ghost use Rattle.words.specs.Limits.{maxPages};
 ghost use Rattle.words.specs.Host.{commitGranted};
+ghost use Rattle.fields.specs.Field.{arena, held, put};
 ghost use Rattle.arena.specs.Load.{loadHole};
-ghost use Rattle.holes.specs.Act.{Draws, endRun, endGiven, fromFrontier, holeDrawn, commitDrawn, nextState, commitPlanned};
-ghost use Rattle.runs.specs.Asks.{RecordIn, HoleIn, PlanIn, EndsIn, RequestIn, RunIn};
+ghost use Rattle.arena.specs.Owners.{own};
+ghost use Rattle.holes.specs.Record.{storeRecord};
+ghost use Rattle.holes.specs.Change.{drawnBy};
+ghost use Rattle.holes.specs.Act.{withState, Draws, endNone, endGiven, fromFrontier, holeDrawn, commitDrawn, nextState, commitPlanned};
+ghost use Rattle.runs.specs.Asks.{RecordIn, HoleIn, PlanIn, EndsIn, RequestIn, RunIn, BackIn};
 ghost use Rattle.runs.specs.Answer.{Answers};
 
-// The front of hole `i`, which is `x`, is cut off, or the last hole comes into its place; the record afterwards is answered.
-fn draw(meta: &mut [u32], a: Arena, i: u32, x: Hole, pages: u32) -> Arena
+// No run: of the record only the state can change.
+fn end_none(meta: &mut [u32], a: Arena, state: u32)
+    requires { ⌜ 40000 ≤ length (now meta) ⌝ }
+    ensures { λ _. ⌜ now (meta .exit) ≡ endNone (now (meta .entry)) (withState state a) .book ⌝ }
+{
+    let d = Draw {
+        state,
+        count: a.count,
+        ahead: 0,
+        cut: 0,
+        commit: false,
+        reuse: false,
+    };
+    store::store_drawn(meta, a, d);
+}
+
+// The run is the owner's, and counts as held.
+fn end_run(meta: &mut [u32], a: Arena, d: Draw, first: u32, q: Request)
+    requires { ⌜ (a .frontier + d .ahead < 2 ^ 32) × (d .cut ≤ a .total) × RunIn (now meta) first q ⌝ }
+    ensures { λ _. ⌜ now (meta .exit) ≡ put (own (storeRecord (now (meta .entry)) (drawnBy d a)) first (q .pages) (q .owner)) (arena held) (q .held + q .pages) ⌝ }
+{
+    store::store_drawn(meta, a, d);
+    owners::own(meta, first, q.pages, q.owner);
+    fields::arena::set_held(meta, q.held + q.pages);
+}
+
+// The commit is not granted: the run is given.
+fn end_given(meta: &mut [u32], mut a: Arena, d: Draw, run: Back)
+    requires { ⌜ (a .frontier + d .ahead < 2 ^ 32) × (d .cut ≤ a .total) × BackIn (now meta) (drawnBy d a) run ⌝ }
+    ensures { λ _. ⌜ now (meta .exit) ≡ endGiven (now (meta .entry)) (drawnBy d a) (run .pages) (run .first) (run .clear) .book ⌝ }
+{
+    record::commit(&mut a, d);
+    give::give_run(meta, a, run);
+}
+
+// A run at the frontier is fresh; its pages are nobody's if it is given.
+pub fn from_frontier(meta: &mut [u32], a: Arena, state: u32, q: Request) -> Commit
+    requires { ⌜ RequestIn (now meta) q × RecordIn (q .size) a × (commitGranted (q .host) ≡ false → a .frontier + q .pages ≤ q .size → EndsIn (now meta) a) ⌝ }
+    ensures { λ r. ⌜ Answers r (now (meta .exit)) (fromFrontier (q .size) (now (meta .entry)) (withState state a) (q .pages) (q .host) (q .owner) (q .held)) ⌝ }
+{
+    if q.size < a.frontier + q.pages {
+        end_none(meta, a, state);
+        return Commit::Nothing;
+    }
+    let granted = Host::of(q.host).commit_granted();
+    let d = Draw {
+        state,
+        count: a.count,
+        ahead: q.pages,
+        cut: 0,
+        commit: granted,
+        reuse: false,
+    };
+    if granted {
+        end_run(meta, a, d, a.frontier, q);
+        return Commit::Run(a.frontier, true);
+    }
+    let run = Back {
+        first: a.frontier,
+        pages: q.pages,
+        clear: true,
+    };
+    end_given(meta, a, d, run);
+    Commit::Nothing
+}
+
+// The front of hole `i`, which is `x`, is cut off, or the last hole comes into its place; the number of holes afterwards is answered.
+fn draw(meta: &mut [u32], a: Arena, i: u32, x: Hole, pages: u32) -> u32
     requires { ⌜ (40000 ≤ length (now meta)) × RecordIn maxPages a × HoleIn a i x pages × (x ≡ loadHole (now meta) i) ⌝ }
     ensures { λ r. ⌜ Draws (now (meta .entry)) a pages i (now (meta .exit)) r ⌝ }
 {
     if pages < x.pages {
         store::store_hole(meta, i, x.first + pages, x.pages - pages);
-        return give::with_holes(a, a.count, a.total - pages);
+        return a.count;
     }
     let last = hole_from(meta, a.count - 1);
     store::store_hole(meta, i, last.first, last.pages);
-    give::with_holes(a, a.count - 1, a.total - pages)
+    a.count - 1
 }
 
-// The run is the owner's, and counts as held.
-fn end_run(meta: &mut [u32], a: Arena, first: u32, fresh: bool, q: Request)
-    requires { ⌜ RunIn (now meta) a first q ⌝ }
-    ensures { λ _. ⌜ now (meta .exit) ≡ endRun (now (meta .entry)) a (q .pages) first fresh (q .owner) (q .held) .book ⌝ }
-{
-    store::store_record(meta, record::counted_as(a, fresh));
-    owners::own(meta, first, q.pages, q.owner);
-    fields::arena::set_held(meta, q.held + q.pages);
-}
-
-// The commit is not granted: the run is given, and a fresh run's pages are nobody's.
-fn end_given(meta: &mut [u32], a: Arena, first: u32, fresh: bool, q: Request)
-    requires { ⌜ RunIn (now meta) a first q × EndsIn (now meta) a ⌝ }
-    ensures { λ _. ⌜ now (meta .exit) ≡ endGiven (now (meta .entry)) a (q .pages) first fresh .book ⌝ }
-{
-    let b = give::give_run(meta, a, first, q.pages);
-    store::store_record(meta, b);
-    if fresh {
-        owners::own(meta, first, q.pages, 0);
-    }
-}
-
-// The same record, made anew: the one that is handed over is in memory, and the other can stay in registers.
-fn anew(a: Arena) -> Arena
-    ensures { λ r. ⌜ r ≡ a ⌝ }
-{
-    Arena {
-        state: a.state,
-        frontier: a.frontier,
-        count: a.count,
-        total: a.total,
-        commits: a.commits,
-        reuses: a.reuses,
-        abandoned: a.abandoned,
-    }
-}
-
-pub fn from_frontier(meta: &mut [u32], a: Arena, q: Request) -> Commit
-    requires { ⌜ RequestIn (now meta) q × RecordIn (q .size) a × (commitGranted (q .host) ≡ false → a .frontier + q .pages ≤ q .size → EndsIn (now meta) a) ⌝ }
-    ensures { λ r. ⌜ Answers r (now (meta .exit)) (fromFrontier (q .size) (now (meta .entry)) a (q .pages) (q .host) (q .owner) (q .held)) ⌝ }
-{
-    let b = record::advanced_by(a, q.pages);
-    if q.size < b.frontier {
-        store::store_record(meta, a);
-        return Commit::Nothing;
-    }
-    if Host::of(q.host).commit_granted() {
-        end_run(meta, b, a.frontier, true, q);
-        return Commit::Run(a.frontier, true);
-    }
-    end_given(meta, anew(b), a.frontier, true, q);
-    Commit::Nothing
-}
-
-fn from_hole(meta: &mut [u32], a: Arena, i: u32, q: Request) -> Commit
+fn from_hole(meta: &mut [u32], a: Arena, state: u32, i: u32, q: Request) -> Commit
     requires { ⌜ RequestIn (now meta) q × RecordIn (q .size) a × HoleIn a i (loadHole (now meta) i) (q .pages) × EndsIn (now meta) a ⌝ }
-    ensures { λ r. ⌜ Answers r (now (meta .exit)) (holeDrawn (now (meta .entry)) a i (q .pages) (q .host) (q .owner) (q .held)) ⌝ }
+    ensures { λ r. ⌜ Answers r (now (meta .exit)) (holeDrawn (now (meta .entry)) (withState state a) i (q .pages) (q .host) (q .owner) (q .held)) ⌝ }
 {
     let x = hole_from(meta, i);
-    let b = draw(meta, a, i, x, q.pages);
-    if Host::of(q.host).commit_granted() {
-        end_run(meta, b, x.first, false, q);
+    let count = draw(meta, a, i, x, q.pages);
+    let granted = Host::of(q.host).commit_granted();
+    let d = Draw {
+        state,
+        count,
+        ahead: 0,
+        cut: q.pages,
+        commit: granted,
+        reuse: granted,
+    };
+    if granted {
+        end_run(meta, a, d, x.first, q);
         return Commit::Run(x.first, false);
     }
-    end_given(meta, anew(b), x.first, false, q);
+    let run = Back {
+        first: x.first,
+        pages: q.pages,
+        clear: false,
+    };
+    end_given(meta, a, d, run);
     Commit::Nothing
 }
 
-fn commit_drawn(meta: &mut [u32], a: Arena, code: u32, q: Request) -> Commit
+fn commit_drawn(meta: &mut [u32], a: Arena, state: u32, code: u32, q: Request) -> Commit
     requires { ⌜ RequestIn (now meta) q × RecordIn (q .size) a × PlanIn (now meta) a code (q .pages) × EndsIn (now meta) a ⌝ }
-    ensures { λ r. ⌜ Answers r (now (meta .exit)) (commitDrawn (q .size) (now (meta .entry)) a code (q .pages) (q .host) (q .owner) (q .held)) ⌝ }
+    ensures { λ r. ⌜ Answers r (now (meta .exit)) (commitDrawn (q .size) (now (meta .entry)) (withState state a) code (q .pages) (q .host) (q .owner) (q .held)) ⌝ }
 {
     if code == 0 {
-        return from_frontier(meta, a, q);
+        return from_frontier(meta, a, state, q);
     }
-    from_hole(meta, a, code - 1, q)
+    from_hole(meta, a, state, code - 1, q)
 }
 
 // The first commit asks for the reservation.
@@ -131,10 +163,9 @@ pub fn commit_planned(meta: &mut [u32], a: Arena, code: u32, q: Request) -> Comm
     ensures { λ r. ⌜ Answers r (now (meta .exit)) (commitPlanned (q .size) (now (meta .entry)) a code (q .pages) (q .host) (q .owner) (q .held)) ⌝ }
 {
     let s = next_state(a.state, q.host);
-    let b = give::with_state(a, s);
     if s == 2 {
-        store::store_record(meta, b);
+        end_none(meta, a, s);
         return Commit::Nothing;
     }
-    commit_drawn(meta, b, code, q)
+    commit_drawn(meta, a, s, code, q)
 }

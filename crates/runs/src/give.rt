@@ -1,4 +1,5 @@
 // A run goes to the holes, or is abandoned.
+use super::Back;
 use super::load;
 use super::owners;
 use super::store;
@@ -6,7 +7,7 @@ use holes::Arena;
 use holes::Neighbours;
 use holes::holes::Edges;
 use holes::plans;
-use holes::record;
+use holes::record::Gain;
 use words::limits::HOLE_PAGES_MAX;
 use words::limits::HOLE_SLOTS;
 ghost use mathlib.Core.Path.{_≡_};
@@ -17,70 +18,63 @@ ghost use Rattle.model.specs.HoleStore.{hole, withBefore, withAfter, withBoth};
 ghost use Rattle.arena.specs.Load.{loadHole};
 ghost use Rattle.arena.specs.Store.{storeHole};
 ghost use Rattle.arena.specs.Fair.{giveFair};
-ghost use Rattle.holes.specs.Record.{recordOf};
 ghost use Rattle.arena.specs.Calls.{given};
-ghost use Rattle.holes.specs.Act.{withHoles, withState, bothWords, Places, touching, Gives, givenWith};
-ghost use Rattle.runs.specs.Asks.{StoreIn, SlotIn, StoredIn, TouchIn, LookIn, GiveIn, LoadedIn, TryIn, GivenIf, BookIn};
+ghost use Rattle.holes.specs.Change.{gains, lost};
+ghost use Rattle.holes.specs.Act.{bothWords, Places, touching, Gives, endGiven};
+ghost use Rattle.runs.specs.Asks.{StoreIn, SlotIn, StoredIn, TouchIn, LookIn, GiveIn, BackIn};
 
-pub fn with_holes(a: Arena, count: u32, total: u32) -> Arena
-    ensures { λ r. ⌜ r ≡ withHoles count total a ⌝ }
+// The holes gain pages; the run is lost.
+fn gains(count: u32, pages: u32) -> Gain
+    ensures { λ r. ⌜ r ≡ gains count pages ⌝ }
 {
-    Arena {
-        state: a.state,
-        frontier: a.frontier,
+    Gain {
         count,
-        total,
-        commits: a.commits,
-        reuses: a.reuses,
-        abandoned: a.abandoned,
+        pages,
+        abandoned: false,
     }
 }
 
-pub fn with_state(a: Arena, state: u32) -> Arena
-    ensures { λ r. ⌜ r ≡ withState state a ⌝ }
+fn lost(count: u32) -> Gain
+    ensures { λ r. ⌜ r ≡ lost count ⌝ }
 {
-    Arena {
-        state,
-        frontier: a.frontier,
-        count: a.count,
-        total: a.total,
-        commits: a.commits,
-        reuses: a.reuses,
-        abandoned: a.abandoned,
+    Gain {
+        count,
+        pages: 0,
+        abandoned: true,
     }
 }
 
 // The run touches no hole: it gets the next slot, or is abandoned where none is free.
-fn append(meta: &mut [u32], a: Arena, first: u32, pages: u32) -> Arena
+fn append(meta: &mut [u32], a: Arena, first: u32, pages: u32) -> Gain
     requires { ⌜ SlotIn (now meta) a pages ⌝ }
     ensures { λ r. ⌜ Places (now (meta .entry)) a pages first 0 0 (now (meta .exit)) r ⌝ }
 {
     if HOLE_SLOTS <= a.count {
-        return record::abandoning(a);
+        return lost(a.count);
     }
     store::store_hole(meta, a.count, first, pages);
-    with_holes(a, a.count + 1, a.total + pages)
+    gains(a.count + 1, pages)
 }
 
 // Hole `i` ends where the run begins.
-fn join_before(meta: &mut [u32], a: Arena, i: u32, pages: u32) -> Arena
+fn join_before(meta: &mut [u32], a: Arena, i: u32, pages: u32) -> Gain
     requires { ⌜ SlotIn (now meta) a pages × StoredIn (now meta) a i ⌝ }
-    ensures { λ r. ⌜ (now (meta .exit) ≡ storeHole (now (meta .entry)) i (withBefore pages (loadHole (now (meta .entry)) i))) × (r ≡ withHoles (a .count) (a .total + pages) a) ⌝ }
+    ensures { λ r. ⌜ (now (meta .exit) ≡ storeHole (now (meta .entry)) i (withBefore pages (loadHole (now (meta .entry)) i))) × (r ≡ gains (a .count) pages) ⌝ }
 {
     let first = fields::hole::start(meta, i);
     let before = fields::hole::pages(meta, i);
     store::store_hole(meta, i, first, before + pages);
-    with_holes(a, a.count, a.total + pages)
+    gains(a.count, pages)
 }
 
 // Hole `j` begins where the run ends.
-fn join_after(meta: &mut [u32], a: Arena, j: u32, first: u32, pages: u32) -> Arena
+fn join_after(meta: &mut [u32], a: Arena, j: u32, first: u32, pages: u32) -> Gain
     requires { ⌜ SlotIn (now meta) a pages × StoredIn (now meta) a j ⌝ }
-    ensures { λ r. ⌜ (now (meta .exit) ≡ storeHole (now (meta .entry)) j (withAfter pages first (loadHole (now (meta .entry)) j))) × (r ≡ withHoles (a .count) (a .total + pages) a) ⌝ }
+    ensures { λ r. ⌜ (now (meta .exit) ≡ storeHole (now (meta .entry)) j (withAfter pages first (loadHole (now (meta .entry)) j))) × (r ≡ gains (a .count) pages) ⌝ }
 {
     let after = fields::hole::pages(meta, j);
     store::store_hole(meta, j, first, pages + after);
-    with_holes(a, a.count, a.total + pages)
+    gains(a.count, pages)
 }
 
 // The joined hole comes to `i`, and the last one to `j`.
@@ -107,19 +101,19 @@ fn put_both(meta: &mut [u32], a: Arena, i: u32, j: u32, first: u32, pages: u32)
 }
 
 // Hole `i` ends where the run begins, and hole `j` begins where it ends.
-fn join_both(meta: &mut [u32], a: Arena, i: u32, j: u32, pages: u32) -> Arena
+fn join_both(meta: &mut [u32], a: Arena, i: u32, j: u32, pages: u32) -> Gain
     requires { ⌜ SlotIn (now meta) a pages × StoredIn (now meta) a i × StoredIn (now meta) a j ⌝ }
-    ensures { λ r. ⌜ (now (meta .exit) ≡ bothWords (now (meta .entry)) a i j (withBoth pages (loadHole (now (meta .entry)) i) (loadHole (now (meta .entry)) j))) × (r ≡ withHoles (a .count - 1) (a .total + pages) a) ⌝ }
+    ensures { λ r. ⌜ (now (meta .exit) ≡ bothWords (now (meta .entry)) a i j (withBoth pages (loadHole (now (meta .entry)) i) (loadHole (now (meta .entry)) j))) × (r ≡ gains (a .count - 1) pages) ⌝ }
 {
     let first = fields::hole::start(meta, i);
     let before = fields::hole::pages(meta, i);
     let after = fields::hole::pages(meta, j);
     put_both(meta, a, i, j, first, before + pages + after);
-    with_holes(a, a.count - 1, a.total + pages)
+    gains(a.count - 1, pages)
 }
 
-// The holes are written, by the codes of those that the run touches; the record afterwards is answered.
-fn place(meta: &mut [u32], a: Arena, first: u32, pages: u32, before: u32, after: u32) -> Arena
+// The holes are written, by the codes of those that the run touches; what that comes to is answered.
+fn place(meta: &mut [u32], a: Arena, first: u32, pages: u32, before: u32, after: u32) -> Gain
     requires { ⌜ SlotIn (now meta) a pages × TouchIn (now meta) a before × TouchIn (now meta) a after ⌝ }
     ensures { λ r. ⌜ Places (now (meta .entry)) a pages first before after (now (meta .exit)) r ⌝ }
 {
@@ -154,34 +148,28 @@ fn look(meta: &[u32], a: Arena, first: u32, pages: u32) -> Neighbours
     plans::neighbours(meta, a, run)
 }
 
-// The run is stored by what was found, or abandoned; the record afterwards is answered.
-fn give_beside(meta: &mut [u32], a: Arena, first: u32, pages: u32, t: Neighbours) -> Arena
-    requires { ⌜ StoreIn (now meta) a first pages × (t ≡ touching (now meta) a pages first) ⌝ }
-    ensures { λ r. ⌜ Gives (now (meta .entry)) a pages first (now (meta .exit)) r ⌝ }
-{
-    if HOLE_PAGES_MAX < a.total + pages {
-        return record::abandoning(a);
-    }
-    place(meta, a, first, pages, t.before, t.after)
-}
-
-pub fn give_run(meta: &mut [u32], a: Arena, first: u32, pages: u32) -> Arena
+// The run is put among the holes, or abandoned.
+fn place_run(meta: &mut [u32], a: Arena, first: u32, pages: u32) -> Gain
     requires { ⌜ StoreIn (now meta) a first pages ⌝ }
     ensures { λ r. ⌜ Gives (now (meta .entry)) a pages first (now (meta .exit)) r ⌝ }
 {
+    if HOLE_PAGES_MAX < a.total + pages {
+        return lost(a.count);
+    }
     let t = look(meta, a, first, pages);
-    give_beside(meta, a, first, pages, t)
+    place(meta, a, first, pages, t.before, t.after)
 }
 
-// The record is written, the pages are nobody's, and they are no longer held.
-fn give_found(meta: &mut [u32], a: Arena, held: u32, first: u32, pages: u32, t: Neighbours)
-    requires { ⌜ LoadedIn (now meta) a held first pages × (t ≡ touching (now meta) a pages first) ⌝ }
-    ensures { λ _. ⌜ now (meta .exit) ≡ givenWith (now (meta .entry)) a held first pages ⌝ }
+// The holes, the record, and OWNER where it is to be written.
+pub fn give_run(meta: &mut [u32], a: Arena, run: Back)
+    requires { ⌜ BackIn (now meta) a run ⌝ }
+    ensures { λ _. ⌜ now (meta .exit) ≡ endGiven (now (meta .entry)) a (run .pages) (run .first) (run .clear) .book ⌝ }
 {
-    let b = give_beside(meta, a, first, pages, t);
-    store::store_record(meta, b);
-    owners::own(meta, first, pages, 0);
-    fields::arena::set_held(meta, held - pages);
+    let g = place_run(meta, a, run.first, run.pages);
+    store::store_gained(meta, a, g);
+    if run.clear {
+        owners::own(meta, run.first, run.pages, 0);
+    }
 }
 
 // Number 13's test for giving so many pages.
@@ -197,47 +185,18 @@ pub fn give_fair(meta: &[u32], size: u32, pages: u32) -> bool
     false
 }
 
-// A run below the frontier of an arena of `size` pages is given, where that is fair, by what was found among the holes.
-fn give_by(meta: &mut [u32], size: u32, a: Arena, first: u32, pages: u32, t: Neighbours)
-    requires { ⌜ GiveIn (now meta) size first pages × (a ≡ recordOf (now meta)) × (t ≡ touching (now meta) a pages first) ⌝ }
-    ensures { λ _. ⌜ now (meta .exit) ≡ given (now (meta .entry)) first pages ⌝ }
-{
-    let held = fields::arena::held(meta);
-    give_found(meta, a, held, first, pages, t);
-}
-
+// A run below the frontier of an arena of `size` pages is given, where that is fair; it is no longer held.
 pub fn give(meta: &mut [u32], size: u32, first: u32, pages: u32)
     requires { ⌜ GiveIn (now meta) size first pages ⌝ }
     ensures { λ _. ⌜ now (meta .exit) ≡ given (now (meta .entry)) first pages ⌝ }
 {
     let a = load::load_record(meta);
-    let t = look(meta, a, first, pages);
-    give_by(meta, size, a, first, pages, t);
-}
-
-// The same of a run whose holes were not tested: they are read once for both.
-fn give_looked(meta: &mut [u32], size: u32, first: u32, pages: u32) -> bool
-    requires { ⌜ TryIn (now meta) size first pages ⌝ }
-    ensures { λ r. ⌜ GivenIf r (now (meta .exit)) (now (meta .entry)) size first pages ⌝ }
-{
-    let a = load::load_record(meta);
-    let t = look(meta, a, first, pages);
-    if t.fair {
-        give_by(meta, size, a, first, pages, t);
-        return true;
-    }
-    false
-}
-
-// A run is given, or no word is changed where that is not fair.
-pub fn try_give(meta: &mut [u32], size: u32, first: u32, pages: u32) -> bool
-    requires { ⌜ BookIn (now meta) size × (first + pages ≤ size) ⌝ }
-    ensures { λ r. ⌜ GivenIf r (now (meta .exit)) (now (meta .entry)) size first pages ⌝ }
-{
-    if load::record_fair(meta, size) {
-        if pages <= fields::arena::held(meta) {
-            return give_looked(meta, size, first, pages);
-        }
-    }
-    false
+    let held = fields::arena::held(meta);
+    let run = Back {
+        first,
+        pages,
+        clear: true,
+    };
+    give_run(meta, a, run);
+    fields::arena::set_held(meta, held - pages);
 }

@@ -25,7 +25,7 @@ pub fn grow_run(meta: &mut [u32], a: Arena, end: u32, q: Request) -> Commit
         store::store_record(meta, a);
         return Commit::Nothing;
     }
-    act::from_frontier(meta, a, q)
+    act::from_frontier(meta, a, a.state, q)
 }
 
 // Are the added pages given: the run could grow, and the commit is not granted.

@@ -27,6 +27,13 @@ pub struct Request {
     pub held: u32,
 }
 
+// A run that goes to the holes, and whether its pages are to be nobody's: those of a hole are already.
+pub struct Back {
+    pub first: u32,
+    pub pages: u32,
+    pub clear: bool,
+}
+
 // What a commit answers: a refusal's number, the run's first page and whether it is fresh, or none.
 pub enum Commit {
     Refused(u32),

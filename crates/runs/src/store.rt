@@ -1,11 +1,15 @@
-// The record and a hole, written to the words.
+// The record and a hole, written to the words. The record is a local of the function that lends it, to be changed in place, and stores it.
 use holes::Arena;
+use holes::record;
+use holes::record::Draw;
+use holes::record::Gain;
 ghost use mathlib.Core.Path.{_≡_};
-ghost use Prim.Native.Nat.{_≤_, _<_};
+ghost use Prim.Native.Nat.{_+_, _≤_, _<_, _^_};
 ghost use lib.ListN.{length};
 ghost use Rattle.words.specs.Limits.{holeSlots};
 ghost use Rattle.model.specs.HoleStore.{hole};
 ghost use Rattle.arena.specs.Store.{storeHole, storeCounts, storeTop};
+ghost use Rattle.holes.specs.Change.{drawnBy, gainedBy};
 ghost use Rattle.holes.specs.Record.{storeRecord};
 
 fn store_counts(meta: &mut [u32], a: Arena)
@@ -33,6 +37,24 @@ pub fn store_record(meta: &mut [u32], a: Arena)
 {
     store_counts(meta, a);
     store_top(meta, a);
+}
+
+// A commit's record.
+pub fn store_drawn(meta: &mut [u32], mut a: Arena, d: Draw)
+    requires { ⌜ (40000 ≤ length (now meta)) × (a .frontier + d .ahead < 2 ^ 32) × (d .cut ≤ a .total) ⌝ }
+    ensures { λ _. ⌜ now (meta .exit) ≡ storeRecord (now (meta .entry)) (drawnBy d a) ⌝ }
+{
+    record::commit(&mut a, d);
+    store_record(meta, a);
+}
+
+// A give's.
+pub fn store_gained(meta: &mut [u32], mut a: Arena, g: Gain)
+    requires { ⌜ (40000 ≤ length (now meta)) × (a .total + g .pages < 2 ^ 32) ⌝ }
+    ensures { λ _. ⌜ now (meta .exit) ≡ storeRecord (now (meta .entry)) (gainedBy g a) ⌝ }
+{
+    record::give(&mut a, g);
+    store_record(meta, a);
 }
 
 pub fn store_hole(meta: &mut [u32], i: u32, first: u32, pages: u32)

@@ -7,4 +7,5 @@ pub commit-drawn-spec : {M : Type 1} → statement M
 commit-drawn-spec =
     tie.close
     (tie.spec
-    (λ c κs. (search needs, search needs, λ _ _. search needs)) (λ c. search needs) (λ c. search none-drawn) (λ c. search needs) (λ c κs. (search needs, search needs, search plan-hole, search needs)) (λ c. search needs) (λ c. search hole-drawn))
+    (λ c κs. (search needs, search needs, λ _ _. search needs)) (λ c. search needs) (λ c. search none-drawn) (λ c. search needs)
+    (λ c κs. (search needs, search needs, search plan-hole, search needs)) (λ c. search needs) (λ c. search hole-drawn))

@@ -1,11 +1,12 @@
 use borrow.Author.Needs.{needs}
 use Rattle.runs.proofs.act.from_hole.Statement.{statement}
 use Rattle.runs.proofs.act.from_hole.Tie as tie
-use Rattle.runs.proofs.ActSteps.{hole-in, hole-run, hole-granted, hole-given, run-anew, hole-ends}
+use Rattle.runs.proofs.ActSteps.{hole-in, hole-cut, hole-run, hole-back, hole-granted, hole-given}
 
 pub from-hole-spec : {M : Type 1} → statement M
 from-hole-spec =
     tie.close
     (tie.spec
-    (λ c κs. search needs) (λ c κs. (search needs, search needs, search hole-in, search needs)) (λ c κs. search needs) (λ c κs. search needs) (λ c κs. search hole-run) (λ c. search needs) (λ c. search hole-granted) (λ c κs. search needs)
-    (λ c κs. (search (run-anew, hole-run), search hole-ends)) (λ c. search needs) (λ c. search hole-given))
+    (λ c κs. search needs) (λ c κs. (search needs, search needs, search hole-in, search needs)) (λ c κs. search needs) (λ c κs. search needs)
+    (λ c κs. (search needs, search hole-cut, search hole-run)) (λ c. search needs) (λ c. search hole-granted)
+    (λ c κs. (search needs, search hole-cut, search hole-back)) (λ c. search needs) (λ c. search hole-given))

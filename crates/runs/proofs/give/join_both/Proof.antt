@@ -7,4 +7,4 @@ join-both-spec =
     tie.close
     (tie.spec
     (λ c κs. search needs) (λ c κs. search needs) (λ c κs. search needs) (λ c. search needs) (λ c. search needs) (λ c κs. search needs)
-    (λ c. search needs) (λ c. search needs) (λ c κs. search needs) (λ c. search needs) (λ c. (cc, search needs)))
+    (λ c. search needs) (λ c κs. search needs) (λ c. search needs) (λ c. (cc, search needs)))

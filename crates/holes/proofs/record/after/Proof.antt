@@ -1,9 +1,0 @@
-use borrow.Author.Needs.{needs}
-use Rattle.holes.proofs.record.after.Statement.{statement}
-use Rattle.holes.proofs.record.after.Tie as tie
-
-returns : tie.Need-returns
-returns c = cc
-
-pub after-spec : {M : Type 1} → statement M
-after-spec = tie.close (tie.spec (λ c. search needs) (λ c κs. search needs) (λ c κs. search needs) (λ c κs. search needs) returns)
