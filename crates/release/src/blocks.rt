@@ -1,9 +1,9 @@
 // Where a listed word's block is: its run, and its index there.
 ghost use mathlib.Core.Path.{_≡_};
-ghost use Prim.Native.Nat.{_<_};
+ghost use Prim.Native.Nat.{_+_, _%_, _^_, _<_};
 ghost use Rattle.classes.specs.Sound.{Sound};
 ghost use Rattle.fields.specs.Ranges.{maxPages};
-ghost use Rattle.words.specs.Word.{granuleOf};
+ghost use Rattle.words.specs.Word.{granuleOf, wordBits};
 ghost use Rattle.release.specs.Blocks.{blockAt, blockIn, runAt};
 ghost use Rattle.release.specs.Asks.{ClassAsks};
 ghost use Rattle.release.specs.MarkAsks.{Near};
@@ -18,6 +18,13 @@ fn granule_of(w: u64) -> u64
     ensures { λ r. ⌜ r ≡ granuleOf w ⌝ }
 {
     Word::of(w).granule()
+}
+
+// How far a word lies behind another, wrapped.
+pub fn behind(w: u64, first: u64) -> u64
+    ensures { λ r. ⌜ (r + first) % 2 ^ wordBits ≡ w ⌝ }
+{
+    Word::of(w).behind(Word::of(first))
 }
 
 // The index of the block of the run at q that the word is.
@@ -44,7 +51,7 @@ pub fn block_in(shape: Shape, q: u32, base: u64, span: u32, w: u64) -> Found
     requires { ⌜ Near shape q base span ⌝ }
     ensures { λ r. ⌜ r ≡ blockIn shape q w ⌝ }
 {
-    let x = std::num::wrapping_sub_u64(w, base);
+    let x = behind(w, base);
     if x >= span as u64 {
         return Found::Nothing;
     }

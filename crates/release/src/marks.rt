@@ -8,6 +8,7 @@ ghost use Rattle.pages.specs.Asks.{ClearAsks};
 ghost use Rattle.release.specs.Marks.{markAt, setMark, readyIn, noMarks, clearWords, flipWord, takeWord, takeMarks};
 ghost use Rattle.release.specs.MarkAsks.{FieldAsks, Near, MarkedBits, MarkedBlock, MarkedOne, MarkedIn, MarkedTo, Stretched, Reaches, Alone};
 use super::Found;
+use super::blocks::behind;
 use super::blocks::block_in;
 use classes::Shape;
 use stack::word_of;
@@ -247,7 +248,7 @@ fn alone(shape: Shape, q: u32, base: u64, span: u32, list: &[u64], i: usize) -> 
     ensures { λ r. ⌜ Alone r shape q (now (list .entry)) i ⌝ }
 {
     if i + 1 < list.len() {
-        return std::num::wrapping_sub_u64(list[i + 1], base) >= span as u64;
+        return behind(list[i + 1], base) >= span as u64;
     }
     true
 }

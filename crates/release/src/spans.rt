@@ -6,6 +6,7 @@ ghost use lib.Dec.{eqb};
 ghost use Rattle.facts.specs.Lists.{every};
 ghost use Rattle.classes.specs.Sound.{Sound};
 ghost use Rattle.release.specs.Spans.{stretchOf, inStretch, SpanOf, StretchWords, SpanAsks};
+use super::blocks::behind;
 use classes::Shape;
 use stack::word_of;
 
@@ -13,7 +14,7 @@ use stack::word_of;
 fn stretch_of(base: u64, w: u64) -> u64
     ensures { λ r. ⌜ r ≡ stretchOf base w ⌝ }
 {
-    std::num::wrapping_sub_u64(w, base) / 512
+    behind(w, base) / 512
 }
 
 // By which bits a word's stretch differs.
