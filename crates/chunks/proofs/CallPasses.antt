@@ -284,7 +284,7 @@ module _ (n : ℕ) (b : List ℕ) (c : ℕ) (sh : Shape) (ws gs : List ℕ) (a :
 
         module _ (x : u ≡ true) where
           pub clear-next : BitsAsks n b′ sh ws
-          clear-next = rw (k .left) (record { sound = a .call .class .sound; few = a .call .class .few; long = a .call .class .long; bits = bits })
+          clear-next = rw (k .left) (record { sound = a .call .class .sound; few = a .call .class .few; long = a .call .class .long; bits = bits; blocks = own-blocks ws (a .out) })
 
           pub taken : (d : List ℕ) → d ≡ cleared b′ sh ws → TakenBy 0 d (passFault n b c sh ws gs) b sh ws
           unfolding passFault

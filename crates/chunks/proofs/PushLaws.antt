@@ -170,6 +170,10 @@ module _ (n : ℕ) (b : List ℕ) (sh : Shape) (w : ℕ) (a : BitsAsks n b sh (w
   pub take-index : (q : ℕ) → q ≡ pageAt w → IndexAsks sh q w
   take-index q e = record { sound = a .sound; below = omega (arith, page-low, a .few); bit = rw e has-index }
 
+  pub take-own : (q : ℕ) → q ≡ pageAt w → isBlock sh q w ≡ true
+  unfolding ownBlock
+  take-own q e = rw e (and-left (ownBlock sh w) true (a .blocks))
+
   module _ (q : ℕ) (e : q ≡ pageAt w) (k : ℕ) (f : k ≡ indexOf sh q w) where
     index-low : indexOf sh (pageAt w) w < 4096
     index-low = ltb-true (indexOf sh (pageAt w) w) 4096 has-index
@@ -194,7 +198,7 @@ module _ (n : ℕ) (b₀ : List ℕ) (sh : Shape) (ws : List ℕ) where
 
   module _ (b : List ℕ) (i : ℕ) (v : Clearing b i) (l : i < length ws) where
     pub clearing-asks : BitsAsks n b₀ sh ws → BitsAsks n b sh (getD ws i 0 ∷ [])
-    clearing-asks a = record { sound = a .sound; few = a .few; long = rw (v .long) (a .long); bits = rw (every-get (hasBit n sh) ws i (a .bits) l) }
+    clearing-asks a = record { sound = a .sound; few = a .few; long = rw (v .long) (a .long); bits = rw (every-get (hasBit n sh) ws i (a .bits) l); blocks = rw (every-get (ownBlock sh) ws i (a .blocks) l) }
 
     pub clearing-more : (b′ : List ℕ) → b′ ≡ put b (out (pageAt (getD ws i 0)) (indexOf sh (pageAt (getD ws i 0)) (getD ws i 0))) 0 → Clearing b′ (i + 1)
     unfolding cleared

@@ -24,7 +24,6 @@ use Rattle.fields.proofs.Laws.{get-put-same, put-comm, put-put-same, put-get, l
 use Rattle.pages.specs.Asks.{IndexAsks}
 use Rattle.pages.specs.Stack.{blocksFrom, indexOf, isBlock, pageAt, push}
 use Rattle.pages.proofs.Pushes.{length-push}
-use Rattle.stack.specs.Inverse.{inverse}
 use Rattle.tally.specs.Match.{wordsOn}
 use Rattle.chunks.specs.Pass.{pushOne, pushAll}
 use Rattle.chunks.specs.PushAsks.{ownBlock, onPage, inReach, PushOneAsks, PushAllAsks, SpotAsks, TwoAsks, TwoOn, NearAsks, RunAsks, LastAsks, LaidFrom, LaidFirst, LaidSome, PushedFrom}
@@ -134,7 +133,7 @@ push-append b q t (i ∷ is) js =
     let e : t + length js + length is ≡ t + length (is ++ js) = omega (arith, length-append is js) in
     rw (push-append b q t is js, e)
 
-module _ (b : List ℕ) (sh : Shape) (m q t : ℕ) (ws : List ℕ) (a : NearAsks b sh m q t ws) where
+module _ (b : List ℕ) (sh : Shape) (q t : ℕ) (ws : List ℕ) (a : NearAsks b sh q t ws) where
   index-at : (k : ℕ) → k < length ws → pageAt (getD ws k 0) ≡ q → IndexAsks sh q (getD ws k 0)
   index-at k l e = near-index sh q (getD ws k 0) (a .sound) (a .below) e
 
@@ -219,7 +218,7 @@ module _ (b₀ : List ℕ) (sh : Shape) (q x : ℕ) (ws : List ℕ) where
     pub near-done : LaidFrom i b b₀ sh q (2 * x) ws
     near-done = record { within = v .within; on = v .on; laid = v .laid }
 
-    module _ (m : ℕ) (a : NearAsks b₀ sh m q (2 * x) ws) where
+    module _ (a : NearAsks b₀ sh q (2 * x) ws) where
       pub two-asks : 1 < i → TwoAsks ws i
       two-asks h = record { two = omega arith; within = v .within; reach = a .reach }
 
@@ -231,19 +230,19 @@ module _ (b₀ : List ℕ) (sh : Shape) (q x : ℕ) (ws : List ℕ) where
         up = omega (arith, o .two)
 
         pub low-index : IndexAsks sh q (getD ws (i - 2 + 1) 0)
-        low-index = index-at b₀ sh m q (2 * x) ws a (i - 2 + 1) (omega (arith, o .two, v .within)) (rw up (o .last))
+        low-index = index-at b₀ sh q (2 * x) ws a (i - 2 + 1) (omega (arith, o .two, v .within)) (rw up (o .last))
 
         pub low-block : isBlock sh q (getD ws (i - 2 + 1) 0) ≡ true
-        low-block = block-at b₀ sh m q (2 * x) ws a (i - 2 + 1) (omega (arith, o .two, v .within)) (rw up (o .last))
+        low-block = block-at b₀ sh q (2 * x) ws a (i - 2 + 1) (omega (arith, o .two, v .within)) (rw up (o .last))
 
         pub high-index : IndexAsks sh q (getD ws (i - 2) 0)
-        high-index = index-at b₀ sh m q (2 * x) ws a (i - 2) (omega (arith, o .two, v .within)) (o .next)
+        high-index = index-at b₀ sh q (2 * x) ws a (i - 2) (omega (arith, o .two, v .within)) (o .next)
 
         pub high-block : isBlock sh q (getD ws (i - 2) 0) ≡ true
-        high-block = block-at b₀ sh m q (2 * x) ws a (i - 2) (omega (arith, o .two, v .within)) (o .next)
+        high-block = block-at b₀ sh q (2 * x) ws a (i - 2) (omega (arith, o .two, v .within)) (o .next)
 
         more-on : every (onPage q) (drop (i - 2) ws) ≡ true
-        more-on = on-two b₀ sh m q (2 * x) ws a i (v .within) o (v .on)
+        more-on = on-two b₀ sh q (2 * x) ws a i (v .within) o (v .on)
 
         low : 2 * s + 2 ≤ 4096
         low = omega (arith, a .room (i - 2) (omega (arith, v .within)) more-on, v .height, v .within, o .two)
@@ -271,16 +270,15 @@ module _ (b₀ : List ℕ) (sh : Shape) (q x : ℕ) (ws : List ℕ) where
             }
 
 -- ---- lay_run
-module _ (b : List ℕ) (sh : Shape) (m q t : ℕ) (ws : List ℕ) (a : NearAsks b sh m q t ws) (n : ℕ) (b₁ : List ℕ) (f : LaidFirst n b₁ b sh q t ws) where
+module _ (b : List ℕ) (sh : Shape) (q t : ℕ) (ws : List ℕ) (a : NearAsks b sh q t ws) (n : ℕ) (b₁ : List ℕ) (f : LaidFirst n b₁ b sh q t ws) where
   pub shorter : length (take n ws) ≡ n
   shorter = length-take-le n ws (f .from .within)
 
-  pub rest-asks : NearAsks b₁ sh m q (2 * (t / 2 + 1)) (take n ws)
+  pub rest-asks : NearAsks b₁ sh q (2 * (t / 2 + 1)) (take n ws)
   rest-asks = record {
     sound = a .sound;
     below = a .below;
     there = omega (arith, a .there, ap length (f .from .laid), length-push b q t (map (indexOf sh q) (drop n ws)));
-    by = a .by;
     reach = every-take inReach n ws (a .reach);
     blocks = every-take (ownBlock sh) n ws (a .blocks);
     room = λ k l e.
@@ -341,7 +339,7 @@ module _ (b : List ℕ) (sh : Shape) (q : ℕ) (there : words (q + 1) ≤ length
 every-reach : (b : List ℕ) (sh : Shape) (ws : List ℕ) → PushAllAsks b sh ws → every inReach ws ≡ true
 every-reach b sh ws a = every-made inReach ws (λ k l. lt-ltb (pageAt (getD ws k 0)) maxPages (a .below (pageAt (getD ws k 0)) (words-some ws k l)))
 
-module _ (b : List ℕ) (sh : Shape) (m q : ℕ) (ws : List ℕ) (a : RunAsks b sh m q ws) where
+module _ (b : List ℕ) (sh : Shape) (q : ℕ) (ws : List ℕ) (a : RunAsks b sh q ws) where
   on-some : 1 ≤ wordsOn ws q
   on-some = rw (← (a .on .last)) (words-some ws (length ws - 1) (omega (arith, a .on .two)))
 
@@ -361,12 +359,11 @@ module _ (b : List ℕ) (sh : Shape) (m q : ℕ) (ws : List ℕ) (a : RunAsks b 
   run-two = a .on
 
   module _ (t : ℕ) (e : t ≡ get b (page free q)) where
-    pub near-asks : NearAsks b sh m q t ws
+    pub near-asks : NearAsks b sh q t ws
     near-asks = record {
       sound = a .all .sound;
       below = run-below;
       there = run-there;
-      by = a .by;
       reach = every-reach b sh ws (a .all);
       blocks = a .blocks;
       room = rw e run-room;
@@ -398,7 +395,7 @@ module _ (b : List ℕ) (sh : Shape) (m q : ℕ) (ws : List ℕ) (a : RunAsks b 
           }
 
 -- ---- push_last
-module _ (b : List ℕ) (sh : Shape) (m : ℕ) (ws : List ℕ) (a : LastAsks b sh m ws) where
+module _ (b : List ℕ) (sh : Shape) (ws : List ℕ) (a : LastAsks b sh ws) where
   pub all-reach : every inReach ws ≡ true
   all-reach = every-reach b sh ws (a .all)
 
@@ -425,10 +422,10 @@ module _ (b : List ℕ) (sh : Shape) (m : ℕ) (ws : List ℕ) (a : LastAsks b s
     last-done b′ e =
         rw kl (record { some = omega (arith, a .some); left = e ∙ (rw kl (ap (pushAll b sh) (sym (drop-last ws (a .some))))) })
 
-  pub run-asks : (q : ℕ) (u : Bool) → (u ≡ true → TwoOn q ws (length ws)) → u ≡ true → RunAsks b sh m q ws
-  run-asks q u o e = record { all = a .all; blocks = a .blocks; by = a .by; on = o e }
+  pub run-asks : (q : ℕ) (u : Bool) → (u ≡ true → TwoOn q ws (length ws)) → u ≡ true → RunAsks b sh q ws
+  run-asks q u o e = record { all = a .all; blocks = a .blocks; on = o e }
 
--- ---- push_with
+-- ---- push_blocks
 push-parts : (b : List ℕ) (sh : Shape) (xs ys : List ℕ) → pushAll (pushAll b sh ys) sh xs ≡ pushAll b sh (xs ++ ys)
 unfolding pushAll
 push-parts b sh [] ys = refl
@@ -441,8 +438,8 @@ module _ (b₀ : List ℕ) (sh : Shape) (ws b : List ℕ) (i : ℕ) (h : i ≡ 0
   on-parts : (q : ℕ) → wordsOn ws q ≡ wordsOn (take i ws) q + wordsOn (drop i ws) q
   on-parts q = ap (λ z. wordsOn z q) (sym (take-append-drop i ws)) ∙ words-parts (take i ws) (drop i ws) q
 
-  pub with-asks : PushAllAsks b₀ sh ws → every (ownBlock sh) ws ≡ true → (m : ℕ) → m ≡ inverse (sh .block) → LastAsks b sh m (take i ws)
-  with-asks a o m e = record {
+  pub with-asks : PushAllAsks b₀ sh ws → every (ownBlock sh) ws ≡ true → LastAsks b sh (take i ws)
+  with-asks a o = record {
     all = record {
       sound = a .sound;
       below = λ q l. a .below q (omega (arith, on-parts q));
@@ -450,7 +447,6 @@ module _ (b₀ : List ℕ) (sh : Shape) (ws b : List ℕ) (i : ℕ) (h : i ≡ 0
       slots = λ q l. rw (v .laid, push-free b₀ sh (drop i ws) (asks-drop b₀ sh i ws a) q) (omega (arith, a .slots q (omega (arith, on-parts q)), on-parts q));
     };
     blocks = every-take (ownBlock sh) i ws o;
-    by = e;
     some = omega (arith, first-long, h);
   }
 

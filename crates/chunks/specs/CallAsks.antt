@@ -79,6 +79,7 @@ pub record BitsAsks (n : ℕ) (b : List ℕ) (sh : Shape) (ws : List ℕ) : Type
   pub few : n ≤ maxPages
   pub long : words n ≤ length b
   pub bits : every (hasBit n sh) ws ≡ true
+  pub blocks : every (ownBlock sh) ws ≡ true
 
 -- and numbers 11 and 13
 pub record SettleAsks (n : ℕ) (b : List ℕ) (c : ℕ) (sh : Shape) (h : ℕ) (ws gs fs : List ℕ) : Type 0 where

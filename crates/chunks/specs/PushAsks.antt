@@ -13,7 +13,6 @@ use Rattle.classes.specs.Sound.{Sound}
 use Rattle.fields.specs.Field.{page, free, words, get}
 use Rattle.fields.specs.Ranges.{maxPages}
 use Rattle.pages.specs.Stack.{indexOf, isBlock, pageAt, pageSlots, push}
-use Rattle.stack.specs.Inverse.{inverse}
 use Rattle.tally.specs.Match.{wordsOn}
 use Rattle.chunks.specs.Pass.{pushAll}
 
@@ -57,28 +56,25 @@ pub record TwoOn (q : ℕ) (ws : List ℕ) (i : ℕ) : Type 0 where
   pub last : pageAt (getD ws (i - 1) 0) ≡ q
   pub next : pageAt (getD ws (i - 2) 0) ≡ q
 
--- the list's last words that lie on page q are laid on its stack of t entries; m is the inverse of the block's granules
-pub record NearAsks (b : List ℕ) (sh : Shape) (m q t : ℕ) (ws : List ℕ) : Type 0 where
+-- the list's last words that lie on page q are laid on its stack of t entries
+pub record NearAsks (b : List ℕ) (sh : Shape) (q t : ℕ) (ws : List ℕ) : Type 0 where
   pub sound : Sound sh
   pub below : q < maxPages
   pub there : words (q + 1) ≤ length b
-  pub by : m ≡ inverse (sh .block)
   pub reach : every inReach ws ≡ true
   pub blocks : every (ownBlock sh) ws ≡ true
   pub room : (k : ℕ) → k ≤ length ws → every (onPage q) (drop k ws) ≡ true → t + (length ws - k) ≤ pageSlots
 
 -- pushed, with FREE
-pub record RunAsks (b : List ℕ) (sh : Shape) (m q : ℕ) (ws : List ℕ) : Type 0 where
+pub record RunAsks (b : List ℕ) (sh : Shape) (q : ℕ) (ws : List ℕ) : Type 0 where
   pub all : PushAllAsks b sh ws
   pub blocks : every (ownBlock sh) ws ≡ true
-  pub by : m ≡ inverse (sh .block)
   pub on : TwoOn q ws (length ws)
 
 -- a list that is not empty
-pub record LastAsks (b : List ℕ) (sh : Shape) (m : ℕ) (ws : List ℕ) : Type 0 where
+pub record LastAsks (b : List ℕ) (sh : Shape) (ws : List ℕ) : Type 0 where
   pub all : PushAllAsks b sh ws
   pub blocks : every (ownBlock sh) ws ≡ true
-  pub by : m ≡ inverse (sh .block)
   pub some : 1 ≤ length ws
 
 -- the words from place r on lie on page q and were laid on its stack; FREE is as it was

@@ -1,18 +1,20 @@
--- From a class near a size to its first fit, and from an entry of the table of steps.
-use Prim.Native.Nat.{ℕ, zero, suc, _+_, _-_, _*_, _/_, _%_, _≤_, _<_, min, zero-le, suc-le-suc}
+-- From a class near a size to its first fit.
+use Prim.Native.Nat.{ℕ, zero, suc, _+_, _-_, _*_, _/_, _≤_, _<_, min, zero-le, suc-le-suc}
 use mathlib.Core.Path.{_≡_, refl, sym, ap, _∙_}
 use mathlib.Core.Bool.{Bool, true, false, cond, _||_, false≢true}
 use mathlib.Core.List.{List, [], _∷_}
 use mathlib.Core.Logic.{by-cases}
 use native.Mathlib.Decide.{decLe}
+use native.Mathlib.Numerals.{add-one}
 use native.Mathlib.Omega.{arith}
-use lib.Dec.{leb, ltb, eqb}
-use lib.ListN.{length, getD}
-use borrow.Author.Tests.{leb-true, leb-false, le-leb, lt-leb, ltb-true, eqb-true}
+use lib.Dec.{leb, ltb}
+use lib.ListN.{getD}
+use borrow.Author.Tests.{leb-true, leb-false, le-leb, lt-leb, ltb-true}
 use Rattle.facts.proofs.Bools.{and-left, and-right}
 use Rattle.classes.specs.Sizes.{smallSizes, mediumSizes, maxSmallSize, maxMediumSize}
 use Rattle.classes.specs.Lookup.{firstFit}
-use Rattle.classes.specs.Near.{near, Near, familySizes, stepOf, lastStep, isEntry, entered, Sums}
+use Rattle.classes.specs.Near.{near, Near, stepOf, lastStep, entered}
+use Rattle.classes.proofs.Table.{getD-within}
 
 head-fits : (size : ℕ) (xs : List ℕ) → size ≤ getD xs 0 0 → firstFit size xs ≡ 0
 unfolding firstFit
@@ -40,44 +42,6 @@ near-fit low high size (suc r) (x ∷ xs) t l h =
     let rest = near-fit low high size r xs (and-right (ltb x low) (near low high r xs) t) l h in
     record { within = suc-le-suc (rest .within); fit = rw (lt-leb size x (omega arith)) (ap suc (rest .fit) ∙ suc-cond (leb size (getD xs r 0)) r (suc r)) }
 
--- the low 16 bits of the sum run over exactly if the block of the class near is too short
-carried : (size entry bytes : ℕ) (b : Bool) → leb size bytes ≡ b → entry % 65536 + bytes ≡ 65535 → size ≤ maxMediumSize
-    → (entry + size) / 65536 ≡ cond b (entry / 65536) (suc (entry / 65536))
-carried size entry bytes true t e h = omega (arith, leb-true size bytes t)
-carried size entry bytes false t e h = omega (arith, leb-false size bytes t)
-
-module _ (low high size entry : ℕ) (xs : List ℕ) (t : isEntry low high entry xs ≡ true) (l : low ≤ size) (h : size ≤ high) where
-  near-entry : Near size (entry / 65536) xs
-  unfolding isEntry
-  near-entry = near-fit low high size (entry / 65536) xs (and-left (near low high (entry / 65536) xs) (eqb (entry % 65536 + getD xs (entry / 65536) 0) 65535) t) l h
-
-  entry-within : entry / 65536 < length xs
-  entry-within = near-entry .within
-
-  entry-fit : size ≤ maxMediumSize → (entry + size) / 65536 ≡ firstFit size xs
-  unfolding isEntry
-  entry-fit m =
-      let bytes = getD xs (entry / 65536) 0 in
-      carried size entry bytes (leb size bytes) refl (eqb-true (entry % 65536 + bytes) 65535 (and-right (near low high (entry / 65536) xs) (eqb (entry % 65536 + bytes) 65535) t)) m ∙ sym (near-entry .fit)
-
-pub family-small : (size : ℕ) → size ≤ maxSmallSize → familySizes size ≡ smallSizes
-unfolding familySizes
-family-small size h = rw (le-leb size maxSmallSize h)
-
-pub family-medium : (size : ℕ) → maxSmallSize < size → familySizes size ≡ mediumSizes
-unfolding familySizes
-family-medium size h = rw (lt-leb size maxSmallSize h)
-
-of-small : (low high size entry : ℕ) → isEntry low high entry smallSizes ≡ true → low ≤ size → size ≤ high → size ≤ maxSmallSize → Sums size entry
-unfolding smallSizes
-of-small low high size entry t l h m =
-    record { short = omega (arith, entry-within low high size entry smallSizes t l h); fit = rw (family-small size m) (entry-fit low high size entry smallSizes t l h (omega arith)) }
-
-of-medium : (low high size entry : ℕ) → isEntry low high entry mediumSizes ≡ true → low ≤ size → size ≤ high → maxSmallSize < size → size ≤ maxMediumSize → Sums size entry
-unfolding mediumSizes
-of-medium low high size entry t l h s m =
-    record { short = omega (arith, entry-within low high size entry mediumSizes t l h); fit = rw (family-medium size s) (entry-fit low high size entry mediumSizes t l h m) }
-
 pub step-of-32 : (size step : ℕ) → size ≤ 4096 → step ≡ (size + 31) / 32 → step ≡ stepOf size
 unfolding stepOf
 step-of-32 size step h e = rw (le-leb size 4096 h) e
@@ -93,18 +57,49 @@ step-within size m =
     (λ h. omega (arith, step-of-32 size _ h refl))
     (λ n. omega (arith, step-of-512 size _ (omega arith) refl))
 
--- the entry of a size's step serves the size
-entry-sums : (size entry : ℕ) → entered (stepOf size) entry ≡ true → size ≤ maxMediumSize → Sums size entry
-unfolding entered stepOf
-entry-sums size entry t m =
-    by-cases (decLe size 4096)
-    (λ h. let step = (size + 31) / 32 in
-    of-small (32 * step - 31) (32 * step) size entry (rw (le-leb size 4096 h, le-leb step 128 (omega arith)) at t) (omega arith) (omega arith) (omega arith))
-    (λ n. let step = (size + 61951) / 512 in
-    let t′ = rw (lt-leb size 4096 (omega arith), lt-leb step 128 (omega arith)) at t in
-    by-cases (decLe size maxSmallSize)
-    (λ h. of-small (512 * step - 61951) (512 * step - 61440) size entry (rw (le-leb step 152 (omega arith)) at t′) (omega arith) (omega arith) h)
-    (λ s. of-medium (512 * step - 61951) (min (512 * step - 61440) maxMediumSize) size entry (rw (lt-leb step 152 (omega arith)) at t′) (omega arith) (omega arith) (omega arith) m))
+-- the entry of a size's step is near the size
+module _ (size class : ℕ) (t : entered (stepOf size) class ≡ true) where
+  small-near : size ≤ maxSmallSize → Near size class smallSizes
+  unfolding entered stepOf
+  small-near h =
+      by-cases (decLe size 4096)
+      (λ s. let step = (size + 31) / 32 in
+      near-fit (32 * step - 31) (32 * step) size class smallSizes (rw (le-leb size 4096 s, le-leb step 128 (omega arith)) at t) (omega arith) (omega arith))
+      (λ n. let step = (size + 61951) / 512 in
+      near-fit (512 * step - 61951) (512 * step - 61440) size class smallSizes
+      (rw (lt-leb size 4096 (omega arith), lt-leb step 128 (omega arith), le-leb step 152 (omega arith)) at t) (omega arith) (omega arith))
 
-pub step-sums : (size step entry : ℕ) → step ≡ stepOf size → entered step entry ≡ true → size ≤ maxMediumSize → Sums size entry
-step-sums size step entry e t m = entry-sums size entry (rw e at t) m
+  medium-near : maxSmallSize < size → size ≤ maxMediumSize → Near size class mediumSizes
+  unfolding entered stepOf
+  medium-near l h =
+      let step = (size + 61951) / 512 in
+      near-fit (512 * step - 61951) (min (512 * step - 61440) maxMediumSize) size class mediumSizes
+      (rw (lt-leb size 4096 (omega arith), lt-leb step 128 (omega arith), lt-leb step 152 (omega arith)) at t) (omega arith) (omega arith)
+
+-- ---- what the code asks
+module _ (size step class : ℕ) (e : step ≡ stepOf size) (t : entered step class ≡ true) where
+  near-step : entered (stepOf size) class ≡ true
+  near-step = rw e at t
+
+  small-within : size ≤ maxSmallSize → class < 64
+  unfolding smallSizes
+  small-within h = small-near size class near-step h .within
+
+  medium-within : maxSmallSize < size → size ≤ maxMediumSize → class < 12
+  unfolding mediumSizes
+  medium-within l h = medium-near size class near-step l h .within
+
+  pub class-low : size ≤ maxMediumSize → class < 64
+  class-low h = by-cases (decLe size maxSmallSize) (λ s. small-within s) (λ n. omega (arith, medium-within (omega arith) h))
+
+  pub small-fit : (bytes r : ℕ) → bytes ≡ getD smallSizes class 16384 → r ≡ cond (leb size bytes) class (class + 1) → size ≤ maxSmallSize → r ≡ firstFit size smallSizes
+  unfolding smallSizes
+  small-fit bytes r b f h =
+      let z = b ∙ getD-within smallSizes 16384 0 class (small-within h) in
+      f ∙ rw (z, add-one) (sym (small-near size class near-step h .fit))
+
+  pub medium-fit : (bytes r : ℕ) → bytes ≡ getD mediumSizes class 65472 → r ≡ cond (leb size bytes) class (class + 1) → maxSmallSize < size → size ≤ maxMediumSize → r ≡ firstFit size mediumSizes
+  unfolding mediumSizes
+  medium-fit bytes r b f l h =
+      let z = b ∙ getD-within mediumSizes 65472 0 class (medium-within l h) in
+      f ∙ rw (z, add-one) (sym (medium-near size class near-step l h .fit))

@@ -1,14 +1,18 @@
 -- Every class's shape is sound: one computed test over each of the two size tables.
-use Prim.Native.Nat.{ℕ, _+_, _-_, _*_, _≤_}
+use Prim.Native.Nat.{ℕ, _+_, _-_, _*_, _/_, _^_, _≤_, _<_}
+use native.Mathlib.Omega.{arith}
+use native.Mathlib.Nat.{div-le-self}
+use mir.Val.{Fits}
+use mir.Syntax.{w64}
 use mathlib.Core.Path.{_≡_, refl}
 use mathlib.Core.Bool.{Bool, true, false, cond, _&&_}
-use lib.Dec.{leb, ltb}
-use borrow.Author.Tests.{leb-true}
+use lib.Dec.{leb, ltb, eqb}
+use borrow.Author.Tests.{leb-true, eqb-true, lt-ltb, le-ltb}
 use lib.ListN.{getD}
 use Rattle.facts.proofs.Bools.{and-left, and-right}
 use Rattle.classes.specs.declared.Shape.{Shape}
-use Rattle.classes.specs.Sizes.{smallSizes, mediumSizes}
-use Rattle.classes.specs.Shape.{smallShape, mediumShape, shapeOf}
+use Rattle.classes.specs.Sizes.{smallSizes, mediumSizes, pageBytes, smallCapacity, spanPages, spanCapacity}
+use Rattle.classes.specs.Shape.{inverse, smallOf, mediumOf, smallShape, mediumShape, shapeOf}
 use Rattle.classes.specs.Sound.{Sound}
 use Rattle.classes.proofs.Table.{every-at}
 
@@ -16,7 +20,7 @@ abbrev within : ℕ → ℕ → ℕ → Bool
 within low n high = leb low n && leb n high
 
 abbrev sound : Shape → Bool
-sound s = within 1 (s .kind) 2 && (leb 1 (s .block) && (leb 1 (s .header) && (within 1 (s .pages) 8 && (within 1 (s .capacity) 4096 && (within 1 (s .batch) 64 && leb (s .header + s .capacity * s .block) (4096 * s .pages))))))
+sound s = within 1 (s .kind) 2 && (leb 1 (s .block) && (leb 1 (s .header) && (within 1 (s .pages) 8 && (within 1 (s .capacity) 4096 && (within 1 (s .batch) 64 && (leb (s .header + s .capacity * s .block) (4096 * s .pages) && eqb (s .inverse) (inverse (s .block))))))))
 
 is-sound : (s : Shape) → sound s ≡ true → Sound s
 is-sound s t = record {
@@ -31,6 +35,7 @@ is-sound s t = record {
   gives = leb-true 1 (s .batch) (search (and-left, and-right) depth 9);
   limited = leb-true (s .batch) 64 (search (and-left, and-right) depth 9);
   fits = leb-true (s .header + s .capacity * s .block) (4096 * s .pages) (search (and-left, and-right) depth 9);
+  inverts = eqb-true (s .inverse) (inverse (s .block)) (search (and-left, and-right) depth 9);
 }
 
 true-cond : {A : Type 0} (t : A → Bool) (b : Bool) (x y : A) → t x ≡ true → t y ≡ true → t (cond b x y) ≡ true
@@ -38,11 +43,11 @@ true-cond t true x y p q = p
 true-cond t false x y p q = q
 
 small-sound : (c : ℕ) → sound (smallShape (getD smallSizes c 16384)) ≡ true
-unfolding smallShape smallSizes
+unfolding inverse smallShape smallSizes
 small-sound c = every-at (λ size. sound (smallShape size)) smallSizes 16384 c refl refl
 
 medium-sound : (c : ℕ) → sound (mediumShape (getD mediumSizes c 65472)) ≡ true
-unfolding mediumShape mediumSizes
+unfolding inverse mediumShape mediumSizes
 medium-sound c = every-at (λ size. sound (mediumShape size)) mediumSizes 65472 c refl refl
 
 pub shape-sound : (c : ℕ) → Sound (shapeOf c)
@@ -64,3 +69,49 @@ medium-narrow c = every-at (λ size. narrow (mediumShape size)) mediumSizes 6547
 pub shape-narrow : (c : ℕ) → shapeOf c .block ≤ 4096
 unfolding shapeOf
 shape-narrow c = leb-true (shapeOf c .block) 4096 (true-cond narrow (ltb c 64) _ _ (small-narrow c) (medium-narrow (c - 64)))
+
+-- ---- a shape made from a block size
+abbrev filled : ℕ → Bool
+filled size = within 16 size pageBytes
+
+small-filled : (c : ℕ) → filled (getD smallSizes c 16384) ≡ true
+unfolding smallSizes
+small-filled c = every-at filled smallSizes 16384 c refl refl
+
+medium-filled : (c : ℕ) → filled (getD mediumSizes c 65472) ≡ true
+unfolding mediumSizes
+medium-filled c = every-at filled mediumSizes 65472 c refl refl
+
+module _ (size : ℕ) (f : filled size ≡ true) where
+  some : 16 ≤ size
+  some = leb-true 16 size (and-left (leb 16 size) _ f)
+
+  most : size ≤ pageBytes
+  most = leb-true size pageBytes (and-right (leb 16 size) _ f)
+
+module _ (c size : ℕ) (e : size ≡ getD smallSizes c 16384) where
+  pub small-some : 16 ≤ size
+  small-some = rw e (some _ (small-filled c))
+
+  pub small-shaped : (k i : ℕ) → c < 64 → k ≡ smallCapacity size → i ≡ inverse (size / 16) → smallOf (size / 16) k i ≡ shapeOf c
+  unfolding shapeOf smallShape
+  small-shaped k i h ek ei = rw (ek, ei, e, lt-ltb c 64 h)
+
+module _ (c size : ℕ) (e : size ≡ getD mediumSizes (c - 64) 65472) where
+  pub medium-some : 16 ≤ size
+  medium-some = rw e (some _ (medium-filled (c - 64)))
+
+  pub medium-most : size ≤ pageBytes
+  medium-most = rw e (most _ (medium-filled (c - 64)))
+
+  pub medium-shaped : (g k i : ℕ) → 64 ≤ c → g ≡ spanPages size → k ≡ spanCapacity size → i ≡ inverse (size / 16) → mediumOf (size / 16) g k i ≡ shapeOf c
+  unfolding shapeOf mediumShape
+  medium-shaped g k i h eg ek ei = rw (eg, ek, ei, e, le-ltb c 64 h)
+
+-- the inverse, as the code makes it
+module _ (d : ℕ) where
+  pub part-fits : Fits w64 ((2 ^ 32 - 1) / d)
+  part-fits = record { fits = omega (arith, div-le-self (2 ^ 32 - 1) d) }
+
+  pub inverse-fits : Fits w64 ((2 ^ 32 - 1) / d + 1)
+  inverse-fits = record { fits = omega (arith, div-le-self (2 ^ 32 - 1) d) }

@@ -1,18 +1,18 @@
--- A class's numbers in one word, as the code's table has them: from the lowest bit on the inverse of a block's granules, less 1 (32 bits), a
+-- A class's numbers in one word, as the release of one block has them: from the lowest bit on the inverse of a block's granules, less 1 (32 bits), a
 -- block's granules (13), the run's blocks (13), and its pages.
-use Prim.Native.Nat.{ℕ, _+_, _-_, _*_, _/_, _%_, _^_}
+use Prim.Native.Nat.{ℕ, _+_, _-_, _*_, _/_, _%_}
 use Rattle.classes.specs.declared.Shape.{Shape}
 use Rattle.classes.specs.Shape.{shapeOf}
 
 abbrev pub rowAs : Shape → ℕ
-rowAs s = (2 ^ 32 - 1) / s .block + 4294967296 * (s .block + 8192 * (s .capacity + 8192 * s .pages))
+rowAs s = s .inverse - 1 + 4294967296 * (s .block + 8192 * (s .capacity + 8192 * s .pages))
 
 unfoldable pub rowOf : ℕ → ℕ
 rowOf c = rowAs (shapeOf c)
 
 -- ---- and what stands where
-abbrev pub partIn : ℕ → ℕ
-partIn row = row % 4294967296
+abbrev pub inverseIn : ℕ → ℕ
+inverseIn row = row % 4294967296 + 1
 
 abbrev pub blockIn : ℕ → ℕ
 blockIn row = row / 4294967296 % 8192

@@ -1,5 +1,5 @@
 -- The shape of each class: 0 to 63 small, 64 to 75 medium.
-use Prim.Native.Nat.{ℕ, _-_, _/_}
+use Prim.Native.Nat.{ℕ, _+_, _-_, _/_, _^_}
 use mathlib.Core.Bool.{cond}
 use lib.Dec.{ltb}
 use lib.ListN.{getD}
@@ -7,13 +7,24 @@ use Rattle.words.specs.Word.{smallKind, mediumKind}
 use Rattle.classes.specs.declared.Shape.{Shape}
 use Rattle.classes.specs.Sizes.{smallSizes, mediumSizes, granuleBytes, smallHeader, mediumHeader, smallCapacity, spanPages, spanCapacity}
 
--- a small class, by its block's bytes: at most 64 blocks a take. Its empty pages are limited by its rule alone: it allows 256 at most
-unfoldable pub smallShape : ℕ → Shape
-smallShape size = record { kind = smallKind; block = size / granuleBytes; header = smallHeader / granuleBytes; pages = 1; capacity = smallCapacity size; batch = 64; emptypages = 256 }
+-- 1 / d with 32 bits behind the point, rounded up: a product with it divides by d
+unfoldable pub inverse : ℕ → ℕ
+inverse d = (2 ^ 32 - 1) / d + 1
+
+-- a small class: at most 64 blocks a take. Its empty pages are limited by its rule alone: it allows 256 at most
+abbrev pub smallOf : ℕ → ℕ → ℕ → Shape
+smallOf block capacity inv = record { kind = smallKind; block = block; header = smallHeader / granuleBytes; pages = 1; capacity = capacity; batch = 64; emptypages = 256; inverse = inv }
 
 -- a medium class: at most one span's blocks a take; "each medium class's own 8 MiB" (128 pages) of empty spans stays beside its rule
+abbrev pub mediumOf : ℕ → ℕ → ℕ → ℕ → Shape
+mediumOf block pages capacity inv = record { kind = mediumKind; block = block; header = mediumHeader / granuleBytes; pages = pages; capacity = capacity; batch = capacity; emptypages = 128; inverse = inv }
+
+-- by its block's bytes
+unfoldable pub smallShape : ℕ → Shape
+smallShape size = smallOf (size / granuleBytes) (smallCapacity size) (inverse (size / granuleBytes))
+
 unfoldable pub mediumShape : ℕ → Shape
-mediumShape size = record { kind = mediumKind; block = size / granuleBytes; header = mediumHeader / granuleBytes; pages = spanPages size; capacity = spanCapacity size; batch = spanCapacity size; emptypages = 128 }
+mediumShape size = mediumOf (size / granuleBytes) (spanPages size) (spanCapacity size) (inverse (size / granuleBytes))
 
 -- 0 to 63 and 64 to 75
 abbrev pub classCount : ℕ

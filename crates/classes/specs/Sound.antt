@@ -1,6 +1,8 @@
 -- What the heap's proofs ask of a shape: its runs have room for their blocks, and its numbers are in range.
 use Prim.Native.Nat.{_+_, _*_, _≤_}
+use mathlib.Core.Path.{_≡_}
 use Rattle.classes.specs.declared.Shape.{Shape}
+use Rattle.classes.specs.Shape.{inverse}
 
 pub record Sound (s : Shape) : Type 0 where
   pub named : 1 ≤ s .kind
@@ -15,3 +17,5 @@ pub record Sound (s : Shape) : Type 0 where
   pub limited : s .batch ≤ 64
   -- the header and all blocks lie within the run's pages, 4,096 granules each
   pub fits : s .header + s .capacity * s .block ≤ 4096 * s .pages
+  -- a product with the inverse divides by a block's granules
+  pub inverts : s .inverse ≡ inverse (s .block)

@@ -4,7 +4,7 @@ ghost use mathlib.Core.Path.{_≡_};
 ghost use Rattle.classes.specs.Lookup.{SmallLut, MediumLut, sizeClass};
 use super::Sized;
 
-fn wide(class: u8) -> u32
+pub fn wide(class: u8) -> u32
     ensures { λ r. ⌜ r ≡ class ⌝ }
 {
     class as u32

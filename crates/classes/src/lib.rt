@@ -1,5 +1,4 @@
 // Size classes: the block sizes, the lookups, and what a class's runs look like.
-mod by_class;
 mod class_lut;
 mod in_tables;
 mod lookup;
@@ -9,20 +8,17 @@ mod row;
 mod runs;
 mod sizes;
 
-pub use by_class::medium_size;
 pub use class_lut::small_classes;
 pub use in_tables::class_in;
 pub use lookup::size_class;
 pub use medium_lut::medium_classes;
-pub use row::part_in;
-pub use row::row_of;
+pub use runs::shape_at;
 pub use runs::shape_of;
 pub use sizes::CLASS_COUNT;
 pub use sizes::NUM_CLASSES;
 pub use sizes::NUM_MEDIUM;
 pub use sizes::medium_capacity_for;
-pub use sizes::medium_table;
-pub use sizes::small_table;
+pub use sizes::medium_size;
 pub use sizes::span_pages_for;
 
 // The class of a size (document 02, A.6).
@@ -49,4 +45,6 @@ pub struct Shape {
     pub batch: u32,
     // The most pages in its empty runs, whatever its parking rules allow.
     pub emptypages: u32,
+    // 1 / block with 32 bits behind the point, rounded up: what a product is made with instead of a division by a block's granules.
+    pub inverse: u64,
 }

@@ -1,11 +1,16 @@
-// The class of a size (document 02, A.6): by one entry of a table and one sum, without a branch on the size's step.
+// The class of a size (document 02, A.6): a class near it by its step, and one comparison with that class's block size.
+ghost use mathlib.Core.Bool.{cond};
 ghost use mathlib.Core.Path.{_≡_};
-ghost use Prim.Native.Nat.{_≤_};
+ghost use Prim.Native.Nat.{_+_, _<_, _≤_};
+ghost use lib.Dec.{leb};
 ghost use Rattle.classes.specs.Sizes.{maxMediumSize};
-ghost use Rattle.classes.specs.Lookup.{firstFit, sizeClass};
-ghost use Rattle.classes.specs.Near.{stepOf, familySizes};
+ghost use Rattle.classes.specs.Lookup.{sizeClass};
+ghost use Rattle.classes.specs.Near.{stepOf};
 use super::Sized;
+use super::in_tables::wide;
 use super::near::by_step;
+use super::sizes::medium_size;
+use super::sizes::small_size;
 
 // The step of a size: of 32 bytes up to 4,096, of 512 from there on.
 fn step_of(size: u32) -> u8
@@ -18,12 +23,12 @@ fn step_of(size: u32) -> u8
     ((size + 61951) / 512) as u8
 }
 
-// The first class of the size's family whose blocks hold it.
-fn class_of(size: u32) -> u32
-    requires { ⌜ size ≤ maxMediumSize ⌝ }
-    ensures { λ r. ⌜ r ≡ firstFit size (familySizes size) ⌝ }
+// The class near, or the next where its blocks are too short.
+fn fit(size: u32, class: u32, bytes: u32) -> u32
+    requires { ⌜ class < 64 ⌝ }
+    ensures { λ r. ⌜ r ≡ cond (leb size bytes) class (class + 1) ⌝ }
 {
-    (by_step(step_of(size)) + size) / 65536
+    if size <= bytes { class } else { class + 1 }
 }
 
 // The first class whose blocks hold a size, small or medium.
@@ -33,9 +38,10 @@ pub fn size_class(size: u64) -> Sized
     if size > 65472 {
         return Sized::TooLarge;
     }
-    let class = class_of(size as u32);
+    let bytes = size as u32;
+    let class = wide(by_step(step_of(bytes)));
     if size <= 16384 {
-        return Sized::Small(class);
+        return Sized::Small(fit(bytes, class, small_size(class)));
     }
-    Sized::Medium(class)
+    Sized::Medium(fit(bytes, class, medium_size(class)))
 }

@@ -1,7 +1,7 @@
-// A class's numbers in one word, by a `match`, which becomes a read-only table. A word is handed over in a register, where a `Shape` goes through
-// memory (docs/BACKEND.md).
+// A class's numbers in one word, by a `match`, which becomes a read-only table: for the release of one block, which would take a seventh longer with
+// a read of the array of block sizes and the divisions (docs/DECISIONS.md, "Language forms").
 ghost use mathlib.Core.Path.{_≡_};
-ghost use Rattle.classes.specs.Row.{rowOf, partIn, blockIn, capacityIn, pagesIn};
+ghost use Rattle.classes.specs.Row.{rowOf, inverseIn, blockIn, capacityIn, pagesIn};
 
 // Past the last class it is the last one's.
 pub fn row_of(id: u32) -> u64
@@ -87,11 +87,11 @@ pub fn row_of(id: u32) -> u64
     }
 }
 
-// The inverse of a block's granules, less 1.
-pub fn part_in(row: u64) -> u32
-    ensures { λ r. ⌜ r ≡ partIn row ⌝ }
+// The inverse of a block's granules.
+pub fn inverse_in(row: u64) -> u64
+    ensures { λ r. ⌜ r ≡ inverseIn row ⌝ }
 {
-    (row % 4294967296) as u32
+    row % 4294967296 + 1
 }
 
 // A block's granules.

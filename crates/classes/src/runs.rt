@@ -1,51 +1,60 @@
-// The shape of a class, made from its word.
+// The shape of a class, from its block size; for the release of one block from the class's word.
 ghost use mathlib.Core.Path.{_≡_};
-ghost use Prim.Native.Nat.{_<_, _≤_};
-ghost use Rattle.classes.specs.Shape.{shapeOf};
-ghost use Rattle.classes.specs.Row.{rowOf};
+ghost use Prim.Native.Nat.{_≤_};
+ghost use Rattle.classes.specs.Shape.{inverse, smallOf, mediumOf, shapeOf};
 use super::Shape;
 use super::row::block_in;
 use super::row::capacity_in;
+use super::row::inverse_in;
 use super::row::pages_in;
 use super::row::row_of;
 use super::sizes::NUM_CLASSES;
 use super::sizes::PAGE_HEADER;
 use super::sizes::SPAN_HEADER;
+use super::sizes::medium_capacity_for;
+use super::sizes::medium_size;
+use super::sizes::small_capacity_for;
+use super::sizes::small_size;
+use super::sizes::span_pages_for;
 
 const GRANULE: u32 = 16;
 
+fn inverse_of(block: u32) -> u64
+    requires { ⌜ 1 ≤ block ⌝ }
+    ensures { λ r. ⌜ r ≡ inverse block ⌝ }
+{
+    (u32::MAX / block) as u64 + 1
+}
+
 // At most 64 blocks a take. As many empty pages as a rule can allow, so that its rule alone limits them.
-fn small_shape(id: u32, row: u64) -> Shape
-    requires { ⌜ id < 64 ⌝ }
-    requires { ⌜ row ≡ rowOf id ⌝ }
-    ensures { λ r. ⌜ r ≡ shapeOf id ⌝ }
+fn small_shape(block: u32, capacity: u32, inverse: u64) -> Shape
+    ensures { λ r. ⌜ r ≡ smallOf block capacity inverse ⌝ }
 {
     Shape {
         kind: words::Word::SMALL,
-        block: block_in(row),
+        block,
         header: PAGE_HEADER / GRANULE,
         pages: 1,
-        capacity: capacity_in(row),
+        capacity,
         batch: 64,
         emptypages: 256,
+        inverse,
     }
 }
 
 // At most a span's blocks a take, and 128 pages, which is 8 MiB, in empty spans.
-fn medium_shape(id: u32, row: u64) -> Shape
-    requires { ⌜ 64 ≤ id ⌝ }
-    requires { ⌜ row ≡ rowOf id ⌝ }
-    ensures { λ r. ⌜ r ≡ shapeOf id ⌝ }
+fn medium_shape(block: u32, pages: u32, capacity: u32, inverse: u64) -> Shape
+    ensures { λ r. ⌜ r ≡ mediumOf block pages capacity inverse ⌝ }
 {
-    let capacity = capacity_in(row);
     Shape {
         kind: words::Word::MEDIUM,
-        block: block_in(row),
+        block,
         header: SPAN_HEADER / GRANULE,
-        pages: pages_in(row),
+        pages,
         capacity,
         batch: capacity,
         emptypages: 128,
+        inverse,
     }
 }
 
@@ -53,10 +62,33 @@ fn medium_shape(id: u32, row: u64) -> Shape
 pub fn shape_of(id: u32) -> Shape
     ensures { λ r. ⌜ r ≡ shapeOf id ⌝ }
 {
+    if id < NUM_CLASSES {
+        let size = small_size(id);
+        let block = size / GRANULE;
+        return small_shape(block, small_capacity_for(size), inverse_of(block));
+    }
+    let size = medium_size(id - NUM_CLASSES);
+    let block = size / GRANULE;
+    medium_shape(
+        block,
+        span_pages_for(size),
+        medium_capacity_for(size),
+        inverse_of(block),
+    )
+}
+
+// The same by the class's word.
+pub fn shape_at(id: u32) -> Shape
+    ensures { λ r. ⌜ r ≡ shapeOf id ⌝ }
+{
     let row = row_of(id);
     if id < NUM_CLASSES {
-        small_shape(id, row)
-    } else {
-        medium_shape(id, row)
+        return small_shape(block_in(row), capacity_in(row), inverse_in(row));
     }
+    medium_shape(
+        block_in(row),
+        pages_in(row),
+        capacity_in(row),
+        inverse_in(row),
+    )
 }

@@ -1,7 +1,8 @@
-// The block sizes, in bytes: by the definitions every other number of a class comes from these (in the code: `row`).
+// The block sizes, in bytes: every other number of a class comes from these.
 ghost use mathlib.Core.Path.{_≡_};
 ghost use Prim.Native.Nat.{_<_, _≤_};
-ghost use Rattle.classes.specs.Sizes.{smallSizes, mediumSizes, pageBytes, spanPages, spanCapacity};
+ghost use lib.ListN.{getD};
+ghost use Rattle.classes.specs.Sizes.{smallSizes, mediumSizes, pageBytes, smallCapacity, spanPages, spanCapacity};
 
 const PAGE_SIZE: u32 = 65536;
 
@@ -19,7 +20,7 @@ pub const NUM_MEDIUM: u32 = 12;
 // Small and medium classes by one number.
 pub const CLASS_COUNT: u32 = 76;
 
-const CLASSES: [u32; 64] = [
+const CLASSES: [u16; 64] = [
     16,
     32,
     48,
@@ -86,7 +87,7 @@ const CLASSES: [u32; 64] = [
     16384,
 ];
 
-const MEDIUM_CLASSES: [u32; 12] = [
+const MEDIUM_CLASSES: [u16; 12] = [
     18432,
     20736,
     23328,
@@ -101,18 +102,36 @@ const MEDIUM_CLASSES: [u32; 12] = [
     65472,
 ];
 
-// The two tables whole. A read of a constant array builds it anew, so the code reads a class's numbers by the `match`
-// of `row`, and a medium size by that of `by_class`.
-pub fn small_table() -> [u32; 64]
-    ensures { λ r. ⌜ r ≡ smallSizes ⌝ }
+fn wide(size: u16) -> u32
+    ensures { λ r. ⌜ r ≡ size ⌝ }
 {
-    CLASSES
+    size as u32
 }
 
-pub fn medium_table() -> [u32; 12]
-    ensures { λ r. ⌜ r ≡ mediumSizes ⌝ }
+// The block size of a small class. A read builds the array anew on the stack (docs/BACKEND.md), so that its entries are as short as can be.
+pub fn small_size(class: u32) -> u32
+    requires { ⌜ class < 64 ⌝ }
+    ensures { λ r. ⌜ r ≡ getD smallSizes class 16384 ⌝ }
 {
-    MEDIUM_CLASSES
+    wide(CLASSES[class as usize])
+}
+
+// The block size of a medium class; past the table, the last one.
+pub fn medium_size(class: u32) -> u32
+    ensures { λ r. ⌜ r ≡ getD mediumSizes class 65472 ⌝ }
+{
+    if class < NUM_MEDIUM {
+        return wide(MEDIUM_CLASSES[class as usize]);
+    }
+    65472
+}
+
+// Blocks of a small page.
+pub fn small_capacity_for(size: u32) -> u32
+    requires { ⌜ 0 < size ⌝ }
+    ensures { λ r. ⌜ r ≡ smallCapacity size ⌝ }
+{
+    (PAGE_SIZE - PAGE_HEADER) / size
 }
 
 // Pages of a span: the fewest that hold eight blocks after the header.

@@ -13,13 +13,13 @@ use lib.Pow.{low}
 use borrow.Author.Tests.{le-leb, lt-ltb, eq-eqb, ne-eqb, eqb-true}
 use Rattle.words.specs.Word.{kindOf, granuleOf}
 use Rattle.classes.specs.declared.Shape.{Shape}
+use Rattle.classes.specs.Shape.{inverse}
 use Rattle.classes.specs.Sound.{Sound}
 use Rattle.fields.specs.Field.{mark, out, words, Has}
 use Rattle.fields.specs.Ranges.{maxPages}
 use Rattle.model.specs.Page.{wordOf}
 use Rattle.model.specs.Release.{ofKind}
 use Rattle.pages.specs.Stack.{blocksFrom, indexOf, isBlock}
-use Rattle.stack.specs.Inverse.{inverse}
 use Rattle.stack.proofs.InverseLaws.{behind-point, past-point, narrow, product-fits, divides, quotient-fits}
 use Rattle.release.specs.declared.Found.{Found}
 use Rattle.release.specs.declared.Found.the-variants.{At, Nothing}
@@ -28,33 +28,33 @@ use Rattle.release.specs.MarkAsks.{Near}
 use Rattle.release.proofs.Bits.{from-block, at-block, below-capacity}
 
 -- x granules behind the run's first block
-module _ (sh : Shape) (s : Sound sh) (m x : ℕ) (i : m ≡ inverse (sh .block)) (l : x < sh .capacity * sh .block) where
+module _ (sh : Shape) (s : Sound sh) (x : ℕ) (l : x < sh .capacity * sh .block) where
   near : x < 2 ^ 16
   near = omega (arith, s .fits, s .short)
 
-  pub near-fits : Fits w64 (x * m)
-  near-fits = product-fits sh x m i near
+  pub near-fits : Fits w64 (x * sh .inverse)
+  near-fits = product-fits sh s x near
 
-  pub index-fits : Fits w32 (x * m / 2 ^ 32)
-  index-fits = quotient-fits sh x m i near s
+  pub index-fits : Fits w32 (x * sh .inverse / 2 ^ 32)
+  index-fits = quotient-fits sh s x near
 
-  index-is : x * m / 2 ^ 32 ≡ x / sh .block
-  index-is = divides sh x m i near s
+  index-is : x * sh .inverse / 2 ^ 32 ≡ x / sh .block
+  index-is = divides sh s x near
 
-  whole-block : x * m % 2 ^ 32 < m → x / sh .block * sh .block ≡ x
+  whole-block : x * sh .inverse % 2 ^ 32 < sh .inverse → x / sh .block * sh .block ≡ x
   whole-block h =
       let z : x % sh .block ≡ 0 = by (x % sh .block) refl in
       omega (arith, div-add-mod' x (sh .block))
     where
       by : (r : ℕ) → x % sh .block ≡ r → x % sh .block ≡ 0
       by zero e = e
-      by (suc r) e = let y : inverse (sh .block) ≤ x * inverse (sh .block) % 2 ^ 32 = past-point x (sh .block) near (s .wide) (narrow sh s) (omega arith) in absurd (omega (arith, rw i at h))
+      by (suc r) e = let y : inverse (sh .block) ≤ x * inverse (sh .block) % 2 ^ 32 = past-point x (sh .block) near (s .wide) (narrow sh s) (omega arith) in absurd (omega (arith, rw (s .inverts) at h))
 
-  part-block : m ≤ x * m % 2 ^ 32 → x / sh .block * sh .block ≡ x → ⊥
+  part-block : sh .inverse ≤ x * sh .inverse % 2 ^ 32 → x / sh .block * sh .block ≡ x → ⊥
   part-block h e =
       let z : x % sh .block ≡ 0 = omega (arith, div-add-mod' x (sh .block)) in
       let y : x * inverse (sh .block) % 2 ^ 32 < inverse (sh .block) = behind-point x (sh .block) near (s .wide) (narrow sh s) z in
-      omega (arith, rw i at h)
+      omega (arith, rw (s .inverts) at h)
 
 module _ (sh : Shape) (q w g x : ℕ) (s : Sound sh) (below : q < maxPages) (e : g ≡ granuleOf w) (u : (x + (q * 4096 + sh .header)) % 2 ^ 64 ≡ g) where
   pub past-blocks : x < 2 ^ 64 → sh .capacity * sh .block ≤ x → Nothing ≡ blockAt sh q w
@@ -66,7 +66,7 @@ module _ (sh : Shape) (q w g x : ℕ) (s : Sound sh) (below : q < maxPages) (e :
           let k : (indexOf sh q w + 1) * sh .block ≤ sh .capacity * sh .block = mul-le-mul-right (sh .block) (omega (arith, below-capacity sh q w z)) in
           absurd (omega (arith, from-block sh q w z, at-block sh q w z, s .wide, s .fits, s .short))
 
-  module _ (m : ℕ) (i : m ≡ inverse (sh .block)) (l : x < sh .capacity * sh .block) where
+  module _ (l : x < sh .capacity * sh .block) where
     behind-first : granuleOf w ≡ x + blocksFrom sh q
     behind-first = omega (arith, s .fits, s .short)
 
@@ -74,20 +74,20 @@ module _ (sh : Shape) (q w g x : ℕ) (s : Sound sh) (below : q < maxPages) (e :
     unfolding indexOf
     index-of-it = let z : granuleOf w - blocksFrom sh q ≡ x = omega (arith, behind-first) in ap (λ t. t / sh .block) z
 
-    pub between-blocks : m ≤ x * m % 2 ^ 32 → Nothing ≡ blockAt sh q w
+    pub between-blocks : sh .inverse ≤ x * sh .inverse % 2 ^ 32 → Nothing ≡ blockAt sh q w
     unfolding isBlock
     between-blocks h =
-        let z : (indexOf sh q w * sh .block ≡ granuleOf w - blocksFrom sh q → ⊥) = λ y. part-block sh s m x i l h (ap (λ t. t * sh .block) (sym index-of-it) ∙ y ∙ omega (arith, behind-first)) in
+        let z : (indexOf sh q w * sh .block ≡ granuleOf w - blocksFrom sh q → ⊥) = λ y. part-block sh s x l h (ap (λ t. t * sh .block) (sym index-of-it) ∙ y ∙ omega (arith, behind-first)) in
         simp (ne-eqb _ _ z, and-false)
 
-    pub a-block : x * m % 2 ^ 32 < m → At (x * m / 2 ^ 32) ≡ blockAt sh q w
+    pub a-block : x * sh .inverse % 2 ^ 32 < sh .inverse → At (x * sh .inverse / 2 ^ 32) ≡ blockAt sh q w
     unfolding isBlock
     a-block h =
-        let k : x / sh .block * sh .block ≡ x = whole-block sh s m x i l h in
+        let k : x / sh .block * sh .block ≡ x = whole-block sh s x l h in
         let c : x / sh .block < sh .capacity = lt-of-mul-lt-mul-right (sh .block) (rw k l) in
         let z : x / sh .block * sh .block ≡ granuleOf w - blocksFrom sh q = omega (arith, behind-first) in
         let f : blocksFrom sh q ≤ granuleOf w = omega (arith, behind-first) in
-        rw (index-of-it, le-leb _ _ f, eq-eqb _ _ z, lt-ltb _ _ c) (ap At (index-is sh s m x i l))
+        rw (index-of-it, le-leb _ _ f, eq-eqb _ _ z, lt-ltb _ _ c) (ap At (index-is sh s x l))
 
 -- ---- what the block tells
 pub none-found : (t : Bool) (i : ℕ) → Nothing ≡ found t i → t ≡ false
@@ -102,7 +102,7 @@ pub found-block : (sh : Shape) (q w : ℕ) (f : Found) (i : ℕ) → f ≡ block
 found-block sh q w f i e h = found-at (isBlock sh q w) (indexOf sh q w) i (sym h ∙ e)
 
 -- ---- a word of the class's kind: x behind the word of block 0
-module _ (sh : Shape) (q base span m w x : ℕ) (a : Near sh q base span m) (u : (x + base) % 2 ^ 64 ≡ w) where
+module _ (sh : Shape) (q base span w x : ℕ) (a : Near sh q base span) (u : (x + base) % 2 ^ 64 ≡ w) where
   start-is : base ≡ sh .kind * 2 ^ 62 + (q * 4096 + sh .header)
   unfolding wordOf
   start-is = a .first ∙ omega arith
@@ -142,20 +142,20 @@ module _ (sh : Shape) (q base span m w x : ℕ) (a : Near sh q base span m) (u :
     starts-low : q < maxPages
     starts-low = omega (arith, a .below, a .sound .paged)
 
-    pub near-product : Fits w64 (x * m)
-    near-product = near-fits sh (a .sound) m x (a .by) granules
+    pub near-product : Fits w64 (x * sh .inverse)
+    near-product = near-fits sh (a .sound) x granules
 
-    pub near-index : Fits w32 (x * m / 2 ^ 32)
-    near-index = index-fits sh (a .sound) m x (a .by) granules
+    pub near-index : Fits w32 (x * sh .inverse / 2 ^ 32)
+    near-index = index-fits sh (a .sound) x granules
 
-    pub inside-none : m ≤ x * m % 2 ^ 32 → Nothing ≡ blockIn sh q w
+    pub inside-none : sh .inverse ≤ x * sh .inverse % 2 ^ 32 → Nothing ≡ blockIn sh q w
     inside-none h =
-        let z = none-found (isBlock sh q w) (indexOf sh q w) (between-blocks sh q w (granuleOf w) x (a .sound) starts-low refl granule-is m (a .by) granules h) in
+        let z = none-found (isBlock sh q w) (indexOf sh q w) (between-blocks sh q w (granuleOf w) x (a .sound) starts-low refl granule-is granules h) in
         none-in (simp (z, and-false))
 
-    pub inside-at : x * m % 2 ^ 32 < m → At (x * m / 2 ^ 32) ≡ blockIn sh q w
+    pub inside-at : x * sh .inverse % 2 ^ 32 < sh .inverse → At (x * sh .inverse / 2 ^ 32) ≡ blockIn sh q w
     inside-at h =
-        rw kind-is (a-block sh q w (granuleOf w) x (a .sound) starts-low refl granule-is m (a .by) granules h)
+        rw kind-is (a-block sh q w (granuleOf w) x (a .sound) starts-low refl granule-is granules h)
 
 module _ (b : List ℕ) (sh : Shape) (q w : ℕ) where
   pub has-bit : (f : Found) (i : ℕ) → Sound sh → words (q + 1) ≤ length b → f ≡ blockAt sh q w → f ≡ At i → Has b (out q i)

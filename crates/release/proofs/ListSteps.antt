@@ -1,6 +1,7 @@
 -- The listed blocks' out bits cleared, the list's last first: the loop of `take_list`.
 use Prim.Native.Nat.{ℕ, suc, _-_, _≤_}
 use native.Mathlib.Omega.{arith}
+use mathlib.Core.Bool.{true}
 use mathlib.Core.List.{List, _∷_, map}
 use mathlib.Core.Path.{_≡_, refl, sym, ap, _∙_}
 use lib.Dec.{ltb}
@@ -11,7 +12,7 @@ use Rattle.facts.proofs.Lists.{every-get}
 use Rattle.classes.specs.declared.Shape.{Shape}
 use Rattle.fields.specs.Field.{out, put, Has}
 use Rattle.fields.proofs.Laws.{length-put}
-use Rattle.pages.specs.Stack.{marks, indexOf}
+use Rattle.pages.specs.Stack.{marks, indexOf, isBlock}
 use Rattle.pages.specs.Asks.{IndexAsks}
 use Rattle.release.specs.Asks.{TakeAsks}
 
@@ -28,6 +29,9 @@ module _ (b₀ : List ℕ) (sh : Shape) (q : ℕ) (ws : List ℕ) where
   module _ (b : List ℕ) (i : ℕ) (h : i ≡ 0 → ⊥) (v : Taking b i) where
     pub taking-asks : TakeAsks b₀ sh q ws → IndexAsks sh q (getD ws (i - 1) 0)
     taking-asks a = record { sound = a .run .sound; below = a .run .below; bit = every-get (λ w. ltb (indexOf sh q w) 4096) ws (i - 1) (a .bits) (omega (arith, v .within)) }
+
+    pub taking-block : TakeAsks b₀ sh q ws → isBlock sh q (getD ws (i - 1) 0) ≡ true
+    taking-block a = every-get (isBlock sh q) ws (i - 1) (a .blocks) (omega (arith, v .within))
 
     pub taking-bit : (k : ℕ) → TakeAsks b₀ sh q ws → k ≡ indexOf sh q (getD ws (i - 1) 0) → Has b (out q k)
     taking-bit k a e =

@@ -17,7 +17,6 @@ use Rattle.model.specs.Page.{wordOf}
 use Rattle.pages.specs.Asks.{LinkAsks, WordAsks}
 use Rattle.pages.specs.Stack.{marks, pushed, back, indexOf, isBlock}
 use Rattle.pages.proofs.Marks.{marks-changes}
-use Rattle.stack.specs.Inverse.{inverse}
 use Rattle.calls.specs.Release.{pageFair, rowFair, spotFair, releaseFair, relisted, releaseBlocks}
 use Rattle.release.specs.declared.Found.{Found}
 use Rattle.release.specs.declared.Found.the-variants.{At}
@@ -142,8 +141,8 @@ module _ (n : ℕ) (b : List ℕ) (c : ℕ) (sh : Shape) (w : ℕ) where
     pub word-asks : WordAsks sh q 0
     word-asks = record { sound = a .class .sound; below = omega (arith, run-inside, a .class .few); block = omega (arith, a .class .sound .blocks) }
 
-    pub near-asks : (base span inv : ℕ) → base ≡ wordOf sh q 0 → span ≡ sh .capacity * sh .block → inv ≡ inverse (sh .block) → Near sh q base span inv
-    near-asks base span inv e l k = record { sound = a .class .sound; below = omega (arith, run-inside, a .class .few); first = e; all = l; by = k }
+    pub near-asks : (base span : ℕ) → base ≡ wordOf sh q 0 → span ≡ sh .capacity * sh .block → Near sh q base span
+    near-asks base span e l = record { sound = a .class .sound; below = omega (arith, run-inside, a .class .few); first = e; all = l }
 
     module _ (f : Found) (i : ℕ) (e : f ≡ blockIn sh q w) (y : f ≡ At i) where
       here : ((ofKind (sh .kind) w && isBlock sh q w) ≡ true) × (i ≡ indexOf sh q w)
@@ -185,9 +184,6 @@ shape-asks n b c sh e a = rw e a
 
 pub in-run-asks : (n : ℕ) (b : List ℕ) (c : ℕ) (sh : Shape) (w : ℕ) (f : Found) (q : ℕ) → sh ≡ shapeOf c → ClassAsks n b c (shapeOf c) → f ≡ runAt n b sh c w → f ≡ At q → RunAsks n b c sh q (w ∷ [])
 in-run-asks n b c sh w f q z a e y = run-asks n b c sh (w ∷ []) f q (record { class = rw z a; some = refl }) e y
-
-pub inverse-is-of : (c inv : ℕ) (sh : Shape) → sh ≡ shapeOf c → inv ≡ inverse (shapeOf c .block) → inv ≡ inverse (sh .block)
-inverse-is-of c inv sh e i = rw e i
 
 pub one-of-class : (n : ℕ) (b : List ℕ) (c : ℕ) (sh : Shape) (w : ℕ) (r : Bool) (b′ : List ℕ) → sh ≡ shapeOf c → OneBack r b′ n b c sh w → OneBack r b′ n b c (shapeOf c) w
 one-of-class n b c sh w r b′ e o = rw e at o

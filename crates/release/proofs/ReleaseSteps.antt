@@ -472,6 +472,7 @@ module _ (n : ℕ) (b : List ℕ) (c : ℕ) (sh : Shape) (q m : ℕ) (ws : List 
   marked-takes = record {
     run = record { sound = a .class .sound; below = omega (arith, a .inside, a .class .sound .paged, a .class .few); there = marked-there .there };
     bits = a .bits;
+    blocks = a .blocks;
   }
 
   module _ (t : Bool) (f : t ≡ releaseFair n b c sh (length ws) q) where

@@ -18,7 +18,6 @@ use Rattle.classes.specs.declared.Shape.{Shape}
 use Rattle.classes.specs.Sound.{Sound}
 use Rattle.model.specs.Page.{wordOf}
 use Rattle.pages.specs.Stack.{blocksFrom, indexOf}
-use Rattle.stack.specs.Inverse.{inverse}
 use Rattle.stack.proofs.InverseLaws.{product-fits, divides, quotient-fits}
 use Rattle.release.specs.Spans.{stretchOf, inStretch, Within, Covers, SpanOf, StretchWords, SpanAsks}
 use Rattle.release.proofs.Bits.{below-capacity}
@@ -29,18 +28,18 @@ pub stray-test : (base k w r : ℕ) → r ≡ stretchOf base w → eqb (bitXor r
 stray-test base k w r e = xor-none r k ∙ rw e
 
 -- ---- a stretch's words
-module _ (sh : Shape) (s : Sound sh) (m x : ℕ) (e : m ≡ inverse (sh .block)) (h : x < 4096) where
+module _ (sh : Shape) (s : Sound sh) (x : ℕ) (h : x < 4096) where
   near : x < 2 ^ 16
   near = omega arith
 
-  pub word-product : Fits w64 (x * m)
-  word-product = product-fits sh x m e near
+  pub word-product : Fits w64 (x * sh .inverse)
+  word-product = product-fits sh s x near
 
-  pub word-index : Fits w32 (x * m / 2 ^ 32)
-  word-index = quotient-fits sh x m e near s
+  pub word-index : Fits w32 (x * sh .inverse / 2 ^ 32)
+  word-index = quotient-fits sh s x near
 
-  pub word-is : x * m / 2 ^ 32 / 32 ≡ x / sh .block / 32
-  word-is = ap (λ t. t / 32) (divides sh x m e near s)
+  pub word-is : x * sh .inverse / 2 ^ 32 / 32 ≡ x / sh .block / 32
+  word-is = ap (λ t. t / 32) (divides sh s x near)
 
 -- a later granule's block is no earlier
 later : (d x y : ℕ) → 1 ≤ d → x ≤ y → x / d ≤ y / d

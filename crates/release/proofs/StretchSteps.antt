@@ -58,8 +58,8 @@ pub stretch-within : {n : ℕ} {ws : List ℕ} {step i room : ℕ} → Stretched
 stretch-within s = s .within
 
 -- ---- the word behind a place
-pub alone-told : (sh : Shape) (q base span inv x : ℕ) (ws : List ℕ) (i : ℕ) → Near sh q base span inv → (x + base) % 2 ^ 64 ≡ getD ws (i + 1) 0 → x < 2 ^ 64 → Alone (leb span x) sh q ws i
-alone-told sh q base span inv x ws i a u f = record { told = λ t l. sym (outside sh q base span inv (getD ws (i + 1) 0) x a u f (leb-true span x t)) }
+pub alone-told : (sh : Shape) (q base span x : ℕ) (ws : List ℕ) (i : ℕ) → Near sh q base span → (x + base) % 2 ^ 64 ≡ getD ws (i + 1) 0 → x < 2 ^ 64 → Alone (leb span x) sh q ws i
+alone-told sh q base span x ws i a u f = record { told = λ t l. sym (outside sh q base span (getD ws (i + 1) 0) x a u f (leb-true span x t)) }
 
 pub alone-last : (sh : Shape) (q : ℕ) (ws : List ℕ) (i : ℕ) → length ws ≤ i + 1 → Alone true sh q ws i
 alone-last sh q ws i h = record { told = λ t l. absurd (omega arith) }
@@ -72,7 +72,7 @@ pub record Names (sh : Shape) (q v k : ℕ) : Type 0 where
   pub is : (ofKind (sh .kind) v && isBlock sh q v) ≡ true
   pub index : indexOf sh q v ≡ k
 
-module _ (sh : Shape) (q base span inv : ℕ) (a : Near sh q base span inv) where
+module _ (sh : Shape) (q base span : ℕ) (a : Near sh q base span) where
   base-is : base ≡ sh .kind * 2 ^ 62 + (q * 4096 + sh .header)
   unfolding wordOf
   base-is = a .first ∙ omega arith
@@ -212,7 +212,7 @@ module _ (sh : Shape) (q : ℕ) (b b′ : List ℕ) (ws : List ℕ) (i : ℕ) (r
       let d = rw (drop-drop n i ws, ← e) at (p .book) in
       record { onward = omega arith; within = l; answer = omega (arith, c); left = sym d }
 
-module _ (sh : Shape) (q base span inv : ℕ) (a : Near sh q base span inv) (b b′ : List ℕ) (ws : List ℕ) (i t : ℕ) (f : Found) (e : f ≡ blockIn sh q (getD ws i 0)) (g : f ≡ At t) where
+module _ (sh : Shape) (q base span : ℕ) (a : Near sh q base span) (b b′ : List ℕ) (ws : List ℕ) (i t : ℕ) (f : Found) (e : f ≡ blockIn sh q (getD ws i 0)) (g : f ≡ At t) where
   named : Names sh q (getD ws i 0) t
   named =
       let w = getD ws i 0 in
@@ -220,7 +220,7 @@ module _ (sh : Shape) (q base span inv : ℕ) (a : Near sh q base span inv) (b b
       record { is = z .0; index = sym (z .1) }
 
   found-low : t < sh .capacity
-  found-low = index-low sh q base span inv a (getD ws i 0) t named
+  found-low = index-low sh q base span a (getD ws i 0) t named
 
   pub found-below : t ≤ sh .capacity
   found-below = omega (arith, found-low)
@@ -248,7 +248,7 @@ module _ (sh : Shape) (q base span inv : ℕ) (a : Near sh q base span inv) (b b
         each : n ≤ sh .capacity - t → (k : ℕ) → k < n → Names sh q (getD (drop i ws) k 0) (32 * (t / 32) + (t % 32 + k))
         each h k y =
             let x : t + k ≡ 32 * (t / 32) + (t % 32 + k) = omega arith in
-            rw (getD-drop i ws k 0) (subst (Names sh q (getD ws (i + k) 0)) x (names-up sh q base span inv a ws i t n step room named s u h k y))
+            rw (getD-drop i ws k 0) (subst (Names sh q (getD ws (i + k) 0)) x (names-up sh q base span a ws i t n step room named s u h k y))
 
     pub went-down : (step + sh .block) % 2 ^ 64 ≡ 0 → step < 2 ^ 64 → sh .block < 2 ^ 32 → room ≡ t % 32 + 1 → MarkedBits r b′ b q (t / 32) (room - n) n → r ≡ true → Reaches (i + n) b′ b sh q ws i
     went-down u v w m o z =
@@ -259,4 +259,4 @@ module _ (sh : Shape) (q base span inv : ℕ) (a : Near sh q base span inv) (b b
         each : (k : ℕ) → k < n → Names sh q (getD (drop i ws) k 0) (32 * (t / 32) + (room - n + (n - 1 - k)))
         each k y =
             let x : t - k ≡ 32 * (t / 32) + (room - n + (n - 1 - k)) = omega (arith, s .most) in
-            rw (getD-drop i ws k 0) (subst (Names sh q (getD ws (i + k) 0)) x (names-down sh q base span inv a ws i t n step room named s u v w (omega (arith, s .most)) k y))
+            rw (getD-drop i ws k 0) (subst (Names sh q (getD ws (i + k) 0)) x (names-down sh q base span a ws i t n step room named s u v w (omega (arith, s .most)) k y))

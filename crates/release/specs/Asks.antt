@@ -10,7 +10,7 @@ use Rattle.classes.specs.declared.Shape.{Shape}
 use Rattle.classes.specs.Sound.{Sound}
 use Rattle.fields.specs.Field.{words}
 use Rattle.fields.specs.Ranges.{maxPages}
-use Rattle.pages.specs.Stack.{indexOf, pageAt, pageSlots}
+use Rattle.pages.specs.Stack.{indexOf, isBlock, pageAt, pageSlots}
 
 -- the run at q
 pub record InAsks (b : List ℕ) (sh : Shape) (q : ℕ) : Type 0 where
@@ -30,7 +30,8 @@ pub record StartAsks (n : ℕ) (b ws : List ℕ) : Type 0 where
   pub long : words n ≤ length b
   pub pages : every (λ w. ltb (pageAt w) n) ws ≡ true
 
--- every listed word's block has an out bit in the run at q
+-- every listed word is a block of the run at q, and has an out bit
 pub record TakeAsks (b : List ℕ) (sh : Shape) (q : ℕ) (ws : List ℕ) : Type 0 where
   pub run : InAsks b sh q
   pub bits : every (λ w. ltb (indexOf sh q w) pageSlots) ws ≡ true
+  pub blocks : every (isBlock sh q) ws ≡ true

@@ -13,7 +13,6 @@ use Rattle.fields.specs.Ranges.{maxPages}
 use Rattle.model.specs.Page.{wordOf}
 use Rattle.model.specs.Release.{ofKind}
 use Rattle.calls.specs.Out.{outIn, outAt, unmarked, repeats, outFault}
-use Rattle.stack.specs.Inverse.{inverse}
 use Rattle.release.specs.declared.Found.the-variants.{Nothing}
 use Rattle.release.specs.Blocks.{blockIn}
 use Rattle.release.specs.Asks.{ClassAsks}
@@ -26,12 +25,11 @@ pub record FieldAsks (b : List ℕ) (sh : Shape) (q : ℕ) : Type 0 where
   pub there : words (q + 1) ≤ length b
 
 -- the numbers by which a word's block is found: the word of block 0, the granules of all blocks, and the inverse of a block's
-pub record Near (sh : Shape) (q base span inv : ℕ) : Type 0 where
+pub record Near (sh : Shape) (q base span : ℕ) : Type 0 where
   pub sound : Sound sh
   pub below : q + sh .pages ≤ maxPages
   pub first : base ≡ wordOf sh q 0
   pub all : span ≡ sh .capacity * sh .block
-  pub by : inv ≡ inverse (sh .block)
 
 pub record MarkedBits (r : Bool) (b′ b : List ℕ) (q j s n : ℕ) : Type 0 where
   pub answer : r ≡ freshBits b q j s n

@@ -1,10 +1,9 @@
 // Where a listed word's block is: its run, and its index there.
 ghost use mathlib.Core.Path.{_≡_};
-ghost use Prim.Native.Nat.{_<_};
+ghost use Prim.Native.Nat.{_+_, _%_, _^_, _<_};
 ghost use Rattle.classes.specs.Sound.{Sound};
 ghost use Rattle.fields.specs.Ranges.{maxPages};
-ghost use Rattle.words.specs.Word.{granuleOf};
-ghost use Rattle.stack.specs.Inverse.{inverse};
+ghost use Rattle.words.specs.Word.{granuleOf, wordBits};
 ghost use Rattle.release.specs.Blocks.{blockAt, blockIn, runAt};
 ghost use Rattle.release.specs.Asks.{ClassAsks};
 ghost use Rattle.release.specs.MarkAsks.{Near};
@@ -21,12 +20,18 @@ fn granule_of(w: u64) -> u64
     Word::of(w).granule()
 }
 
-// The index of the block of the run at q that the word is; inv is the inverse of the block's granules.
+// How far a word lies behind another, wrapped.
+pub fn behind(w: u64, first: u64) -> u64
+    ensures { λ r. ⌜ (r + first) % 2 ^ wordBits ≡ w ⌝ }
+{
+    Word::of(w).behind(Word::of(first))
+}
+
+// The index of the block of the run at q that the word is.
 // A granule below the blocks wraps to one above them. What does not fill a block stands behind the point of the product.
-pub fn block_at(shape: Shape, inv: u64, q: u32, w: u64) -> Found
+pub fn block_at(shape: Shape, q: u32, w: u64) -> Found
     requires { ⌜ Sound shape ⌝ }
     requires { ⌜ q < maxPages ⌝ }
-    requires { ⌜ inv ≡ inverse (shape .block) ⌝ }
     ensures { λ r. ⌜ r ≡ blockAt shape q w ⌝ }
 {
     let granule = granule_of(w);
@@ -34,24 +39,24 @@ pub fn block_at(shape: Shape, inv: u64, q: u32, w: u64) -> Found
     if x >= (shape.capacity * shape.block) as u64 {
         return Found::Nothing;
     }
-    let product = x * inv;
-    if product % 4294967296 >= inv {
+    let product = x * shape.inverse;
+    if product % 4294967296 >= shape.inverse {
         return Found::Nothing;
     }
     Found::At((product >> 32) as u32)
 }
 
 // The same of a word of the class's kind: one subtraction from the word of block 0 tells its kind and its granule.
-pub fn block_in(shape: Shape, q: u32, base: u64, span: u32, inv: u64, w: u64) -> Found
-    requires { ⌜ Near shape q base span inv ⌝ }
+pub fn block_in(shape: Shape, q: u32, base: u64, span: u32, w: u64) -> Found
+    requires { ⌜ Near shape q base span ⌝ }
     ensures { λ r. ⌜ r ≡ blockIn shape q w ⌝ }
 {
-    let x = std::num::wrapping_sub_u64(w, base);
+    let x = behind(w, base);
     if x >= span as u64 {
         return Found::Nothing;
     }
-    let product = x * inv;
-    if product % 4294967296 >= inv {
+    let product = x * shape.inverse;
+    if product % 4294967296 >= shape.inverse {
         return Found::Nothing;
     }
     Found::At((product >> 32) as u32)

@@ -8,9 +8,9 @@ ghost use Rattle.pages.specs.Asks.{ClearAsks};
 ghost use Rattle.release.specs.Marks.{markAt, setMark, readyIn, noMarks, clearWords, flipWord, takeWord, takeMarks};
 ghost use Rattle.release.specs.MarkAsks.{FieldAsks, Near, MarkedBits, MarkedBlock, MarkedOne, MarkedIn, MarkedTo, Stretched, Reaches, Alone};
 use super::Found;
+use super::blocks::behind;
 use super::blocks::block_in;
 use classes::Shape;
-use stack::inverse_of;
 use stack::word_of;
 
 // The mark of block i, and the mark set.
@@ -58,12 +58,12 @@ fn mark_block(meta: &mut [u32], q: u32, i: u32) -> bool
 }
 
 // And of a word's block in the run at q.
-fn mark_one(meta: &mut [u32], shape: Shape, q: u32, base: u64, span: u32, inv: u64, w: u64) -> bool
+fn mark_one(meta: &mut [u32], shape: Shape, q: u32, base: u64, span: u32, w: u64) -> bool
     requires { ⌜ FieldAsks (now meta) shape q ⌝ }
-    requires { ⌜ Near shape q base span inv ⌝ }
+    requires { ⌜ Near shape q base span ⌝ }
     ensures { λ r. ⌜ MarkedOne r (now (meta .exit)) (now (meta .entry)) shape q w ⌝ }
 {
-    let block = block_in(shape, q, base, span, inv, w);
+    let block = block_in(shape, q, base, span, w);
     let Found::At(i) = block else {
         return false;
     };
@@ -103,16 +103,15 @@ fn mark_up(
     q: u32,
     base: u64,
     span: u32,
-    inv: u64,
     list: &[u64],
     i: usize,
 ) -> usize
     requires { ⌜ FieldAsks (now meta) shape q ⌝ }
-    requires { ⌜ Near shape q base span inv ⌝ }
+    requires { ⌜ Near shape q base span ⌝ }
     requires { ⌜ i < length (now list) ⌝ }
     ensures { λ r. ⌜ Reaches r (now (meta .exit)) (now (meta .entry)) shape q (now (list .entry)) i ⌝ }
 {
-    let block = block_in(shape, q, base, span, inv, list[i]);
+    let block = block_in(shape, q, base, span, list[i]);
     let Found::At(t) = block else {
         return i;
     };
@@ -132,16 +131,15 @@ fn mark_down(
     q: u32,
     base: u64,
     span: u32,
-    inv: u64,
     list: &[u64],
     i: usize,
 ) -> usize
     requires { ⌜ FieldAsks (now meta) shape q ⌝ }
-    requires { ⌜ Near shape q base span inv ⌝ }
+    requires { ⌜ Near shape q base span ⌝ }
     requires { ⌜ i < length (now list) ⌝ }
     ensures { λ r. ⌜ Reaches r (now (meta .exit)) (now (meta .entry)) shape q (now (list .entry)) i ⌝ }
 {
-    let block = block_in(shape, q, base, span, inv, list[i]);
+    let block = block_in(shape, q, base, span, list[i]);
     let Found::At(t) = block else {
         return i;
     };
@@ -161,22 +159,21 @@ fn mark_stretch(
     q: u32,
     base: u64,
     span: u32,
-    inv: u64,
     list: &[u64],
     i: usize,
 ) -> usize
     requires { ⌜ FieldAsks (now meta) shape q ⌝ }
-    requires { ⌜ Near shape q base span inv ⌝ }
+    requires { ⌜ Near shape q base span ⌝ }
     requires { ⌜ i < length (now list) ⌝ }
     ensures { λ r. ⌜ Reaches r (now (meta .exit)) (now (meta .entry)) shape q (now (list .entry)) i ⌝ }
 {
     if i + 1 < list.len() {
         let step = std::num::wrapping_sub_u64(list[i + 1], list[i]);
         if step == shape.block as u64 {
-            return mark_up(meta, shape, q, base, span, inv, list, i);
+            return mark_up(meta, shape, q, base, span, list, i);
         }
         if std::num::wrapping_add_u64(step, shape.block as u64) == 0 {
-            return mark_down(meta, shape, q, base, span, inv, list, i);
+            return mark_down(meta, shape, q, base, span, list, i);
         }
     }
     i
@@ -189,19 +186,18 @@ fn mark_few(
     q: u32,
     base: u64,
     span: u32,
-    inv: u64,
     list: &[u64],
     from: usize,
     end: usize,
 ) -> usize
     requires { ⌜ FieldAsks (now meta) shape q ⌝ }
-    requires { ⌜ Near shape q base span inv ⌝ }
+    requires { ⌜ Near shape q base span ⌝ }
     requires { ⌜ (from ≤ end) × (end ≤ length (now list)) ⌝ }
     ensures { λ r. ⌜ MarkedTo r (now (meta .exit)) (now (meta .entry)) shape q (now (list .entry)) from end ⌝ }
 {
     let mut i = from;
     while i < end {
-        if mark_one(meta, shape, q, base, span, inv, list[i]) {
+        if mark_one(meta, shape, q, base, span, list[i]) {
             i += 1;
         } else {
             return i;
@@ -220,21 +216,20 @@ fn mark_by(
     q: u32,
     base: u64,
     span: u32,
-    inv: u64,
     list: &[u64],
     from: usize,
 ) -> usize
     requires { ⌜ FieldAsks (now meta) shape q ⌝ }
-    requires { ⌜ Near shape q base span inv ⌝ }
+    requires { ⌜ Near shape q base span ⌝ }
     requires { ⌜ from ≤ length (now list) ⌝ }
     ensures { λ r. ⌜ MarkedIn r (now (meta .exit)) (now (meta .entry)) shape q (now (list .entry)) from ⌝ }
 {
     let mut i = from;
     while i < list.len() {
-        let next = mark_stretch(meta, shape, q, base, span, inv, list, i);
+        let next = mark_stretch(meta, shape, q, base, span, list, i);
         if next == i {
             let end = i + least(FEW, list.len() - i);
-            let stop = mark_few(meta, shape, q, base, span, inv, list, i, end);
+            let stop = mark_few(meta, shape, q, base, span, list, i, end);
             if stop != end {
                 return stop;
             }
@@ -247,13 +242,13 @@ fn mark_by(
 }
 
 // Whether the word behind place i lies outside the run's blocks, or there is none: so it is with most words of a mixed list of many runs.
-fn alone(shape: Shape, q: u32, base: u64, span: u32, inv: u64, list: &[u64], i: usize) -> bool
-    requires { ⌜ Near shape q base span inv ⌝ }
+fn alone(shape: Shape, q: u32, base: u64, span: u32, list: &[u64], i: usize) -> bool
+    requires { ⌜ Near shape q base span ⌝ }
     requires { ⌜ i < length (now list) ⌝ }
     ensures { λ r. ⌜ Alone r shape q (now (list .entry)) i ⌝ }
 {
     if i + 1 < list.len() {
-        return std::num::wrapping_sub_u64(list[i + 1], base) >= span as u64;
+        return behind(list[i + 1], base) >= span as u64;
     }
     true
 }
@@ -269,11 +264,10 @@ pub fn mark_run(meta: &mut [u32], shape: Shape, q: u32, list: &[u64], from: usiz
     }
     let base = word_of(shape, q, 0);
     let span = shape.capacity * shape.block;
-    let inv = inverse_of(shape.block);
-    if alone(shape, q, base, span, inv, list, from) {
-        return mark_few(meta, shape, q, base, span, inv, list, from, from + 1);
+    if alone(shape, q, base, span, list, from) {
+        return mark_few(meta, shape, q, base, span, list, from, from + 1);
     }
-    mark_by(meta, shape, q, base, span, inv, list, from)
+    mark_by(meta, shape, q, base, span, list, from)
 }
 
 // A list of fewer goes one by one: handing it to `mark_by` costs more than a stretch saves (docs/BACKEND.md).
@@ -287,20 +281,19 @@ pub fn mark_here(meta: &mut [u32], shape: Shape, q: u32, list: &[u64]) -> usize
 {
     let base = word_of(shape, q, 0);
     let span = shape.capacity * shape.block;
-    let inv = inverse_of(shape.block);
     if list.len() < SHORT {
-        return mark_few(meta, shape, q, base, span, inv, list, 0, list.len());
+        return mark_few(meta, shape, q, base, span, list, 0, list.len());
     }
-    mark_by(meta, shape, q, base, span, inv, list, 0)
+    mark_by(meta, shape, q, base, span, list, 0)
 }
 
 // Whether a word's block of the run at q is out, and its word of marks is 0.
-fn ready_by(meta: &[u32], shape: Shape, q: u32, base: u64, span: u32, inv: u64, w: u64) -> bool
+fn ready_by(meta: &[u32], shape: Shape, q: u32, base: u64, span: u32, w: u64) -> bool
     requires { ⌜ FieldAsks (now meta) shape q ⌝ }
-    requires { ⌜ Near shape q base span inv ⌝ }
+    requires { ⌜ Near shape q base span ⌝ }
     ensures { λ r. ⌜ r ≡ readyIn (now (meta .entry)) shape q w ⌝ }
 {
-    let block = block_in(shape, q, base, span, inv, w);
+    let block = block_in(shape, q, base, span, w);
     let Found::At(i) = block else {
         return false;
     };
@@ -320,7 +313,6 @@ pub fn ready_one(meta: &[u32], shape: Shape, q: u32, w: u64) -> bool
         q,
         word_of(shape, q, 0),
         shape.capacity * shape.block,
-        inverse_of(shape.block),
         w,
     )
 }

@@ -7,7 +7,6 @@ ghost use Rattle.classes.specs.Shape.{shapeOf};
 ghost use Rattle.fields.specs.Field.{mark, Has};
 ghost use Rattle.pages.specs.Stack.{back};
 ghost use Rattle.calls.specs.Release.{relisted};
-ghost use Rattle.stack.specs.Inverse.{inverse};
 ghost use Rattle.release.specs.Act.{RunAsks};
 ghost use Rattle.release.specs.Asks.{ClassAsks};
 ghost use Rattle.release.specs.Fair.{FairAsks};
@@ -19,8 +18,7 @@ use super::fair::page_fair;
 use super::fair::row_fair;
 use super::park::relist;
 use classes::Shape;
-use classes::shape_of;
-use stack::inverse_at;
+use classes::shape_at;
 use stack::push_one;
 use stack::word_of;
 
@@ -75,9 +73,8 @@ fn back_one(meta: &mut [u32], n: u32, c: u32, shape: Shape, q: u32, i: u32) -> b
 }
 
 // Of a word whose granule is in the run at q.
-fn one_in(meta: &mut [u32], n: u32, c: u32, shape: Shape, inv: u64, q: u32, w: u64) -> bool
+fn one_in(meta: &mut [u32], n: u32, c: u32, shape: Shape, q: u32, w: u64) -> bool
     requires { ⌜ RunAsks n (now meta) c shape q (w ∷ []) ⌝ }
-    requires { ⌜ inv ≡ inverse (shape .block) ⌝ }
     ensures { λ r. ⌜ OneBack r (now (meta .exit)) n (now (meta .entry)) c shape w ⌝ }
 {
     let block = block_in(
@@ -85,7 +82,6 @@ fn one_in(meta: &mut [u32], n: u32, c: u32, shape: Shape, inv: u64, q: u32, w: u
         q,
         word_of(shape, q, 0),
         shape.capacity * shape.block,
-        inv,
         w,
     );
     let Found::At(i) = block else {
@@ -99,10 +95,10 @@ pub fn release_one(meta: &mut [u32], n: u32, c: u32, w: u64) -> bool
     requires { ⌜ ClassAsks n (now meta) c (shapeOf c) ⌝ }
     ensures { λ r. ⌜ OneBack r (now (meta .exit)) n (now (meta .entry)) c (shapeOf c) w ⌝ }
 {
-    let shape = shape_of(c);
+    let shape = shape_at(c);
     let run = run_of(meta, n, c, shape, w);
     let Found::At(q) = run else {
         return false;
     };
-    one_in(meta, n, c, shape, inverse_at(c), q, w)
+    one_in(meta, n, c, shape, q, w)
 }

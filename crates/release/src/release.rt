@@ -34,8 +34,7 @@ use super::tests::out_fault;
 use classes::Shape;
 use classes::shape_of;
 use pages::page_within;
-use stack::index_by;
-use stack::inverse_of;
+use stack::index_of;
 
 // Whether a word's run begins at q; every listed word's.
 fn starts_at(meta: &[u32], n: u32, q: u32, w: u64) -> bool
@@ -66,11 +65,10 @@ fn take_list(meta: &mut [u32], shape: Shape, q: u32, list: &[u64])
     requires { ⌜ TakeAsks (now meta) shape q (now list) ⌝ }
     ensures { λ _. ⌜ now (meta .exit) ≡ marks (now (meta .entry)) q 0 (map (indexOf shape q) (now (list .entry))) ⌝ }
 {
-    let inv = inverse_of(shape.block);
     let mut i = list.len();
     while i != 0 {
         i -= 1;
-        fields::out::set_bit(meta, q, index_by(shape, inv, q, list[i]), 0);
+        fields::out::set_bit(meta, q, index_of(shape, q, list[i]), 0);
     }
 }
 

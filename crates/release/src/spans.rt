@@ -5,17 +5,16 @@ ghost use Prim.Native.Nat.{_/_, _<_};
 ghost use lib.Dec.{eqb};
 ghost use Rattle.facts.specs.Lists.{every};
 ghost use Rattle.classes.specs.Sound.{Sound};
-ghost use Rattle.stack.specs.Inverse.{inverse};
 ghost use Rattle.release.specs.Spans.{stretchOf, inStretch, SpanOf, StretchWords, SpanAsks};
+use super::blocks::behind;
 use classes::Shape;
-use stack::inverse_of;
 use stack::word_of;
 
 // In which stretch of 512 granules from the run's first block on a word lies; base is that block's word. A word before it wraps to a late stretch.
 fn stretch_of(base: u64, w: u64) -> u64
     ensures { λ r. ⌜ r ≡ stretchOf base w ⌝ }
 {
-    std::num::wrapping_sub_u64(w, base) / 512
+    behind(w, base) / 512
 }
 
 // By which bits a word's stretch differs.
@@ -40,13 +39,12 @@ fn all_within(list: &[u64], base: u64, k: u64) -> bool
 }
 
 // The word of marks of the block x granules behind the run's first block.
-fn mark_word(shape: Shape, inv: u64, x: u64) -> u32
+fn mark_word(shape: Shape, x: u64) -> u32
     requires { ⌜ Sound shape ⌝ }
-    requires { ⌜ inv ≡ inverse (shape .block) ⌝ }
     requires { ⌜ x < 4096 ⌝ }
     ensures { λ r. ⌜ r ≡ x / shape .block / 32 ⌝ }
 {
-    ((x * inv) >> 32) as u32 / 32
+    ((x * shape.inverse) >> 32) as u32 / 32
 }
 
 // The words of marks of the blocks in stretch k.
@@ -55,9 +53,8 @@ fn stretch_words(shape: Shape, k: u64) -> u32
     requires { ⌜ k < 8 ⌝ }
     ensures { λ r. ⌜ StretchWords r shape k ⌝ }
 {
-    let inv = inverse_of(shape.block);
-    let from = mark_word(shape, inv, k * 512);
-    let last = mark_word(shape, inv, k * 512 + 511);
+    let from = mark_word(shape, k * 512);
+    let last = mark_word(shape, k * 512 + 511);
     from * 256 + (last - from + 1)
 }
 

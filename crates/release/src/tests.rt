@@ -4,7 +4,6 @@ ghost use Prim.Native.Nat.{_/_, _≤_};
 ghost use lib.ListN.{length, take};
 ghost use Rattle.facts.specs.Lists.{every};
 ghost use Rattle.fields.specs.Field.{mark, Has};
-ghost use Rattle.stack.specs.Inverse.{inverse};
 ghost use Rattle.calls.specs.Out.{outIn, outAt, unmarked};
 ghost use Rattle.release.specs.Asks.{InAsks, ClassAsks};
 ghost use Rattle.release.specs.Marks.{cleanIn, cleanAt, clearedIn, clearedAt, clearBook};
@@ -15,15 +14,13 @@ use super::blocks::run_of;
 use super::marks::mark_bit;
 use super::marks::set_mark;
 use classes::Shape;
-use stack::inverse_of;
 
 // ---- number 13: a word that is out in the run at q has a word of marks that is 0
-fn clean_in(meta: &[u32], shape: Shape, inv: u64, q: u32, w: u64) -> bool
+fn clean_in(meta: &[u32], shape: Shape, q: u32, w: u64) -> bool
     requires { ⌜ InAsks (now meta) shape q ⌝ }
-    requires { ⌜ inv ≡ inverse (shape .block) ⌝ }
     ensures { λ r. ⌜ r ≡ cleanIn (now (meta .entry)) shape q w ⌝ }
 {
-    let block = block_at(shape, inv, q, w);
+    let block = block_at(shape, q, w);
     let Found::At(i) = block else {
         return true;
     };
@@ -34,26 +31,24 @@ fn clean_in(meta: &[u32], shape: Shape, inv: u64, q: u32, w: u64) -> bool
 }
 
 // The same of a word that is out in the class.
-fn clean_at(meta: &[u32], n: u32, c: u32, shape: Shape, inv: u64, w: u64) -> bool
+fn clean_at(meta: &[u32], n: u32, c: u32, shape: Shape, w: u64) -> bool
     requires { ⌜ ClassAsks n (now meta) c shape ⌝ }
-    requires { ⌜ inv ≡ inverse (shape .block) ⌝ }
     ensures { λ r. ⌜ r ≡ cleanAt n (now (meta .entry)) c shape w ⌝ }
 {
     let run = run_of(meta, n, c, shape, w);
     let Found::At(q) = run else {
         return true;
     };
-    clean_in(meta, shape, inv, q, w)
+    clean_in(meta, shape, q, w)
 }
 
 fn list_clean(meta: &[u32], n: u32, c: u32, shape: Shape, list: &[u64]) -> bool
     requires { ⌜ ClassAsks n (now meta) c shape ⌝ }
     ensures { λ r. ⌜ r ≡ unmarked n (now (meta .entry)) c shape (now (list .entry)) ⌝ }
 {
-    let inv = inverse_of(shape.block);
     let mut i = 0;
     while i < list.len() {
-        if clean_at(meta, n, c, shape, inv, list[i]) {
+        if clean_at(meta, n, c, shape, list[i]) {
             i += 1;
         } else {
             return false;
@@ -77,28 +72,26 @@ fn pass_block(meta: &mut [u32], q: u32, i: u32) -> bool
     true
 }
 
-fn pass_in(meta: &mut [u32], shape: Shape, inv: u64, q: u32, w: u64) -> bool
+fn pass_in(meta: &mut [u32], shape: Shape, q: u32, w: u64) -> bool
     requires { ⌜ InAsks (now meta) shape q ⌝ }
-    requires { ⌜ inv ≡ inverse (shape .block) ⌝ }
     ensures { λ r. ⌜ PassedIn r (now (meta .exit)) (now (meta .entry)) shape q w ⌝ }
 {
-    let block = block_at(shape, inv, q, w);
+    let block = block_at(shape, q, w);
     let Found::At(i) = block else {
         return true;
     };
     pass_block(meta, q, i)
 }
 
-fn pass_at(meta: &mut [u32], n: u32, c: u32, shape: Shape, inv: u64, w: u64) -> bool
+fn pass_at(meta: &mut [u32], n: u32, c: u32, shape: Shape, w: u64) -> bool
     requires { ⌜ ClassAsks n (now meta) c shape ⌝ }
-    requires { ⌜ inv ≡ inverse (shape .block) ⌝ }
     ensures { λ r. ⌜ PassedAt r (now (meta .exit)) n (now (meta .entry)) c shape w ⌝ }
 {
     let run = run_of(meta, n, c, shape, w);
     let Found::At(q) = run else {
         return true;
     };
-    pass_in(meta, shape, inv, q, w)
+    pass_in(meta, shape, q, w)
 }
 
 // The words that are out in the class are marked, up to the first that is marked already: its place.
@@ -106,10 +99,9 @@ fn mark_list(meta: &mut [u32], n: u32, c: u32, shape: Shape, list: &[u64]) -> us
     requires { ⌜ ClassAsks n (now meta) c shape ⌝ }
     ensures { λ r. ⌜ MarkedList r (now (meta .exit)) n (now (meta .entry)) c shape (now (list .entry)) ⌝ }
 {
-    let inv = inverse_of(shape.block);
     let mut i = 0;
     while i < list.len() {
-        if pass_at(meta, n, c, shape, inv, list[i]) {
+        if pass_at(meta, n, c, shape, list[i]) {
             i += 1;
         } else {
             return i;
@@ -119,12 +111,11 @@ fn mark_list(meta: &mut [u32], n: u32, c: u32, shape: Shape, list: &[u64]) -> us
 }
 
 // ---- and back: the word of marks of a word that is out becomes 0
-fn clear_in(meta: &mut [u32], shape: Shape, inv: u64, q: u32, w: u64)
+fn clear_in(meta: &mut [u32], shape: Shape, q: u32, w: u64)
     requires { ⌜ InAsks (now meta) shape q ⌝ }
-    requires { ⌜ inv ≡ inverse (shape .block) ⌝ }
     ensures { λ _. ⌜ now (meta .exit) ≡ clearedIn (now (meta .entry)) shape q w ⌝ }
 {
-    let block = block_at(shape, inv, q, w);
+    let block = block_at(shape, q, w);
     let Found::At(i) = block else {
         return;
     };
@@ -133,16 +124,15 @@ fn clear_in(meta: &mut [u32], shape: Shape, inv: u64, q: u32, w: u64)
     }
 }
 
-fn clear_at(meta: &mut [u32], n: u32, c: u32, shape: Shape, inv: u64, w: u64)
+fn clear_at(meta: &mut [u32], n: u32, c: u32, shape: Shape, w: u64)
     requires { ⌜ ClassAsks n (now meta) c shape ⌝ }
-    requires { ⌜ inv ≡ inverse (shape .block) ⌝ }
     ensures { λ _. ⌜ now (meta .exit) ≡ clearedAt n (now (meta .entry)) c shape w ⌝ }
 {
     let run = run_of(meta, n, c, shape, w);
     let Found::At(q) = run else {
         return;
     };
-    clear_in(meta, shape, inv, q, w);
+    clear_in(meta, shape, q, w);
 }
 
 // The first `count` listed words.
@@ -151,10 +141,9 @@ fn clear_list(meta: &mut [u32], n: u32, c: u32, shape: Shape, list: &[u64], coun
     requires { ⌜ count ≤ length (now list) ⌝ }
     ensures { λ _. ⌜ now (meta .exit) ≡ clearBook n (now (meta .entry)) c shape (take count (now (list .entry))) ⌝ }
 {
-    let inv = inverse_of(shape.block);
     let mut i = 0;
     while i < count {
-        clear_at(meta, n, c, shape, inv, list[i]);
+        clear_at(meta, n, c, shape, list[i]);
         i += 1;
     }
 }
@@ -173,38 +162,35 @@ fn list_repeats(meta: &mut [u32], n: u32, c: u32, shape: Shape, list: &[u64]) ->
 }
 
 // ---- number 10: a word is out in the run at q; in the class
-fn out_in(meta: &[u32], shape: Shape, inv: u64, q: u32, w: u64) -> bool
+fn out_in(meta: &[u32], shape: Shape, q: u32, w: u64) -> bool
     requires { ⌜ InAsks (now meta) shape q ⌝ }
-    requires { ⌜ inv ≡ inverse (shape .block) ⌝ }
     ensures { λ r. ⌜ r ≡ outIn (now (meta .entry)) shape q w ⌝ }
 {
-    let block = block_at(shape, inv, q, w);
+    let block = block_at(shape, q, w);
     let Found::At(i) = block else {
         return false;
     };
     fields::out::bit(meta, q, i) == 1
 }
 
-fn out_at(meta: &[u32], n: u32, c: u32, shape: Shape, inv: u64, w: u64) -> bool
+fn out_at(meta: &[u32], n: u32, c: u32, shape: Shape, w: u64) -> bool
     requires { ⌜ ClassAsks n (now meta) c shape ⌝ }
-    requires { ⌜ inv ≡ inverse (shape .block) ⌝ }
     ensures { λ r. ⌜ r ≡ outAt n (now (meta .entry)) c shape w ⌝ }
 {
     let run = run_of(meta, n, c, shape, w);
     let Found::At(q) = run else {
         return false;
     };
-    out_in(meta, shape, inv, q, w)
+    out_in(meta, shape, q, w)
 }
 
 fn list_out(meta: &[u32], n: u32, c: u32, shape: Shape, list: &[u64]) -> bool
     requires { ⌜ ClassAsks n (now meta) c shape ⌝ }
     ensures { λ r. ⌜ r ≡ every (outAt n (now (meta .entry)) c shape) (now (list .entry)) ⌝ }
 {
-    let inv = inverse_of(shape.block);
     let mut i = 0;
     while i < list.len() {
-        if out_at(meta, n, c, shape, inv, list[i]) {
+        if out_at(meta, n, c, shape, list[i]) {
             i += 1;
         } else {
             return false;

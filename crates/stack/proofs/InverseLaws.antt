@@ -9,8 +9,8 @@ use mir.Val.{Fits}
 use mir.Syntax.{w32, w64}
 use lib.Pow.{high, low}
 use Rattle.classes.specs.declared.Shape.{Shape}
+use Rattle.classes.specs.Shape.{inverse}
 use Rattle.classes.specs.Sound.{Sound}
-use Rattle.stack.specs.Inverse.{inverse}
 
 -- what the inverse of d has too much, d times
 abbrev excess : ℕ → ℕ
@@ -70,17 +70,6 @@ module _ (x d : ℕ) (small : x < 2 ^ 16) (some : 1 ≤ d) (few : d ≤ 2 ^ 15) 
   past-point = rest-some d (inverse d) (excess d) (too-much d some) (omega arith) few x (x / d) (x % d) (div-add-mod' x d) (mod-lt x positive) small
 
 -- ---- what the code asks
-module _ (d p : ℕ) (e : p ≡ (2 ^ 32 - 1) / d) where
-  pub part-fits : Fits w64 p
-  part-fits = record { fits = omega (arith, div-le-self (2 ^ 32 - 1) d) }
-
-  pub inverse-fits : Fits w64 (p + 1)
-  inverse-fits = record { fits = omega (arith, div-le-self (2 ^ 32 - 1) d) }
-
-  pub inverse-is : p + 1 ≡ inverse d
-  unfolding inverse
-  inverse-is = ap (λ x. x + 1) e
-
 inverse-le : (d : ℕ) → inverse d ≤ 2 ^ 32
 unfolding inverse
 inverse-le d = omega (arith, div-le-self (2 ^ 32 - 1) d)
@@ -91,16 +80,16 @@ narrow sh s =
     let l : 1 * sh .block ≤ sh .capacity * sh .block = mul-le-mul-right (sh .block) (s .blocks) in
     omega (arith, s .fits, s .short)
 
-module _ (sh : Shape) (x m : ℕ) (e : m ≡ inverse (sh .block)) (h : x < 2 ^ 16) where
-  pub product-fits : Fits w64 (x * m)
+module _ (sh : Shape) (s : Sound sh) (x : ℕ) (h : x < 2 ^ 16) where
+  pub product-fits : Fits w64 (x * sh .inverse)
   product-fits =
       let a : x ≤ 65535 = omega arith in
-      let b : m ≤ 2 ^ 32 = omega (arith, inverse-le (sh .block)) in
-      let c : x * m ≤ 65535 * 2 ^ 32 = mul-le-mul a b in
+      let b : sh .inverse ≤ 2 ^ 32 = omega (arith, s .inverts, inverse-le (sh .block)) in
+      let c : x * sh .inverse ≤ 65535 * 2 ^ 32 = mul-le-mul a b in
       record { fits = omega arith }
 
-  pub divides : Sound sh → x * m / 2 ^ 32 ≡ x / sh .block
-  divides s = rw e (by-inverse x (sh .block) h (s .wide) (narrow sh s))
+  pub divides : x * sh .inverse / 2 ^ 32 ≡ x / sh .block
+  divides = rw (s .inverts) (by-inverse x (sh .block) h (s .wide) (narrow sh s))
 
-  pub quotient-fits : Sound sh → Fits w32 (x * m / 2 ^ 32)
-  quotient-fits s = record { fits = omega (arith, divides s, div-le-self x (sh .block)) }
+  pub quotient-fits : Fits w32 (x * sh .inverse / 2 ^ 32)
+  quotient-fits = record { fits = omega (arith, divides, div-le-self x (sh .block)) }

@@ -19,7 +19,6 @@ use Rattle.fields.proofs.Laws.{length-put}
 use Rattle.pages.specs.Stack.{pageSlots, indexOf, isBlock, push, pushed}
 use Rattle.pages.specs.Asks.{IndexAsks, LayAsks}
 use Rattle.stack.specs.Lay.{PairsAsks}
-use Rattle.stack.specs.Inverse.{inverse}
 
 -- each listed word's block has an index
 index-asks : (sh : Shape) (q : ℕ) (ws : List ℕ) (k : ℕ) → Sound sh → q < maxPages → every (λ w. ltb (indexOf sh q w) pageSlots) ws ≡ true → k < length ws → IndexAsks sh q (getD ws k 0)
@@ -66,7 +65,7 @@ module _ (b₀ : List ℕ) (sh : Shape) (q x : ℕ) (ws : List ℕ) (n : ℕ) wh
     pub long : length b ≡ length b₀
     pub laying : Laying b₀ sh q (2 * x) (take n ws) b i (2 * t)
 
-  module _ (m : ℕ) (a : PairsAsks b₀ sh m q x ws n) where
+  module _ (a : PairsAsks b₀ sh q x ws n) where
     asks : (k : ℕ) → k < n → IndexAsks sh q (getD ws k 0)
     asks k l = index-asks sh q ws k (a .sound) (a .below) (a .bits) (omega (arith, a .within))
 
@@ -145,13 +144,12 @@ module _ (b : List ℕ) (sh : Shape) (q t : ℕ) (ws : List ℕ) (a : LayAsks b 
   pub end-asks : IndexAsks sh q (getD ws (length ws - 1) 0)
   end-asks = index-asks sh q ws (length ws - 1) (a .sound) (a .below) (a .bits) (omega arith)
 
-  pub odd-asks : (b₁ : List ℕ) (m k : ℕ) → m ≡ inverse (sh .block) → (t % 2 ≡ 0 → ⊥) → b₁ ≡ put b (slot q t) k → PairsAsks b₁ sh m q (t / 2 + 1) ws (length ws - 1)
-  odd-asks b₁ m k i o e =
+  pub odd-asks : (b₁ : List ℕ) (k : ℕ) → (t % 2 ≡ 0 → ⊥) → b₁ ≡ put b (slot q t) k → PairsAsks b₁ sh q (t / 2 + 1) ws (length ws - 1)
+  odd-asks b₁ k o e =
       record {
         sound = a .sound;
         below = a .below;
         there = omega (arith, a .there, ap length e, length-put b (slot q t) k);
-        by = i;
         within = omega arith;
         slots = omega (arith, a .slots);
         bits = a .bits;

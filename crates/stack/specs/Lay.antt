@@ -11,14 +11,12 @@ use Rattle.classes.specs.Sound.{Sound}
 use Rattle.fields.specs.Field.{words}
 use Rattle.fields.specs.Ranges.{maxPages}
 use Rattle.pages.specs.Stack.{indexOf, pageSlots}
-use Rattle.stack.specs.Inverse.{inverse}
 
--- the first n of the words ws laid on a stack of 2 x entries; m is the inverse of the block's granules
-pub record PairsAsks (b : List ℕ) (sh : Shape) (m q x : ℕ) (ws : List ℕ) (n : ℕ) : Type 0 where
+-- the first n of the words ws laid on a stack of 2 x entries
+pub record PairsAsks (b : List ℕ) (sh : Shape) (q x : ℕ) (ws : List ℕ) (n : ℕ) : Type 0 where
   pub sound : Sound sh
   pub below : q < maxPages
   pub there : words (q + 1) ≤ length b
-  pub by : m ≡ inverse (sh .block)
   pub within : n ≤ length ws
   pub slots : 2 * x + n ≤ pageSlots
   pub bits : every (λ w. ltb (indexOf sh q w) pageSlots) ws ≡ true

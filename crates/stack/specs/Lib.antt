@@ -1,3 +1,2 @@
-pub mod Inverse
 pub mod Lay
 pub mod Stretch

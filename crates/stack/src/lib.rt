@@ -7,11 +7,7 @@ mod push;
 mod single;
 
 pub use blocks::has_more;
-pub use blocks::index_by;
-pub use blocks::index_in;
 pub use blocks::index_of;
-pub use blocks::inverse_at;
-pub use blocks::inverse_of;
 pub use blocks::word_of;
 pub use draw::draw_blocks;
 pub use push::push_list;

@@ -8,13 +8,12 @@ ghost use Rattle.facts.specs.Lists.{every};
 ghost use Rattle.pages.specs.Stack.{indexOf, isBlock, push, pushed};
 ghost use Rattle.pages.specs.Asks.{LayAsks, PushAsks};
 ghost use Rattle.stack.specs.Lay.{PairsAsks};
-use crate::blocks::index_in;
-use crate::blocks::inverse_of;
+use crate::blocks::index_of;
 use classes::Shape;
 
 // The list's first n blocks on a stack of 2 x entries, two at a time: entries 2 x and 2 x + 1 are one word.
-fn lay_pairs(meta: &mut [u32], shape: Shape, inv: u64, q: u32, x: u32, list: &[u64], n: usize)
-    requires { ⌜ PairsAsks (now meta) shape inv q x (now list) n ⌝ }
+fn lay_pairs(meta: &mut [u32], shape: Shape, q: u32, x: u32, list: &[u64], n: usize)
+    requires { ⌜ PairsAsks (now meta) shape q x (now list) n ⌝ }
     requires { ⌜ every (isBlock shape q) (now list) ≡ true ⌝ }
     ensures { λ _. ⌜ now (meta .exit) ≡ push (now (meta .entry)) q (2 * x) (map (indexOf shape q) (take n (now (list .entry)))) ⌝ }
 {
@@ -26,15 +25,15 @@ fn lay_pairs(meta: &mut [u32], shape: Shape, inv: u64, q: u32, x: u32, list: &[u
             meta,
             q,
             t,
-            index_in(shape, inv, q, list[i + 1]),
-            index_in(shape, inv, q, list[i]),
+            index_of(shape, q, list[i + 1]),
+            index_of(shape, q, list[i]),
         );
         t += 1;
     }
     if i == 0 {
         return;
     }
-    fields::slot::set_entry(meta, q, 2 * t, index_in(shape, inv, q, list[0]));
+    fields::slot::set_entry(meta, q, 2 * t, index_of(shape, q, list[0]));
 }
 
 // The list's blocks on a stack of `top`, the list's first on top.
@@ -47,17 +46,16 @@ fn lay_blocks(meta: &mut [u32], shape: Shape, q: u32, top: u32, list: &[u64])
     if n == 0 {
         return;
     }
-    let inv = inverse_of(shape.block);
     if n == 1 {
-        fields::slot::set_entry(meta, q, top, index_in(shape, inv, q, list[0]));
+        fields::slot::set_entry(meta, q, top, index_of(shape, q, list[0]));
         return;
     }
     if top % 2 == 0 {
-        lay_pairs(meta, shape, inv, q, top / 2, list, n);
+        lay_pairs(meta, shape, q, top / 2, list, n);
         return;
     }
-    fields::slot::set_entry(meta, q, top, index_in(shape, inv, q, list[n - 1]));
-    lay_pairs(meta, shape, inv, q, top / 2 + 1, list, n - 1);
+    fields::slot::set_entry(meta, q, top, index_of(shape, q, list[n - 1]));
+    lay_pairs(meta, shape, q, top / 2 + 1, list, n - 1);
 }
 
 // The list's blocks before the page's free ones. Their out bits are the caller's.

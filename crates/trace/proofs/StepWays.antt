@@ -1,6 +1,7 @@
 -- The ways out of a word's code.
 use Prim.Native.Nat.{ℕ, zero, suc, _+_, _-_, _*_, _^_, _≤_, _<_}
 use native.Mathlib.Omega.{arith}
+use native.Mathlib.Nat.{mod-eq-of-lt}
 use mathlib.Core.Bool.{Bool, true, false, not, _||_, false≢true}
 use mathlib.Core.List.{List, [], _∷_}
 use mathlib.Core.Path.{_≡_, refl, sym, ap, _∙_}
@@ -10,7 +11,8 @@ use lib.ListN.{length, getD, set, length-set, List·getD-eq-default}
 use lib.Seq.{getD-take, drop-set-lt}
 use borrow.Author.Tests.{ne-eqb, eqb-true, lt-ltb, le-ltb, not-true, not-false}
 use Rattle.facts.proofs.Bools.{by-cases}
-use Rattle.words.specs.Word.{kindOf}
+use Rattle.words.specs.Word.{kindOf, granuleOf, packBlock}
+use Rattle.words.proofs.RoundTrip.{granule-lt}
 use Rattle.classes.specs.declared.Shape.{Shape}
 use Rattle.classes.specs.Shape.{shapeOf}
 use Rattle.release.specs.declared.Released.{Released}
@@ -31,26 +33,25 @@ module _ (w k : ℕ) (e : k ≡ kindOf w) where
   pub block-two : (k ≡ 1 → ⊥) → eqb k 2 ≡ isBlock w
   block-two z = rw (← e, ne-eqb k 1 z)
 
-  pub turn-one : k ≡ 1 → w - 2 ^ 62 ≡ turned w
-  turn-one z = rw (← e, z)
+  kind-two : isBlock w ≡ true → (k ≡ 1 → ⊥) → kindOf w ≡ 2
+  kind-two h z = by-cases (eqb (kindOf w) 2) (λ u. eqb-true (kindOf w) 2 u) (λ u. absurd (false≢true (rw (← e, ne-eqb k 1 z) at (rw u at h))))
 
-  pub turn-two : (k ≡ 1 → ⊥) → w + 2 ^ 62 ≡ turned w
-  turn-two z = rw (← e, ne-eqb k 1 z)
+  pub turn-one : (r : ℕ) → k ≡ 1 → r ≡ packBlock 0 (granuleOf w) → r ≡ turned w
+  turn-one r z f = let y : w - 2 ^ 62 ≡ 0 + granuleOf w = omega arith in f ∙ rw (mod-eq-of-lt (granule-lt w), ← e, z) (sym y)
 
-  pub straight-none : k ≡ 0 → w + 2 ^ 62 ≡ straight w
-  straight-none z = rw (← e, z)
+  pub turn-two : (r : ℕ) → isBlock w ≡ true → (k ≡ 1 → ⊥) → r ≡ packBlock 3 (granuleOf w) → r ≡ turned w
+  turn-two r h z f =
+      let y : w + 2 ^ 62 ≡ 3 * 2 ^ 62 + granuleOf w = omega (arith, kind-two h z) in
+      f ∙ rw (mod-eq-of-lt (granule-lt w), ← e, ne-eqb k 1 z) (sym y)
 
-  pub straight-three : (k ≡ 0 → ⊥) → k ≡ 3 → w - 2 ^ 62 ≡ straight w
-  straight-three y z = rw (← e, z)
+  pub straight-none : (r : ℕ) → k ≡ 0 → r ≡ packBlock 1 (granuleOf w) → r ≡ straight w
+  straight-none r z f = let y : w + 2 ^ 62 ≡ 1 * 2 ^ 62 + granuleOf w = omega arith in f ∙ rw (mod-eq-of-lt (granule-lt w), ← e, z) (sym y)
+
+  pub straight-three : (r : ℕ) → (k ≡ 0 → ⊥) → k ≡ 3 → r ≡ packBlock 2 (granuleOf w) → r ≡ straight w
+  straight-three r y z f = let x : w - 2 ^ 62 ≡ 2 * 2 ^ 62 + granuleOf w = omega arith in f ∙ rw (mod-eq-of-lt (granule-lt w), ← e, z) (sym x)
 
   pub straight-else : (k ≡ 0 → ⊥) → (k ≡ 3 → ⊥) → w ≡ straight w
   straight-else y z = rw (← e, ne-eqb k 0 y, ne-eqb k 3 z)
-
-  pub kind-two : isBlock w ≡ true → (k ≡ 1 → ⊥) → kindOf w ≡ 2
-  kind-two h z = by-cases (eqb (kindOf w) 2) (λ u. eqb-true (kindOf w) 2 u) (λ u. absurd (false≢true (rw (← e, ne-eqb k 1 z) at (rw u at h))))
-
-  pub turn-fits : isBlock w ≡ true → (k ≡ 1 → ⊥) → w + 2 ^ 62 < 2 ^ 64
-  turn-fits h z = omega (arith, kind-two h z)
 
 pub block-yes : (w : ℕ) (r : Bool) → r ≡ isBlock w → not r ≡ false → isBlock w ≡ true
 block-yes w r e y = sym e ∙ not-false r y

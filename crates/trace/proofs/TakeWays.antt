@@ -128,13 +128,10 @@ module _ (n : ℕ) (b bl : List ℕ) (t : Tally) (c : ℕ) (a : t .at ≤ length
             })
 
 -- ---- the take itself, through a list of its own
-now-is : (n : ℕ) (b : List ℕ) (c : ℕ) (o : Take) (b′ l′ : List ℕ) → Takes o b′ l′ (takeCall n b c (shapeOf c) 15 blank) → Takes o b′ l′ (takeNow n b c)
-unfolding takeNow
-now-is n b c o b′ l′ x = x
-
-module _ (n : ℕ) (b bl : List ℕ) (c i : ℕ) (b′ l′ : List ℕ) (o : Take) (y : Takes o b′ l′ (takeCall n b c (shapeOf c) 15 blank)) where
+module _ (n : ℕ) (b bl : List ℕ) (c i : ℕ) (b′ l′ : List ℕ) (o : Take) (h : ℕ) (g : h ≡ 15) (y : Takes o b′ l′ (takeCall n b c (shapeOf c) h blank)) where
   x : Takes o b′ l′ (takeNow n b c)
-  x = now-is n b c o b′ l′ y
+  unfolding takeNow
+  x = rw g at y
 
   pub now-refused : (k : ℕ) → o ≡ Refused k → TakesAt (Refused k) b′ bl (takeNow n b c) bl i
   now-refused k e =

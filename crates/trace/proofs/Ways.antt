@@ -51,5 +51,5 @@ module _ (n : ℕ) (b : List ℕ) (w k : ℕ) (e : k ≡ ownerAt n b w) where
     pub rest-asks : t ≡ false → BookAsks n b → ClassAsks n b′ (k - 1) (shapeOf (k - 1))
     rest-asks x a = rw (o .left x) (back-asks z h a)
 
-    pub back-rest : t ≡ false → (r : Released) (b″ : List ℕ) → Answered r b″ (releaseBlocks n b′ (k - 1) (shapeOf (k - 1)) 15 (w ∷ [])) → Answered r b″ (backNow n b w)
-    back-rest x r b″ a = done z h r b″ (rw (o .left x) at a)
+    pub back-rest : t ≡ false → (h : ℕ) → h ≡ 15 → (r : Released) (b″ : List ℕ) → Answered r b″ (releaseBlocks n b′ (k - 1) (shapeOf (k - 1)) h (w ∷ [])) → Answered r b″ (backNow n b w)
+    back-rest x g e r b″ a = done z h r b″ (rw (e, o .left x) at a)

@@ -1,6 +1,7 @@
 // The calls that a trace's words stand for.
 ghost use mathlib.Core.Path.{_≡_};
 ghost use lib.Dec.{leb};
+ghost use Rattle.words.specs.Host.{hostMax};
 ghost use Rattle.take.specs.TakePlan.{CallAsks};
 ghost use Rattle.release.specs.Act.{Answered};
 ghost use Rattle.trace.specs.Words.{ownerAt, classAt, takeNow, backNow};
@@ -10,9 +11,15 @@ ghost use lib.ListN.{length};
 use crate::lists::lay;
 use release::Released;
 use take::call::Take;
+use words::Host;
 
 // "Host answers are all granted and zeroing".
-pub const HOST: u32 = 15;
+fn all_granted() -> u32
+    ensures { λ r. ⌜ r ≡ hostMax ⌝ }
+{
+    let host = Host::new(true, true, true, true);
+    host.bits
+}
 
 // OWNER of the block's page: its class and 1. No book is read beyond its pages.
 pub fn owner_at(meta: &[u32], n: u32, w: u64) -> u32
@@ -54,7 +61,7 @@ pub fn back_now(meta: &mut [u32], n: u32, w: u64) -> Released
         return Released::Fate(release::KEPT_FATE);
     }
     let list = [w];
-    release::release_list(meta, n, k - 1, HOST, &list)
+    release::release_list(meta, n, k - 1, all_granted(), &list)
 }
 
 // Is there room for the blocks of a take: for 64 there always is; else they are counted first.
@@ -75,7 +82,7 @@ pub fn take_now(meta: &mut [u32], n: u32, c: u32, blocks: &mut [u64], at: usize)
     ensures { λ r. ⌜ TakesAt r (now (meta .exit)) (now (blocks .exit)) (takeNow n (now (meta .entry)) c) (now (blocks .entry)) at ⌝ }
 {
     let mut list = [0; 64];
-    match take::call::take_call(meta, n, c, HOST, &mut list) {
+    match take::call::take_call(meta, n, c, all_granted(), &mut list) {
         Take::Refused(k) => Take::Refused(k),
         Take::Took(m, v) => {
             lay(blocks, at, &list, m as usize);

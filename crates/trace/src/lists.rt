@@ -4,13 +4,10 @@ ghost use mathlib.Core.Bool.{true};
 ghost use Prim.Native.Nat.{_+_, _≤_};
 ghost use lib.ListN.{length};
 ghost use lib.Seq.{paste};
-ghost use Rattle.words.specs.Word.{kindOf};
+ghost use Rattle.words.specs.Word.{kindOf, granuleOf, packBlock};
 ghost use Rattle.trace.specs.Words.{isBlock, turned, straight};
 ghost use Rattle.trace.specs.Asks.{straightened};
 use words::Word;
-
-// A word of the next kind has so much more.
-const NEXT_KIND: u64 = 1 << 62;
 
 fn kind_of(w: u64) -> u32
     ensures { λ r. ⌜ r ≡ kindOf w ⌝ }
@@ -22,10 +19,18 @@ pub fn is_block(w: u64) -> bool
     ensures { λ r. ⌜ r ≡ isBlock w ⌝ }
 {
     let kind = kind_of(w);
-    if kind == 1 {
+    if kind == Word::SMALL {
         return true;
     }
-    kind == 2
+    kind == Word::MEDIUM
+}
+
+// A word with its kind changed.
+fn with_kind(kind: u32, w: u64) -> u64
+    ensures { λ r. ⌜ r ≡ packBlock kind (granuleOf w) ⌝ }
+{
+    let word = Word::block(kind, Word::of(w).granule());
+    word.bits
 }
 
 // The word of a released block: its kind goes from 1 to 0, from 2 to 3.
@@ -33,10 +38,10 @@ pub fn turn(w: u64) -> u64
     requires { ⌜ isBlock w ≡ true ⌝ }
     ensures { λ r. ⌜ r ≡ turned w ⌝ }
 {
-    if kind_of(w) == 1 {
-        return w - NEXT_KIND;
+    if kind_of(w) == Word::SMALL {
+        return with_kind(Word::NONE, w);
     }
-    w + NEXT_KIND
+    with_kind(Word::CHUNK, w)
 }
 
 // The first m numbers of one list, words or figures, come to another, from place `at` on.
@@ -56,11 +61,11 @@ fn straight(w: u64) -> u64
     ensures { λ r. ⌜ r ≡ straight w ⌝ }
 {
     let kind = kind_of(w);
-    if kind == 0 {
-        return w + NEXT_KIND;
+    if kind == Word::NONE {
+        return with_kind(Word::SMALL, w);
     }
-    if kind == 3 {
-        return w - NEXT_KIND;
+    if kind == Word::CHUNK {
+        return with_kind(Word::MEDIUM, w);
     }
     w
 }

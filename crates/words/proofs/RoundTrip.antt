@@ -1,7 +1,7 @@
 -- Making a word and taking it apart undo each other.
 --     kind-block, granule-block, block-again              of blocks: the parts of what is made, and the word from its parts
 --     kind-chunk, count-chunk, page-chunk, chunk-again    of chunks
---     pack-block, pack-chunk                              numbers that fit lose nothing
+--     pack-block                                          numbers that fit lose nothing
 --     block-lt, chunk-below, chunk-lt, kind-lt, granule-lt, count-lt, page-lt    what is made is a word, and the parts of a word fit
 use mathlib.Core.Path.{_≡_, sym, ap, ap₂, _∙_}
 use Prim.Native.Nat.{ℕ, _+_, _*_, _/_, _%_, _^_, _<_}
@@ -9,7 +9,7 @@ use native.Mathlib.Nat.{mod-lt, mod-eq-of-lt}
 use lib.Arith.{digits-lt}
 use lib.Dec.{lit<}
 use lib.Pow.{pow-pos, split, high, low, field, mod-pow-add, mod-mod-pow, shr-lt}
-use Rattle.words.specs.Word.{chunkKind, kindBits, kindWidth, wordBits, pageBits, countBits, kindOf, granuleOf, countOf, pageOf, blockWord, chunkWord, packBlock, packChunk}
+use Rattle.words.specs.Word.{chunkKind, kindBits, kindWidth, wordBits, pageBits, countBits, kindOf, granuleOf, countOf, pageOf, blockWord, chunkWord, packBlock}
 
 -- ---- the parts of a word
 
@@ -65,9 +65,6 @@ module _ {count page : ℕ} (hc : count < 2 ^ countBits) (hp : page < 2 ^ pageBi
 
   pub chunk-lt : chunkWord count page < 2 ^ wordBits
   chunk-lt = block-lt chunkKind chunk-below (lit< tt)
-
-  pub pack-chunk : packChunk count page ≡ chunkWord count page
-  pack-chunk = ap₂ chunkWord (mod-eq-of-lt hc) (mod-eq-of-lt hp)
 
 -- every word of a chunk is that of its count and page
 pub chunk-again : (w : ℕ) → kindOf w ≡ chunkKind → chunkWord (countOf w) (pageOf w) ≡ w

@@ -52,12 +52,6 @@ blockWord kind granule = kind * 2 ^ kindBits + granule
 abbrev pub chunkWord : ℕ → ℕ → ℕ
 chunkWord count page = chunkKind * 2 ^ kindBits + (count * 2 ^ pageBits + page)
 
-abbrev pub noneWord : ℕ
-noneWord = blockWord noneKind 0
-
--- the words that numbers of any size give: of each, the bits for which there is room
+-- the word that numbers of any size give: of each, the bits for which there is room
 abbrev pub packBlock : ℕ → ℕ → ℕ
 packBlock kind granule = blockWord (kind % 2 ^ kindWidth) (granule % 2 ^ kindBits)
-
-abbrev pub packChunk : ℕ → ℕ → ℕ
-packChunk count page = chunkWord (count % 2 ^ countBits) (page % 2 ^ pageBits)

@@ -1,6 +1,7 @@
-// Block words and chunk words, made and taken apart.
+// Block words, made and taken apart, and chunk words, which the editor makes, taken apart.
 ghost use mathlib.Core.Path.{_≡_};
-ghost use Rattle.words.specs.Word.{smallKind, mediumKind, noneWord, kindOf, granuleOf, countOf, pageOf, packBlock, packChunk};
+ghost use Prim.Native.Nat.{_+_, _%_, _^_};
+ghost use Rattle.words.specs.Word.{kindOf, granuleOf, countOf, pageOf, packBlock, wordBits};
 use super::Word;
 
 // The places of the parts, as specs/Word.antt has them: the kind above KIND_BITS, a chunk's count above PAGE_BITS.
@@ -33,14 +34,6 @@ impl Word {
         Word { bits }
     }
 
-    pub fn none() -> Word
-        ensures { λ r. ⌜ r .bits ≡ noneWord ⌝ }
-    {
-        Word {
-            bits: (Word::NONE as u64) << KIND_BITS,
-        }
-    }
-
     // The word of a block, by its kind and first granule; what does not fit is cut off.
     pub fn block(kind: u32, granule: u64) -> Word
         ensures { λ r. ⌜ r .bits ≡ packBlock kind granule ⌝ }
@@ -48,28 +41,6 @@ impl Word {
         Word {
             bits: (kind as u64 & KIND_MASK) << KIND_BITS | granule & GRANULE_MASK,
         }
-    }
-
-    pub fn small(granule: u64) -> Word
-        ensures { λ r. ⌜ r .bits ≡ packBlock smallKind granule ⌝ }
-    {
-        Word::block(Word::SMALL, granule)
-    }
-
-    pub fn medium(granule: u64) -> Word
-        ensures { λ r. ⌜ r .bits ≡ packBlock mediumKind granule ⌝ }
-    {
-        Word::block(Word::MEDIUM, granule)
-    }
-
-    // The word of a chunk, by its count and page; what does not fit is cut off.
-    pub fn chunk(count: u32, page: u64) -> Word
-        ensures { λ r. ⌜ r .bits ≡ packChunk count page ⌝ }
-    {
-        Word::block(
-            Word::CHUNK,
-            (count as u64 & COUNT_MASK) << PAGE_BITS | page & PAGE_MASK,
-        )
     }
 
     pub fn kind(self) -> u32
@@ -83,6 +54,13 @@ impl Word {
         ensures { λ r. ⌜ r ≡ granuleOf (self .bits) ⌝ }
     {
         self.bits & GRANULE_MASK
+    }
+
+    // How far a word lies behind another, wrapped: in granules, where they are of one kind.
+    pub fn behind(self, first: Word) -> u64
+        ensures { λ r. ⌜ (r + first .bits) % 2 ^ wordBits ≡ self .bits ⌝ }
+    {
+        std::num::wrapping_sub_u64(self.bits, first.bits)
     }
 
     // A chunk's count and page.

@@ -7,5 +7,5 @@ pub lay-first-spec : {M : Type 1} → statement M
 lay-first-spec =
     tie.close
     (tie.spec
-    (λ c. search needs) (λ c. search needs) (λ c. search needs) (λ c κs. (search last-index, (search needs, search last-block))) (λ c κs. search entry-there) (λ c. search needs) (λ c. search first-odd)
-    (λ c. search needs) (λ c. search needs) (λ c. search needs) (λ c κs. (search before-index, (search needs, search before-block))) (λ c κs. search pair-there) (λ c. search needs) (λ c. search needs) (λ c. search first-even))
+    (λ c. search needs) (λ c. search needs) (λ c. search needs) (λ c κs. (search last-index, search last-block)) (λ c κs. search entry-there) (λ c. search needs) (λ c. search first-odd)
+    (λ c. search needs) (λ c. search needs) (λ c. search needs) (λ c κs. (search before-index, search before-block)) (λ c κs. search pair-there) (λ c. search needs) (λ c. search needs) (λ c. search first-even))

@@ -7,5 +7,5 @@ pub push-block-spec : {M : Type 1} → statement M
 push-block-spec =
     tie.close
     (tie.spec
-    (λ c κs. search one-page) (λ c κs. search needs) (λ c κs. (search one-index, (search needs, search one-block))) (λ c κs. search slot-there) (λ c. search next-fits) (λ c κs. search needs)
+    (λ c κs. search one-page) (λ c κs. search needs) (λ c κs. (search one-index, search one-block)) (λ c κs. search slot-there) (λ c. search next-fits) (λ c κs. search needs)
     (λ c. search needs) (λ c. search one-done))

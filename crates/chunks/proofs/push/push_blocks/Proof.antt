@@ -1,6 +1,17 @@
 use borrow.Author.Needs.{needs}
+use Rattle.chunks.proofs.PushLaws.{Pushing, pushing-none, pushing-done}
+use Rattle.chunks.proofs.PushRuns.{first-long, with-asks, with-more, with-less}
 use Rattle.chunks.proofs.push.push_blocks.Statement.{statement}
 use Rattle.chunks.proofs.push.push_blocks.Tie as tie
 
+abbrev Inv-loop : tie.InvT-loop
+Inv-loop meta₀ shape list i₀ meta i = Pushing meta₀ shape list meta i
+
+abbrev μ-loop : tie.MeasureT-loop
+μ-loop meta₀ shape list i₀ meta i = i
+
 pub push-blocks-spec : {M : Type 1} → statement M
-push-blocks-spec = tie.close (tie.spec (λ c κs. search needs) (λ c κs. (search needs, (search needs, search needs))) (λ c. search needs) (λ c. search needs))
+push-blocks-spec =
+    tie.close
+    (tie.spec
+    Inv-loop μ-loop (λ c. search pushing-none) (λ c. search (needs, first-long)) (λ c κs. search with-asks) (λ c. search with-less) (λ c. search with-more) (λ c. search needs) (λ c. search pushing-done))

@@ -8,4 +8,4 @@ push-last-spec =
     tie.close
     (tie.spec
     (λ c. search needs) (λ c. search needs) (λ c. search needs) (λ c κs. search last-page) (λ c κs. search all-reach) (λ c κs. search run-asks) (λ c. search needs) (λ c. search needs)
-    (λ c. search needs) (λ c. search needs) (λ c κs. (search last-asks, (search needs, search last-own))) (λ c. search needs) (λ c. search last-done))
+    (λ c. search needs) (λ c. search needs) (λ c κs. (search last-asks, search last-own)) (λ c. search needs) (λ c. search last-done))

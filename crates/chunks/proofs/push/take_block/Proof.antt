@@ -1,4 +1,4 @@
-use Rattle.chunks.proofs.PushLaws.{take-page, take-index, take-there, take-done}
+use Rattle.chunks.proofs.PushLaws.{take-page, take-index, take-own, take-there, take-done}
 use borrow.Author.Needs.{needs}
 use Rattle.chunks.proofs.push.take_block.Statement.{statement}
 use Rattle.chunks.proofs.push.take_block.Tie as tie
@@ -7,4 +7,4 @@ pub take-block-spec : {M : Type 1} → statement M
 take-block-spec =
     tie.close
     (tie.spec
-    (λ c κs. search take-page) (λ c κs. (search take-index, search needs)) (λ c κs. search take-there) (λ c. search needs) (λ c. search take-done))
+    (λ c κs. search take-page) (λ c κs. (search take-index, search take-own)) (λ c κs. search take-there) (λ c. search needs) (λ c. search take-done))

@@ -2,13 +2,13 @@
 use mathlib.Core.Path.{_≡_}
 use native.Mathlib.Omega.{arith}
 use Rattle.classes.specs.Sizes.{smallSizes, mediumSizes}
-use Rattle.classes.specs.Near.{near, isEntry, entered}
+use Rattle.classes.specs.Near.{near, entered}
 use Rattle.classes.proofs.Match.{past}
 use Rattle.classes.proofs.near.by_step.Statement.{statement}
 use Rattle.classes.proofs.near.by_step.Tie as tie
 
 pub by-step-spec : {M : Type 1} → statement M
-unfolding smallSizes mediumSizes near isEntry entered
+unfolding smallSizes mediumSizes near entered
 by-step-spec =
     tie.close
     (tie.spec

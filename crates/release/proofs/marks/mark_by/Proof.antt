@@ -7,10 +7,10 @@ use Rattle.release.proofs.marks.mark_by.Statement.{statement}
 use Rattle.release.proofs.marks.mark_by.Tie as tie
 
 abbrev Inv-loop : tie.InvT-loop
-Inv-loop meta₀ shape q base span inv list from i₀ meta i = MarkInv meta₀ shape q list from meta i
+Inv-loop meta₀ shape q base span list from i₀ meta i = MarkInv meta₀ shape q list from meta i
 
 abbrev μ-loop : tie.MeasureT-loop
-μ-loop meta₀ shape q base span inv list from i₀ meta i = length list - i
+μ-loop meta₀ shape q base span list from i₀ meta i = length list - i
 
 returns : tie.Need-returns Inv-loop μ-loop
 returns c =

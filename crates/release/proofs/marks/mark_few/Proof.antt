@@ -5,10 +5,10 @@ use Rattle.release.proofs.marks.mark_few.Statement.{statement}
 use Rattle.release.proofs.marks.mark_few.Tie as tie
 
 abbrev Inv-loop : tie.InvT-loop
-Inv-loop meta₀ shape q base span inv list from end i₀ meta i = FewInv meta₀ shape q list from end meta i
+Inv-loop meta₀ shape q base span list from end i₀ meta i = FewInv meta₀ shape q list from end meta i
 
 abbrev μ-loop : tie.MeasureT-loop
-μ-loop meta₀ shape q base span inv list from end i₀ meta i = end - i
+μ-loop meta₀ shape q base span list from end i₀ meta i = end - i
 
 pub mark-few-spec : {M : Type 1} → statement M
 mark-few-spec =

@@ -7,4 +7,4 @@ pub mark-here-spec : {M : Type 1} → statement M
 mark-here-spec =
     tie.close
     (tie.spec
-    (λ c κs. search needs) (λ c. search needs) (λ c κs. search needs) (λ c κs. search needs) (λ c. search needs) (λ c. search few-all) (λ c κs. search needs) (λ c. search needs) (λ c. search needs))
+    (λ c κs. search needs) (λ c. search needs) (λ c κs. search needs) (λ c. search needs) (λ c. search few-all) (λ c κs. search needs) (λ c. search needs) (λ c. search needs))

@@ -7,4 +7,4 @@ pub mark-run-spec : {M : Type 1} → statement M
 mark-run-spec =
     tie.close
     (tie.spec
-    (λ c. search none-left) (λ c κs. search needs) (λ c. search span-fits) (λ c κs. search needs) (λ c κs. search needs) (λ c. search needs) (λ c κs. search needs) (λ c. search needs) (λ c. search alone-ends) (λ c κs. search needs) (λ c. search needs) (λ c. search needs))
+    (λ c. search none-left) (λ c κs. search needs) (λ c. search span-fits) (λ c κs. search needs) (λ c. search needs) (λ c κs. search needs) (λ c. search needs) (λ c. search alone-ends) (λ c κs. search needs) (λ c. search needs) (λ c. search needs))

@@ -7,7 +7,7 @@ use Rattle.release.proofs.marks.mark_up.Tie as tie
 -- what is known of the list's length lies far back
 add-result : tie.Need-add-result
 add-result c =
-    let g = c .before .before .before .before .before .before .before .before .before .before .before .before .before .before .before .before .good .1 .1 .1 .1 .1 .1 .0 in
+    let g = c .before .before .before .before .before .before .before .before .before .before .before .before .before .before .before .before .good .1 .1 .1 .1 .1 .0 in
     let w = c .before .before .before .before .before .stretch .ensures .within in
     record { fits = omega arith }
 

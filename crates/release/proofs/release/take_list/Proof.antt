@@ -1,16 +1,16 @@
-use Rattle.release.proofs.ListSteps.{Taking, taking-none, taking-asks, taking-bit, taking-more, taking-done}
+use Rattle.release.proofs.ListSteps.{Taking, taking-none, taking-asks, taking-block, taking-bit, taking-more, taking-done}
 use borrow.Author.Needs.{needs}
 use Rattle.release.proofs.release.take_list.Statement.{statement}
 use Rattle.release.proofs.release.take_list.Tie as tie
 
 abbrev Inv-loop : tie.InvT-loop
-Inv-loop meta₀ shape q list inv i₀ meta i = Taking meta₀ shape q list meta i
+Inv-loop meta₀ shape q list i₀ meta i = Taking meta₀ shape q list meta i
 
 abbrev μ-loop : tie.MeasureT-loop
-μ-loop meta₀ shape q list inv i₀ meta i = i
+μ-loop meta₀ shape q list i₀ meta i = i
 
 pub take-list-spec : {M : Type 1} → statement M
 take-list-spec =
     tie.close
     (tie.spec
-    Inv-loop μ-loop (λ c κs. search needs) (λ c. search taking-none) (λ c. search needs) (λ c. search needs) (λ c. search needs) (λ c κs. search (needs, taking-asks)) (λ c κs. search taking-bit) (λ c. search needs) (λ c. search taking-more) (λ c. search needs) (λ c. search taking-done))
+    Inv-loop μ-loop (λ c. search taking-none) (λ c. search needs) (λ c. search needs) (λ c. search needs) (λ c κs. (search taking-asks, search taking-block)) (λ c κs. search taking-bit) (λ c. search needs) (λ c. search taking-more) (λ c. search needs) (λ c. search taking-done))

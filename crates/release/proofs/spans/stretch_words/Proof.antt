@@ -7,5 +7,5 @@ pub stretch-words-spec : {M : Type 1} → statement M
 stretch-words-spec =
     tie.close
     (tie.spec
-    (λ c κs. search needs) (λ c. search needs) (λ c κs. search needs) (λ c. search needs) (λ c. search needs) (λ c κs. search needs)
+    (λ c. search needs) (λ c κs. search needs) (λ c. search needs) (λ c. search needs) (λ c κs. search needs)
     (λ c. search from-fits) (λ c. search in-order) (λ c. search words-fit) (λ c. search both-fit) (λ c. search stretch-words))

@@ -17,7 +17,7 @@ returns : tie.Need-returns
 returns c = search clean-no-run
 
 clean-in-requires : tie.Need-clean-in-requires
-clean-in-requires c κs = (search run-there, search needs)
+clean-in-requires c κs = search run-there
 
 returns-2 : tie.Need-returns-2
 returns-2 c = search clean-run

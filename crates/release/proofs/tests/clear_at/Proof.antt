@@ -20,7 +20,7 @@ returns : tie.Need-returns
 returns c = search clear-no-run
 
 clear-in-requires : tie.Need-clear-in-requires
-clear-in-requires c κs = (search run-there, search needs)
+clear-in-requires c κs = search run-there
 
 same-length-2 : tie.Need-same-length-2
 same-length-2 c = search needs

@@ -5,13 +5,10 @@ use Rattle.release.proofs.tests.clear_list.Statement.{statement}
 use Rattle.release.proofs.tests.clear_list.Tie as tie
 
 abbrev Inv-loop : tie.InvT-loop
-Inv-loop meta₀ n c shape list count inv i₀ meta i = ClearListInv n meta₀ c shape list count meta i
+Inv-loop meta₀ n c shape list count i₀ meta i = ClearListInv n meta₀ c shape list count meta i
 
 abbrev μ-loop : tie.MeasureT-loop
-μ-loop meta₀ n c shape list count inv i₀ meta i = count - i
-
-inverse-of-requires : tie.Need-inverse-of-requires Inv-loop μ-loop
-inverse-of-requires c κs = search needs
+μ-loop meta₀ n c shape list count i₀ meta i = count - i
 
 loop-holds : tie.Need-loop-holds Inv-loop μ-loop
 loop-holds c = search clears-start
@@ -46,7 +43,6 @@ clear-list-spec =
     (tie.spec
     Inv-loop
     μ-loop
-    inverse-of-requires
     loop-holds
     mul-clear-at
     shared-slice-read-clear-at

@@ -6,13 +6,10 @@ use Rattle.release.proofs.tests.list_clean.Statement.{statement}
 use Rattle.release.proofs.tests.list_clean.Tie as tie
 
 abbrev Inv-loop : tie.InvT-loop
-Inv-loop meta n c shape list inv i₀ i = ListInv n meta c shape list i
+Inv-loop meta n c shape list i₀ i = ListInv n meta c shape list i
 
 abbrev μ-loop : tie.MeasureT-loop
-μ-loop meta n c shape list inv i₀ i = length list - i
-
-inverse-of-requires : tie.Need-inverse-of-requires Inv-loop μ-loop
-inverse-of-requires c κs = search needs
+μ-loop meta n c shape list i₀ i = length list - i
 
 loop-holds : tie.Need-loop-holds Inv-loop μ-loop
 loop-holds c = search list-starts
@@ -47,7 +44,6 @@ list-clean-spec =
     (tie.spec
     Inv-loop
     μ-loop
-    inverse-of-requires
     loop-holds
     mul-clean-at
     shared-slice-read-clean-at

@@ -7,13 +7,13 @@ use Rattle.release.proofs.tests.list_out.Statement.{statement}
 use Rattle.release.proofs.tests.list_out.Tie as tie
 
 abbrev Inv-loop : tie.InvT-loop
-Inv-loop meta n c shape list inv i₀ i = EveryInv (outAt n meta c shape) list i
+Inv-loop meta n c shape list i₀ i = EveryInv (outAt n meta c shape) list i
 
 abbrev μ-loop : tie.MeasureT-loop
-μ-loop meta n c shape list inv i₀ i = length list - i
+μ-loop meta n c shape list i₀ i = length list - i
 
 pub list-out-spec : {M : Type 1} → statement M
 list-out-spec =
     tie.close
     (tie.spec
-    Inv-loop μ-loop (λ c κs. search needs) (λ c. search every-starts) (λ c. search needs) (λ c. search needs) (λ c κs. search needs) (λ c. search needs) (λ c. search needs) (λ c. search every-goes-on) (λ c. search every-stops) (λ c. search every-ends))
+    Inv-loop μ-loop (λ c. search every-starts) (λ c. search needs) (λ c. search needs) (λ c κs. search needs) (λ c. search needs) (λ c. search needs) (λ c. search every-goes-on) (λ c. search every-stops) (λ c. search every-ends))

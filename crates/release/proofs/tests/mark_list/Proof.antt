@@ -6,13 +6,10 @@ use Rattle.release.proofs.tests.mark_list.Statement.{statement}
 use Rattle.release.proofs.tests.mark_list.Tie as tie
 
 abbrev Inv-loop : tie.InvT-loop
-Inv-loop meta₀ n c shape list inv i₀ meta i = PassInv n meta₀ c shape list meta i
+Inv-loop meta₀ n c shape list i₀ meta i = PassInv n meta₀ c shape list meta i
 
 abbrev μ-loop : tie.MeasureT-loop
-μ-loop meta₀ n c shape list inv i₀ meta i = length list - i
-
-inverse-of-requires : tie.Need-inverse-of-requires Inv-loop μ-loop
-inverse-of-requires c κs = search needs
+μ-loop meta₀ n c shape list i₀ meta i = length list - i
 
 loop-holds : tie.Need-loop-holds Inv-loop μ-loop
 loop-holds c = search pass-starts
@@ -53,7 +50,6 @@ mark-list-spec =
     (tie.spec
     Inv-loop
     μ-loop
-    inverse-of-requires
     loop-holds
     mul-pass-at
     shared-slice-read-pass-at

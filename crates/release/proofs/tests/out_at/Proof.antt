@@ -8,4 +8,4 @@ pub out-at-spec : {M : Type 1} → statement M
 out-at-spec =
     tie.close
     (tie.spec
-    (λ c κs. search needs) (λ c. search needs) (λ c. search needs) (λ c. search out-no-run) (λ c κs. (search run-there, search needs)) (λ c. search out-in-run))
+    (λ c κs. search needs) (λ c. search needs) (λ c. search needs) (λ c. search out-no-run) (λ c κs. search run-there) (λ c. search out-in-run))

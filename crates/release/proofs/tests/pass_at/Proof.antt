@@ -20,7 +20,7 @@ returns : tie.Need-returns
 returns c = search pass-no-run
 
 pass-in-requires : tie.Need-pass-in-requires
-pass-in-requires c κs = (search run-there, search needs)
+pass-in-requires c κs = search run-there
 
 same-length-2 : tie.Need-same-length-2
 same-length-2 c = search needs

@@ -4,16 +4,16 @@ use Rattle.stack.proofs.push.lay_pairs.Statement.{statement}
 use Rattle.stack.proofs.push.lay_pairs.Tie as tie
 
 abbrev Inv-loop : tie.InvT-loop
-Inv-loop meta₀ shape inv q x list n i₀ t₀ meta i t = Pairing meta₀ shape q x list n meta i t
+Inv-loop meta₀ shape q x list n i₀ t₀ meta i t = Pairing meta₀ shape q x list n meta i t
 
 abbrev μ-loop : tie.MeasureT-loop
-μ-loop meta₀ shape inv q x list n i₀ t₀ meta i t = i
+μ-loop meta₀ shape q x list n i₀ t₀ meta i t = i
 
 pub lay-pairs-spec : {M : Type 1} → statement M
 lay-pairs-spec =
     tie.close
     (tie.spec
-    Inv-loop μ-loop (λ c. search pairing-none) (λ c. search needs) (λ c. search needs) (λ c. search needs) (λ c. search needs) (λ c κs. (search high-asks, (search needs, search first-block)))
-    (λ c. search needs) (λ c. search needs) (λ c κs. (search low-asks, (search needs, search next-block))) (λ c κs. search needs) (λ c. search needs) (λ c. search needs)
-    (λ c. search pairing-more) (λ c. search needs) (λ c. search pairing-done) (λ c. search needs) (λ c. search needs) (λ c κs. (search last-asks, (search needs, search last-block)))
+    Inv-loop μ-loop (λ c. search pairing-none) (λ c. search needs) (λ c. search needs) (λ c. search needs) (λ c. search needs) (λ c κs. (search high-asks, search first-block))
+    (λ c. search needs) (λ c. search needs) (λ c κs. (search low-asks, search next-block)) (λ c κs. search needs) (λ c. search needs) (λ c. search needs)
+    (λ c. search pairing-more) (λ c. search needs) (λ c. search pairing-done) (λ c. search needs) (λ c. search needs) (λ c κs. (search last-asks, search last-block))
     (λ c κs. search needs) (λ c. search needs) (λ c. search pairing-last))

@@ -8,4 +8,4 @@ back-now-spec =
     tie.close
     (tie.spec
     (λ c κs. search needs) (λ c. search needs) (λ c. search back-none) (λ c. search needs) (λ c. search back-high) (λ c. search needs) (λ c κs. search back-asks) (λ c. search needs) (λ c. search back-one)
-    (λ c. search needs) (λ c. search needs) (λ c κs. search rest-asks) (λ c. search needs) (λ c. search back-rest))
+    (λ c. search needs) (λ c κs. search needs) (λ c. search needs) (λ c κs. search rest-asks) (λ c. search needs) (λ c. search back-rest))

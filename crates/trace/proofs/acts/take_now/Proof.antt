@@ -6,6 +6,9 @@ use Rattle.trace.proofs.acts.take_now.Tie as tie
 slice-aggregate-take-call : tie.Need-slice-aggregate-take-call
 slice-aggregate-take-call c = search needs
 
+all-granted-requires : tie.Need-all-granted-requires
+all-granted-requires c κs = search needs
+
 take-call-requires : tie.Need-take-call-requires
 take-call-requires c κs = search needs
 
@@ -43,6 +46,7 @@ pub take-now-spec : {M : Type 1} → statement M
 take-now-spec =
     tie.close
     (tie.spec
+    all-granted-requires
     slice-aggregate-take-call
     take-call-requires
     enum-known-k
