@@ -35,7 +35,6 @@ use Rattle.refinement.proofs.Frames.{whole-says}
 pub both : (s t : Bool) → s ≡ true → t ≡ true → (s && t) ≡ true
 both s t e f = rw (e, f)
 
-
 -- ---- words of a run's blocks
 module _ {sh : Shape} (ok : Sound sh) where
   pub word-inj : (q i j : ℕ) → wordOf sh q i ≡ wordOf sh q j → i ≡ j

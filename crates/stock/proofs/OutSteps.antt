@@ -12,14 +12,13 @@ use borrow.Author.Tests.{lt-ltb, le-ltb, le-leb, lt-leb, eq-eqb, ne-eqb, eqb-tru
 use Rattle.facts.proofs.Bools.{by-cases, and-left, and-right}
 use Rattle.words.specs.Word.{granuleOf}
 use Rattle.classes.specs.declared.Shape.{Shape}
-use Rattle.classes.specs.Shape.{shapeOf, smallShape}
+use Rattle.classes.specs.Shape.{shapeOf, smallShape, inverse}
 use Rattle.classes.specs.Sound.{Sound}
 use Rattle.classes.proofs.Shapes.{shape-sound}
 use Rattle.fields.specs.Field.{arena, page, out, frontier, owner, first, get, Has}
 use Rattle.pages.specs.Runs.{whole}
 use Rattle.pages.specs.Stack.{pageAt, blocksFrom, indexOf, isBlock}
 use Rattle.calls.specs.Out.{startOf, inRunOf, outIn, outAt}
-use Rattle.stack.specs.Inverse.{inverse}
 use Rattle.stack.proofs.InverseLaws.{product-fits, quotient-fits, divides, behind-point, past-point, narrow}
 use Rattle.release.specs.declared.Found.{Found}
 use Rattle.release.specs.declared.Found.the-variants.{At, Nothing}
@@ -29,9 +28,6 @@ use Rattle.release.proofs.BlockSteps.{none-found, found-at, found-block, has-bi
 use Rattle.release.proofs.RunSteps.{run-there}
 use Rattle.take.specs.TakePlan.{CallAsks}
 use Rattle.stock.specs.Asks.{PageAsks, SmallAsks}
-
-pub inverse-by : (c : ℕ) (sh : Shape) (m : ℕ) → sh ≡ shapeOf c → m ≡ inverse (shapeOf c .block) → m ≡ inverse (sh .block)
-inverse-by c sh m e i = rw e i
 
 -- ---- by the run that has the word's granule
 module _ (b : List ℕ) (sh : Shape) (q w : ℕ) (f : Found) (e : f ≡ blockAt sh q w) where
@@ -93,9 +89,12 @@ module _ (n : ℕ) (b : List ℕ) (c p : ℕ) (a : PageAsks n b c p) where
       page-own d q eq = sym (whole-page ∙ rw (← ef, lt-ltb p f h, ← eo, eq-eqb o (suc c) (omega arith), ← eq))
 
 -- the block of the run at the word's page: y is its granule there, counted from the first block, round the page's end
-module _ (c w : ℕ) (small : c < 64) (sh : Shape) (es : sh ≡ shapeOf c) (m : ℕ) (em : m ≡ inverse (shapeOf c .block)) (x : ℕ) (ex : (x + 3) % 2 ^ 64 ≡ w) (fit : x < 2 ^ 64) where
+module _ (c w : ℕ) (small : c < 64) (sh : Shape) (es : sh ≡ shapeOf c) (x : ℕ) (ex : (x + 3) % 2 ^ 64 ≡ w) (fit : x < 2 ^ 64) where
   abbrev y : ℕ
   y = x % 4096
+
+  abbrev m : ℕ
+  m = sh .inverse
 
   near : y < 2 ^ 16
   near = omega arith
@@ -103,14 +102,17 @@ module _ (c w : ℕ) (small : c < 64) (sh : Shape) (es : sh ≡ shapeOf c) (m : 
   sd : Sound (shapeOf c)
   sd = shape-sound c
 
+  em : m ≡ inverse (shapeOf c .block)
+  em = rw es (sd .inverts)
+
   pub small-product : Fits w64 (y * m)
-  small-product = product-fits (shapeOf c) y m em near
+  small-product = rw es (product-fits (shapeOf c) sd y near)
 
   pub small-index : Fits w32 (y * m / 2 ^ 32)
-  small-index = quotient-fits (shapeOf c) y m em near sd
+  small-index = rw es (quotient-fits (shapeOf c) sd y near)
 
   index-is : y * m / 2 ^ 32 ≡ y / shapeOf c .block
-  index-is = divides (shapeOf c) y m em near sd
+  index-is = rw es (divides (shapeOf c) sd y near)
 
   room : shapeOf c .capacity * shapeOf c .block ≤ 4093
   room = omega (arith, sd .fits, small-pages c small, small-header c small)

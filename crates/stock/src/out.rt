@@ -11,20 +11,18 @@ ghost use Rattle.release.specs.Blocks.{blockAt};
 ghost use Rattle.take.specs.TakePlan.{CallAsks};
 ghost use Rattle.stock.specs.Asks.{PageAsks, SmallAsks};
 use classes::Shape;
-use classes::shape_of;
+use classes::shape_at;
 use pages::page_within;
 use release::Found;
 use release::block_at;
 use release::run_of;
-use stack::inverse_at;
 
 // The block of the run at q that the word is, is out.
-fn out_in(meta: &[u32], c: u32, shape: Shape, q: u32, w: u64) -> bool
+fn out_in(meta: &[u32], shape: Shape, q: u32, w: u64) -> bool
     requires { ⌜ InAsks (now meta) shape q ⌝ }
-    requires { ⌜ shape ≡ shapeOf c ⌝ }
     ensures { λ r. ⌜ r ≡ outIn (now (meta .entry)) shape q w ⌝ }
 {
-    let block = block_at(shape, inverse_at(c), q, w);
+    let block = block_at(shape, q, w);
     let Found::At(i) = block else {
         return false;
     };
@@ -36,12 +34,12 @@ pub fn out_at(meta: &[u32], n: u32, c: u32, w: u64) -> bool
     requires { ⌜ CallAsks n (now meta) c ⌝ }
     ensures { λ r. ⌜ r ≡ outAt n (now (meta .entry)) c (shapeOf c) w ⌝ }
 {
-    let shape = shape_of(c);
+    let shape = shape_at(c);
     let run = run_of(meta, n, c, shape, w);
     let Found::At(q) = run else {
         return false;
     };
-    out_in(meta, c, shape, q, w)
+    out_in(meta, shape, q, w)
 }
 
 // Page p is a run of the small class.
@@ -64,8 +62,8 @@ fn small_at(c: u32, w: u64) -> Found
     requires { ⌜ c < 64 ⌝ }
     ensures { λ r. ⌜ r ≡ blockAt (shapeOf c) (pageAt w) w ⌝ }
 {
-    let shape = shape_of(c);
-    let inv = inverse_at(c);
+    let shape = shape_at(c);
+    let inv = shape.inverse;
     let product = std::num::wrapping_sub_u64(w, 3) % 4096 * inv;
     if product % 4294967296 >= inv {
         return Found::Nothing;

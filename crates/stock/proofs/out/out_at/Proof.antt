@@ -4,8 +4,8 @@ use borrow.Author.Needs.{needs}
 use Rattle.stock.proofs.out.out_at.Statement.{statement}
 use Rattle.stock.proofs.out.out_at.Tie as tie
 
-shape-of-requires : tie.Need-shape-of-requires
-shape-of-requires c κs = search needs
+shape-at-requires : tie.Need-shape-at-requires
+shape-at-requires c κs = search needs
 
 run-of-requires : tie.Need-run-of-requires
 run-of-requires c κs = search class-asks
@@ -29,7 +29,7 @@ pub out-at-spec : {M : Type 1} → statement M
 out-at-spec =
     tie.close
     (tie.spec
-    shape-of-requires
+    shape-at-requires
     run-of-requires
     enum-known-run
     enum-told

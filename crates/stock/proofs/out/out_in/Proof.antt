@@ -1,14 +1,11 @@
-use Rattle.stock.proofs.OutSteps.{inverse-by, out-no-block, out-bit}
+use Rattle.stock.proofs.OutSteps.{out-no-block, out-bit}
 use Rattle.release.proofs.BlockSteps.{has-bit}
 use borrow.Author.Needs.{needs}
 use Rattle.stock.proofs.out.out_in.Statement.{statement}
 use Rattle.stock.proofs.out.out_in.Tie as tie
 
-inverse-at-requires : tie.Need-inverse-at-requires
-inverse-at-requires c κs = search needs
-
 block-at-requires : tie.Need-block-at-requires
-block-at-requires c κs = search (needs, inverse-by)
+block-at-requires c κs = search needs
 
 enum-known-block : tie.Need-enum-known-block
 enum-known-block c = search needs
@@ -29,7 +26,6 @@ pub out-in-spec : {M : Type 1} → statement M
 out-in-spec =
     tie.close
     (tie.spec
-    inverse-at-requires
     block-at-requires
     enum-known-block
     enum-told

@@ -3,11 +3,8 @@ use borrow.Author.Needs.{needs}
 use Rattle.stock.proofs.out.small_at.Statement.{statement}
 use Rattle.stock.proofs.out.small_at.Tie as tie
 
-shape-of-requires : tie.Need-shape-of-requires
-shape-of-requires c κs = search needs
-
-inverse-at-requires : tie.Need-inverse-at-requires
-inverse-at-requires c κs = search needs
+shape-at-requires : tie.Need-shape-at-requires
+shape-at-requires c κs = search needs
 
 wrapping-sub-u64-requires : tie.Need-wrapping-sub-u64-requires
 wrapping-sub-u64-requires c κs = search needs
@@ -31,8 +28,7 @@ pub small-at-spec : {M : Type 1} → statement M
 small-at-spec =
     tie.close
     (tie.spec
-    shape-of-requires
-    inverse-at-requires
+    shape-at-requires
     wrapping-sub-u64-requires
     mul-product
     returns
