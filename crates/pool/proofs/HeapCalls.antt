@@ -4,7 +4,7 @@ use mathlib.Core.Path.{_≡_, refl}
 use mathlib.Core.List.{List, [], _∷_}
 use mathlib.Core.Option.{Option, none, some}
 use mathlib.Core.Bool.{Bool, true, false, cond, false≢true}
-use lib.Dec.{eqb, ltb}
+use lib.Dec.{ltb}
 use borrow.Author.Tests.{le-ltb}
 use Rattle.facts.specs.Lists.{every, isSome}
 use Rattle.facts.proofs.Bools.{by-cases}
@@ -15,13 +15,13 @@ use Rattle.rules.specs.declared.Limits.{Limits}
 use Rattle.model.specs.Calls as Calls
 use Rattle.model.specs.Calls.{Answer, hostIn, wayOf, blocksOf, isRefused, take, giveBack}
 use Rattle.classes.specs.Sound.{Sound}
-use Rattle.model.specs.Page.{Page, Popped, isOut, pop, carvedNow, carve, reused}
-use Rattle.model.proofs.NewRun.{length-words}
+use Rattle.model.specs.Page.{Page, isOut, carve, reused}
 use native.Mathlib.Omega.{arith}
-use lib.ListN.{length, drop, length-append, length-reverse, length-take}
+use lib.ListN.{length, drop}
 use lib.Seq.{take-append-seam}
-use Rattle.model.specs.Class.{Class, Cold, Ask, Filled, after, fillFromList, thawed, serve, refuse, takeFrom, served, onRun}
+use Rattle.model.specs.Class.{Class, Cold, Ask, fillFromList, thawed, serve, refuse, takeFrom, served, onRun}
 use Rattle.model.proofs.Sites.{Tells, locate-tells}
+use Rattle.model.proofs.TakesTold.{fill-length}
 use Rattle.model.specs.Release.{Site, ofKind, outHere, repeats, onPage, releaseList, locate}
 use Rattle.model.specs.Chunks.{answer}
 use Rattle.model.specs.Heap.{Heap, step, classCall, interact, finish}
@@ -154,27 +154,10 @@ unfolding answer
 take-within sh ok lim g s h = rw (le-ltb 64 (sh .batch) (ok .limited)) (from-within sh g blank (s .partial) (s .empty) (s .cold) (s .full))
 
 -- and it answers at most 64 blocks
-module _ (sh : Shape) where
-  pop-few : (n : ℕ) (p : Page) → length (pop sh n p .blocks) ≤ n
-  unfolding pop carvedNow
-  pop-few n p = rw (length-append, length-words, length-reverse, length-take) (omega arith)
-
-  after-few : (v : Bool) (n : ℕ) (x : Popped) (f : Filled) → length (x .blocks) ≤ n → length (f .blocks) ≤ n - length (x .blocks) → length (after sh v x f .blocks) ≤ n
-  unfolding after
-  after-few v n x f h k = rw length-append (omega arith)
-
-  fill-few : (n : ℕ) (ps : List Page) → length (fillFromList sh n ps .blocks) ≤ n
-  unfolding fillFromList
-  fill-few n [] = omega arith
-  fill-few n (p ∷ ps) =
-      let ih = fill-few (n - length (pop sh n p .blocks)) ps in
-      by-cases (eqb n 0)
-      (λ e. rw e (omega arith))
-      (λ e. rw e (after-few (p .virgin) n (pop sh n p) (fillFromList sh (n - length (pop sh n p .blocks)) ps) (pop-few n p) ih))
-
+module _ (sh : Shape) (ok : Sound sh) (lim : Limits) where
   served-few : (l : List ℕ) (ps : List Page) (es : List Page) (cs : List Cold) (fs : List Page) → length (blocksOf (served l (fillFromList sh (sh .batch) ps) es cs fs .answer)) ≤ sh .batch
   unfolding served
-  served-few l ps es cs fs = rw take-append-seam (fill-few (sh .batch) ps)
+  served-few l ps es cs fs = rw take-append-seam (fill-length sh ok lim (sh .batch) ps)
 
   run-few : (l : List ℕ) (fs : List Page) (g : Option ℕ) → length (blocksOf (onRun sh l fs g .answer)) ≤ sh .batch
   unfolding onRun
@@ -190,4 +173,4 @@ module _ (sh : Shape) where
 
 pub take-few : (sh : Shape) → Sound sh → (lim : Limits) (g : Option ℕ) (s : Class) (h : ℕ) → length (blocksOf (serve (answer sh lim s (take h blank)) g .answer)) ≤ 64
 unfolding answer
-take-few sh ok lim g s h = rw (le-ltb 64 (sh .batch) (ok .limited)) (omega (arith, ok .limited, from-few sh g blank (s .partial) (s .empty) (s .cold) (s .full)))
+take-few sh ok lim g s h = rw (le-ltb 64 (sh .batch) (ok .limited)) (omega (arith, ok .limited, from-few sh ok lim g blank (s .partial) (s .empty) (s .cold) (s .full)))
