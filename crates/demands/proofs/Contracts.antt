@@ -1,6 +1,6 @@
--- What a caller sees of the exported functions is the reply of `call`, and of `run` (specs/Contracts).
---     shows-call    of one function
---     in-turn-run   of calls in turn, from an opening
+-- What a caller sees of the exported functions is the reply of `call` (specs/Contracts).
+--     shows-call         of one function
+--     in-turn-replies    of calls in turn
 use Prim.Native.Nat.{ℕ, zero, suc, _+_, _≤_, _<_}
 use native.Mathlib.Omega.{arith}
 use mathlib.Core.Bool.{Bool, true, false}
@@ -15,7 +15,6 @@ use Rattle.facts.proofs.Bools.{by-cases, and-left, and-right}
 use Rattle.words.specs.Host.{badHost}
 use Rattle.fields.specs.Field.{arena, size, state, frontier, holePages, get}
 use Rattle.fields.specs.Ranges.{maxPages, metaFault}
-use Rattle.fields.specs.Outcome.{Did}
 use Rattle.model.specs.declared.Hole.{Hole}
 use Rattle.model.specs.Calls as Calls
 use Rattle.model.specs.Calls.{Call, taken, fate}
@@ -32,12 +31,11 @@ use Rattle.runs.specs.Answer as Runs
 use Rattle.runs.specs.Answer.{commitCode}
 use Rattle.direct.specs.Answer.{grownAs, growCode, reportOf}
 use Rattle.vigbuso.specs.Faults.{callFault}
-use Rattle.vigbuso.specs.Direct.{openOn, commitOn, noPage, firstOut, freshOut, grownOut, reportOn, figuresIn, ReportEnds}
+use Rattle.vigbuso.specs.Direct.{commitOn, noPage, firstOut, freshOut, grownOut, reportOn, figuresIn, ReportEnds}
 use Rattle.vigbuso.specs.Blocks.{codeOut, countOut, virginOut, releaseCode, fateOut}
 use Rattle.refinement.specs.Direct.{Reply, reply}
 use Rattle.refinement.specs.Run.{repliesFrom}
 use Rattle.demands.specs.Call.{call}
-use Rattle.demands.specs.Run.{Opens, run}
 use Rattle.demands.specs.Contracts.{runSeen, Shows, take-blocks, medium-take-blocks, release-blocks, medium-release-blocks, release-bin-chunks, commit, grow-frontier, release, contains, report, InTurn, ends, calls}
 use Rattle.demands.proofs.Calls.{room-plain}
 use Rattle.refinement.proofs.Basics.{digit-eqb}
@@ -140,9 +138,6 @@ shows-call (release h q m r b′ e) = rw (e .code, e .book)
 shows-call (contains o k r e) = rw (e, digit-eqb)
 shows-call {b} (report r fs fs′ e) = report-says b fs fs′ r e
 
-in-turn-replies : {b : List ℕ} {xs : List Call} {ws : List Reply} → InTurn b xs ws → ws ≡ repliesFrom call b xs
+pub in-turn-replies : {b : List ℕ} {xs : List Call} {ws : List Reply} → InTurn b xs ws → ws ≡ repliesFrom call b xs
 in-turn-replies (ends b) = refl
 in-turn-replies (calls b x w xs ws s t) = ap₂ _∷_ (shows-call s) (in-turn-replies t ∙ ap (λ (v : Reply). repliesFrom call (v .book) xs) (shows-call s))
-
-pub in-turn-run : (n : ℕ) (rows b b′ : List ℕ) (xs : List Call) (ws : List Reply) → Did 0 b′ (openOn b n rows) → InTurn b′ xs ws → Opens n rows b × (ws ≡ run n rows b xs)
-in-turn-run n rows b b′ xs ws d t = (sym (d .answer), in-turn-replies t ∙ ap (λ (m : List ℕ). repliesFrom call m xs) (d .book))

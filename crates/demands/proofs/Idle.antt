@@ -6,7 +6,6 @@ use mathlib.Core.Path.{_≡_, refl, sym, ap, _∙_, subst}
 use lib.Dec.{eqb}
 use borrow.Author.Tests.{eqb-true}
 use Rattle.facts.proofs.Bools.{by-cases}
-use Rattle.rules.specs.Rules.{rulesOf}
 use Rattle.model.specs.declared.Figures.{Figures}
 use Rattle.model.specs.Calls as Calls
 use Rattle.model.specs.Calls.{Call, refused, reported, isRefused, wayOf}
@@ -15,11 +14,11 @@ use Rattle.model.specs.History.{heapAfter}
 use Rattle.model.specs.Demands.{Figured}
 use Rattle.model.proofs.Theorems.{figured}
 use Rattle.vigbuso.specs.Direct.{reportOn, figuresIn, ReportEnds}
-use Rattle.demands.specs.Run.{Opens, bookAfter}
+use Rattle.demands.specs.Start.{Start, pages, rules, Starts, calls, bookAfter}
 use Rattle.demands.specs.Contracts as Shows
 use Rattle.demands.specs.Idle.{Idle}
 use Rattle.demands.proofs.Contracts.{shows-call}
-use Rattle.demands.proofs.Histories.{next-agrees}
+use Rattle.demands.proofs.Starts.{next-agrees}
 
 pub report-answer : (n : ℕ) (H : Heap) → step n H Calls.report .answer ≡ reported (figures n H)
 unfolding step wayOf directCall
@@ -28,15 +27,18 @@ report-answer n H = refl
 same-figures : (f g : Figures) → reported f ≡ reported g → f ≡ g
 same-figures f g e = cc
 
-module _ (n : ℕ) (rows b : List ℕ) (o : Opens n rows b) (xs : List Call) (r : ℕ) (fs fs′ : List ℕ) (e : ReportEnds (reportOn (bookAfter n rows b xs)) r fs fs′) where
-  seen : cond (eqb r 0) (reported (figuresIn fs′)) (refused r) ≡ reported (figures n (heapAfter n (rulesOf rows) xs))
-  seen = ap (λ w. w .answer) (shows-call (Shows.report r fs fs′ e)) ∙ next-agrees n rows b o xs Calls.report .answer ∙ report-answer n (heapAfter n (rulesOf rows) xs)
+module _ (s : Start) (o : Starts s) (xs : List Call) (r : ℕ) (fs fs′ : List ℕ) (e : ReportEnds (reportOn (bookAfter s xs)) r fs fs′) where
+  abbrev counted : Figures
+  counted = figures (pages s) (heapAfter (pages s) (rules s) (calls s xs))
 
-  pub idle : Idle n (rulesOf rows) xs r fs′
+  seen : cond (eqb r 0) (reported (figuresIn fs′)) (refused r) ≡ reported counted
+  seen = ap (λ w. w .answer) (shows-call (Shows.report r fs fs′ e)) ∙ next-agrees s o xs Calls.report .answer ∙ report-answer (pages s) (heapAfter (pages s) (rules s) (calls s xs))
+
+  pub idle : Idle s xs r fs′
   idle =
       by-cases (eqb r 0)
       (λ t. record {
         unrefused = eqb-true r 0 t;
-        figured = subst (λ f. Figured n (rulesOf rows) xs f) (sym (same-figures (figuresIn fs′) (figures n (heapAfter n (rulesOf rows) xs)) (rw t at seen))) (figured n (rulesOf rows) xs);
+        figured = subst (λ f. Figured (pages s) (rules s) (calls s xs) f) (sym (same-figures (figuresIn fs′) counted (rw t at seen))) (figured (pages s) (rules s) (calls s xs));
       })
       (λ t. absurd (false≢true (sym (ap isRefused (rw t at seen)))))

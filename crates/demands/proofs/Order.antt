@@ -1,35 +1,56 @@
 -- Document 02, A.8, holds of the exported calls: the answers of a history that goes on are the model's.
 use Prim.Native.Nat.{ℕ}
-use mathlib.Core.List.{List, [], _∷_, _++_, map}
-use mathlib.Core.Path.{_≡_, refl, sym, ap, ap₂, _∙_}
-use Rattle.rules.specs.Rules.{rulesOf}
+use mathlib.Core.List.{List, [], _∷_, _++_, append-assoc, map}
+use mathlib.Core.Path.{_≡_, refl, sym, ap, ap₂, _∙_, subst}
+use Rattle.rules.specs.Rules.{Rules}
 use Rattle.model.specs.Calls.{Call, Answer}
 use Rattle.model.specs.Heap.{Heap, newHeap}
+use Rattle.model.specs.Order.{SameHeap}
 use Rattle.model.specs.History.{Event, eventsFrom, heapAfter}
 use Rattle.model.proofs.Theorems as Model
-use Rattle.vigbuso.specs.Direct.{openOn}
 use Rattle.refinement.specs.Run.{repliesFrom, bookFrom, answersIn}
 use Rattle.refinement.proofs.ArenaReached.{heap-next}
 use Rattle.demands.specs.Call.{call}
-use Rattle.demands.specs.Run.{Opens, bookAfter}
+use Rattle.demands.specs.Start.{Start, pages, rules, begun, did, Starts, calls, bookAfter}
 use Rattle.demands.specs.Order.{Orderless}
-use Rattle.demands.proofs.Histories.{next-agrees}
+use Rattle.demands.proofs.Starts.{next-agrees}
+use Rattle.demands.proofs.Parking.{rules-after}
 
 book-next : (b : List ℕ) (xs : List Call) (x : Call) → bookFrom call b (xs ++ x ∷ []) ≡ call (bookFrom call b xs) x .book
 book-next b [] x = refl
 book-next b (y ∷ xs) x = book-next (call b y .book) xs x
 
-module _ (n : ℕ) (rows b : List ℕ) (o : Opens n rows b) where
-  answers-on : (zs xs : List Call) → answersIn (repliesFrom call (bookAfter n rows b xs) zs) ≡ map (λ (e : Event). e .answer) (eventsFrom n (heapAfter n (rulesOf rows) xs) zs)
+abbrev answersAfter : ℕ → Heap → List Call → List Answer
+answersAfter n H zs = map (λ (e : Event). e .answer) (eventsFrom n H zs)
+
+module _ (s : Start) (o : Starts s) where
+  abbrev heap : List Call → Heap
+  heap ys = heapAfter (pages s) (rules s) ys
+
+  answers-on : (zs xs : List Call) → answersIn (repliesFrom call (bookAfter s xs) zs) ≡ answersAfter (pages s) (heap (calls s xs)) zs
   answers-on [] xs = refl
   answers-on (z ∷ zs) xs =
-      ap₂ (λ (a : Answer) (s : List Answer). a ∷ s) (next-agrees n rows b o xs z .answer)
-      (ap (λ (d : List ℕ). answersIn (repliesFrom call d zs)) (sym (book-next (openOn b n rows .book) xs z))
+      ap₂ (λ (a : Answer) (vs : List Answer). a ∷ vs) (next-agrees s o xs z .answer)
+      (ap (λ (d : List ℕ). answersIn (repliesFrom call d zs)) (sym (book-next (begun s) xs z))
       ∙ answers-on zs (xs ++ z ∷ [])
-      ∙ ap (λ (H : Heap). map (λ (e : Event). e .answer) (eventsFrom n H zs)) (heap-next n (newHeap (rulesOf rows)) xs z))
+      ∙ ap (λ (ys : List Call). answersAfter (pages s) (heap ys) zs) (sym (append-assoc (did s) xs (z ∷ [])))
+      ∙ ap (λ (H : Heap). answersAfter (pages s) H zs) (heap-next (pages s) (newHeap (rules s)) (calls s xs) z))
 
-pub orderless : (n : ℕ) → Orderless n
-orderless n = record {
-  alike = λ rows b₁ b₂ o₁ o₂ xs ys s zs.
-      answers-on n rows b₁ o₁ zs xs ∙ ap (λ (vs : List Event). map (λ (e : Event). e .answer) vs) (Model.orderless n (rulesOf rows) xs ys .alike s zs) ∙ sym (answers-on n rows b₂ o₂ zs ys);
+-- the model's, of heaps that have one length and one set of limits by different names
+Alike : ℕ → Rules → ℕ → Rules → Type 0
+Alike n r m l = (xs ys : List Call) → SameHeap (heapAfter n r xs) (heapAfter m l ys) → (zs : List Call) → answersAfter n (heapAfter n r xs) zs ≡ answersAfter m (heapAfter m l ys) zs
+
+alike-by : (n m : ℕ) (r l : Rules) → n ≡ m → r ≡ l → Alike n r m l
+unfolding Alike
+alike-by n m r l e f =
+    subst (λ (k : ℕ). Alike n r k l) e
+    (subst (λ (k : Rules). Alike n r n k) f
+    (λ xs ys w zs. ap (λ (vs : List Event). map (λ (v : Event). v .answer) vs) (Model.orderless n r xs ys .alike w zs)))
+
+pub orderless : Orderless
+unfolding Alike
+orderless = record {
+  alike = λ s₁ s₂ o₁ o₂ e xs ys w zs.
+      let same : rules s₁ ≡ rules s₂ = sym (rules-after (pages s₁) (rules s₁) (calls s₁ xs)) ∙ w .rules ∙ rules-after (pages s₂) (rules s₂) (calls s₂ ys) in
+      answers-on s₁ o₁ zs xs ∙ alike-by (pages s₁) (pages s₂) (rules s₁) (rules s₂) e same (calls s₁ xs) (calls s₂ ys) w zs ∙ sym (answers-on s₂ o₂ zs ys);
 }

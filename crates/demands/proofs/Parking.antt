@@ -30,10 +30,10 @@ use Rattle.model.specs.History.{heapFrom, heapAfter}
 use Rattle.model.proofs.Update.{update-all}
 use Rattle.model.proofs.Alone.{direct-keeps, step-rules}
 use Rattle.refinement.proofs.Found.{Located, inList, inNone, located}
-use Rattle.demands.specs.Run.{Opens}
+use Rattle.demands.specs.Start.{Start, pages, ruleRows, rules, lent, Starts, calls}
 use Rattle.demands.specs.Parking.{Within, goesTo, Parking}
 use Rattle.demands.proofs.Calls.{room}
-use Rattle.demands.proofs.Histories.{run-represents}
+use Rattle.demands.proofs.Starts.{represents}
 
 -- ---- one request of a class
 module _ (sh : Shape) (lim : Limits) where
@@ -195,15 +195,16 @@ nil-rules : (rows : List ℕ) → isNil rows ≡ true → rulesOf rows ≡ plain
 nil-rules [] e = plain-rules
 nil-rules (x ∷ rows) e = absurd (false≢true e)
 
-pub parking : (n : ℕ) (rows b : List ℕ) → Opens n rows b → Parking n rows b
-parking n rows b o =
-    let r = room n rows b o .ruled in
+pub parking : (s : Start) → Starts s → Parking s
+parking s o =
+    let rows = ruleRows s in
+    let r = room (pages s) rows (lent s) o .ruled in
     record {
       rows-cover = rows-cover rows r;
       no-rows = nil-rules rows;
       fit = rules-fit rows r;
-      stand = λ xs c h. run-represents n rows b o xs .rules c (lt-ltb c 76 h) .same ∙ rw (rules-after n (rulesOf rows) xs);
-      within = within-after n (rulesOf rows);
-      kept = λ c e k h. small-goes c (rulesOf rows c) e k (rules-fit rows r c) h;
-      keptSpans = λ c e k h. medium-goes c (rulesOf rows c) e k h;
+      stand = λ xs c h. represents s o xs .rules c (lt-ltb c 76 h) .same ∙ rw (rules-after (pages s) (rules s) (calls s xs));
+      within = λ xs. within-after (pages s) (rules s) (calls s xs);
+      kept = λ c e k h. small-goes c (rules s c) e k (rules-fit rows r c) h;
+      keptSpans = λ c e k h. medium-goes c (rules s c) e k h;
     }

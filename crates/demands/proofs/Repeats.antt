@@ -28,7 +28,6 @@ use Rattle.calls.specs.Release as Back
 use Rattle.calls.specs.Release.{releasedNone, releaseBy, releaseBlocks}
 use Rattle.calls.specs.Chunks.{chunksNone, releaseChunksBy, releaseChunks}
 use Rattle.calls.proofs.Out.{no-repeat}
-use Rattle.vigbuso.specs.Direct.{openOn}
 use Rattle.vigbuso.specs.Faults.{callFault, classFault}
 use Rattle.vigbuso.specs.Blocks as Blocks
 use Rattle.vigbuso.specs.Blocks.{releaseOnBy, chunksOnBy, chunksOn}
@@ -37,15 +36,13 @@ use Rattle.refinement.specs.Releases.{listReply, chunksReply}
 use Rattle.refinement.specs.Run.{repliesFrom, bookFrom}
 use Rattle.refinement.proofs.OutTests as OutTests
 use Rattle.demands.specs.Call.{call}
-use Rattle.demands.specs.Run as Opening
-use Rattle.demands.specs.Run.{Opens}
-use Rattle.demands.specs.Start.{pages, lent, ruleRows, rules, calls}
+use Rattle.demands.specs.Start.{Start, pages, rules, begun, Starts, calls, bookAfter}
 use Rattle.demands.specs.Refusals.{firstNumber, nothingListed, manyChunks, wrongKind, releaseEarly, chunksEarly}
 use Rattle.demands.specs.Repeats.{callBy, asIn01, reachedBy, repeatsFirst, OutTwice, RepeatExactly, marksFirst, MarksAside, Unmarked}
 use Rattle.demands.proofs.RefusalsLaws.{not-and, Ends, ends, turn, book-turn, chain}
-use Rattle.demands.proofs.Histories.{run-represents, next-agrees, book-split}
+use Rattle.demands.proofs.Histories.{book-split}
 use Rattle.demands.proofs.Returns.{not-distinct}
-use Rattle.demands.proofs.Starts.{as-opening}
+use Rattle.demands.proofs.Starts.{represents, next-agrees}
 
 -- ---- the three tests, on any list
 module _ (n : ℕ) (b : List ℕ) (c : ℕ) (sh : Shape) (ws : List ℕ) where
@@ -263,32 +260,32 @@ is-marked b x e = by-now b x ∙ turned-by marked outFault 13 refl new-marks b x
 is-otherwise : (b : List ℕ) (x : Call) → marksFirst b x ≡ false → call b x ≡ callBy repeatFault b x
 is-otherwise b x e = by-now b x ∙ same-by marked outFault repeatFault no-marks b x e
 
--- from an opening
-module _ (n : ℕ) (rows b : List ℕ) (o : Opens n rows b) where
-  never : (xs : List Call) (x : Call) → marksFirst (Opening.bookAfter n rows b xs) x ≡ false
+-- from a start
+module _ (s : Start) (o : Starts s) where
+  never : (xs : List Call) (x : Call) → marksFirst (bookAfter s xs) x ≡ false
   never xs x =
-      by-cases (marksFirst (Opening.bookAfter n rows b xs) x)
-      (λ e. absurd (next-agrees n rows b o xs x .fair (ap (λ (r : Reply). r .code) (is-marked (Opening.bookAfter n rows b xs) x e))))
+      by-cases (marksFirst (bookAfter s xs) x)
+      (λ e. absurd (next-agrees s o xs x .fair (ap (λ (r : Reply). r .code) (is-marked (bookAfter s xs) x e))))
       (λ e. e)
 
   abbrev A2 : List ℕ → Call → Reply
   A2 = callBy repeatFault
 
-  next-book : (xs : List Call) (x : Call) → call (Opening.bookAfter n rows b xs) x .book ≡ Opening.bookAfter n rows b (xs ++ x ∷ [])
-  next-book xs x = sym (book-split (openOn b n rows .book) xs (x ∷ []))
+  next-book : (xs : List Call) (x : Call) → call (bookAfter s xs) x .book ≡ bookAfter s (xs ++ x ∷ [])
+  next-book xs x = sym (book-split (begun s) xs (x ∷ []))
 
   module _ where
-    replies-on : (ys xs : List Call) → repliesFrom A2 (Opening.bookAfter n rows b xs) ys ≡ repliesFrom call (Opening.bookAfter n rows b xs) ys
+    replies-on : (ys xs : List Call) → repliesFrom A2 (bookAfter s xs) ys ≡ repliesFrom call (bookAfter s xs) ys
     replies-on [] xs = refl
     replies-on (y ∷ ys) xs =
-        let e = sym (is-otherwise (Opening.bookAfter n rows b xs) y (never xs y)) in
+        let e = sym (is-otherwise (bookAfter s xs) y (never xs y)) in
         ap (λ (r : Reply). r ∷ repliesFrom A2 (r .book) ys) e
-        ∙ ap (λ (rs : List Reply). call (Opening.bookAfter n rows b xs) y ∷ rs) (rw (next-book xs y) (replies-on ys (xs ++ y ∷ [])))
+        ∙ ap (λ (rs : List Reply). call (bookAfter s xs) y ∷ rs) (rw (next-book xs y) (replies-on ys (xs ++ y ∷ [])))
 
-    book-on : (ys xs : List Call) → bookFrom A2 (Opening.bookAfter n rows b xs) ys ≡ bookFrom call (Opening.bookAfter n rows b xs) ys
+    book-on : (ys xs : List Call) → bookFrom A2 (bookAfter s xs) ys ≡ bookFrom call (bookAfter s xs) ys
     book-on [] xs = refl
     book-on (y ∷ ys) xs =
-        let e = sym (is-otherwise (Opening.bookAfter n rows b xs) y (never xs y)) in
+        let e = sym (is-otherwise (bookAfter s xs) y (never xs y)) in
         ap (λ (r : Reply). bookFrom A2 (r .book) ys) e ∙ rw (next-book xs y) (book-on ys (xs ++ y ∷ []))
 
 pub marks-aside : MarksAside
@@ -297,12 +294,11 @@ marks-aside = record {
   marked = is-marked;
   otherwise = is-otherwise;
   repeated = λ b x e. rw (is-otherwise b x e) (repeat-exactly .exactly b x);
-  replies = λ n rows b o xs. replies-on n rows b o xs [];
-  book = λ n rows b o xs. book-on n rows b o xs [];
+  replies = λ s o xs. replies-on s o xs [];
+  book = λ s o xs. book-on s o xs [];
 }
 
 -- ---- the marks
 pub run-unmarked : Unmarked
 run-unmarked s o xs c q l w j m =
-    let e = as-opening s o xs .book in
-    rw e (OutTests.run-unmarked (heapAfter (pages s) (rules s) (calls s xs) .classes c) (run-represents (pages s) (ruleRows s) (lent s) o (calls s xs) .classes c (lt-ltb c 76 l)) q (rw e at w) j m)
+    OutTests.run-unmarked (heapAfter (pages s) (rules s) (calls s xs) .classes c) (represents s o xs .classes c (lt-ltb c 76 l)) q w j m

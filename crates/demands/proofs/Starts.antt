@@ -1,4 +1,5 @@
 -- Histories from a trace are histories from an opening with its takes and releases in front.
+--     begins        what a caller sees of a start makes it one, with the book that it left
 --     as-opening    the book and the replies are those
 --     told-is       so is what is told of them
 --     represents    so the book stands for the model's heap; `next-is` and `next-agrees` are of one more call
@@ -15,14 +16,19 @@ use Rattle.refinement.proofs.Whole.{call-whole}
 use Rattle.demands.specs.Call.{call}
 use Rattle.demands.specs.Run as Opening
 use Rattle.demands.specs.Run.{answered}
-use Rattle.demands.specs.Start.{Start, opening, trace, pages, ruleRows, rules, lent, begun, did, Starts, calls, bookAfter, next, told, AsOpening}
+use Rattle.demands.specs.Start.{Start, opening, trace, Begins, opens, traces, pages, ruleRows, rules, lent, begun, did, Starts, calls, bookAfter, next, told, AsOpening}
 use Rattle.demands.proofs.Calls.{room, call-is}
 use Rattle.demands.proofs.Histories.{book-split, run-represents}
+use Rattle.demands.proofs.Trace as Trace
 use Rattle.demands.proofs.Trace.{trace-opens}
 
 pub replies-append : (b : List ℕ) (xs ys : List Call) → repliesFrom call b (xs ++ ys) ≡ repliesFrom call b xs ++ repliesFrom call (bookFrom call b xs) ys
 replies-append b [] ys = refl
 replies-append b (x ∷ xs) ys = ap (λ (rs : List Reply). call b x ∷ rs) (replies-append (call b x .book) xs ys)
+
+pub begins : {s : Start} {b′ : List ℕ} → Begins s b′ → Starts s × (b′ ≡ begun s)
+begins (opens n rows b b′ d) = (sym (d .answer), d .book)
+begins (traces n b ws bl fl dn r b′ bl′ fl′ dn′ e z) = (Trace.trace .starts n b ws bl fl dn r b′ bl′ fl′ dn′ e .0 z, e .book)
 
 begun-is : (s : Start) → Starts s → begun s ≡ Opening.bookAfter (pages s) (ruleRows s) (lent s) (did s)
 begun-is (opening n rows b) o = refl

@@ -2,11 +2,10 @@
 use Prim.Native.Nat.{ℕ, _≤_}
 use mathlib.Core.List.{List, _∷_, _++_}
 use mathlib.Core.Logic.{_↔_}
-use mathlib.Core.Path.{_≡_, sym, subst}
+use mathlib.Core.Path.{_≡_, sym, ap, _∙_, subst}
 use Rattle.facts.specs.Lists.{All}
 use Rattle.rules.specs.Rules.{rulesOf}
 use Rattle.fields.specs.Ranges.{maxPages}
-use Rattle.fields.specs.Outcome.{Did}
 use Rattle.model.specs.declared.Hole.{Hole}
 use Rattle.model.specs.Calls.{Call, Answer}
 use Rattle.model.specs.Heap.{Heap}
@@ -23,7 +22,7 @@ use Rattle.refinement.specs.Run.{callReply, repliesFrom, answersIn}
 use Rattle.demands.specs.Call.{call}
 use Rattle.demands.specs.Run.{Opens, Room, run, bookAfter, next, told}
 use Rattle.demands.specs.Contracts.{Shows, InTurn}
-use Rattle.demands.specs.Start.{Start, pages, ruleRows, rules, lent, Starts, calls, replies}
+use Rattle.demands.specs.Start.{Start, pages, ruleRows, rules, lent, Starts, calls, since, replies, Begins}
 use Rattle.demands.specs.Demands.{Demand2At, Demand2, Demand3, TableBytes}
 use Rattle.demands.proofs.Calls as Calls
 use Rattle.demands.proofs.Contracts as Contracts
@@ -36,14 +35,14 @@ use Rattle.demands.proofs.ChunkReturns.{chunks-return, chunks-repeated,
 use Rattle.demands.proofs.Held.{held-releases, unheld-refused, held-grows, unheld-stays, growth-fits}
 use Rattle.demands.proofs.Gives.{none-touch, run-given, commit-given, growth-given, class-given}
 use Rattle.demands.proofs.Unused.{commit-unused, growth-unused, class-unused}
-use Rattle.demands.proofs.Starts.{as-opening, told-is}
+use Rattle.demands.proofs.Starts.{begins, as-opening, told-is}
 
--- what a caller sees of an exported function, by its contract, is the reply of `call`; of calls in turn from an opening, that of `run`
+-- what a caller sees of an exported function, by its contract, is the reply of `call`; of calls in turn from an opening or a trace, that of `since`
 pub shows-call : {b : List ℕ} {x : Call} {w : Reply} → Shows b x w → w ≡ call b x
 shows-call = Contracts.shows-call
 
-pub in-turn-run : (n : ℕ) (rows b b′ : List ℕ) (xs : List Call) (ws : List Reply) → Did 0 b′ (openOn b n rows) → InTurn b′ xs ws → Opens n rows b × (ws ≡ run n rows b xs)
-in-turn-run = Contracts.in-turn-run
+pub in-turn-run : (s : Start) (b′ : List ℕ) (xs : List Call) (ws : List Reply) → Begins s b′ → InTurn b′ xs ws → Starts s × (ws ≡ since s xs)
+in-turn-run s b′ xs ws d t = let g = begins d in (g .0, Contracts.in-turn-replies t ∙ ap (λ (m : List ℕ). repliesFrom call m xs) (g .1))
 
 -- an opening is refused by numbers 1, 2, 19, 18 and 17 alone: every book that is long enough can be opened, whatever it holds, with rows that
 -- cover the classes
@@ -66,8 +65,8 @@ call-is = Calls.call-is
 pub run-answers : (n : ℕ) (rows b : List ℕ) → Opens n rows b → (xs : List Call) → answersIn (run n rows b xs) ≡ answers n (rulesOf rows) xs
 run-answers = Histories.run-answers
 
-pub run-fair : (n : ℕ) (rows b : List ℕ) → Opens n rows b → (xs : List Call) → All (λ (r : Reply). r .code ≡ 13 → ⊥) (run n rows b xs)
-run-fair = Histories.run-fair
+pub run-fair : (s : Start) → Starts s → (xs : List Call) → All (λ (r : Reply). r .code ≡ 13 → ⊥) (replies s xs)
+run-fair s o xs = rw (as-opening s o xs .answers) (Histories.run-fair (pages s) (ruleRows s) (lent s) o (calls s xs))
 
 pub run-represents : (n : ℕ) (rows b : List ℕ) → Opens n rows b → (xs : List Call) → Represents n (bookAfter n rows b xs) (heapAfter n (rulesOf rows) xs)
 run-represents = Histories.run-represents

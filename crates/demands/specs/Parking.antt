@@ -1,4 +1,4 @@
--- Document 02, A.9, of an unrefused opening of n pages on the book b with these rule rows. proofs/Parking proves it.
+-- Document 02, A.9, of a start: an unrefused opening with its rule rows, or a trace, which has none. proofs/Parking proves it.
 --     Within     a class has parked no more runs than its limits allow
 --     goesTo     the store that an emptied run goes to, or the arena
 --     Parking    what the rows say, and that it holds after every history
@@ -12,7 +12,7 @@ use Rattle.facts.specs.Lists.{isNil}
 use Rattle.classes.specs.declared.Shape.{Shape}
 use Rattle.classes.specs.Shape.{shapeOf, classCount}
 use Rattle.rules.specs.declared.Limits.{Limits}
-use Rattle.rules.specs.Rules.{plainRules, rulesOf, RowsCover, Fit}
+use Rattle.rules.specs.Rules.{plainRules, RowsCover, Fit}
 use Rattle.model.specs.declared.Spot.{Spot}
 use Rattle.model.specs.declared.Spot.the-variants.{ToEmpty, ToCold, ToArena}
 use Rattle.model.specs.Calls.{Call}
@@ -20,7 +20,7 @@ use Rattle.model.specs.Class.{Class}
 use Rattle.model.specs.Spot.{spotOf}
 use Rattle.model.specs.History.{heapAfter}
 use Rattle.pages.specs.Fair.{limitsAt}
-use Rattle.demands.specs.Run.{bookAfter}
+use Rattle.demands.specs.Start.{Start, pages, ruleRows, rules, calls, bookAfter}
 
 pub record Within (sh : Shape) (lim : Limits) (s : Class) : Type 0 where
   pub empty : length (s .empty) ≤ lim .empty
@@ -32,17 +32,17 @@ pub record Within (sh : Shape) (lim : Limits) (s : Class) : Type 0 where
 abbrev pub goesTo : Bool → Bool → Spot
 goesTo empty cold = cond empty ToEmpty (cond cold ToCold ToArena)
 
-pub record Parking (n : ℕ) (rows b : List ℕ) : Type 0 where
+pub record Parking (s : Start) : Type 0 where
   -- rows "must cover 0 to 75 without gap or overlap. A row's limits hold for each of its classes"
-  pub rows-cover : isNil rows ≡ false → RowsCover rows (rulesOf rows)
+  pub rows-cover : isNil (ruleRows s) ≡ false → RowsCover (ruleRows s) (rules s)
   -- "With no rows, 01's limits hold"
-  pub no-rows : isNil rows ≡ true → rulesOf rows ≡ plainRules
-  pub fit : (c : ℕ) → Fit (rulesOf rows c)
+  pub no-rows : isNil (ruleRows s) ≡ true → rules s ≡ plainRules
+  pub fit : (c : ℕ) → Fit (rules s c)
   -- each class's limits stand in its own row of the book: no call changes them
-  pub stand : (xs : List Call) (c : ℕ) → c < classCount → limitsAt (bookAfter n rows b xs) c ≡ rulesOf rows c
+  pub stand : (xs : List Call) (c : ℕ) → c < classCount → limitsAt (bookAfter s xs) c ≡ rules s c
   -- and its stores keep to them, "alone": the class's own runs are counted
-  pub within : (xs : List Call) (c : ℕ) → Within (shapeOf c) (rulesOf rows c) (heapAfter n (rulesOf rows) xs .classes c)
+  pub within : (xs : List Call) (c : ℕ) → Within (shapeOf c) (rules s c) (heapAfter (pages s) (rules s) (calls s xs) .classes c)
   -- where an emptied run goes, e empty ones and k cold ones being kept: a small class has no other limit than its row's
-  pub kept : (c e k : ℕ) → c < 64 → spotOf (shapeOf c) (rulesOf rows c) e k ≡ goesTo (ltb e (rulesOf rows c .empty)) (ltb k (rulesOf rows c .cold))
+  pub kept : (c e k : ℕ) → c < 64 → spotOf (shapeOf c) (rules s c) e k ≡ goesTo (ltb e (rules s c .empty)) (ltb k (rules s c .cold))
   -- a medium one has 8 MiB, 128 pages, of empty spans beside it
-  pub keptSpans : (c e k : ℕ) → 64 ≤ c → spotOf (shapeOf c) (rulesOf rows c) e k ≡ goesTo (ltb e (rulesOf rows c .empty) && leb (suc e * shapeOf c .pages) 128) (ltb k (rulesOf rows c .cold))
+  pub keptSpans : (c e k : ℕ) → 64 ≤ c → spotOf (shapeOf c) (rules s c) e k ≡ goesTo (ltb e (rules s c .empty) && leb (suc e * shapeOf c .pages) 128) (ltb k (rules s c .cold))

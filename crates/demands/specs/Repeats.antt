@@ -24,15 +24,12 @@ use Rattle.pages.specs.Carve.{outWords}
 use Rattle.calls.specs.Out.{outAt, OutTest, unmarked, repeats, repeatFault, outFault}
 use Rattle.calls.specs.Release.{releaseBy}
 use Rattle.calls.specs.Chunks.{releaseChunksBy}
-use Rattle.vigbuso.specs.Direct.{openOn}
 use Rattle.vigbuso.specs.Blocks.{releaseOnBy, chunksOnBy}
 use Rattle.refinement.specs.Direct.{Reply, turnedReply}
 use Rattle.refinement.specs.Releases.{listReply, chunksReply}
 use Rattle.refinement.specs.Run.{repliesFrom, bookFrom}
 use Rattle.demands.specs.Call.{call}
-use Rattle.demands.specs.Run as Opening
-use Rattle.demands.specs.Run.{Opens, run}
-use Rattle.demands.specs.Start.{Start, pages, Starts, bookAfter}
+use Rattle.demands.specs.Start.{Start, pages, begun, Starts, bookAfter, since}
 use Rattle.demands.specs.Refusals.{firstNumber, releaseEarly, chunksEarly}
 
 abbrev pub callBy : OutTest → List ℕ → Call → Reply
@@ -93,9 +90,9 @@ pub record MarksAside : Type 0 where
   pub otherwise : (b : List ℕ) (x : Call) → marksFirst b x ≡ false → call b x ≡ callBy repeatFault b x
   -- so A.2's claim is one about the calls as they are
   pub repeated : (b : List ℕ) (x : Call) → marksFirst b x ≡ false → (call b x ≡ callBy asIn01 b x → ⊥) ↔ (repeatsFirst b x ≡ true)
-  -- from an opening on it is never 13, so that a history with A.2's test is the history
-  pub replies : (n : ℕ) (rows b : List ℕ) → Opens n rows b → (xs : List Call) → repliesFrom (callBy repeatFault) (openOn b n rows .book) xs ≡ run n rows b xs
-  pub book : (n : ℕ) (rows b : List ℕ) → Opens n rows b → (xs : List Call) → bookFrom (callBy repeatFault) (openOn b n rows .book) xs ≡ Opening.bookAfter n rows b xs
+  -- from an opening or a trace on it is never 13, so that a history with A.2's test is the history
+  pub replies : (s : Start) → Starts s → (xs : List Call) → repliesFrom (callBy repeatFault) (begun s) xs ≡ since s xs
+  pub book : (s : Start) → Starts s → (xs : List Call) → bookFrom (callBy repeatFault) (begun s) xs ≡ bookAfter s xs
 
 -- "On a book reached from an opening every call, refused ones included, ends with no mark set": after the calls xs since a start, which is an
 -- opening or a trace, every word of marks of every run of every class is 0

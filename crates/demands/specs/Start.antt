@@ -3,14 +3,18 @@
 --     Start        where a history starts
 --     begun        the book that the start left
 --     did          the takes and releases that it did: none for an opening
+--     Begins       what a caller sees of a start, by its function's contract
 --     AsOpening    after a start all is as after an opening with these in front
 use Prim.Native.Nat.{ℕ}
 use mathlib.Core.List.{List, [], _++_}
+use mathlib.Core.Logic.{_⊎_}
 use mathlib.Core.Path.{_≡_}
 use Rattle.rules.specs.Rules.{Rules, rulesOf}
+use Rattle.fields.specs.Outcome.{Did}
 use Rattle.model.specs.Calls.{Call}
 use Rattle.model.specs.History.{Event}
 use Rattle.vigbuso.specs.Direct.{openOn}
+use Rattle.vigbuso.specs.Trace.{TraceEnds}
 use Rattle.refinement.specs.Direct.{Reply}
 use Rattle.refinement.specs.Run.{repliesFrom, bookFrom}
 use Rattle.trace.specs.Words.{traceOn}
@@ -55,19 +59,28 @@ Starts s = Opens (pages s) (ruleRows s) (lent s)
 abbrev pub calls : Start → List Call → List Call
 calls s xs = did s ++ xs
 
--- the book after the calls xs, and what was answered since the opening: to what the start did, then to these
+-- the book after the calls xs, and what was answered to these; and since the opening: to what the start did, then to these
 abbrev pub bookAfter : Start → List Call → List ℕ
 bookAfter s xs = bookFrom call (begun s) xs
+
+abbrev pub since : Start → List Call → List Reply
+since s xs = repliesFrom call (begun s) xs
 
 -- the reply to one more call
 abbrev pub next : Start → List Call → Call → Reply
 next s xs x = call (bookAfter s xs) x
 
 abbrev pub replies : Start → List Call → List Reply
-replies s xs = Opening.run (pages s) (ruleRows s) (lent s) (did s) ++ repliesFrom call (begun s) xs
+replies s xs = Opening.run (pages s) (ruleRows s) (lent s) (did s) ++ since s xs
 
 abbrev pub told : Start → List Call → List Event
 told s xs = answered (calls s xs) (replies s xs)
+
+-- an opening that returned 0, or a trace that returned 0 or 16, left the book b′
+pub data Begins : Start → List ℕ → Type 0 where
+  opens : (n : ℕ) (rows b b′ : List ℕ) → Did 0 b′ (openOn b n rows) → Begins (opening n rows b) b′
+  traces : (n : ℕ) (b ws bl fl dn : List ℕ) (r : ℕ) (b′ bl′ fl′ dn′ : List ℕ) → TraceEnds (traceOn b n ws bl fl dn) r b′ bl′ fl′ dn′ → (r ≡ 0) ⊎ (r ≡ 16)
+      → Begins (trace n b ws bl fl dn) b′
 
 -- after a start, the book and each reply are those after an opening with the start's calls in front
 pub record AsOpening (s : Start) (xs : List Call) : Type 0 where

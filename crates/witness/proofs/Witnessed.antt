@@ -27,6 +27,7 @@ use Rattle.demands.specs.Listing.{OnePageTwoCalls}
 use Rattle.demands.proofs.Listing.{short-histories}
 use Rattle.witness.specs.Seen.{Opened, TakeSeen, ListSeen, ChunksSeen, CommitSeen, GrowSeen, GiveSeen, ContainsSeen, ReportSeen, TableSeen, GameSeen, PlanSeen, ListingSeen, TraceSeen}
 use Rattle.demands.proofs.Plan.{fits}
+use Rattle.demands.specs.Start.{opening}
 use Rattle.demands.proofs.Idle.{idle}
 use Rattle.demands.proofs.Trace.{trace}
 use Rattle.demands.proofs.TraceRefusals.{trace-refuses}
@@ -38,7 +39,7 @@ module _ (b : List ℕ) (r : ℕ) (b′ : List ℕ) where
     number = open-refuses b n ws r b′ e;
     opens = (λ z. sym (e .answer) ∙ z, λ z. e .answer ∙ z);
     book = e .book;
-    parks = λ z. parking n ws b (sym (e .answer) ∙ z);
+    parks = λ z. parking (opening n ws b) (sym (e .answer) ∙ z);
   }
 
   pub commit-seen : (h m q q′ f f′ : ℕ) → CommitEnds (commitOn b h m) r b′ q q′ f f′ → CommitSeen (Calls.commit h m) r b b′ q q′ f f′
@@ -77,7 +78,7 @@ module _ (b : List ℕ) (r : ℕ) where
   pub report-seen : (fs fs′ : List ℕ) → ReportEnds (reportOn b) r fs fs′ → ReportSeen r b fs fs′
   report-seen fs fs′ e = record {
     seen = record { number = report-refuses b r fs fs′ e; replies = shows-call (Shows.report r fs fs′ e) };
-    idle = λ n ws b₀ o xs d. idle n ws b₀ o xs r fs fs′ (subst (λ c. ReportEnds (reportOn c) r fs fs′) d e);
+    idle = λ s o xs d. idle s o xs r fs fs′ (subst (λ c. ReportEnds (reportOn c) r fs fs′) d e);
   }
 
 module _ (r : ℕ) (l l′ : List ℕ) where

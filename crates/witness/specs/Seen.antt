@@ -6,17 +6,16 @@
 --     .. Seen     Seen, for what the functions of one shape are lent
 -- r is what the function returns; a name with ′ is what a lent slice or an out-parameter holds afterwards.
 use Prim.Native.Nat.{ℕ}
-use mathlib.Core.List.{List, []}
+use mathlib.Core.List.{List}
 use mathlib.Core.Logic.{_⊎_, _↔_}
 use mathlib.Core.Path.{_≡_}
 use lib.Dec.{eqb}
-use Rattle.rules.specs.Rules.{rulesOf}
 use Rattle.model.specs.Calls as Calls
 use Rattle.model.specs.Calls.{Call, taken, fate, fates, released, contained, reported}
 use Rattle.refinement.specs.Direct.{Reply, reply}
 use Rattle.vigbuso.specs.Direct.{figuresIn}
 use Rattle.demands.specs.Call.{call}
-use Rattle.demands.specs.Run.{Opens, bookAfter}
+use Rattle.demands.specs.Run.{Opens}
 use Rattle.demands.specs.Contracts.{runSeen}
 use Rattle.demands.specs.Refusals.{Refuses, Contains, openTable, commitTable, growTable, giveTable, reportTable, takeTable, releaseTable, chunksTable, rateTable, gameTable, planTable, listingTable, traceTable}
 use Rattle.demands.specs.ClassTables.{ClassTable, Reaches}
@@ -25,7 +24,7 @@ use Rattle.demands.specs.Plan.{Fits}
 use Rattle.demands.specs.Idle.{Idle}
 use Rattle.demands.specs.Parking.{Parking}
 use Rattle.demands.specs.Trace.{Traces}
-use Rattle.demands.specs.Start.{trace, Starts, begun}
+use Rattle.demands.specs.Start.{Start, opening, trace, Starts, begun, bookAfter}
 use Rattle.demands.specs.Listing.{ShortHistories}
 
 -- Same: all that the call was lent to write is as it was
@@ -50,8 +49,8 @@ pub record Seen (b : List ℕ) (x : Call) (r : ℕ) (w : Reply) (Same : Type 0) 
 pub record Opened (n : ℕ) (ws : List ℕ) (r : ℕ) (b b′ : List ℕ) : Type 0 where
   pub number : Refuses (openTable b n ws) r (b′ ≡ b)
   pub opens : (r ≡ 0) ↔ Opens n ws b
-  pub book : b′ ≡ bookAfter n ws b []
-  pub parks : r ≡ 0 → Parking n ws b
+  pub book : b′ ≡ begun (opening n ws b)
+  pub parks : r ≡ 0 → Parking (opening n ws b)
 
 -- ---- the shapes
 abbrev pub TakeSeen : (List ℕ → Call) → ℕ → (b b′ l l′ : List ℕ) → (k k′ v v′ : ℕ) → Type 0
@@ -79,7 +78,7 @@ ContainsSeen x r b = Seen b x r (reply 0 (contained (eqb r 1)) b) (Unit {0})
 -- and what the figures count on a book that a history left
 pub record ReportSeen (r : ℕ) (b fs fs′ : List ℕ) : Type 0 where
   pub seen : Seen b Calls.report r (reply r (reported (figuresIn fs′)) b) (fs′ ≡ fs)
-  pub idle : (n : ℕ) (ws b₀ : List ℕ) → Opens n ws b₀ → (xs : List Call) → b ≡ bookAfter n ws b₀ xs → Idle n (rulesOf ws) xs r fs′
+  pub idle : (s : Start) → Starts s → (xs : List Call) → b ≡ bookAfter s xs → Idle s xs r fs′
 
 -- ---- class tables: the same of a call that is lent no book
 pub record TableSeen (a b top slots r : ℕ) (l l′ : List ℕ) : Type 0 where
