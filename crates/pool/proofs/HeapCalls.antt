@@ -17,9 +17,9 @@ use Rattle.model.specs.Calls.{Answer, hostIn, wayOf, blocksOf, isRefused, take,
 use Rattle.classes.specs.Sound.{Sound}
 use Rattle.model.specs.Page.{Page, isOut, carve, reused}
 use native.Mathlib.Omega.{arith}
-use lib.ListN.{length, drop}
+use lib.ListN.{length, drop, length-append}
 use lib.Seq.{take-append-seam}
-use Rattle.model.specs.Class.{Class, Cold, Ask, fillFromList, thawed, serve, refuse, takeFrom, served, onRun}
+use Rattle.model.specs.Class.{Class, Cold, Ask, Filled, fillFromList, thawed, serve, refuse, takeFrom, served, onRun}
 use Rattle.model.proofs.Sites.{Tells, locate-tells}
 use Rattle.model.proofs.TakesTold.{fill-length}
 use Rattle.model.specs.Release.{Site, ofKind, outHere, repeats, onPage, releaseList, locate}
