@@ -8,7 +8,7 @@ mod Laid
 mod Least
 mod Loading
 mod Looping
-mod Planning
+pub mod Planning
 pub mod Proving
 mod Scanning
 mod Touching

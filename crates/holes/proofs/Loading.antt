@@ -1,19 +1,21 @@
 -- Holes loaded part by part, the last part first.
 --     part-fair, part-weighed    with a part before the others: whether all are in their range, and what all come to
 --     next-fair, next-weighed    the same with one hole before them
+--     four-loaded, four-fair     a part of four
 use mathlib.Core.Path.{_≡_, refl, sym, ap, _∙_}
 use Prim.Native.Nat.{ℕ, zero, suc, _+_, _-_, _<_, _≤_}
 use native.Mathlib.Omega.{arith}
 use native.Mathlib.Nat.{add-zero}
 use mathlib.Core.Bool.{Bool, true, false, _&&_, and-assoc}
-use mathlib.Core.List.{List}
+use mathlib.Core.List.{List, [], _∷_}
+use lib.ListN.{length, getD}
 use Rattle.facts.specs.Lists.{every}
 use Rattle.model.specs.declared.Hole.{Hole}
 use Rattle.arena.specs.Load.{loadHole, loadHoles}
 use Rattle.holes.specs.Scan.{weighed}
 
 -- ---- in their range
-and-true : (t : Bool) → (t && true) ≡ t
+pub and-true : (t : Bool) → (t && true) ≡ t
 and-true true = refl
 and-true false = refl
 
@@ -34,6 +36,23 @@ module _ (p : Hole → Bool) (b : List ℕ) where
   one : (i : ℕ) → every p (loadHoles b i 1) ≡ p (loadHole b i)
   unfolding loadHoles
   one i = and-true (p (loadHole b i))
+
+-- ---- a part of four
+pub four-loaded : (b : List ℕ) (i : ℕ) (w x y z : Hole) → w ≡ loadHole b i → x ≡ loadHole b (i + 1) → y ≡ loadHole b (i + 2) → z ≡ loadHole b (i + 3) → w ∷ x ∷ y ∷ z ∷ [] ≡ loadHoles b i 4
+unfolding loadHoles
+four-loaded b i w x y z e₀ e₁ e₂ e₃ =
+    let d₁ : i + 1 ≡ suc i = omega arith in
+    let d₂ : i + 2 ≡ suc (suc i) = omega arith in
+    let d₃ : i + 3 ≡ suc (suc (suc i)) = omega arith in
+    rw (e₀, e₁, e₂, e₃, d₁, d₂, d₃)
+
+pub four-fair : (p : Hole → Bool) (xs : List Hole) (d : Hole) → length xs ≡ 4 → (s t u v : Bool) → s ≡ p (getD xs 0 d) → t ≡ p (getD xs 1 d) → u ≡ p (getD xs 2 d) → v ≡ p (getD xs 3 d) → (((s && t) && u) && v) ≡ every p xs
+four-fair p [] d l s t u v e₀ e₁ e₂ e₃ = absurd (omega arith)
+four-fair p (f ∷ []) d l s t u v e₀ e₁ e₂ e₃ = absurd (omega arith)
+four-fair p (f ∷ g ∷ []) d l s t u v e₀ e₁ e₂ e₃ = absurd (omega arith)
+four-fair p (f ∷ g ∷ h ∷ []) d l s t u v e₀ e₁ e₂ e₃ = absurd (omega arith)
+four-fair p (f ∷ g ∷ h ∷ k ∷ []) d l s t u v e₀ e₁ e₂ e₃ = rw (e₀, e₁, e₂, e₃) (simp (and-assoc, and-true))
+four-fair p (f ∷ g ∷ h ∷ k ∷ m ∷ xs) d l s t u v e₀ e₁ e₂ e₃ = absurd (omega arith)
 
 -- ---- weighed
 weighed-part : {X : Type 0} (f : ℕ → Hole → X → X) (b : List ℕ) (i m k : ℕ) (x : X) → weighed f i (loadHoles b i (m + k)) x ≡ weighed f i (loadHoles b i m) (weighed f (i + m) (loadHoles b (i + m) k) x)

@@ -33,7 +33,7 @@ fn key_of(need: u32, h: Hole) -> u64
 }
 
 // The hole at `i`, unless the best of those behind it has a lesser key.
-fn better(need: u32, i: u32, h: Hole, best: Best) -> Best
+pub fn better(need: u32, i: u32, h: Hole, best: Best) -> Best
     requires { ⌜ i + 1 < 2 ^ 32 ⌝ }
     ensures { λ r. ⌜ r ≡ betterOf need i h best ⌝ }
 {

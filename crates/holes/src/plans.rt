@@ -1,8 +1,9 @@
-// What a commit of some pages, or a give, finds among the holes that the words hold. The last one is looked at first.
+// What a commit of some pages, or a give, finds among the holes that the words hold. The last ones are looked at first.
 use super::holes::Beside;
 use super::holes::Best;
 use super::holes::Edges;
 use super::holes::beside_at;
+use super::holes::better;
 use super::holes::hole_fair;
 use super::holes::hole_from;
 use super::holes::scan;
@@ -13,10 +14,15 @@ use model::Hole;
 ghost use mathlib.Core.Path.{_≡_};
 ghost use Prim.Native.Nat.{_+_, _≤_, _<_, _^_};
 ghost use lib.ListN.{length};
+ghost use Rattle.facts.specs.Lists.{every};
 ghost use Rattle.model.specs.HoleStore.{holeSlots};
 ghost use Rattle.arena.specs.Load.{loadHoles};
-ghost use Rattle.holes.specs.Plan.{planOf, neighboursAs, neighboursOf};
-ghost use Rattle.holes.specs.Scan.{betterOf, codeAt};
+ghost use Rattle.arena.specs.Fair.{holeFair};
+ghost use Rattle.holes.specs.Plan.{planOf, Searches, neighboursAs, neighboursOf};
+ghost use Rattle.holes.specs.Scan.{bestOf, codeAt};
+
+// What a search answers where a hole is out of its range: it is beyond every code.
+pub const UNFAIR: u64 = 4_294_967_296;
 
 // What the least key says: its hole, if that has enough pages.
 fn code_at(need: u32, best: Best) -> u32
@@ -28,39 +34,87 @@ fn code_at(need: u32, best: Best) -> u32
     best.code
 }
 
-// A hole, unless the best of those behind it has a lesser key. It is lent to `scan` alone: of one hole the array stays in registers.
-fn weigh(need: u32, i: u32, h: Hole, behind: Best) -> Best
-    requires { ⌜ i + 1 < 2 ^ 32 ⌝ }
-    ensures { λ r. ⌜ r ≡ betterOf need i h behind ⌝ }
+// Four holes, by value: so many stay in registers.
+fn part_at(meta: &[u32], i: u32) -> [Hole; 4]
+    requires { ⌜ (i + 4 ≤ holeSlots) × (40000 ≤ length (now meta)) ⌝ }
+    ensures { λ r. ⌜ r ≡ loadHoles (now (meta .entry)) i 4 ⌝ }
 {
-    let holes = [h; 1];
-    scan(&holes, i, 1, need, behind)
+    let a = hole_from(meta, i);
+    let b = hole_from(meta, i + 1);
+    let c = hole_from(meta, i + 2);
+    let d = hole_from(meta, i + 3);
+    [a, b, c, d]
 }
 
-// The first hole that is out of its range ends it.
-pub fn plan(meta: &[u32], a: Arena, pages: u32) -> Plan
-    requires { ⌜ (a .count ≤ holeSlots) × (40000 ≤ length (now meta)) ⌝ }
-    ensures { λ r. ⌜ r ≡ planOf (loadHoles (now (meta .entry)) 0 (a .count)) (a .total) (a .frontier) pages ⌝ }
+fn part_fair(part: [Hole; 4], total: u32, frontier: u32) -> bool
+    ensures { λ r. ⌜ r ≡ every (holeFair total frontier) part ⌝ }
+{
+    let a = hole_fair(part[0], total, frontier);
+    let b = hole_fair(part[1], total, frontier);
+    let c = hole_fair(part[2], total, frontier);
+    let d = hole_fair(part[3], total, frontier);
+    a & b & c & d
+}
+
+// The best of a part, which is lent whole, and of those behind it.
+fn weigh(part: [Hole; 4], i: u32, need: u32, behind: Best) -> Best
+    requires { ⌜ i + 4 < 2 ^ 32 ⌝ }
+    ensures { λ r. ⌜ r ≡ bestOf need i part behind ⌝ }
+{
+    scan(&part, i, 4, need, behind)
+}
+
+// The chosen hole's code, or `UNFAIR`: the first hole that is out of its range ends it. The holes are looked at in
+// parts of four; fewer than four are left at the end, and are weighed one by one, for they would cost as much as four.
+pub fn search(meta: &[u32], count: u32, total: u32, frontier: u32, pages: u32) -> u64
+    requires { ⌜ (count ≤ holeSlots) × (40000 ≤ length (now meta)) ⌝ }
+    ensures { λ r. ⌜ Searches (planOf (loadHoles (now (meta .entry)) 0 count) total frontier pages) r ⌝ }
 {
     let mut best = Best {
         key: 18_446_744_073_709_551_615,
         code: 0,
     };
-    let mut left = a.count;
+    let mut left = count;
+    while 4 <= left {
+        left -= 4;
+        let part = part_at(meta, left);
+        if !part_fair(part, total, frontier) {
+            return UNFAIR;
+        }
+        best = weigh(part, left, pages, best);
+    }
     while 0 < left {
         left -= 1;
         let h = hole_from(meta, left);
-        if !hole_fair(h, a.total, a.frontier) {
-            return Plan {
-                fair: false,
-                code: 0,
-            };
+        if !hole_fair(h, total, frontier) {
+            return UNFAIR;
         }
-        best = weigh(pages, left, h, best);
+        best = better(pages, left, h, best);
+    }
+    code_at(pages, best) as u64
+}
+
+// With no hole stored none is read.
+pub fn plan(meta: &[u32], a: Arena, pages: u32) -> Plan
+    requires { ⌜ (a .count ≤ holeSlots) × (40000 ≤ length (now meta)) ⌝ }
+    ensures { λ r. ⌜ r ≡ planOf (loadHoles (now (meta .entry)) 0 (a .count)) (a .total) (a .frontier) pages ⌝ }
+{
+    if a.count == 0 {
+        return Plan {
+            fair: true,
+            code: 0,
+        };
+    }
+    let code = search(meta, a.count, a.total, a.frontier, pages);
+    if code == UNFAIR {
+        return Plan {
+            fair: false,
+            code: 0,
+        };
     }
     Plan {
         fair: true,
-        code: code_at(pages, best),
+        code: code as u32,
     }
 }
 

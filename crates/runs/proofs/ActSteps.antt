@@ -17,7 +17,6 @@ use Rattle.holes.specs.declared.record.Gain.{Gain}
 use Rattle.model.specs.declared.Hole.{Hole}
 use Rattle.model.specs.HoleStore.{hole}
 use Rattle.runs.specs.declared.Request.{Request}
-use Rattle.runs.specs.declared.Back.{Back}
 use Rattle.runs.specs.declared.Commit.{Commit}
 use Rattle.runs.specs.declared.Commit.the-variants.{Run, Nothing}
 use Rattle.holes.specs.Change.{drawnBy, gainedBy}

@@ -1,8 +1,8 @@
 -- Whether a commit would answer a run: the ways out, and that it then does.
-use Prim.Native.Nat.{ℕ, zero, suc, _+_}
+use Prim.Native.Nat.{ℕ, zero, suc, _+_, _<_, _^_}
 use mathlib.Core.Bool.{Bool, true, false, cond}
 use mathlib.Core.List.{List}
-use mathlib.Core.Path.{_≡_, refl, sym, ap, _∙_}
+use mathlib.Core.Path.{_≡_, refl, sym, ap, subst}
 use lib.Dec.{eqb, leb}
 use lib.ListN.{length}
 use borrow.Author.Tests.{ne-eqb, le-leb}
@@ -12,11 +12,11 @@ use Rattle.arena.specs.Load.{loadHoles}
 use Rattle.arena.specs.Fair.{recordFair}
 use Rattle.arena.specs.Calls.{commitFor}
 use Rattle.holes.specs.declared.Arena.{Arena}
-use Rattle.holes.specs.declared.Plan.{Plan}
 use Rattle.holes.specs.Record.{recordOf}
-use Rattle.holes.specs.Plan.{planOf}
+use Rattle.holes.specs.Plan.{planOf, Searches}
 use Rattle.holes.specs.Act.{withState, nextState, endNone, endRun, settle, fromFrontier, holeDrawn, commitDrawn, commitPlanned, planned, commitRead, commitActs}
 use Rattle.holes.proofs.Acts.{commit-acts}
+use Rattle.holes.proofs.Planning.{found-fair, found-small, found-code, found-not}
 use Rattle.runs.specs.Asks.{BookIn}
 use Rattle.runs.specs.Would.{wouldDraw, wouldCommit, hasRun}
 
@@ -34,18 +34,24 @@ module _ (a : Arena) (code n m : ℕ) where
   draw-hole e z = rw (ne-eqb (a .state) 2 e, ne-eqb code 0 z)
 
 module _ (n : ℕ) (b : List ℕ) (m : ℕ) where
-  module _ (f : recordFair n b ≡ true) (a : Arena) (e : a ≡ recordOf b) (p : Plan) (g : p ≡ planOf (loadHoles b 0 (a .count)) (a .total) (a .frontier) m) where
-    plan-is : p ≡ planned b m
+  module _ (f : recordFair n b ≡ true) (a : Arena) (e : a ≡ recordOf b) (c : ℕ) (k : Searches (planOf (loadHoles b 0 (a .count)) (a .total) (a .frontier) m) c) where
+    plan-is : planOf (loadHoles b 0 (a .count)) (a .total) (a .frontier) m ≡ planned b m
     unfolding planned
-    plan-is = g ∙ ap (λ y. planOf (loadHoles b 0 (y .count)) (y .total) (y .frontier) m) e
+    plan-is = ap (λ y. planOf (loadHoles b 0 (y .count)) (y .total) (y .frontier) m) e
 
-    pub find-draws : (r : Bool) → p .fair ≡ true → r ≡ wouldDraw a (p .code) n m → r ≡ wouldCommit n b m
-    unfolding wouldCommit
-    find-draws r t d = rw (f, ← plan-is, t, ← e) d
+    found : Searches (planned b m) c
+    found = subst (λ p. Searches p c) plan-is k
 
-    pub find-off : p .fair ≡ false → false ≡ wouldCommit n b m
+    pub code-small : (c ≡ 2 ^ 32 → ⊥) → c < 2 ^ 32
+    code-small d = found-small (planned b m) c found d
+
+    pub find-draws : (r : Bool) → (c ≡ 2 ^ 32 → ⊥) → r ≡ wouldDraw a c n m → r ≡ wouldCommit n b m
     unfolding wouldCommit
-    find-off t = rw (f, ← plan-is, t)
+    find-draws r d g = rw (f, found-fair (planned b m) c found d, ← (found-code (planned b m) c found d), ← e) g
+
+    pub find-off : c ≡ 2 ^ 32 → false ≡ wouldCommit n b m
+    unfolding wouldCommit
+    find-off z = rw (f, found-not (planned b m) c found z)
 
   pub would-off : (t : Bool) → t ≡ recordFair n b → t ≡ false → false ≡ wouldCommit n b m
   unfolding wouldCommit

@@ -29,11 +29,11 @@ fn would_find(meta: &[u32], a: Arena, size: u32, pages: u32) -> bool
     requires { ⌜ (recordFair size (now meta) ≡ true) × (a ≡ recordOf (now meta)) ⌝ }
     ensures { λ r. ⌜ r ≡ wouldCommit size (now (meta .entry)) pages ⌝ }
 {
-    let p = plans::plan(meta, a, pages);
-    if p.fair {
-        return would_draw(a, p.code, size, pages);
+    let code = plans::search(meta, a.count, a.total, a.frontier, pages);
+    if code == plans::UNFAIR {
+        return false;
     }
-    false
+    would_draw(a, code as u32, size, pages)
 }
 
 pub fn would_commit(meta: &[u32], size: u32, pages: u32) -> bool
