@@ -5,17 +5,14 @@ use native.Mathlib.Nat.{div-add-mod', mod-eq-of-lt, mul-le-mul-right, lt-of-mul-
 use mir.Val.{Fits}
 use mir.Syntax.{w32, w64}
 use mathlib.Core.Bool.{Bool, true, false, _&&_, and-false}
-use mathlib.Core.List.{List}
 use mathlib.Core.Path.{_≡_, refl, sym, ap, _∙_}
 use lib.Dec.{eqb}
-use lib.ListN.{length}
 use lib.Pow.{low}
 use borrow.Author.Tests.{le-leb, lt-ltb, eq-eqb, ne-eqb, eqb-true}
 use Rattle.words.specs.Word.{kindOf, granuleOf}
 use Rattle.classes.specs.declared.Shape.{Shape}
 use Rattle.classes.specs.Shape.{inverse}
 use Rattle.classes.specs.Sound.{Sound}
-use Rattle.fields.specs.Field.{mark, out, words, Has}
 use Rattle.fields.specs.Ranges.{maxPages}
 use Rattle.model.specs.Page.{wordOf}
 use Rattle.model.specs.Release.{ofKind}
@@ -98,9 +95,6 @@ pub found-at : (t : Bool) (i j : ℕ) → At j ≡ found t i → (t ≡ true) ×
 found-at true i j e = (refl, cc)
 found-at false i j e = let z : _≡_ {A = ℕ} 0 1 = cc in absurd (omega arith)
 
-pub found-block : (sh : Shape) (q w : ℕ) (f : Found) (i : ℕ) → f ≡ blockAt sh q w → f ≡ At i → (isBlock sh q w ≡ true) × (i ≡ indexOf sh q w)
-found-block sh q w f i e h = found-at (isBlock sh q w) (indexOf sh q w) i (sym h ∙ e)
-
 -- ---- a word of the class's kind: x behind the word of block 0
 module _ (sh : Shape) (q base span w x : ℕ) (a : Near sh q base span) (u : (x + base) % 2 ^ 64 ≡ w) where
   start-is : base ≡ sh .kind * 2 ^ 62 + (q * 4096 + sh .header)
@@ -156,14 +150,3 @@ module _ (sh : Shape) (q base span w x : ℕ) (a : Near sh q base span) (u : (x 
     pub inside-at : x * sh .inverse % 2 ^ 32 < sh .inverse → At (x * sh .inverse / 2 ^ 32) ≡ blockIn sh q w
     inside-at h =
         rw kind-is (a-block sh q w (granuleOf w) x (a .sound) starts-low refl granule-is granules h)
-
-module _ (b : List ℕ) (sh : Shape) (q w : ℕ) where
-  pub has-bit : (f : Found) (i : ℕ) → Sound sh → words (q + 1) ≤ length b → f ≡ blockAt sh q w → f ≡ At i → Has b (out q i)
-  has-bit f i s l e h =
-      let z = found-block sh q w f i e h in
-      omega (arith, below-capacity sh q w (z .0), z .1, s .few)
-
-  pub has-mark-at : (f : Found) (i : ℕ) → Sound sh → words (q + 1) ≤ length b → f ≡ blockAt sh q w → f ≡ At i → Has b (mark q (i / 32))
-  has-mark-at f i s l e h =
-      let z = found-block sh q w f i e h in
-      omega (arith, below-capacity sh q w (z .0), z .1, s .few)

@@ -1,26 +1,20 @@
--- A loop that tests every listed word and ends at the first that fails; and the functions with just such a loop: `list_out`, `of_one_run`.
+-- A loop that tests every listed word and ends at the first that fails; and `of_one_run`, which has just such a loop.
 use Prim.Native.Nat.{ℕ, _+_, _^_, _≤_, _<_}
 use native.Mathlib.Omega.{arith}
 use native.Mathlib.Numerals.{add-one}
 use mathlib.Core.Bool.{Bool, true, false}
 use mathlib.Core.List.{List}
-use mathlib.Core.Path.{_≡_, refl, sym, ap, _∙_}
+use mathlib.Core.Path.{_≡_, refl, ap, _∙_}
 use lib.Dec.{eqb, ltb}
 use lib.ListN.{length, getD, drop}
 use lib.Seq.{drop-cons}
 use borrow.Author.Tests.{ltb-true}
 use Rattle.facts.specs.Lists.{every}
 use Rattle.facts.proofs.Lists.{drop-past, every-get}
-use Rattle.classes.specs.declared.Shape.{Shape}
-use Rattle.fields.specs.Field.{page, out, first, get, words, Has}
-use Rattle.pages.specs.Stack.{indexOf, isBlock, pageAt}
-use Rattle.calls.specs.Out.{startOf, outIn, inRunOf, outAt}
-use Rattle.release.specs.declared.Found.{Found}
-use Rattle.release.specs.declared.Found.the-variants.{At, Nothing}
+use Rattle.fields.specs.Field.{page, first, get, words, Has}
+use Rattle.pages.specs.Stack.{pageAt}
+use Rattle.calls.specs.Out.{startOf}
 use Rattle.release.specs.Asks.{StartAsks}
-use Rattle.release.specs.Blocks.{blockAt, runAt}
-use Rattle.release.proofs.Bits.{out-in}
-use Rattle.release.proofs.BlockSteps.{none-found, found-at}
 
 pub record EveryInv (t : ℕ → Bool) (ws : List ℕ) (i : ℕ) : Type 0 where
   pub within : i ≤ length ws
@@ -39,25 +33,6 @@ module _ (t : ℕ → Bool) (ws : List ℕ) where
 
   pub every-ends : (i : ℕ) → EveryInv t ws i → length ws ≤ i → true ≡ every t ws
   every-ends i v l = rw (drop-past ws i l) at (v .rest)
-
--- ---- number 10
-module _ (b : List ℕ) (sh : Shape) (q w : ℕ) (f : Found) (e : f ≡ blockAt sh q w) where
-  pub out-no-block : f ≡ Nothing → false ≡ outIn b sh q w
-  out-no-block h = let z = none-found (isBlock sh q w) (indexOf sh q w) (sym h ∙ e) in sym (out-in b sh q w ∙ rw z)
-
-  pub out-told : (i x : ℕ) → f ≡ At i → x ≡ get b (out q i) → eqb x 1 ≡ outIn b sh q w
-  out-told i x h k =
-      let z = found-at (isBlock sh q w) (indexOf sh q w) i (sym h ∙ e) in
-      sym (out-in b sh q w ∙ rw (z .0, ← (z .1), ← k))
-
-module _ (n : ℕ) (b : List ℕ) (c : ℕ) (sh : Shape) (w : ℕ) (f : Found) (e : f ≡ runAt n b sh c w) where
-  pub out-no-run : f ≡ Nothing → false ≡ outAt n b c sh w
-  unfolding outAt
-  out-no-run h = rw (none-found (inRunOf n b sh c w) (startOf b w) (sym h ∙ e))
-
-  pub out-in-run : (q : ℕ) (r : Bool) → f ≡ At q → r ≡ outIn b sh q w → r ≡ outAt n b c sh w
-  unfolding outAt
-  out-in-run q r h k = let z = found-at (inRunOf n b sh c w) (startOf b w) q (sym h ∙ e) in rw (z .0, ← (z .1)) k
 
 -- ---- number 11
 pub page-fits : (n w : ℕ) → n < 2 ^ 32 → ltb (pageAt w) n ≡ true → pageAt w < 2 ^ 32

@@ -13,10 +13,8 @@ pub mod MarkSteps
 pub mod StretchSteps
 pub mod RunMarks
 pub mod MarkWords
-pub mod CleanSteps
-pub mod PassSteps
-pub mod ClearSteps
 pub mod EverySteps
+pub mod OutSteps
 pub mod ListSteps
 pub mod Testing
 pub mod ParkSteps

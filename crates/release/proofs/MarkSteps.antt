@@ -29,10 +29,6 @@ use Rattle.release.proofs.Bits.{out-in, below-capacity}
 use Rattle.release.proofs.BlockSteps.{none-found, found-at}
 use Rattle.facts.proofs.Lists.{drop-past}
 
--- ---- one block
-pub bit-there : (b : List ℕ) (q i : ℕ) → Has b (mark q (i / 32)) → Has b (out q i)
-bit-there b q i h = omega arith
-
 -- ---- one word
 module _ (b : List ℕ) (sh : Shape) (q w : ℕ) where
   pub fresh-in : freshIn b sh q w ≡ ((ofKind (sh .kind) w && isBlock sh q w) && freshAt b q (indexOf sh q w))

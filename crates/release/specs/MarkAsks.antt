@@ -1,22 +1,21 @@
 -- What marking and its tests ask and answer, and the book that they leave.
 use Prim.Native.Nat.{ℕ, _+_, _*_, _%_, _^_, _≤_, _<_}
-use mathlib.Core.Bool.{Bool, true, false, cond, not, _&&_}
+use mathlib.Core.Bool.{Bool, true, false, cond}
 use mathlib.Core.List.{List}
 use mathlib.Core.Path.{_≡_}
-use lib.Dec.{eqb}
 use lib.ListN.{length, getD, drop}
 use Rattle.facts.specs.Lists.{every}
 use Rattle.classes.specs.declared.Shape.{Shape}
 use Rattle.classes.specs.Sound.{Sound}
-use Rattle.fields.specs.Field.{out, get, words}
+use Rattle.fields.specs.Field.{words}
 use Rattle.fields.specs.Ranges.{maxPages}
 use Rattle.model.specs.Page.{wordOf}
 use Rattle.model.specs.Release.{ofKind}
-use Rattle.calls.specs.Out.{outIn, outAt, unmarked, repeats, outFault}
+use Rattle.calls.specs.Out.{unmarked, repeats, outFault}
 use Rattle.release.specs.declared.Found.the-variants.{Nothing}
 use Rattle.release.specs.Blocks.{blockIn}
 use Rattle.release.specs.Asks.{ClassAsks}
-use Rattle.release.specs.Marks.{markAt, setMark, freshAt, freshBits, setBits, isMarkedIn, markedIn, isMarked, marked, markCount, markBook, freshIn, freshCount, freshBook}
+use Rattle.release.specs.Marks.{setMark, freshAt, freshBits, setBits, markedIn, markCount, markBook, freshIn, freshCount, freshBook}
 
 -- the run at q, in an arena; its pages' granules are those of words of one kind
 pub record FieldAsks (b : List ℕ) (sh : Shape) (q : ℕ) : Type 0 where
@@ -71,25 +70,6 @@ pub record MarkedTo (r : ℕ) (b′ b : List ℕ) (sh : Shape) (q : ℕ) (ws : L
 -- the word behind place i is no block of the run at q, if there is one
 pub record Alone (t : Bool) (sh : Shape) (q : ℕ) (ws : List ℕ) (i : ℕ) : Type 0 where
   pub told : t ≡ true → i + 1 < length ws → blockIn sh q (getD ws (i + 1) 0) ≡ Nothing
-
--- a word that is not out is passed over
-abbrev pub passes : Bool → Bool → Bool
-passes o m = not (o && m)
-
-abbrev pub leaves : Bool → Bool → List ℕ → List ℕ → List ℕ
-leaves o m b′ b = cond o (cond m b b′) b
-
-pub record PassedBlock (r : Bool) (b′ b : List ℕ) (q i : ℕ) : Type 0 where
-  pub answer : r ≡ passes (eqb (get b (out q i)) 1) (eqb (markAt b q i) 1)
-  pub left : b′ ≡ leaves (eqb (get b (out q i)) 1) (eqb (markAt b q i) 1) (setMark b q i) b
-
-pub record PassedIn (r : Bool) (b′ b : List ℕ) (sh : Shape) (q w : ℕ) : Type 0 where
-  pub answer : r ≡ passes (outIn b sh q w) (isMarkedIn b sh q w)
-  pub left : b′ ≡ leaves (outIn b sh q w) (isMarkedIn b sh q w) (markedIn b sh q w) b
-
-pub record PassedAt (r : Bool) (b′ : List ℕ) (n : ℕ) (b : List ℕ) (c : ℕ) (sh : Shape) (w : ℕ) : Type 0 where
-  pub answer : r ≡ passes (outAt n b c sh w) (isMarked b sh w)
-  pub left : b′ ≡ leaves (outAt n b c sh w) (isMarked b sh w) (marked b sh w) b
 
 pub record MarkedList (r : ℕ) (b′ : List ℕ) (n : ℕ) (b : List ℕ) (c : ℕ) (sh : Shape) (ws : List ℕ) : Type 0 where
   pub answer : r ≡ markCount n b c sh ws

@@ -104,16 +104,6 @@ unfoldable pub takeMarks : List ℕ → ℕ → ℕ → ℕ → List ℕ
 takeMarks b q i zero = b
 takeMarks b q i (suc m) = takeWord (takeMarks b q i m) q (m + i)
 
--- ---- number 13 word by word: in the run at q; in the class's runs
-unfoldable pub cleanIn : List ℕ → Shape → ℕ → ℕ → Bool
-cleanIn b sh q w = cond (outIn b sh q w) (eqb (get b (markIn sh q w)) 0) true
-
+-- ---- number 13 word by word
 unfoldable pub cleanAt : ℕ → List ℕ → ℕ → Shape → ℕ → Bool
 cleanAt n b c sh w = cond (outAt n b c sh w) (clean b sh w) true
-
--- ---- clearing word by word
-unfoldable pub clearedIn : List ℕ → Shape → ℕ → ℕ → List ℕ
-clearedIn b sh q w = cond (outIn b sh q w) (put b (markIn sh q w) 0) b
-
-unfoldable pub clearedAt : ℕ → List ℕ → ℕ → Shape → ℕ → List ℕ
-clearedAt n b c sh w = cond (outAt n b c sh w) (put b (markOf b sh w) 0) b

@@ -4,10 +4,11 @@ ghost use Prim.Native.Nat.{_+_, _%_, _^_, _<_};
 ghost use Rattle.classes.specs.Sound.{Sound};
 ghost use Rattle.fields.specs.Ranges.{maxPages};
 ghost use Rattle.words.specs.Word.{granuleOf, wordBits};
-ghost use Rattle.release.specs.Blocks.{blockAt, blockIn, runAt};
+ghost use Rattle.release.specs.Blocks.{blockAt, blockIn, runAt, findOut};
 ghost use Rattle.release.specs.Asks.{ClassAsks};
 ghost use Rattle.release.specs.MarkAsks.{Near};
 use super::Found;
+use super::Out;
 use classes::Shape;
 use lists::whole;
 use pages::page_at;
@@ -29,7 +30,7 @@ pub fn behind(w: u64, first: u64) -> u64
 
 // The index of the block of the run at q that the word is.
 // A granule below the blocks wraps to one above them. What does not fill a block stands behind the point of the product.
-pub fn block_at(shape: Shape, q: u32, w: u64) -> Found
+fn block_at(shape: Shape, q: u32, w: u64) -> Found
     requires { ⌜ Sound shape ⌝ }
     requires { ⌜ q < maxPages ⌝ }
     ensures { λ r. ⌜ r ≡ blockAt shape q w ⌝ }
@@ -87,4 +88,23 @@ pub fn run_of(meta: &[u32], n: u32, c: u32, shape: Shape, w: u64) -> Found
     } else {
         Found::Nothing
     }
+}
+
+// The block that a word is, if it is out in the class.
+pub fn find_out(meta: &[u32], n: u32, c: u32, shape: Shape, w: u64) -> Out
+    requires { ⌜ ClassAsks n (now meta) c shape ⌝ }
+    ensures { λ r. ⌜ r ≡ findOut n (now (meta .entry)) c shape w ⌝ }
+{
+    let run = run_of(meta, n, c, shape, w);
+    let Found::At(q) = run else {
+        return Out::Nowhere;
+    };
+    let block = block_at(shape, q, w);
+    let Found::At(i) = block else {
+        return Out::Nowhere;
+    };
+    if fields::out::bit(meta, q, i) != 1 {
+        return Out::Nowhere;
+    }
+    Out::Block(q, i)
 }

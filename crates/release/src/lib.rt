@@ -60,3 +60,9 @@ pub enum Found {
     At(u32),
     Nothing,
 }
+
+// A block that is out, by its run's first page and its index there; or none.
+pub enum Out {
+    Block(u32, u32),
+    Nowhere,
+}

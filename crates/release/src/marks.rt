@@ -5,29 +5,13 @@ ghost use Prim.Native.Nat.{_+_, _/_, _≤_, _<_, min};
 ghost use lib.ListN.{length};
 ghost use Rattle.fields.specs.Field.{mark, Has};
 ghost use Rattle.pages.specs.Asks.{ClearAsks};
-ghost use Rattle.release.specs.Marks.{markAt, setMark, readyIn, noMarks, clearWords, flipWord, takeWord, takeMarks};
+ghost use Rattle.release.specs.Marks.{readyIn, noMarks, clearWords, flipWord, takeWord, takeMarks};
 ghost use Rattle.release.specs.MarkAsks.{FieldAsks, Near, MarkedBits, MarkedBlock, MarkedOne, MarkedIn, MarkedTo, Stretched, Reaches, Alone};
 use super::Found;
 use super::blocks::behind;
 use super::blocks::block_in;
 use classes::Shape;
 use stack::word_of;
-
-// The mark of block i, and the mark set.
-pub fn mark_bit(meta: &[u32], q: u32, i: u32) -> u32
-    requires { ⌜ Has (now meta) (mark q (i / 32)) ⌝ }
-    ensures { λ r. ⌜ r ≡ markAt (now (meta .entry)) q i ⌝ }
-{
-    fields::bits::read_bits(fields::marks::word(meta, q, i / 32), i % 32, 1)
-}
-
-pub fn set_mark(meta: &mut [u32], q: u32, i: u32)
-    requires { ⌜ Has (now meta) (mark q (i / 32)) ⌝ }
-    ensures { λ _. ⌜ now (meta .exit) ≡ setMark (now (meta .entry)) q i ⌝ }
-{
-    let marks = fields::marks::word(meta, q, i / 32);
-    fields::marks::set_word(meta, q, i / 32, fields::bits::set_ones(marks, i % 32, 1));
-}
 
 // Whether the n blocks from 32 j + s on, whose bits are in one word, are out and not marked; they then are marked.
 fn mark_bits(meta: &mut [u32], q: u32, j: u32, s: u32, n: u32) -> bool
@@ -50,7 +34,7 @@ fn mark_bits(meta: &mut [u32], q: u32, j: u32, s: u32, n: u32) -> bool
 }
 
 // The same of block i.
-fn mark_block(meta: &mut [u32], q: u32, i: u32) -> bool
+pub fn mark_block(meta: &mut [u32], q: u32, i: u32) -> bool
     requires { ⌜ Has (now meta) (mark q (i / 32)) ⌝ }
     ensures { λ r. ⌜ MarkedBlock r (now (meta .exit)) (now (meta .entry)) q i ⌝ }
 {

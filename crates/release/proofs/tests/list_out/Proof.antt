@@ -1,4 +1,5 @@
-use Rattle.release.proofs.EverySteps.{EveryInv, every-starts, every-goes-on, every-stops, every-ends}
+use Rattle.release.proofs.OutSteps.{outs-go-on, outs-stop}
+use Rattle.release.proofs.EverySteps.{EveryInv, every-starts, every-ends}
 use Rattle.calls.specs.Out.{outAt}
 use Prim.Native.Nat.{_-_}
 use lib.ListN.{length}
@@ -16,4 +17,4 @@ pub list-out-spec : {M : Type 1} → statement M
 list-out-spec =
     tie.close
     (tie.spec
-    Inv-loop μ-loop (λ c. search every-starts) (λ c. search needs) (λ c. search needs) (λ c κs. search needs) (λ c. search needs) (λ c. search needs) (λ c. search every-goes-on) (λ c. search every-stops) (λ c. search every-ends))
+    Inv-loop μ-loop (λ c. search every-starts) (λ c. search needs) (λ c. search needs) (λ c κs. search needs) (λ c. search needs) (λ c. search needs) (λ c. search outs-stop) (λ c. search needs) (λ c. search needs) (λ c. search outs-go-on) (λ c. search every-ends))
