@@ -4,7 +4,6 @@ pub mod Gather
 pub mod GatherGives
 pub mod PushLaws
 pub mod PushRuns
-pub mod OneSteps
 pub mod GiveLaws
 pub mod FairSteps
 pub mod PlaceKept

@@ -65,7 +65,7 @@ module _ (n : ℕ) (b : List ℕ) (c : ℕ) (sh : Shape) (m g q : ℕ) (e : q �
         let z = within-arena n c sh (a .class .sound) q b (sym k ∙ h) in
         record { few = omega (arith, a .few); there = omega (arith, a .class .sound .paged, a .class .long) }
 
-    pub ready-told : (r : Bool) → r ≡ noMarks b q 0 m → r ≡ pageReady n b c sh m g
+    pub ready-told : (r : Bool) → r ≡ noMarks b q m → r ≡ pageReady n b c sh m g
     unfolding pageReady
     ready-told r x = rw (← e, ← k, h) x
 

@@ -96,10 +96,6 @@ module _ (sh : Shape) (s : Sound sh) (one : sh .pages ≡ 1) where
       none-marked = rw not-fresh
 
   module _ (m : ℕ) (few : m ≤ 128) (all : sh .capacity ≤ 32 * m) where
-    -- words 0 to m - 1
-    from-none : m + 0 ≤ 128
-    from-none = omega arith
-
     -- ---- nothing but marks is changed
     own-put : (b : List ℕ) (w : ℕ) → freshIn b sh (pageAt w) w ≡ true → Changes isMarkWord b (markedIn b sh (pageAt w) w)
     own-put b w o = fresh-put sh s (pageAt w) b w o
@@ -147,33 +143,33 @@ module _ (sh : Shape) (s : Sound sh) (one : sh .pages ≡ 1) where
                 out = rw x (sym (every-same _ _ ws (out-kept n c sh s b b′ g)) ∙ r .out);
               }
 
-      clean-own : (b : List ℕ) (w : ℕ) → noMarks b (pageAt w) 0 m ≡ true → outAt n b c sh w ≡ true → clean b sh w ≡ true
+      clean-own : (b : List ℕ) (w : ℕ) → noMarks b (pageAt w) m ≡ true → outAt n b c sh w ≡ true → clean b sh w ≡ true
       clean-own b w e o =
           let x = page-start n c sh s one b w o in
           let z = below-capacity sh (startOf b w) w (block-of-out n c sh s b w o) in
           let l : indexOf sh (startOf b w) w / 32 < m = omega arith in
-          eq-eqb _ 0 (ap (λ p. get b (mark p (indexOf sh (startOf b w) w / 32))) x ∙ clean-at b (pageAt w) 0 m (indexOf sh (startOf b w) w / 32) e (omega arith) (omega arith))
+          eq-eqb _ 0 (ap (λ p. get b (mark p (indexOf sh (startOf b w) w / 32))) x ∙ clean-at b (pageAt w) m (indexOf sh (startOf b w) w / 32) e l)
 
-      pub own-clean : (b ws : List ℕ) → every (λ w. noMarks b (pageAt w) 0 m) ws ≡ true → unmarked n b c sh ws ≡ true
+      pub own-clean : (b ws : List ℕ) → every (λ w. noMarks b (pageAt w) m) ws ≡ true → unmarked n b c sh ws ≡ true
       unfolding unmarked
       own-clean b [] e = refl
-      own-clean b (w ∷ ws) e = by (outAt n b c sh w) refl (own-clean b ws (and-right (noMarks b (pageAt w) 0 m) _ e))
+      own-clean b (w ∷ ws) e = by (outAt n b c sh w) refl (own-clean b ws (and-right (noMarks b (pageAt w) m) _ e))
         where
           by : (t : Bool) → outAt n b c sh w ≡ t → every (clean b sh) (outs n b c sh ws) ≡ true → every (clean b sh) (outs n b c sh (w ∷ ws)) ≡ true
-          by true o z = rw (o, clean-own b w (and-left (noMarks b (pageAt w) 0 m) _ e) o, z)
+          by true o z = rw (o, clean-own b w (and-left (noMarks b (pageAt w) m) _ e) o, z)
           by false o z = rw o z
 
       -- ---- the pages that are ready: those of the words
-      ready-at : (b : List ℕ) (q : ℕ) (gs : List ℕ) → every (pageReady n b c sh m) gs ≡ true → elem q (map pageOf gs) ≡ true → (whole n b sh c q && noMarks b q 0 m) ≡ true
+      ready-at : (b : List ℕ) (q : ℕ) (gs : List ℕ) → every (pageReady n b c sh m) gs ≡ true → elem q (map pageOf gs) ≡ true → (whole n b sh c q && noMarks b q m) ≡ true
       unfolding pageReady
       ready-at b q [] e h = absurd (false≢true h)
       ready-at b q (g ∷ gs) e h =
-          let t : ℕ → Bool = λ g. whole n b sh c (pageOf g) && noMarks b (pageOf g) 0 m in
+          let t : ℕ → Bool = λ g. whole n b sh c (pageOf g) && noMarks b (pageOf g) m in
           by-cases (eqb q (pageOf g))
           (λ d. rw (eqb-true q (pageOf g) d) (and-left (t g) (every t gs) e))
           (λ d. ready-at b q gs (and-right (t g) (every t gs) e) (rw d at h))
 
-      pub ready-words : (b gs ws : List ℕ) → every (pageReady n b c sh m) gs ≡ true → every (hasPage gs) ws ≡ true → (every (onRun b) ws ≡ true) × (every (λ w. noMarks b (pageAt w) 0 m) ws ≡ true)
+      pub ready-words : (b gs ws : List ℕ) → every (pageReady n b c sh m) gs ≡ true → every (hasPage gs) ws ≡ true → (every (onRun b) ws ≡ true) × (every (λ w. noMarks b (pageAt w) m) ws ≡ true)
       ready-words b gs [] e h = (refl, refl)
       ready-words b gs (w ∷ ws) e h =
           let z = ready-at b (pageAt w) gs e (and-left (hasPage gs w) _ h) in
@@ -187,8 +183,8 @@ module _ (sh : Shape) (s : Sound sh) (one : sh .pages ≡ 1) where
     takes-away : (q i : ℕ) → i < 4096 → (gs : List ℕ) → elem q (map pageOf gs) ≡ false → (b : List ℕ) → takePages (put b (out q i) 0) m gs ≡ put (takePages b m gs) (out q i) 0
     takes-away q i h [] e b = refl
     takes-away q i h (g ∷ gs) e b =
-        ap (λ d. takePages d m gs) (out-past (pageOf g) q (apart q g (nor-left (eqb q (pageOf g)) _ e)) 0 m from-none b i h)
-        ∙ takes-away q i h gs (nor-right (eqb q (pageOf g)) _ e) (takeMarks b (pageOf g) 0 m)
+        ap (λ d. takePages d m gs) (out-past (pageOf g) q (apart q g (nor-left (eqb q (pageOf g)) _ e)) m few b i h)
+        ∙ takes-away q i h gs (nor-right (eqb q (pageOf g)) _ e) (takeMarks b (pageOf g) m)
 
     takes-one : (q i : ℕ) → i < 4096 → i / 32 < m → (gs : List ℕ) → elem q (map pageOf gs) ≡ true → distinct (map pageOf gs) ≡ true
         → (b : List ℕ) → words (q + 1) ≤ length b → get b (out q i) ≡ 1 → markAt b q i ≡ 0 → takePages (setMark b q i) m gs ≡ put (takePages b m gs) (out q i) 0
@@ -199,20 +195,20 @@ module _ (sh : Shape) (s : Sound sh) (one : sh .pages ≡ 1) where
         (λ d.
         let z = eqb-true q (pageOf g) d in
         let v : elem q (map pageOf gs) ≡ false = rw z (not-true (elem (pageOf g) (map pageOf gs)) (and-left (not (elem (pageOf g) (map pageOf gs))) _ u)) in
-        rw (← z) (ap (λ d. takePages d m gs) (takes-marked q 0 m b i h from-none (omega arith) (omega arith) (omega arith) x y) ∙ takes-away q i h gs v (takeMarks b q 0 m)))
+        rw (← z) (ap (λ d. takePages d m gs) (takes-marked q m b i h few k (omega arith) x y) ∙ takes-away q i h gs v (takeMarks b q m)))
         (λ d.
         let v = apart q g d in
-        ap (λ d. takePages d m gs) (mark-past p q v 0 m from-none b i h)
-        ∙ takes-one q i h k gs (rw d at e) (and-right (not (elem (pageOf g) (map pageOf gs))) _ u) (takeMarks b p 0 m) (rw (lengths p 0 m b) l) (out-still p q v 0 m from-none b i h ∙ x) (mark-still p q v 0 m from-none b i h ∙ y))
+        ap (λ d. takePages d m gs) (mark-past p q v m few b i h)
+        ∙ takes-one q i h k gs (rw d at e) (and-right (not (elem (pageOf g) (map pageOf gs))) _ u) (takeMarks b p m) (rw (lengths p m b) l) (out-still p q v m few b i h ∙ x) (mark-still p q v m few b i h ∙ y))
 
     clears-one : (q j v : ℕ) → j < m → (gs : List ℕ) → elem q (map pageOf gs) ≡ true → (b : List ℕ) → clearPages (put b (mark q j) v) m gs ≡ clearPages b m gs
     clears-one q j v h [] e b = absurd (false≢true e)
     clears-one q j v h (g ∷ gs) e b =
         by-cases (eqb q (pageOf g))
-        (λ d. let z = eqb-true q (pageOf g) d in rw (← z) (ap (λ d. clearPages d m gs) (clear-past b q 0 m j v (omega arith) (omega arith) from-none)))
+        (λ d. let z = eqb-true q (pageOf g) d in rw (← z) (ap (λ d. clearPages d m gs) (clear-past b q m j v h few)))
         (λ d.
-        ap (λ d. clearPages d m gs) (clear-away b (pageOf g) 0 m q j v (apart q g d) from-none (omega arith))
-        ∙ clears-one q j v h gs (rw d at e) (clearWords b (pageOf g) 0 m))
+        ap (λ d. clearPages d m gs) (clear-away b (pageOf g) m q j v (apart q g d) few (omega arith))
+        ∙ clears-one q j v h gs (rw d at e) (clearWords b (pageOf g) m))
 
     -- ---- pages without a mark
     module _ (n c : ℕ) where
@@ -220,15 +216,15 @@ module _ (sh : Shape) (s : Sound sh) (one : sh .pages ≡ 1) where
       unfolding pageReady
       take-none b [] e = refl
       take-none b (g ∷ gs) e =
-          let t : ℕ → Bool = λ g. whole n b sh c (pageOf g) && noMarks b (pageOf g) 0 m in
-          ap (λ d. takePages d m gs) (none-taken b (pageOf g) 0 m (and-right (whole n b sh c (pageOf g)) _ (and-left (t g) (every t gs) e))) ∙ take-none b gs (and-right (t g) (every t gs) e)
+          let t : ℕ → Bool = λ g. whole n b sh c (pageOf g) && noMarks b (pageOf g) m in
+          ap (λ d. takePages d m gs) (none-taken b (pageOf g) m (and-right (whole n b sh c (pageOf g)) _ (and-left (t g) (every t gs) e))) ∙ take-none b gs (and-right (t g) (every t gs) e)
 
       clear-none : (b gs : List ℕ) → every (pageReady n b c sh m) gs ≡ true → clearPages b m gs ≡ b
       unfolding pageReady
       clear-none b [] e = refl
       clear-none b (g ∷ gs) e =
-          let t : ℕ → Bool = λ g. whole n b sh c (pageOf g) && noMarks b (pageOf g) 0 m in
-          ap (λ d. clearPages d m gs) (none-cleared b (pageOf g) 0 m (and-right (whole n b sh c (pageOf g)) _ (and-left (t g) (every t gs) e))) ∙ clear-none b gs (and-right (t g) (every t gs) e)
+          let t : ℕ → Bool = λ g. whole n b sh c (pageOf g) && noMarks b (pageOf g) m in
+          ap (λ d. clearPages d m gs) (none-cleared b (pageOf g) m (and-right (whole n b sh c (pageOf g)) _ (and-left (t g) (every t gs) e))) ∙ clear-none b gs (and-right (t g) (every t gs) e)
 
       -- ---- the whole list
       marked-long : (b : List ℕ) (q w : ℕ) → length (markedIn b sh q w) ≡ length b

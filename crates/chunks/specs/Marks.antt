@@ -14,7 +14,7 @@ use Rattle.pages.specs.Stack.{pageAt}
 use Rattle.release.specs.Marks.{markedIn, freshIn, noMarks, clearWords, takeMarks}
 
 unfoldable pub pageReady : ℕ → List ℕ → ℕ → Shape → ℕ → ℕ → Bool
-pageReady n b c sh m g = whole n b sh c (pageOf g) && noMarks b (pageOf g) 0 m
+pageReady n b c sh m g = whole n b sh c (pageOf g) && noMarks b (pageOf g) m
 
 unfoldable pub ownCount : List ℕ → Shape → List ℕ → ℕ
 ownCount b sh [] = 0
@@ -30,7 +30,7 @@ sweep f b [] = b
 sweep f b (g ∷ gs) = sweep f (f b (pageOf g)) gs
 
 abbrev pub takePages : List ℕ → ℕ → List ℕ → List ℕ
-takePages b m gs = sweep (λ d q. takeMarks d q 0 m) b gs
+takePages b m gs = sweep (λ d q. takeMarks d q m) b gs
 
 abbrev pub clearPages : List ℕ → ℕ → List ℕ → List ℕ
-clearPages b m gs = sweep (λ d q. clearWords d q 0 m) b gs
+clearPages b m gs = sweep (λ d q. clearWords d q m) b gs

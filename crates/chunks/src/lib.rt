@@ -3,7 +3,6 @@ mod call;
 mod fair;
 mod gives;
 mod marks;
-mod one;
 mod place;
 mod push;
 mod quick;

@@ -12,7 +12,7 @@ use release::no_marks;
 use release::take_marks;
 use tally::is_page;
 
-// Whether a chunk's page is a run of the class, and words 0 to m - 1 of its marks are 0.
+// Whether a chunk's page is a run of the class, and its first m words of marks are 0.
 fn page_ready(meta: &[u32], n: u32, c: u32, shape: Shape, m: u32, chunk: u64) -> bool
     requires { ⌜ ReadyAsks n (now meta) c shape m ⌝ }
     ensures { λ r. ⌜ r ≡ pageReady n (now (meta .entry)) c shape m chunk ⌝ }
@@ -20,7 +20,7 @@ fn page_ready(meta: &[u32], n: u32, c: u32, shape: Shape, m: u32, chunk: u64) ->
     if is_page(n, chunk) {
         let q = chunk_page(chunk);
         if lists::whole(meta, n, c, shape, q) {
-            return no_marks(meta, q, 0, m);
+            return no_marks(meta, q, m);
         }
     }
     false
@@ -64,7 +64,7 @@ pub fn take_pages(meta: &mut [u32], n: u32, m: u32, chunks: &[u64])
 {
     let mut i = 0;
     while i < chunks.len() {
-        take_marks(meta, chunk_page(chunks[i]), 0, m);
+        take_marks(meta, chunk_page(chunks[i]), m);
         i += 1;
     }
 }
@@ -76,7 +76,7 @@ pub fn clear_pages(meta: &mut [u32], n: u32, m: u32, chunks: &[u64])
 {
     let mut i = 0;
     while i < chunks.len() {
-        clear_marks(meta, chunk_page(chunks[i]), 0, m);
+        clear_marks(meta, chunk_page(chunks[i]), m);
         i += 1;
     }
 }

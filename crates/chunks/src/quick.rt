@@ -5,8 +5,9 @@ use super::marks::clear_pages;
 use super::marks::mark_words;
 use super::marks::pages_ready;
 use super::marks::take_pages;
-use super::one::all_match;
 use classes::Shape;
+use release::marks_of;
+use tally::chunks_match;
 
 // All listed blocks are marked: they are taken, or else the marks are.
 fn take_marked(meta: &mut [u32], n: u32, c: u32, shape: Shape, m: u32, chunks: &[u64]) -> bool
@@ -54,7 +55,7 @@ fn take_matched(
     requires { ⌜ MatchedAsks n (now meta) c shape (now list) (now chunks) ⌝ }
     ensures { λ r. ⌜ Tried r (now (meta .exit)) n (now (meta .entry)) c shape (now (list .entry)) (now (chunks .entry)) ⌝ }
 {
-    let m = (shape.capacity + 31) / 32;
+    let m = marks_of(shape);
     if pages_ready(meta, n, c, shape, m, chunks) {
         return mark_and_take(meta, n, c, shape, m, list, chunks);
     }
@@ -72,7 +73,7 @@ pub fn try_take(
     requires { ⌜ TryAsks n (now meta) c shape (now chunks) ⌝ }
     ensures { λ r. ⌜ Tried r (now (meta .exit)) n (now (meta .entry)) c shape (now (list .entry)) (now (chunks .entry)) ⌝ }
 {
-    if all_match(meta, n, list, chunks) {
+    if chunks_match(meta, n, list, chunks) {
         return take_matched(meta, n, c, shape, list, chunks);
     }
     false

@@ -1,7 +1,6 @@
 pub mod Bits
 pub mod BlockSteps
 pub mod RunSteps
-pub mod SpanSteps
 pub mod Spots
 pub mod FairSteps
 pub mod OutLaws

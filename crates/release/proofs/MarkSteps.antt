@@ -1,4 +1,4 @@
--- `mark_one` and `ready_by`: their ways out; and the loops of `mark_few` and `mark_by`.
+-- The ways out of `mark_one`, and the loops of `mark_few` and `mark_by`.
 use Prim.Native.Nat.{ℕ, suc, _+_, _*_, _/_, _≤_, _<_}
 use native.Mathlib.Omega.{arith}
 use native.Mathlib.Nat.{le-refl}
@@ -9,23 +9,20 @@ use mathlib.Core.List.{List}
 use mathlib.Core.Path.{_≡_, refl, sym, ap, _∙_}
 use mir.Val.{Fits}
 use mir.Syntax.{w32}
-use lib.Dec.{eqb}
 use lib.ListN.{length, getD, drop}
 use lib.Seq.{drop-cons}
-use borrow.Author.Tests.{eq-eqb, ne-eqb}
 use Rattle.classes.specs.declared.Shape.{Shape}
 use Rattle.classes.specs.Sound.{Sound}
-use Rattle.fields.specs.Field.{mark, out, get, words, Has}
+use Rattle.fields.specs.Field.{mark, words, Has}
 use Rattle.model.specs.Release.{ofKind}
 use Rattle.pages.specs.Stack.{indexOf, isBlock}
-use Rattle.calls.specs.Out.{outIn, markIn}
-use Rattle.facts.proofs.Bools.{and-left, and-right}
+use Rattle.facts.proofs.Bools.{and-right}
 use Rattle.release.specs.declared.Found.{Found}
 use Rattle.release.specs.declared.Found.the-variants.{At, Nothing}
 use Rattle.release.specs.Blocks.{blockIn}
-use Rattle.release.specs.Marks.{setMark, freshAt, markedIn, freshIn, readyIn, freshCount, freshBook}
+use Rattle.release.specs.Marks.{setMark, freshAt, markedIn, freshIn, freshCount, freshBook}
 use Rattle.release.specs.MarkAsks.{MarkedBlock, MarkedOne, MarkedIn, MarkedTo, Reaches, Alone}
-use Rattle.release.proofs.Bits.{out-in, below-capacity}
+use Rattle.release.proofs.Bits.{below-capacity}
 use Rattle.release.proofs.BlockSteps.{none-found, found-at}
 use Rattle.facts.proofs.Lists.{drop-past}
 
@@ -51,36 +48,11 @@ module _ (b : List ℕ) (sh : Shape) (q w : ℕ) where
     pub has-mark : Sound sh → words (q + 1) ≤ length b → Has b (mark q (i / 32))
     has-mark s l = omega (arith, index-low s)
 
-    pub has-out : Sound sh → words (q + 1) ≤ length b → Has b (out q i)
-    has-out s l = omega (arith, index-low s)
-
     pub a-block : (r : Bool) (b′ : List ℕ) → MarkedBlock r b′ b q i → MarkedOne r b′ b sh q w
     unfolding markedIn
     a-block r b′ m =
         let z : freshIn b sh q w ≡ freshAt b q i = fresh-in ∙ rw (here .0) (ap (freshAt b q) (sym (here .1))) in
         record { answer = m .answer ∙ sym z; left = rw z (m .left ∙ ap (λ d. cond (freshAt b q i) d b) (ap (setMark b q) (here .1))) }
-
-    module _ (x : ℕ) (k : x ≡ get b (out q i)) where
-      out-is : outIn b sh q w ≡ eqb x 1
-      out-is = out-in b sh q w ∙ rw (and-right (ofKind (sh .kind) w) _ (here .0), ← (here .1), ← k)
-
-      ready-is : readyIn b sh q w ≡ (eqb x 1 && eqb (get b (markIn sh q w)) 0)
-      unfolding readyIn
-      ready-is = rw (and-left (ofKind (sh .kind) w) _ (here .0), out-is)
-
-      pub ready-idle : (x ≡ 1 → ⊥) → false ≡ readyIn b sh q w
-      ready-idle d = sym (ready-is ∙ rw (ne-eqb x 1 d))
-
-      pub ready-told : x ≡ 1 → (m : ℕ) → m ≡ get b (mark q (i / 32)) → eqb m 0 ≡ readyIn b sh q w
-      ready-told d m g = sym (ready-is ∙ rw (eq-eqb x 1 d) (ap (λ t. eqb t 0) (sym (g ∙ ap (λ j. get b (mark q (j / 32))) (here .1)))))
-
-  pub ready-none : (f : Found) → f ≡ blockIn sh q w → f ≡ Nothing → false ≡ readyIn b sh q w
-  unfolding readyIn
-  ready-none f e h = by (ofKind (sh .kind) w) (isBlock sh q w) refl (none-found (ofKind (sh .kind) w && isBlock sh q w) (indexOf sh q w) (sym h ∙ e))
-    where
-      by : (t u : Bool) → isBlock sh q w ≡ u → (t && u) ≡ false → false ≡ (t && (outIn b sh q w && eqb (get b (markIn sh q w)) 0))
-      by false u y z = refl
-      by true u y z = rw (out-in b sh q w, y ∙ z)
 
 -- ---- the loop
 pub span-fits : (sh : Shape) → Sound sh → Fits w32 (sh .capacity * sh .block)
@@ -174,16 +146,6 @@ module _ (b : List ℕ) (sh : Shape) (q : ℕ) (ws : List ℕ) (from : ℕ) wher
 
   pub none-left : from ≤ length ws → length ws ≤ from → MarkedIn from b b sh q ws from
   none-left h l = mark-ends b from (mark-starts h) l
-
-  -- all words of the list
-  pub few-all : (r : ℕ) (b′ : List ℕ) → MarkedTo r b′ b sh q ws from (length ws) → MarkedIn r b′ b sh q ws from
-  few-all r b′ m =
-      elim (ℕ-discrete r (length ws)) [
-        | yes e ↦ ended b′ sh q ws from r b (m .on) (no-words b′ sh q ws r (omega arith))
-        | no n ↦
-            let h : r < length ws = omega (arith, m .low, n) in
-            ended b′ sh q ws from r b (m .on) (no-more b′ sh q ws r h (m .stops h))
-      ]
 
   -- a word alone
   pub alone-ends : (r : ℕ) (b′ : List ℕ) (t : Bool) → from < length ws → Alone t sh q ws from → t ≡ true → MarkedTo r b′ b sh q ws from (from + 1) → MarkedIn r b′ b sh q ws from

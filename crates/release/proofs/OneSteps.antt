@@ -1,12 +1,12 @@
 -- The ways out of a release of one block that leaves others of its run out.
 use Prim.Native.Nat.{ℕ, _+_, _-_, _*_, _/_, _≤_, _<_}
 use native.Mathlib.Omega.{arith}
-use mathlib.Core.Bool.{Bool, true, false, not, _&&_, true≢false}
+use mathlib.Core.Bool.{Bool, true, false, cond, not, _&&_, and-false}
 use mathlib.Core.List.{List, [], _∷_}
 use mathlib.Core.Path.{_≡_, refl, sym, ap, _∙_}
 use lib.Dec.{eqb}
 use lib.ListN.{length, getD}
-use borrow.Author.Tests.{eqb-true, le-leb, lt-ltb, eq-eqb, ne-eqb}
+use borrow.Author.Tests.{eqb-true, eqb-false, lt-ltb, eq-eqb, ne-eqb, not-true}
 use Rattle.facts.proofs.Bools.{and-left, and-right}
 use Rattle.classes.specs.declared.Shape.{Shape}
 use Rattle.classes.specs.Shape.{shapeOf}
@@ -17,47 +17,65 @@ use Rattle.model.specs.Page.{wordOf}
 use Rattle.pages.specs.Asks.{LinkAsks, WordAsks}
 use Rattle.pages.specs.Stack.{marks, pushed, back, indexOf, isBlock}
 use Rattle.pages.proofs.Marks.{marks-changes}
+use Rattle.calls.specs.Out.{startOf, inRunOf, outIn, outAt, clean, unmarked, outFault}
+use Rattle.calls.proofs.Out.{passes}
 use Rattle.calls.specs.Release.{pageFair, rowFair, spotFair, releaseFair, relisted, releaseBlocks}
 use Rattle.release.specs.declared.Found.{Found}
-use Rattle.release.specs.declared.Found.the-variants.{At}
+use Rattle.release.specs.declared.Found.the-variants.{At, Nothing}
 use Rattle.release.specs.declared.Released.{Released}
 use Rattle.release.specs.declared.Released.the-variants.{Fate}
 use Rattle.release.specs.Asks.{ClassAsks}
 use Rattle.release.specs.Blocks.{blockIn, runAt}
 use Rattle.release.specs.Fair.{FairAsks}
-use Rattle.release.specs.Marks.{readyIn}
 use Rattle.release.specs.MarkAsks.{Near}
-use Rattle.release.specs.Act.{settleAt, RunAsks, Answered, Attempted, Finished}
-use Rattle.release.specs.One.{readyAt, StaysFair, PutAsks, BackAsks, BackOne, OneBack}
+use Rattle.release.specs.Act.{settleAt, RunAsks, Answered, PreparedAt, Finished}
+use Rattle.release.specs.One.{readyAt, staysFair, backReady, oneIn, oneReady, backBook, PutAsks, BackAsks, BackOne, OneIn, OneBack}
 use Rattle.release.proofs.Bits.{isBit, out-in, below-capacity}
-use Rattle.release.proofs.BlockSteps.{found-at}
-use Rattle.release.proofs.FairSteps.{page-room, page-carved, head-low}
+use Rattle.release.proofs.BlockSteps.{none-found, found-at}
+use Rattle.release.proofs.FairSteps.{page-room, page-carved, head-low, above-arena, no-page, no-row, spot-last}
 use Rattle.release.proofs.BackSteps.{onStack, free-now, push-changes, fair-low, fair-row, fair-page}
-use Rattle.release.proofs.ReleaseSteps.{only-one, finished, run-asks, one-ready}
-use Rattle.release.proofs.RunLaws.{within-arena}
+use Rattle.release.proofs.ReleaseSteps.{only-one, finished, run-asks, not-marked-at}
+use Rattle.release.proofs.RunLaws.{within-arena, run-out}
+use Rattle.release.proofs.RunSteps.{run-whole}
 
 -- ---- 13's last test
 module _ (n : ℕ) (b : List ℕ) (c : ℕ) (sh : Shape) (q : ℕ) where
-  pub in-doubt : StaysFair false n b c sh q
-  in-doubt = record { fair = λ z. absurd (true≢false (sym z)); others = λ z. absurd (true≢false (sym z)) }
+  not-fair : false ≡ releaseFair n b c sh 1 q → false ≡ staysFair n b c sh q
+  unfolding staysFair
+  not-fair e = rw (← e)
 
-  module _ (f : ℕ) (l : f ≡ get b (arena frontier)) (h : f ≤ n) (t : Bool) (e : t ≡ pageFair b sh 1 q) (x : t ≡ true) (u : Bool) (k : u ≡ rowFair b c) (y : u ≡ true)
-      (v w : ℕ) (i : v ≡ get b (page carved q)) (j : w ≡ get b (page free q)) where
-    room : w + 1 ≤ v
-    room = omega (arith, page-room b sh 1 q (sym e ∙ x))
+  spot-stays : eqb (get b (page free q) + 1) (get b (page carved q)) ≡ false → true ≡ spotFair n b c sh 1 q
+  unfolding spotFair
+  spot-stays d = rw d
 
-    pub others-out : w ≤ v
-    others-out = omega (arith, room)
+  module _ (f : ℕ) (l : f ≡ get b (arena frontier)) where
+    pub stays-above : n < f → false ≡ staysFair n b c sh q
+    stays-above h = not-fair (above-arena n b c sh 1 q f l h)
 
-    pub stays : StaysFair (not (eqb (v - w) 1)) n b c sh q
-    unfolding releaseFair spotFair
-    stays = record {
-      fair = λ z. rw (le-leb (get b (arena frontier)) n (omega arith), ← e, x, ← k, y, ne-eqb (get b (page free q) + 1) (get b (page carved q)) (λ s. apart z (omega arith)));
-      others = λ z. omega (arith, apart z, room);
-    }
-      where
-        apart : not (eqb (v - w) 1) ≡ true → v - w ≡ 1 → ⊥
-        apart z d = absurd (true≢false (sym z ∙ rw (eq-eqb (v - w) 1 d)))
+    module _ (t : Bool) (e : t ≡ pageFair b sh 1 q) where
+      pub stays-no-page : t ≡ false → false ≡ staysFair n b c sh q
+      stays-no-page x = not-fair (no-page n b c sh 1 q f l t e x)
+
+      module _ (x : t ≡ true) (u : Bool) (k : u ≡ rowFair b c) where
+        pub stays-no-row : u ≡ false → false ≡ staysFair n b c sh q
+        stays-no-row y = not-fair (no-row n b c sh 1 q f l t e u x k y)
+
+        module _ (h : f ≤ n) (y : u ≡ true) (v w : ℕ) (i : v ≡ get b (page carved q)) (j : w ≡ get b (page free q)) where
+          room : w + 1 ≤ v
+          room = omega (arith, page-room b sh 1 q (sym e ∙ x))
+
+          pub others-out : w ≤ v
+          others-out = omega (arith, room)
+
+          pub stays-told : not (eqb (v - w) 1) ≡ staysFair n b c sh q
+          unfolding staysFair
+          stays-told = by (eqb (get b (page free q) + 1) (get b (page carved q))) refl
+            where
+              by : (z : Bool) → eqb (get b (page free q) + 1) (get b (page carved q)) ≡ z → not (eqb (v - w) 1) ≡ (releaseFair n b c sh 1 q && not z)
+              by true d = ap not (eq-eqb (v - w) 1 (omega (arith, eqb-true (get b (page free q) + 1) (get b (page carved q)) d, i, j))) ∙ sym (and-false (releaseFair n b c sh 1 q))
+              by false d =
+                  ap not (ne-eqb (v - w) 1 (λ s. eqb-false (get b (page free q) + 1) (get b (page carved q)) d (omega (arith, s, room, i, j))))
+                  ∙ ap (λ z. z && true) (spot-last n b c sh 1 q f l t e u x k true h y (spot-stays d))
 
 -- ---- one block
 module _ (b : List ℕ) (q i : ℕ) (x : ℕ) (k : x ≡ get b (out q i)) where
@@ -101,9 +119,6 @@ module _ (b : List ℕ) (c q i : ℕ) (a : PutAsks b c q i) where
       put-there b₃ e₃ = e₃ ∙ ap (λ d. relisted d c q) back-is
 
 module _ (n : ℕ) (b : List ℕ) (c : ℕ) (sh : Shape) (q i : ℕ) where
-  pub no-back : BackOne false b n b c sh q i
-  no-back = record { ready = λ z. absurd (true≢false (sym z)); fair = λ z. absurd (true≢false (sym z)); done = λ z. absurd (true≢false (sym z)); left = λ z. refl }
-
   module _ (a : BackAsks n b c sh q i) where
     pub bit-has : Has b (mark q (i / 32))
     bit-has = omega (arith, a .bit, a .inside, a .class .sound .paged, a .class .long)
@@ -111,30 +126,40 @@ module _ (n : ℕ) (b : List ℕ) (c : ℕ) (sh : Shape) (q i : ℕ) where
     pub stay-asks : FairAsks b c sh q
     stay-asks = record { known = a .class .known; sound = a .class .sound; there = omega (arith, a .inside, a .class .sound .paged, a .class .long) }
 
-    module _ (t : Bool) (e : t ≡ readyAt b q i) (x : t ≡ true) (u : Bool) (f : StaysFair u n b c sh q) (y : u ≡ true) where
-      is-fair : releaseFair n b c sh 1 q ≡ true
-      is-fair = f .fair y
+  module _ (t : Bool) (e : t ≡ readyAt b q i) where
+    pub back-not-ready : t ≡ false → BackOne false b n b c sh q i
+    back-not-ready x = let z : readyAt b q i ≡ false = sym e ∙ x in record { answer = rw z; left = rw z }
 
-      pub put-asks : PutAsks b c q i
-      put-asks = record {
-        known = a .class .known;
-        below = omega (arith, a .inside, a .class .sound .paged, a .class .few);
-        there = stay-asks .there;
-        head = omega (arith, head-low b c (fair-row n b c sh q 1 is-fair), fair-low n b c sh q 1 is-fair, a .class .long);
-        bit = a .bit;
-        room = omega (arith, f .others y, page-carved b sh 1 q (fair-page n b c sh q 1 is-fair), a .class .sound .few);
-        out = ready-out b q i (sym e ∙ x);
-      }
+    module _ (x : t ≡ true) (u : Bool) (f : u ≡ staysFair n b c sh q) where
+      pub back-not-fair : u ≡ false → BackOne false b n b c sh q i
+      back-not-fair y = let z : readyAt b q i ≡ true = sym e ∙ x in record { answer = rw (z, ← f, y); left = rw (z, ← f, y) }
 
-      pub is-back : (b′ : List ℕ) → b′ ≡ relisted (back b q (i ∷ [])) c q → BackOne true b′ n b c sh q i
-      is-back b′ z = record { ready = λ s. sym e ∙ x; fair = λ s. rw y at f; done = λ s. z; left = λ s. absurd (true≢false s) }
+      module _ (y : u ≡ true) where
+        is-fair : releaseFair n b c sh 1 q ≡ true
+        unfolding staysFair
+        is-fair = and-left (releaseFair n b c sh 1 q) _ (sym f ∙ y)
 
--- ---- the release
-module _ (n : ℕ) (b : List ℕ) (c : ℕ) (sh : Shape) (w : ℕ) where
-  pub not-one : OneBack false b n b c sh w
-  not-one = record { done = λ z. absurd (true≢false (sym z)); left = λ z. refl }
+        others : get b (page free q) + 1 ≡ get b (page carved q) → ⊥
+        unfolding staysFair
+        others = eqb-false (get b (page free q) + 1) (get b (page carved q)) (not-true (eqb (get b (page free q) + 1) (get b (page carved q))) (and-right (releaseFair n b c sh 1 q) _ (sym f ∙ y)))
 
-  module _ (q : ℕ) (a : RunAsks n b c sh q (w ∷ [])) where
+        pub put-asks : BackAsks n b c sh q i → PutAsks b c q i
+        put-asks a = record {
+          known = a .class .known;
+          below = omega (arith, a .inside, a .class .sound .paged, a .class .few);
+          there = stay-asks a .there;
+          head = omega (arith, head-low b c (fair-row n b c sh q 1 is-fair), fair-low n b c sh q 1 is-fair, a .class .long);
+          bit = a .bit;
+          room = omega (arith, page-room b sh 1 q (fair-page n b c sh q 1 is-fair), page-carved b sh 1 q (fair-page n b c sh q 1 is-fair), a .class .sound .few);
+          out = ready-out b q i (sym e ∙ x);
+        }
+
+        pub is-back : (b′ : List ℕ) → b′ ≡ backBook b c q i → BackOne true b′ n b c sh q i
+        is-back b′ l = let z : readyAt b q i ≡ true = sym e ∙ x in record { answer = rw (z, ← f, y); left = rw (z, ← f, y) l }
+
+-- ---- one word
+module _ (n : ℕ) (b : List ℕ) (c : ℕ) (sh : Shape) (q w : ℕ) where
+  module _ (a : RunAsks n b c sh q (w ∷ [])) where
     run-inside : q + sh .pages ≤ n
     run-inside = within-arena n c sh (a .class .sound) q b (a .run)
 
@@ -144,61 +169,124 @@ module _ (n : ℕ) (b : List ℕ) (c : ℕ) (sh : Shape) (w : ℕ) where
     pub near-asks : (base span : ℕ) → base ≡ wordOf sh q 0 → span ≡ sh .capacity * sh .block → Near sh q base span
     near-asks base span e l = record { sound = a .class .sound; below = omega (arith, run-inside, a .class .few); first = e; all = l }
 
-    module _ (f : Found) (i : ℕ) (e : f ≡ blockIn sh q w) (y : f ≡ At i) where
+    block-asks : (i : ℕ) → isBlock sh q w ≡ true → i ≡ indexOf sh q w → BackAsks n b c sh q i
+    block-asks i o e = record { class = a .class; inside = run-inside; bit = omega (arith, below-capacity sh q w o, e, a .class .sound .few) }
+
+  module _ (f : Found) (e : f ≡ blockIn sh q w) where
+    pub one-no-block : f ≡ Nothing → OneIn false b n b c sh q w
+    one-no-block h = let z = none-found (ofKind (sh .kind) w && isBlock sh q w) (indexOf sh q w) (sym h ∙ e) in record { answer = rw z; left = rw z }
+
+    module _ (i : ℕ) (h : f ≡ At i) where
       here : ((ofKind (sh .kind) w && isBlock sh q w) ≡ true) × (i ≡ indexOf sh q w)
-      here = found-at (ofKind (sh .kind) w && isBlock sh q w) (indexOf sh q w) i (sym y ∙ e)
+      here = found-at (ofKind (sh .kind) w && isBlock sh q w) (indexOf sh q w) i (sym h ∙ e)
 
-      pub one-back-asks : BackAsks n b c sh q i
-      one-back-asks = record { class = a .class; inside = run-inside; bit = omega (arith, below-capacity sh q w (and-right (ofKind (sh .kind) w) _ (here .0)), here .1, a .class .sound .few) }
+      pub one-back-asks : RunAsks n b c sh q (w ∷ []) → BackAsks n b c sh q i
+      one-back-asks a = block-asks a i (and-right (ofKind (sh .kind) w) _ (here .0)) (here .1)
 
-      module _ (r : Bool) (b′ : List ℕ) (z : BackOne r b′ n b c sh q i) where
-        word-ready : r ≡ true → true ≡ readyIn b sh q w
-        unfolding readyIn
-        word-ready t =
-            sym (rw (and-left (ofKind (sh .kind) w) _ (here .0), out-in b sh q w, and-right (ofKind (sh .kind) w) _ (here .0), ← (here .1)) (z .ready t))
+      pub one-back : (r : Bool) (b′ : List ℕ) → BackOne r b′ n b c sh q i → OneIn r b′ n b c sh q w
+      one-back r b′ o = record { answer = rw (here .0, ← (here .1)) (o .answer); left = rw (here .0, ← (here .1)) (o .left) }
 
-        carried : r ≡ true → (h : ℕ) → Answered (Fate 0) b′ (releaseBlocks n b c sh h (w ∷ []))
-        unfolding Attempted Finished settleAt back
-        carried t h =
-            let p = one-ready n b c sh q (w ∷ []) a refl true (word-ready t) refl in
-            let g = z .fair t in
-            let is = i ∷ [] in
-            let d = marks b q 0 is in
-            let s = unmarked-changes b c q i (put-asks n b c sh q i one-back-asks true (sym (z .ready t)) refl true g refl) in
-            let l : get d (page free q) + 1 ≤ 4096 = omega (arith, s .kept (page free q) refl refl, put-asks n b c sh q i one-back-asks true (sym (z .ready t)) refl true g refl .room) in
-            let u = push-changes d q is l in
-            let v : get (pushed d q is) (page free q) ≡ get b (page free q) + 1 = free-now d q is l (omega (arith, s .long, stay-asks n b c sh q i one-back-asks .there)) ∙ ap (λ x. x + 1) (s .kept (page free q) refl refl) in
-            let k : get (pushed d q is) (page carved q) ≡ get b (page carved q) = u .kept (page carved q) refl refl ∙ s .kept (page carved q) refl refl in
-            finished n b c sh (w ∷ []) q 0 b p h (Fate 0) b′
-            (record {
-              fair = g .fair refl;
-              act = rw (← (here .1), ne-eqb (get (pushed d q is) (page carved q)) (get (pushed d q is) (page free q)) (λ x. omega (arith, x, v, k, g .others refl))) (record { fate = refl; left = z .done t });
-            })
+  -- ---- what it comes to: the release of a list of one
+  module _ (a : RunAsks n b c sh q (w ∷ [])) (u : oneIn n b c sh q w ≡ true) where
+    block-of : (ofKind (sh .kind) w && isBlock sh q w) ≡ true
+    block-of = and-left (ofKind (sh .kind) w && isBlock sh q w) (backReady n b c sh q (indexOf sh q w)) u
 
-        pub one-back : OneBack r b′ n b c sh w
-        one-back = record { done = carried; left = z .left }
+    is-block : isBlock sh q w ≡ true
+    is-block = and-right (ofKind (sh .kind) w) _ block-of
 
--- the class's own shape
-pub shape-asks : (n : ℕ) (b : List ℕ) (c : ℕ) (sh : Shape) → sh ≡ shapeOf c → ClassAsks n b c (shapeOf c) → ClassAsks n b c sh
-shape-asks n b c sh e a = rw e a
+    both : backReady n b c sh q (indexOf sh q w) ≡ true
+    both = and-right (ofKind (sh .kind) w && isBlock sh q w) (backReady n b c sh q (indexOf sh q w)) u
 
-pub in-run-asks : (n : ℕ) (b : List ℕ) (c : ℕ) (sh : Shape) (w : ℕ) (f : Found) (q : ℕ) → sh ≡ shapeOf c → ClassAsks n b c (shapeOf c) → f ≡ runAt n b sh c w → f ≡ At q → RunAsks n b c sh q (w ∷ [])
-in-run-asks n b c sh w f q z a e y = run-asks n b c sh (w ∷ []) f q (record { class = rw z a; some = refl }) e y
+    ready : readyAt b q (indexOf sh q w) ≡ true
+    ready = and-left (readyAt b q (indexOf sh q w)) (staysFair n b c sh q) both
 
-pub one-of-class : (n : ℕ) (b : List ℕ) (c : ℕ) (sh : Shape) (w : ℕ) (r : Bool) (b′ : List ℕ) → sh ≡ shapeOf c → OneBack r b′ n b c sh w → OneBack r b′ n b c (shapeOf c) w
-one-of-class n b c sh w r b′ e o = rw e at o
+    stay : staysFair n b c sh q ≡ true
+    stay = and-right (readyAt b q (indexOf sh q w)) (staysFair n b c sh q) both
 
-pub of-class : (n : ℕ) (b : List ℕ) (c : ℕ) (sh : Shape) (h : ℕ) (ws : List ℕ) (r : Released) (b′ : List ℕ) → sh ≡ shapeOf c → Answered r b′ (releaseBlocks n b c sh h ws)
-    → Answered r b′ (releaseBlocks n b c (shapeOf c) h ws)
-of-class n b c sh h ws r b′ e o = rw e at o
+    one-in : outIn b sh q w ≡ true
+    one-in = out-in b sh q w ∙ rw (is-block, and-left (eqb (get b (out q (indexOf sh q w))) 1) _ ready)
 
--- a list of one
+    one-out : outAt n b c sh w ≡ true
+    one-out = run-out n c sh (a .class .sound) q b (a .run) w one-in
+
+    one-clean : clean b sh w ≡ true
+    one-clean = rw (a .start) (and-right (eqb (get b (out q (indexOf sh q w))) 1) _ ready)
+
+    one-fault : outFault n b c sh (w ∷ []) ≡ 0
+    unfolding unmarked
+    one-fault = passes n b c sh (w ∷ []) (rw (one-out, one-clean)) (rw one-out) refl
+
+    one-prepared : PreparedAt q 0 b n b c sh (w ∷ [])
+    one-prepared =
+        not-marked-at n b c sh (w ∷ [])
+        (record { class = a .class; some = refl; kinds = rw (and-left (ofKind (sh .kind) w) _ block-of); passed = one-fault })
+        q (a .start) (rw (eq-eqb (startOf b w) q (a .start)))
+
+    carried : (h : ℕ) → Answered (Fate 0) (backBook b c q (indexOf sh q w)) (releaseBlocks n b c sh h (w ∷ []))
+    unfolding Finished settleAt back
+    carried h =
+        let i = indexOf sh q w in
+        let is = indexOf sh q w ∷ [] in
+        let d = marks b q 0 is in
+        let k = block-asks a i is-block refl in
+        let p = put-asks n b c sh q i true (sym ready) refl true (sym stay) refl k in
+        let s = unmarked-changes b c q i p in
+        let l : get d (page free q) + 1 ≤ 4096 = omega (arith, s .kept (page free q) refl refl, p .room) in
+        let v : get (pushed d q is) (page free q) ≡ get b (page free q) + 1 = free-now d q is l (omega (arith, s .long, p .there)) ∙ ap (λ x. x + 1) (s .kept (page free q) refl refl) in
+        let g : get (pushed d q is) (page carved q) ≡ get b (page carved q) = push-changes d q is l .kept (page carved q) refl refl ∙ s .kept (page carved q) refl refl in
+        let o = others n b c sh q i true (sym ready) refl true (sym stay) refl in
+        finished n b c sh (w ∷ []) q 0 b one-prepared h (Fate 0) (backBook b c q i)
+        (record {
+          fair = is-fair n b c sh q i true (sym ready) refl true (sym stay) refl;
+          act = rw (ne-eqb (get (pushed d q is) (page carved q)) (get (pushed d q is) (page free q)) (λ x. o (sym v ∙ sym x ∙ g))) (record { fate = refl; left = refl });
+        })
+
+module _ (n : ℕ) (b : List ℕ) (c : ℕ) (sh : Shape) (w : ℕ) (r : Bool) (b′ : List ℕ) (o : OneBack r b′ n b c sh w) where
+  as-told : (t : Bool) → r ≡ t → b′ ≡ cond t (backBook b c (startOf b w) (indexOf sh (startOf b w) w)) b
+  as-told t e = o .left ∙ ap (λ z. cond z (backBook b c (startOf b w) (indexOf sh (startOf b w) w)) b) (sym (o .answer) ∙ e)
+
+  pub one-left : r ≡ false → b′ ≡ b
+  one-left t = as-told false t
+
+  pub one-carried : ClassAsks n b c sh → r ≡ true → (h : ℕ) → Answered (Fate 0) b′ (releaseBlocks n b c sh h (w ∷ []))
+  one-carried a t h =
+      let e : oneReady n b c sh w ≡ true = sym (o .answer) ∙ t in
+      let i = and-left (inRunOf n b sh c w) (oneIn n b c sh (startOf b w) w) e in
+      let x : RunAsks n b c sh (startOf b w) (w ∷ []) = record { class = a; some = refl; run = run-whole n b c sh w i; start = refl } in
+      rw (as-told true t) (carried n b c sh (startOf b w) w x (and-right (inRunOf n b sh c w) (oneIn n b c sh (startOf b w) w) e) h)
+
+-- ---- the class's own shape
+module _ (n : ℕ) (b : List ℕ) (c : ℕ) (sh : Shape) (z : sh ≡ shapeOf c) where
+  pub shape-asks : ClassAsks n b c (shapeOf c) → ClassAsks n b c sh
+  shape-asks a = rw z a
+
+  module _ (w : ℕ) (f : Found) (e : f ≡ runAt n b sh c w) where
+    pub one-no-run : f ≡ Nothing → OneBack false b n b c (shapeOf c) w
+    one-no-run h =
+        let i = none-found (inRunOf n b sh c w) (startOf b w) (sym h ∙ e) in
+        let x : OneBack false b n b c sh w = record { answer = rw i; left = rw i } in
+        rw z at x
+
+    module _ (q : ℕ) (h : f ≡ At q) where
+      pub in-run-asks : ClassAsks n b c (shapeOf c) → RunAsks n b c sh q (w ∷ [])
+      in-run-asks a = run-asks n b c sh (w ∷ []) f q (record { class = rw z a; some = refl }) e h
+
+      pub one-of-class : (r : Bool) (b′ : List ℕ) → OneIn r b′ n b c sh q w → OneBack r b′ n b c (shapeOf c) w
+      one-of-class r b′ o =
+          let i = found-at (inRunOf n b sh c w) (startOf b w) q (sym h ∙ e) in
+          let x : OneBack r b′ n b c sh w = record { answer = rw (i .0, ← (i .1)) (o .answer); left = rw (i .0, ← (i .1)) (o .left) } in
+          rw z at x
+
+  pub of-class : (h : ℕ) (ws : List ℕ) (r : Released) (b′ : List ℕ) → Answered r b′ (releaseBlocks n b c sh h ws) → Answered r b′ (releaseBlocks n b c (shapeOf c) h ws)
+  of-class h ws r b′ o = rw z at o
+
+-- ---- a list of one
 module _ (n : ℕ) (b : List ℕ) (c w : ℕ) (r : Bool) (b′ : List ℕ) (o : OneBack r b′ n b c (shapeOf c) w) where
-  pub one-done : (h : ℕ) (ws : List ℕ) → w ≡ getD ws 0 0 → length ws ≡ 1 → r ≡ true → Answered (Fate 0) b′ (releaseBlocks n b c (shapeOf c) h ws)
-  one-done h ws e l t = rw (only-one ws l, ← e) (o .done t h)
+  pub one-done : (h : ℕ) (ws : List ℕ) → w ≡ getD ws 0 0 → length ws ≡ 1 → r ≡ true → ClassAsks n b c (shapeOf c) → Answered (Fate 0) b′ (releaseBlocks n b c (shapeOf c) h ws)
+  one-done h ws e l t a = rw (only-one ws l, ← e) (one-carried n b c (shapeOf c) w r b′ o a t h)
 
   pub after-one : r ≡ false → ClassAsks n b c (shapeOf c) → ClassAsks n b′ c (shapeOf c)
-  after-one t a = rw (o .left t) a
+  after-one t a = rw (one-left n b c (shapeOf c) w r b′ o t) a
 
   pub as-before : (h : ℕ) (ws : List ℕ) → r ≡ false → (u : Released) (b″ : List ℕ) → Answered u b″ (releaseBlocks n b′ c (shapeOf c) h ws) → Answered u b″ (releaseBlocks n b c (shapeOf c) h ws)
-  as-before h ws t u b″ z = rw (o .left t) at z
+  as-before h ws t u b″ z = rw (one-left n b c (shapeOf c) w r b′ o t) at z

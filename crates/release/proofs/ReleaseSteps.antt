@@ -1,10 +1,10 @@
 -- The ways out of a release.
 --     fair-kept        number 13's last test reads no out bit and no mark
---     one-ready, all-ready    what the shorter ways tell: none of numbers 9, 13 for a mark, 15, 10 and 11 applies
+--     all-ready        what marking at once tells: none of numbers 9, 13 for a mark, 15, 10 and 11 applies
 --     finished         13's last test, and the act
-use Prim.Native.Nat.{ℕ, zero, suc, _+_, _/_, _%_, _^_, _≤_, _<_}
+use Prim.Native.Nat.{ℕ, zero, suc, _+_, _*_, _^_, _≤_, _<_}
 use native.Mathlib.Omega.{arith}
-use mathlib.Core.Bool.{Bool, true, false, cond, _&&_, true≢false}
+use mathlib.Core.Bool.{Bool, true, false, cond}
 use mathlib.Core.List.{List, [], _∷_, map}
 use mathlib.Core.Path.{_≡_, refl, sym, ap, _∙_}
 use lib.Dec.{eqb, ltb, leb}
@@ -24,30 +24,27 @@ use Rattle.pages.specs.Fair.{headerFair}
 use Rattle.pages.specs.Stack.{marks, pushed, indexOf, isBlock, pageAt, back}
 use Rattle.pages.proofs.Downs.{small, every-mono}
 use Rattle.pages.proofs.Marks.{marks-changes}
-use Rattle.calls.specs.Out.{startOf, inRunOf, outIn, outAt, markIn, clean, unmarked, outFault}
-use Rattle.calls.proofs.Out.{passed, passes}
+use Rattle.calls.specs.Out.{startOf, inRunOf, outIn, outAt, outFault}
+use Rattle.calls.proofs.Out.{passed}
 use Rattle.calls.specs.Release as Heap
 use Rattle.calls.specs.Release.{firstOf, pageFair, rowFair, spotFair, releaseFair, relisted, released, parkAs, parkAt, spotAt, unlisted, giveBackAt, lastStep, releaseBlocks}
 use Rattle.release.specs.declared.Found.{Found}
-use Rattle.release.specs.declared.Found.the-variants.{At}
+use Rattle.release.specs.declared.Found.the-variants.{At, Nothing}
 use Rattle.release.specs.declared.Released.{Released}
 use Rattle.release.specs.declared.Released.the-variants.{Refused, Fate}
 use Rattle.release.specs.declared.Ready.{Ready}
 use Rattle.release.specs.declared.Ready.the-variants.{No, In}
-use Rattle.release.specs.declared.Marked.{Marked}
-use Rattle.release.specs.declared.Marked.the-variants.{Run, Not}
 use Rattle.release.specs.Asks.{ClassAsks, StartAsks, TakeAsks}
 use Rattle.release.specs.Blocks.{runAt}
 use Rattle.release.specs.Fair.{FairAsks}
-use Rattle.release.specs.Marks.{readyIn, freshCount, freshBook, noMarks, clearWords, takeMarks}
-use Rattle.release.specs.Spans.{SpanOf, SpanAsks}
-use Rattle.release.specs.MarkAsks.{FieldAsks, MarkedIn, FaultAsks, Faulted}
-use Rattle.release.specs.Act.{settleAt, takenBy, answerAs, SettleAsks, ListAsks, RunAsks, MarkedAsks, PassedAsks, Parked, Answered, PreparedAt, Prepared, Attempted, MarkedAll, Finished}
+use Rattle.release.specs.Marks.{freshCount, freshBook, marksOf, noMarks, allFresh, clearWords, takeMarks}
+use Rattle.release.specs.MarkAsks.{FieldAsks, MarkedIn, MarkedAll, FaultAsks, Faulted}
+use Rattle.release.specs.Act.{settleAt, takenBy, tried, answerAs, SettleAsks, ListAsks, RunAsks, MarkedAsks, PassedAsks, Parked, Answered, PreparedAt, Prepared, Attempted, Finished}
 use Rattle.release.proofs.Bits.{isBit, out-in}
-use Rattle.release.proofs.BlockSteps.{found-at}
-use Rattle.release.proofs.RunSteps.{run-found}
+use Rattle.release.proofs.BlockSteps.{none-found, found-at}
+use Rattle.release.proofs.RunSteps.{run-whole}
 use Rattle.release.proofs.OutLaws.{page-of-out, run-within-out}
-use Rattle.release.proofs.RunLaws.{within-arena, run-start, run-out, out-here, in-low}
+use Rattle.release.proofs.RunLaws.{within-arena, out-here, in-low}
 use Rattle.release.proofs.MarkLaws.{mark-bits}
 use Rattle.release.proofs.Testing.{fault-none}
 use Rattle.release.proofs.RunMarks.{fresh-changes, takes-all, clears-run, AllFresh, all-fresh, not-repeated, not-marked}
@@ -156,7 +153,7 @@ pub some-listed : (ws : List ℕ) → isNil ws ≡ false → 0 < length ws
 some-listed [] z = let e : _≡_ {A = Bool} true false = z in let y : _≡_ {A = ℕ} 0 1 = cc in absurd (omega arith)
 some-listed (w ∷ ws) z = omega arith
 
-not-marked-at : (n : ℕ) (b : List ℕ) (c : ℕ) (sh : Shape) (ws : List ℕ) → PassedAsks n b c sh ws → (q : ℕ) → startOf b (firstOf ws) ≡ q → every (λ w. eqb (startOf b w) q) ws ≡ true
+pub not-marked-at : (n : ℕ) (b : List ℕ) (c : ℕ) (sh : Shape) (ws : List ℕ) → PassedAsks n b c sh ws → (q : ℕ) → startOf b (firstOf ws) ≡ q → every (λ w. eqb (startOf b w) q) ws ≡ true
     → PreparedAt q 0 b n b c sh ws
 unfolding clearWords
 not-marked-at n b c sh ws a q e u = record { passed = a; start = e; alone = u; few = omega arith; long = refl; same = refl; taken = refl; cleared = refl }
@@ -274,38 +271,6 @@ module _ (n : ℕ) (b : List ℕ) (c : ℕ) (sh : Shape) where
         pub passed-on : (o : Ready) → Prepared o b′ n b′ c sh ws → Prepared o b′ n b c sh ws
         passed-on o i = rw (f .left) (rw (f .left) at i)
 
-  -- ---- what was prepared at once
-  module _ (ws : List ℕ) where
-    pub not-attempted : Attempted Not b n b c sh ws
-    unfolding Attempted
-    not-attempted = refl
-
-    module _ (q m : ℕ) (r : Bool) (b′ : List ℕ) (z : MarkedAll r b′ n b c sh q m ws) where
-      pub all-were : r ≡ true → Attempted (Run q m) b′ n b c sh ws
-      unfolding Attempted
-      all-were e = z .ready e
-
-      pub not-all-were : r ≡ false → Attempted Not b′ n b c sh ws
-      unfolding Attempted
-      not-all-were e = z .left e
-
-    pub ready-at-once : (o : Marked) (q m : ℕ) (b′ : List ℕ) → Attempted o b′ n b c sh ws → o ≡ Run q m → Prepared (In q m) b′ n b c sh ws
-    unfolding Attempted Prepared
-    ready-at-once (Run p l) q m b′ t e = let x : p ≡ q = cc in let y : l ≡ m = cc in rw (← x, ← y) t
-    ready-at-once Not q m b′ t e = let z : _≡_ {A = ℕ} 0 1 = cc in absurd (omega arith)
-
-    as-it-was : (o : Marked) (b′ : List ℕ) → Attempted o b′ n b c sh ws → o ≡ Not → b′ ≡ b
-    unfolding Attempted
-    as-it-was (Run p l) b′ t e = let z : _≡_ {A = ℕ} 0 1 = cc in absurd (omega arith)
-    as-it-was Not b′ t e = t
-
-    module _ (o : Marked) (b′ : List ℕ) (t : Attempted o b′ n b c sh ws) (e : o ≡ Not) where
-      pub test-asks : ListAsks n b c sh ws → ListAsks n b′ c sh ws
-      test-asks a = rw (as-it-was o b′ t e) a
-
-      pub tested : (r : Ready) (b″ : List ℕ) → Prepared r b″ n b′ c sh ws → Prepared r b″ n b c sh ws
-      tested r b″ i = rw (as-it-was o b′ t e) at i
-
   pub told-no : (h : ℕ) (ws : List ℕ) (o : Ready) (k : ℕ) (b′ : List ℕ) → Prepared o b′ n b c sh ws → o ≡ No k → Answered (Refused k) b′ (releaseBlocks n b c sh h ws)
   unfolding Prepared
   told-no h ws (No j) k b′ p e = let z : j ≡ k = cc in rw (← z) (p h)
@@ -326,15 +291,55 @@ module _ (n : ℕ) (b : List ℕ) (c : ℕ) (sh : Shape) where
     pub finished-told : (h : ℕ) (r : Released) (b″ : List ℕ) → Finished r b″ n b′ c sh h q m ws → Answered r b″ (releaseBlocks n b c sh h ws)
     finished-told = finished n b c sh ws q m b′ prepared-in
 
+  first-asks-run : (ws : List ℕ) (q : ℕ) → ListAsks n b c sh ws → inRunOf n b sh c (getD ws 0 0) ≡ true → q ≡ startOf b (getD ws 0 0) → RunAsks n b c sh q ws
+  first-asks-run ws q a i e =
+      record { class = a .class; some = a .some; run = rw e (run-whole n b c sh (getD ws 0 0) i); start = ap (startOf b) (first-is ws (a .some)) ∙ sym e }
+
   pub run-asks : (ws : List ℕ) (f : Found) (q : ℕ) → ListAsks n b c sh ws → f ≡ runAt n b sh c (getD ws 0 0) → f ≡ At q → RunAsks n b c sh q ws
-  run-asks ws f q a e y =
-      let z = found-at (inRunOf n b sh c (getD ws 0 0)) (startOf b (getD ws 0 0)) q (sym y ∙ e) in
-      record { class = a .class; some = a .some; run = run-found n b c sh (getD ws 0 0) f e q y; start = ap (startOf b) (first-is ws (a .some)) ∙ sym (z .1) }
+  run-asks ws f q a e y = let z = found-at (inRunOf n b sh c (getD ws 0 0)) (startOf b (getD ws 0 0)) q (sym y ∙ e) in first-asks-run ws q a (z .0) (z .1)
 
 pub only-one : (ws : List ℕ) → length ws ≡ 1 → ws ≡ getD ws 0 0 ∷ []
 only-one [] l = absurd (omega arith)
 only-one (w ∷ []) l = refl
 only-one (w ∷ (v ∷ ws)) l = absurd (omega arith)
+
+-- ---- a list that is marked at once
+marks-few : (sh : Shape) → Sound sh → marksOf sh ≤ 128
+marks-few sh s = omega (arith, s .few)
+
+marks-all-of : (sh : Shape) → sh .capacity ≤ 32 * marksOf sh
+marks-all-of sh = omega arith
+
+module _ (b : List ℕ) (sh : Shape) (q : ℕ) (ws : List ℕ) (a : FieldAsks b sh q) (m : ℕ) (e : m ≡ marksOf sh) where
+  pub marks-asks : ClearAsks b q m
+  marks-asks = record { few = omega (arith, e, marks-few sh (a .sound)); there = a .there }
+
+  module _ (t : Bool) (k : t ≡ noMarks b q m) where
+    pub some-set : t ≡ false → MarkedAll false b b sh q ws
+    unfolding allFresh
+    some-set x = let z : noMarks b q (marksOf sh) ≡ false = rw (← e) (sym k ∙ x) in record { answer = rw z; left = rw z }
+
+    module _ (x : t ≡ true) (r : ℕ) (b′ : List ℕ) (s : MarkedIn r b′ b sh q ws 0) where
+      none-set : noMarks b q (marksOf sh) ≡ true
+      none-set = rw (← e) (sym k ∙ x)
+
+      pub clear-asks : ClearAsks b′ q m
+      clear-asks = rw (s .left) (record { few = marks-asks .few; there = omega (arith, fresh-changes sh (a .sound) q b ws .long, a .there) })
+
+      pub all-set : r ≡ length ws → MarkedAll true b′ b sh q ws
+      unfolding allFresh
+      all-set y =
+          let z : eqb (freshCount b sh q ws) (length ws) ≡ true = eq-eqb (freshCount b sh q ws) (length ws) (omega (arith, s .answer)) in
+          record { answer = rw (none-set, z); left = rw (none-set, z) (s .left) }
+
+      pub not-all-set : (r ≡ length ws → ⊥) → (b″ : List ℕ) → b″ ≡ clearWords b′ q m → MarkedAll false b″ b sh q ws
+      unfolding allFresh
+      not-all-set d b″ l =
+          let z : eqb (freshCount b sh q ws) (length ws) ≡ false = ne-eqb (freshCount b sh q ws) (length ws) (λ y. d (omega (arith, s .answer, y))) in
+          record {
+            answer = rw (none-set, z);
+            left = rw (none-set, z) (l ∙ rw (s .left, e) (clears-run sh (a .sound) q (marksOf sh) (marks-few sh (a .sound)) (marks-all-of sh) b ws none-set));
+          }
 
 -- ---- the run of the first word
 module _ (n : ℕ) (b : List ℕ) (c : ℕ) (sh : Shape) (q : ℕ) (ws : List ℕ) (a : RunAsks n b c sh q ws) where
@@ -344,125 +349,102 @@ module _ (n : ℕ) (b : List ℕ) (c : ℕ) (sh : Shape) (q : ℕ) (ws : List �
   below-n : q + sh .pages ≤ n
   below-n = within-arena n c sh sound q b (a .run)
 
-  pub field-asks : FieldAsks b sh q
+  field-asks : FieldAsks b sh q
   field-asks = record { sound = sound; below = omega (arith, below-n, a .class .few); there = omega (arith, below-n, sound .paged, a .class .long) }
 
-  -- ---- one block
-  module _ (one : length ws ≡ 1) (t : Bool) (e : t ≡ readyIn b sh q (getD ws 0 0)) (x : t ≡ true) where
-    ready : readyIn b sh q (getD ws 0 0) ≡ true
-    ready = sym e ∙ x
+  module _ (m : ℕ) (e : m ≡ marksOf sh) (u : allFresh b sh q ws ≡ true) where
+    no-marks : noMarks b q m ≡ true
+    unfolding allFresh
+    no-marks = rw e (and-left (noMarks b q (marksOf sh)) _ u)
 
-    one-kind : ofKind (sh .kind) (getD ws 0 0) ≡ true
-    unfolding readyIn
-    one-kind = and-left (ofKind (sh .kind) (getD ws 0 0)) _ ready
+    all-marked : freshCount b sh q ws ≡ length ws
+    unfolding allFresh
+    all-marked = eqb-true (freshCount b sh q ws) (length ws) (and-right (noMarks b q (marksOf sh)) _ u)
 
-    one-rest : (outIn b sh q (getD ws 0 0) && eqb (get b (markIn sh q (getD ws 0 0))) 0) ≡ true
-    unfolding readyIn
-    one-rest = and-right (ofKind (sh .kind) (getD ws 0 0)) _ ready
+    few : m ≤ 128
+    few = omega (arith, e, marks-few sh sound)
 
-    one-in : outIn b sh q (getD ws 0 0) ≡ true
-    one-in = and-left (outIn b sh q (getD ws 0 0)) _ one-rest
+    all : sh .capacity ≤ 32 * m
+    all = rw e (marks-all-of sh)
 
-    one-start : startOf b (getD ws 0 0) ≡ q
-    one-start = run-start n c sh sound q b (a .run) (getD ws 0 0) one-in
+    marked-changes : Changes isBit b (freshBook b sh q ws)
+    marked-changes = mark-bits b _ (fresh-changes sh sound q b ws)
 
-    one-out : outAt n b c sh (getD ws 0 0) ≡ true
-    one-out = run-out n c sh sound q b (a .run) (getD ws 0 0) one-in
+    fresh : AllFresh sh sound q n c b ws
+    fresh = all-fresh sh sound q n c b ws (a .run) all-marked
 
-    one-clean : clean b sh (getD ws 0 0) ≡ true
-    one-clean = rw one-start (and-right (outIn b sh q (getD ws 0 0)) _ one-rest)
+    all-ready : PreparedAt q m (freshBook b sh q ws) n b c sh ws
+    all-ready = record {
+      passed = record {
+        class = a .class;
+        some = a .some;
+        kinds = fresh .kinds;
+        passed = fault-none n b c sh ws (not-marked sh sound q n c m all b ws no-marks fresh) (not-repeated sh sound q n c b ws fresh (le-leb (words n) (length b) (a .class .long))) (fresh .out);
+      };
+      start = a .start;
+      alone = fresh .start;
+      few = few;
+      long = marked-changes .long;
+      same = fair-kept b _ marked-changes n c sh (length ws) q (a .class .known);
+      taken = rw (ne-eqb m 0 (λ z. omega (arith, e, sound .blocks))) (takes-all sh sound q m few all b ws (field-asks .there) no-marks all-marked);
+      cleared = clears-run sh sound q m few all b ws no-marks;
+    }
 
-    one-fault : outFault n b c sh (getD ws 0 0 ∷ []) ≡ 0
-    unfolding unmarked
-    one-fault = passes n b c sh (getD ws 0 0 ∷ []) (rw (one-out, one-clean)) (rw one-out) refl
+-- ---- `try_list`, and what was tried
+module _ (n : ℕ) (b : List ℕ) (c : ℕ) (sh : Shape) (ws : List ℕ) where
+  module _ (f : Found) (e : f ≡ runAt n b sh c (getD ws 0 0)) where
+    pub try-no-run : f ≡ Nothing → Attempted Nothing b n b c sh ws
+    try-no-run h = let z = none-found (inRunOf n b sh c (getD ws 0 0)) (startOf b (getD ws 0 0)) (sym h ∙ e) in record { answer = rw z; left = rw z }
 
-    the-one : ws ≡ getD ws 0 0 ∷ []
-    the-one = only-one ws one
+    module _ (q : ℕ) (h : f ≡ At q) where
+      first-run : (inRunOf n b sh c (getD ws 0 0) ≡ true) × (q ≡ startOf b (getD ws 0 0))
+      first-run = found-at (inRunOf n b sh c (getD ws 0 0)) (startOf b (getD ws 0 0)) q (sym h ∙ e)
 
-    every-one : (t : ℕ → Bool) → t (getD ws 0 0) ≡ true → every t ws ≡ true
-    every-one t h = ap (every t) the-one ∙ rw h
+      pub try-asks : ListAsks n b c sh ws → FieldAsks b sh q
+      try-asks a = field-asks n b c sh q ws (run-asks n b c sh ws f q a e h)
 
-    pub one-ready : Attempted (Run q 0) b n b c sh ws
-    unfolding Attempted
-    one-ready =
-        not-marked-at n b c sh ws
-        (record { class = a .class; some = a .some; kinds = every-one (ofKind (sh .kind)) one-kind; passed = ap (outFault n b c sh) the-one ∙ one-fault })
-        q (a .start) (every-one (λ w. eqb (startOf b w) q) (eq-eqb (startOf b (getD ws 0 0)) q one-start))
+      module _ (r : Bool) (b′ : List ℕ) (m : MarkedAll r b′ b sh q ws) where
+        pub try-all : r ≡ true → Attempted (At q) b′ n b c sh ws
+        try-all t = record { answer = rw (first-run .0, ← (first-run .1), sym (m .answer) ∙ t); left = rw (first-run .0, ← (first-run .1)) (m .left) }
 
-  pub span-asks : SpanAsks sh q ws
-  span-asks = record { sound = sound; below = field-asks .below; some = some-listed ws (a .some) }
+        pub try-not : r ≡ false → Attempted Nothing b′ n b c sh ws
+        try-not t = record { answer = rw (first-run .0, ← (first-run .1), sym (m .answer) ∙ t); left = rw (first-run .0, ← (first-run .1)) (m .left) }
 
-  -- ---- by words of marks
-  module _ (m : ℕ) (i : SpanOf m sh q ws) where
-    pub words-asks : ClearAsks b q (m % 256 + m / 256)
-    words-asks = record { few = i .few; there = field-asks .there }
+  module _ (f : Found) (b′ : List ℕ) (t : Attempted f b′ n b c sh ws) where
+    left-as : (u : Bool) → tried n b c sh ws ≡ u → b′ ≡ cond u (freshBook b sh (startOf b (getD ws 0 0)) ws) b
+    left-as u z = t .left ∙ ap (λ y. cond y (freshBook b sh (startOf b (getD ws 0 0)) ws) b) z
 
-    module _ (k : ℕ) (b′ : List ℕ) (s : MarkedIn k b′ b sh q ws 0) where
-      marked-is : b′ ≡ freshBook b sh q ws
-      marked-is = s .left
+    as-it-was : f ≡ Nothing → b′ ≡ b
+    as-it-was e = left-as false (none-found (tried n b c sh ws) (startOf b (getD ws 0 0)) (sym e ∙ t .answer))
 
-      marked-changes : Changes isBit b (freshBook b sh q ws)
-      marked-changes = mark-bits b _ (fresh-changes sh sound q b ws)
+    pub test-asks : f ≡ Nothing → ListAsks n b c sh ws → ListAsks n b′ c sh ws
+    test-asks e a = rw (as-it-was e) a
 
-      pub clear-asks : ClearAsks b′ q (m % 256 + m / 256)
-      clear-asks = rw marked-is (record { few = i .few; there = omega (arith, marked-changes .long, field-asks .there) })
+    pub tested : f ≡ Nothing → (r : Ready) (b″ : List ℕ) → Prepared r b″ n b′ c sh ws → Prepared r b″ n b c sh ws
+    tested e r b″ i = rw (as-it-was e) at i
 
-      module _ (t : Bool) (e : t ≡ noMarks b q (m / 256) (m % 256)) (x : t ≡ true) where
-        none-set : noMarks b q (m / 256) (m % 256) ≡ true
-        none-set = sym e ∙ x
-
-        pub cleared : (b″ : List ℕ) → b″ ≡ clearWords b′ q (m / 256) (m % 256) → MarkedAll false b″ n b c sh q m ws
-        cleared b″ l = record { ready = λ z. absurd (true≢false (sym z)); left = λ z. l ∙ rw marked-is (clears-run sh sound q (m / 256) (m % 256) (i .few) b ws (i .covers) none-set) }
-
-        module _ (y : k ≡ length ws) where
-          all-marked : freshCount b sh q ws ≡ length ws
-          all-marked = omega (arith, s .answer)
-
-          fresh : AllFresh sh sound q n c b ws
-          fresh = all-fresh sh sound q n c b ws (a .run) all-marked
-
-          hb : leb (words n) (length b) ≡ true
-          hb = le-leb (words n) (length b) (a .class .long)
-
-          taken-is : takenBy (freshBook b sh q ws) sh q m ws ≡ marks b q 0 (map (indexOf sh q) ws)
-          taken-is = rw (ne-eqb m 0 (λ z. omega (arith, i .some))) (takes-all sh sound q (m / 256) (m % 256) (i .few) b ws (i .covers) (field-asks .there) none-set all-marked)
-
-          pub all-ready : MarkedAll true b′ n b c sh q m ws
-          all-ready = record {
-            ready = λ z. rw marked-is (record {
-              passed = record {
-                class = a .class;
-                some = a .some;
-                kinds = fresh .kinds;
-                passed = fault-none n b c sh ws (not-marked sh sound q n c (m / 256) (m % 256) b ws (i .covers) none-set fresh) (not-repeated sh sound q n c b ws fresh hb) (fresh .out);
-              };
-              start = a .start;
-              alone = fresh .start;
-              few = i .few;
-              long = marked-changes .long;
-              same = fair-kept b _ marked-changes n c sh (length ws) q (a .class .known);
-              taken = taken-is;
-              cleared = clears-run sh sound q (m / 256) (m % 256) (i .few) b ws (i .covers) none-set;
-            });
-            left = λ z. absurd (true≢false z);
-          }
-
-  pub not-all : (m : ℕ) → MarkedAll false b n b c sh q m ws
-  not-all m = record { ready = λ z. absurd (true≢false (sym z)); left = λ z. refl }
+    pub ready-at-once : (q m : ℕ) → f ≡ At q → m ≡ marksOf sh → ListAsks n b c sh ws → Prepared (In q m) b′ n b c sh ws
+    unfolding Prepared
+    ready-at-once q m e k a =
+        let z = found-at (tried n b c sh ws) (startOf b (getD ws 0 0)) q (sym e ∙ t .answer) in
+        let i = and-left (inRunOf n b sh c (getD ws 0 0)) _ (z .0) in
+        let u : allFresh b sh q ws ≡ true = rw (z .1) (and-right (inRunOf n b sh c (getD ws 0 0)) _ (z .0)) in
+        let l : b′ ≡ freshBook b sh q ws = left-as true (z .0) ∙ ap (λ p. freshBook b sh p ws) (sym (z .1)) in
+        rw l (all-ready n b c sh q ws (first-asks-run n b c sh ws q a i (z .1)) m k u)
 
 -- ---- from the marked book on
 module _ (b : List ℕ) (sh : Shape) (q m : ℕ) (ws b′ : List ℕ) where
   pub by-list : m ≡ 0 → b′ ≡ marks b q 0 (map (indexOf sh q) ws) → b′ ≡ takenBy b sh q m ws
   by-list z e = rw z e
 
-  pub by-words : (m ≡ 0 → ⊥) → b′ ≡ takeMarks b q (m / 256) (m % 256) → b′ ≡ takenBy b sh q m ws
+  pub by-words : (m ≡ 0 → ⊥) → b′ ≡ takeMarks b q m → b′ ≡ takenBy b sh q m ws
   by-words z e = rw (ne-eqb m 0 z) e
 
-pub sweep-asks : (b : List ℕ) (sh : Shape) (q m : ℕ) (ws : List ℕ) → TakeAsks b sh q ws → m % 256 + m / 256 ≤ 128 → ClearAsks b q (m % 256 + m / 256)
+pub sweep-asks : (b : List ℕ) (sh : Shape) (q m : ℕ) (ws : List ℕ) → TakeAsks b sh q ws → m ≤ 128 → ClearAsks b q m
 sweep-asks b sh q m ws a l = record { few = l; there = a .run .there }
 
 module _ (n : ℕ) (b : List ℕ) (c : ℕ) (sh : Shape) (q m : ℕ) (ws : List ℕ) (a : MarkedAsks n b c sh q m ws) where
-  pub marked-there : ClearAsks b q (m % 256 + m / 256)
+  pub marked-there : ClearAsks b q m
   marked-there = record { few = a .few; there = omega (arith, a .inside, a .class .sound .paged, a .class .long) }
 
   pub marked-fair : FairAsks b c sh q
@@ -490,6 +472,6 @@ module _ (n : ℕ) (b : List ℕ) (c : ℕ) (sh : Shape) (q m : ℕ) (ws : List 
       unfolding Finished
       marked-taken h r b″ p = record { fair = sym f ∙ x; act = rw e at p }
 
-    pub marked-cleared : t ≡ false → (h : ℕ) (b′ : List ℕ) → b′ ≡ clearWords b q (m / 256) (m % 256) → Finished (Refused 13) b′ n b c sh h q m ws
+    pub marked-cleared : t ≡ false → (h : ℕ) (b′ : List ℕ) → b′ ≡ clearWords b q m → Finished (Refused 13) b′ n b c sh h q m ws
     unfolding Finished
     marked-cleared x h b′ e = record { number = refl; unfair = sym f ∙ x; left = e }

@@ -26,7 +26,6 @@ use Rattle.pages.specs.Runs.{whole}
 use Rattle.pages.specs.Stack.{marks, indexOf, isBlock}
 use Rattle.calls.specs.Out.{startOf, outIn, outAt, outs, clean, unmarked, repeats}
 use Rattle.release.specs.Marks.{markAt, freshAt, isMarkedIn, markedIn, markCount, freshIn, freshCount, freshBook, outWord, noMarks, clearWords, takeWord, takeMarks}
-use Rattle.release.specs.Spans.{Within, Covers}
 use Rattle.facts.proofs.Lists.{every-same}
 use Rattle.release.proofs.Bits.{out-in, below-capacity, whole-kept, start-kept}
 use Rattle.release.proofs.RunLaws.{low-marks, run-out, run-start}
@@ -41,12 +40,12 @@ not-one (suc zero) h e = let z : _≡_ {A = Bool} false true = e in cc
 not-one (suc (suc x)) h e = absurd (omega arith)
 
 -- ---- words that are 0
-pub clean-at : (b : List ℕ) (q f m j : ℕ) → noMarks b q f m ≡ true → f ≤ j → j < m + f → get b (mark q j) ≡ 0
-clean-at b q f zero j e g h = absurd (omega arith)
-clean-at b q f (suc m) j e g h =
-    elim (ℕ-discrete j (m + f)) [
-      | yes z ↦ rw z (eqb-true (get b (mark q (m + f))) 0 (and-left _ _ e))
-      | no z ↦ clean-at b q f m j (and-right (eqb (get b (mark q (m + f))) 0) _ e) g (omega arith)
+pub clean-at : (b : List ℕ) (q m j : ℕ) → noMarks b q m ≡ true → j < m → get b (mark q j) ≡ 0
+clean-at b q zero j e h = absurd (omega arith)
+clean-at b q (suc m) j e h =
+    elim (ℕ-discrete j m) [
+      | yes z ↦ rw z (eqb-true (get b (mark q m)) 0 (and-left _ _ e))
+      | no z ↦ clean-at b q m j (and-right (eqb (get b (mark q m)) 0) _ e) (omega arith)
     ]
 
 clear-same : (b : List ℕ) (q j : ℕ) → get b (mark q j) ≡ 0 → put b (mark q j) 0 ≡ b
@@ -59,49 +58,49 @@ take-same b q j e =
     ap (set b (outWord q j)) (ap (bitXor (getD b (outWord q j) 0)) e ∙ xor-zero-r (getD b (outWord q j) 0)) ∙ set-getD b (outWord q j) 0 in
     ap (λ d. put d (mark q j) 0) x ∙ clear-same b q j e
 
-pub none-taken : (b : List ℕ) (q f m : ℕ) → noMarks b q f m ≡ true → takeMarks b q f m ≡ b
+pub none-taken : (b : List ℕ) (q m : ℕ) → noMarks b q m ≡ true → takeMarks b q m ≡ b
 unfolding takeMarks
-none-taken b q f zero e = refl
-none-taken b q f (suc m) e =
-    ap (λ d. takeWord d q (m + f)) (none-taken b q f m (and-right (eqb (get b (mark q (m + f))) 0) _ e)) ∙ take-same b q (m + f) (eqb-true (get b (mark q (m + f))) 0 (and-left _ _ e))
+none-taken b q zero e = refl
+none-taken b q (suc m) e =
+    ap (λ d. takeWord d q m) (none-taken b q m (and-right (eqb (get b (mark q m)) 0) _ e)) ∙ take-same b q m (eqb-true (get b (mark q m)) 0 (and-left _ _ e))
 
-pub none-cleared : (b : List ℕ) (q f m : ℕ) → noMarks b q f m ≡ true → clearWords b q f m ≡ b
+pub none-cleared : (b : List ℕ) (q m : ℕ) → noMarks b q m ≡ true → clearWords b q m ≡ b
 unfolding clearWords
-none-cleared b q f zero e = refl
-none-cleared b q f (suc m) e =
-    ap (λ d. put d (mark q (m + f)) 0) (none-cleared b q f m (and-right (eqb (get b (mark q (m + f))) 0) _ e)) ∙ clear-same b q (m + f) (eqb-true (get b (mark q (m + f))) 0 (and-left _ _ e))
+none-cleared b q zero e = refl
+none-cleared b q (suc m) e =
+    ap (λ d. put d (mark q m) 0) (none-cleared b q m (and-right (eqb (get b (mark q m)) 0) _ e)) ∙ clear-same b q m (eqb-true (get b (mark q m)) 0 (and-left _ _ e))
 
 -- ---- a word that is cleared may have held anything
 twice : (b : List ℕ) (q j u v : ℕ) → put (put b (mark q j) u) (mark q j) v ≡ put b (mark q j) v
 unfolding put
 twice b q j u v = set-set b (40144 + 4112 * q + j) u v
 
-clear-later : (b : List ℕ) (q f m j v : ℕ) → m + f ≤ j → j < 128 → clearWords (put b (mark q j) v) q f m ≡ put (clearWords b q f m) (mark q j) v
+clear-later : (b : List ℕ) (q m j v : ℕ) → m ≤ j → j < 128 → clearWords (put b (mark q j) v) q m ≡ put (clearWords b q m) (mark q j) v
 unfolding clearWords
-clear-later b q f zero j v h l = refl
-clear-later b q f (suc m) j v h l =
-    ap (λ d. put d (mark q (m + f)) 0) (clear-later b q f m j v (omega arith) l)
-    ∙ put-comm (clearWords b q f m) (mark q j) (mark q (m + f)) v 0 (lt-ltb j 128 l) (lt-ltb (m + f) 128 (omega arith)) (apart j (m + f) (λ z. omega arith))
+clear-later b q zero j v h l = refl
+clear-later b q (suc m) j v h l =
+    ap (λ d. put d (mark q m) 0) (clear-later b q m j v (omega arith) l)
+    ∙ put-comm (clearWords b q m) (mark q j) (mark q m) v 0 (lt-ltb j 128 l) (lt-ltb m 128 (omega arith)) (apart j m (λ z. omega arith))
   where
     apart : (x y : ℕ) → (x ≡ y → ⊥) → (eqb x y && eqb q q) ≡ false
     apart x y d = rw (ne-eqb x y d)
 
-pub clear-past : (b : List ℕ) (q f m j v : ℕ) → f ≤ j → j < m + f → m + f ≤ 128 → clearWords (put b (mark q j) v) q f m ≡ clearWords b q f m
+pub clear-past : (b : List ℕ) (q m j v : ℕ) → j < m → m ≤ 128 → clearWords (put b (mark q j) v) q m ≡ clearWords b q m
 unfolding clearWords
-clear-past b q f zero j v g h l = absurd (omega arith)
-clear-past b q f (suc m) j v g h l =
-    elim (ℕ-discrete j (m + f)) [
-      | yes z ↦ rw z (ap (λ d. put d (mark q (m + f)) 0) (clear-later b q f m (m + f) v (omega arith) (omega arith)) ∙ twice (clearWords b q f m) q (m + f) v 0)
-      | no z ↦ ap (λ d. put d (mark q (m + f)) 0) (clear-past b q f m j v g (omega arith) (omega arith))
+clear-past b q zero j v h l = absurd (omega arith)
+clear-past b q (suc m) j v h l =
+    elim (ℕ-discrete j m) [
+      | yes z ↦ rw z (ap (λ d. put d (mark q m) 0) (clear-later b q m m v (omega arith) (omega arith)) ∙ twice (clearWords b q m) q m v 0)
+      | no z ↦ ap (λ d. put d (mark q m) 0) (clear-past b q m j v (omega arith) (omega arith))
     ]
 
 -- a mark of another page
-pub clear-away : (b : List ℕ) (q f m p j v : ℕ) → (p ≡ q → ⊥) → m + f ≤ 128 → j < 128 → clearWords (put b (mark p j) v) q f m ≡ put (clearWords b q f m) (mark p j) v
+pub clear-away : (b : List ℕ) (q m p j v : ℕ) → (p ≡ q → ⊥) → m ≤ 128 → j < 128 → clearWords (put b (mark p j) v) q m ≡ put (clearWords b q m) (mark p j) v
 unfolding clearWords
-clear-away b q f zero p j v d h l = refl
-clear-away b q f (suc m) p j v d h l =
-    ap (λ z. put z (mark q (m + f)) 0) (clear-away b q f m p j v d (omega arith) l)
-    ∙ put-comm (clearWords b q f m) (mark p j) (mark q (m + f)) v 0 (lt-ltb j 128 l) (lt-ltb (m + f) 128 (omega arith)) (rw (ne-eqb p q d) (and-false (eqb j (m + f))))
+clear-away b q zero p j v d h l = refl
+clear-away b q (suc m) p j v d h l =
+    ap (λ z. put z (mark q m) 0) (clear-away b q m p j v d (omega arith) l)
+    ∙ put-comm (clearWords b q m) (mark p j) (mark q m) v 0 (lt-ltb j 128 l) (lt-ltb m 128 (omega arith)) (rw (ne-eqb p q d) (and-false (eqb j m)))
 
 module _ (sh : Shape) (s : Sound sh) (q : ℕ) where
   -- ---- a word that is out and not marked
@@ -133,23 +132,23 @@ module _ (sh : Shape) (s : Sound sh) (q : ℕ) where
     fresh-mark = not-one _ (read-small (indexOf sh q w % 32) 1 (get b (mark q (indexOf sh q w / 32)))) (and-right (eqb (get b (out q (indexOf sh q w))) 1) _ fresh-at)
 
   -- ---- clearing by words
-  module _ (f m : ℕ) (few : m + f ≤ 128) where
-    clear-one : (b : List ℕ) (w : ℕ) → freshIn b sh q w ≡ true → Within sh q f m w → clearWords (markedIn b sh q w) q f m ≡ clearWords b q f m
+  module _ (m : ℕ) (few : m ≤ 128) (all : sh .capacity ≤ 32 * m) where
+    clear-one : (b : List ℕ) (w : ℕ) → freshIn b sh q w ≡ true → clearWords (markedIn b sh q w) q m ≡ clearWords b q m
     unfolding markedIn
-    clear-one b w o i = clear-past b q f m (indexOf sh q w / 32) _ (i .above) (i .below) few
+    clear-one b w o = clear-past b q m (indexOf sh q w / 32) _ (fresh-word b w o m all) few
 
-    clears-fresh : (b : List ℕ) (ws : List ℕ) → Covers sh q f m ws → clearWords (freshBook b sh q ws) q f m ≡ clearWords b q f m
+    clears-fresh : (b : List ℕ) (ws : List ℕ) → clearWords (freshBook b sh q ws) q m ≡ clearWords b q m
     unfolding freshBook
-    clears-fresh b [] k = refl
-    clears-fresh b (w ∷ ws) k = by (freshIn b sh q w) refl (clears-fresh (markedIn b sh q w) ws (k .1))
+    clears-fresh b [] = refl
+    clears-fresh b (w ∷ ws) = by (freshIn b sh q w) refl (clears-fresh (markedIn b sh q w) ws)
       where
-        by : (t : Bool) → freshIn b sh q w ≡ t → clearWords (freshBook (markedIn b sh q w) sh q ws) q f m ≡ clearWords (markedIn b sh q w) q f m
-            → clearWords (freshBook b sh q (w ∷ ws)) q f m ≡ clearWords b q f m
-        by true o z = rw o (z ∙ clear-one b w o (k .0 (fresh-block b w o)))
+        by : (t : Bool) → freshIn b sh q w ≡ t → clearWords (freshBook (markedIn b sh q w) sh q ws) q m ≡ clearWords (markedIn b sh q w) q m
+            → clearWords (freshBook b sh q (w ∷ ws)) q m ≡ clearWords b q m
+        by true o z = rw o (z ∙ clear-one b w o)
         by false o z = rw o
 
-    pub clears-run : (b : List ℕ) (ws : List ℕ) → Covers sh q f m ws → noMarks b q f m ≡ true → clearWords (freshBook b sh q ws) q f m ≡ b
-    clears-run b ws k e = clears-fresh b ws k ∙ none-cleared b q f m e
+    pub clears-run : (b : List ℕ) (ws : List ℕ) → noMarks b q m ≡ true → clearWords (freshBook b sh q ws) q m ≡ b
+    clears-run b ws e = clears-fresh b ws ∙ none-cleared b q m e
 
   -- ---- nothing but marks is changed
   pub fresh-put : (b : List ℕ) (w : ℕ) → freshIn b sh q w ≡ true → Changes isMarkWord b (markedIn b sh q w)
@@ -180,32 +179,32 @@ module _ (sh : Shape) (s : Sound sh) (q : ℕ) where
   unfolding markedIn
   marked-long b w = length-put b (mark q (indexOf sh q w / 32)) _
 
-  module _ (f m : ℕ) (few : m + f ≤ 128) where
-    take-fresh : (b : List ℕ) (w : ℕ) → freshIn b sh q w ≡ true → Within sh q f m w → words (q + 1) ≤ length b
-        → takeMarks (markedIn b sh q w) q f m ≡ put (takeMarks b q f m) (out q (indexOf sh q w)) 0
+  module _ (m : ℕ) (few : m ≤ 128) (all : sh .capacity ≤ 32 * m) where
+    take-fresh : (b : List ℕ) (w : ℕ) → freshIn b sh q w ≡ true → words (q + 1) ≤ length b
+        → takeMarks (markedIn b sh q w) q m ≡ put (takeMarks b q m) (out q (indexOf sh q w)) 0
     unfolding markedIn
-    take-fresh b w o i long = takes-marked q f m b (indexOf sh q w) (fresh-low b w o) few (i .above) (i .below) (omega arith) (fresh-out b w o) (fresh-mark b w o)
+    take-fresh b w o long = takes-marked q m b (indexOf sh q w) (fresh-low b w o) few (fresh-word b w o m all) (omega arith) (fresh-out b w o) (fresh-mark b w o)
 
-    takes-fresh : (b : List ℕ) (ws : List ℕ) → Covers sh q f m ws → words (q + 1) ≤ length b → freshCount b sh q ws ≡ length ws
-        → takeMarks (freshBook b sh q ws) q f m ≡ marks (takeMarks b q f m) q 0 (map (indexOf sh q) ws)
+    takes-fresh : (b : List ℕ) (ws : List ℕ) → words (q + 1) ≤ length b → freshCount b sh q ws ≡ length ws
+        → takeMarks (freshBook b sh q ws) q m ≡ marks (takeMarks b q m) q 0 (map (indexOf sh q) ws)
     unfolding freshCount freshBook
-    takes-fresh b [] c long l = refl
-    takes-fresh b (w ∷ ws) c long l =
-        by (freshIn b sh q w) refl (takes-fresh (markedIn b sh q w) ws (c .1) (rw (marked-long b w) long)) (lows (markedIn b sh q w) ws)
+    takes-fresh b [] long l = refl
+    takes-fresh b (w ∷ ws) long l =
+        by (freshIn b sh q w) refl (takes-fresh (markedIn b sh q w) ws (rw (marked-long b w) long)) (lows (markedIn b sh q w) ws)
       where
         by : (t : Bool) → freshIn b sh q w ≡ t
-            → (freshCount (markedIn b sh q w) sh q ws ≡ length ws → takeMarks (freshBook (markedIn b sh q w) sh q ws) q f m ≡ marks (takeMarks (markedIn b sh q w) q f m) q 0 (map (indexOf sh q) ws))
+            → (freshCount (markedIn b sh q w) sh q ws ≡ length ws → takeMarks (freshBook (markedIn b sh q w) sh q ws) q m ≡ marks (takeMarks (markedIn b sh q w) q m) q 0 (map (indexOf sh q) ws))
             → (freshCount (markedIn b sh q w) sh q ws ≡ length ws → every (λ j. ltb j 4096) (map (indexOf sh q) ws) ≡ true)
-            → takeMarks (freshBook b sh q (w ∷ ws)) q f m ≡ marks (takeMarks b q f m) q 0 (map (indexOf sh q) (w ∷ ws))
+            → takeMarks (freshBook b sh q (w ∷ ws)) q m ≡ marks (takeMarks b q m) q 0 (map (indexOf sh q) (w ∷ ws))
         by true o z y =
             let k : freshCount (markedIn b sh q w) sh q ws ≡ length ws = omega (arith, rw o at l) in
             let is = map (indexOf sh q) ws in
-            rw o (z k ∙ ap (λ d. marks d q 0 is) (take-fresh b w o (c .0 (fresh-block b w o)) long) ∙ low-marks (takeMarks b q f m) q 0 (indexOf sh q w) is (fresh-low b w o) (y k))
+            rw o (z k ∙ ap (λ d. marks d q 0 is) (take-fresh b w o long) ∙ low-marks (takeMarks b q m) q 0 (indexOf sh q w) is (fresh-low b w o) (y k))
         by false o z y = absurd (omega (arith, rw o at l))
 
-    pub takes-all : (b : List ℕ) (ws : List ℕ) → Covers sh q f m ws → words (q + 1) ≤ length b → noMarks b q f m ≡ true → freshCount b sh q ws ≡ length ws
-        → takeMarks (freshBook b sh q ws) q f m ≡ marks b q 0 (map (indexOf sh q) ws)
-    takes-all b ws c long e l = takes-fresh b ws c long l ∙ ap (λ d. marks d q 0 (map (indexOf sh q) ws)) (none-taken b q f m e)
+    pub takes-all : (b : List ℕ) (ws : List ℕ) → words (q + 1) ≤ length b → noMarks b q m ≡ true → freshCount b sh q ws ≡ length ws
+        → takeMarks (freshBook b sh q ws) q m ≡ marks b q 0 (map (indexOf sh q) ws)
+    takes-all b ws long e l = takes-fresh b ws long l ∙ ap (λ d. marks d q 0 (map (indexOf sh q) ws)) (none-taken b q m e)
 
   -- ---- the tests, in a run that is wholly the class's
   module _ (n c : ℕ) where
@@ -251,21 +250,21 @@ module _ (sh : Shape) (s : Sound sh) (q : ℕ) where
       pub not-repeated : leb (words n) (length b) ≡ true → repeats n b c sh ws ≡ false
       not-repeated hb = all-single n c sh s b (sh .kind) ws hb (r .kinds) (r .counted)
 
-    module _ (f m : ℕ) where
-      clean-of : (b : List ℕ) (w : ℕ) → (isBlock sh q w ≡ true → Within sh q f m w) → noMarks b q f m ≡ true → eqb (startOf b w) q ≡ true → outAt n b c sh w ≡ true → clean b sh w ≡ true
-      clean-of b w k e y o =
+    module _ (m : ℕ) (all : sh .capacity ≤ 32 * m) where
+      clean-of : (b : List ℕ) (w : ℕ) → noMarks b q m ≡ true → eqb (startOf b w) q ≡ true → outAt n b c sh w ≡ true → clean b sh w ≡ true
+      clean-of b w e y o =
           let x : startOf b w ≡ q = eqb-true (startOf b w) q y in
-          let i = k (rw x at (block-of-out n c sh s b w o)) in
-          eq-eqb _ 0 (ap (λ p. get b (mark p (indexOf sh p w / 32))) x ∙ clean-at b q f m (indexOf sh q w / 32) e (i .above) (i .below))
+          let l : indexOf sh q w / 32 < m = omega (arith, below-capacity sh q w (rw x at (block-of-out n c sh s b w o))) in
+          eq-eqb _ 0 (ap (λ p. get b (mark p (indexOf sh p w / 32))) x ∙ clean-at b q m (indexOf sh q w / 32) e l)
 
-      all-clean : (b : List ℕ) (ws : List ℕ) → Covers sh q f m ws → noMarks b q f m ≡ true → every (λ w. eqb (startOf b w) q) ws ≡ true → every (clean b sh) (outs n b c sh ws) ≡ true
-      all-clean b [] k e y = refl
-      all-clean b (w ∷ ws) k e y = by (outAt n b c sh w) refl (all-clean b ws (k .1) e (and-right (eqb (startOf b w) q) _ y))
+      all-clean : (b : List ℕ) (ws : List ℕ) → noMarks b q m ≡ true → every (λ w. eqb (startOf b w) q) ws ≡ true → every (clean b sh) (outs n b c sh ws) ≡ true
+      all-clean b [] e y = refl
+      all-clean b (w ∷ ws) e y = by (outAt n b c sh w) refl (all-clean b ws e (and-right (eqb (startOf b w) q) _ y))
         where
           by : (t : Bool) → outAt n b c sh w ≡ t → every (clean b sh) (outs n b c sh ws) ≡ true → every (clean b sh) (outs n b c sh (w ∷ ws)) ≡ true
-          by true o z = rw (o, clean-of b w (k .0) e (and-left (eqb (startOf b w) q) _ y) o, z)
+          by true o z = rw (o, clean-of b w e (and-left (eqb (startOf b w) q) _ y) o, z)
           by false o z = rw o z
 
-      pub not-marked : (b : List ℕ) (ws : List ℕ) → Covers sh q f m ws → noMarks b q f m ≡ true → AllFresh b ws → unmarked n b c sh ws ≡ true
+      pub not-marked : (b : List ℕ) (ws : List ℕ) → noMarks b q m ≡ true → AllFresh b ws → unmarked n b c sh ws ≡ true
       unfolding unmarked
-      not-marked b ws k e r = all-clean b ws k e (r .start)
+      not-marked b ws e r = all-clean b ws e (r .start)

@@ -126,53 +126,53 @@ module _ (q : ℕ) where
   unfolding takeWord put
   length-take b j = simp length-set
 
-  -- ---- words f to m + f - 1
-  pub lengths : (f m : ℕ) (b : List ℕ) → length (takeMarks b q f m) ≡ length b
+  -- ---- the first m words
+  pub lengths : (m : ℕ) (b : List ℕ) → length (takeMarks b q m) ≡ length b
   unfolding takeMarks
-  lengths f zero b = refl
-  lengths f (suc m) b = length-take (takeMarks b q f m) (m + f) ∙ lengths f m b
+  lengths zero b = refl
+  lengths (suc m) b = length-take (takeMarks b q m) m ∙ lengths m b
 
-  later : (f m : ℕ) (b : List ℕ) (i v : ℕ) → m + f ≤ i → i < 128 → takeMarks (put b (mark q i) v) q f m ≡ put (takeMarks b q f m) (mark q i) v
+  later : (m : ℕ) (b : List ℕ) (i v : ℕ) → m ≤ i → i < 128 → takeMarks (put b (mark q i) v) q m ≡ put (takeMarks b q m) (mark q i) v
   unfolding takeMarks
-  later f zero b i v h l = refl
-  later f (suc m) b i v h l = ap (λ z. takeWord z q (m + f)) (later f m b i v (omega arith) l) ∙ take-later (takeMarks b q f m) i (m + f) v l (omega arith) (λ z. omega arith)
+  later zero b i v h l = refl
+  later (suc m) b i v h l = ap (λ z. takeWord z q m) (later m b i v (omega arith) l) ∙ take-later (takeMarks b q m) i m v l (omega arith) (λ z. omega arith)
 
-  read-out : (f m : ℕ) (b : List ℕ) (j : ℕ) → m + f ≤ j → j < 128 → getD (takeMarks b q f m) (outWord q j) 0 ≡ getD b (outWord q j) 0
+  read-out : (m : ℕ) (b : List ℕ) (j : ℕ) → m ≤ j → j < 128 → getD (takeMarks b q m) (outWord q j) 0 ≡ getD b (outWord q j) 0
   unfolding takeMarks
-  read-out f zero b j h l = refl
-  read-out f (suc m) b j h l = read-other (takeMarks b q f m) (m + f) (outWord q j) (λ z. omega arith) (λ z. omega arith) ∙ read-out f m b j (omega arith) l
+  read-out zero b j h l = refl
+  read-out (suc m) b j h l = read-other (takeMarks b q m) m (outWord q j) (λ z. omega arith) (λ z. omega arith) ∙ read-out m b j (omega arith) l
 
-  read-mark : (f m : ℕ) (b : List ℕ) (j : ℕ) → m + f ≤ j → j < 128 → getD (takeMarks b q f m) (markWord j) 0 ≡ getD b (markWord j) 0
+  read-mark : (m : ℕ) (b : List ℕ) (j : ℕ) → m ≤ j → j < 128 → getD (takeMarks b q m) (markWord j) 0 ≡ getD b (markWord j) 0
   unfolding takeMarks
-  read-mark f zero b j h l = refl
-  read-mark f (suc m) b j h l = read-other (takeMarks b q f m) (m + f) (markWord j) (λ z. omega arith) (λ z. omega arith) ∙ read-mark f m b j (omega arith) l
+  read-mark zero b j h l = refl
+  read-mark (suc m) b j h l = read-other (takeMarks b q m) m (markWord j) (λ z. omega arith) (λ z. omega arith) ∙ read-mark m b j (omega arith) l
 
-  module _ (f m : ℕ) (b : List ℕ) (i : ℕ) (h : i < 4096) (k : m + f ≤ i / 32) where
-    out-same : get (takeMarks b q f m) (out q i) ≡ get b (out q i)
+  module _ (m : ℕ) (b : List ℕ) (i : ℕ) (h : i < 4096) (k : m ≤ i / 32) where
+    out-same : get (takeMarks b q m) (out q i) ≡ get b (out q i)
     unfolding get
-    out-same = ap (λ w. w / 2 ^ (i % 32) % 2 ^ 1) (read-out f m b (i / 32) k (omega arith))
+    out-same = ap (λ w. w / 2 ^ (i % 32) % 2 ^ 1) (read-out m b (i / 32) k (omega arith))
 
-    word-same : get (takeMarks b q f m) (mark q (i / 32)) ≡ get b (mark q (i / 32))
+    word-same : get (takeMarks b q m) (mark q (i / 32)) ≡ get b (mark q (i / 32))
     unfolding get
-    word-same = read-mark f m b (i / 32) k (omega arith)
+    word-same = read-mark m b (i / 32) k (omega arith)
 
-    mark-same : markAt (takeMarks b q f m) q i ≡ markAt b q i
+    mark-same : markAt (takeMarks b q m) q i ≡ markAt b q i
     mark-same = ap (λ w. w / 2 ^ (i % 32) % 2 ^ 1) word-same
 
-    mark-later : takeMarks (setMark b q i) q f m ≡ setMark (takeMarks b q f m) q i
-    mark-later = later f m b (i / 32) _ k (omega arith) ∙ ap (λ w. put (takeMarks b q f m) (mark q (i / 32)) (place (bits (i % 32) 1) w 1)) (sym word-same)
+    mark-later : takeMarks (setMark b q i) q m ≡ setMark (takeMarks b q m) q i
+    mark-later = later m b (i / 32) _ k (omega arith) ∙ ap (λ w. put (takeMarks b q m) (mark q (i / 32)) (place (bits (i % 32) 1) w 1)) (sym word-same)
 
-  pub takes-marked : (f m : ℕ) (b : List ℕ) (i : ℕ) → i < 4096 → m + f ≤ 128 → f ≤ i / 32 → i / 32 < m + f → 40144 + 4112 * q + 128 ≤ length b → get b (out q i) ≡ 1 → markAt b q i ≡ 0
-      → takeMarks (setMark b q i) q f m ≡ put (takeMarks b q f m) (out q i) 0
+  pub takes-marked : (m : ℕ) (b : List ℕ) (i : ℕ) → i < 4096 → m ≤ 128 → i / 32 < m → 40144 + 4112 * q + 128 ≤ length b → get b (out q i) ≡ 1 → markAt b q i ≡ 0
+      → takeMarks (setMark b q i) q m ≡ put (takeMarks b q m) (out q i) 0
   unfolding takeMarks
-  takes-marked f zero b i h n a k l e u = absurd (omega arith)
-  takes-marked f (suc m) b i h n a k l e u =
-      elim (ℕ-discrete (i / 32) (m + f)) [
+  takes-marked zero b i h n k l e u = absurd (omega arith)
+  takes-marked (suc m) b i h n k l e u =
+      elim (ℕ-discrete (i / 32) (m)) [
         | yes z ↦
-            let g : m + f ≤ i / 32 = omega arith in
-            ap (λ d. takeWord d q (m + f)) (mark-later f m b i h g)
-            ∙ take-at (takeMarks b q f m) i (m + f) z h (rw (lengths f m b) l) (out-same f m b i h g ∙ e) (mark-same f m b i h g ∙ u)
-        | no z ↦ ap (λ d. takeWord d q (m + f)) (takes-marked f m b i h (omega arith) a (omega arith) l e u) ∙ take-other (takeMarks b q f m) i (m + f) h (omega arith) z
+            let g : m ≤ i / 32 = omega arith in
+            ap (λ d. takeWord d q m) (mark-later m b i h g)
+            ∙ take-at (takeMarks b q m) i m z h (rw (lengths m b) l) (out-same m b i h g ∙ e) (mark-same m b i h g ∙ u)
+        | no z ↦ ap (λ d. takeWord d q m) (takes-marked m b i h (omega arith) (omega arith) l e u) ∙ take-other (takeMarks b q m) i m h (omega arith) z
       ]
 
   -- ---- the blocks of another page
@@ -180,35 +180,35 @@ module _ (q : ℕ) where
     abbrev Away : ℕ → Type 0
     Away t = (j : ℕ) → j < 128 → (t ≢ outWord q j) × (t ≢ markWord j)
 
-    away-set : (f m : ℕ) (b : List ℕ) (t v : ℕ) → m + f ≤ 128 → Away t → takeMarks (set b t v) q f m ≡ set (takeMarks b q f m) t v
+    away-set : (m : ℕ) (b : List ℕ) (t v : ℕ) → m ≤ 128 → Away t → takeMarks (set b t v) q m ≡ set (takeMarks b q m) t v
     unfolding takeMarks
-    away-set f zero b t v h a = refl
-    away-set f (suc m) b t v h a = let z = a (m + f) (omega arith) in ap (λ z. takeWord z q (m + f)) (away-set f m b t v (omega arith) a) ∙ take-set (takeMarks b q f m) (m + f) t v (z .0) (z .1)
+    away-set zero b t v h a = refl
+    away-set (suc m) b t v h a = let z = a m (omega arith) in ap (λ z. takeWord z q m) (away-set m b t v (omega arith) a) ∙ take-set (takeMarks b q m) m t v (z .0) (z .1)
 
-    away-read : (f m : ℕ) (b : List ℕ) (t : ℕ) → m + f ≤ 128 → Away t → getD (takeMarks b q f m) t 0 ≡ getD b t 0
+    away-read : (m : ℕ) (b : List ℕ) (t : ℕ) → m ≤ 128 → Away t → getD (takeMarks b q m) t 0 ≡ getD b t 0
     unfolding takeMarks
-    away-read f zero b t h a = refl
-    away-read f (suc m) b t h a = let z = a (m + f) (omega arith) in read-other (takeMarks b q f m) (m + f) t (z .0) (z .1) ∙ away-read f m b t (omega arith) a
+    away-read zero b t h a = refl
+    away-read (suc m) b t h a = let z = a m (omega arith) in read-other (takeMarks b q m) m t (z .0) (z .1) ∙ away-read m b t (omega arith) a
 
-    module _ (f m : ℕ) (few : m + f ≤ 128) (b : List ℕ) (i : ℕ) (h : i < 4096) where
+    module _ (m : ℕ) (few : m ≤ 128) (b : List ℕ) (i : ℕ) (h : i < 4096) where
       out-away : Away (outWord p (i / 32))
       out-away j l = ((λ z. d (omega arith)), (λ z. d (omega arith)))
 
       mark-away : Away (40144 + 4112 * p + i / 32)
       mark-away j l = ((λ z. d (omega arith)), (λ z. d (omega arith)))
 
-      pub out-past : takeMarks (put b (out p i) 0) q f m ≡ put (takeMarks b q f m) (out p i) 0
+      pub out-past : takeMarks (put b (out p i) 0) q m ≡ put (takeMarks b q m) (out p i) 0
       unfolding put
-      out-past = away-set f m b _ _ few out-away ∙ ap (λ o. set (takeMarks b q f m) (outWord p (i / 32)) (place (bits (i % 32) 1) o 0)) (sym (away-read f m b (outWord p (i / 32)) few out-away))
+      out-past = away-set m b _ _ few out-away ∙ ap (λ o. set (takeMarks b q m) (outWord p (i / 32)) (place (bits (i % 32) 1) o 0)) (sym (away-read m b (outWord p (i / 32)) few out-away))
 
-      pub mark-past : takeMarks (setMark b p i) q f m ≡ setMark (takeMarks b q f m) p i
+      pub mark-past : takeMarks (setMark b p i) q m ≡ setMark (takeMarks b q m) p i
       unfolding get put
-      mark-past = away-set f m b _ _ few mark-away ∙ ap (λ o. set (takeMarks b q f m) (40144 + 4112 * p + i / 32) (place (bits (i % 32) 1) o 1)) (sym (away-read f m b (40144 + 4112 * p + i / 32) few mark-away))
+      mark-past = away-set m b _ _ few mark-away ∙ ap (λ o. set (takeMarks b q m) (40144 + 4112 * p + i / 32) (place (bits (i % 32) 1) o 1)) (sym (away-read m b (40144 + 4112 * p + i / 32) few mark-away))
 
-      pub out-still : get (takeMarks b q f m) (out p i) ≡ get b (out p i)
+      pub out-still : get (takeMarks b q m) (out p i) ≡ get b (out p i)
       unfolding get
-      out-still = ap (λ w. w / 2 ^ (i % 32) % 2 ^ 1) (away-read f m b (outWord p (i / 32)) few out-away)
+      out-still = ap (λ w. w / 2 ^ (i % 32) % 2 ^ 1) (away-read m b (outWord p (i / 32)) few out-away)
 
-      pub mark-still : markAt (takeMarks b q f m) p i ≡ markAt b p i
+      pub mark-still : markAt (takeMarks b q m) p i ≡ markAt b p i
       unfolding get
-      mark-still = ap (λ w. w / 2 ^ (i % 32) % 2 ^ 1) (away-read f m b (40144 + 4112 * p + i / 32) few mark-away)
+      mark-still = ap (λ w. w / 2 ^ (i % 32) % 2 ^ 1) (away-read m b (40144 + 4112 * p + i / 32) few mark-away)

@@ -4,14 +4,14 @@
 --     Answered     a call answered a fate or a refusal's number, and left the book
 --     takenBy      the listed blocks out no longer, by words of their marks or by the list
 --     Prepared     the tests before 13's last gave a refusal's number, or the run, with the listed blocks marked or not
---     Attempted    the same where only a list that passes is told: else the book is as it was
+--     Attempted    the listed blocks marked at once, or the book as it was
 --     Finished     13's last test, and the act
-use Prim.Native.Nat.{ℕ, zero, suc, _+_, _/_, _%_, _<_, _≤_}
+use Prim.Native.Nat.{ℕ, zero, suc, _+_, _<_, _≤_}
 use mathlib.Core.Bool.{Bool, true, false, cond, not, _&&_}
 use mathlib.Core.List.{List, map}
 use mathlib.Core.Path.{_≡_}
 use lib.Dec.{eqb, ltb}
-use lib.ListN.{length}
+use lib.ListN.{length, getD}
 use Rattle.facts.specs.Lists.{isNil, every}
 use Rattle.words.specs.Host.{discardZeroed}
 use Rattle.classes.specs.declared.Shape.{Shape}
@@ -25,23 +25,23 @@ use Rattle.pages.specs.Links.{stored}
 use Rattle.pages.specs.Runs.{whole}
 use Rattle.pages.specs.Stack.{marks, pushed, indexOf, isBlock, pageSlots}
 use Rattle.calls.specs.Release as Heap
-use Rattle.calls.specs.Out.{startOf, outFault}
+use Rattle.calls.specs.Out.{startOf, inRunOf, outFault}
 use Rattle.calls.specs.Release.{firstOf, pageFair, rowFair, releaseFair, placed, lastStep}
 use Rattle.release.specs.declared.Released.{Released}
 use Rattle.release.specs.declared.Released.the-variants.{Refused, Fate}
 use Rattle.release.specs.declared.Ready.{Ready}
 use Rattle.release.specs.declared.Ready.the-variants.{No, In}
-use Rattle.release.specs.declared.Marked.{Marked}
-use Rattle.release.specs.declared.Marked.the-variants.{Run, Not}
+use Rattle.release.specs.declared.Found.{Found}
 use Rattle.release.specs.Asks.{ClassAsks}
-use Rattle.release.specs.Marks.{clearWords, takeMarks}
+use Rattle.release.specs.Blocks.{found}
+use Rattle.release.specs.Marks.{freshBook, allFresh, clearWords, takeMarks}
 use Rattle.pages.specs.Fair.{linksFair}
 
 unfoldable pub settleAt : List ℕ → ℕ → Shape → ℕ → ℕ → List ℕ → Heap.Released
 settleAt b c sh h q is = placed false (pushed b q is) c sh h q
 
 abbrev pub takenBy : List ℕ → Shape → ℕ → ℕ → List ℕ → List ℕ
-takenBy b sh q m ws = cond (eqb m 0) (marks b q 0 (map (indexOf sh q) ws)) (takeMarks b q (m / 256) (m % 256))
+takenBy b sh q m ws = cond (eqb m 0) (marks b q 0 (map (indexOf sh q) ws)) (takeMarks b q m)
 
 abbrev pub coldVirgin : Shape → ℕ → Bool
 coldVirgin sh h = discardZeroed h && not (isMedium sh)
@@ -103,11 +103,11 @@ pub record RunAsks (n : ℕ) (b : List ℕ) (c : ℕ) (sh : Shape) (q : ℕ) (ws
   pub run : whole n b sh c q ≡ true
   pub start : startOf b (firstOf ws) ≡ q
 
--- the run at q, with all listed blocks marked in the words that m stands for, or m is 0; taking them is nothing to number 13's last test
+-- the run at q, with all listed blocks marked in the first m words of marks, or m is 0; taking them is nothing to number 13's last test
 pub record MarkedAsks (n : ℕ) (b : List ℕ) (c : ℕ) (sh : Shape) (q m : ℕ) (ws : List ℕ) : Type 0 where
   pub class : ClassAsks n b c sh
   pub inside : q + sh .pages ≤ n
-  pub few : m % 256 + m / 256 ≤ 128
+  pub few : m ≤ 128
   pub bits : every (λ w. ltb (indexOf sh q w) pageSlots) ws ≡ true
   pub blocks : every (isBlock sh q) ws ≡ true
   pub same : releaseFair n (takenBy b sh q m ws) c sh (length ws) q ≡ releaseFair n b c sh (length ws) q
@@ -132,29 +132,28 @@ pub record Answered (r : Released) (b : List ℕ) (o : Heap.Released) : Type 0 w
   pub answer : r ≡ answerAs (o .code) (o .fate)
   pub left : b ≡ o .book
 
--- the tests before 13's last have passed: the run at q has all listed blocks, marked in the words that m stands for, or m is 0
+-- the tests before 13's last have passed: the run at q has all listed blocks, marked in the first m words of marks, or m is 0
 pub record PreparedAt (q m : ℕ) (b′ : List ℕ) (n : ℕ) (b : List ℕ) (c : ℕ) (sh : Shape) (ws : List ℕ) : Type 0 where
   pub passed : PassedAsks n b c sh ws
   pub start : startOf b (firstOf ws) ≡ q
   pub alone : every (λ w. eqb (startOf b w) q) ws ≡ true
-  pub few : m % 256 + m / 256 ≤ 128
+  pub few : m ≤ 128
   pub long : length b′ ≡ length b
   pub same : releaseFair n b′ c sh (length ws) q ≡ releaseFair n b c sh (length ws) q
   pub taken : takenBy b′ sh q m ws ≡ marks b q 0 (map (indexOf sh q) ws)
-  pub cleared : clearWords b′ q (m / 256) (m % 256) ≡ b
+  pub cleared : clearWords b′ q m ≡ b
 
 unfoldable pub Prepared : Ready → List ℕ → ℕ → List ℕ → ℕ → Shape → List ℕ → Type 0
 Prepared (No k) b′ n b c sh ws = (h : ℕ) → Answered (Refused k) b′ (Heap.releaseBlocks n b c sh h ws)
 Prepared (In q m) b′ n b c sh ws = PreparedAt q m b′ n b c sh ws
 
-unfoldable pub Attempted : Marked → List ℕ → ℕ → List ℕ → ℕ → Shape → List ℕ → Type 0
-Attempted (Run q m) b′ n b c sh ws = PreparedAt q m b′ n b c sh ws
-Attempted Not b′ n b c sh ws = b′ ≡ b
+-- the first word is of a run of the class, and all listed words are its blocks, out and not marked
+abbrev pub tried : ℕ → List ℕ → ℕ → Shape → List ℕ → Bool
+tried n b c sh ws = inRunOf n b sh c (getD ws 0 0) && allFresh b sh (startOf b (getD ws 0 0)) ws
 
--- all were marked, or the book is as it was
-pub record MarkedAll (r : Bool) (b′ : List ℕ) (n : ℕ) (b : List ℕ) (c : ℕ) (sh : Shape) (q m : ℕ) (ws : List ℕ) : Type 0 where
-  pub ready : r ≡ true → PreparedAt q m b′ n b c sh ws
-  pub left : r ≡ false → b′ ≡ b
+pub record Attempted (r : Found) (b′ : List ℕ) (n : ℕ) (b : List ℕ) (c : ℕ) (sh : Shape) (ws : List ℕ) : Type 0 where
+  pub answer : r ≡ found (tried n b c sh ws) (startOf b (getD ws 0 0))
+  pub left : b′ ≡ cond (tried n b c sh ws) (freshBook b sh (startOf b (getD ws 0 0)) ws) b
 
 -- from the marked book on: number 13's last test has passed, and the blocks were taken; or the marks were cleared
 pub record TakenTo (f : ℕ) (b′ : List ℕ) (n : ℕ) (b : List ℕ) (c : ℕ) (sh : Shape) (h q m : ℕ) (ws : List ℕ) : Type 0 where
@@ -164,7 +163,7 @@ pub record TakenTo (f : ℕ) (b′ : List ℕ) (n : ℕ) (b : List ℕ) (c : ℕ
 pub record UnfairTo (k : ℕ) (b′ : List ℕ) (n : ℕ) (b : List ℕ) (c : ℕ) (sh : Shape) (q m : ℕ) (ws : List ℕ) : Type 0 where
   pub number : k ≡ 13
   pub unfair : releaseFair n b c sh (length ws) q ≡ false
-  pub left : b′ ≡ clearWords b q (m / 256) (m % 256)
+  pub left : b′ ≡ clearWords b q m
 
 unfoldable pub Finished : Released → List ℕ → ℕ → List ℕ → ℕ → Shape → ℕ → ℕ → ℕ → List ℕ → Type 0
 Finished (Fate f) b′ n b c sh h q m ws = TakenTo f b′ n b c sh h q m ws

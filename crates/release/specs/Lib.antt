@@ -3,6 +3,5 @@ pub mod Asks
 pub mod Fair
 pub mod Marks
 pub mod MarkAsks
-pub mod Spans
 pub mod Act
 pub mod One

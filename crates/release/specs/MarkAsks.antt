@@ -15,7 +15,7 @@ use Rattle.calls.specs.Out.{unmarked, repeats, outFault}
 use Rattle.release.specs.declared.Found.the-variants.{Nothing}
 use Rattle.release.specs.Blocks.{blockIn}
 use Rattle.release.specs.Asks.{ClassAsks}
-use Rattle.release.specs.Marks.{setMark, freshAt, freshBits, setBits, markedIn, markCount, markBook, freshIn, freshCount, freshBook}
+use Rattle.release.specs.Marks.{setMark, freshAt, freshBits, setBits, markedIn, markCount, markBook, freshIn, freshCount, freshBook, allFresh}
 
 -- the run at q, in an arena; its pages' granules are those of words of one kind
 pub record FieldAsks (b : List ℕ) (sh : Shape) (q : ℕ) : Type 0 where
@@ -41,6 +41,11 @@ pub record MarkedBlock (r : Bool) (b′ b : List ℕ) (q i : ℕ) : Type 0 where
 pub record MarkedOne (r : Bool) (b′ b : List ℕ) (sh : Shape) (q w : ℕ) : Type 0 where
   pub answer : r ≡ freshIn b sh q w
   pub left : b′ ≡ cond (freshIn b sh q w) (markedIn b sh q w) b
+
+-- the whole list, or nothing
+pub record MarkedAll (r : Bool) (b′ b : List ℕ) (sh : Shape) (q : ℕ) (ws : List ℕ) : Type 0 where
+  pub answer : r ≡ allFresh b sh q ws
+  pub left : b′ ≡ cond (allFresh b sh q ws) (freshBook b sh q ws) b
 
 -- the listed words from place i on; the answer is the place of the first that is not marked
 pub record MarkedIn (r : ℕ) (b′ b : List ℕ) (sh : Shape) (q : ℕ) (ws : List ℕ) (i : ℕ) : Type 0 where

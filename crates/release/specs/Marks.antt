@@ -11,13 +11,13 @@ use mathlib.Core.Bool.{Bool, true, cond, not, _&&_}
 use mathlib.Core.List.{List, [], _∷_}
 use lib.Dec.{eqb}
 use lib.Bits.{bitXor}
-use lib.ListN.{getD, set}
+use lib.ListN.{length, getD, set}
 use Rattle.facts.specs.Lists.{every, below}
 use Rattle.classes.specs.declared.Shape.{Shape}
 use Rattle.fields.specs.Field.{bits, out, mark, read, place, get, put}
 use Rattle.model.specs.Release.{ofKind}
 use Rattle.pages.specs.Stack.{indexOf, isBlock}
-use Rattle.calls.specs.Out.{startOf, outIn, outAt, markIn, markOf, clean}
+use Rattle.calls.specs.Out.{startOf, outAt, markOf, clean}
 
 -- ---- one block
 abbrev pub markAt : List ℕ → ℕ → ℕ → ℕ
@@ -62,10 +62,6 @@ clearBook n b c sh (w ∷ ws) = clearBook n (cond (outAt n b c sh w) (put b (mar
 unfoldable pub freshIn : List ℕ → Shape → ℕ → ℕ → Bool
 freshIn b sh q w = ofKind (sh .kind) w && (isBlock sh q w && freshAt b q (indexOf sh q w))
 
--- a block that is out, and whose word of marks is 0
-unfoldable pub readyIn : List ℕ → Shape → ℕ → ℕ → Bool
-readyIn b sh q w = ofKind (sh .kind) w && (outIn b sh q w && eqb (get b (markIn sh q w)) 0)
-
 unfoldable pub freshCount : List ℕ → Shape → ℕ → List ℕ → ℕ
 freshCount b sh q [] = 0
 freshCount b sh q (w ∷ ws) = cond (freshIn b sh q w) (suc (freshCount (markedIn b sh q w) sh q ws)) 0
@@ -74,7 +70,7 @@ unfoldable pub freshBook : List ℕ → Shape → ℕ → List ℕ → List ℕ
 freshBook b sh q [] = b
 freshBook b sh q (w ∷ ws) = cond (freshIn b sh q w) (freshBook (markedIn b sh q w) sh q ws) b
 
--- ---- the marks of the run at q, 32 at a time: words i to i + m - 1
+-- ---- the marks of the run at q, 32 at a time
 -- the out bits of blocks 32 j to 32 j + 31 are this word
 abbrev pub outWord : ℕ → ℕ → ℕ
 outWord q j = 40016 + 4112 * q + j
@@ -86,12 +82,20 @@ freshBits b q j s n = eqb (read (bits s n) (getD b (outWord q j) 0)) (2 ^ n - 1)
 abbrev pub setBits : List ℕ → ℕ → ℕ → ℕ → ℕ → List ℕ
 setBits b q j s n = put b (mark q j) (place (bits s n) (get b (mark q j)) (2 ^ n - 1))
 
-abbrev pub noMarks : List ℕ → ℕ → ℕ → ℕ → Bool
-noMarks b q i m = every (λ j. eqb (get b (mark q (j + i))) 0) (below m)
+-- the first m words
+abbrev pub marksOf : Shape → ℕ
+marksOf sh = (sh .capacity + 31) / 32
 
-unfoldable pub clearWords : List ℕ → ℕ → ℕ → ℕ → List ℕ
-clearWords b q i zero = b
-clearWords b q i (suc m) = put (clearWords b q i m) (mark q (m + i)) 0
+abbrev pub noMarks : List ℕ → ℕ → ℕ → Bool
+noMarks b q m = every (λ j. eqb (get b (mark q j)) 0) (below m)
+
+unfoldable pub clearWords : List ℕ → ℕ → ℕ → List ℕ
+clearWords b q zero = b
+clearWords b q (suc m) = put (clearWords b q m) (mark q m) 0
+
+-- every listed word is a block of the run that is out, each once, and the run has no mark
+unfoldable pub allFresh : List ℕ → Shape → ℕ → List ℕ → Bool
+allFresh b sh q ws = noMarks b q (marksOf sh) && eqb (freshCount b sh q ws) (length ws)
 
 abbrev pub flipWord : List ℕ → ℕ → ℕ → ℕ → List ℕ
 flipWord b q j x = set b (outWord q j) (bitXor (getD b (outWord q j) 0) x)
@@ -100,9 +104,9 @@ flipWord b q j x = set b (outWord q j) (bitXor (getD b (outWord q j) 0) x)
 unfoldable pub takeWord : List ℕ → ℕ → ℕ → List ℕ
 takeWord b q j = put (flipWord b q j (get b (mark q j))) (mark q j) 0
 
-unfoldable pub takeMarks : List ℕ → ℕ → ℕ → ℕ → List ℕ
-takeMarks b q i zero = b
-takeMarks b q i (suc m) = takeWord (takeMarks b q i m) q (m + i)
+unfoldable pub takeMarks : List ℕ → ℕ → ℕ → List ℕ
+takeMarks b q zero = b
+takeMarks b q (suc m) = takeWord (takeMarks b q m) q m
 
 -- ---- number 13 word by word
 unfoldable pub cleanAt : ℕ → List ℕ → ℕ → Shape → ℕ → Bool

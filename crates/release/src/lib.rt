@@ -6,7 +6,6 @@ mod marks;
 mod one;
 mod park;
 mod release;
-mod spans;
 mod tests;
 
 pub use blocks::block_at;
@@ -18,6 +17,7 @@ pub use fair::spot_of;
 pub use kinds::all_of_kind;
 pub use marks::clear_marks;
 pub use marks::mark_run;
+pub use marks::marks_of;
 pub use marks::no_marks;
 pub use marks::take_marks;
 pub use one::release_one;
@@ -33,17 +33,11 @@ pub enum Released {
     Fate(u32),
 }
 
-// What the tests before 13's last come to: a refusal's number; or the run that has all listed blocks, and in which words of its marks
-// they are marked (`span_of`), 0 for none.
+// What the tests before 13's last come to: a refusal's number; or the run that has all listed blocks, and in how many words of its marks
+// they are marked, 0 for none.
 pub enum Ready {
     No(u32),
     In(u32, u32),
-}
-
-// The same where only a list that passes is told at once.
-pub enum Marked {
-    Run(u32, u32),
-    Not,
 }
 
 // A page's fate; RETIRED is added to it where the page was retired.

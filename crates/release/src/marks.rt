@@ -3,9 +3,10 @@
 ghost use mathlib.Core.Path.{_≡_};
 ghost use Prim.Native.Nat.{_+_, _/_, _≤_, _<_, min};
 ghost use lib.ListN.{length};
+ghost use Rattle.classes.specs.Sound.{Sound};
 ghost use Rattle.fields.specs.Field.{mark, Has};
 ghost use Rattle.pages.specs.Asks.{ClearAsks};
-ghost use Rattle.release.specs.Marks.{readyIn, noMarks, clearWords, flipWord, takeWord, takeMarks};
+ghost use Rattle.release.specs.Marks.{marksOf, noMarks, clearWords, flipWord, takeWord, takeMarks};
 ghost use Rattle.release.specs.MarkAsks.{FieldAsks, Near, MarkedBits, MarkedBlock, MarkedOne, MarkedIn, MarkedTo, Stretched, Reaches, Alone};
 use super::Found;
 use super::blocks::behind;
@@ -254,75 +255,47 @@ pub fn mark_run(meta: &mut [u32], shape: Shape, q: u32, list: &[u64], from: usiz
     mark_by(meta, shape, q, base, span, list, from)
 }
 
-// A list of fewer goes one by one: handing it to `mark_by` costs more than a stretch saves (docs/BACKEND.md).
-const SHORT: usize = 8;
-
-// The same of a list whose words are meant for one run. It is not `mark_run` so that `mark_by` has two callers and stands for itself, and `mark_run`,
-// being short then, is taken into the loop of a mixed list.
+// The same of a whole list whose words are meant for one run. It is not `mark_run` so that `mark_by` has two callers and stands for itself, and
+// `mark_run`, being short then, is taken into the loop of a mixed list (docs/BACKEND.md).
 pub fn mark_here(meta: &mut [u32], shape: Shape, q: u32, list: &[u64]) -> usize
     requires { ⌜ FieldAsks (now meta) shape q ⌝ }
     ensures { λ r. ⌜ MarkedIn r (now (meta .exit)) (now (meta .entry)) shape q (now (list .entry)) 0 ⌝ }
 {
     let base = word_of(shape, q, 0);
     let span = shape.capacity * shape.block;
-    if list.len() < SHORT {
-        return mark_few(meta, shape, q, base, span, list, 0, list.len());
-    }
     mark_by(meta, shape, q, base, span, list, 0)
 }
 
-// Whether a word's block of the run at q is out, and its word of marks is 0.
-fn ready_by(meta: &[u32], shape: Shape, q: u32, base: u64, span: u32, w: u64) -> bool
-    requires { ⌜ FieldAsks (now meta) shape q ⌝ }
-    requires { ⌜ Near shape q base span ⌝ }
-    ensures { λ r. ⌜ r ≡ readyIn (now (meta .entry)) shape q w ⌝ }
+// How many words of marks a run of the class has.
+pub fn marks_of(shape: Shape) -> u32
+    requires { ⌜ Sound shape ⌝ }
+    ensures { λ r. ⌜ r ≡ marksOf shape ⌝ }
 {
-    let block = block_in(shape, q, base, span, w);
-    let Found::At(i) = block else {
-        return false;
-    };
-    if fields::out::bit(meta, q, i) != 1 {
-        return false;
-    }
-    fields::marks::word(meta, q, i / 32) == 0
+    (shape.capacity + 31) / 32
 }
 
-pub fn ready_one(meta: &[u32], shape: Shape, q: u32, w: u64) -> bool
-    requires { ⌜ FieldAsks (now meta) shape q ⌝ }
-    ensures { λ r. ⌜ r ≡ readyIn (now (meta .entry)) shape q w ⌝ }
-{
-    ready_by(
-        meta,
-        shape,
-        q,
-        word_of(shape, q, 0),
-        shape.capacity * shape.block,
-        w,
-    )
-}
-
-// Words i to i + m - 1 of the run's marks are 0; they are gathered to the end, as in `all_of_kind`.
-pub fn no_marks(meta: &[u32], q: u32, i: u32, m: u32) -> bool
-    requires { ⌜ ClearAsks (now meta) q (m + i) ⌝ }
-    ensures { λ r. ⌜ r ≡ noMarks (now (meta .entry)) q i m ⌝ }
+// The run's first m words of marks are 0; they are gathered to the end, as in `all_of_kind`.
+pub fn no_marks(meta: &[u32], q: u32, m: u32) -> bool
+    requires { ⌜ ClearAsks (now meta) q m ⌝ }
+    ensures { λ r. ⌜ r ≡ noMarks (now (meta .entry)) q m ⌝ }
 {
     let mut any = 0;
     let mut j = 0;
     while j < m {
-        any |= fields::marks::word(meta, q, j + i);
+        any |= fields::marks::word(meta, q, j);
         j += 1;
     }
     any == 0
 }
 
 // They become 0.
-pub fn clear_marks(meta: &mut [u32], q: u32, i: u32, m: u32)
-    requires { ⌜ ClearAsks (now meta) q (m + i) ⌝ }
-    ensures { λ _. ⌜ now (meta .exit) ≡ clearWords (now (meta .entry)) q i m ⌝ }
+pub fn clear_marks(meta: &mut [u32], q: u32, m: u32)
+    requires { ⌜ ClearAsks (now meta) q m ⌝ }
+    ensures { λ _. ⌜ now (meta .exit) ≡ clearWords (now (meta .entry)) q m ⌝ }
 {
     let mut j = 0;
     while j < m {
-        fields::marks::set_word(meta, q, j + i, 0);
+        fields::marks::set_word(meta, q, j, 0);
         j += 1;
     }
 }
@@ -345,14 +318,14 @@ fn take_word(meta: &mut [u32], q: u32, j: u32)
     fields::marks::set_word(meta, q, j, 0);
 }
 
-// Words i to i + m - 1 of the marks become 0, and the blocks that were marked are out no longer.
-pub fn take_marks(meta: &mut [u32], q: u32, i: u32, m: u32)
-    requires { ⌜ ClearAsks (now meta) q (m + i) ⌝ }
-    ensures { λ _. ⌜ now (meta .exit) ≡ takeMarks (now (meta .entry)) q i m ⌝ }
+// They become 0, and the blocks that were marked are out no longer.
+pub fn take_marks(meta: &mut [u32], q: u32, m: u32)
+    requires { ⌜ ClearAsks (now meta) q m ⌝ }
+    ensures { λ _. ⌜ now (meta .exit) ≡ takeMarks (now (meta .entry)) q m ⌝ }
 {
     let mut j = 0;
     while j < m {
-        take_word(meta, q, j + i);
+        take_word(meta, q, j);
         j += 1;
     }
 }

@@ -10,7 +10,7 @@ ghost use Rattle.calls.specs.Release.{relisted};
 ghost use Rattle.release.specs.Act.{RunAsks};
 ghost use Rattle.release.specs.Asks.{ClassAsks};
 ghost use Rattle.release.specs.Fair.{FairAsks};
-ghost use Rattle.release.specs.One.{readyAt, StaysFair, PutAsks, BackAsks, BackOne, OneBack};
+ghost use Rattle.release.specs.One.{readyAt, staysFair, PutAsks, BackAsks, BackOne, OneIn, OneBack};
 use super::Found;
 use super::blocks::block_in;
 use super::blocks::run_of;
@@ -36,7 +36,7 @@ fn is_ready(meta: &[u32], q: u32, i: u32) -> bool
 // Number 13's last test passes for one block of the run at q, and others stay out.
 fn stays_fair(meta: &[u32], n: u32, c: u32, shape: Shape, q: u32) -> bool
     requires { ⌜ FairAsks (now meta) c shape q ⌝ }
-    ensures { λ r. ⌜ StaysFair r n (now (meta .entry)) c shape q ⌝ }
+    ensures { λ r. ⌜ r ≡ staysFair n (now (meta .entry)) c shape q ⌝ }
 {
     if fields::arena::frontier(meta) > n {
         return false;
@@ -75,7 +75,7 @@ fn back_one(meta: &mut [u32], n: u32, c: u32, shape: Shape, q: u32, i: u32) -> b
 // Of a word whose granule is in the run at q.
 fn one_in(meta: &mut [u32], n: u32, c: u32, shape: Shape, q: u32, w: u64) -> bool
     requires { ⌜ RunAsks n (now meta) c shape q (w ∷ []) ⌝ }
-    ensures { λ r. ⌜ OneBack r (now (meta .exit)) n (now (meta .entry)) c shape w ⌝ }
+    ensures { λ r. ⌜ OneIn r (now (meta .exit)) n (now (meta .entry)) c shape q w ⌝ }
 {
     let block = block_in(
         shape,

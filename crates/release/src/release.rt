@@ -2,7 +2,7 @@
 ghost use mathlib.Core.Path.{_≡_};
 ghost use mathlib.Core.Bool.{true};
 ghost use mathlib.Core.List.{map};
-ghost use Prim.Native.Nat.{_+_, _/_, _%_, _≤_};
+ghost use Prim.Native.Nat.{_≤_};
 ghost use Rattle.facts.specs.Lists.{every};
 ghost use lib.Dec.{eqb, ltb};
 ghost use lib.ListN.{length};
@@ -12,11 +12,10 @@ ghost use Rattle.pages.specs.Stack.{marks, indexOf, pageAt};
 ghost use Rattle.calls.specs.Out.{startOf};
 ghost use Rattle.calls.specs.Release.{releaseBlocks};
 ghost use Rattle.release.specs.Asks.{ClassAsks, StartAsks, TakeAsks};
-ghost use Rattle.release.specs.Spans.{SpanOf};
-ghost use Rattle.release.specs.Act.{takenBy, RunAsks, MarkedAsks, PassedAsks, ListAsks, Answered, MarkedAll, Attempted, Prepared, Finished};
+ghost use Rattle.release.specs.MarkAsks.{FieldAsks, MarkedAll};
+ghost use Rattle.release.specs.Act.{takenBy, MarkedAsks, PassedAsks, ListAsks, Answered, Attempted, Prepared, Finished};
 use super::Found;
 use super::KEPT_FATE;
-use super::Marked;
 use super::Ready;
 use super::Released;
 use super::blocks::run_of;
@@ -24,12 +23,11 @@ use super::fair::release_fair;
 use super::kinds::all_of_kind;
 use super::marks::clear_marks;
 use super::marks::mark_here;
+use super::marks::marks_of;
 use super::marks::no_marks;
-use super::marks::ready_one;
 use super::marks::take_marks;
 use super::one::release_one;
 use super::park::settle;
-use super::spans::span_of;
 use super::tests::out_fault;
 use classes::Shape;
 use classes::shape_of;
@@ -72,17 +70,17 @@ fn take_list(meta: &mut [u32], shape: Shape, q: u32, list: &[u64])
     }
 }
 
-// They are, by the words of marks that m stands for, or by the list where they are not marked.
+// They are, by m words of marks, or by the list where they are not marked: a mark of another block of the run is to stay.
 fn take_all(meta: &mut [u32], shape: Shape, q: u32, m: u32, list: &[u64])
     requires { ⌜ TakeAsks (now meta) shape q (now list) ⌝ }
-    requires { ⌜ m % 256 + m / 256 ≤ 128 ⌝ }
+    requires { ⌜ m ≤ 128 ⌝ }
     ensures { λ _. ⌜ now (meta .exit) ≡ takenBy (now (meta .entry)) shape q m (now (list .entry)) ⌝ }
 {
     if m == 0 {
         take_list(meta, shape, q, list);
         return;
     }
-    take_marks(meta, q, m / 256, m % 256);
+    take_marks(meta, q, m);
 }
 
 // 13's last test, and the act; else the marks are cleared.
@@ -103,7 +101,7 @@ fn finish(
         take_all(meta, shape, q, m, list);
         return Released::Fate(settle(meta, n, c, shape, host, q, list));
     }
-    clear_marks(meta, q, m / 256, m % 256);
+    clear_marks(meta, q, m);
     Released::Refused(13)
 }
 
@@ -134,60 +132,36 @@ fn test_list(meta: &mut [u32], n: u32, c: u32, shape: Shape, list: &[u64]) -> Re
     Ready::No(9)
 }
 
-// A list of one block of the run at q, which repeats nothing: no mark is set.
-fn try_one(meta: &[u32], n: u32, c: u32, shape: Shape, q: u32, list: &[u64]) -> Marked
-    requires { ⌜ RunAsks n (now meta) c shape q (now list) ⌝ }
-    requires { ⌜ length (now list) ≡ 1 ⌝ }
-    ensures { λ r. ⌜ Attempted r (now (meta .entry)) n (now (meta .entry)) c shape (now (list .entry)) ⌝ }
+// A list whose words are all blocks out in the run at q, which has no mark: they are marked. Else the book is as it was.
+fn mark_all(meta: &mut [u32], shape: Shape, q: u32, list: &[u64]) -> bool
+    requires { ⌜ FieldAsks (now meta) shape q ⌝ }
+    ensures { λ r. ⌜ MarkedAll r (now (meta .exit)) (now (meta .entry)) shape q (now (list .entry)) ⌝ }
 {
-    if ready_one(meta, shape, q, list[0]) {
-        return Marked::Run(q, 0);
-    }
-    Marked::Not
-}
-
-// A list whose words are all blocks out in the run at q: they are marked, in words of marks that m stands for, all 0 before. Else the book
-// is as it was.
-fn mark_all(meta: &mut [u32], n: u32, c: u32, shape: Shape, q: u32, m: u32, list: &[u64]) -> bool
-    requires { ⌜ RunAsks n (now meta) c shape q (now list) ⌝ }
-    requires { ⌜ SpanOf m shape q (now list) ⌝ }
-    ensures { λ r. ⌜ MarkedAll r (now (meta .exit)) n (now (meta .entry)) c shape q m (now (list .entry)) ⌝ }
-{
-    if no_marks(meta, q, m / 256, m % 256) {
+    let m = marks_of(shape);
+    if no_marks(meta, q, m) {
         let count = mark_here(meta, shape, q, list);
         if count == list.len() {
             return true;
         }
-        clear_marks(meta, q, m / 256, m % 256);
+        clear_marks(meta, q, m);
         return false;
     }
     false
 }
 
-fn try_run(meta: &mut [u32], n: u32, c: u32, shape: Shape, q: u32, list: &[u64]) -> Marked
-    requires { ⌜ RunAsks n (now meta) c shape q (now list) ⌝ }
-    ensures { λ r. ⌜ Attempted r (now (meta .exit)) n (now (meta .entry)) c shape (now (list .entry)) ⌝ }
-{
-    let m = span_of(shape, q, list);
-    if mark_all(meta, n, c, shape, q, m, list) {
-        return Marked::Run(q, m);
-    }
-    Marked::Not
-}
-
-// In as few passes as there can be, where all words are blocks of the run of the first. Where there is a doubt the book is as it was.
-fn try_list(meta: &mut [u32], n: u32, c: u32, shape: Shape, list: &[u64]) -> Marked
+// In as few passes as there can be: the run of the first word, if all words are marked as its blocks. Else the book is as it was.
+fn try_list(meta: &mut [u32], n: u32, c: u32, shape: Shape, list: &[u64]) -> Found
     requires { ⌜ ListAsks n (now meta) c shape (now list) ⌝ }
     ensures { λ r. ⌜ Attempted r (now (meta .exit)) n (now (meta .entry)) c shape (now (list .entry)) ⌝ }
 {
     let run = run_of(meta, n, c, shape, list[0]);
     let Found::At(q) = run else {
-        return Marked::Not;
+        return Found::Nothing;
     };
-    if list.len() == 1 {
-        return try_one(meta, n, c, shape, q, list);
+    if mark_all(meta, shape, q, list) {
+        return Found::At(q);
     }
-    try_run(meta, n, c, shape, q, list)
+    Found::Nothing
 }
 
 fn prepare(meta: &mut [u32], n: u32, c: u32, shape: Shape, list: &[u64]) -> Ready
@@ -195,10 +169,10 @@ fn prepare(meta: &mut [u32], n: u32, c: u32, shape: Shape, list: &[u64]) -> Read
     ensures { λ r. ⌜ Prepared r (now (meta .exit)) n (now (meta .entry)) c shape (now (list .entry)) ⌝ }
 {
     let tried = try_list(meta, n, c, shape, list);
-    let Marked::Run(q, m) = tried else {
+    let Found::At(q) = tried else {
         return test_list(meta, n, c, shape, list);
     };
-    Ready::In(q, m)
+    Ready::In(q, marks_of(shape))
 }
 
 // From number 7 on.

@@ -15,6 +15,7 @@ use Rattle.release.specs.declared.Released.the-variants.{Refused, Fate}
 use Rattle.release.specs.Asks.{ClassAsks}
 use Rattle.release.specs.Act.{Answered}
 use Rattle.release.specs.One.{OneBack}
+use Rattle.release.proofs.OneSteps.{one-left, one-carried}
 use Rattle.trace.specs.Words.{ownerAt, backNow}
 use Rattle.trace.specs.Asks.{BookAsks}
 
@@ -45,11 +46,11 @@ module _ (n : ℕ) (b : List ℕ) (w k : ℕ) (e : k ≡ ownerAt n b w) where
   done z h r b′ a = rw (← e, le-leb 1 k (omega (arith, z)), le-leb k 76 h) a
 
   module _ (z : k ≡ 0 → ⊥) (h : k ≤ 76) (t : Bool) (b′ : List ℕ) (o : OneBack t b′ n b (k - 1) (shapeOf (k - 1)) w) where
-    pub back-one : t ≡ true → Answered (Fate 0) b′ (backNow n b w)
-    back-one x = done z h (Fate 0) b′ (o .done x 15)
+    pub back-one : t ≡ true → BookAsks n b → Answered (Fate 0) b′ (backNow n b w)
+    back-one x a = done z h (Fate 0) b′ (one-carried n b (k - 1) (shapeOf (k - 1)) w t b′ o (back-asks z h a) x 15)
 
     pub rest-asks : t ≡ false → BookAsks n b → ClassAsks n b′ (k - 1) (shapeOf (k - 1))
-    rest-asks x a = rw (o .left x) (back-asks z h a)
+    rest-asks x a = rw (one-left n b (k - 1) (shapeOf (k - 1)) w t b′ o x) (back-asks z h a)
 
     pub back-rest : t ≡ false → (h : ℕ) → h ≡ 15 → (r : Released) (b″ : List ℕ) → Answered r b″ (releaseBlocks n b′ (k - 1) (shapeOf (k - 1)) h (w ∷ [])) → Answered r b″ (backNow n b w)
-    back-rest x g e r b″ a = done z h r b″ (rw (e, o .left x) at a)
+    back-rest x g e r b″ a = done z h r b″ (rw (e, one-left n b (k - 1) (shapeOf (k - 1)) w t b′ o x) at a)

@@ -1,20 +1,17 @@
 use borrow.Author.Needs.{needs}
 use Prim.Native.Nat.{_-_}
-use Rattle.release.proofs.MarkWords.{ClearInv, word-fits, word-there, clear-starts, clear-goes-on, clear-ends}
+use Rattle.release.proofs.MarkWords.{ClearInv, word-there, clear-starts, clear-goes-on, clear-ends}
 use Rattle.release.proofs.marks.clear_marks.Statement.{statement}
 use Rattle.release.proofs.marks.clear_marks.Tie as tie
 
 abbrev Inv-loop : tie.InvT-loop
-Inv-loop meta₀ q i m j₀ meta j = ClearInv meta₀ q i m meta j
+Inv-loop meta₀ q m j₀ meta j = ClearInv meta₀ q m meta j
 
 abbrev μ-loop : tie.MeasureT-loop
-μ-loop meta₀ q i m j₀ meta j = m - j
+μ-loop meta₀ q m j₀ meta j = m - j
 
 loop-holds : tie.Need-loop-holds Inv-loop μ-loop
 loop-holds c = search clear-starts
-
-add-set-word : tie.Need-add-set-word Inv-loop μ-loop
-add-set-word c = search word-fits
 
 set-word-requires : tie.Need-set-word-requires Inv-loop μ-loop
 set-word-requires c κs = search word-there
@@ -37,4 +34,4 @@ returns c = search clear-ends
 pub clear-marks-spec : {M : Type 1} → statement M
 clear-marks-spec =
     tie.close
-    (tie.spec Inv-loop μ-loop loop-holds add-set-word set-word-requires add-j loop-less loop-again same-length returns)
+    (tie.spec Inv-loop μ-loop loop-holds set-word-requires add-j loop-less loop-again same-length returns)

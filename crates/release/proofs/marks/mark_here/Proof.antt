@@ -1,4 +1,3 @@
-use Rattle.release.proofs.MarkSteps.{few-all}
 use borrow.Author.Needs.{needs}
 use Rattle.release.proofs.marks.mark_here.Statement.{statement}
 use Rattle.release.proofs.marks.mark_here.Tie as tie
@@ -7,4 +6,4 @@ pub mark-here-spec : {M : Type 1} → statement M
 mark-here-spec =
     tie.close
     (tie.spec
-    (λ c κs. search needs) (λ c. search needs) (λ c κs. search needs) (λ c. search needs) (λ c. search few-all) (λ c κs. search needs) (λ c. search needs) (λ c. search needs))
+    (λ c κs. search needs) (λ c. search needs) (λ c κs. search needs) (λ c. search needs) (λ c. search needs))

@@ -1,20 +1,17 @@
 use borrow.Author.Needs.{needs}
 use Prim.Native.Nat.{_-_}
-use Rattle.release.proofs.MarkWords.{TakeInv, word-fits, word-there, take-starts, take-goes-on, take-ends}
+use Rattle.release.proofs.MarkWords.{TakeInv, word-there, take-starts, take-goes-on, take-ends}
 use Rattle.release.proofs.marks.take_marks.Statement.{statement}
 use Rattle.release.proofs.marks.take_marks.Tie as tie
 
 abbrev Inv-loop : tie.InvT-loop
-Inv-loop meta₀ q i m j₀ meta j = TakeInv meta₀ q i m meta j
+Inv-loop meta₀ q m j₀ meta j = TakeInv meta₀ q m meta j
 
 abbrev μ-loop : tie.MeasureT-loop
-μ-loop meta₀ q i m j₀ meta j = m - j
+μ-loop meta₀ q m j₀ meta j = m - j
 
 loop-holds : tie.Need-loop-holds Inv-loop μ-loop
 loop-holds c = search take-starts
-
-add-take-word : tie.Need-add-take-word Inv-loop μ-loop
-add-take-word c = search word-fits
 
 take-word-requires : tie.Need-take-word-requires Inv-loop μ-loop
 take-word-requires c κs = search word-there
@@ -37,4 +34,4 @@ returns c = search take-ends
 pub take-marks-spec : {M : Type 1} → statement M
 take-marks-spec =
     tie.close
-    (tie.spec Inv-loop μ-loop loop-holds add-take-word take-word-requires add-j loop-less loop-again same-length returns)
+    (tie.spec Inv-loop μ-loop loop-holds take-word-requires add-j loop-less loop-again same-length returns)

@@ -7,4 +7,4 @@ pub prepare-spec : {M : Type 1} → statement M
 prepare-spec =
     tie.close
     (tie.spec
-    (λ c κs. search needs) (λ c. search needs) (λ c. search needs) (λ c κs. search test-asks) (λ c. search needs) (λ c. search tested) (λ c. search needs) (λ c. search ready-at-once))
+    (λ c κs. search needs) (λ c. search needs) (λ c. search needs) (λ c κs. search test-asks) (λ c. search needs) (λ c. search tested) (λ c κs. search needs) (λ c. search needs) (λ c. search ready-at-once))
