@@ -60,7 +60,7 @@ module _ (n : ℕ) (b : List ℕ) (c : ℕ) (sh : Shape) (m g q : ℕ) (e : q �
   not-run h = rw (← e, ← k, h)
 
   module _ (h : t ≡ true) where
-    pub marks-there : ReadyAsks n b c sh m → ClearAsks b q (m + 0)
+    pub marks-there : ReadyAsks n b c sh m → ClearAsks b q m
     marks-there a =
         let z = within-arena n c sh (a .class .sound) q b (sym k ∙ h) in
         record { few = omega (arith, a .few); there = omega (arith, a .class .sound .paged, a .class .long) }
@@ -88,7 +88,7 @@ module _ (f : List ℕ → ℕ → List ℕ) (b₀ gs : List ℕ) where
 pub sweep-fits : (n : ℕ) (b : List ℕ) (m : ℕ) (gs : List ℕ) (i : ℕ) → SweepAsks n b m gs → i < length gs → pageOf (getD gs i 0) < 2 ^ 32
 sweep-fits n b m gs i a l = omega (arith, a .pages .few, ltb-true (pageOf (getD gs i 0)) n (every-get (λ g. ltb (pageOf g) n) gs i (a .pages .below) l))
 
-pub sweep-asks : (n : ℕ) (b b′ : List ℕ) (m : ℕ) (gs : List ℕ) (i q : ℕ) → SweepAsks n b m gs → length b′ ≡ length b → i < length gs → q ≡ pageOf (getD gs i 0) → ClearAsks b′ q (m + 0)
+pub sweep-asks : (n : ℕ) (b b′ : List ℕ) (m : ℕ) (gs : List ℕ) (i q : ℕ) → SweepAsks n b m gs → length b′ ≡ length b → i < length gs → q ≡ pageOf (getD gs i 0) → ClearAsks b′ q m
 sweep-asks n b b′ m gs i q a k l e =
     record { few = omega (arith, a .few); there = omega (arith, e, a .pages .long, ltb-true (pageOf (getD gs i 0)) n (every-get (λ g. ltb (pageOf g) n) gs i (a .pages .below) l)) }
 

@@ -19,13 +19,14 @@ use Rattle.words.specs.Word.{pageOf}
 use Rattle.classes.specs.declared.Shape.{Shape}
 use Rattle.classes.specs.Sound.{Sound}
 use Rattle.fields.specs.Field.{mark, out, get, put, words}
+use Rattle.fields.specs.Clear.{clearMarks}
 use Rattle.fields.proofs.Changes.{Changes, changes-none, changes-trans}
 use Rattle.fields.proofs.Laws.{length-put}
 use Rattle.model.specs.Release.{ofKind}
 use Rattle.pages.specs.Runs.{whole}
 use Rattle.pages.specs.Stack.{indexOf, isBlock, pageAt}
 use Rattle.calls.specs.Out.{startOf, outAt, outs, clean, unmarked}
-use Rattle.release.specs.Marks.{markAt, setMark, freshAt, markedIn, markCount, freshIn, freshCount, freshBook, noMarks, clearWords, takeMarks}
+use Rattle.release.specs.Marks.{markAt, setMark, freshAt, markedIn, markCount, freshIn, freshCount, freshBook, noMarks, takeMarks}
 use Rattle.release.proofs.Bits.{below-capacity, whole-kept}
 use Rattle.release.proofs.RunLaws.{not-before, not-behind, run-out, run-start}
 use Rattle.release.proofs.OutLaws.{block-of-out}
@@ -208,7 +209,7 @@ module _ (sh : Shape) (s : Sound sh) (one : sh .pages ≡ 1) where
         (λ d. let z = eqb-true q (pageOf g) d in rw (← z) (ap (λ d. clearPages d m gs) (clear-past b q m j v h few)))
         (λ d.
         ap (λ d. clearPages d m gs) (clear-away b (pageOf g) m q j v (apart q g d) few (omega arith))
-        ∙ clears-one q j v h gs (rw d at e) (clearWords b (pageOf g) m))
+        ∙ clears-one q j v h gs (rw d at e) (clearMarks b (pageOf g) m))
 
     -- ---- pages without a mark
     module _ (n c : ℕ) where

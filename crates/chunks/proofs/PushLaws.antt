@@ -4,9 +4,6 @@
 use Prim.Native.Nat.{ℕ, zero, suc, _+_, _-_, _^_, _≤_, _<_}
 use native.Mathlib.Omega.{arith}
 use native.Mathlib.Numerals.{add-one}
-use native.Mathlib.Nat.{div-le-self}
-use mir.Val.{Fits}
-use mir.Syntax.{w32}
 use mathlib.Core.Bool.{true, false}
 use mathlib.Core.List.{List, [], _∷_}
 use mathlib.Core.Path.{_≡_, refl, sym, ap, _∙_}
@@ -16,22 +13,18 @@ use lib.Seq.{drop-cons, drop-length}
 use borrow.Author.Tests.{lt-ltb, ltb-true, le-leb, eqb-true, eq-eqb}
 use Rattle.facts.proofs.Bools.{by-cases, and-left, and-right}
 use Rattle.facts.proofs.Lists.{drop-past, every-get}
-use Rattle.words.specs.Word.{granuleOf}
 use Rattle.classes.specs.declared.Shape.{Shape}
 use Rattle.fields.specs.Field.{page, slot, out, free, words, get, put, Has}
 use Rattle.fields.proofs.Laws.{get-put-same, get-put-other, length-put}
 use Rattle.pages.specs.Asks.{IndexAsks}
 use Rattle.fields.specs.Ranges.{maxPages}
-use Rattle.pages.specs.Stack.{blocksFrom, indexOf, isBlock, pageAt}
+use Rattle.pages.specs.Stack.{indexOf, isBlock, pageAt}
 use Rattle.chunks.specs.CallAsks.{hasBit, BitsAsks}
 use Rattle.chunks.specs.Pass.{cleared, pushOne, pushAll}
-use Rattle.chunks.specs.PushAsks.{ownBlock, PushOneAsks, PushAllAsks}
+use Rattle.chunks.specs.PushAsks.{ownBlock, PushAllAsks}
 use Rattle.tally.specs.Match.{wordsOn}
 
 -- ---- one block
-pub one-page : (b : List ℕ) (sh : Shape) (w : ℕ) → PushOneAsks b sh w → pageAt w < 2 ^ 32
-one-page b sh w a = omega (arith, a .below)
-
 pub one-length : (b : List ℕ) (q i : ℕ) → length (pushOne b q i) ≡ length b
 unfolding pushOne
 one-length b q i = simp length-put
@@ -50,32 +43,6 @@ module _ (b : List ℕ) (q i : ℕ) (low : get b (page free q) < 4096) where
   one-other p d =
       get-put-other (put b (slot q (get b (page free q))) i) (page free q) (page free p) (get b (page free q) + 1) refl refl d
       ∙ get-put-other b (slot q (get b (page free q))) (page free p) i lower refl refl
-
-module _ (b : List ℕ) (sh : Shape) (w q t : ℕ) (k : q ≡ pageAt w) (j : t ≡ get b (page free q)) where
-  module _ (a : PushOneAsks b sh w) where
-    -- a page has no more granules
-    pub one-index : IndexAsks sh q w
-    unfolding indexOf
-    one-index =
-        let z : granuleOf w - blocksFrom sh q < 4096 = omega (arith, k) in
-        record { sound = a .sound; below = rw k (a .below); bit = lt-ltb (indexOf sh q w) 4096 (omega (arith, z, div-le-self (granuleOf w - blocksFrom sh q) (sh .block))) }
-
-    below : t < 4096
-    below = rw (← k, ← j) at (a .slot)
-
-    pub slot-there : Has b (slot q t)
-    slot-there = omega (arith, below, rw (← k) at (a .there))
-
-    pub next-fits : Fits w32 (t + 1)
-    next-fits = record { fits = omega (arith, below) }
-
-  pub one-block : ownBlock sh w ≡ true → isBlock sh q w ≡ true
-  unfolding ownBlock
-  one-block o = rw k o
-
-  pub one-done : (i : ℕ) (b₁ b₂ : List ℕ) → i ≡ indexOf sh q w → b₁ ≡ put b (slot q t) i → b₂ ≡ put b₁ (page free q) (t + 1) → b₂ ≡ pushOne b (pageAt w) (indexOf sh (pageAt w) w)
-  unfolding pushOne
-  one-done i b₁ b₂ e e₁ e₂ = rw (e₂, e₁, e, j, k)
 
 -- ---- a list
 pub push-length : (b : List ℕ) (sh : Shape) (ws : List ℕ) → length (pushAll b sh ws) ≡ length b

@@ -9,9 +9,10 @@ use mathlib.Core.Bool.{Bool, cond, _&&_}
 use mathlib.Core.List.{List, [], _∷_}
 use Rattle.words.specs.Word.{pageOf}
 use Rattle.classes.specs.declared.Shape.{Shape}
+use Rattle.fields.specs.Clear.{clearMarks}
 use Rattle.pages.specs.Runs.{whole}
 use Rattle.pages.specs.Stack.{pageAt}
-use Rattle.release.specs.Marks.{markedIn, freshIn, noMarks, clearWords, takeMarks}
+use Rattle.release.specs.Marks.{markedIn, freshIn, noMarks, takeMarks}
 
 unfoldable pub pageReady : ℕ → List ℕ → ℕ → Shape → ℕ → ℕ → Bool
 pageReady n b c sh m g = whole n b sh c (pageOf g) && noMarks b (pageOf g) m
@@ -33,4 +34,4 @@ abbrev pub takePages : List ℕ → ℕ → List ℕ → List ℕ
 takePages b m gs = sweep (λ d q. takeMarks d q m) b gs
 
 abbrev pub clearPages : List ℕ → ℕ → List ℕ → List ℕ
-clearPages b m gs = sweep (λ d q. clearWords d q m) b gs
+clearPages b m gs = sweep (λ d q. clearMarks d q m) b gs

@@ -39,11 +39,11 @@ module _ (b : List ℕ) (sh : Shape) (q w : ℕ) where
       record { answer = sym o; left = rw o }
 
   module _ (f : Found) (i : ℕ) (e : f ≡ blockIn sh q w) (h : f ≡ At i) where
-    here : ((ofKind (sh .kind) w && isBlock sh q w) ≡ true) × (i ≡ indexOf sh q w)
-    here = found-at (ofKind (sh .kind) w && isBlock sh q w) (indexOf sh q w) i (sym h ∙ e)
+    pub block-here : ((ofKind (sh .kind) w && isBlock sh q w) ≡ true) × (i ≡ indexOf sh q w)
+    block-here = found-at (ofKind (sh .kind) w && isBlock sh q w) (indexOf sh q w) i (sym h ∙ e)
 
     index-low : Sound sh → i < 4096
-    index-low s = omega (arith, below-capacity sh q w (and-right (ofKind (sh .kind) w) _ (here .0)), here .1, s .few)
+    index-low s = omega (arith, below-capacity sh q w (and-right (ofKind (sh .kind) w) _ (block-here .0)), block-here .1, s .few)
 
     pub has-mark : Sound sh → words (q + 1) ≤ length b → Has b (mark q (i / 32))
     has-mark s l = omega (arith, index-low s)
@@ -51,8 +51,8 @@ module _ (b : List ℕ) (sh : Shape) (q w : ℕ) where
     pub a-block : (r : Bool) (b′ : List ℕ) → MarkedBlock r b′ b q i → MarkedOne r b′ b sh q w
     unfolding markedIn
     a-block r b′ m =
-        let z : freshIn b sh q w ≡ freshAt b q i = fresh-in ∙ rw (here .0) (ap (freshAt b q) (sym (here .1))) in
-        record { answer = m .answer ∙ sym z; left = rw z (m .left ∙ ap (λ d. cond (freshAt b q i) d b) (ap (setMark b q) (here .1))) }
+        let z : freshIn b sh q w ≡ freshAt b q i = fresh-in ∙ rw (block-here .0) (ap (freshAt b q) (sym (block-here .1))) in
+        record { answer = m .answer ∙ sym z; left = rw z (m .left ∙ ap (λ d. cond (freshAt b q i) d b) (ap (setMark b q) (block-here .1))) }
 
 -- ---- the loop
 pub span-fits : (sh : Shape) → Sound sh → Fits w32 (sh .capacity * sh .block)

@@ -9,7 +9,8 @@ use lib.Bits.{bitOr}
 use lib.Dec.{eqb}
 use lib.ListN.{length}
 use Rattle.fields.specs.Field.{mark, get, put, Has}
-use Rattle.release.specs.Marks.{noMarks, clearWords, takeWord, takeMarks}
+use Rattle.fields.specs.Clear.{clearMarks}
+use Rattle.release.specs.Marks.{noMarks, takeWord, takeMarks}
 use Rattle.pages.specs.Asks.{ClearAsks}
 use Rattle.release.proofs.RunSteps.{or-none}
 
@@ -36,7 +37,7 @@ module _ (b : List ℕ) (q m : ℕ) where
 pub record ClearInv (b : List ℕ) (q m : ℕ) (b′ : List ℕ) (j : ℕ) : Type 0 where
   pub within : j ≤ m
   pub long : length b′ ≡ length b
-  pub left : b′ ≡ clearWords b q j
+  pub left : b′ ≡ clearMarks b q j
 
 pub record TakeInv (b : List ℕ) (q m : ℕ) (b′ : List ℕ) (j : ℕ) : Type 0 where
   pub within : j ≤ m
@@ -45,15 +46,15 @@ pub record TakeInv (b : List ℕ) (q m : ℕ) (b′ : List ℕ) (j : ℕ) : Type
 
 module _ (b : List ℕ) (q m : ℕ) where
   pub clear-starts : ClearInv b q m b 0
-  unfolding clearWords
+  unfolding clearMarks
   clear-starts = record { within = omega arith; long = refl; left = refl }
 
   pub clear-goes-on : (b′ b″ : List ℕ) (j : ℕ) → ClearInv b q m b′ j → j < m → b″ ≡ put b′ (mark q j) 0 → length b″ ≡ length b′ → ClearInv b q m b″ (j + 1)
-  unfolding clearWords
+  unfolding clearMarks
   clear-goes-on b′ b″ j v l e k = record { within = omega arith; long = k ∙ v .long; left = rw (add-one j) (e ∙ ap (λ d. put d (mark q j) 0) (v .left)) }
 
-  pub clear-ends : (b′ : List ℕ) (j : ℕ) → ClearInv b q m b′ j → m ≤ j → b′ ≡ clearWords b q m
-  clear-ends b′ j v l = let z : j ≡ m = omega (arith, v .within) in v .left ∙ ap (clearWords b q) z
+  pub clear-ends : (b′ : List ℕ) (j : ℕ) → ClearInv b q m b′ j → m ≤ j → b′ ≡ clearMarks b q m
+  clear-ends b′ j v l = let z : j ≡ m = omega (arith, v .within) in v .left ∙ ap (clearMarks b q) z
 
   pub take-starts : TakeInv b q m b 0
   unfolding takeMarks

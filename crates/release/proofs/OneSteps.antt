@@ -33,6 +33,7 @@ use Rattle.release.specs.One.{readyAt, staysFair, backReady, oneIn, oneR
 use Rattle.release.proofs.Bits.{isBit, out-in, below-capacity}
 use Rattle.release.proofs.BlockSteps.{none-found, found-at}
 use Rattle.release.proofs.FairSteps.{page-room, page-carved, head-low, above-arena, no-page, no-row, spot-last}
+use Rattle.release.proofs.MarkSteps.{block-here}
 use Rattle.release.proofs.BackSteps.{onStack, free-now, push-changes, fair-low, fair-row, fair-page}
 use Rattle.release.proofs.ReleaseSteps.{only-one, finished, run-asks, not-marked-at}
 use Rattle.release.proofs.RunLaws.{within-arena, run-out}
@@ -177,14 +178,11 @@ module _ (n : ℕ) (b : List ℕ) (c : ℕ) (sh : Shape) (q w : ℕ) where
     one-no-block h = let z = none-found (ofKind (sh .kind) w && isBlock sh q w) (indexOf sh q w) (sym h ∙ e) in record { answer = rw z; left = rw z }
 
     module _ (i : ℕ) (h : f ≡ At i) where
-      here : ((ofKind (sh .kind) w && isBlock sh q w) ≡ true) × (i ≡ indexOf sh q w)
-      here = found-at (ofKind (sh .kind) w && isBlock sh q w) (indexOf sh q w) i (sym h ∙ e)
-
       pub one-back-asks : RunAsks n b c sh q (w ∷ []) → BackAsks n b c sh q i
-      one-back-asks a = block-asks a i (and-right (ofKind (sh .kind) w) _ (here .0)) (here .1)
+      one-back-asks a = let y = block-here b sh q w f i e h in block-asks a i (and-right (ofKind (sh .kind) w) _ (y .0)) (y .1)
 
       pub one-back : (r : Bool) (b′ : List ℕ) → BackOne r b′ n b c sh q i → OneIn r b′ n b c sh q w
-      one-back r b′ o = record { answer = rw (here .0, ← (here .1)) (o .answer); left = rw (here .0, ← (here .1)) (o .left) }
+      one-back r b′ o = let y = block-here b sh q w f i e h in record { answer = rw (y .0, ← (y .1)) (o .answer); left = rw (y .0, ← (y .1)) (o .left) }
 
   -- ---- what it comes to: the release of a list of one
   module _ (a : RunAsks n b c sh q (w ∷ [])) (u : oneIn n b c sh q w ≡ true) where

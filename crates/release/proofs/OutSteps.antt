@@ -23,13 +23,13 @@ use Rattle.release.specs.declared.Out.{Out}
 use Rattle.release.specs.declared.Out.the-variants.{Block, Nowhere}
 use Rattle.release.specs.Asks.{ClassAsks}
 use Rattle.release.specs.Blocks.{blockAt, runAt, outAs, findOut}
-use Rattle.release.specs.Marks.{markAt, isMarkedIn, markedIn, isMarked, marked, markCount, markBook, clearBook, cleanAt}
+use Rattle.release.specs.Marks.{isMarkedIn, markedIn, isMarked, marked, markCount, markBook, clearBook, cleanAt}
 use Rattle.release.specs.MarkAsks.{MarkedBlock, MarkedList}
 use Rattle.release.proofs.Bits.{out-in, below-capacity}
 use Rattle.release.proofs.BlockSteps.{none-found, found-at}
 use Rattle.release.proofs.RunSteps.{run-there}
-use Rattle.release.proofs.OutLaws.{index-of-out, start-of-out, in-of-out}
-use Rattle.release.proofs.EverySteps.{EveryInv, every-starts, every-goes-on, every-stops, every-ends}
+use Rattle.release.proofs.OutLaws.{index-of-out, start-of-out}
+use Rattle.release.proofs.EverySteps.{EveryInv, every-goes-on, every-stops, every-ends}
 
 -- ---- the ways out
 module _ (n : ℕ) (b : List ℕ) (c : ℕ) (sh : Shape) (w : ℕ) (f : Found) (e : f ≡ runAt n b sh c w) where

@@ -7,7 +7,7 @@ use native.Mathlib.Omega.{arith}
 use mathlib.Core.Bool.{Bool, true, false, cond}
 use mathlib.Core.List.{List, [], _∷_, map}
 use mathlib.Core.Path.{_≡_, refl, sym, ap, _∙_}
-use lib.Dec.{eqb, ltb, leb}
+use lib.Dec.{eqb, ltb}
 use lib.ListN.{length, getD}
 use borrow.Author.Tests.{eqb-true, le-leb, lt-ltb, ltb-true, eq-eqb, ne-eqb}
 use Rattle.facts.specs.Lists.{isNil, every}
@@ -15,6 +15,8 @@ use Rattle.facts.proofs.Bools.{and-left, and-right}
 use Rattle.classes.specs.declared.Shape.{Shape}
 use Rattle.classes.specs.Sound.{Sound}
 use Rattle.fields.specs.Field.{arena, class, page, frontier, partial, empty, emptyCount, cold, coldCount, first, next, prev, free, carved, listed, virgin, get, words, Has, hole, emptyLimit, coldLimit}
+use Rattle.fields.specs.Clear.{clearMarks}
+use Rattle.pages.specs.Carve.{outWords}
 use Rattle.fields.proofs.Changes.{Changes}
 use Rattle.model.specs.Release.{ofKind}
 use Rattle.arena.proofs.Frames.{give-kept}
@@ -37,7 +39,7 @@ use Rattle.release.specs.declared.Ready.the-variants.{No, In}
 use Rattle.release.specs.Asks.{ClassAsks, StartAsks, TakeAsks}
 use Rattle.release.specs.Blocks.{runAt}
 use Rattle.release.specs.Fair.{FairAsks}
-use Rattle.release.specs.Marks.{freshCount, freshBook, marksOf, noMarks, allFresh, clearWords, takeMarks}
+use Rattle.release.specs.Marks.{freshCount, freshBook, noMarks, allFresh, takeMarks}
 use Rattle.release.specs.MarkAsks.{FieldAsks, MarkedIn, MarkedAll, FaultAsks, Faulted}
 use Rattle.release.specs.Act.{settleAt, takenBy, tried, answerAs, SettleAsks, ListAsks, RunAsks, MarkedAsks, PassedAsks, Parked, Answered, PreparedAt, Prepared, Attempted, Finished}
 use Rattle.release.proofs.Bits.{isBit, out-in}
@@ -155,7 +157,7 @@ some-listed (w ∷ ws) z = omega arith
 
 pub not-marked-at : (n : ℕ) (b : List ℕ) (c : ℕ) (sh : Shape) (ws : List ℕ) → PassedAsks n b c sh ws → (q : ℕ) → startOf b (firstOf ws) ≡ q → every (λ w. eqb (startOf b w) q) ws ≡ true
     → PreparedAt q 0 b n b c sh ws
-unfolding clearWords
+unfolding clearMarks
 not-marked-at n b c sh ws a q e u = record { passed = a; start = e; alone = u; few = omega arith; long = refl; same = refl; taken = refl; cleared = refl }
 
 module _ (n : ℕ) (b : List ℕ) (c : ℕ) (sh : Shape) (ws : List ℕ) (a : PassedAsks n b c sh ws) where
@@ -304,23 +306,23 @@ only-one (w ∷ []) l = refl
 only-one (w ∷ (v ∷ ws)) l = absurd (omega arith)
 
 -- ---- a list that is marked at once
-marks-few : (sh : Shape) → Sound sh → marksOf sh ≤ 128
+marks-few : (sh : Shape) → Sound sh → outWords sh ≤ 128
 marks-few sh s = omega (arith, s .few)
 
-marks-all-of : (sh : Shape) → sh .capacity ≤ 32 * marksOf sh
+marks-all-of : (sh : Shape) → sh .capacity ≤ 32 * outWords sh
 marks-all-of sh = omega arith
 
-module _ (b : List ℕ) (sh : Shape) (q : ℕ) (ws : List ℕ) (a : FieldAsks b sh q) (m : ℕ) (e : m ≡ marksOf sh) where
+module _ (b : List ℕ) (sh : Shape) (q : ℕ) (ws : List ℕ) (a : FieldAsks b sh q) (m : ℕ) (e : m ≡ outWords sh) where
   pub marks-asks : ClearAsks b q m
   marks-asks = record { few = omega (arith, e, marks-few sh (a .sound)); there = a .there }
 
   module _ (t : Bool) (k : t ≡ noMarks b q m) where
     pub some-set : t ≡ false → MarkedAll false b b sh q ws
     unfolding allFresh
-    some-set x = let z : noMarks b q (marksOf sh) ≡ false = rw (← e) (sym k ∙ x) in record { answer = rw z; left = rw z }
+    some-set x = let z : noMarks b q (outWords sh) ≡ false = rw (← e) (sym k ∙ x) in record { answer = rw z; left = rw z }
 
     module _ (x : t ≡ true) (r : ℕ) (b′ : List ℕ) (s : MarkedIn r b′ b sh q ws 0) where
-      none-set : noMarks b q (marksOf sh) ≡ true
+      none-set : noMarks b q (outWords sh) ≡ true
       none-set = rw (← e) (sym k ∙ x)
 
       pub clear-asks : ClearAsks b′ q m
@@ -332,13 +334,13 @@ module _ (b : List ℕ) (sh : Shape) (q : ℕ) (ws : List ℕ) (a : FieldAsks b 
           let z : eqb (freshCount b sh q ws) (length ws) ≡ true = eq-eqb (freshCount b sh q ws) (length ws) (omega (arith, s .answer)) in
           record { answer = rw (none-set, z); left = rw (none-set, z) (s .left) }
 
-      pub not-all-set : (r ≡ length ws → ⊥) → (b″ : List ℕ) → b″ ≡ clearWords b′ q m → MarkedAll false b″ b sh q ws
+      pub not-all-set : (r ≡ length ws → ⊥) → (b″ : List ℕ) → b″ ≡ clearMarks b′ q m → MarkedAll false b″ b sh q ws
       unfolding allFresh
       not-all-set d b″ l =
           let z : eqb (freshCount b sh q ws) (length ws) ≡ false = ne-eqb (freshCount b sh q ws) (length ws) (λ y. d (omega (arith, s .answer, y))) in
           record {
             answer = rw (none-set, z);
-            left = rw (none-set, z) (l ∙ rw (s .left, e) (clears-run sh (a .sound) q (marksOf sh) (marks-few sh (a .sound)) (marks-all-of sh) b ws none-set));
+            left = rw (none-set, z) (l ∙ rw (s .left, e) (clears-run sh (a .sound) q (outWords sh) (marks-few sh (a .sound)) (marks-all-of sh) b ws none-set));
           }
 
 -- ---- the run of the first word
@@ -352,14 +354,14 @@ module _ (n : ℕ) (b : List ℕ) (c : ℕ) (sh : Shape) (q : ℕ) (ws : List �
   field-asks : FieldAsks b sh q
   field-asks = record { sound = sound; below = omega (arith, below-n, a .class .few); there = omega (arith, below-n, sound .paged, a .class .long) }
 
-  module _ (m : ℕ) (e : m ≡ marksOf sh) (u : allFresh b sh q ws ≡ true) where
+  module _ (m : ℕ) (e : m ≡ outWords sh) (u : allFresh b sh q ws ≡ true) where
     no-marks : noMarks b q m ≡ true
     unfolding allFresh
-    no-marks = rw e (and-left (noMarks b q (marksOf sh)) _ u)
+    no-marks = rw e (and-left (noMarks b q (outWords sh)) _ u)
 
     all-marked : freshCount b sh q ws ≡ length ws
     unfolding allFresh
-    all-marked = eqb-true (freshCount b sh q ws) (length ws) (and-right (noMarks b q (marksOf sh)) _ u)
+    all-marked = eqb-true (freshCount b sh q ws) (length ws) (and-right (noMarks b q (outWords sh)) _ u)
 
     few : m ≤ 128
     few = omega (arith, e, marks-few sh sound)
@@ -423,7 +425,7 @@ module _ (n : ℕ) (b : List ℕ) (c : ℕ) (sh : Shape) (ws : List ℕ) where
     pub tested : f ≡ Nothing → (r : Ready) (b″ : List ℕ) → Prepared r b″ n b′ c sh ws → Prepared r b″ n b c sh ws
     tested e r b″ i = rw (as-it-was e) at i
 
-    pub ready-at-once : (q m : ℕ) → f ≡ At q → m ≡ marksOf sh → ListAsks n b c sh ws → Prepared (In q m) b′ n b c sh ws
+    pub ready-at-once : (q m : ℕ) → f ≡ At q → m ≡ outWords sh → ListAsks n b c sh ws → Prepared (In q m) b′ n b c sh ws
     unfolding Prepared
     ready-at-once q m e k a =
         let z = found-at (tried n b c sh ws) (startOf b (getD ws 0 0)) q (sym e ∙ t .answer) in
@@ -472,6 +474,6 @@ module _ (n : ℕ) (b : List ℕ) (c : ℕ) (sh : Shape) (q m : ℕ) (ws : List 
       unfolding Finished
       marked-taken h r b″ p = record { fair = sym f ∙ x; act = rw e at p }
 
-    pub marked-cleared : t ≡ false → (h : ℕ) (b′ : List ℕ) → b′ ≡ clearWords b q m → Finished (Refused 13) b′ n b c sh h q m ws
+    pub marked-cleared : t ≡ false → (h : ℕ) (b′ : List ℕ) → b′ ≡ clearMarks b q m → Finished (Refused 13) b′ n b c sh h q m ws
     unfolding Finished
     marked-cleared x h b′ e = record { number = refl; unfair = sym f ∙ x; left = e }

@@ -16,6 +16,7 @@ use borrow.Author.Tests.{eqb-true, lt-ltb, eq-eqb, ne-eqb}
 use Rattle.classes.specs.declared.Shape.{Shape}
 use Rattle.classes.specs.Sound.{Sound}
 use Rattle.fields.specs.Field.{mark, out, get, put, words}
+use Rattle.fields.specs.Clear.{clearMarks}
 use Rattle.facts.proofs.Bools.{and-left, and-right}
 use Rattle.fields.proofs.Laws.{length-put, put-comm, put-get}
 use Rattle.fields.proofs.Changes.{Changes, changes-none, changes-trans}
@@ -25,7 +26,7 @@ use Rattle.model.specs.Release.{ofKind}
 use Rattle.pages.specs.Runs.{whole}
 use Rattle.pages.specs.Stack.{marks, indexOf, isBlock}
 use Rattle.calls.specs.Out.{startOf, outIn, outAt, outs, clean, unmarked, repeats}
-use Rattle.release.specs.Marks.{markAt, freshAt, isMarkedIn, markedIn, markCount, freshIn, freshCount, freshBook, outWord, noMarks, clearWords, takeWord, takeMarks}
+use Rattle.release.specs.Marks.{markAt, freshAt, isMarkedIn, markedIn, markCount, freshIn, freshCount, freshBook, outWord, noMarks, takeWord, takeMarks}
 use Rattle.facts.proofs.Lists.{every-same}
 use Rattle.release.proofs.Bits.{out-in, below-capacity, whole-kept, start-kept}
 use Rattle.release.proofs.RunLaws.{low-marks, run-out, run-start}
@@ -64,8 +65,8 @@ none-taken b q zero e = refl
 none-taken b q (suc m) e =
     ap (λ d. takeWord d q m) (none-taken b q m (and-right (eqb (get b (mark q m)) 0) _ e)) ∙ take-same b q m (eqb-true (get b (mark q m)) 0 (and-left _ _ e))
 
-pub none-cleared : (b : List ℕ) (q m : ℕ) → noMarks b q m ≡ true → clearWords b q m ≡ b
-unfolding clearWords
+pub none-cleared : (b : List ℕ) (q m : ℕ) → noMarks b q m ≡ true → clearMarks b q m ≡ b
+unfolding clearMarks
 none-cleared b q zero e = refl
 none-cleared b q (suc m) e =
     ap (λ d. put d (mark q m) 0) (none-cleared b q m (and-right (eqb (get b (mark q m)) 0) _ e)) ∙ clear-same b q m (eqb-true (get b (mark q m)) 0 (and-left _ _ e))
@@ -75,32 +76,32 @@ twice : (b : List ℕ) (q j u v : ℕ) → put (put b (mark q j) u) (mark q j) v
 unfolding put
 twice b q j u v = set-set b (40144 + 4112 * q + j) u v
 
-clear-later : (b : List ℕ) (q m j v : ℕ) → m ≤ j → j < 128 → clearWords (put b (mark q j) v) q m ≡ put (clearWords b q m) (mark q j) v
-unfolding clearWords
+clear-later : (b : List ℕ) (q m j v : ℕ) → m ≤ j → j < 128 → clearMarks (put b (mark q j) v) q m ≡ put (clearMarks b q m) (mark q j) v
+unfolding clearMarks
 clear-later b q zero j v h l = refl
 clear-later b q (suc m) j v h l =
     ap (λ d. put d (mark q m) 0) (clear-later b q m j v (omega arith) l)
-    ∙ put-comm (clearWords b q m) (mark q j) (mark q m) v 0 (lt-ltb j 128 l) (lt-ltb m 128 (omega arith)) (apart j m (λ z. omega arith))
+    ∙ put-comm (clearMarks b q m) (mark q j) (mark q m) v 0 (lt-ltb j 128 l) (lt-ltb m 128 (omega arith)) (apart j m (λ z. omega arith))
   where
     apart : (x y : ℕ) → (x ≡ y → ⊥) → (eqb x y && eqb q q) ≡ false
     apart x y d = rw (ne-eqb x y d)
 
-pub clear-past : (b : List ℕ) (q m j v : ℕ) → j < m → m ≤ 128 → clearWords (put b (mark q j) v) q m ≡ clearWords b q m
-unfolding clearWords
+pub clear-past : (b : List ℕ) (q m j v : ℕ) → j < m → m ≤ 128 → clearMarks (put b (mark q j) v) q m ≡ clearMarks b q m
+unfolding clearMarks
 clear-past b q zero j v h l = absurd (omega arith)
 clear-past b q (suc m) j v h l =
     elim (ℕ-discrete j m) [
-      | yes z ↦ rw z (ap (λ d. put d (mark q m) 0) (clear-later b q m m v (omega arith) (omega arith)) ∙ twice (clearWords b q m) q m v 0)
+      | yes z ↦ rw z (ap (λ d. put d (mark q m) 0) (clear-later b q m m v (omega arith) (omega arith)) ∙ twice (clearMarks b q m) q m v 0)
       | no z ↦ ap (λ d. put d (mark q m) 0) (clear-past b q m j v (omega arith) (omega arith))
     ]
 
 -- a mark of another page
-pub clear-away : (b : List ℕ) (q m p j v : ℕ) → (p ≡ q → ⊥) → m ≤ 128 → j < 128 → clearWords (put b (mark p j) v) q m ≡ put (clearWords b q m) (mark p j) v
-unfolding clearWords
+pub clear-away : (b : List ℕ) (q m p j v : ℕ) → (p ≡ q → ⊥) → m ≤ 128 → j < 128 → clearMarks (put b (mark p j) v) q m ≡ put (clearMarks b q m) (mark p j) v
+unfolding clearMarks
 clear-away b q zero p j v d h l = refl
 clear-away b q (suc m) p j v d h l =
     ap (λ z. put z (mark q m) 0) (clear-away b q m p j v d (omega arith) l)
-    ∙ put-comm (clearWords b q m) (mark p j) (mark q m) v 0 (lt-ltb j 128 l) (lt-ltb m 128 (omega arith)) (rw (ne-eqb p q d) (and-false (eqb j m)))
+    ∙ put-comm (clearMarks b q m) (mark p j) (mark q m) v 0 (lt-ltb j 128 l) (lt-ltb m 128 (omega arith)) (rw (ne-eqb p q d) (and-false (eqb j m)))
 
 module _ (sh : Shape) (s : Sound sh) (q : ℕ) where
   -- ---- a word that is out and not marked
@@ -133,21 +134,21 @@ module _ (sh : Shape) (s : Sound sh) (q : ℕ) where
 
   -- ---- clearing by words
   module _ (m : ℕ) (few : m ≤ 128) (all : sh .capacity ≤ 32 * m) where
-    clear-one : (b : List ℕ) (w : ℕ) → freshIn b sh q w ≡ true → clearWords (markedIn b sh q w) q m ≡ clearWords b q m
+    clear-one : (b : List ℕ) (w : ℕ) → freshIn b sh q w ≡ true → clearMarks (markedIn b sh q w) q m ≡ clearMarks b q m
     unfolding markedIn
     clear-one b w o = clear-past b q m (indexOf sh q w / 32) _ (fresh-word b w o m all) few
 
-    clears-fresh : (b : List ℕ) (ws : List ℕ) → clearWords (freshBook b sh q ws) q m ≡ clearWords b q m
+    clears-fresh : (b : List ℕ) (ws : List ℕ) → clearMarks (freshBook b sh q ws) q m ≡ clearMarks b q m
     unfolding freshBook
     clears-fresh b [] = refl
     clears-fresh b (w ∷ ws) = by (freshIn b sh q w) refl (clears-fresh (markedIn b sh q w) ws)
       where
-        by : (t : Bool) → freshIn b sh q w ≡ t → clearWords (freshBook (markedIn b sh q w) sh q ws) q m ≡ clearWords (markedIn b sh q w) q m
-            → clearWords (freshBook b sh q (w ∷ ws)) q m ≡ clearWords b q m
+        by : (t : Bool) → freshIn b sh q w ≡ t → clearMarks (freshBook (markedIn b sh q w) sh q ws) q m ≡ clearMarks (markedIn b sh q w) q m
+            → clearMarks (freshBook b sh q (w ∷ ws)) q m ≡ clearMarks b q m
         by true o z = rw o (z ∙ clear-one b w o)
         by false o z = rw o
 
-    pub clears-run : (b : List ℕ) (ws : List ℕ) → noMarks b q m ≡ true → clearWords (freshBook b sh q ws) q m ≡ b
+    pub clears-run : (b : List ℕ) (ws : List ℕ) → noMarks b q m ≡ true → clearMarks (freshBook b sh q ws) q m ≡ b
     clears-run b ws e = clears-fresh b ws ∙ none-cleared b q m e
 
   -- ---- nothing but marks is changed

@@ -18,6 +18,7 @@ use Rattle.classes.specs.declared.Shape.{Shape}
 use Rattle.classes.specs.Sound.{Sound}
 use Rattle.fields.specs.Field.{arena, class, page, frontier, coldCount, words, get}
 use Rattle.fields.specs.Ranges.{maxPages, maxParked}
+use Rattle.fields.specs.Clear.{clearMarks}
 use Rattle.model.specs.Page.{isMedium}
 use Rattle.model.specs.Release.{ofKind}
 use Rattle.pages.specs.declared.Park.{Park}
@@ -34,7 +35,7 @@ use Rattle.release.specs.declared.Ready.the-variants.{No, In}
 use Rattle.release.specs.declared.Found.{Found}
 use Rattle.release.specs.Asks.{ClassAsks}
 use Rattle.release.specs.Blocks.{found}
-use Rattle.release.specs.Marks.{freshBook, allFresh, clearWords, takeMarks}
+use Rattle.release.specs.Marks.{freshBook, allFresh, takeMarks}
 use Rattle.pages.specs.Fair.{linksFair}
 
 unfoldable pub settleAt : List ℕ → ℕ → Shape → ℕ → ℕ → List ℕ → Heap.Released
@@ -141,7 +142,7 @@ pub record PreparedAt (q m : ℕ) (b′ : List ℕ) (n : ℕ) (b : List ℕ) (c 
   pub long : length b′ ≡ length b
   pub same : releaseFair n b′ c sh (length ws) q ≡ releaseFair n b c sh (length ws) q
   pub taken : takenBy b′ sh q m ws ≡ marks b q 0 (map (indexOf sh q) ws)
-  pub cleared : clearWords b′ q m ≡ b
+  pub cleared : clearMarks b′ q m ≡ b
 
 unfoldable pub Prepared : Ready → List ℕ → ℕ → List ℕ → ℕ → Shape → List ℕ → Type 0
 Prepared (No k) b′ n b c sh ws = (h : ℕ) → Answered (Refused k) b′ (Heap.releaseBlocks n b c sh h ws)
@@ -163,7 +164,7 @@ pub record TakenTo (f : ℕ) (b′ : List ℕ) (n : ℕ) (b : List ℕ) (c : ℕ
 pub record UnfairTo (k : ℕ) (b′ : List ℕ) (n : ℕ) (b : List ℕ) (c : ℕ) (sh : Shape) (q m : ℕ) (ws : List ℕ) : Type 0 where
   pub number : k ≡ 13
   pub unfair : releaseFair n b c sh (length ws) q ≡ false
-  pub left : b′ ≡ clearWords b q m
+  pub left : b′ ≡ clearMarks b q m
 
 unfoldable pub Finished : Released → List ℕ → ℕ → List ℕ → ℕ → Shape → ℕ → ℕ → ℕ → List ℕ → Type 0
 Finished (Fate f) b′ n b c sh h q m ws = TakenTo f b′ n b c sh h q m ws

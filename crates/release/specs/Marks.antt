@@ -15,6 +15,7 @@ use lib.ListN.{length, getD, set}
 use Rattle.facts.specs.Lists.{every, below}
 use Rattle.classes.specs.declared.Shape.{Shape}
 use Rattle.fields.specs.Field.{bits, out, mark, read, place, get, put}
+use Rattle.pages.specs.Carve.{outWords}
 use Rattle.model.specs.Release.{ofKind}
 use Rattle.pages.specs.Stack.{indexOf, isBlock}
 use Rattle.calls.specs.Out.{startOf, outAt, markOf, clean}
@@ -83,19 +84,12 @@ abbrev pub setBits : List ℕ → ℕ → ℕ → ℕ → ℕ → List ℕ
 setBits b q j s n = put b (mark q j) (place (bits s n) (get b (mark q j)) (2 ^ n - 1))
 
 -- the first m words
-abbrev pub marksOf : Shape → ℕ
-marksOf sh = (sh .capacity + 31) / 32
-
 abbrev pub noMarks : List ℕ → ℕ → ℕ → Bool
 noMarks b q m = every (λ j. eqb (get b (mark q j)) 0) (below m)
 
-unfoldable pub clearWords : List ℕ → ℕ → ℕ → List ℕ
-clearWords b q zero = b
-clearWords b q (suc m) = put (clearWords b q m) (mark q m) 0
-
 -- every listed word is a block of the run that is out, each once, and the run has no mark
 unfoldable pub allFresh : List ℕ → Shape → ℕ → List ℕ → Bool
-allFresh b sh q ws = noMarks b q (marksOf sh) && eqb (freshCount b sh q ws) (length ws)
+allFresh b sh q ws = noMarks b q (outWords sh) && eqb (freshCount b sh q ws) (length ws)
 
 abbrev pub flipWord : List ℕ → ℕ → ℕ → ℕ → List ℕ
 flipWord b q j x = set b (outWord q j) (bitXor (getD b (outWord q j) 0) x)

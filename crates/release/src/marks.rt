@@ -5,8 +5,10 @@ ghost use Prim.Native.Nat.{_+_, _/_, _≤_, _<_, min};
 ghost use lib.ListN.{length};
 ghost use Rattle.classes.specs.Sound.{Sound};
 ghost use Rattle.fields.specs.Field.{mark, Has};
+ghost use Rattle.fields.specs.Clear.{clearMarks};
+ghost use Rattle.pages.specs.Carve.{outWords};
 ghost use Rattle.pages.specs.Asks.{ClearAsks};
-ghost use Rattle.release.specs.Marks.{marksOf, noMarks, clearWords, flipWord, takeWord, takeMarks};
+ghost use Rattle.release.specs.Marks.{noMarks, flipWord, takeWord, takeMarks};
 ghost use Rattle.release.specs.MarkAsks.{FieldAsks, Near, MarkedBits, MarkedBlock, MarkedOne, MarkedIn, MarkedTo, Stretched, Reaches, Alone};
 use super::Found;
 use super::blocks::behind;
@@ -269,7 +271,7 @@ pub fn mark_here(meta: &mut [u32], shape: Shape, q: u32, list: &[u64]) -> usize
 // How many words of marks a run of the class has.
 pub fn marks_of(shape: Shape) -> u32
     requires { ⌜ Sound shape ⌝ }
-    ensures { λ r. ⌜ r ≡ marksOf shape ⌝ }
+    ensures { λ r. ⌜ r ≡ outWords shape ⌝ }
 {
     (shape.capacity + 31) / 32
 }
@@ -291,7 +293,7 @@ pub fn no_marks(meta: &[u32], q: u32, m: u32) -> bool
 // They become 0.
 pub fn clear_marks(meta: &mut [u32], q: u32, m: u32)
     requires { ⌜ ClearAsks (now meta) q m ⌝ }
-    ensures { λ _. ⌜ now (meta .exit) ≡ clearWords (now (meta .entry)) q m ⌝ }
+    ensures { λ _. ⌜ now (meta .exit) ≡ clearMarks (now (meta .entry)) q m ⌝ }
 {
     let mut j = 0;
     while j < m {

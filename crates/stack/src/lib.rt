@@ -10,5 +10,6 @@ pub use blocks::has_more;
 pub use blocks::index_of;
 pub use blocks::word_of;
 pub use draw::draw_blocks;
+pub use push::lay_blocks;
 pub use push::push_list;
 pub use single::push_one;

@@ -37,7 +37,7 @@ fn lay_pairs(meta: &mut [u32], shape: Shape, q: u32, x: u32, list: &[u64], n: us
 }
 
 // The list's blocks on a stack of `top`, the list's first on top.
-fn lay_blocks(meta: &mut [u32], shape: Shape, q: u32, top: u32, list: &[u64])
+pub fn lay_blocks(meta: &mut [u32], shape: Shape, q: u32, top: u32, list: &[u64])
     requires { ⌜ LayAsks (now meta) shape q top (now list) ⌝ }
     requires { ⌜ every (isBlock shape q) (now list) ≡ true ⌝ }
     ensures { λ _. ⌜ now (meta .exit) ≡ push (now (meta .entry)) q top (map (indexOf shape q) (now (list .entry))) ⌝ }

@@ -1,13 +1,13 @@
 use Prim.Native.Nat.{_-_}
 use lib.ListN.{length}
-use Rattle.release.specs.Marks.{clearWords}
 use Rattle.chunks.proofs.MarkSteps.{Sweeping, sweep-starts, sweep-fits, sweep-asks, sweep-goes-on, sweep-ends}
 use borrow.Author.Needs.{needs}
+use Rattle.fields.specs.Clear.{clearMarks}
 use Rattle.chunks.proofs.marks.clear_pages.Statement.{statement}
 use Rattle.chunks.proofs.marks.clear_pages.Tie as tie
 
 abbrev Inv-loop : tie.InvT-loop
-Inv-loop meta₀ n m chunks i₀ meta i = Sweeping (λ d q. clearWords d q m) meta₀ chunks meta i
+Inv-loop meta₀ n m chunks i₀ meta i = Sweeping (λ d q. clearMarks d q m) meta₀ chunks meta i
 
 abbrev μ-loop : tie.MeasureT-loop
 μ-loop meta₀ n m chunks i₀ meta i = length chunks - i
