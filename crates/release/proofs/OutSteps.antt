@@ -78,11 +78,11 @@ out-none true q i e = let z : _≡_ {A = ℕ} 0 1 = cc in absurd (omega arith)
 out-none false q i e = refl
 
 module _ (n : ℕ) (b : List ℕ) (c : ℕ) (sh : Shape) (w : ℕ) (f : Out) (e : f ≡ findOut n b c sh w) where
-  not-out : f ≡ Nowhere → outAt n b c sh w ≡ false
+  pub not-out : f ≡ Nowhere → outAt n b c sh w ≡ false
   not-out h = out-none (outAt n b c sh w) (startOf b w) (indexOf sh (startOf b w) w) (sym h ∙ e)
 
   module _ (q i : ℕ) (h : f ≡ Block q i) where
-    is-out : OutHere n b c sh w q i
+    pub is-out : OutHere n b c sh w q i
     is-out = by (outAt n b c sh w) refl (sym h ∙ e)
       where
         by : (t : Bool) → outAt n b c sh w ≡ t → Block q i ≡ outAs t (startOf b w) (indexOf sh (startOf b w) w) → OutHere n b c sh w q i

@@ -8,8 +8,7 @@ mod park;
 mod release;
 mod tests;
 
-pub use blocks::block_at;
-pub use blocks::run_of;
+pub use blocks::find_out;
 pub use fair::limits_at;
 pub use fair::page_fair;
 pub use fair::row_fair;

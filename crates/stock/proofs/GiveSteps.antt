@@ -13,6 +13,7 @@ use Rattle.release.specs.declared.Released.the-variants.{Refused, Fate}
 use Rattle.release.specs.Act.{answerAs, Answered}
 use Rattle.release.specs.Asks.{ClassAsks}
 use Rattle.release.specs.One.{OneBack}
+use Rattle.release.proofs.OneSteps.{one-carried, one-left}
 use Rattle.take.specs.TakePlan.{CallAsks}
 use Rattle.stock.specs.Ends.{Gave}
 
@@ -40,16 +41,20 @@ module _ (z : Heap.Released) (b′ : List ℕ) (a : Released) (h : Answered a b�
   none f e = record { code = told-fate (z .code) (z .fate) f (sym e ∙ h .answer); book = h .left }
 
 module _ (n : ℕ) (b : List ℕ) (c h w : ℕ) (t : Bool) (b₁ : List ℕ) (o : OneBack t b₁ n b c (shapeOf c) w) where
-  pub gave-one : t ≡ true → Gave 0 b₁ (releaseBlocks n b c (shapeOf c) h (w ∷ []))
-  gave-one e = none (releaseBlocks n b c (shapeOf c) h (w ∷ [])) b₁ (Fate 0) (o .done e h) 0 refl
+  pub gave-one : t ≡ true → CallAsks n b c → Gave 0 b₁ (releaseBlocks n b c (shapeOf c) h (w ∷ []))
+  gave-one e a =
+      none (releaseBlocks n b c (shapeOf c) h (w ∷ [])) b₁ (Fate 0) (one-carried n b c (shapeOf c) w t b₁ o (class-asks-of n b c a) e h) 0 refl
 
   module _ (e : t ≡ false) where
+    left : b₁ ≡ b
+    left = one-left n b c (shapeOf c) w t b₁ o e
+
     pub list-asks : CallAsks n b c → ClassAsks n b₁ c (shapeOf c)
-    list-asks a = rw (o .left e) (class-asks-of n b c a)
+    list-asks a = rw left (class-asks-of n b c a)
 
     module _ (r : Released) (b₂ : List ℕ) (a : Answered r b₂ (releaseBlocks n b₁ c (shapeOf c) h (w ∷ []))) where
       answered : Answered r b₂ (releaseBlocks n b c (shapeOf c) h (w ∷ []))
-      answered = rw (o .left e) at a
+      answered = rw left at a
 
       pub gave-refused : (k : ℕ) → r ≡ Refused k → Gave k b₂ (releaseBlocks n b c (shapeOf c) h (w ∷ []))
       gave-refused = number (releaseBlocks n b c (shapeOf c) h (w ∷ [])) b₂ r answered

@@ -22,11 +22,11 @@ use Rattle.calls.specs.Out.{startOf, inRunOf, outIn, outAt}
 use Rattle.stack.proofs.InverseLaws.{product-fits, quotient-fits, divides, behind-point, past-point, narrow}
 use Rattle.release.specs.declared.Found.{Found}
 use Rattle.release.specs.declared.Found.the-variants.{At, Nothing}
-use Rattle.release.specs.Asks.{InAsks}
-use Rattle.release.specs.Blocks.{blockAt, runAt}
-use Rattle.release.proofs.BlockSteps.{none-found, found-at, found-block, has-bit}
-use Rattle.release.proofs.RunSteps.{run-there}
-use Rattle.take.specs.TakePlan.{CallAsks}
+use Rattle.release.specs.declared.Out.{Out}
+use Rattle.release.specs.declared.Out.the-variants.{Block, Nowhere}
+use Rattle.release.specs.Blocks.{blockAt, findOut}
+use Rattle.release.proofs.BlockSteps.{none-found, found-block, has-bit}
+use Rattle.release.proofs.OutSteps.{not-out, is-out}
 use Rattle.stock.specs.Asks.{PageAsks, SmallAsks}
 
 -- ---- by the run that has the word's granule
@@ -39,17 +39,13 @@ module _ (b : List ℕ) (sh : Shape) (q w : ℕ) (f : Found) (e : f ≡ blockAt 
   unfolding outIn
   out-bit i h x k = let z = found-block sh q w f i e h in rw (z .0, ← (z .1), k)
 
-module _ (n : ℕ) (b : List ℕ) (c : ℕ) (sh : Shape) (es : sh ≡ shapeOf c) (w : ℕ) (f : Found) (e : f ≡ runAt n b sh c w) where
-  pub out-no-run : f ≡ Nothing → false ≡ outAt n b c (shapeOf c) w
-  unfolding outAt
-  out-no-run h = rw (← es, none-found (inRunOf n b sh c w) (startOf b w) (sym h ∙ e))
+-- ---- by the heap's own look for it
+module _ (n : ℕ) (b : List ℕ) (c : ℕ) (sh : Shape) (es : sh ≡ shapeOf c) (w : ℕ) (f : Out) (e : f ≡ findOut n b c sh w) where
+  pub out-nowhere : f ≡ Nowhere → false ≡ outAt n b c (shapeOf c) w
+  out-nowhere h = rw (← es) (sym (not-out n b c sh w f e h))
 
-  pub out-run : (q : ℕ) (r : Bool) → f ≡ At q → r ≡ outIn b sh q w → r ≡ outAt n b c (shapeOf c) w
-  unfolding outAt
-  out-run q r h k = let z = found-at (inRunOf n b sh c w) (startOf b w) q (sym h ∙ e) in rw (← es, z .0, ← (z .1)) k
-
-  pub run-asks : (q : ℕ) → f ≡ At q → CallAsks n b c → InAsks b sh q
-  run-asks q h a = run-there n b c sh w f e q h (rw es (shape-sound c)) (a .few) (a .long)
+  pub out-block : (q i : ℕ) → f ≡ Block q i → true ≡ outAt n b c (shapeOf c) w
+  out-block q i h = rw (← es) (sym (is-out n b c sh w f e q i h .out))
 
 -- ---- a small class: its runs are one page, its blocks begin behind 3 granules
 module _ (c : ℕ) (h : c < 64) where

@@ -5,29 +5,15 @@ ghost use Rattle.words.specs.Word.{granuleOf};
 ghost use Rattle.classes.specs.Shape.{shapeOf};
 ghost use Rattle.pages.specs.Runs.{whole};
 ghost use Rattle.pages.specs.Stack.{pageAt};
-ghost use Rattle.calls.specs.Out.{outIn, outAt};
-ghost use Rattle.release.specs.Asks.{InAsks};
+ghost use Rattle.calls.specs.Out.{outAt};
 ghost use Rattle.release.specs.Blocks.{blockAt};
 ghost use Rattle.take.specs.TakePlan.{CallAsks};
 ghost use Rattle.stock.specs.Asks.{PageAsks, SmallAsks};
-use classes::Shape;
 use classes::shape_at;
 use pages::page_within;
 use release::Found;
-use release::block_at;
-use release::run_of;
-
-// The block of the run at q that the word is, is out.
-fn out_in(meta: &[u32], shape: Shape, q: u32, w: u64) -> bool
-    requires { ⌜ InAsks (now meta) shape q ⌝ }
-    ensures { λ r. ⌜ r ≡ outIn (now (meta .entry)) shape q w ⌝ }
-{
-    let block = block_at(shape, q, w);
-    let Found::At(i) = block else {
-        return false;
-    };
-    fields::out::bit(meta, q, i) == 1
-}
+use release::Out;
+use release::find_out;
 
 // For any class.
 pub fn out_at(meta: &[u32], n: u32, c: u32, w: u64) -> bool
@@ -35,11 +21,11 @@ pub fn out_at(meta: &[u32], n: u32, c: u32, w: u64) -> bool
     ensures { λ r. ⌜ r ≡ outAt n (now (meta .entry)) c (shapeOf c) w ⌝ }
 {
     let shape = shape_at(c);
-    let run = run_of(meta, n, c, shape, w);
-    let Found::At(q) = run else {
+    let found = find_out(meta, n, c, shape, w);
+    let Out::Block(_, _) = found else {
         return false;
     };
-    out_in(meta, shape, q, w)
+    true
 }
 
 // Page p is a run of the small class.
