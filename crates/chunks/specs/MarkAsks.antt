@@ -69,6 +69,7 @@ pub record TookMarked (r : Bool) (b′ : List ℕ) (n : ℕ) (b : List ℕ) (c :
   pub left : b′ ≡ cond (chunksFair n b c sh gs) (takePages b m gs) (clearPages b m gs)
 
 -- the listed blocks were taken, and no number applies; or nothing was changed
+-- Which lists go unrefused and are yet not taken is free: those of pages with a mark of a block that is not listed. They are taken by the tests, which follow.
 pub record Tried (r : Bool) (b′ : List ℕ) (n : ℕ) (b : List ℕ) (c : ℕ) (sh : Shape) (ws gs : List ℕ) : Type 0 where
   pub passed : r ≡ true → testFault n b c sh ws gs ≡ 0
   pub left : b′ ≡ cond r (cleared b sh ws) b

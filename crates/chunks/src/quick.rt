@@ -6,7 +6,6 @@ use super::marks::mark_words;
 use super::marks::pages_ready;
 use super::marks::take_pages;
 use classes::Shape;
-use release::marks_of;
 use tally::chunks_match;
 
 // All listed blocks are marked: they are taken, or else the marks are.
@@ -55,7 +54,7 @@ fn take_matched(
     requires { ⌜ MatchedAsks n (now meta) c shape (now list) (now chunks) ⌝ }
     ensures { λ r. ⌜ Tried r (now (meta .exit)) n (now (meta .entry)) c shape (now (list .entry)) (now (chunks .entry)) ⌝ }
 {
-    let m = marks_of(shape);
+    let m = (shape.capacity + 31) / 32;
     if pages_ready(meta, n, c, shape, m, chunks) {
         return mark_and_take(meta, n, c, shape, m, list, chunks);
     }

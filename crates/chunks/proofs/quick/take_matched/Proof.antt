@@ -7,4 +7,4 @@ pub take-matched-spec : {M : Type 1} → statement M
 take-matched-spec =
     tie.close
     (tie.spec
-    (λ c κs. search needs) (λ c κs. search ready-asks) (λ c κs. search set-asks) (λ c. search needs) (λ c. search needs) (λ c. search needs) (λ c. search not-tried))
+    (λ c. search needs) (λ c κs. search ready-asks) (λ c κs. search set-asks) (λ c. search needs) (λ c. search needs) (λ c. search needs) (λ c. search not-tried))
