@@ -10,7 +10,7 @@ use mathlib.Core.Path.{_≡_}
 use lib.Dec.{eqb, ltb, leb}
 use lib.ListN.{getD}
 use lib.ListN as ListN
-use Rattle.words.specs.Word.{granuleOf, noneWord}
+use Rattle.words.specs.Word.{noneKind, blockWord, granuleOf}
 use Rattle.classes.specs.Shape.{shapeOf}
 use Rattle.model.specs.Release.{ofKind}
 use Rattle.calls.specs.Out.{outAt}
@@ -40,7 +40,7 @@ abbrev pub blockOut : PoolAnswer → ℕ → ℕ
 blockOut (refused n) old = old
 blockOut (granted w) old = w
 blockOut (trimmed w) old = w
-blockOut noBlock old = noneWord
+blockOut noBlock old = blockWord noneKind 0
 blockOut freed old = old
 blockOut (answered a) old = old
 
