@@ -22,5 +22,6 @@ pub mod Idle
 pub mod Parking
 pub mod ChangePlaces
 pub mod Reorders
+pub mod InOrder
 pub mod Repeats
 pub mod Wide
