@@ -20,3 +20,5 @@ pub mod ChangePlaces
 pub mod Reorders
 pub mod Repeats
 pub mod Wide
+pub mod Pool
+pub mod PoolRefusals
