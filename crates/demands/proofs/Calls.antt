@@ -101,7 +101,7 @@ module _ (n : ℕ) (b : List ℕ) (some-pages : 1 ≤ n) (few-pages : n ≤ maxP
   unfolding callFault
   call-turned h e = rw (no-fault, e)
 
-  class-turned : (h many c : ℕ) → badHost h ≡ true → classFault b h many c ≡ 3
+  pub class-turned : (h many c : ℕ) → badHost h ≡ true → classFault b h many c ≡ 3
   unfolding classFault
   class-turned h many c e = rw (call-turned h e)
 
@@ -124,11 +124,11 @@ module _ (n : ℕ) (b : List ℕ) (some-pages : 1 ≤ n) (few-pages : n ≤ maxP
     unfolding callFault
     call-fits = rw (no-fault, good)
 
-    class-fits : (many c : ℕ) → ltb c many ≡ true → classFault b h many c ≡ 0
+    pub class-fits : (many c : ℕ) → ltb c many ≡ true → classFault b h many c ≡ 0
     unfolding classFault
     class-fits many c e = rw (call-fits, lt-leb many c (ltb-true c many e))
 
-    class-none : (many c : ℕ) → ltb c many ≡ false → classFault b h many c ≡ 4
+    pub class-none : (many c : ℕ) → ltb c many ≡ false → classFault b h many c ≡ 4
     unfolding classFault
     class-none many c e = rw (call-fits, le-leb many c (ltb-false c many e))
 

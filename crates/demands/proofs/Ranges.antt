@@ -30,15 +30,16 @@ use Rattle.calls.specs.Out.{startOf, outs, clean, unmarked}
 use Rattle.calls.specs.Release.{pageFair, rowFair, spotAt, spotFair, releaseFair}
 use Rattle.calls.specs.Chunks.{pagesGiven, chunksFair}
 use Rattle.demands.specs.Ranges.{Link, partialOf, emptyOf, coldOf, nextOf, prevOf, linkField, Use, stateKnown, frontierFits, holesFew, holePagesFew, heldFits, holeEnds, code, visited, emptyFew, emptyTaken, coldFew, coldTaken, ownerIs, firstIs, prevIs, listedFlag, listedYes, listedNo, freeFits, markClear, freeWith, carvedFits, virginFlag, inRange, fits, strays, emptyLimited, coldLimited}
+use Rattle.poolcalls.specs.Calls.{countFair, topFair}
 use Rattle.demands.specs.Number13.{takeFair, Number13}
-use Rattle.demands.specs.Reads.{countReads, recordReads, holeReads, commitReads, giveReads, parkedReads, reportReads, runReads, entryReads, pageReads, walkReads, walkVisits, parkReads, takeReads, takeVisits, supply, yields, yieldAll, barren, markReads, backReads, rowReads, releaseReads, backsReads, chunksReads, besideReads, givenReads, growReads}
+use Rattle.demands.specs.Reads.{countReads, recordReads, holeReads, commitReads, giveReads, parkedReads, reportReads, runReads, entryReads, pageReads, walkReads, walkVisits, parkReads, takeReads, takeVisits, supply, yields, yieldAll, barren, markReads, backReads, rowReads, releaseReads, backsReads, chunksReads, besideReads, givenReads, growReads, stockReads, topReads}
 use Rattle.demands.proofs.RefusalsLaws.{not-and}
 
 -- ---- conjunctions
 
 ruleset sorts = (and-assoc, and-comm, and-swap)
 
-fits-append : (b : List ℕ) (us vs : List Use) → fits b (us ++ vs) ≡ (fits b us && fits b vs)
+pub fits-append : (b : List ℕ) (us vs : List Use) → fits b (us ++ vs) ≡ (fits b us && fits b vs)
 unfolding fits
 fits-append b [] vs = refl
 fits-append b (u ∷ us) vs = ap (λ (t : Bool). inRange b u && t) (fits-append b us vs) ∙ sym (and-assoc (inRange b u) (fits b us) (fits b vs))
@@ -325,6 +326,16 @@ module _ (b : List ℕ) (c : ℕ) (sh : Shape) where
   unfolding takeFair takeReads
   take-ranges = by-cases (leb (get b (arena frontier)) (get b (arena size))) source-ranges (λ e. rw (use-more b c sh frontierFits, e))
 
+-- ---- the pool
+module _ (b : List ℕ) (c : ℕ) where
+  stock-ranges : countFair b c ≡ fits b (stockReads c)
+  unfolding countFair fits stockReads
+  stock-ranges = rw and-true
+
+  top-ranges : topFair (get b (arena size)) b c ≡ fits b (topReads b c)
+  unfolding topFair countFair fits topReads
+  top-ranges = rw and-true
+
 -- ---- the table
 pub number-13 : (b : List ℕ) → Number13 b
 number-13 b = record {
@@ -336,6 +347,8 @@ number-13 b = record {
   marks = marks-ranges b;
   release = release-ranges b;
   chunks = chunks-ranges b;
+  stock = stock-ranges b;
+  top = top-ranges b;
 }
 
 -- ---- for each call: its test fails exactly where a word that it reads is out of its range, or a listed page yields no block
@@ -372,3 +385,7 @@ module _ (b : List ℕ) where
     pub chunks-strays : (gs : List ℕ) → not (chunksFair (get b (arena size)) b c sh gs) ≡ strays b (chunksReads b c sh gs)
     unfolding strays
     chunks-strays gs = ap not (chunks-ranges b c sh gs)
+
+    pub top-strays : not (topFair (get b (arena size)) b c) ≡ strays b (topReads b c)
+    unfolding strays
+    top-strays = ap not (top-ranges b c)

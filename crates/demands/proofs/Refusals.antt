@@ -83,7 +83,7 @@ release-fate (suc k) f old d = refl
 
 -- ---- from a definition to what its function answers and leaves
 module _ {R : Type 0} (code : R → ℕ) (Same : R → Type 0) (rows : List Row) (o : R) (t : Ends code Same rows o) where
-  refuses : (After : Type 0) (r : ℕ) → inOrder checkingOrder rows ≡ true → r ≡ code o → ((code o ≡ 0 → ⊥) → Same o → After) → Refuses rows r After
+  pub refuses : (After : Type 0) (r : ℕ) → inOrder checkingOrder rows ≡ true → r ≡ code o → ((code o ≡ 0 → ⊥) → Same o → After) → Refuses rows r After
   refuses After r u e f = record { order = u; number = e ∙ t .number; kept = λ d. let g : code o ≡ 0 → ⊥ = λ z. d (e ∙ z) in f g (t .kept g) }
 
 -- ---- the functions

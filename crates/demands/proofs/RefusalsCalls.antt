@@ -120,7 +120,7 @@ report-table b fs =
 
 -- ---- takes
 module _ (n : ℕ) (b : List ℕ) (c : ℕ) (sh : Shape) (h : ℕ) (l : List ℕ) where
-  abbrev takeRow : Bool → Took → Type 0
+  abbrev pub takeRow : Bool → Took → Type 0
   takeRow fair t = Ends {R = Took} (λ t. t .code) (λ t. (t .book ≡ b) × (t .list ≡ l)) ((13, not fair) ∷ []) t
 
   partial-row : takeRow (walk n b c sh (sh .batch) (sh .batch) (get b (class partial c)) 0) (fromPartial n b c sh l)
@@ -143,7 +143,7 @@ module _ (n : ℕ) (b : List ℕ) (c : ℕ) (sh : Shape) (h : ℕ) (l : List ℕ
       (λ e. rw e (record { number = run-code _ _; kept = λ d. absurd (d (run-code _ _)) }))
       (λ e. rw e (record { number = refl; kept = λ d. (refl, refl) }))
 
-  take-row : takeRow (takeFair n b c sh) (takeBlocks n b c sh h l)
+  pub take-row : takeRow (takeFair n b c sh) (takeBlocks n b c sh h l)
   unfolding takeFair takeBlocks
   take-row =
       rw (le-not-lt (get b (arena frontier)) n)
@@ -167,7 +167,7 @@ take-table low many b c h l =
     b)
 
 -- ---- releases by list
-last-code : (sh : Shape) (q : ℕ) (r : Back.Released) → lastStep sh q r .code ≡ r .code
+pub last-code : (sh : Shape) (q : ℕ) (r : Back.Released) → lastStep sh q r .code ≡ r .code
 last-code sh q r = same (eqb (r .fate) 2)
   where
     same : (t : Bool) → cond t (record { code = r .code; book = Arena.given (r .book) q (sh .pages); fate = r .fate }) r .code ≡ r .code

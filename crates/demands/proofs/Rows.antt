@@ -26,8 +26,9 @@ use Rattle.calls.specs.Take.{pageReady, sound, walk, parkFair}
 use Rattle.calls.specs.Out.{startOf, outs}
 use Rattle.calls.specs.Release.{pageFair, rowFair, spotAt, spotFair, releaseFair}
 use Rattle.calls.specs.Chunks.{runsGiven, pagesGiven, chunksFair}
-use Rattle.demands.specs.Ranges.{Link, partialOf, emptyOf, coldOf, nextOf, linkField, Use, emptyTaken, coldTaken, listedYes, listedNo, markClear, field, fits}
-use Rattle.demands.specs.Reads.{countReads, recordReads, holeReads, commitReads, giveReads, parkedReads, reportReads, runReads, entryReads, pageReads, supply, walkReads, parkReads, takeReads, markReads, backReads, rowReads, releaseReads, backsReads, chunksReads, besideReads, givenReads, growReads}
+use Rattle.demands.specs.Ranges.{Link, partialOf, emptyOf, coldOf, nextOf, linkField, Use, emptyTaken, coldTaken, listedYes, listedNo, markClear, value, fits}
+use Rattle.demands.specs.Reads.{countReads, recordReads, holeReads, commitReads, giveReads, parkedReads, reportReads, runReads, entryReads, pageReads, supply, walkReads, parkReads, takeReads, markReads, backReads, rowReads, releaseReads, backsReads, chunksReads, besideReads, givenReads, growReads, stockReads, topReads}
+use Rattle.poolcalls.specs.Calls.{countFair, topFair}
 use Rattle.demands.specs.Number13.{takeFair, RowsDecide}
 use Rattle.demands.proofs.Ranges.{wanted, number-13}
 
@@ -42,13 +43,13 @@ all-r P (x ∷ s) t h = all-r P s t (h .1)
 module _ (b b′ : List ℕ) where
   -- the words of these rows are the same
   abbrev Same : List Use → Type 0
-  Same us = All (λ u. get b (field u) ≡ get b′ (field u)) us
+  Same us = All (λ u. value b u ≡ value b′ u) us
 
   left : (us vs : List Use) → Same (us ++ vs) → Same us
-  left us vs h = all-l (λ u. get b (field u) ≡ get b′ (field u)) us vs h
+  left us vs h = all-l (λ u. value b u ≡ value b′ u) us vs h
 
   right : (us vs : List Use) → Same (us ++ vs) → Same vs
-  right us vs h = all-r (λ u. get b (field u) ≡ get b′ (field u)) us vs h
+  right us vs h = all-r (λ u. value b u ≡ value b′ u) us vs h
 
   -- ---- marks
   mark-rows : (p j : ℕ → ℕ) (ws : List ℕ) → Same (map (λ w. markClear (p w) (j w)) ws) → fits b (map (λ w. markClear (p w) (j w)) ws) ≡ fits b′ (map (λ w. markClear (p w) (j w)) ws)
@@ -147,7 +148,7 @@ module _ (b b′ : List ℕ) where
 
     module _ (low : get b (arena frontier) ≡ get b′ (arena frontier)) (c : ℕ) (sh : Shape) where
       page-same : (f : Link) (l : ℕ) (on : Use) (m : ℕ)
-          → field on ≡ page listed (get b (linkField f) - 1)
+          → ((d : List ℕ) → value d on ≡ get d (page listed (get b (linkField f) - 1)))
           → Same (pageReads b c sh f on m)
           → sound n b c sh l m (get b (linkField f) - 1) ≡ sound n b′ c sh l m (get b (linkField f) - 1)
       unfolding sound pageReady headerFair whole hasMore pageReads
@@ -156,7 +157,7 @@ module _ (b b′ : List ℕ) where
           let rs = runReads c q (below (sh .pages)) in
           let es = entryReads q m (get b (page free q)) in
           let t = h .1 .1 .1 .1 .1 in
-          let o : get b (page listed q) ≡ get b′ (page listed q) = rw e at h .1 .0 in
+          let o : get b (page listed q) ≡ get b′ (page listed q) = sym (e b) ∙ h .1 .0 ∙ e b′ in
           rw (run-same c q (below (sh .pages)) (left rs es t), entry-same q m (get b (page free q)) (right rs es t), low, o, h .1 .1 .0, h .1 .1 .1 .0, h .1 .1 .1 .1 .0)
 
       supply-same : (f : Link) (on : Use) (m : ℕ) → Same (pageReads b c sh f on m) → supply b sh (get b (linkField f) - 1) ≡ supply b′ sh (get b (linkField f) - 1)
@@ -181,7 +182,7 @@ module _ (b b′ : List ℕ) where
           let t = (rw e at h) .1 in
           let p = left ps ws (t .1) in
           let r = right ps ws (t .1) in
-          rw (e, wanted b sh q m, wanted b′ sh q m, page-same f 1 (listedYes q) m refl p, walk-same k (m - supply b sh q) (nextOf q) (get b (linkField f)) r, low, t .0, supply-same f (listedYes q) m p, walk-code k (m - supply b sh q) (nextOf q) (get b (linkField f)) r))
+          rw (e, wanted b sh q m, wanted b′ sh q m, page-same f 1 (listedYes q) m (λ d. refl) p, walk-same k (m - supply b sh q) (nextOf q) (get b (linkField f)) r, low, t .0, supply-same f (listedYes q) m p, walk-code k (m - supply b sh q) (nextOf q) (get b (linkField f)) r))
 
       park-code : (f : Link) (count : Use) → Same (parkReads b c sh f count) → get b (linkField f) ≡ get b′ (linkField f)
       unfolding parkReads
@@ -189,14 +190,14 @@ module _ (b b′ : List ℕ) where
 
       park-same : (p : Park) (f : Link) (count : Use)
           → linkField f ≡ class (top p) c
-          → field count ≡ class (stored p) c
+          → ((d : List ℕ) → value d count ≡ get d (class (stored p) c))
           → Same (parkReads b c sh f count)
           → parkFair n b c sh p ≡ parkFair n b′ c sh p
       unfolding parkFair parkReads
       park-same p f count e i h =
           let q = get b (linkField f) - 1 in
-          let k : get b (class (stored p) c) ≡ get b′ (class (stored p) c) = rw i at h .1 .0 in
-          let s = page-same f 0 (listedNo q) (sh .batch) refl (h .1 .1 .1) in
+          let k : get b (class (stored p) c) ≡ get b′ (class (stored p) c) = sym (i b) ∙ h .1 .0 ∙ i b′ in
+          let s = page-same f 0 (listedNo q) (sh .batch) (λ d. refl) (h .1 .1 .1) in
           rw (← e, s, h .1 .1 .0, low, h .0, k)
 
       -- ---- a take: its source
@@ -217,7 +218,7 @@ module _ (b b′ : List ℕ) where
           (λ e.
           let w = (rw e at h) .1 in
           let e′ : not (eqb (get b′ (class empty c)) 0) ≡ true = rw (park-code (emptyOf c) (emptyTaken c) w) at e in
-          rw (e, e′, park-same Empty (emptyOf c) (emptyTaken c) refl refl w, low))
+          rw (e, e′, park-same Empty (emptyOf c) (emptyTaken c) refl (λ d. refl) w, low))
           (λ e.
           let h = (rw e at h) .1 in
           let e′ : not (eqb (get b′ (class empty c)) 0) ≡ false = rw (h .0) at e in
@@ -226,7 +227,7 @@ module _ (b b′ : List ℕ) where
           (λ e.
           let w = (rw e at h) .1 in
           let e′ : not (eqb (get b′ (class cold c)) 0) ≡ true = rw (park-code (coldOf c) (coldTaken c) w) at e in
-          rw (e, e′, park-same Cold (coldOf c) (coldTaken c) refl refl w, low))
+          rw (e, e′, park-same Cold (coldOf c) (coldTaken c) refl (λ d. refl) w, low))
           (λ e.
           let h = (rw e at h) .1 in
           let e′ : not (eqb (get b′ (class cold c)) 0) ≡ false = rw (h .0) at e in
@@ -331,6 +332,14 @@ module _ (b b′ : List ℕ) where
   unfolding chunksReads
   chunks-low c sh gs h = h .0
 
+  stock-same : (c : ℕ) → Same b b′ (stockReads c) → countFair b c ≡ countFair b′ c
+  unfolding stockReads countFair
+  stock-same c h = rw (h .0)
+
+  top-same : (c : ℕ) → get b (arena size) ≡ get b′ (arena size) → Same b b′ (topReads b c) → topFair (get b (arena size)) b c ≡ topFair (get b′ (arena size)) b′ c
+  unfolding topReads topFair countFair
+  top-same c e h = let r = h .1 in rw (r .0, h .0, e)
+
   pub rows-decide : RowsDecide b b′
   rows-decide =
       let n = get b′ (arena size) in
@@ -343,4 +352,6 @@ module _ (b b′ : List ℕ) where
         marks = λ c sh ws e h. number-13 b .marks c sh ws ∙ mark-same b b′ c sh ws (h .1) ∙ ap (fits b′) e ∙ sym (number-13 b′ .marks c sh ws);
         release = λ c sh m q h. rw (h .0) (release-same b b′ n (release-low c sh m q (h .1)) c sh m q (h .1));
         chunks = λ c sh gs h. rw (h .0) (chunks-same b b′ n (chunks-low c sh gs (h .1)) c sh gs (h .1));
+        stock = λ c h. stock-same c (h .1);
+        top = λ c h. top-same c (h .0) (h .1);
       }

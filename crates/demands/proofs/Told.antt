@@ -60,12 +60,12 @@ bare-kept : (e : Entry) (vs : List Event)
 bare-kept e [] = refl
 bare-kept e (v ∷ vs) = ap (λ (t : Bool). not (releases (names (v .call)) (v .answer) e) && t) (bare-kept e vs)
 
-bare-live : (k : ℕ) (vs : List Event) (e : Entry) → Live k (bare vs) e → Live k vs e
+pub bare-live : (k : ℕ) (vs : List Event) (e : Entry) → Live k (bare vs) e → Live k vs e
 bare-live k [] e l = l
 bare-live k (v ∷ vs) e (inl p) = inl (p .0, sym (bare-kept e vs) ∙ p .1)
 bare-live k (v ∷ vs) e (inr l) = inr (bare-live (suc k) vs e l)
 
-live-bare : (k : ℕ) (vs : List Event) (e : Entry) → Live k vs e → Live k (bare vs) e
+pub live-bare : (k : ℕ) (vs : List Event) (e : Entry) → Live k vs e → Live k (bare vs) e
 live-bare k [] e l = l
 live-bare k (v ∷ vs) e (inl p) = inl (p .0, bare-kept e vs ∙ p .1)
 live-bare k (v ∷ vs) e (inr l) = inr (live-bare (suc k) vs e l)
@@ -74,7 +74,7 @@ bare-direct : (f : ℕ → Bool) (vs : List Event) (x : ℕ) → directFrom f (b
 bare-direct f [] x = refl
 bare-direct f (v ∷ vs) x = bare-direct (directNext (v .call) (v .answer) f) vs x
 
-bare-disjoint : (vs : List Event) → Disjoint vs → Disjoint (bare vs)
+pub bare-disjoint : (vs : List Event) → Disjoint vs → Disjoint (bare vs)
 bare-disjoint vs d = record {
   apart = λ e e′ l l′. d .apart e e′ (bare-live 0 vs e l) (bare-live 0 vs e′ l′);
   offDirect = λ e l b h. bare-direct (λ x. false) vs (b / pageBytes) ∙ d .offDirect e (bare-live 0 vs e l) b h;

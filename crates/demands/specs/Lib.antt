@@ -25,3 +25,5 @@ pub mod Reorders
 pub mod InOrder
 pub mod Repeats
 pub mod Wide
+pub mod Pool
+pub mod PoolRefusals

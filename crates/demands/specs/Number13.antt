@@ -18,8 +18,9 @@ use Rattle.calls.specs.Take.{walk, parkFair}
 use Rattle.calls.specs.Out.{unmarked}
 use Rattle.calls.specs.Release.{releaseFair}
 use Rattle.calls.specs.Chunks.{chunksFair}
-use Rattle.demands.specs.Ranges.{Use, field, fits}
-use Rattle.demands.specs.Reads.{commitReads, giveReads, reportReads, takeReads, yieldAll, markReads, releaseReads, chunksReads, growReads}
+use Rattle.poolcalls.specs.Calls.{countFair, topFair}
+use Rattle.demands.specs.Ranges.{Use, value, fits}
+use Rattle.demands.specs.Reads.{commitReads, giveReads, reportReads, takeReads, yieldAll, markReads, releaseReads, chunksReads, growReads, stockReads, topReads}
 
 unfoldable pub takeFair : ℕ → List ℕ → ℕ → Shape → Bool
 takeFair n b c sh =
@@ -39,11 +40,14 @@ pub record Number13 (b : List ℕ) : Type 0 where
   pub marks : (c : ℕ) (sh : Shape) (ws : List ℕ) → unmarked (get b (arena size)) b c sh ws ≡ fits b (markReads b c sh ws)
   pub release : (c : ℕ) (sh : Shape) (m q : ℕ) → releaseFair (get b (arena size)) b c sh m q ≡ fits b (releaseReads b c sh m q)
   pub chunks : (c : ℕ) (sh : Shape) (gs : List ℕ) → chunksFair (get b (arena size)) b c sh gs ≡ fits b (chunksReads b c sh gs)
+  -- the pool's, before it goes to the heap: a free that finds its stock full, an alloc and a trim that have the top
+  pub stock : (c : ℕ) → countFair b c ≡ fits b (stockReads c)
+  pub top : (c : ℕ) → topFair (get b (arena size)) b c ≡ fits b (topReads b c)
 
 -- ---- the rows are all that the tests look at
 -- two books with one LENGTH and the same word in each of these rows
 abbrev pub Alike : List ℕ → List ℕ → List Use → Type 0
-Alike b b′ us = (get b (arena size) ≡ get b′ (arena size)) × All (λ u. get b (field u) ≡ get b′ (field u)) us
+Alike b b′ us = (get b (arena size) ≡ get b′ (arena size)) × All (λ u. value b u ≡ value b′ u) us
 
 -- such books pass or fail a call's test alike, whatever their other words are
 pub record RowsDecide (b b′ : List ℕ) : Type 0 where
@@ -63,3 +67,5 @@ pub record RowsDecide (b b′ : List ℕ) : Type 0 where
   pub chunks : (c : ℕ) (sh : Shape) (gs : List ℕ)
       → Alike b b′ (chunksReads b c sh gs)
       → chunksFair (get b (arena size)) b c sh gs ≡ chunksFair (get b′ (arena size)) b′ c sh gs
+  pub stock : (c : ℕ) → Alike b b′ (stockReads c) → countFair b c ≡ countFair b′ c
+  pub top : (c : ℕ) → Alike b b′ (topReads b c) → topFair (get b (arena size)) b c ≡ topFair (get b′ (arena size)) b′ c

@@ -1,19 +1,21 @@
--- Number 13's ranges, the one table of them; docs/RANGES.md prints `field` and `range`. A row is a word of the book in one use that a
+-- Number 13's ranges, the one table of them; docs/RANGES.md prints `value` and `range`. A row is a word of the book in one use that a
 -- call makes of it. Specs/Reads says which rows each call reads.
 --     Use            a row: the word, and how a call uses it
---     field          which word
+--     value          what the word holds
 --     range          its range in that use; every bound that is no argument of the row is read from the book
 --     inRange        the word is in it
 --     fits, strays   every listed word is in its range; one is not
 -- No row is of LENGTH, which is number 1's, nor of a word as it is compared for numbers 10 to 12 and 15. MARK is tested before 15, the other
 -- rows last.
-use Prim.Native.Nat.{ℕ, suc}
+use Prim.Native.Nat.{ℕ, suc, _*_}
 use mathlib.Core.Bool.{Bool, not}
 use mathlib.Core.List.{List}
 use Rattle.facts.specs.Lists.{every}
 use Rattle.fields.specs.Field.{ArenaField, Field, arena, mark, class, hole, page, slot, size, state, frontier, holes, holePages, held, start, pages, partial, empty, emptyCount, cold, coldCount, owner, first, next, prev, free, carved, listed, virgin, get, emptyLimit, coldLimit}
 use Rattle.fields.specs.Ranges.{maxParked, Range, anyValue, upTo, between, exactly, below, endsBy, runsTo, within}
 use Rattle.model.specs.HoleStore.{holeSlots, holePagesMax}
+use Rattle.pool.specs.Stock.{stockRoom}
+use Rattle.poolcalls.specs.Stock.{countIn, entryIn}
 
 -- ---- the words that hold a page's code, which is page + 1, and 0 for none: of class c, or of page p
 pub data Link : Type 0 where
@@ -73,38 +75,43 @@ pub data Use : Type 0 where
   -- a page p of either, of a class with that capacity
   carvedFits : ℕ → ℕ → Use
   virginFlag : ℕ → Use
+  -- the pool's: how many blocks class c has in stock, and the one in place k where an alloc or a trim has it
+  stockFew : ℕ → Use
+  entryLow : ℕ → ℕ → Use
 
-abbrev pub field : Use → Field
-field stateKnown = arena state
-field frontierFits = arena frontier
-field holesFew = arena holes
-field holePagesFew = arena holePages
-field heldFits = arena held
-field (heldGives k) = arena held
-field (counted k) = arena k
-field (holeSome i) = hole pages i
-field (holeBeside i) = hole pages i
-field (holeEnds i) = hole start i
-field (code f) = linkField f
-field (visited f m) = linkField f
-field (emptyFew c) = class emptyCount c
-field (emptyTaken c) = class emptyCount c
-field (coldFew c) = class coldCount c
-field (coldTaken c) = class coldCount c
-field (emptyLimited c) = class emptyLimit c
-field (coldLimited c) = class coldLimit c
-field (ownerIs p c) = page owner p
-field (firstIs p q) = page first p
-field (prevIs p y) = page prev p
-field (listedYes p) = page listed p
-field (listedNo p) = page listed p
-field (freeFits p) = page free p
-field (entryCarved p i) = slot p i
-field (markClear p j) = mark p j
-field (freeWith p m) = page free p
-field (listedFlag p) = page listed p
-field (carvedFits p capacity) = page carved p
-field (virginFlag p) = page virgin p
+abbrev pub value : List ℕ → Use → ℕ
+value b stateKnown = get b (arena state)
+value b frontierFits = get b (arena frontier)
+value b holesFew = get b (arena holes)
+value b holePagesFew = get b (arena holePages)
+value b heldFits = get b (arena held)
+value b (heldGives k) = get b (arena held)
+value b (counted k) = get b (arena k)
+value b (holeSome i) = get b (hole pages i)
+value b (holeBeside i) = get b (hole pages i)
+value b (holeEnds i) = get b (hole start i)
+value b (code f) = get b (linkField f)
+value b (visited f m) = get b (linkField f)
+value b (emptyFew c) = get b (class emptyCount c)
+value b (emptyTaken c) = get b (class emptyCount c)
+value b (coldFew c) = get b (class coldCount c)
+value b (coldTaken c) = get b (class coldCount c)
+value b (emptyLimited c) = get b (class emptyLimit c)
+value b (coldLimited c) = get b (class coldLimit c)
+value b (ownerIs p c) = get b (page owner p)
+value b (firstIs p q) = get b (page first p)
+value b (prevIs p y) = get b (page prev p)
+value b (listedYes p) = get b (page listed p)
+value b (listedNo p) = get b (page listed p)
+value b (freeFits p) = get b (page free p)
+value b (entryCarved p i) = get b (slot p i)
+value b (markClear p j) = get b (mark p j)
+value b (freeWith p m) = get b (page free p)
+value b (listedFlag p) = get b (page listed p)
+value b (carvedFits p capacity) = get b (page carved p)
+value b (virginFlag p) = get b (page virgin p)
+value b (stockFew c) = countIn b c
+value b (entryLow c k) = entryIn b c k
 
 abbrev pub range : List ℕ → Use → Range
 range b stateKnown = upTo 2
@@ -137,9 +144,11 @@ range b (freeWith p m) = endsBy m (get b (page carved p))
 range b (listedFlag p) = upTo 1
 range b (carvedFits p capacity) = upTo capacity
 range b (virginFlag p) = upTo 1
+range b (stockFew c) = upTo stockRoom
+range b (entryLow c k) = below (4096 * get b (arena size))
 
 abbrev pub inRange : List ℕ → Use → Bool
-inRange b u = within (range b u) (get b (field u))
+inRange b u = within (range b u) (value b u)
 
 unfoldable pub fits : List ℕ → List Use → Bool
 fits b us = every (inRange b) us

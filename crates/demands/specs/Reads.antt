@@ -10,6 +10,7 @@
 --     markReads      a release by list or by chunks, before number 15: the words of marks of its blocks that are out in the class
 --     releaseReads   a release by list of m blocks to page q
 --     chunksReads    a release of the chunks gs
+--     stockReads, topReads    the pool: a free that finds its stock full; an alloc and a trim that have the stock's top
 use Prim.Native.Nat.{ℕ, zero, suc, _+_, _-_, _/_}
 use mathlib.Core.Bool.{Bool, cond, not, _&&_, _||_}
 use mathlib.Core.List.{List, [], _∷_, _++_, map}
@@ -24,8 +25,9 @@ use Rattle.pages.specs.Stack.{indexOf}
 use Rattle.calls.specs.Out.{startOf, outs}
 use Rattle.calls.specs.Release.{spotAt}
 use Rattle.calls.specs.Chunks.{pagesGiven}
-use Rattle.demands.specs.Ranges.{Link, partialOf, emptyOf, coldOf, nextOf, prevOf, linkField, Use, stateKnown, frontierFits, holesFew, holePagesFew, heldFits, heldGives, counted, holeSome, holeEnds, code, visited, emptyFew, emptyTaken, coldFew, coldTaken, ownerIs, firstIs, prevIs, listedYes, listedNo, freeFits, entryCarved, markClear, freeWith, listedFlag, carvedFits, virginFlag, holeBeside, emptyLimited, coldLimited}
+use Rattle.demands.specs.Ranges.{Link, partialOf, emptyOf, coldOf, nextOf, prevOf, linkField, Use, stateKnown, frontierFits, holesFew, holePagesFew, heldFits, heldGives, counted, holeSome, holeEnds, code, visited, emptyFew, emptyTaken, coldFew, coldTaken, ownerIs, firstIs, prevIs, listedYes, listedNo, freeFits, entryCarved, markClear, freeWith, listedFlag, carvedFits, virginFlag, holeBeside, emptyLimited, coldLimited, stockFew, entryLow}
 use Rattle.arena.specs.Fair.{growGives}
+use Rattle.poolcalls.specs.Stock.{countIn}
 
 -- ---- the arena
 unfoldable pub countReads : List Use
@@ -174,3 +176,11 @@ chunksReads b c sh gs =
     ∷ (backsReads b sh gs
     ++ (rowReads c
     ++ cond (eqb (pagesGiven b c sh gs) 0) [] (giveReads b (pagesGiven b c sh gs))))
+
+-- ---- the pool
+unfoldable pub stockReads : ℕ → List Use
+stockReads c = stockFew c ∷ []
+
+-- the block on top, where there is one
+unfoldable pub topReads : List ℕ → ℕ → List Use
+topReads b c = stockFew c ∷ entryLow c (countIn b c - 1) ∷ []

@@ -1,0 +1,270 @@
+-- Each of the pool's calls answers the first number of its table that applies, and then leaves the book and its out-parameter.
+use Prim.Native.Nat.{ℕ, _-_, _*_, _<_, _≤_}
+use native.Mathlib.Omega.{arith}
+use mathlib.Core.Bool.{Bool, true, false, cond, not, _&&_, _||_}
+use mathlib.Core.List.{List, [], _∷_, _++_}
+use mathlib.Core.Path.{_≡_, refl, sym, ap, ap₂, _∙_}
+use lib.Dec.{eqb, ltb, leb}
+use borrow.Author.Tests.{eq-eqb, eqb-true, ltb-true, ltb-false, le-ltb, lt-leb, not-false}
+use Rattle.facts.proofs.Bools.{by-cases, and-right, and-no, or-right}
+use Rattle.words.specs.Host.{badHost}
+use Rattle.words.specs.Word.{granuleOf, kindOf}
+use Rattle.classes.specs.declared.Shape.{Shape}
+use Rattle.classes.specs.Shape.{shapeOf, classCount}
+use Rattle.classes.proofs.Shapes.{shape-sound}
+use Rattle.fields.specs.Field.{arena, size, get}
+use Rattle.fields.specs.Ranges.{metaFault, maxPages}
+use Rattle.model.specs.Release.{ofKind}
+use Rattle.pages.specs.Stack.{indexOf}
+use Rattle.calls.specs.Out.{startOf, outAt, unmarked, repeats}
+use Rattle.calls.specs.Release.{Released, releasedNone, releaseFair, releaseBlocks, giveBackAt}
+use Rattle.calls.specs.Take.{Took, takeCall, takeBlocks}
+use Rattle.calls.proofs.Out.{fault-marked, fault-foreign, passes}
+use Rattle.trace.proofs.Refused.{give-zero}
+use Rattle.pool.specs.Stock.{stockMost, blank}
+use Rattle.pool.specs.Pool.{PoolAnswer, Wish, hostIn, alloc, free, trim, refused, granted, trimmed, noBlock, freed, answered}
+use Rattle.poolcalls.specs.Stock.{countIn, entryIn, blockIn, stocked}
+use Rattle.poolcalls.specs.Calls.{Said, said, codeOf, blockOut, countFair, topFair, bringOn, tookOn, allocOn, gaveOn, freedOn, freeOn, trimOn, wishOn}
+use Rattle.vigbuso.specs.Faults.{callFault, classFault}
+use Rattle.vigbuso.specs.Pool.{poolOn}
+use Rattle.demands.specs.Ranges.{Use, strays}
+use Rattle.demands.specs.Reads.{takeReads, barren, markReads, releaseReads, stockReads, topReads}
+use Rattle.demands.specs.Refusals.{Row}
+use Rattle.demands.specs.PoolRefusals.{poolEarly, allocTable, freeTable, trimTable, PoolDemand1}
+use Rattle.demands.proofs.Ranges.{fits-append, number-13, take-strays, top-strays, release-strays}
+use Rattle.demands.proofs.RefusalsLaws.{Ends, ends, turn, unless, book-turn, chain}
+use Rattle.demands.proofs.RefusalsCalls.{take-row, last-code}
+use Rattle.demands.proofs.Refusals.{refuses}
+
+abbrev turned : List ℕ → ℕ → Said
+turned b k = said (refused k) b
+
+abbrev code : Said → ℕ
+code s = codeOf (s .answer)
+
+abbrev Rows : List ℕ → List Row → Said → Type 0
+Rows b rows s = Ends {R = Said} code (λ s. s .book ≡ b) rows s
+
+-- a refusal leaves the out-parameter
+block-kept : (a : PoolAnswer) (w : ℕ) → (codeOf a ≡ 0 → ⊥) → blockOut a w ≡ w
+block-kept (refused n) w d = refl
+block-kept (granted v) w d = absurd (d refl)
+block-kept (trimmed v) w d = absurd (d refl)
+block-kept noBlock w d = absurd (d refl)
+block-kept freed w d = absurd (d refl)
+block-kept (answered x) w d = absurd (d refl)
+
+-- ---- a release of one block of the class's kind
+module _ (n : ℕ) (b : List ℕ) (c : ℕ) (sh : Shape) (h w : ℕ) (kd : ofKind (sh .kind) w ≡ true) where
+  abbrev z : Released
+  z = releaseBlocks n b c sh h (w ∷ [])
+
+  abbrev q : ℕ
+  q = startOf b w
+
+  one-single : outAt n b c sh w ≡ false → repeats n b c sh (w ∷ []) ≡ false
+  unfolding repeats
+  one-single o = rw o
+
+  one-marked : unmarked n b c sh (w ∷ []) ≡ false → z ≡ releasedNone b 13
+  unfolding releaseBlocks
+  one-marked u = rw (kd, fault-marked n b c sh (w ∷ []) u)
+
+  one-foreign : unmarked n b c sh (w ∷ []) ≡ true → outAt n b c sh w ≡ false → z ≡ releasedNone b 10
+  unfolding releaseBlocks
+  one-foreign u o = rw (kd, fault-foreign n b c sh (w ∷ []) u (one-single o) (rw o))
+
+  one-unfair : unmarked n b c sh (w ∷ []) ≡ true → outAt n b c sh w ≡ true → releaseFair n b c sh 1 q ≡ false → z ≡ releasedNone b 13
+  unfolding releaseBlocks
+  one-unfair u o f = rw (kd, passes n b c sh (w ∷ []) u (rw o) refl, eq-eqb q q refl, f)
+
+  one-done : unmarked n b c sh (w ∷ []) ≡ true → outAt n b c sh w ≡ true → releaseFair n b c sh 1 q ≡ true → z .code ≡ 0
+  unfolding releaseBlocks
+  one-done u o f =
+      rw (kd, passes n b c sh (w ∷ []) u (rw o) refl, eq-eqb q q refl, f)
+      (last-code sh q (giveBackAt b c sh h q (indexOf sh q w ∷ [])) ∙ give-zero b c sh h q (indexOf sh q w ∷ []))
+
+  -- what is said of it: `a`, with a book of the caller's own
+  abbrev backRows : List Row
+  backRows = (13, not (unmarked n b c sh (w ∷ []))) ∷ (10, not (outAt n b c sh w)) ∷ (13, not (releaseFair n b c sh 1 q)) ∷ []
+
+  gave-none : (a : PoolAnswer) (d : List ℕ) (k : ℕ) → eqb k 0 ≡ false → z ≡ releasedNone b k → gaveOn a d z ≡ turned b k
+  unfolding gaveOn
+  gave-none a d k e r = rw (r, e)
+
+  gave-done : (a : PoolAnswer) (d : List ℕ) → z .code ≡ 0 → gaveOn a d z ≡ said a d
+  unfolding gaveOn
+  gave-done a d e = rw e
+
+  back-rows : (a : PoolAnswer) (d : List ℕ) → codeOf a ≡ 0 → Rows b backRows (gaveOn a d z)
+  back-rows a d ca =
+      by-cases (unmarked n b c sh (w ∷ []))
+      (λ u. by-cases (outAt n b c sh w)
+      (λ o. by-cases (releaseFair n b c sh 1 q)
+      (λ f. rw (u, o, f, gave-done a d (one-done u o f)) (record { number = ca; kept = λ d. absurd (d ca) }))
+      (λ f. rw (u, o, f, gave-none a d 13 refl (one-unfair u o f)) (record { number = refl; kept = λ d. refl })))
+      (λ o. rw (u, o, gave-none a d 10 refl (one-foreign u o)) (record { number = refl; kept = λ d. refl })))
+      (λ u. rw (u, gave-none a d 13 refl (one-marked u)) (record { number = refl; kept = λ d. refl }))
+
+-- ---- alloc
+bring-code : (b : List ℕ) (c m : ℕ) (l : List ℕ) → codeOf (bringOn b c m l .answer) ≡ 0
+unfolding bringOn
+bring-code b c m l = by-cases (eqb m 0) (λ e. rw e) (λ e. rw e)
+
+took-rows : (b l : List ℕ) (c : ℕ) (rows : List Row) (t : Took) → Ends {R = Took} (λ t. t .code) (λ t. (t .book ≡ b) × (t .list ≡ l)) rows t → Rows b rows (tookOn c t)
+unfolding tookOn
+took-rows b l c rows t r =
+    by-cases (eqb (t .code) 0)
+    (λ e. let k = bring-code (t .book) c (t .count) (t .list) in rw e (record { number = k ∙ sym (eqb-true (t .code) 0 e) ∙ r .number; kept = λ d. absurd (d k) }))
+    (λ e. rw e (record { number = r .number; kept = λ d. r .kept d .0 }))
+
+take-is : (n : ℕ) (b : List ℕ) (c h : ℕ) → takeCall n b c (shapeOf c) h blank ≡ takeBlocks n b c (shapeOf c) h blank
+unfolding takeCall
+take-is n b c h = rw (le-ltb 64 (shapeOf c .batch) (shape-sound c .limited))
+
+alloc-row : (b : List ℕ) (c h : ℕ)
+    → Rows b ((13, cond (eqb (countIn b c) 0) (strays b (takeReads b c (shapeOf c)) || barren b c (shapeOf c)) (strays b (topReads b c))) ∷ []) (allocOn (get b (arena size)) b c h)
+unfolding allocOn
+alloc-row b c h =
+    let n = get b (arena size) in
+    by-cases (eqb (countIn b c) 0)
+    (λ e. rw (e, ← (take-strays b c (shapeOf c)), take-is n b c h) (took-rows b blank c _ _ (take-row n b c (shapeOf c) h blank)))
+    (λ e. rw (e, ← (top-strays b c (shapeOf c))) (unless _ _ (topFair n b c) 13 _ _ _ refl refl λ u. ends _ _ _ refl))
+
+-- ---- free
+two-turn : (b : List ℕ) (s t : Bool) (k : ℕ) (rows : List Row) (x o : Said) → code x ≡ k → x .book ≡ b → (s ≡ false → t ≡ false → Rows b rows o) → Rows b ((k, s || t) ∷ rows) (cond s x (cond t x o))
+two-turn b true t k rows x o e p f = record { number = e; kept = λ d. p }
+two-turn b false true k rows x o e p f = record { number = e; kept = λ d. p }
+two-turn b false false k rows x o e p f = let g = f refl refl in record { number = g .number; kept = g .kept }
+
+module _ (b : List ℕ) (c h w : ℕ) where
+  abbrev sh : Shape
+  sh = shapeOf c
+
+  abbrev length₀ : ℕ
+  length₀ = get b (arena size)
+
+  abbrev marks : List Use
+  marks = markReads b c sh (w ∷ [])
+
+  abbrev backs : List Use
+  backs = releaseReads b c sh 1 (startOf b w)
+
+  full-strays : strays b (stockReads c ++ (marks ++ backs)) ≡ not (countFair b c && (unmarked length₀ b c sh (w ∷ []) && releaseFair length₀ b c sh 1 (startOf b w)))
+  unfolding strays
+  full-strays =
+      ap not
+      (fits-append b (stockReads c) (marks ++ backs)
+      ∙ ap₂ (λ (s t : Bool). s && t) (sym (number-13 b .stock c)) (fits-append b marks backs ∙ ap₂ (λ (s t : Bool). s && t) (sym (number-13 b .marks c sh (w ∷ []))) (sym (number-13 b .release c sh 1 (startOf b w)))))
+
+  top-marks : strays b (topReads b c ++ marks) ≡ not (topFair length₀ b c && unmarked length₀ b c sh (w ∷ []))
+  unfolding strays
+  top-marks = ap not (fits-append b (topReads b c) marks ∙ ap₂ (λ (s t : Bool). s && t) (sym (number-13 b .top c)) (sym (number-13 b .marks c sh (w ∷ []))))
+
+  module _ (kd : ofKind (sh .kind) w ≡ true) (o : outAt length₀ b c sh w ≡ true) where
+    abbrev back : Released
+    back = releaseBlocks length₀ b c sh h (w ∷ [])
+
+    full-row : Rows b ((13, not (countFair b c && (unmarked length₀ b c sh (w ∷ []) && releaseFair length₀ b c sh 1 (startOf b w)))) ∷ []) (cond (countFair b c) (gaveOn freed (back .book) back) (turned b 13))
+    full-row =
+        by-cases (countFair b c)
+        (λ e. by-cases (unmarked length₀ b c sh (w ∷ []))
+        (λ u. by-cases (releaseFair length₀ b c sh 1 (startOf b w))
+        (λ f. rw (e, u, f, gave-done length₀ b c sh h w kd freed (back .book) (one-done length₀ b c sh h w kd u o f)) (record { number = refl; kept = λ d. absurd (d refl) }))
+        (λ f. rw (e, u, f, gave-none length₀ b c sh h w kd freed (back .book) 13 refl (one-unfair length₀ b c sh h w kd u o f)) (record { number = refl; kept = λ d. refl })))
+        (λ u. rw (e, u, gave-none length₀ b c sh h w kd freed (back .book) 13 refl (one-marked length₀ b c sh h w kd u)) (record { number = refl; kept = λ d. refl })))
+        (λ e. rw e (record { number = refl; kept = λ d. refl }))
+
+    freed-row : Rows b ((13, not (ltb (countIn b c) (stockMost c)) && strays b (stockReads c ++ (marks ++ backs))) ∷ []) (freedOn length₀ b c h w)
+    unfolding freedOn
+    freed-row =
+        by-cases (ltb (countIn b c) (stockMost c))
+        (λ e. rw e (record { number = refl; kept = λ d. absurd (d refl) }))
+        (λ e. rw (e, full-strays) full-row)
+
+  free-row : Rows b ((9, not (ofKind (sh .kind) w)) ∷ (10, not (outAt length₀ b c sh w) || stocked b c (granuleOf w)) ∷ (13, not (ltb (countIn b c) (stockMost c)) && strays b (stockReads c ++ (marks ++ backs))) ∷ []) (freeOn length₀ b c h w)
+  unfolding freeOn
+  free-row =
+      turn _ _ (not (ofKind (sh .kind) w)) 9 _ _ _ refl refl λ k.
+      two-turn b (not (outAt length₀ b c sh w)) (stocked b c (granuleOf w)) 10 _ _ _ refl refl λ o s.
+      freed-row (not-false (ofKind (sh .kind) w) k) (not-false (outAt length₀ b c sh w) o)
+
+-- ---- trim
+module _ (b : List ℕ) (c h : ℕ) (low : get b (arena size) ≤ maxPages) where
+  abbrev top : ℕ
+  top = blockIn b c (countIn b c - 1)
+
+  abbrev n : ℕ
+  n = get b (arena size)
+
+  top-kind : topFair n b c ≡ true → ofKind (shapeOf c .kind) top ≡ true
+  unfolding topFair ofKind
+  top-kind t =
+      let e = entryIn b c (countIn b c - 1) in
+      let u : e < 4096 * n = ltb-true e (4096 * n) (and-right (countFair b c) _ t) in
+      eq-eqb (kindOf top) (shapeOf c .kind) (omega arith)
+
+  some-row : eqb (countIn b c) 0 ≡ false
+      → Rows b ((13, not (topFair n b c && unmarked n b c (shapeOf c) (top ∷ []))) ∷ (10, not (outAt n b c (shapeOf c) top)) ∷ (13, not (releaseFair n b c (shapeOf c) 1 (startOf b top))) ∷ []) (trimOn n b c h)
+  unfolding trimOn
+  some-row e =
+      by-cases (topFair n b c)
+      (λ t. rw (e, t) (back-rows n b c (shapeOf c) h top (top-kind t) (trimmed top) _ refl))
+      (λ t. rw (e, t) (record { number = refl; kept = λ d. refl }))
+
+  bare-said : eqb (countIn b c) 0 ≡ true → trimOn n b c h ≡ said noBlock b
+  unfolding trimOn
+  bare-said e = rw e
+
+  trim-row : (let some = not (eqb (countIn b c) 0) in
+      Rows b ((13, some && strays b (topReads b c ++ markReads b c (shapeOf c) (top ∷ []))) ∷ (10, some && not (outAt n b c (shapeOf c) top)) ∷ (13, some && strays b (releaseReads b c (shapeOf c) 1 (startOf b top))) ∷ [])
+      (trimOn n b c h))
+  trim-row =
+      by-cases (eqb (countIn b c) 0)
+      (λ e. rw (e, bare-said e) (record { number = refl; kept = λ d. absurd (d refl) }))
+      (λ e. rw (e, top-marks b c h top, ← (release-strays b c (shapeOf c) 1 (startOf b top))) (some-row e))
+
+-- ---- numbers 1 to 4
+early : (b : List ℕ) (c : ℕ) (x : Wish) (rows : List Row) → Rows b rows (wishOn (get b (arena size)) b c x) → Rows b (poolEarly b c (hostIn x) ++ rows) (poolOn b c x)
+unfolding poolOn classFault callFault metaFault
+early b c x rows f =
+    rw (chain (callFault b (hostIn x)) 4 (leb classCount c) (turned b) _ refl, chain (metaFault b) 3 (badHost (hostIn x)) (turned b) _ refl)
+    (book-turn _ _ _ (turned b) _ (λ k. refl) (λ k. refl)
+    (turn _ _ (badHost (hostIn x)) 3 _ _ _ refl refl λ e.
+    turn _ _ (leb classCount c) 4 _ _ _ refl refl λ e.
+    f)
+    (get b (arena size))
+    b)
+
+-- an arena that is too long
+module _ (b : List ℕ) (c : ℕ) (x : Wish) (big : ltb maxPages (get b (arena size)) ≡ true) where
+  long-fault : classFault b (hostIn x) classCount c ≡ 1
+  unfolding classFault callFault metaFault
+  long-fault = rw (lt-leb (get b (arena size)) maxPages (ltb-true maxPages (get b (arena size)) big), and-no (leb 1 (get b (arena size))))
+
+  long-pool : poolOn b c x ≡ turned b 1
+  unfolding poolOn
+  long-pool = rw long-fault
+
+  long-rows : (rows : List Row) → Rows b (poolEarly b c (hostIn x) ++ rows) (poolOn b c x)
+  long-rows rows = rw (long-pool, or-right (eqb (get b (arena size)) 0) (ltb maxPages (get b (arena size))) big) (record { number = refl; kept = λ d. refl })
+
+pub alloc-table : (b : List ℕ) (c h : ℕ) → Rows b (allocTable b c h) (poolOn b c (alloc h))
+alloc-table b c h = early b c (alloc h) _ (alloc-row b c h)
+
+pub free-table : (b : List ℕ) (c h w : ℕ) → Rows b (freeTable b c h w) (poolOn b c (free h w))
+free-table b c h w = early b c (free h w) _ (free-row b c h w)
+
+pub trim-table : (b : List ℕ) (c h : ℕ) → Rows b (trimTable b c h) (poolOn b c (trim h))
+trim-table b c h =
+    by-cases (ltb maxPages (get b (arena size)))
+    (λ big. long-rows b c (trim h) big _)
+    (λ low. early b c (trim h) _ (trim-row b c h (ltb-false maxPages (get b (arena size)) low)))
+
+-- ---- the demand
+pub pool-demand-1 : PoolDemand1
+pool-demand-1 = record {
+  alloc = λ b c h r b′ w w′ e. refuses _ _ _ _ (alloc-table b c h) _ r refl (e .code) λ d s. (e .book ∙ s, e .block ∙ block-kept (poolOn b c (alloc h) .answer) w d);
+  free = λ b c h w r b′ e. refuses _ _ _ _ (free-table b c h w) _ r refl (e .code) λ d s. e .book ∙ s;
+  trim = λ b c h r b′ w w′ e. refuses _ _ _ _ (trim-table b c h) _ r refl (e .code) λ d s. (e .book ∙ s, e .block ∙ block-kept (poolOn b c (trim h) .answer) w d);
+}

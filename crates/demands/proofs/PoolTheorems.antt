@@ -1,0 +1,229 @@
+-- The pool's demand holds of every history of the exported calls, on the words.
+use Prim.Native.Nat.{ℕ, _≤_}
+use mathlib.Core.Bool.{true, false}
+use mathlib.Core.List.{List, [], _∷_, _++_, map, head-eq-of-cons-eq, tail-eq-of-cons-eq}
+use mathlib.Core.Logic.{_↔_, inl, inr}
+use mathlib.Core.Option.{none, some}
+use mathlib.Core.Path.{_≡_, refl, sym, ap, ap₂, _∙_, subst}
+use lib.Dec.{eqb, ltb}
+use lib.ListN.{length, getD, replicate}
+use Rattle.facts.specs.Lists.{elem, distinct}
+use Rattle.facts.proofs.Bools.{by-cases}
+use Rattle.words.specs.Host.{badHost}
+use Rattle.classes.specs.Shape.{shapeOf, classCount}
+use Rattle.rules.specs.Rules.{Rules, rulesOf}
+use Rattle.fields.specs.Ranges.{maxPages}
+use Rattle.model.specs.Arena as Arenas
+use Rattle.model.specs.Calls.{Call, Answer, Named, names}
+use Rattle.model.specs.Release.{ofKind, outHere}
+use Rattle.model.specs.Heap.{Heap, newHeap, step}
+use Rattle.model.specs.History.{Event, heapAfter}
+use Rattle.model.specs.Entries.{OutIn}
+use Rattle.model.proofs.Ways.{goes}
+use Rattle.model.proofs.Alone.{other}
+use Rattle.arena.specs.Load.{loadArena}
+use Rattle.calls.specs.Out.{outAt}
+use Rattle.refinement.specs.Represents.{Represents}
+use Rattle.refinement.specs.Direct.{Reply}
+use Rattle.refinement.specs.Run.{callReply, repliesFrom, answersIn}
+use Rattle.refinement.proofs.ArenaReached.{heap-next, reached-after}
+use Rattle.refinement.proofs.Book.{setting-of}
+use Rattle.refinement.proofs.Found.{out-here}
+use Rattle.refinement.proofs.Whole.{call-whole}
+use Rattle.pool.specs.Pool.{Pool, newPool, PoolCall, PoolAnswer, Wish, to, alloc, free, trim, callBy, poolStep, noBlock}
+use Rattle.pool.specs.Told.{PoolEvent, toldOf, poolEvents, poolEventsFrom, poolAfter, heapCalls, poolAnswersOf, isOf}
+use Rattle.pool.specs.Claims.{Bare, answerTo}
+use Rattle.pool.proofs.Apart.{pool-disjoint}
+use Rattle.pool.proofs.Frees.{frees, unchanged}
+use Rattle.pool.proofs.OnHeap.{on-heap}
+use Rattle.pool.proofs.Conserved.{alloc-none, conserved}
+use Rattle.pool.proofs.Alone.{pool-alone}
+use Rattle.poolcalls.specs.Stock.{stockIn}
+use Rattle.vigbuso.specs.Pool.{poolOn}
+use Rattle.poolrefinement.specs.Represents.{heapWord, PoolRep, StockRep}
+use Rattle.poolrefinement.proofs.Whole.{pool-agrees}
+use Rattle.poolrefinement.proofs.Frame.{heap-frame, words-changes, represents-still}
+use Rattle.poolrefinement.proofs.Stocks.{stock-still}
+use Rattle.poolrefinement.proofs.Runs.{stands}
+use Rattle.demands.specs.Call.{call}
+use Rattle.demands.specs.Run.{Opens, bookAfter}
+use Rattle.demands.specs.Pool.{poolRun, poolBook, heard, poolHeard, poolTold, FreeAnswers, PoolAt, PoolDemand}
+use Rattle.demands.proofs.Calls.{room, call-is}
+use Rattle.demands.proofs.Histories.{run-represents}
+use Rattle.demands.proofs.Told.{bare, bare-live, live-bare, bare-disjoint}
+use Rattle.demands.proofs.PoolRuns.{ask-is, run-is, pool-rep, told-is}
+
+-- a block out, told with and without the runs
+out-bare : (vs : List Event) (c w : ℕ) → OutIn vs c w → OutIn (bare vs) c w
+out-bare vs c w o = record { entry = o .entry; live = live-bare 0 vs (o .entry) (o .live); class = o .class; word = o .word }
+
+bare-out : (vs : List Event) (c w : ℕ) → OutIn (bare vs) c w → OutIn vs c w
+bare-out vs c w o = record { entry = o .entry; live = bare-live 0 vs (o .entry) (o .live); class = o .class; word = o .word }
+
+-- two books that stand for one heap answer every history alike
+module _ (n : ℕ) (some-pages : 1 ≤ n) (few-pages : n ≤ maxPages) (rules : Rules) where
+  answers-same : (ys made : List Call) (b e : List ℕ) → Represents n b (heapAfter n rules made) → Represents n e (heapAfter n rules made) → answersIn (repliesFrom call b ys) ≡ answersIn (repliesFrom call e ys)
+  answers-same [] made b e R Q = refl
+  answers-same (y ∷ ys) made b e R Q =
+      let H = heapAfter n rules made in
+      let g = heap-next n (newHeap rules) made y in
+      let u = call-is n b some-pages few-pages H R y in
+      let v = call-is n e some-pages few-pages H Q y in
+      let p = call-whole n few-pages rules made b R y in
+      let q = call-whole n few-pages rules made e Q y in
+      let R₁ : Represents n (call b y .book) (heapAfter n rules (made ++ y ∷ [])) = subst (λ (r : Reply). Represents n (r .book) (heapAfter n rules (made ++ y ∷ []))) (sym u) (subst (λ (G : Heap). Represents n (callReply n b y .book) G) (sym g) (p .heap)) in
+      let Q₁ : Represents n (call e y .book) (heapAfter n rules (made ++ y ∷ [])) = subst (λ (r : Reply). Represents n (r .book) (heapAfter n rules (made ++ y ∷ []))) (sym v) (subst (λ (G : Heap). Represents n (callReply n e y .book) G) (sym g) (q .heap)) in
+      let same : call b y .answer ≡ call e y .answer = ap (λ r. r .answer) u ∙ p .answer ∙ sym (q .answer) ∙ sym (ap (λ r. r .answer) v) in
+      ap₂ (λ (a : Answer) (zs : List Answer). a ∷ zs) same (answers-same ys (made ++ y ∷ []) (call b y .book) (call e y .book) R₁ Q₁)
+
+module _ (n : ℕ) (rows b : List ℕ) (o : Opens n rows b) (xs : List PoolCall) where
+  abbrev d : List ℕ
+  d = poolBook n rows b xs
+
+  abbrev P : Pool
+  P = poolAfter n (rulesOf rows) xs
+
+  abbrev made : List Call
+  made = heapCalls n (rulesOf rows) xs
+
+  abbrev vs : List Event
+  vs = toldOf (poolEvents n (rulesOf rows) xs)
+
+  few : n ≤ maxPages
+  few = room n rows b o .few-pages
+
+  rep : PoolRep n d P
+  rep = pool-rep n rows b o xs
+
+  heap : Represents n d (heapAfter n (rulesOf rows) made)
+  heap = stands n few (rulesOf rows) xs d rep
+
+  on : P .heap ≡ heapAfter n (rulesOf rows) made
+  on = on-heap n few (rulesOf rows) xs .heap
+
+  -- a wish is answered as the model's
+  answer-is : (c : ℕ) (x : Wish) → poolOn d c x .answer ≡ answerTo n (rulesOf rows) xs c x
+  answer-is c x = ap (λ s. s .answer) (ask-is n (room n rows b o .some-pages) few d P rep c x) ∙ pool-agrees n few (rulesOf rows) xs d rep c x .answer
+
+  call-reply : (y : Call) → call d y ≡ callReply n d y
+  call-reply y = call-is n d (room n rows b o .some-pages) few (heapAfter n (rulesOf rows) made) heap y
+
+  out-in : (c w : ℕ) → OutIn vs c w → OutIn (poolTold n rows b xs) c w
+  out-in c w u = rw (told-is n rows b o xs) (out-bare vs c w u)
+
+  in-out : (c w : ℕ) → OutIn (poolTold n rows b xs) c w → OutIn vs c w
+  in-out c w u = bare-out vs c w (rw (told-is n rows b o xs) at u)
+
+  free-answers : (c h w : ℕ) → FreeAnswers d (poolTold n rows b xs) c h w
+  free-answers c h w =
+      let a = answer-is c (free h w) in
+      let f = frees n few (rulesOf rows) xs c h w in
+      record {
+        host = λ e. a ∙ f .host e;
+        class = λ ok e. a ∙ f .class ok e;
+        done = λ ok low. ((λ e. out-in c w (f .done ok low .0 (sym a ∙ e))), (λ u. a ∙ f .done ok low .1 (in-out c w u)));
+        kind = λ ok low k. a ∙ f .kind ok low k;
+        stale = λ ok low k no. a ∙ f .stale ok low k (λ u. no (out-in c w u));
+      }
+
+  stock-is : (c : ℕ) → ltb c classCount ≡ true → stockIn d c ≡ P .stock c
+  stock-is c hc = rep .stocks c hc .same
+
+  none-answers : (c h : ℕ) → badHost h ≡ false → ltb c classCount ≡ true
+      → (poolOn d c (alloc h) .answer ≡ noBlock) ↔ ((stockIn d c ≡ []) × Bare (heapAfter n (rulesOf rows) made .classes c) × (Arenas.commit n h (shapeOf c .pages) (loadArena d) .run ≡ none))
+  none-answers c h ok low =
+      let a = answer-is c (alloc h) in
+      let f = alloc-none n few (rulesOf rows) xs c h .none ok low in
+      let runs = ap (λ g. Arenas.commit n h (shapeOf c .pages) g .run) (rep .heap .arena .loads) in (
+        (λ e. let t = f .0 (sym a ∙ e) in (stock-is c low ∙ t .0, subst (λ (H : Heap). Bare (H .classes c)) on (t .1), runs ∙ t .2)),
+        (λ t. a ∙ f .1 (sym (stock-is c low) ∙ t .0, subst (λ (H : Heap). Bare (H .classes c)) (sym on) (t .1), sym runs ∙ t .2)),
+      )
+
+  -- the heap's test of a block
+  out-test : (c w : ℕ) → ltb c classCount ≡ true → ofKind (shapeOf c .kind) w ≡ true → outAt n d c (shapeOf c) w ≡ outHere (shapeOf c) (P .heap .classes c) w
+  out-test c w hc k = out-here (setting-of n d (P .heap) (rep .heap) c hc) few (P .heap .classes c) (rep .heap .classes c hc) w k
+
+  holds-after : PoolAt n rows d xs (poolTold n rows b xs) made
+  holds-after =
+      let cons = conserved n few (rulesOf rows) xs in
+      record {
+        disjoint = rw (told-is n rows b o xs) (bare-disjoint vs (pool-disjoint n few (rulesOf rows) xs));
+        frees = free-answers;
+        none = none-answers;
+        onHeap = heap;
+        made-done = on-heap n few (rulesOf rows) xs .done;
+        numbers = λ c x k e. unchanged n few (rulesOf rows) xs c x .low k (sym (answer-is c x) ∙ e);
+        fair = λ y e. call-whole n few (rulesOf rows) made d heap (callBy y) .fair (ap (λ r. r .code) (sym (call-reply (callBy y))) ∙ e);
+        out = λ c w hc k. (
+          (λ e. elim (cons .out c w .0 (sym (out-test c w hc k) ∙ e)) [ inl u ↦ inl (out-in c w u) | inr s ↦ inr (ap (elem w) (stock-is c hc) ∙ s) ]),
+          (λ e. out-test c w hc k ∙ cons .out c w .1 (elim e [ inl u ↦ inl (in-out c w u) | inr s ↦ inr (sym (ap (elem w) (stock-is c hc)) ∙ s) ])),
+        );
+        either = λ c w hc u. ap (elem w) (stock-is c hc) ∙ cons .either c w (in-out c w u);
+        once = λ c hc. ap distinct (stock-is c hc) ∙ cons .once c;
+      }
+
+  trims-empty : (c h k : ℕ) → badHost h ≡ false → ltb c classCount ≡ true → length (stockIn d c) ≤ k → stockIn (poolBook n rows b (xs ++ replicate k (to c (trim h)))) c ≡ []
+  trims-empty c h k ok low e =
+      let ys = xs ++ replicate k (to c (trim h)) in
+      pool-rep n rows b o ys .stocks c low .same ∙ conserved n few (rulesOf rows) xs .trims c h k ok low (rw (stock-is c low) at e)
+
+  -- ---- heap calls
+  frame : (y : Call) (i : ℕ) → heapWord i ≡ false → getD (call d y .book) i 0 ≡ getD d i 0
+  frame y i e = ap (λ r. getD (r .book) i 0) (call-reply y) ∙ heap-frame n few (rulesOf rows) made d heap y i e
+
+  class-kept : (y : Call) (p : Named) → names y ≡ some p → (c : ℕ) → eqb (p .class) c ≡ false → step n (heapAfter n (rulesOf rows) made) y .heap .classes c ≡ heapAfter n (rulesOf rows) made .classes c
+  unfolding step
+  class-kept y p e c ne = other n (heapAfter n (rulesOf rows) made) c y (goes y) (rw e ne)
+
+  beside : (y : Call) (p : Named) → names y ≡ some p → (c : ℕ) → ltb c classCount ≡ true → eqb (p .class) c ≡ false
+      → (stockIn (call d y .book) c ≡ stockIn d c) × ((w : ℕ) → ofKind (shapeOf c .kind) w ≡ true → outAt n (call d y .book) c (shapeOf c) w ≡ outAt n d c (shapeOf c) w)
+  beside y p e c hc ne =
+      let H = heapAfter n (rulesOf rows) made in
+      let d′ = call d y .book in
+      let s : StockRep n d′ c (P .stock c) = stock-still n d d′ c (P .stock c) hc (frame y) (rep .stocks c hc) in
+      let R : Represents n d′ (step n H y .heap) = subst (λ (r : Reply). Represents n (r .book) (step n H y .heap)) (sym (call-reply y)) (call-whole n few (rulesOf rows) made d heap y .heap) in (
+        s .same ∙ sym (stock-is c hc),
+        (λ w k. out-here (setting-of n d′ (step n H y .heap) R c hc) few (step n H y .heap .classes c) (R .classes c hc) w k
+            ∙ ap (λ t. outHere (shapeOf c) t w) (class-kept y p e c ne)
+            ∙ sym (out-here (setting-of n d H heap c hc) few (H .classes c) (heap .classes c hc) w k)),
+      )
+
+  part-is : (ys : List Call) → answersIn (repliesFrom call d ys) ≡ answersIn (repliesFrom call (bookAfter n rows b made) ys)
+  part-is ys = answers-same n (room n rows b o .some-pages) few (rulesOf rows) ys made d (bookAfter n rows b made) heap (run-represents n rows b o made)
+
+  unread : (e : List ℕ) → length e ≡ length d → ((i : ℕ) → heapWord i ≡ true → getD e i 0 ≡ getD d i 0) → (ys : List Call) → answersIn (repliesFrom call e ys) ≡ answersIn (repliesFrom call d ys)
+  unread e l h ys =
+      answers-same n (room n rows b o .some-pages) few (rulesOf rows) ys made e d
+      (represents-still n d (heapAfter n (rulesOf rows) made) heap (reached-after n (rulesOf rows) made) e (words-changes d e l h)) heap
+
+-- ---- each class alone
+heard-answers : (c : ℕ) (xs : List PoolCall) (zs : List PoolAnswer) (es : List PoolEvent) → map (λ v. v .call) es ≡ xs → zs ≡ map (λ v. v .answer) es → poolAnswersOf c (heard xs zs) ≡ poolAnswersOf c es
+heard-answers c [] zs [] e f = refl
+heard-answers c [] zs (v ∷ es) e f = cc
+heard-answers c (x ∷ xs) zs [] e f = cc
+heard-answers c (x ∷ xs) [] (v ∷ es) e f = cc
+heard-answers c (x ∷ xs) (a ∷ zs) (v ∷ es) e f =
+    let h : v .call ≡ x = head-eq-of-cons-eq e in
+    let g : a ≡ v .answer = head-eq-of-cons-eq f in
+    let ih = heard-answers c xs zs es (tail-eq-of-cons-eq e) (tail-eq-of-cons-eq f) in
+    rw h (by-cases (isOf c x) (λ t. rw (t, g) (ap (λ (l : List PoolAnswer). v .answer ∷ l) ih)) (λ t. rw t ih))
+
+events-calls : (n : ℕ) (P : Pool) (xs : List PoolCall) → map (λ v. v .call) (poolEventsFrom n P xs) ≡ xs
+events-calls n P [] = refl
+events-calls n P (x ∷ xs) = ap (λ (l : List PoolCall). x ∷ l) (events-calls n (poolStep n P x .pool) xs)
+
+answers-of : (n : ℕ) (rows b : List ℕ) → Opens n rows b → (c : ℕ) (xs : List PoolCall) → poolAnswersOf c (poolHeard n rows b xs) ≡ poolAnswersOf c (poolEvents n (rulesOf rows) xs)
+answers-of n rows b o c xs = heard-answers c xs (poolRun n rows b xs) (poolEvents n (rulesOf rows) xs) (events-calls n (newPool (rulesOf rows)) xs) (run-is n rows b o xs)
+
+pub pool-demand : PoolDemand
+pool-demand = record {
+  after = holds-after;
+  rules = run-is;
+  trims = trims-empty;
+  alone = λ n₁ n₂ rows₁ rows₂ b₁ b₂ o₁ o₂ c lim xs ys e.
+      rw (answers-of n₁ rows₁ b₁ o₁ c xs, answers-of n₂ rows₂ b₂ o₂ c ys) (pool-alone n₁ n₂ (rulesOf rows₁) (rulesOf rows₂) c xs ys .alone lim e);
+  heapPart = part-is;
+  unread = unread;
+  words = frame;
+  beside = beside;
+}

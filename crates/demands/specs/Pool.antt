@@ -1,0 +1,120 @@
+-- The pool over the exported functions (docs/CALLS.md, "The pool"), as statements about every history from an opening: allocs, frees and trims of any
+-- class, direct commits, growths and `release`s, `contains` and reports, refused ones included. All is told from calls and answers, and
+-- from the book that a history leaves. proofs/PoolTheorems proves them.
+--     poolCall     one call on any book, by the definitions that the exported functions' contracts cite
+--     poolRun      what is answered to the calls of a history; `poolBook` is the book that it leaves
+--     poolTold     the calls with their answers, in the words of document 01's histories: an alloc is a take of one block, a free a release of one
+use Prim.Native.Nat.{ℕ, _≤_}
+use mathlib.Core.Path.{_≡_}
+use mathlib.Core.Logic.{_⊎_, _↔_}
+use mathlib.Core.List.{List, [], _∷_, _++_, map}
+use mathlib.Core.Option.{none, some}
+use mathlib.Core.Bool.{true, false}
+use lib.Dec.{eqb, ltb}
+use lib.ListN.{length, getD, replicate}
+use Rattle.facts.specs.Lists.{All, elem, distinct, isSome}
+use Rattle.words.specs.Host.{badHost}
+use Rattle.classes.specs.Shape.{shapeOf, classCount}
+use Rattle.rules.specs.Rules.{rulesOf}
+use Rattle.model.specs.Calls.{Call, Named, names, isRefused}
+use Rattle.model.specs.Arena as Arenas
+use Rattle.model.specs.Release.{ofKind}
+use Rattle.model.specs.History.{Event, events, heapAfter}
+use Rattle.model.specs.Entries.{OutIn}
+use Rattle.model.specs.Demands.{Disjoint}
+use Rattle.arena.specs.Load.{loadArena}
+use Rattle.calls.specs.Out.{outAt}
+use Rattle.pool.specs.Pool.{PoolCall, PoolAnswer, Wish, Direct, to, direct, alloc, free, trim, callBy, answered, refused, noBlock, freed}
+use Rattle.pool.specs.Told.{PoolEvent, toldOf, poolEvents, heapCalls, poolCallsOf, poolAnswersOf, poolRunsOf}
+use Rattle.pool.specs.Claims.{Bare}
+use Rattle.poolcalls.specs.Stock.{stockIn}
+use Rattle.poolcalls.specs.Calls.{Said, said}
+use Rattle.vigbuso.specs.Direct.{openOn}
+use Rattle.vigbuso.specs.Pool.{poolOn}
+use Rattle.refinement.specs.Represents.{Represents}
+use Rattle.poolrefinement.specs.Represents.{heapWord}
+use Rattle.poolrefinement.specs.Run.{saidFrom, bookFrom}
+use Rattle.demands.specs.Call.{call}
+use Rattle.refinement.specs.Run.{repliesFrom, answersIn}
+use Rattle.demands.specs.Run.{Opens, bookAfter}
+
+-- vigbuso_alloc, vigbuso_free, vigbuso_trim, and the direct calls
+unfoldable pub poolCall : List ℕ → PoolCall → Said
+poolCall b (to c x) = poolOn b c x
+poolCall b (direct d) = said (answered (call b (callBy d) .answer)) (call b (callBy d) .book)
+
+abbrev pub poolRun : ℕ → List ℕ → List ℕ → List PoolCall → List PoolAnswer
+poolRun n rows b xs = saidFrom poolCall (openOn b n rows .book) xs
+
+abbrev pub poolBook : ℕ → List ℕ → List ℕ → List PoolCall → List ℕ
+poolBook n rows b xs = bookFrom poolCall (openOn b n rows .book) xs
+
+-- what the arena gives at a call is not told
+abbrev pub heard : List PoolCall → List PoolAnswer → List PoolEvent
+heard [] zs = []
+heard (x ∷ xs) [] = []
+heard (x ∷ xs) (a ∷ zs) = record { call = x; answer = a; run = none } ∷ heard xs zs
+
+abbrev pub poolHeard : ℕ → List ℕ → List ℕ → List PoolCall → List PoolEvent
+poolHeard n rows b xs = heard xs (poolRun n rows b xs)
+
+abbrev pub poolTold : ℕ → List ℕ → List ℕ → List PoolCall → List Event
+poolTold n rows b xs = toldOf (poolHeard n rows b xs)
+
+-- numbers 3 and 4; then a free is carried out exactly if its block is a grant of that class not yet freed, and else is number 9 or 10
+pub record FreeAnswers (b : List ℕ) (vs : List Event) (c h w : ℕ) : Type 0 where
+  pub host : badHost h ≡ true → poolOn b c (free h w) .answer ≡ refused 3
+  pub class : badHost h ≡ false → ltb c classCount ≡ false → poolOn b c (free h w) .answer ≡ refused 4
+  pub done : badHost h ≡ false → ltb c classCount ≡ true → (poolOn b c (free h w) .answer ≡ freed) ↔ OutIn vs c w
+  pub kind : badHost h ≡ false → ltb c classCount ≡ true → ofKind (shapeOf c .kind) w ≡ false → poolOn b c (free h w) .answer ≡ refused 9
+  pub stale : badHost h ≡ false → ltb c classCount ≡ true → ofKind (shapeOf c .kind) w ≡ true → (OutIn vs c w → ⊥) → poolOn b c (free h w) .answer ≡ refused 10
+
+-- after the history xs, which left the book d and told vs; `made` are the heap's calls that it made
+pub record PoolAt (n : ℕ) (rows d : List ℕ) (xs : List PoolCall) (vs : List Event) (made : List Call) : Type 0 where
+  -- two grants not yet freed share a byte exactly when they are the same grant; none shares a byte with a page held by hand
+  pub disjoint : Disjoint vs
+  pub frees : (c h w : ℕ) → FreeAnswers d vs c h w
+  -- an alloc answers none exactly if the class has no block in stock and no page that could yield one, and the arena no run for it
+  pub none : (c h : ℕ) → badHost h ≡ false → ltb c classCount ≡ true
+      → (poolOn d c (alloc h) .answer ≡ noBlock)
+      ↔ ((stockIn d c ≡ []) × Bare (heapAfter n (rulesOf rows) made .classes c) × (Arenas.commit n h (shapeOf c .pages) (loadArena d) .run ≡ none))
+  -- the heap's calls that the history makes are a history of document 01's calls, of which none that names a class is refused; the book stands for
+  -- the heap that they lead to
+  pub onHeap : Represents n d (heapAfter n (rulesOf rows) made)
+  pub made-done : All (λ v. isSome (names (v .call)) ≡ true → isRefused (v .answer) ≡ false) (events n (rulesOf rows) made)
+  -- a call that is refused has number 3, 4, 9 or 10 (and leaves the book, as Specs/PoolRefusals says of every book); 13 never answers, a direct call neither
+  pub numbers : (c : ℕ) (x : Wish) (k : ℕ) → poolOn d c x .answer ≡ refused k → elem k (3 ∷ 4 ∷ 9 ∷ 10 ∷ []) ≡ true
+  pub fair : (y : Direct) → call d (callBy y) .code ≡ 13 → ⊥
+  -- a block out at the heap is granted or in stock, and each of these once
+  pub out : (c w : ℕ) → ltb c classCount ≡ true → ofKind (shapeOf c .kind) w ≡ true
+      → (outAt n d c (shapeOf c) w ≡ true) ↔ (OutIn vs c w ⊎ (elem w (stockIn d c) ≡ true))
+  pub either : (c w : ℕ) → ltb c classCount ≡ true → OutIn vs c w → elem w (stockIn d c) ≡ false
+  pub once : (c : ℕ) → ltb c classCount ≡ true → distinct (stockIn d c) ≡ true
+
+pub record PoolDemand : Type 0 where
+  pub after : (n : ℕ) (rows b : List ℕ) → Opens n rows b → (xs : List PoolCall) → PoolAt n rows (poolBook n rows b xs) xs (poolTold n rows b xs) (heapCalls n (rulesOf rows) xs)
+  -- each call answers what the pool's rules say
+  pub rules : (n : ℕ) (rows b : List ℕ) → Opens n rows b → (xs : List PoolCall) → poolRun n rows b xs ≡ map (λ v. v .answer) (poolEvents n (rulesOf rows) xs)
+  -- as many trims as there are blocks in stock, or more, leave none there: what is out then is granted
+  pub trims : (n : ℕ) (rows b : List ℕ) → Opens n rows b → (xs : List PoolCall) (c h k : ℕ) → badHost h ≡ false → ltb c classCount ≡ true
+      → length (stockIn (poolBook n rows b xs) c) ≤ k → stockIn (poolBook n rows b (xs ++ replicate k (to c (trim h)))) c ≡ []
+  -- two openings, two histories, a class with the same limits in both and whose calls are equal: its answers are equal exactly when what the arena gave
+  -- it is, worked from the opening over the arguments of all calls (`poolEvents` sees no book)
+  pub alone : (n₁ n₂ : ℕ) (rows₁ rows₂ b₁ b₂ : List ℕ) → Opens n₁ rows₁ b₁ → Opens n₂ rows₂ b₂ → (c : ℕ) → rulesOf rows₁ c ≡ rulesOf rows₂ c
+      → (xs ys : List PoolCall) → poolCallsOf c xs ≡ poolCallsOf c ys
+      → (poolAnswersOf c (poolHeard n₁ rows₁ b₁ xs) ≡ poolAnswersOf c (poolHeard n₂ rows₂ b₂ ys))
+      ↔ (poolRunsOf c (poolEvents n₁ (rulesOf rows₁) xs) ≡ poolRunsOf c (poolEvents n₂ (rulesOf rows₂) ys))
+  -- the heap's part of the book is what the heap's calls leave: every further history of these is answered as on the book that they leave by themselves
+  pub heapPart : (n : ℕ) (rows b : List ℕ) → Opens n rows b → (xs : List PoolCall) (ys : List Call)
+      → answersIn (repliesFrom call (poolBook n rows b xs) ys) ≡ answersIn (repliesFrom call (bookAfter n rows b (heapCalls n (rulesOf rows) xs)) ys)
+  -- they read none of the pool's words: every book with the same words of the heap answers them alike
+  pub unread : (n : ℕ) (rows b : List ℕ) → Opens n rows b → (xs : List PoolCall) (e : List ℕ) → length e ≡ length (poolBook n rows b xs)
+      → ((i : ℕ) → heapWord i ≡ true → getD e i 0 ≡ getD (poolBook n rows b xs) i 0)
+      → (ys : List Call) → answersIn (repliesFrom call e ys) ≡ answersIn (repliesFrom call (poolBook n rows b xs) ys)
+  -- a heap's call on the book that a history left changes none of the pool's words; one that names another class, or none, leaves what the class has in
+  -- stock and what it has out
+  pub words : (n : ℕ) (rows b : List ℕ) → Opens n rows b → (xs : List PoolCall) (y : Call) (i : ℕ) → heapWord i ≡ false
+      → getD (call (poolBook n rows b xs) y .book) i 0 ≡ getD (poolBook n rows b xs) i 0
+  pub beside : (n : ℕ) (rows b : List ℕ) → Opens n rows b → (xs : List PoolCall) (y : Call) (p : Named) → names y ≡ some p → (c : ℕ) → ltb c classCount ≡ true → eqb (p .class) c ≡ false
+      → (stockIn (call (poolBook n rows b xs) y .book) c ≡ stockIn (poolBook n rows b xs) c)
+      × ((w : ℕ) → ofKind (shapeOf c .kind) w ≡ true → outAt n (call (poolBook n rows b xs) y .book) c (shapeOf c) w ≡ outAt n (poolBook n rows b xs) c (shapeOf c) w)

@@ -1,0 +1,72 @@
+-- Demand 1 for the pool's calls: the numbers that each can answer, in checking order, and whether each applies, as Specs/Refusals has them for
+-- the others. Where a call goes on to the heap, the heap's own numbers are among them. b is the book, c a class's id, h the host word, w a block's.
+use Prim.Native.Nat.{ℕ, _-_}
+use mathlib.Core.Bool.{cond, not, _&&_, _||_}
+use mathlib.Core.List.{List, [], _∷_, _++_}
+use mathlib.Core.Path.{_≡_}
+use lib.Dec.{eqb, ltb}
+use Rattle.words.specs.Host.{badHost}
+use Rattle.words.specs.Word.{granuleOf}
+use Rattle.classes.specs.Shape.{shapeOf, classCount}
+use Rattle.fields.specs.Field.{arena, size, get}
+use Rattle.model.specs.Release.{ofKind}
+use Rattle.calls.specs.Out.{startOf, outAt}
+use Rattle.pool.specs.Stock.{stockMost}
+use Rattle.pool.specs.Pool.{alloc, free, trim}
+use Rattle.poolcalls.specs.Stock.{countIn, blockIn, stocked}
+use Rattle.vigbuso.specs.Pool.{poolOn, BlockEnds, FreeEnds}
+use Rattle.demands.specs.Ranges.{strays}
+use Rattle.demands.specs.Reads.{takeReads, barren, markReads, releaseReads, stockReads, topReads}
+use Rattle.demands.specs.Refusals.{badLength, tooShort, noClass, Row, Refuses}
+
+-- 4 is "The class is 64 or more, medium 12 or more.": the ids of all classes are 0 to 75
+abbrev pub poolEarly : List ℕ → ℕ → ℕ → List Row
+poolEarly b c h =
+    let n = get b (arena size) in
+    (1, badLength n) ∷ (2, tooShort n b) ∷ (3, badHost h) ∷ (4, noClass classCount c) ∷ []
+
+-- vigbuso_alloc: where the stock is empty it is a take; its list is never too short
+abbrev pub allocTable : List ℕ → ℕ → ℕ → List Row
+allocTable b c h =
+    poolEarly b c h
+    ++ (13, cond (eqb (countIn b c) 0) (strays b (takeReads b c (shapeOf c)) || barren b c (shapeOf c)) (strays b (topReads b c)))
+    ∷ []
+
+-- vigbuso_free: a block that is not granted in this class is not out there, or is in stock. A stock that holds enough is a release's concern
+abbrev pub freeTable : List ℕ → ℕ → ℕ → ℕ → List Row
+freeTable b c h w =
+    let n = get b (arena size) in
+    let sh = shapeOf c in
+    poolEarly b c h
+    ++ (9, not (ofKind (sh .kind) w))
+    ∷ (10, not (outAt n b c sh w) || stocked b c (granuleOf w))
+    ∷ (13, not (ltb (countIn b c) (stockMost c)) && strays b (stockReads c ++ (markReads b c sh (w ∷ []) ++ releaseReads b c sh 1 (startOf b w))))
+    ∷ []
+
+-- vigbuso_trim: a release of the stock's top, where there is one
+abbrev pub trimTable : List ℕ → ℕ → ℕ → List Row
+trimTable b c h =
+    let n = get b (arena size) in
+    let sh = shapeOf c in
+    let w = blockIn b c (countIn b c - 1) in
+    let some = not (eqb (countIn b c) 0) in
+    poolEarly b c h
+    ++ (13, some && strays b (topReads b c ++ markReads b c sh (w ∷ [])))
+    ∷ (10, some && not (outAt n b c sh w))
+    ∷ (13, some && strays b (releaseReads b c sh 1 (startOf b w)))
+    ∷ []
+
+-- what the contract of the function says is the premise, word for word; a prime marks what stands there afterwards
+abbrev pub AllocRefuses : Type 0
+AllocRefuses = (b : List ℕ) (c h r : ℕ) (b′ : List ℕ) (w w′ : ℕ) → BlockEnds (poolOn b c (alloc h)) r b′ w w′ → Refuses (allocTable b c h) r ((b′ ≡ b) × (w′ ≡ w))
+
+abbrev pub FreeRefuses : Type 0
+FreeRefuses = (b : List ℕ) (c h w r : ℕ) (b′ : List ℕ) → FreeEnds (poolOn b c (free h w)) r b′ → Refuses (freeTable b c h w) r (b′ ≡ b)
+
+abbrev pub TrimRefuses : Type 0
+TrimRefuses = (b : List ℕ) (c h r : ℕ) (b′ : List ℕ) (w w′ : ℕ) → BlockEnds (poolOn b c (trim h)) r b′ w w′ → Refuses (trimTable b c h) r ((b′ ≡ b) × (w′ ≡ w))
+
+pub record PoolDemand1 : Type 0 where
+  pub alloc : AllocRefuses
+  pub free : FreeRefuses
+  pub trim : TrimRefuses
