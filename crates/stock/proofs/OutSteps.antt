@@ -6,6 +6,7 @@ use mathlib.Core.Bool.{Bool, true, false, _&&_, and-false, true≢false}
 use mathlib.Core.List.{List}
 use mathlib.Core.Path.{_≡_, refl, sym, ap, _∙_}
 use lib.Dec.{eqb, ltb, leb}
+use lib.ListN.{length}
 use mir.Val.{Fits}
 use mir.Syntax.{w32, w64}
 use borrow.Author.Tests.{lt-ltb, le-ltb, le-leb, lt-leb, eq-eqb, ne-eqb, eqb-true, leb-true, ltb-true, ltb-false}
@@ -15,7 +16,7 @@ use Rattle.classes.specs.declared.Shape.{Shape}
 use Rattle.classes.specs.Shape.{shapeOf, smallShape, inverse}
 use Rattle.classes.specs.Sound.{Sound}
 use Rattle.classes.proofs.Shapes.{shape-sound}
-use Rattle.fields.specs.Field.{arena, page, out, frontier, owner, first, get, Has}
+use Rattle.fields.specs.Field.{arena, page, out, frontier, owner, first, get, words, Has}
 use Rattle.pages.specs.Runs.{whole}
 use Rattle.pages.specs.Stack.{pageAt, blocksFrom, indexOf, isBlock}
 use Rattle.calls.specs.Out.{startOf, inRunOf, outIn, outAt}
@@ -25,11 +26,20 @@ use Rattle.release.specs.declared.Found.the-variants.{At, Nothing}
 use Rattle.release.specs.declared.Out.{Out}
 use Rattle.release.specs.declared.Out.the-variants.{Block, Nowhere}
 use Rattle.release.specs.Blocks.{blockAt, findOut}
-use Rattle.release.proofs.BlockSteps.{none-found, found-block, has-bit}
+use Rattle.release.proofs.BlockSteps.{none-found, found-at}
+use Rattle.release.proofs.Bits.{below-capacity}
 use Rattle.release.proofs.OutSteps.{not-out, is-out}
 use Rattle.stock.specs.Asks.{PageAsks, SmallAsks}
 
 -- ---- by the run that has the word's granule
+found-block : (sh : Shape) (q w : ℕ) (f : Found) (i : ℕ) → f ≡ blockAt sh q w → f ≡ At i → (isBlock sh q w ≡ true) × (i ≡ indexOf sh q w)
+found-block sh q w f i e h = found-at (isBlock sh q w) (indexOf sh q w) i (sym h ∙ e)
+
+has-bit : (b : List ℕ) (sh : Shape) (q w : ℕ) (f : Found) (i : ℕ) → Sound sh → words (q + 1) ≤ length b → f ≡ blockAt sh q w → f ≡ At i → Has b (out q i)
+has-bit b sh q w f i s l e h =
+    let z = found-block sh q w f i e h in
+    omega (arith, below-capacity sh q w (z .0), z .1, s .few)
+
 module _ (b : List ℕ) (sh : Shape) (q w : ℕ) (f : Found) (e : f ≡ blockAt sh q w) where
   pub out-no-block : f ≡ Nothing → false ≡ outIn b sh q w
   unfolding outIn
