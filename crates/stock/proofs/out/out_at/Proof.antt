@@ -10,11 +10,11 @@ shape-at-requires c κs = search needs
 find-out-requires : tie.Need-find-out-requires
 find-out-requires c κs = search class-asks
 
-enum-known-found : tie.Need-enum-known-found
-enum-known-found c = search needs
-
 enum-told : tie.Need-enum-told
 enum-told c = search needs
+
+enum-told-2 : tie.Need-enum-told-2
+enum-told-2 c = search needs
 
 returns : tie.Need-returns
 returns c = search out-nowhere
@@ -28,7 +28,7 @@ out-at-spec =
     (tie.spec
     shape-at-requires
     find-out-requires
-    enum-known-found
     enum-told
+    enum-told-2
     returns
     returns-2)
