@@ -84,15 +84,6 @@ module _ (sh : Shape) (ok : Sound sh) (lim : Limits) where
   unfolding fillFromList after
   fill-gives n p ps h m = rw (ne-eqb n 0 (omega arith)) (rw length-append (omega (arith, pop-gives n p h m)))
 
-  fill-more : (n : ℕ) (ps : List Page) → All More ps → All More (fillFromList sh n ps .partial)
-  unfolding fillFromList after
-  fill-more n [] h = tt
-  fill-more n (p ∷ ps) h =
-      let ih = fill-more (n - length (pop sh n p .blocks)) ps (h .1) in
-      by-cases (eqb n 0)
-      (λ e. rw e h)
-      (λ e. rw e (by-cases (stays sh (pop sh n p .page)) (λ b. rw b (b, ih)) (λ b. rw b ih)))
-
   fill-less : (n : ℕ) (ps : List Page) → All Less (fillFromList sh n ps .full)
   unfolding fillFromList after
   fill-less n [] = tt
@@ -101,6 +92,15 @@ module _ (sh : Shape) (ok : Sound sh) (lim : Limits) where
       by-cases (eqb n 0)
       (λ e. rw e tt)
       (λ e. rw e (by-cases (stays sh (pop sh n p .page)) (λ b. rw b ih) (λ b. rw b (b, ih))))
+
+  fill-more : (n : ℕ) (ps : List Page) → All More ps → All More (fillFromList sh n ps .partial)
+  unfolding fillFromList after
+  fill-more n [] h = tt
+  fill-more n (p ∷ ps) h =
+      let ih = fill-more (n - length (pop sh n p .blocks)) ps (h .1) in
+      by-cases (eqb n 0)
+      (λ e. rw e h)
+      (λ e. rw e (by-cases (stays sh (pop sh n p .page)) (λ b. rw b (b, ih)) (λ b. rw b ih)))
 
   module _ (l : List ℕ) (p : Page) (ps es : List Page) (cs : List Cold) (fs : List Page) (m : More p) where
     abbrev servedFrom : Result
