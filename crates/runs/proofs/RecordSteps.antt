@@ -75,10 +75,6 @@ module _ (w : ℕ) where
   none b p left e = rw e
 
 module _ (b₀ : List ℕ) (first pages w : ℕ) where
-  pub owns-one : (b : List ℕ) → pages ≡ 1 → b ≡ put b₀ (page owner first) w → b ≡ own b₀ first pages w
-  unfolding own
-  owns-one b e d = rw e d
-
   pub owns-start : Owning b₀ first pages w b₀ first pages
   owns-start = record { end = refl; long = refl; rest = refl }
 

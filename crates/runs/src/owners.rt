@@ -8,15 +8,11 @@ ghost use Rattle.arena.specs.Owners.{own};
 ghost use Rattle.arena.specs.Calls.{heldDirect, everyDirect};
 ghost use Rattle.runs.specs.Asks.{BookIn};
 
-// The pages from `first` on get an owner. A run of one page is no loop.
+// The pages from `first` on get an owner.
 pub fn own(meta: &mut [u32], first: u32, pages: u32, owner: u32)
     requires { ⌜ (words (first + pages) ≤ length (now meta)) × (first + pages < 2 ^ 32) ⌝ }
     ensures { λ _. ⌜ now (meta .exit) ≡ own (now (meta .entry)) first pages owner ⌝ }
 {
-    if pages == 1 {
-        fields::page::set_owner(meta, first, owner);
-        return;
-    }
     let mut p = first;
     let mut left = pages;
     while 0 < left {
