@@ -47,7 +47,7 @@
 //! built only if the code does just that. This crate is the part that is not proved but tested, what can be misused in debug and in
 //! release builds: types over those calls, and [`Pool`] and [`Store`] on top, which refuse every block that is not out. Document 01,
 //! which the comments cite, is the paper that states the heap's rules; `docs/CALLS.md` of the repository describes the C functions,
-//! `docs/REORDER.md` which of them may change places, `docs/DEMANDS.md` what is proved of them.
+//! and which of them may change places, `docs/DEMANDS.md` what is proved of them.
 //!
 //! The crate needs no `std`, only `alloc`.
 #![no_std]

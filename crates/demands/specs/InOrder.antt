@@ -1,4 +1,4 @@
--- Document 02, A.14, for many calls (docs/REORDER.md, "More than two"): calls on classes may be put in any order in which the calls on each class keep
+-- Document 02, A.14, for many calls (docs/CALLS.md, "Calls in another order"): calls on classes may be put in any order in which the calls on each class keep
 -- their order, and so do those that reach the arena. proofs/InOrder proves it.
 --     Passes     the call y, on class c, may be made ahead of the calls vs after xs: each of them is on another class, and not both it and y reach
 --                the arena
