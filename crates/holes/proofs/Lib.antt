@@ -11,5 +11,6 @@ mod Looping
 pub mod Planning
 pub mod Proving
 mod Scanning
+mod Scans
 mod Touching
 pub mod Walk

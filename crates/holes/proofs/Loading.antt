@@ -1,6 +1,5 @@
 -- Holes loaded part by part, the last part first.
 --     part-fair, part-weighed    with a part before the others: whether all are in their range, and what all come to
---     next-fair, next-weighed    the same with one hole before them
 --     four-loaded, four-fair     a part of four
 use mathlib.Core.Path.{_≡_, refl, sym, ap, _∙_}
 use Prim.Native.Nat.{ℕ, zero, suc, _+_, _-_, _<_, _≤_}
@@ -32,10 +31,6 @@ module _ (p : Hole → Bool) (b : List ℕ) where
       let d : suc m + k ≡ suc (m + k) = omega arith in
       let e : i + suc m ≡ suc i + m = omega arith in
       rw (d, e, fair-part (suc i) m k) (sym (and-assoc (p (loadHole b i)) _ _))
-
-  one : (i : ℕ) → every p (loadHoles b i 1) ≡ p (loadHole b i)
-  unfolding loadHoles
-  one i = and-true (p (loadHole b i))
 
 -- ---- a part of four
 pub four-loaded : (b : List ℕ) (i : ℕ) (w x y z : Hole) → w ≡ loadHole b i → x ≡ loadHole b (i + 1) → y ≡ loadHole b (i + 2) → z ≡ loadHole b (i + 3) → w ∷ x ∷ y ∷ z ∷ [] ≡ loadHoles b i 4
@@ -76,19 +71,3 @@ module _ (b : List ℕ) (from left count : ℕ) (l : from ≤ left) (k : left �
       let e : count - from ≡ (left - from) + (count - left) = omega arith in
       let d : from + (left - from) ≡ left = omega arith in
       rw (e, weighed-part f b from (left - from) (count - left) x, d)
-
--- ---- one hole before those at `left` and on
-module _ (b : List ℕ) (left count : ℕ) (l : 0 < left) (k : left ≤ count) where
-  below : left - 1 ≤ left
-  below = omega arith
-
-  single : left - (left - 1) ≡ 1
-  single = omega arith
-
-  pub next-fair : (p : Hole → Bool) → every p (loadHoles b (left - 1) (count - (left - 1))) ≡ (every p (loadHoles b left (count - left)) && p (loadHole b (left - 1)))
-  next-fair p = sym (part-fair b (left - 1) left count below k p) ∙ ap (λ (n : ℕ). every p (loadHoles b left (count - left)) && every p (loadHoles b (left - 1) n)) single
-      ∙ ap (λ (t : Bool). every p (loadHoles b left (count - left)) && t) (one p b (left - 1))
-
-  pub next-weighed : {X : Type 0} (f : ℕ → Hole → X → X) (x : X) → f (left - 1) (loadHole b (left - 1)) (weighed f left (loadHoles b left (count - left)) x) ≡ weighed f (left - 1) (loadHoles b (left - 1) (count - (left - 1))) x
-  unfolding loadHoles weighed
-  next-weighed f x = sym (ap (λ (n : ℕ). weighed f (left - 1) (loadHoles b (left - 1) n) (weighed f left (loadHoles b left (count - left)) x)) single) ∙ part-weighed b (left - 1) left count below k f x

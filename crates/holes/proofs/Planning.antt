@@ -1,8 +1,9 @@
--- The loops over the holes. Of `search`: the holes from `left` on are in their range, and the best so far is theirs. Of `neighbours`: it is known of them whether all are, and which touch the run.
---     searches-start, part-again, one-again    before the first turn; a part, or a hole, in its range is weighed
---     part-no, one-no, searches-done           the ways out: one is out of its range; none is left
+-- The loops over the holes. Of `search` and `neighbours`: what is found so far is what the holes from `left` on come to; of `search` also: they are in their range.
+--     weighs-start, part-weighs, one-weighs    before the first turn; a part, or a hole, is weighed
+--     searches-start, part-again, one-again    the same, where each is in its range
+--     part-no, one-no, searches-done           the ways out of `search`: one is out of its range; none is left
 --     plans-none, plans-unfair, plans-found    the plan, of what a search answers
---     besides-start, besides-again, besides-done    the same of `neighbours`, which has one way out
+--     touches-done, ends-are, ends-not         the ways out of `neighbours`, and of the test of a give's range
 use mathlib.Core.Path.{_≡_, refl, sym, ap, _∙_, subst}
 use Prim.Native.Nat.{ℕ, _-_, _<_, _≤_, _^_}
 use native.Mathlib.Omega.{arith}
@@ -13,27 +14,55 @@ use Rattle.facts.proofs.Bools.{by-cases}
 use Rattle.model.specs.declared.Hole.{Hole}
 use Rattle.model.specs.HoleStore.{leastFit}
 use Rattle.arena.specs.Load.{loadHole, loadHoles}
-use Rattle.arena.specs.Fair.{holeFair}
-use Rattle.holes.specs.declared.Arena.{Arena}
+use Rattle.arena.specs.Fair.{holeFair, holeEndsFair}
 use Rattle.holes.specs.declared.holes.Best.{Best}
 use Rattle.holes.specs.declared.holes.Beside.{Beside}
 use Rattle.holes.specs.declared.holes.Edges.{Edges}
-use Rattle.holes.specs.declared.Neighbours.{Neighbours}
 use Rattle.holes.specs.declared.Plan.{Plan}
-use Rattle.holes.specs.Plan.{planAs, planOf, Searches, neighboursAs, neighboursOf}
-use Rattle.holes.specs.Scan.{noBest, betterOf, weighed, bestOf, codeAt, noBeside, besideAt, besideOf}
-use Rattle.holes.proofs.Loading.{and-true, next-fair, next-weighed, part-fair, part-weighed}
+use Rattle.holes.specs.Plan.{planAs, planOf, Searches, neighboursOf}
+use Rattle.holes.specs.Scan.{noBest, betterOf, weighed, bestOf, codeAt, noBeside, besideAt}
+use Rattle.holes.proofs.Loading.{and-true, part-fair, part-weighed}
 use Rattle.holes.proofs.Least.{plan-is}
-use Rattle.holes.proofs.Touching.{neighbours-are}
+use Rattle.holes.proofs.Touching.{neighbours-are, all-ends-fair}
 
 -- the holes that the words hold at the index i and on, of so many
 abbrev from : List ℕ → ℕ → ℕ → List Hole
 from b count i = loadHoles b i (count - i)
 
-pub record Searching (b : List ℕ) (count total f pages : ℕ) (best : Best) (left : ℕ) : Type 0 where
+-- what the holes from `left` on come to, by the step f; x₀ is before the first
+pub record Weighing {X : Type 0} (f : ℕ → Hole → X → X) (x₀ : X) (b : List ℕ) (count : ℕ) (x : X) (left : ℕ) : Type 0 where
   pub up-to : left ≤ count
+  pub same : x ≡ weighed f left (from b count left) x₀
+
+module _ {X : Type 0} (f : ℕ → Hole → X → X) (x₀ : X) (b : List ℕ) (count : ℕ) where
+  pub weighs-start : Weighing f x₀ b count x₀ count
+  unfolding loadHoles weighed
+  weighs-start = let z : count - count ≡ 0 = omega arith in record { up-to = omega arith; same = rw z refl }
+
+  module _ (x : X) (left : ℕ) (k : Weighing f x₀ b count x left) where
+    weighs-again : (i : ℕ) → i ≤ left → (r : X) → r ≡ weighed f i (loadHoles b i (left - i)) x → Weighing f x₀ b count r i
+    weighs-again i l r g = record { up-to = let u = k .up-to in omega arith; same = g ∙ ap (weighed f i (loadHoles b i (left - i))) (k .same) ∙ part-weighed b i left count l (k .up-to) f x₀ }
+
+    pub part-weighs : 4 ≤ left → (part : List Hole) → part ≡ loadHoles b (left - 4) 4 → (r : X) → r ≡ weighed f (left - 4) part x → Weighing f x₀ b count r (left - 4)
+    part-weighs l part e r g =
+        let four : left - (left - 4) ≡ 4 = omega arith in
+        weighs-again (left - 4) (omega arith) r (rw four (g ∙ ap (λ (hs : List Hole). weighed f (left - 4) hs x) e))
+
+    pub one-weighs : 0 < left → (h : Hole) → h ≡ loadHole b (left - 1) → (r : X) → r ≡ f (left - 1) h x → Weighing f x₀ b count r (left - 1)
+    unfolding loadHoles weighed
+    one-weighs l h e r g =
+        let single : left - (left - 1) ≡ 1 = omega arith in
+        weighs-again (left - 1) (omega arith) r (rw single (g ∙ ap (λ (y : Hole). f (left - 1) y x) e))
+
+    weighs-done : left ≤ 0 → x ≡ weighed f 0 (loadHoles b 0 count) x₀
+    weighs-done l =
+        let z : left ≡ 0 = omega arith in
+        let d : count - 0 ≡ count = omega arith in
+        k .same ∙ ap (λ (i : ℕ). weighed f i (from b count i) x₀) z ∙ ap (λ (n : ℕ). weighed f 0 (loadHoles b 0 n) x₀) d
+
+pub record Searching (b : List ℕ) (count total f pages : ℕ) (best : Best) (left : ℕ) : Type 0 where
+  pub weighs : Weighing (betterOf pages) noBest b count best left
   pub fair : every (holeFair total f) (from b count left) ≡ true
-  pub same : best ≡ bestOf pages left (from b count left) noBest
 
 no-is : (t : Bool) → not t ≡ true → t ≡ false
 no-is t d = by-cases t (λ y. absurd (true≢false (sym d ∙ ap not y))) (λ y. y)
@@ -63,66 +92,53 @@ module _ (b : List ℕ) (count total f pages : ℕ) where
   all = planOf (loadHoles b 0 count) total f pages
 
   pub searches-start : Searching b count total f pages noBest count
-  unfolding loadHoles weighed
-  searches-start = let z : count - count ≡ 0 = omega arith in record { up-to = omega arith; fair = rw z refl; same = rw z refl }
+  unfolding loadHoles
+  searches-start = let z : count - count ≡ 0 = omega arith in record { weighs = weighs-start (betterOf pages) noBest b count; fair = rw z refl }
 
-  -- the holes at i and on, up to those that were searched
-  module _ (best : Best) (left : ℕ) (k : Searching b count total f pages best left) (i : ℕ) (l : i ≤ left) (t : Bool) (is : t ≡ every ok (loadHoles b i (left - i))) where
-    so : every ok (from b count i) ≡ t
-    so = sym (part-fair b i left count l (k .up-to) ok) ∙ ap (λ (s : Bool). s && every ok (loadHoles b i (left - i))) (k .fair) ∙ sym is
+  module _ (best : Best) (left : ℕ) (k : Searching b count total f pages best left) where
+    -- the holes at i and on, up to those that were searched
+    module _ (i : ℕ) (l : i ≤ left) (t : Bool) (is : t ≡ every ok (loadHoles b i (left - i))) where
+      so : every ok (from b count i) ≡ t
+      so = sym (part-fair b i left count l (k .weighs .up-to) ok) ∙ ap (λ (s : Bool). s && every ok (loadHoles b i (left - i))) (k .fair) ∙ sym is
 
-    searched : not t ≡ false → (r : Best) → r ≡ bestOf pages i (loadHoles b i (left - i)) best → Searching b count total f pages r i
-    searched d r g = record {
-      up-to = let u = k .up-to in omega arith;
-      fair = so ∙ yes-is t d;
-      same = g ∙ ap (bestOf pages i (loadHoles b i (left - i))) (k .same) ∙ part-weighed b i left count l (k .up-to) (betterOf pages) noBest;
-    }
+      unfair : not t ≡ true → Searches all (2 ^ 32)
+      unfolding planOf
+      unfair d =
+          let u = k .weighs .up-to in
+          let z : count - 0 ≡ count = omega arith in
+          let e : every ok (loadHoles b 0 count) ≡ false = ap (λ (n : ℕ). every ok (loadHoles b 0 n)) (sym z) ∙ sym (part-fair b 0 i count (omega arith) (omega arith) ok)
+          ∙ ap (λ (s : Bool). s && every ok (loadHoles b 0 (i - 0))) (so ∙ no-is t d) in
+          rw e (record { told = refl; small = λ y. absurd (true≢false (sym y)) })
 
-    unfair : not t ≡ true → Searches all (2 ^ 32)
-    unfolding planOf
-    unfair d =
-        let u = k .up-to in
-        let z : count - 0 ≡ count = omega arith in
-        let e : every ok (loadHoles b 0 count) ≡ false = ap (λ (n : ℕ). every ok (loadHoles b 0 n)) (sym z) ∙ sym (part-fair b 0 i count (omega arith) (omega arith) ok)
-        ∙ ap (λ (s : Bool). s && every ok (loadHoles b 0 (i - 0))) (so ∙ no-is t d) in
-        rw e (record { told = refl; small = λ y. absurd (true≢false (sym y)) })
+    -- a part
+    module _ (l : 4 ≤ left) (part : List Hole) (e : part ≡ loadHoles b (left - 4) 4) (t : Bool) (is : t ≡ every ok part) where
+      is-part : t ≡ every ok (loadHoles b (left - 4) (left - (left - 4)))
+      is-part = let four : left - (left - 4) ≡ 4 = omega arith in rw four (is ∙ ap (every ok) e)
 
-  -- a part
-  module _ (best : Best) (left : ℕ) (k : Searching b count total f pages best left) (l : 4 ≤ left) (part : List Hole) (e : part ≡ loadHoles b (left - 4) 4) (t : Bool) (is : t ≡ every ok part) where
-    four : left - (left - 4) ≡ 4
-    four = omega arith
+      pub part-again : not t ≡ false → (r : Best) → r ≡ bestOf pages (left - 4) part best → Searching b count total f pages r (left - 4)
+      part-again d r g = record { weighs = part-weighs (betterOf pages) noBest b count best left (k .weighs) l part e r g; fair = so (left - 4) (omega arith) t is-part ∙ yes-is t d }
 
-    is-part : t ≡ every ok (loadHoles b (left - 4) (left - (left - 4)))
-    is-part = rw four (is ∙ ap (every ok) e)
+      pub part-no : not t ≡ true → Searches all (2 ^ 32)
+      part-no d = unfair (left - 4) (omega arith) t is-part d
 
-    pub part-again : not t ≡ false → (r : Best) → r ≡ bestOf pages (left - 4) part best → Searching b count total f pages r (left - 4)
-    part-again d r g = searched best left k (left - 4) (omega arith) t is-part d r (rw four (g ∙ ap (λ (hs : List Hole). bestOf pages (left - 4) hs best) e))
+    -- a hole
+    module _ (l : 0 < left) (h : Hole) (e : h ≡ loadHole b (left - 1)) (t : Bool) (is : t ≡ ok h) where
+      is-one : t ≡ every ok (loadHoles b (left - 1) (left - (left - 1)))
+      unfolding loadHoles
+      is-one = let single : left - (left - 1) ≡ 1 = omega arith in rw single (is ∙ ap ok e ∙ sym (and-true (ok (loadHole b (left - 1)))))
 
-    pub part-no : not t ≡ true → Searches all (2 ^ 32)
-    part-no d = unfair best left k (left - 4) (omega arith) t is-part d
+      pub one-again : not t ≡ false → (r : Best) → r ≡ betterOf pages (left - 1) h best → Searching b count total f pages r (left - 1)
+      one-again d r g = record { weighs = one-weighs (betterOf pages) noBest b count best left (k .weighs) l h e r g; fair = so (left - 1) (omega arith) t is-one ∙ yes-is t d }
 
-  -- a hole
-  module _ (best : Best) (left : ℕ) (k : Searching b count total f pages best left) (l : 0 < left) (h : Hole) (e : h ≡ loadHole b (left - 1)) (t : Bool) (is : t ≡ ok h) where
-    single : left - (left - 1) ≡ 1
-    single = omega arith
-
-    is-one : t ≡ every ok (loadHoles b (left - 1) (left - (left - 1)))
-    unfolding loadHoles
-    is-one = rw single (is ∙ ap ok e ∙ sym (and-true (ok (loadHole b (left - 1)))))
-
-    pub one-again : not t ≡ false → (r : Best) → r ≡ betterOf pages (left - 1) h best → Searching b count total f pages r (left - 1)
-    unfolding loadHoles weighed
-    one-again d r g = searched best left k (left - 1) (omega arith) t is-one d r (rw single (g ∙ ap (λ (x : Hole). betterOf pages (left - 1) x best) e))
-
-    pub one-no : not t ≡ true → Searches all (2 ^ 32)
-    one-no d = unfair best left k (left - 1) (omega arith) t is-one d
+      pub one-no : not t ≡ true → Searches all (2 ^ 32)
+      one-no d = unfair (left - 1) (omega arith) t is-one d
 
   pub searches-done : pages < 2 ^ 32 → f < 2 ^ 32 → (best : Best) (left : ℕ) → Searching b count total f pages best left → left ≤ 0 → (c : ℕ) → c ≡ codeAt pages best → c < 2 ^ 32 → Searches all c
   searches-done pages-fits f-fits best left k l c e small =
       let z : left ≡ 0 = omega arith in
       let d : count - 0 ≡ count = omega arith in
       let so : every ok (loadHoles b 0 count) ≡ true = ap (λ (n : ℕ). every ok (loadHoles b 0 n)) (sym d) ∙ ap (λ (i : ℕ). every ok (from b count i)) (sym z) ∙ k .fair in
-      let such : best ≡ bestOf pages 0 (loadHoles b 0 count) noBest = k .same ∙ ap (λ (i : ℕ). bestOf pages i (from b count i) noBest) z ∙ ap (λ (n : ℕ). bestOf pages 0 (loadHoles b 0 n) noBest) d in
+      let such : best ≡ bestOf pages 0 (loadHoles b 0 count) noBest = weighs-done (betterOf pages) noBest b count best left (k .weighs) l in
       let is : planAs true c ≡ all = ap (planAs true) (e ∙ ap (codeAt pages) such) ∙ ap (λ (s : Bool). planAs s (codeAt pages (bestOf pages 0 (loadHoles b 0 count) noBest))) (sym so)
       ∙ plan-is pages pages-fits total f f-fits (loadHoles b 0 count) in
       subst (λ (p : Plan). Searches p c) is (record { told = refl; small = λ y. small })
@@ -144,31 +160,15 @@ module _ (b : List ℕ) (count total f pages : ℕ) where
         rw y (ap (planAs true) (rw y at (k .told)))
 
 -- ---- a give
-abbrev ends : Arena → Hole → Bool
-ends a = holeFair (a .frontier) (a .frontier)
+pub touches-done : (b : List ℕ) (count : ℕ) (run : Edges) (sides : Beside) (left : ℕ) → Weighing (besideAt run) noBeside b count sides left → left ≤ 0 → sides ≡ neighboursOf (loadHoles b 0 count) run
+touches-done b count run sides left k l = weighs-done (besideAt run) noBeside b count sides left k l ∙ neighbours-are run (loadHoles b 0 count)
 
-pub record Besides (b : List ℕ) (a : Arena) (run : Edges) (fair : Bool) (sides : Beside) (left : ℕ) : Type 0 where
-  pub up-to : left ≤ a .count
-  pub so-far : fair ≡ every (ends a) (loadHoles b left (a .count - left))
-  pub same : sides ≡ besideOf run left (loadHoles b left (a .count - left)) noBeside
+-- every hole is in a give's range: a search for no page finds none that is not
+module _ (b : List ℕ) (f count c : ℕ) (k : Searches (planOf (loadHoles b 0 count) f f 0) c) where
+  pub ends-are : (c ≡ 2 ^ 32 → ⊥) → true ≡ every (holeEndsFair f) (loadHoles b 0 count)
+  unfolding planOf
+  ends-are d = sym (found-fair _ c k d) ∙ all-ends-fair f (loadHoles b 0 count)
 
-module _ (b : List ℕ) (a : Arena) (run : Edges) where
-  pub besides-start : Besides b a run true noBeside (a .count)
-  unfolding loadHoles weighed
-  besides-start = let z : a .count - a .count ≡ 0 = omega arith in record { up-to = omega arith; so-far = rw z refl; same = rw z refl }
-
-  pub besides-again : (fair : Bool) (sides : Beside) (left : ℕ) → Besides b a run fair sides left → 0 < left → (h : Hole) → h ≡ loadHole b (left - 1) → (t : Bool) → t ≡ ends a h → (r : Beside) → r ≡ besideAt run (left - 1) h sides
-      → Besides b a run (fair && t) r (left - 1)
-  besides-again fair sides left k l h e t is r g = record {
-    up-to = let u = k .up-to in omega arith;
-    so-far = ap (λ (s : Bool). s && t) (k .so-far) ∙ ap (λ (s : Bool). every (ends a) (loadHoles b left (a .count - left)) && s) (is ∙ ap (λ (x : Hole). ends a x) e) ∙ sym (next-fair b left (a .count) l (k .up-to) (ends a));
-    same = g ∙ ap (λ (x : Hole). besideAt run (left - 1) x sides) e ∙ ap (besideAt run (left - 1) (loadHole b (left - 1))) (k .same) ∙ next-weighed b left (a .count) l (k .up-to) (besideAt run) noBeside;
-  }
-
-  pub besides-done : (fair : Bool) (sides : Beside) (left : ℕ) → Besides b a run fair sides left → left ≤ 0 → (r : Neighbours) → r ≡ neighboursAs fair sides → r ≡ neighboursOf (loadHoles b 0 (a .count)) (a .frontier) run
-  besides-done fair sides left k l r e =
-      let z : left ≡ 0 = omega arith in
-      let d : a .count - 0 ≡ a .count = omega arith in
-      let so : fair ≡ every (ends a) (loadHoles b 0 (a .count)) = k .so-far ∙ ap (λ (i : ℕ). every (ends a) (loadHoles b i (a .count - i))) z ∙ ap (λ (n : ℕ). every (ends a) (loadHoles b 0 n)) d in
-      let such : sides ≡ besideOf run 0 (loadHoles b 0 (a .count)) noBeside = k .same ∙ ap (λ (i : ℕ). besideOf run i (loadHoles b i (a .count - i)) noBeside) z ∙ ap (λ (n : ℕ). besideOf run 0 (loadHoles b 0 n) noBeside) d in
-      e ∙ ap (λ (s : Bool). neighboursAs s sides) so ∙ ap (neighboursAs (every (ends a) (loadHoles b 0 (a .count)))) such ∙ neighbours-are run (a .frontier) (loadHoles b 0 (a .count))
+  pub ends-not : c ≡ 2 ^ 32 → false ≡ every (holeEndsFair f) (loadHoles b 0 count)
+  unfolding planOf
+  ends-not d = sym (found-not _ c k d) ∙ all-ends-fair f (loadHoles b 0 count)

@@ -2,7 +2,7 @@
 --     Taken        a parameter: what is had of it at exit, with the law, and how its machine values are spelled
 --     Ends, ends   where a walk ends, and how: at a result and last values that the prover names
 --     known        a callee's theorem, at the tables of the walk
---     shown        a walk from each choice of lifetimes, shares, arguments and ghost value is the theorem
+--     Walks, shown a walk from each choice of lifetimes, shares, arguments and ghost value; it is the theorem
 use mathlib.Core.Path.{_≡_}
 use Prim.Native.Nat.{ℕ}
 use mathlib.Core.List.{List, [], _∷_}
@@ -68,25 +68,25 @@ module _ {M : Type 1} (𝓤 : URA M) (H : Heap 𝓤) (A : Atoms 𝓤) (T : Ended
       → ent 𝓤 (Ending 𝓤 H A T (staysOf (T .signature .params) (T .kept) ts) c y v r ws) (Ends y v)
   ends W y v r ws fits = ends-at 𝓤 H A T (staysOf (T .signature .params) (T .kept) ts) c W y v r ws fits
 
+  -- a walk of the code e, from each choice of lifetimes, shares, arguments and ghost value
+  abbrev ofAll : Lfts (T .signature .lifetimes) → List RattleType
+  ofAll κs = typesAt (T .signature .params) κs
+
+  abbrev machine : (κs : Lfts (T .signature .lifetimes)) → Args (T .signature) κs → Vals (T .signature) κs
+  machine κs a = valss (ofAll κs) (spellsOf κs (T .signature .params) (T .kept) ts) a
+
+  abbrev pub Walks : Tables 𝓤 H → Fn → Type 1
+  Walks 𝓣 e = (κs : Lfts (T .signature .lifetimes)) (qs : Shares (T .signature .lifetimes)) (bounds : AllOutlive (T .signature .lifetimes) (T .signature .outlives) κs) (a : Args (T .signature) κs) (g : c κs a .ghost)
+      → Are (ofAll κs) (Ises (ofAll κs)) a (machine κs a)
+      → ent 𝓤 (sep 𝓤 (onEntry 𝓤 H A (T .signature) κs qs a (machine κs a)) (c κs a .requires g)) (WpFn 𝓤 H (𝓣 .C) (𝓣 .Λ) e (flat (ofAll κs) (machine κs a)) (Ends ((κs, qs, bounds, a, machine κs a), g)))
+
 module _ {M : Type 1} (𝓤 : URA M) (H : Heap 𝓤) (𝓜 : Model 𝓤 H) (𝓖 : GhostRules 𝓤 H) (𝓡 : Running 𝓤 H 𝓜) (γ : Env) where
   pub known : (k : Name) (r : Routine) → γ k ≡ r → (c : Contract 𝓤) → Triple 𝓤 (𝓡 .run r) c → Triple 𝓤 (tablesOf 𝓤 H 𝓜 (tables 𝓤 H 𝓜 𝓡 γ) .C k) c
   unfolding tablesOf
   known k r p c t = cited 𝓤 H c 𝓜 𝓡 γ k r p t
 
   module _ (T : Ended) (ts : Takens (T .signature .params) (T .kept)) (c : Clauses 𝓤 T) (k : Name) (e : Fn) where
-    abbrev ofAll : Lfts (T .signature .lifetimes) → List RattleType
-    ofAll κs = typesAt (T .signature .params) κs
-
-    abbrev machine : (κs : Lfts (T .signature .lifetimes)) → Args (T .signature) κs → Vals (T .signature) κs
-    machine κs a = valss (ofAll κs) (spellsOf κs (T .signature .params) (T .kept) ts) a
-
-    pub shown : Closed 𝓤 H (tables 𝓤 H 𝓜 𝓡 γ .C) (tables 𝓤 H 𝓜 𝓡 γ .Λ) k e
-        → ((κs : Lfts (T .signature .lifetimes)) (qs : Shares (T .signature .lifetimes)) (bounds : AllOutlive (T .signature .lifetimes) (T .signature .outlives) κs) (a : Args (T .signature) κs) (g : c κs a .ghost)
-        → Are (ofAll κs) (Ises (ofAll κs)) a (machine κs a)
-        → ent 𝓤 (sep 𝓤 (onEntry 𝓤 H (𝓖 .A) (T .signature) κs qs a (machine κs a)) (c κs a .requires g))
-        (WpFn 𝓤 H (tablesOf 𝓤 H 𝓜 (tables 𝓤 H 𝓜 𝓡 γ) .C) (tablesOf 𝓤 H 𝓜 (tables 𝓤 H 𝓜 𝓡 γ) .Λ) e (flat (ofAll κs) (machine κs a))
-        (Ends 𝓤 H (𝓖 .A) T ts c ((κs, qs, bounds, a, machine κs a), g))))
-        → Triple 𝓤 (tables 𝓤 H 𝓜 𝓡 γ .C k) (tripleOf 𝓤 H (𝓖 .A) (T .signature) (closing 𝓤 H (𝓖 .A) T c))
+    pub shown : Closed 𝓤 H (tables 𝓤 H 𝓜 𝓡 γ .C) (tables 𝓤 H 𝓜 𝓡 γ .Λ) k e → Walks 𝓤 H (𝓖 .A) T ts c (tablesOf 𝓤 H 𝓜 (tables 𝓤 H 𝓜 𝓡 γ)) e → Triple 𝓤 (tables 𝓤 H 𝓜 𝓡 γ .C k) (tripleOf 𝓤 H (𝓖 .A) (T .signature) (closing 𝓤 H (𝓖 .A) T c))
     unfolding tablesOf
     shown closed walk =
         let hs : Stays (T .signature .params) (T .kept) = staysOf (T .signature .params) (T .kept) ts in

@@ -1,5 +1,6 @@
 -- The holes that touch a run, found one by one, are those of the model's search; and a hole in a give's range is in a commit's where the holes have as many pages as the frontier is high.
 --     neighbours-are    what is found among all holes is what a give finds
+--     all-ends-fair     the test of a give's range is that of a commit's
 use mathlib.Core.Path.{_≡_, refl}
 use Prim.Native.Nat.{ℕ, suc, _+_}
 use native.Mathlib.Omega.{arith}
@@ -14,7 +15,7 @@ use Rattle.model.specs.declared.Hole.{Hole}
 use Rattle.model.specs.HoleStore.{next, lowestThat, endsAt, startsAt, holeBefore, holeAfter}
 use Rattle.arena.specs.Fair.{holeFair, holeEndsFair}
 use Rattle.holes.specs.declared.holes.Edges.{Edges}
-use Rattle.holes.specs.Plan.{indexCode, neighboursAs, neighboursOf}
+use Rattle.holes.specs.Plan.{indexCode, neighboursOf}
 use Rattle.holes.specs.Scan.{noBeside, weighed, besideOf}
 
 -- the code of an index behind i others
@@ -48,10 +49,10 @@ ends-fair f h =
     (λ e. rw (e, le-leb (h .pages) f (omega (arith, leb-true (h .first + h .pages) f e))))
     (λ e. simp (e, and-no))
 
-all-ends-fair : (f : ℕ) (hs : List Hole) → every (holeFair f f) hs ≡ every (holeEndsFair f) hs
+pub all-ends-fair : (f : ℕ) (hs : List Hole) → every (holeFair f f) hs ≡ every (holeEndsFair f) hs
 all-ends-fair f [] = refl
 all-ends-fair f (h ∷ hs) = rw (ends-fair f h, all-ends-fair f hs)
 
-pub neighbours-are : (run : Edges) (f : ℕ) (hs : List Hole) → neighboursAs (every (holeFair f f) hs) (besideOf run 0 hs noBeside) ≡ neighboursOf hs f run
+pub neighbours-are : (run : Edges) (hs : List Hole) → besideOf run 0 hs noBeside ≡ neighboursOf hs run
 unfolding neighboursOf
-neighbours-are run f hs = rw (all-ends-fair f hs, found run hs 0, code-first (holeBefore (run .first) hs), code-first (holeAfter (run .end) hs))
+neighbours-are run hs = rw (found run hs 0, code-first (holeBefore (run .first) hs), code-first (holeAfter (run .end) hs))

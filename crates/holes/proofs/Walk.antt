@@ -1,5 +1,5 @@
 -- What the walks by hand of this crate share: the names of the logic that they use, the laws of what is passed by value and of what is lent, and a slice's machine value.
---     number, unit, aHole, aBest, anArena, aDraw, aGain     plain data
+--     number, unit, aHole, aBest, aBeside, anEdges, anArena, aDraw, aGain     plain data
 --     byValue, lent, recordMut, passedOn           a parameter: plain data, a `&[T]`, a `&mut Arena`, a `&mut [T]` that is passed on
 --     lentAt, holeVals, machine, Lent, scaled               a reference, a hole's and a slice's machine values, what a `&[T]` owns, and that an element's offset fits
 use mir.Syntax.{Width}
@@ -13,6 +13,8 @@ use denote.Struct.Laws as laws
 use Rattle.model.proofs.Hole as hole
 use Rattle.holes.proofs.Arena as arena
 use Rattle.holes.proofs.holes.Best as best
+use Rattle.holes.proofs.holes.Beside as beside
+use Rattle.holes.proofs.holes.Edges as edges
 use Rattle.holes.proofs.record.Draw as draw
 use Rattle.holes.proofs.record.Gain as gain
 use Rattle.holes.proofs.Calling.{Plain}
@@ -77,6 +79,12 @@ aHole = record { low = hole.Laws.lowered; tells = laws.tells hole.the-type hole.
 
 abbrev pub aBest : Plain best.the-row
 aBest = record { low = best.Laws.lowered; tells = laws.tells best.the-type best.Laws.the-laws; makes = λ 𝓤 H A W. laws.makes best.the-type best.Laws.the-plain 𝓤 H A; lawful = λ 𝓤 H A W. laws.lawful best.the-type best.Laws.the-laws 𝓤 H A W; silent = λ x f. refl }
+
+abbrev pub aBeside : Plain beside.the-row
+aBeside = record { low = beside.Laws.lowered; tells = laws.tells beside.the-type beside.Laws.the-laws; makes = λ 𝓤 H A W. laws.makes beside.the-type beside.Laws.the-plain 𝓤 H A; lawful = λ 𝓤 H A W. laws.lawful beside.the-type beside.Laws.the-laws 𝓤 H A W; silent = λ x f. refl }
+
+abbrev pub anEdges : Plain edges.the-row
+anEdges = record { low = edges.Laws.lowered; tells = laws.tells edges.the-type edges.Laws.the-laws; makes = λ 𝓤 H A W. laws.makes edges.the-type edges.Laws.the-plain 𝓤 H A; lawful = λ 𝓤 H A W. laws.lawful edges.the-type edges.Laws.the-laws 𝓤 H A W; silent = λ x f. refl }
 
 abbrev pub anArena : Plain arena.the-row
 anArena = record { low = arena.Laws.lowered; tells = laws.tells arena.the-type arena.Laws.the-laws; makes = λ 𝓤 H A W. laws.makes arena.the-type arena.Laws.the-plain 𝓤 H A; lawful = λ 𝓤 H A W. laws.lawful arena.the-type arena.Laws.the-laws 𝓤 H A W; silent = λ x f. refl }

@@ -17,8 +17,8 @@ use Rattle.holes.specs.declared.Arena.{Arena}
 use Rattle.holes.specs.declared.record.Gain.{Gain}
 use Rattle.holes.specs.Change.{gainedBy}
 use Rattle.holes.specs.declared.Plan.{Plan}
-use Rattle.holes.specs.declared.Neighbours.{Neighbours}
 use Rattle.holes.specs.declared.holes.Edges.{Edges}
+use Rattle.holes.specs.declared.holes.Beside.{Beside}
 use Rattle.arena.specs.Load.{loadHole, loadHoles}
 use Rattle.arena.specs.Store.{storeHole}
 use Rattle.holes.specs.Record.{recordOf, storeRecord, advanced, counted, abandoning}
@@ -61,8 +61,8 @@ pub record Places (b : List ℕ) (a : Arena) (m q c d : ℕ) (x : List ℕ) (g :
 abbrev pub edges : ℕ → ℕ → Edges
 edges m q = record { first = q; end = q + m }
 
-unfoldable pub touching : List ℕ → Arena → ℕ → ℕ → Neighbours
-touching b a m q = neighboursOf (loadHoles b 0 (a .count)) (a .frontier) (edges m q)
+unfoldable pub touching : List ℕ → Arena → ℕ → ℕ → Beside
+touching b a m q = neighboursOf (loadHoles b 0 (a .count)) (edges m q)
 
 unfoldable pub giveWords : List ℕ → Arena → ℕ → ℕ → List ℕ
 giveWords b a m q = let t = touching b a m q in cond (leb (a .total + m) holePagesMax) (placeWords b a m q (t .before) (t .after)) b

@@ -8,10 +8,9 @@ use Rattle.facts.specs.Lists.{every}
 use Rattle.model.specs.declared.Hole.{Hole}
 use Rattle.model.specs.HoleStore.{choose, holeBefore, holeAfter}
 use Rattle.holes.specs.declared.Plan.{Plan}
-use Rattle.holes.specs.declared.Neighbours.{Neighbours}
 use Rattle.holes.specs.declared.holes.Edges.{Edges}
 use Rattle.holes.specs.declared.holes.Beside.{Beside}
-use Rattle.arena.specs.Fair.{holeFair, holeEndsFair}
+use Rattle.arena.specs.Fair.{holeFair}
 
 -- an index with one added, 0 for none
 abbrev pub indexCode : Option ℕ → ℕ
@@ -31,9 +30,6 @@ pub record Searches (p : Plan) (r : ℕ) : Type 0 where
   pub told : r ≡ cond (p .fair) (p .code) (2 ^ 32)
   pub small : p .fair ≡ true → r < 2 ^ 32
 
--- ---- what a give of a run finds: the hole before it and the one after, by the model's own search; f is the word FRONTIER
-abbrev pub neighboursAs : Bool → Beside → Neighbours
-neighboursAs fair x = record { fair = fair; before = x .before; after = x .after }
-
-unfoldable pub neighboursOf : List Hole → ℕ → Edges → Neighbours
-neighboursOf hs f run = record { fair = every (holeEndsFair f) hs; before = indexCode (holeBefore (run .first) hs); after = indexCode (holeAfter (run .end) hs) }
+-- ---- what a give of a run finds: the hole before it and the one after, by the model's own search
+unfoldable pub neighboursOf : List Hole → Edges → Beside
+neighboursOf hs run = record { before = indexCode (holeBefore (run .first) hs); after = indexCode (holeAfter (run .end) hs) }

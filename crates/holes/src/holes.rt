@@ -8,7 +8,7 @@ ghost use lib.ListN.{length, getD, take};
 ghost use Rattle.fields.specs.Field.{hole, pages, Has};
 ghost use Rattle.arena.specs.Load.{loadHole};
 ghost use Rattle.arena.specs.Fair.{holeFair};
-ghost use Rattle.holes.specs.Scan.{noHole, key, betterOf, bestOf, besideAt};
+ghost use Rattle.holes.specs.Scan.{noHole, key, betterOf, bestOf, besideAt, besideOf};
 
 pub fn hole_at(holes: &[Hole], i: usize) -> Hole
     requires { ⌜ i < length (now holes) ⌝ }
@@ -91,6 +91,22 @@ pub fn beside_at(run: Edges, i: u32, h: Hole, behind: Beside) -> Beside
         before: code_if(ends, i, behind.before),
         after: code_if(starts, i, behind.after),
     }
+}
+
+// The holes that touch a run, the lowest index of each, among the first `count`, which stand at the index `from` and on, and those behind them.
+pub fn touch(holes: &[Hole], from: u32, count: u32, run: Edges, behind: Beside) -> Beside
+    requires { ⌜ (count ≤ length (now holes)) × (from + count < 2 ^ 32) ⌝ }
+    ensures { λ r. ⌜ r ≡ besideOf run from (take count (now (holes .entry))) behind ⌝ }
+{
+    let mut found = behind;
+    let mut i = count;
+    while 0 < i {
+        let j = i - 1;
+        let h = hole_at(holes, j as usize);
+        found = beside_at(run, from + j, h, found);
+        i = j;
+    }
+    found
 }
 
 // The hole that the words hold at `i`.

@@ -21,12 +21,3 @@ pub struct Plan {
     // The chosen hole: its index and one, or 0 for none.
     pub code: u32,
 }
-
-// What a give of a run finds among the holes.
-pub struct Neighbours {
-    // Every hole is in its range.
-    pub fair: bool,
-    // The hole that ends at the run's first page, and the one that starts at its end: index and one, or 0 for none.
-    pub before: u32,
-    pub after: u32,
-}

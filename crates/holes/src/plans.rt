@@ -7,8 +7,8 @@ use super::holes::better;
 use super::holes::hole_fair;
 use super::holes::hole_from;
 use super::holes::scan;
+use super::holes::touch;
 use crate::Arena;
-use crate::Neighbours;
 use crate::Plan;
 use model::Hole;
 ghost use mathlib.Core.Path.{_≡_};
@@ -18,8 +18,8 @@ ghost use Rattle.facts.specs.Lists.{every};
 ghost use Rattle.model.specs.HoleStore.{holeSlots};
 ghost use Rattle.arena.specs.Load.{loadHoles};
 ghost use Rattle.arena.specs.Fair.{holeFair};
-ghost use Rattle.holes.specs.Plan.{planOf, Searches, neighboursAs, neighboursOf};
-ghost use Rattle.holes.specs.Scan.{bestOf, codeAt};
+ghost use Rattle.holes.specs.Plan.{planOf, Searches, neighboursOf};
+ghost use Rattle.holes.specs.Scan.{bestOf, codeAt, besideOf};
 
 // What a search answers where a hole is out of its range: it is beyond every code.
 pub const UNFAIR: u64 = 4_294_967_296;
@@ -57,11 +57,19 @@ fn part_fair(part: [Hole; 4], total: u32, frontier: u32) -> bool
 }
 
 // The best of a part, which is lent whole, and of those behind it.
-fn weigh(part: [Hole; 4], i: u32, need: u32, behind: Best) -> Best
+fn scan_part(part: [Hole; 4], i: u32, need: u32, behind: Best) -> Best
     requires { ⌜ i + 4 < 2 ^ 32 ⌝ }
     ensures { λ r. ⌜ r ≡ bestOf need i part behind ⌝ }
 {
     scan(&part, i, 4, need, behind)
+}
+
+// The same of the holes that touch a run.
+fn touch_part(part: [Hole; 4], i: u32, run: Edges, behind: Beside) -> Beside
+    requires { ⌜ i + 4 < 2 ^ 32 ⌝ }
+    ensures { λ r. ⌜ r ≡ besideOf run i part behind ⌝ }
+{
+    touch(&part, i, 4, run, behind)
 }
 
 // The chosen hole's code, or `UNFAIR`: the first hole that is out of its range ends it. The holes are looked at in
@@ -81,7 +89,7 @@ pub fn search(meta: &[u32], count: u32, total: u32, frontier: u32, pages: u32) -
         if !part_fair(part, total, frontier) {
             return UNFAIR;
         }
-        best = weigh(part, left, pages, best);
+        best = scan_part(part, left, pages, best);
     }
     while 0 < left {
         left -= 1;
@@ -118,32 +126,25 @@ pub fn plan(meta: &[u32], a: Arena, pages: u32) -> Plan
     }
 }
 
-fn beside(fair: bool, sides: Beside) -> Neighbours
-    ensures { λ r. ⌜ r ≡ neighboursAs fair sides ⌝ }
+// The holes that a run touches, looked for in the same parts.
+pub fn neighbours(meta: &[u32], count: u32, run: Edges) -> Beside
+    requires { ⌜ (count ≤ holeSlots) × (40000 ≤ length (now meta)) ⌝ }
+    ensures { λ r. ⌜ r ≡ neighboursOf (loadHoles (now (meta .entry)) 0 count) run ⌝ }
 {
-    Neighbours {
-        fair,
-        before: sides.before,
-        after: sides.after,
-    }
-}
-
-// A hole that ends below the frontier has no more pages than that.
-pub fn neighbours(meta: &[u32], a: Arena, run: Edges) -> Neighbours
-    requires { ⌜ (a .count ≤ holeSlots) × (40000 ≤ length (now meta)) ⌝ }
-    ensures { λ r. ⌜ r ≡ neighboursOf (loadHoles (now (meta .entry)) 0 (a .count)) (a .frontier) run ⌝ }
-{
-    let mut fair = true;
     let mut sides = Beside {
         before: 0,
         after: 0,
     };
-    let mut left = a.count;
+    let mut left = count;
+    while 4 <= left {
+        left -= 4;
+        let part = part_at(meta, left);
+        sides = touch_part(part, left, run, sides);
+    }
     while 0 < left {
         left -= 1;
         let h = hole_from(meta, left);
-        fair = fair & hole_fair(h, a.frontier, a.frontier);
         sides = beside_at(run, left, h, sides);
     }
-    beside(fair, sides)
+    sides
 }

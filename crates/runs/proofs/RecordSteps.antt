@@ -1,39 +1,39 @@
 -- The ways out of the functions, over plain values.
-use Prim.Native.Nat.{ℕ, zero, suc, _+_, _-_, _≤_, _<_}
+use Prim.Native.Nat.{ℕ, zero, suc, _+_, _-_, _≤_, _<_, _^_}
 use native.Mathlib.Omega.{arith}
 use native.Mathlib.Numerals.{add-one}
-use mathlib.Core.Bool.{Bool, true, false}
-use mathlib.Core.List.{List, []}
+use mathlib.Core.Bool.{Bool, true, false, not}
+use mathlib.Core.List.{List}
 use mathlib.Core.Option.{Option}
 use mathlib.Core.Path.{_≡_, refl, sym, ap, _∙_, subst}
-use lib.Dec.{leb}
+use lib.Dec.{leb, eqb}
 use lib.ListN.{length}
-use borrow.Author.Tests.{lt-ltb, le-ltb, le-leb, lt-leb, eq-eqb, ne-eqb}
+use borrow.Author.Tests.{lt-ltb, le-ltb, le-leb, lt-leb, eq-eqb, ne-eqb, eqb-true, eqb-false}
 use Rattle.facts.specs.Lists.{every}
-use Rattle.facts.proofs.Bools.{and-no}
+use Rattle.facts.proofs.Bools.{by-cases, and-no}
 use Rattle.words.specs.Limits.{holeSlots, holePagesMax}
 use Rattle.fields.specs.Field as Field
 use Rattle.fields.specs.Field.{arena, page, owner, state, frontier, holes, holePages, held, pages, get, put}
 use Rattle.fields.proofs.Laws.{length-put}
 use Rattle.holes.specs.declared.Arena.{Arena}
-use Rattle.holes.specs.declared.Neighbours.{Neighbours}
-use Rattle.holes.specs.declared.holes.Edges.{Edges}
+use Rattle.holes.specs.declared.holes.Beside.{Beside}
 use Rattle.holes.specs.declared.record.Gain.{Gain}
 use Rattle.holes.specs.Change.{gainedBy, gains, lost}
-use Rattle.holes.specs.Record.{recordOf, abandoning}
-use Rattle.holes.specs.Plan.{indexCode, neighboursOf}
+use Rattle.holes.specs.Record.{abandoning}
+use Rattle.holes.specs.Plan.{indexCode, planOf, Searches, neighboursOf}
 use Rattle.arena.specs.Fair.{recordFair, holeEndsFair, holesEndFair}
 use Rattle.arena.specs.Owners.{own}
 use Rattle.arena.specs.Load.{loadHole, loadHoles}
 use Rattle.arena.specs.Store.{storeHole}
 use Rattle.arena.proofs.Frames.{loaded-length}
 use Rattle.model.specs.declared.Hole.{Hole}
-use Rattle.model.specs.HoleStore.{hole, holeAt, lowestThat, endsAt, startsAt, holeBefore, holeAfter, withBefore, withAfter, withBoth}
+use Rattle.model.specs.HoleStore.{hole, holeAt, endsAt, startsAt, holeBefore, holeAfter, withBefore, withAfter, withBoth}
 use Rattle.model.proofs.Placing.{Found, found, not-found, finds}
 use Rattle.holes.specs.Act.{bothWords, placeWords, placeRecord, Places, edges, touching, giveWords, giveRecord, Gives}
 use Rattle.holes.proofs.StoreLaws.{loaded-at}
 use Rattle.holes.proofs.EndsFair.{ends-at}
-use Rattle.runs.specs.Asks.{StoreIn, SlotIn, StoredIn, TouchIn, LookIn}
+use Rattle.holes.proofs.Planning.{ends-are, ends-not}
+use Rattle.runs.specs.Asks.{StoreIn, SlotIn, StoredIn, TouchIn}
 
 -- ---- the record's test: one failing word is enough
 module _ (n : ℕ) (b : List ℕ) where
@@ -92,17 +92,13 @@ module _ (b₀ : List ℕ) (first pages w : ℕ) where
   owns-done b p left k l = let z : left ≡ 0 = omega arith in none w b p left z ∙ k .rest
 
 -- ---- the holes' test
-module _ (b : List ℕ) (a : Arena) (e : a ≡ recordOf b) where
-  pub record-few : get b (arena holes) ≤ holeSlots → a .count ≤ holeSlots
-  record-few l = let z : a .count ≡ get b (arena holes) = ap (λ y. y .count) e in omega arith
+module _ (b : List ℕ) (f count c : ℕ) (e : f ≡ get b (arena frontier)) (d : count ≡ get b (arena holes)) (k : Searches (planOf (loadHoles b 0 count) f f 0) c) where
+  ends-told : every (holeEndsFair f) (loadHoles b 0 count) ≡ holesEndFair b
+  unfolding holesEndFair
+  ends-told = rw (e, d)
 
-  pub none-fair : a .count ≡ 0 → true ≡ holesEndFair b
-  unfolding holesEndFair loadHoles
-  none-fair z = let y : get b (arena holes) ≡ 0 = sym (ap (λ y. y .count) e) ∙ z in rw y
-
-  pub told-fair : (t : Neighbours) (run : Edges) → t ≡ neighboursOf (loadHoles b 0 (a .count)) (a .frontier) run → t .fair ≡ holesEndFair b
-  unfolding holesEndFair neighboursOf
-  told-fair t run f = ap (λ y. y .fair) f ∙ ap (λ y. every (holeEndsFair (y .frontier)) (loadHoles b 0 (y .count))) e
+  pub told-fair : not (eqb c (2 ^ 32)) ≡ holesEndFair b
+  told-fair = by-cases (eqb c (2 ^ 32)) (λ t. rw t (ends-not b f count c k (eqb-true c (2 ^ 32) t) ∙ ends-told)) (λ t. rw t (ends-are b f count c k (eqb-false c (2 ^ 32) t) ∙ ends-told))
 
 -- ---- a run placed among the holes, by the codes c and d of those that it touches
 module _ (b : List ℕ) (a : Arena) (m q : ℕ) where
@@ -171,23 +167,12 @@ module _ (b : List ℕ) (a : Arena) (m q : ℕ) where
       let y = ap (λ v. v .pages) e in
       record { book = rw z; top = rw z (ap (λ v. gainedBy v a) e ∙ lost-is b a m q); few = omega arith }
 
-  pub look-in : StoreIn b a q m → LookIn b a q m
-  look-in s = record { long = s .long; few = s .few; near = s .near }
-
-  pub looks-none : a .count ≡ 0 → record { fair = true; before = 0; after = 0 } ≡ touching b a m q
-  unfolding touching neighboursOf loadHoles lowestThat
-  looks-none z = let e : loadHoles b 0 (a .count) ≡ [] = ap (loadHoles b 0) z in rw e
-
-  pub looks-through : (t : Neighbours) → t ≡ neighboursOf (loadHoles b 0 (a .count)) (a .frontier) (edges m q) → t ≡ touching b a m q
-  unfolding touching
-  looks-through t e = e
-
   pub slot-in : StoreIn b a q m → SlotIn b a m
   slot-in s = record { long = s .long; few = s .few; short = s .short; near = let z = s .near in omega arith }
 
-  module _ (t : Neighbours) (e : t ≡ touching b a m q) where
+  module _ (t : Beside) (e : t ≡ neighboursOf (loadHoles b 0 (a .count)) (edges m q)) where
     pub gives-placed : (x : List ℕ) (g : Gain) → a .total + m ≤ holePagesMax → Places b a m q (t .before) (t .after) x g → Gives b a m q x g
-    unfolding giveWords giveRecord
+    unfolding giveWords giveRecord touching
     gives-placed x g l k =
         let y = le-leb (a .total + m) holePagesMax l in
         record { book = rw (y, ← e) (k .book); top = rw (y, ← e) (k .top); few = k .few }
@@ -211,9 +196,9 @@ module _ (b : List ℕ) (a : Arena) (m q : ℕ) where
       found-in u (found i l h) d = let z : suc i - 1 ≡ i = omega arith in rw z (stored-at i l)
 
       pub before-in : TouchIn b a (t .before)
-      unfolding touching neighboursOf HS
+      unfolding neighboursOf HS
       before-in = let z : t .before ≡ indexCode (holeBefore q HS) = ap (λ y. y .before) e in subst (TouchIn b a) (sym z) (found-in (endsAt q) (finds (endsAt q) HS))
 
       pub after-in : TouchIn b a (t .after)
-      unfolding touching neighboursOf HS
+      unfolding neighboursOf HS
       after-in = let z : t .after ≡ indexCode (holeAfter (q + m) HS) = ap (λ y. y .after) e in subst (TouchIn b a) (sym z) (found-in (startsAt (q + m)) (finds (startsAt (q + m)) HS))

@@ -64,12 +64,6 @@ pub record StoreIn (b : List ℕ) (a : Arena) (q m : ℕ) : Type 0 where
   pub near : q + m ≤ maxPages
   pub ends : EndsIn b a
 
--- the holes of a record, looked through for those that a run of m pages at q touches
-pub record LookIn (b : List ℕ) (a : Arena) (q m : ℕ) : Type 0 where
-  pub long : 40000 ≤ length b
-  pub few : a .count ≤ holeSlots
-  pub near : q + m ≤ maxPages
-
 -- m pages that come to a slot
 pub record SlotIn (b : List ℕ) (a : Arena) (m : ℕ) : Type 0 where
   pub long : 40000 ≤ length b

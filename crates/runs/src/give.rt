@@ -4,7 +4,6 @@ use super::load;
 use super::owners;
 use super::store;
 use holes::Arena;
-use holes::Neighbours;
 use holes::holes::Edges;
 use holes::plans;
 use holes::record::Gain;
@@ -20,8 +19,8 @@ ghost use Rattle.arena.specs.Store.{storeHole};
 ghost use Rattle.arena.specs.Fair.{giveFair};
 ghost use Rattle.arena.specs.Calls.{given};
 ghost use Rattle.holes.specs.Change.{gains, lost};
-ghost use Rattle.holes.specs.Act.{bothWords, Places, touching, Gives, endGiven};
-ghost use Rattle.runs.specs.Asks.{StoreIn, SlotIn, StoredIn, TouchIn, LookIn, GiveIn, BackIn};
+ghost use Rattle.holes.specs.Act.{bothWords, Places, Gives, endGiven};
+ghost use Rattle.runs.specs.Asks.{StoreIn, SlotIn, StoredIn, TouchIn, GiveIn, BackIn};
 
 // The holes gain pages; the run is lost.
 fn gains(count: u32, pages: u32) -> Gain
@@ -129,25 +128,6 @@ fn place(meta: &mut [u32], a: Arena, first: u32, pages: u32, before: u32, after:
     join_both(meta, a, before - 1, after - 1, pages)
 }
 
-// The holes that a run touches, and whether all are in their range. With no hole stored none is read.
-fn look(meta: &[u32], a: Arena, first: u32, pages: u32) -> Neighbours
-    requires { ⌜ LookIn (now meta) a first pages ⌝ }
-    ensures { λ r. ⌜ r ≡ touching (now (meta .entry)) a pages first ⌝ }
-{
-    if a.count == 0 {
-        return Neighbours {
-            fair: true,
-            before: 0,
-            after: 0,
-        };
-    }
-    let run = Edges {
-        first,
-        end: first + pages,
-    };
-    plans::neighbours(meta, a, run)
-}
-
 // The run is put among the holes, or abandoned.
 fn place_run(meta: &mut [u32], a: Arena, first: u32, pages: u32) -> Gain
     requires { ⌜ StoreIn (now meta) a first pages ⌝ }
@@ -156,7 +136,11 @@ fn place_run(meta: &mut [u32], a: Arena, first: u32, pages: u32) -> Gain
     if HOLE_PAGES_MAX < a.total + pages {
         return lost(a.count);
     }
-    let t = look(meta, a, first, pages);
+    let run = Edges {
+        first,
+        end: first + pages,
+    };
+    let t = plans::neighbours(meta, a.count, run);
     place(meta, a, first, pages, t.before, t.after)
 }
 

@@ -1,6 +1,5 @@
 // The arena's record as the words hold it, and number 13's tests of it.
 use holes::Arena;
-use holes::holes::Edges;
 use holes::plans;
 use words::limits::HOLE_PAGES_MAX;
 use words::limits::HOLE_SLOTS;
@@ -47,15 +46,12 @@ pub fn record_fair(meta: &[u32], size: u32) -> bool
     fields::arena::held(meta) <= size
 }
 
-// Is every hole in a give's range. With no hole stored none is read.
+// Is every hole in a give's range: that of a commit, where the holes could have as many pages as the frontier is high.
 pub fn holes_fair(meta: &[u32]) -> bool
     requires { ⌜ (40000 ≤ length (now meta)) × (get (now meta) (arena holes) ≤ holeSlots) ⌝ }
     ensures { λ r. ⌜ r ≡ holesEndFair (now (meta .entry)) ⌝ }
 {
-    let a = load_record(meta);
-    if a.count == 0 {
-        return true;
-    }
-    let t = plans::neighbours(meta, a, Edges { first: 0, end: 0 });
-    t.fair
+    let f = fields::arena::frontier(meta);
+    let code = plans::search(meta, fields::arena::holes(meta), f, f, 0);
+    code != plans::UNFAIR
 }

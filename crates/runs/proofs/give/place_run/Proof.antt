@@ -1,11 +1,11 @@
 use borrow.Author.Needs.{needs}
 use Rattle.runs.proofs.give.place_run.Statement.{statement}
 use Rattle.runs.proofs.give.place_run.Tie as tie
-use Rattle.runs.proofs.RecordSteps.{gives-over, slot-in, look-in, before-in, after-in, gives-placed}
+use Rattle.runs.proofs.RecordSteps.{gives-over, slot-in, before-in, after-in, gives-placed}
 
 pub place-run-spec : {M : Type 1} → statement M
 place-run-spec =
     tie.close
     (tie.spec
-    (λ c. search needs) (λ c κs. search needs) (λ c. search gives-over) (λ c κs. search look-in)
+    (λ c. search needs) (λ c κs. search needs) (λ c. search gives-over) (λ c. search needs) (λ c κs. search needs)
     (λ c κs. (search slot-in, search before-in, search after-in)) (λ c. search needs) (λ c. search gives-placed))
