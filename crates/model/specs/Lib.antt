@@ -19,6 +19,8 @@ pub mod Offered
 pub mod BestFit
 pub mod Joining
 pub mod Order
+pub mod Remembered
+pub mod Original
 pub mod Yields
 pub mod Demands
 pub mod Examples
