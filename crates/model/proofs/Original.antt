@@ -3,31 +3,29 @@
 use Prim.Native.Nat.{ℕ, suc, _+_, _-_}
 use mathlib.Core.Path.{_≡_, refl, sym, ap, ap₂, _∙_, subst}
 use mathlib.Core.List.{List, [], _∷_, _++_, map}
-use mathlib.Core.Option.{none}
 use mathlib.Core.Bool.{Bool, true, false, cond}
-use native.Mathlib.Omega.{arith}
 use lib.ListN.{length, take}
 use Rattle.facts.specs.Lists.{All}
 use Rattle.classes.specs.Shape.{shapeOf}
 use Rattle.rules.specs.Rules.{plainRules}
 use Rattle.model.specs.Cover.{covers, coversRun}
 use Rattle.model.specs.Calls as Calls
-use Rattle.model.specs.Calls.{Call, Answer, Request, Way, turned, straight, toClass, wayOf, hostOf}
+use Rattle.model.specs.Calls.{Call, Request, Way, turned, straight, toClass, wayOf, hostOf}
 use Rattle.model.specs.Arena as Arenas
 use Rattle.model.specs.Class.{Ask, done, asks, serve}
 use Rattle.model.specs.Chunks.{answer}
 use Rattle.model.specs.Heap as Heaps
-use Rattle.model.specs.Heap.{Heap, newHeap, nobody, direct, passTo, withPages, finish, asked, badRun, badGrowth, heldDirect, answerRun, unchanged}
+use Rattle.model.specs.Heap.{Heap, newHeap, nobody, direct, passTo, withPages, finish, asked, answerRun}
 use Rattle.model.specs.History as Histories
 use Rattle.model.specs.History.{eventsFrom}
 use Rattle.model.specs.Entries.{Entry}
-use Rattle.model.specs.Remembered.{Memory, noMemory, Act, State, giveAll, Given, Grown, commit, grow, give}
-use Rattle.model.specs.Original.{Outcome, begun, asModel, offer, interact, classCall, commitCall, growCall, releaseCall, directCall, route, step, answersFrom, actsFrom, heapFrom, originalActs, AsBefore, Equality}
+use Rattle.model.specs.Remembered.{Memory, noMemory, commit}
+use Rattle.model.specs.Original.{Outcome, begun, asModel, offer, interact, classCall, commitCall, growCall, releaseCall, directCall, route, step, answersFrom, actsFrom, heapFrom, originalActs, Alike, Equality}
 use Rattle.model.proofs.Tidy.{Tidy}
 use Rattle.model.proofs.HeapLaws.{Inv, start, step-inv}
 use Rattle.model.proofs.ArenaTidy.{tidy-new}
 use Rattle.model.proofs.HistoryArena.{once-inv, tidy-step}
-use Rattle.model.proofs.Remembered.{Apart, give-fine, give-same, gives-fine, gives-same, asGiven, commit-same, asGrown, grow-same}
+use Rattle.model.proofs.Remembered.{Apart, give-fine, give-same, gives-fine, gives-same, asGiven, commit-same, grow-same}
 
 -- a call by these rules is the model's, memory aside
 record Same (o : Outcome) (p : Heaps.Outcome) : Type 0 where
@@ -36,7 +34,7 @@ record Same (o : Outcome) (p : Heaps.Outcome) : Type 0 where
 
 -- as far as what it did is as before
 record Follows (o : Outcome) (p : Heaps.Outcome) : Type 0 where
-  by : All AsBefore (o .acts) → Same o p
+  by : All Alike (o .acts) → Same o p
 
 follows-cond : (b : Bool) (o o′ : Outcome) (p p′ : Heaps.Outcome) → Follows o p → Follows o′ p′ → Follows (cond b o o′) (cond b p p′)
 follows-cond true o o′ p p′ f g = f
@@ -47,7 +45,7 @@ same m p = record { by = λ f. record { heap = refl; answer = refl } }
 
 module _ (size : ℕ) (H : Heap) (m : Memory) (d : Apart (H .arena .store .holes)) where
   -- a class's call
-  offer-same : (h : ℕ) (q : Ask) → All AsBefore (offer size h (begun H m) q .state .acts) → asGiven (offer size h (begun H m) q) ≡ Heaps.offer size h (H .arena) q
+  offer-same : (h : ℕ) (q : Ask) → All Alike (offer size h (begun H m) q .state .acts) → asGiven (offer size h (begun H m) q) ≡ Heaps.offer size h (H .arena) q
   unfolding offer Heaps.offer
   offer-same h (done r) f = refl
   offer-same h (asks n k) f = commit-same size h n (begun H m) d f
@@ -120,13 +118,13 @@ record Along (size : ℕ) (H : Heap) (m : Memory) (xs : List Call) : Type 0 wher
   heap : heapFrom size H m xs ≡ Histories.heapFrom size H xs
 
 module _ (size : ℕ) where
-  along : (n : ℕ) (H : Heap) (es : List Entry) (f : ℕ → Bool) (l : ℕ → ℕ) → Inv size n H es f l → Tidy (H .arena .store) → (m : Memory) (xs : List Call) → All (All AsBefore) (actsFrom size H m xs) → Along size H m xs
+  along : (n : ℕ) (H : Heap) (es : List Entry) (f : ℕ → Bool) (l : ℕ → ℕ) → Inv size n H es f l → Tidy (H .arena .store) → (m : Memory) (xs : List Call) → All (All Alike) (actsFrom size H m xs) → Along size H m xs
   along n H es f l inv t m [] g = record { answers = refl; heap = refl }
   along n H es f l inv t m (x ∷ xs) g =
       let o = step size H m x in
       let p = Heaps.step size H x in
       let w = step-same size H m (record { each = t .each; once = once-inv inv }) x .by (g .0) in
-      let rest : All (All AsBefore) (actsFrom size (p .heap) (o .memory) xs) = subst (λ K. All (All AsBefore) (actsFrom size K (o .memory) xs)) (w .heap) (g .1) in
+      let rest : All (All Alike) (actsFrom size (p .heap) (o .memory) xs) = subst (λ K. All (All Alike) (actsFrom size K (o .memory) xs)) (w .heap) (g .1) in
       let ih = along (suc n) (p .heap) _ _ _ (step-inv size n H es f l inv x) (tidy-step size H (once-inv inv) t x) (o .memory) xs rest in
       record {
         answers = ap₂ (λ z zs. z ∷ zs) (w .answer) (ap (λ K. answersFrom size K (o .memory) xs) (w .heap) ∙ ih .answers);
@@ -149,5 +147,5 @@ module _ (size : ℕ) where
     heap = λ g. sym (by g .heap);
   }
     where
-      by : All (All AsBefore) (originalActs size xs) → Along size (newHeap plainRules) noMemory xs
+      by : All (All Alike) (originalActs size xs) → Along size (newHeap plainRules) noMemory xs
       by g = along 0 (newHeap plainRules) [] (λ x. false) (λ x. 0) (start size plainRules) (unfold newHeap in tidy-new) noMemory xs g

@@ -1,10 +1,10 @@
 -- Document 01's choice of a hole is one of the least sufficient length; where it is the lowest page it is the model's. A given run that touches no
 -- hole goes where the model puts it. So a call's part at the arena is the model's, memory aside.
-use Prim.Native.Nat.{ℕ, suc, _+_, _≤_, _<_}
+use Prim.Native.Nat.{ℕ, _+_, _≤_, _<_}
 use mathlib.Core.Path.{_≡_, refl, sym, ap, _∙_}
 use mathlib.Core.List.{List, [], _∷_}
 use mathlib.Core.Option.{Option, none, some}
-use mathlib.Core.Bool.{Bool, true, false, cond, _&&_, false≢true}
+use mathlib.Core.Bool.{Bool, true, false, _&&_, false≢true}
 use mathlib.Core.Logic.{inl, inr}
 use native.Mathlib.Omega.{arith}
 use lib.Dec.{eqb, leb, ltb}
@@ -16,13 +16,13 @@ use Rattle.words.specs.Host.{reservationGranted, commitGranted}
 use Rattle.model.specs.Cover.{covers}
 use Rattle.model.specs.declared.Hole.{Hole}
 use Rattle.model.specs.HoleStore as Stores
-use Rattle.model.specs.HoleStore.{HoleStore, hole, holeAt, setAt, endsAt, startsAt, holeBefore, holeAfter, holeSlots, holePagesMax, insert, place, accepts}
+use Rattle.model.specs.HoleStore.{hole, holeAt, setAt, endsAt, startsAt, holeSlots, holePagesMax, insert, place, accepts}
 use Rattle.model.specs.Arena as Arenas
-use Rattle.model.specs.Arena.{Arena, Status, unasked, ready, disabled, withStatus, withFrontier, drawFrom, canGrow}
+use Rattle.model.specs.Arena.{Status, unasked, ready, disabled, withStatus, withFrontier, drawFrom, canGrow}
 use Rattle.model.specs.BestFit.{LeastAt, Which, NoneFits}
 use Rattle.model.specs.Joining.{Touches}
-use Rattle.model.specs.Remembered.{Memory, lowest, stillHolds, lesser, leastAbove, lowestOf, failing, Choice, choose, hasSlot, Act, chose, gave, State, state, onArena, holesOf, give, giveAll, Given, given, drawBy, draw, grant, commitReady, commitAs, commit, Grown, grow}
-use Rattle.model.specs.Original.{AsBefore}
+use Rattle.model.specs.Remembered.{Memory, stillHolds, lesser, leastAbove, lowestOf, failing, Choice, choose, hasSlot, gave, State, state, onArena, holesOf, give, giveAll, Given, given, drawBy, draw, grant, commitReady, commitAs, commit, Grown, grow}
+use Rattle.model.specs.Original.{Alike}
 use Rattle.model.proofs.Runs.{covers-in, covers-after}
 use Rattle.model.proofs.HoleLists.{num, all-map, set-total, at-total, set-length, set-differs, all-at}
 use Rattle.model.proofs.Placing.{Found, found, not-found, finds}
@@ -159,7 +159,7 @@ module _ (n q : ℕ) (s : State) where
   unfolding give
   gives = by-cases (hasSlot n (s .arena .store)) (λ e. rw e) (λ e. rw e)
 
-  pub give-fine : All AsBefore (give n q s .acts) → (Touches n q (holesOf s) → ⊥) × All AsBefore (s .acts)
+  pub give-fine : All Alike (give n q s .acts) → (Touches n q (holesOf s) → ⊥) × All Alike (s .acts)
   give-fine f = rw gives at f
 
   no-before : (Touches n q (holesOf s) → ⊥) → {o : Option ℕ} → Found (endsAt q) (holesOf s) o → o ≡ none
@@ -176,11 +176,11 @@ module _ (n q : ℕ) (s : State) where
       rw (no-before t (finds (endsAt q) (holesOf s)), no-after t (finds (startsAt (q + n)) (holesOf s)))
       (by-cases (leb (s .arena .store .total + n) holePagesMax && ltb (length (holesOf s)) holeSlots) (λ e. rw e) (λ e. rw e))
 
-pub gives-fine : (n : ℕ) (qs : List ℕ) (s : State) → All AsBefore (giveAll n qs s .acts) → All AsBefore (s .acts)
+pub gives-fine : (n : ℕ) (qs : List ℕ) (s : State) → All Alike (giveAll n qs s .acts) → All Alike (s .acts)
 gives-fine n [] s f = f
 gives-fine n (q ∷ qs) s f = give-fine n q s (gives-fine n qs (give n q s) f) .1
 
-pub gives-same : (n : ℕ) (qs : List ℕ) (s : State) → All AsBefore (giveAll n qs s .acts) → giveAll n qs s .arena ≡ Arenas.giveAll n qs (s .arena)
+pub gives-same : (n : ℕ) (qs : List ℕ) (s : State) → All Alike (giveAll n qs s .acts) → giveAll n qs s .arena ≡ Arenas.giveAll n qs (s .arena)
 gives-same n [] s f = refl
 gives-same n (q ∷ qs) s f = gives-same n qs (give n q s) f ∙ ap (Arenas.giveAll n qs) (give-same n q s (give-fine n q s (gives-fine n qs (give n q s) f) .0))
 
@@ -194,19 +194,19 @@ module _ (size n : ℕ) (s : State) where
   draw-by c none = refl
   draw-by c (some i) = refl
 
-  draw-low : (d : Apart (holesOf s)) (c : Choice) (o : Option ℕ) → All AsBefore (drawBy size n s c o .state .acts) → Lowest (holesOf s) d o
+  draw-low : (d : Apart (holesOf s)) (c : Choice) (o : Option ℕ) → All Alike (drawBy size n s c o .state .acts) → Lowest (holesOf s) d o
   unfolding drawBy
   draw-low d c none f = tt
   draw-low d c (some i) f = f .0
 
-  draw-same : Apart (holesOf s) → All AsBefore (draw size n s .state .acts) → asGiven (draw size n s) ≡ Arenas.draw size n (s .arena)
+  draw-same : Apart (holesOf s) → All Alike (draw size n s .state .acts) → asGiven (draw size n s) ≡ Arenas.draw size n (s .arena)
   unfolding draw Arenas.draw
   draw-same d f =
       let c = choose n (holesOf s) (s .memory) in
       draw-by c (c .index) ∙ ap (drawFrom size n (s .arena)) (sym (same-choice (holesOf s) d n (choose-picks n (holesOf s) (s .memory)) (chosen n (holesOf s)) (draw-low d c (c .index) f)))
 
 module _ (size h n : ℕ) where
-  grant-same : (s : State) (o : Option ℕ) (b : Bool) → All AsBefore (grant h n s o b .state .acts) → (asGiven (grant h n s o b) ≡ Arenas.grant h n (s .arena) o b) × All AsBefore (s .acts)
+  grant-same : (s : State) (o : Option ℕ) (b : Bool) → All Alike (grant h n s o b .state .acts) → (asGiven (grant h n s o b) ≡ Arenas.grant h n (s .arena) o b) × All Alike (s .acts)
   unfolding grant Arenas.grant
   grant-same s none b f = (refl, f)
   grant-same s (some q) b f =
@@ -214,20 +214,20 @@ module _ (size h n : ℕ) where
       (λ e. (rw e, rw e at f))
       (λ e. let k = give-fine n q s (rw e at f) in (rw e (ap (λ a. Arenas.given a none false) (give-same n q s (k .0))), k .1))
 
-  ready-same : (s : State) → Apart (holesOf s) → All AsBefore (commitReady size h n s .state .acts) → asGiven (commitReady size h n s) ≡ Arenas.commitReady size h n (s .arena)
+  ready-same : (s : State) → Apart (holesOf s) → All Alike (commitReady size h n s .state .acts) → asGiven (commitReady size h n s) ≡ Arenas.commitReady size h n (s .arena)
   unfolding commitReady Arenas.commitReady
   ready-same s d f =
       let k = draw size n s in
       let w = grant-same (k .state) (k .run) (k .fresh) f in
       w .0 ∙ ap (λ g. Arenas.grant h n (g .arena) (g .run) (g .fresh)) (draw-same size n s d (w .1))
 
-  as-same : (s : State) (x : Status) → Apart (holesOf s) → All AsBefore (commitAs size h n s x .state .acts) → asGiven (commitAs size h n s x) ≡ Arenas.commitAs size h n (s .arena) x
+  as-same : (s : State) (x : Status) → Apart (holesOf s) → All Alike (commitAs size h n s x .state .acts) → asGiven (commitAs size h n s x) ≡ Arenas.commitAs size h n (s .arena) x
   unfolding commitAs Arenas.commitAs
   as-same s unasked d f = by-cases (reservationGranted h) (λ e. rw e (ready-same (onArena (withStatus ready) s) d (rw e at f))) (λ e. rw e)
   as-same s ready d f = ready-same s d f
   as-same s disabled d f = refl
 
-  pub commit-same : (s : State) → Apart (holesOf s) → All AsBefore (commit size h n s .state .acts) → asGiven (commit size h n s) ≡ Arenas.commit size h n (s .arena)
+  pub commit-same : (s : State) → Apart (holesOf s) → All Alike (commit size h n s .state .acts) → asGiven (commit size h n s) ≡ Arenas.commit size h n (s .arena)
   unfolding Arenas.commit
   commit-same s d f = as-same s (s .arena .status) d f
 
@@ -235,13 +235,13 @@ module _ (size h n : ℕ) where
 abbrev pub asGrown : Grown → Arenas.Grown
 asGrown g = Arenas.grown (g .state .arena) (g .grew)
 
-pub grow-same : (size h e n : ℕ) (s : State) → All AsBefore (grow size h e n s .state .acts) → asGrown (grow size h e n s) ≡ Arenas.grow size h e n (s .arena)
+pub grow-same : (size h e n : ℕ) (s : State) → All Alike (grow size h e n s .state .acts) → asGrown (grow size h e n s) ≡ Arenas.grow size h e n (s .arena)
 unfolding grow Arenas.grow
 grow-same size h e n s f =
     by-cases (canGrow size e n (s .arena))
     (λ c. by-cases (commitGranted h)
     (λ d. rw c (rw d))
     (λ d. let t = onArena (withFrontier (e + n)) s in
-    let g : All AsBefore (give n e t .acts) = rw (c, d) at f in
+    let g : All Alike (give n e t .acts) = rw (c, d) at f in
     rw c (rw d (ap (λ a. Arenas.grown a false) (give-same n e t (give-fine n e t g .0))))))
     (λ c. rw c)

@@ -24,3 +24,4 @@ pub mod Original
 pub mod Yields
 pub mod Demands
 pub mod Examples
+pub mod OriginalExamples

@@ -1,12 +1,12 @@
 -- The heap by document 01's own hole store (specs/Remembered), and how far its answers are the model's. All that documents 01 and 02 say of classes,
 -- refusals and reports is the model's; only what is asked of the arena differs. No code reads this.
 --     step         one call by these rules: the heap, the memory, the answer, and what it did to the holes
---     AsBefore     what is asked of that: no given run touches a hole, each hole chosen is the lowest page
---     Equality     then the answers are the model's, call by call
+--     Claimed      no given run touches a hole, and each hole chosen is the lowest page: here equality is claimed
+--     Equality     the answers are then the model's, call by call
 use Prim.Native.Nat.{ℕ, _+_, _-_}
 use mathlib.Core.List.{List, [], _∷_, _++_}
-use mathlib.Core.Option.{Option, none}
-use mathlib.Core.Bool.{Bool, false, cond, not}
+use mathlib.Core.Option.{none}
+use mathlib.Core.Bool.{false, cond, not}
 use mathlib.Core.Path.{_≡_}
 use lib.ListN.{length, take}
 use Rattle.facts.specs.Lists.{All}
@@ -35,14 +35,14 @@ pub record Outcome : Type 0 where
 abbrev pub outcome : State → (ℕ → Holder) → Heap → Answer → Outcome
 outcome s w H x = record { heap = withPages (s .arena) w H; memory = s .memory; answer = x; acts = s .acts }
 
--- as a call begins; what the model does with no arena
+-- as a call begins; a call that asks nothing of the arena is the model's
 abbrev pub begun : Heap → Memory → State
 begun H m = state (H .arena) m []
 
 abbrev pub asModel : Memory → Heaps.Outcome → Outcome
 asModel m o = record { heap = o .heap; memory = m; answer = o .answer; acts = [] }
 
--- a class's call: it asks, the arena commits, the class goes on and gives back
+-- a class's call: it asks, the arena commits, the class goes on and gives back; all but the arena is as `finish` leaves it
 unfoldable pub offer : ℕ → ℕ → State → Ask → Given
 offer size h s (done r) = given s none false
 offer size h s (asks n k) = commit size h n s
@@ -122,18 +122,19 @@ originalActs size xs = actsFrom size (newHeap plainRules) noMemory xs
 abbrev pub originalHeap : ℕ → List Call → Heap
 originalHeap size xs = heapFrom size (newHeap plainRules) noMemory xs
 
--- "histories in which no two holes would touch" (document 02, A.4): the given run neither starts where a hole ends nor ends where one starts.
--- "Where the Rust would choose another equal hole" (A.8): here it chooses the one with the lowest page.
-abbrev pub AsBefore : Act → Type 0
-AsBefore (chose hs i) = Which hs i
-AsBefore (gave hs q n) = Touches n q hs → ⊥
+-- an act that document 02 leaves as it was. A.4, "histories in which no two holes would touch": the given run neither starts where a hole ends nor
+-- ends where one starts. A.8, "Where the Rust would choose another equal hole": the one chosen has the lowest page of its length.
+abbrev pub Alike : Act → Type 0
+Alike (chose hs i) = Which hs i
+Alike (gave hs q n) = Touches n q hs → ⊥
 
-abbrev pub AllAsBefore : ℕ → List Call → Type 0
-AllAsBefore size xs = All (All AsBefore) (originalActs size xs)
+-- the calls for which equality is claimed: all their acts are such
+abbrev pub Claimed : ℕ → List Call → Type 0
+Claimed size xs = All (All Alike) (originalActs size xs)
 
 -- equality "covers" these histories (A.4), and "is claimed only for the calls before the first such choice" (A.8): whatever calls ys come after
 -- the calls xs, these are answered alike; and after them only the memory differs
 pub record Equality (size : ℕ) (xs : List Call) : Type 0 where
-  pub answered : AllAsBefore size xs → answers size plainRules xs ≡ originalAnswers size xs
-  pub before : (ys : List Call) → AllAsBefore size xs → take (length xs) (answers size plainRules (xs ++ ys)) ≡ take (length xs) (originalAnswers size (xs ++ ys))
-  pub heap : AllAsBefore size xs → heapAfter size plainRules xs ≡ originalHeap size xs
+  pub answered : Claimed size xs → answers size plainRules xs ≡ originalAnswers size xs
+  pub before : (ys : List Call) → Claimed size xs → take (length xs) (answers size plainRules (xs ++ ys)) ≡ take (length xs) (originalAnswers size (xs ++ ys))
+  pub heap : Claimed size xs → heapAfter size plainRules xs ≡ originalHeap size xs
