@@ -20,6 +20,7 @@ pub mod ListedRuns
 pub mod Plan
 pub mod Idle
 pub mod Parking
+pub mod Original
 pub mod ChangePlaces
 pub mod Reorders
 pub mod InOrder

@@ -18,10 +18,10 @@ use Rattle.model.specs.Joining.{NoneEnds, NoneStarts, Touches, HasRoom, 
 use Rattle.model.proofs.HoleLists.{num, at-total, set-length, remove-length, set-same, set-differs, remove-same, remove-differs}
 use Rattle.model.proofs.Placing.{ends, starts, Found, found, not-found, finds, touching-differ}
 
-none-ends : (q : ℕ) (hs : List Hole) → ends q hs ≡ 0 → NoneEnds hs q
+pub none-ends : (q : ℕ) (hs : List Hole) → ends q hs ≡ 0 → NoneEnds hs q
 none-ends q hs z i e = omega (arith, at-total (λ h. num (endsAt q h)) i hs (e .0), ap num (eq-eqb (holeAt i hs .first + holeAt i hs .pages) q (e .1)))
 
-none-starts : (q : ℕ) (hs : List Hole) → starts q hs ≡ 0 → NoneStarts hs q
+pub none-starts : (q : ℕ) (hs : List Hole) → starts q hs ≡ 0 → NoneStarts hs q
 none-starts q hs z i e = omega (arith, at-total (λ h. num (startsAt q h)) i hs (e .0), ap num (eq-eqb (holeAt i hs .first) q (e .1)))
 
 -- index by index: a hole set, a hole replaced by the last

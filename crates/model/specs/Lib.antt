@@ -19,6 +19,9 @@ pub mod Offered
 pub mod BestFit
 pub mod Joining
 pub mod Order
+pub mod Remembered
+pub mod Original
 pub mod Yields
 pub mod Demands
 pub mod Examples
+pub mod OriginalExamples
