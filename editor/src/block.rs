@@ -52,7 +52,7 @@ pub enum Kind {
 /// - A block that is out and stands twice in one list is refused as [`Repeated`](crate::Refusal::Repeated).
 ///
 /// No such block makes a call read or write anything but the book. A [`Pool`](crate::Pool) refuses all of these at once, until it has
-/// handed the same block out again.
+/// granted the same block again; a [`Handle`](crate::Handle) of a [`Region`](crate::Region) is refused for good.
 ///
 /// ```
 /// use vigbuso::{Block, Class, Heap, Kind};
@@ -113,6 +113,14 @@ impl Block {
     #[must_use]
     pub const fn medium(granule: Word) -> Option<Block> {
         Block::of(Kind::Medium, granule)
+    }
+
+    /// Names a page to those that ask of a block's page alone: its first granule, in the page's header.
+    pub(crate) const fn first_of(page: u64) -> Block {
+        match Block::small(page * PAGE_GRANULES) {
+            Some(block) => block,
+            None => Block::FILLER,
+        }
     }
 
     const fn of(kind: Kind, granule: Word) -> Option<Block> {

@@ -3,7 +3,7 @@
 use core::fmt;
 
 use crate::block::PAGE_GRANULES;
-use crate::{ffi, Block, Kind, GRANULE_BYTES, PAGE_BYTES};
+use crate::{ffi, Block, Kind, Word, GRANULE_BYTES, PAGE_BYTES};
 
 /// The number of small classes.
 const SMALL: u32 = 64;
@@ -209,6 +209,21 @@ impl Class {
         }
     }
 
+    /// The block of this class at a granule; none if it has more bits than a word has below its kind.
+    pub(crate) const fn block_at(self, granule: Word) -> Option<Block> {
+        match self.kind() {
+            Kind::Small => Block::small(granule),
+            Kind::Medium => Block::medium(granule),
+        }
+    }
+
+    /// The blocks of the page or span that begins at a page.
+    pub(crate) fn blocks(self, first_page: u64) -> impl Iterator<Item = Block> {
+        let (header, size) = ((self.header() / GRANULE_BYTES) as u64, (self.bytes() / GRANULE_BYTES) as u64);
+        let first = first_page * PAGE_GRANULES + header;
+        (0..self.capacity() as u64).filter_map(move |index| self.block_at(first + index * size))
+    }
+
     /// The first page of the page or span in which a block of this class starts here; none where no block of this class can
     /// start.
     ///
@@ -297,12 +312,9 @@ mod tests {
             }
             assert_eq!(granules.len(), class.capacity(), "{class}");
             let all = 0..class.pages() as u64 * PAGE_GRANULES;
-            let block = |granule| match class.kind() {
-                Kind::Small => Block::small(granule),
-                Kind::Medium => Block::medium(granule),
-            };
-            let starts = all.filter(|&granule| class.first_page(block(granule).expect("62 bits")) == Some(0));
+            let starts = all.filter(|&granule| class.first_page(class.block_at(granule).expect("62 bits")) == Some(0));
             assert_eq!(starts.collect::<HashSet<_>>(), granules, "{class}");
+            assert_eq!(class.blocks(0).map(Block::granule).collect::<HashSet<_>>(), granules, "{class}");
         }
     }
 

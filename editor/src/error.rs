@@ -1,9 +1,104 @@
 //! What a call can fail with beside its number.
 
-use core::error::Error;
+use core::error;
 use core::fmt;
 
 use crate::{Block, Refusal};
+
+/// All that a call of this crate can fail with. Every other error becomes one by `?`, so a program of several calls has one type.
+/// Later versions may have more of them.
+///
+/// ```
+/// use vigbuso::{Class, Error, Heap, Pool, Refusal};
+///
+/// fn both() -> Result<(), Error> {
+///     let mut pool = Pool::try_open(64)?;
+///     let block = pool.alloc(100)?;
+///     pool.free(block)?;
+///     let mut heap = pool.into_heap()?;
+///     heap.release(Class::for_size(100).unwrap(), &[block])?;
+///     Ok(())
+/// }
+/// assert_eq!(both().unwrap_err().refusal(), Some(Refusal::NotOut));
+/// ```
+#[derive(Clone, Copy, PartialEq, Eq, Debug)]
+#[non_exhaustive]
+pub enum Error {
+    /// A call was refused.
+    Refused(Refusal),
+    /// Blocks were not released.
+    Release(ReleaseError),
+    /// A block was not freed.
+    Free(FreeError),
+    /// Nothing was opened.
+    Open(OpenError),
+    /// There is no block for a record.
+    Alloc(AllocError),
+}
+
+impl Error {
+    /// The refusal of the library's call; none where the crate itself has found out.
+    ///
+    /// ```
+    /// # use vigbuso::{AllocError, Error, Refusal};
+    /// assert_eq!(Error::from(Refusal::NotOut).refusal(), Some(Refusal::NotOut));
+    /// assert_eq!(Error::from(AllocError::Full).refusal(), None);
+    /// ```
+    #[must_use]
+    pub const fn refusal(&self) -> Option<Refusal> {
+        match self {
+            Error::Refused(refusal) | Error::Open(OpenError::Refused(refusal)) => Some(*refusal),
+            Error::Alloc(AllocError::Refused(refusal)) => Some(*refusal),
+            Error::Release(error) => Some(error.refusal()),
+            Error::Free(error) => Some(error.refusal()),
+            Error::Open(_) | Error::Alloc(_) => None,
+        }
+    }
+}
+
+impl fmt::Display for Error {
+    fn fmt(&self, f: &mut fmt::Formatter) -> fmt::Result {
+        match self {
+            Error::Refused(error) => error.fmt(f),
+            Error::Release(error) => error.fmt(f),
+            Error::Free(error) => error.fmt(f),
+            Error::Open(error) => error.fmt(f),
+            Error::Alloc(error) => error.fmt(f),
+        }
+    }
+}
+
+impl error::Error for Error {
+    /// It prints as the error that it is, so what is below is what caused that one.
+    fn source(&self) -> Option<&(dyn error::Error + 'static)> {
+        match self {
+            Error::Refused(_) => None,
+            Error::Release(error) => error.source(),
+            Error::Free(error) => error.source(),
+            Error::Open(error) => error.source(),
+            Error::Alloc(error) => error.source(),
+        }
+    }
+}
+
+/// An error of one kind is one of all.
+macro_rules! errors {
+    ($($name:ident $error:ty)*) => {$(
+        impl From<$error> for Error {
+            fn from(error: $error) -> Error {
+                Error::$name(error)
+            }
+        }
+    )*};
+}
+
+errors! {
+    Refused Refusal
+    Release ReleaseError
+    Free FreeError
+    Open OpenError
+    Alloc AllocError
+}
 
 /// Why blocks were not released: the refusal, and the first block to blame with its place in the list.
 ///
@@ -102,8 +197,78 @@ impl fmt::Display for ReleaseError {
     }
 }
 
-impl Error for ReleaseError {
-    fn source(&self) -> Option<&(dyn Error + 'static)> {
+impl error::Error for ReleaseError {
+    fn source(&self) -> Option<&(dyn error::Error + 'static)> {
+        Some(&self.refusal)
+    }
+}
+
+/// Why a pool did not take a block back: the refusal, and the block.
+///
+/// ```
+/// use vigbuso::{Block, Pool, Refusal};
+///
+/// let error = Pool::open(64)?.free(Block::small(119).unwrap()).unwrap_err();
+/// assert_eq!(error.refusal(), Refusal::NotOut);
+/// assert_eq!(error.to_string(), "refused as 10: a block is not out in this class: Small(119)");
+/// # Ok::<(), Refusal>(())
+/// ```
+#[derive(Clone, Copy, PartialEq, Eq, Debug)]
+pub struct FreeError {
+    refusal: Refusal,
+    block: Block,
+}
+
+impl FreeError {
+    pub(crate) const fn new(refusal: Refusal, block: Block) -> FreeError {
+        FreeError { refusal, block }
+    }
+
+    /// The number of the refusal, and what it means.
+    ///
+    /// ```
+    /// # use vigbuso::{Pool, Refusal};
+    /// let mut pool = Pool::open(64)?;
+    /// let block = pool.alloc(100)?;
+    /// pool.free(block)?;
+    /// assert_eq!(pool.free(block).unwrap_err().refusal(), Refusal::NotOut);
+    /// # Ok::<(), vigbuso::Error>(())
+    /// ```
+    #[must_use]
+    pub const fn refusal(&self) -> Refusal {
+        self.refusal
+    }
+
+    /// The block.
+    ///
+    /// ```
+    /// # use vigbuso::Pool;
+    /// let mut pool = Pool::open(64)?;
+    /// let block = pool.alloc(100)?;
+    /// pool.free(block)?;
+    /// assert_eq!(pool.free(block).unwrap_err().block(), block);
+    /// # Ok::<(), vigbuso::Error>(())
+    /// ```
+    #[must_use]
+    pub const fn block(&self) -> Block {
+        self.block
+    }
+}
+
+impl From<FreeError> for Refusal {
+    fn from(error: FreeError) -> Refusal {
+        error.refusal
+    }
+}
+
+impl fmt::Display for FreeError {
+    fn fmt(&self, f: &mut fmt::Formatter) -> fmt::Result {
+        write!(f, "{}: {:?}", self.refusal, self.block)
+    }
+}
+
+impl error::Error for FreeError {
+    fn source(&self) -> Option<&(dyn error::Error + 'static)> {
         Some(&self.refusal)
     }
 }
@@ -135,7 +300,7 @@ impl fmt::Display for OpenError {
     }
 }
 
-impl Error for OpenError {}
+impl error::Error for OpenError {}
 
 /// Why a [`Pool`](crate::Pool) has no block for a record.
 ///
@@ -167,4 +332,4 @@ impl fmt::Display for AllocError {
     }
 }
 
-impl Error for AllocError {}
+impl error::Error for AllocError {}

@@ -93,6 +93,12 @@ extern "C" {
         fates: *mut u32,
         fates_len: usize,
     ) -> u32;
+    fn vigbuso_alloc(book: *mut u32, book_len: usize, class: u32, host: u32, block: *mut Word) -> u32;
+    fn vigbuso_free(book: *mut u32, book_len: usize, class: u32, host: u32, block: Word) -> u32;
+    fn vigbuso_trim(book: *mut u32, book_len: usize, class: u32, host: u32, block: *mut Word) -> u32;
+    fn vigbuso_class_of(book: *const u32, book_len: usize, block: Word) -> u32;
+    fn vigbuso_granted(book: *const u32, book_len: usize, class: u32, block: Word) -> u32;
+    fn vigbuso_stocked(book: *const u32, book_len: usize, class: u32) -> u32;
     fn vigbuso_trace(
         book: *mut u32,
         book_len: usize,
@@ -134,20 +140,27 @@ pub(crate) fn size_class(size: u64) -> Option<Class> {
     }
 }
 
-/// So many words of 0, not touched yet; none if there is no memory for them.
+/// The unsigned integers of which memory of zeroes is made.
+pub(crate) trait Unsigned: Copy + PartialEq + Default {}
+
+impl Unsigned for u8 {}
+impl Unsigned for u32 {}
+impl Unsigned for u64 {}
+
+/// So many integers of 0, not touched yet; none if there is no memory for them.
 #[allow(clippy::cast_ptr_alignment, clippy::same_length_and_capacity)] // the layout is that of the array
-pub(crate) fn zeroed(words: usize) -> Option<Vec<u32>> {
-    let layout = Layout::array::<u32>(words).ok()?;
+pub(crate) fn zeroed<T: Unsigned>(count: usize) -> Option<Vec<T>> {
+    let layout = Layout::array::<T>(count).ok()?;
     if layout.size() == 0 {
         return Some(Vec::new());
     }
     // SAFETY: the layout's size is not 0.
-    let memory = unsafe { alloc_zeroed(layout) }.cast::<u32>();
+    let memory = unsafe { alloc_zeroed(layout) }.cast::<T>();
     if memory.is_null() {
         return None;
     }
-    // SAFETY: the global allocator gave this memory for an array of so many `u32`, and 0 is one.
-    Some(unsafe { Vec::from_raw_parts(memory, words, words) })
+    // SAFETY: the global allocator gave this memory for an array of so many `T`, an unsigned integer, and 0 is one.
+    Some(unsafe { Vec::from_raw_parts(memory, count, count) })
 }
 
 /// The pages of a plan.
@@ -269,6 +282,56 @@ pub(crate) fn release_chunks(
             fates.len(),
         )
     })
+}
+
+/// A class's place among all, as the pool's calls number them.
+#[allow(clippy::cast_possible_truncation)] // it is below 76
+const fn place(class: Class) -> u32 {
+    class.index() as u32
+}
+
+/// A block of the pool; none if neither its stock nor the arena has one.
+#[inline]
+pub(crate) fn alloc(book: &mut [u32], class: Class, host: Host) -> Result<Option<Block>, Refusal> {
+    let mut word = 0;
+    // SAFETY: the slice and the local are lent for the call.
+    carried_out(unsafe { vigbuso_alloc(book.as_mut_ptr(), book.len(), place(class), host.bits(), &raw mut word) })?;
+    Ok(Block::from_word(word))
+}
+
+#[inline]
+pub(crate) fn free(book: &mut [u32], class: Class, host: Host, block: Block) -> Result<(), Refusal> {
+    // SAFETY: the slice is lent for the call.
+    carried_out(unsafe { vigbuso_free(book.as_mut_ptr(), book.len(), place(class), host.bits(), block.word()) })
+}
+
+/// The block of the pool's stock that went back to the heap; none if the stock is empty.
+pub(crate) fn trim(book: &mut [u32], class: Class, host: Host) -> Result<Option<Block>, Refusal> {
+    let mut word = 0;
+    // SAFETY: the slice and the local are lent for the call.
+    carried_out(unsafe { vigbuso_trim(book.as_mut_ptr(), book.len(), place(class), host.bits(), &raw mut word) })?;
+    Ok(Block::from_word(word))
+}
+
+/// The class that has the block's page. It says nothing of the block.
+#[inline]
+pub(crate) fn class_of(book: &[u32], block: Block) -> Option<Class> {
+    // SAFETY: the slice is lent for the call, to be read.
+    let place = unsafe { vigbuso_class_of(book.as_ptr(), book.len(), block.word()) } as usize;
+    (place < Class::COUNT).then(|| Class::at(place))
+}
+
+/// Whether the pool has granted a block in a class, and not had it back.
+#[inline]
+pub(crate) fn granted(book: &[u32], class: Class, block: Block) -> bool {
+    // SAFETY: the slice is lent for the call, to be read.
+    unsafe { vigbuso_granted(book.as_ptr(), book.len(), place(class), block.word()) == 1 }
+}
+
+/// Blocks in a class's stock.
+pub(crate) fn stocked(book: &[u32], class: Class) -> u32 {
+    // SAFETY: the slice is lent for the call, to be read.
+    unsafe { vigbuso_stocked(book.as_ptr(), book.len(), place(class)) }
 }
 
 /// A trace on a new heap, and how many words it carried out, how many blocks and numbers it wrote: none where the opening was
@@ -471,8 +534,8 @@ mod tests {
 
     #[test]
     fn words_of_zero() {
-        assert_eq!(zeroed(0), Some(Vec::new()));
-        assert_eq!(zeroed(3), Some(vec![0; 3]));
-        assert_eq!(zeroed(usize::MAX), None);
+        assert_eq!(zeroed::<u32>(0), Some(Vec::new()));
+        assert_eq!(zeroed(3), Some(vec![0_u64; 3]));
+        assert_eq!(zeroed::<u8>(usize::MAX), None);
     }
 }

@@ -1,9 +1,11 @@
 //! The heap.
 
+use alloc::boxed::Box;
 use alloc::vec;
 use alloc::vec::Vec;
 use core::fmt;
 
+use crate::book::copy_used;
 use crate::{
     ffi, Block, Chunk, Class, Committed, Fate, Host, OpenError, Refusal, ReleaseError, Report, Rules, Run, Taken,
 };
@@ -55,7 +57,7 @@ pub const fn book_words(pages: u64) -> usize {
 /// assert_eq!(heap, before);
 /// # Ok::<(), Refusal>(())
 /// ```
-#[derive(Clone, PartialEq, Eq)]
+#[derive(PartialEq, Eq)]
 pub struct Heap<B = Vec<u32>> {
     pub(crate) book: B,
     pages: u64,
@@ -107,10 +109,17 @@ impl Heap {
     ///
     /// [`OpenError::Refused`] with [`Refusal::ArenaLength`], [`OpenError::NoMemory`].
     pub fn try_open(pages: u64) -> Result<Heap, OpenError> {
-        let words = own_words(pages);
-        let book = ffi::zeroed(words).ok_or(OpenError::NoMemory { bytes: words.saturating_mul(size_of::<u32>()) })?;
-        Heap::on(book, pages).map_err(OpenError::Refused)
+        Heap::on(zeroes(own_words(pages))?, pages).map_err(OpenError::Refused)
     }
+
+    pub(crate) fn try_open_with(pages: u64, rules: &Rules) -> Result<Heap, OpenError> {
+        Heap::on_with(zeroes(own_words(pages))?, pages, rules).map_err(OpenError::Refused)
+    }
+}
+
+/// So many integers of 0, not touched yet.
+pub(crate) fn zeroes<T: ffi::Unsigned>(count: usize) -> Result<Vec<T>, OpenError> {
+    ffi::zeroed(count).ok_or(OpenError::NoMemory { bytes: count.saturating_mul(size_of::<T>()) })
 }
 
 /// Words of a heap's own book. None has to be there for a length that is refused.
@@ -169,7 +178,11 @@ impl<B: AsRef<[u32]> + AsMut<[u32]>> Heap<B> {
 
     /// Goes on with a book as an earlier heap left it, which may have been stored meanwhile. Its length and its arena's record
     /// are tested here; if other words of it were damaged, calls that come to them are refused as
-    /// [`BookWord`](Refusal::BookWord).
+    /// [`BookWord`](Refusal::BookWord). No damage makes a call unsafe.
+    ///
+    /// On a [`Pool`](crate::Pool)'s book the blocks in stock go back first, so that those out are those that the pool has granted.
+    /// [`Pool::resume`](crate::Pool::resume) keeps the stocks. [`Heap::load`] has the book from a file, and finds out what was changed
+    /// there.
     ///
     /// The book must be of this version: before 0.5.0 its words stood elsewhere, and no word of it says so. Such a book is as a damaged
     /// one: calls on it are safe, and their answers mean nothing.
@@ -189,6 +202,29 @@ impl<B: AsRef<[u32]> + AsMut<[u32]>> Heap<B> {
     ///
     /// [`Refusal::ArenaLength`], [`BookTooShort`](Refusal::BookTooShort), [`BookWord`](Refusal::BookWord).
     pub fn resume(book: B) -> Result<Heap<B>, Refusal> {
+        let mut heap = Heap::resume_stocked(book)?;
+        heap.flush()?;
+        Ok(heap)
+    }
+
+    /// Gives all blocks that a pool has in stock back.
+    pub(crate) fn flush(&mut self) -> Result<(), Refusal> {
+        let mut outcome = Ok(());
+        for class in Class::all() {
+            outcome = outcome.and(self.flush_class(class));
+        }
+        outcome
+    }
+
+    fn flush_class(&mut self, class: Class) -> Result<(), Refusal> {
+        for _ in 0..ffi::stocked(self.book.as_ref(), class) {
+            ffi::trim(self.book.as_mut(), class, self.host)?;
+        }
+        Ok(())
+    }
+
+    /// Goes on with a book and leaves a pool's stocks as they are.
+    pub(crate) fn resume_stocked(book: B) -> Result<Heap<B>, Refusal> {
         ffi::report(book.as_ref())?;
         let pages = book.as_ref().first().copied().map_or(0, u64::from);
         Ok(Heap::opened(book, pages))
@@ -243,6 +279,19 @@ impl<B: AsRef<[u32]> + AsMut<[u32]>> Heap<B> {
     #[must_use]
     pub fn into_book(self) -> B {
         self.book
+    }
+
+    /// The words of the book, to be read or copied.
+    ///
+    /// ```
+    /// # use vigbuso::Heap;
+    /// let heap = Heap::open(5)?;
+    /// assert_eq!(Heap::resume(heap.book().to_vec())?, heap);
+    /// # Ok::<(), vigbuso::Refusal>(())
+    /// ```
+    #[must_use]
+    pub fn book(&self) -> &[u32] {
+        self.book.as_ref()
     }
 
     /// The arena's length.
@@ -587,6 +636,20 @@ impl<B: AsRef<[u32]> + AsMut<[u32]>> Heap<B> {
     /// None on a book that only this heap has written; [`Refusal::BookWord`] on a damaged one.
     pub fn report(&self) -> Result<Report, Refusal> {
         ffi::report(self.book.as_ref())
+    }
+}
+
+/// A clone of a heap with a book of its own touches only the words that are not 0.
+impl Clone for Heap {
+    fn clone(&self) -> Heap {
+        Heap { book: copy_used(&self.book), ..*self }
+    }
+}
+
+/// As for a `Vec`.
+impl Clone for Heap<Box<[u32]>> {
+    fn clone(&self) -> Heap<Box<[u32]>> {
+        Heap { book: copy_used(&self.book).into_boxed_slice(), ..*self }
     }
 }
 

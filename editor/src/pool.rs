@@ -1,39 +1,26 @@
 //! Blocks one by one.
 
-use alloc::vec;
 use alloc::vec::Vec;
 use core::fmt;
+use core::ops::Range;
 
-use crate::out::Out;
-use crate::{AllocError, Block, Class, Committed, Heap, Host, Refusal, ReleaseError, Report, Rules, Run, BATCH};
+use crate::book::{entries, frontier};
+use crate::{ffi, AllocError, Block, Class, Committed, FreeError, Heap, Host, OpenError, Refusal, Report, Rules, Run};
 
-/// By class: blocks in stock above which the older half goes back. It is two batches, but no more than 256 KiB, or eight
-/// blocks where that is less.
-static STOCK: [usize; Class::COUNT] = {
-    let mut table = [0; Class::COUNT];
-    let mut place = 0;
-    while place < table.len() {
-        table[place] = match 256 * 1024 / Class::at(place).bytes() {
-            0..=8 => 8,
-            blocks if blocks < 2 * BATCH => blocks,
-            _ => 2 * BATCH,
-        };
-        place += 1;
-    }
-    table
-};
-
-/// A heap with a stock of blocks for each class, so that records come and go one by one while the heap is called for
-/// batches.
+/// A heap that hands blocks out and takes them back one by one. It keeps a stock of blocks for each class, so that the arena is
+/// seldom asked.
 ///
-/// In every build a pool knows which blocks it has handed out, by their class and their first granule, and refuses every other one at
-/// once: freed twice, stale, of another class or kind, inside another block, or never its own. So no block that is in use is handed out
-/// again. That takes 513 bytes for each page, of which only those of pages in use are ever touched.
+/// What `alloc` and `free` do is proved, as the heap's calls are: of every history of a pool's calls, two blocks granted and not yet
+/// freed share no byte, and a free is carried out exactly if its block was granted and not freed since. Every other block is refused
+/// and nothing changes, in every build: freed twice, stale, of another class or kind, inside another block, or never its own. What no
+/// call can tell: once the same block was granted again, an old copy of its [`Block`] names the new grant. [`Region`](crate::Region)
+/// sees that too.
 ///
-/// What the heap does is proved; what the pool does on top of it is tested.
+/// All that a pool knows stands in its book, the stocks too. So a pool is a value as a heap is: cloned, compared,
+/// [saved](Pool::save) and [resumed](Pool::resume). Nobody else releases its blocks: it lends the heap to be asked alone.
 ///
 /// ```
-/// use vigbuso::{Pool, PAGE_BYTES};
+/// use vigbuso::{Error, Pool, PAGE_BYTES};
 ///
 /// let mut arena = vec![0; 64 * PAGE_BYTES];
 /// let mut pool = Pool::open(64)?;
@@ -42,24 +29,14 @@ static STOCK: [usize; Class::COUNT] = {
 /// arena[block.range(word.len())].copy_from_slice(word);
 /// assert_eq!(&arena[block.range(5)], b"CROSS");
 /// pool.free(block)?;
-/// # Ok::<(), Box<dyn std::error::Error>>(())
+/// assert!(pool.free(block).is_err());
+/// # Ok::<(), Error>(())
 /// ```
 pub struct Pool<B = Vec<u32>> {
     heap: Heap<B>,
-    /// By class.
-    stocks: Vec<Stock>,
-    out: Out,
-}
-
-/// The heap hands out no block and no page that is in use, unless its book was damaged.
-const DAMAGED: AllocError = AllocError::Refused(Refusal::BookWord);
-
-/// A class's blocks that the heap has handed out and no record stands in.
-#[derive(Clone, Default)]
-struct Stock {
-    blocks: Vec<Block>,
-    /// Blocks that the pool has handed out.
+    /// Blocks granted, which the book has one by one, and their bytes.
     used: usize,
+    used_bytes: usize,
 }
 
 impl Pool {
@@ -72,7 +49,7 @@ impl Pool {
     /// let small = pool.alloc(16)?;
     /// pool.free(small)?;
     /// assert!(pool.alloc(32).is_ok(), "the page is nobody's any more");
-    /// # Ok::<(), Box<dyn std::error::Error>>(())
+    /// # Ok::<(), vigbuso::Error>(())
     /// ```
     ///
     /// # Errors
@@ -92,32 +69,105 @@ impl Pool {
     /// pool.free(small)?;
     /// assert_eq!(pool.alloc(32), Err(AllocError::Full));
     /// assert!(pool.alloc(16).is_ok());
-    /// # Ok::<(), Box<dyn std::error::Error>>(())
+    /// # Ok::<(), vigbuso::Error>(())
     /// ```
     ///
     /// # Errors
     ///
     /// As [`Heap::open_with`].
     pub fn open_with(pages: u64, rules: &Rules) -> Result<Pool, Refusal> {
-        Heap::open_with(pages, rules).map(Pool::new)
+        Heap::open_with(pages, rules).map(Pool::unused)
+    }
+
+    /// Opens a pool as [`Pool::open`] does, and answers where there is no memory for the book.
+    ///
+    /// ```
+    /// # use vigbuso::Pool;
+    /// assert_eq!(Pool::try_open(64)?, Pool::open(64)?);
+    /// # Ok::<(), vigbuso::Error>(())
+    /// ```
+    ///
+    /// # Errors
+    ///
+    /// As [`Heap::try_open`].
+    pub fn try_open(pages: u64) -> Result<Pool, OpenError> {
+        Pool::try_open_with(pages, &Rules::every(0, 0))
+    }
+
+    pub(crate) fn try_open_with(pages: u64, rules: &Rules) -> Result<Pool, OpenError> {
+        Heap::try_open_with(pages, rules).map(Pool::unused)
     }
 }
 
 impl<B: AsRef<[u32]> + AsMut<[u32]>> Pool<B> {
-    /// A pool on a heap. Blocks that are out already are not the pool's: they can go back when [the pool is left](Pool::into_heap).
+    /// A pool on a new heap, which no block of is out.
+    fn unused(heap: Heap<B>) -> Pool<B> {
+        Pool { heap, used: 0, used_bytes: 0 }
+    }
+
+    /// A pool on a new heap with a book that the caller lends or gives, as [`Heap::on`]. No class parks a run.
     ///
     /// ```
-    /// use vigbuso::{book_words, Heap, Pool};
+    /// use vigbuso::{book_words, Pool};
     ///
-    /// let mut book = vec![0; book_words(64)];
-    /// let mut pool = Pool::new(Heap::on(&mut book[..], 64)?);
+    /// let mut book = vec![7; book_words(64)];
+    /// let mut pool = Pool::on(&mut book[..], 64)?;
     /// assert!(pool.alloc(100).is_ok());
     /// # Ok::<(), vigbuso::Refusal>(())
     /// ```
-    #[must_use]
-    pub fn new(heap: Heap<B>) -> Pool<B> {
-        let out = Out::new(heap.pages());
-        Pool { heap, stocks: vec![Stock::default(); Class::COUNT], out }
+    ///
+    /// # Errors
+    ///
+    /// As [`Heap::on`].
+    pub fn on(book: B, pages: u64) -> Result<Pool<B>, Refusal> {
+        Pool::on_with(book, pages, &Rules::every(0, 0))
+    }
+
+    /// A pool as [`Pool::on`] opens it, with parking rules of its own.
+    ///
+    /// ```
+    /// # use vigbuso::{book_words, Pool, Rules};
+    /// let pool = Pool::on_with(vec![7; book_words(64)], 64, &Rules::every(8, 0))?;
+    /// # Ok::<(), vigbuso::Refusal>(())
+    /// ```
+    ///
+    /// # Errors
+    ///
+    /// As [`Heap::on_with`].
+    pub fn on_with(book: B, pages: u64, rules: &Rules) -> Result<Pool<B>, Refusal> {
+        Heap::on_with(book, pages, rules).map(Pool::unused)
+    }
+
+    /// Goes on with a book as an earlier pool left it: what was granted is granted still, and what was in stock is in stock. Length
+    /// and arena's record are tested as [`Heap::resume`] does; a book that was damaged elsewhere makes no call unsafe, but what calls
+    /// answer may mean nothing.
+    ///
+    /// Every block that is out and in no stock counts as granted, so on a book of a [`Heap`] those that its takes have handed out. All
+    /// blocks are gone over once, to count those in use.
+    ///
+    /// ```
+    /// # use vigbuso::Pool;
+    /// let mut pool = Pool::open(64)?;
+    /// let block = pool.alloc(100)?;
+    /// let mut again = Pool::resume(pool.into_book())?;
+    /// assert_eq!(again.report()?.used, 1);
+    /// again.free(block)?;
+    /// # Ok::<(), vigbuso::Error>(())
+    /// ```
+    ///
+    /// # Errors
+    ///
+    /// As [`Heap::resume`].
+    pub fn resume(book: B) -> Result<Pool<B>, Refusal> {
+        Heap::resume_stocked(book).map(Pool::counted)
+    }
+
+    /// A pool on a heap as an earlier one left it.
+    pub(crate) fn counted(heap: Heap<B>) -> Pool<B> {
+        let mut pool = Pool::unused(heap);
+        let (used, bytes) = pool.blocks().fold((0, 0), |(used, bytes), (_, class)| (used + 1, bytes + class.bytes()));
+        (pool.used, pool.used_bytes) = (used, bytes);
+        pool
     }
 
     /// A block for a record of so many bytes.
@@ -154,39 +204,28 @@ impl<B: AsRef<[u32]> + AsMut<[u32]>> Pool<B> {
     /// [`AllocError::Refused`] only on a damaged book.
     #[inline]
     pub fn alloc_in(&mut self, class: Class) -> Result<Block, AllocError> {
-        if self.stocks[class.index()].blocks.is_empty() {
-            self.refill(class)?;
-        }
-        let stock = &mut self.stocks[class.index()];
-        let block = stock.blocks.pop().ok_or(AllocError::Full)?;
-        if !self.out.add(class, block) {
-            return Err(DAMAGED);
-        }
-        stock.used += 1;
+        let block = match self.try_alloc(class)? {
+            Some(block) => block,
+            None => self.alloc_flushed(class)?,
+        };
+        self.used += 1;
+        self.used_bytes += class.bytes();
         Ok(block)
     }
 
-    /// Takes blocks for a stock that has none. If the arena is full, all stocks go back first: their pages may be enough.
+    #[inline]
+    fn try_alloc(&mut self, class: Class) -> Result<Option<Block>, AllocError> {
+        ffi::alloc(self.heap.book.as_mut(), class, self.heap.host).map_err(AllocError::Refused)
+    }
+
+    /// The arena is full: all stocks go back, and their pages may be enough.
     #[cold]
-    fn refill(&mut self, class: Class) -> Result<(), AllocError> {
-        if self.take(class)? == 0 {
-            self.flush().map_err(|error| AllocError::Refused(error.refusal()))?;
-            self.take(class)?;
-        }
-        Ok(())
+    fn alloc_flushed(&mut self, class: Class) -> Result<Block, AllocError> {
+        self.flush().map_err(AllocError::Refused)?;
+        self.try_alloc(class)?.ok_or(AllocError::Full)
     }
 
-    /// Takes blocks for a stock, and answers how many came.
-    fn take(&mut self, class: Class) -> Result<usize, AllocError> {
-        let taken = self.heap.take(class).map_err(AllocError::Refused)?;
-        if !self.out.give(class, &taken) {
-            return Err(DAMAGED);
-        }
-        self.stocks[class.index()].blocks.extend_from_slice(&taken);
-        Ok(taken.len())
-    }
-
-    /// Takes a block back that the pool has handed out.
+    /// Takes a block back that the pool has granted. Its class is that of its page.
     ///
     /// ```
     /// # use vigbuso::{Pool, Refusal};
@@ -194,29 +233,46 @@ impl<B: AsRef<[u32]> + AsMut<[u32]>> Pool<B> {
     /// let block = pool.alloc(100)?;
     /// pool.free(block)?;
     /// let error = pool.free(block).unwrap_err();
-    /// assert_eq!((error.refusal(), error.block()), (Refusal::NotOut, Some((0, block))));
-    /// # Ok::<(), Box<dyn std::error::Error>>(())
+    /// assert_eq!((error.refusal(), error.block()), (Refusal::NotOut, block));
+    /// # Ok::<(), vigbuso::Error>(())
     /// ```
     ///
     /// # Errors
     ///
-    /// [`Refusal::NotOut`] for every block that the pool has not out at this time; nothing changes then. Another refusal only on a
-    /// damaged book, of blocks that were to go back to the heap: they stay in stock, and so does this one.
+    /// [`Refusal::NotOut`] for every block that the pool has not granted or has had back, [`WrongKind`](Refusal::WrongKind) if it is
+    /// a small one where a span stands, or the reverse; nothing changes then. Another refusal only on a damaged book.
     #[inline]
-    pub fn free(&mut self, block: Block) -> Result<(), ReleaseError> {
-        let class = self.out.remove(block);
-        let class = class.ok_or_else(|| ReleaseError::new(Refusal::NotOut, Some((0, block))))?;
-        let stock = &mut self.stocks[class.index()];
-        stock.used -= 1;
-        stock.blocks.push(block);
-        let most = STOCK[class.index()];
-        if stock.blocks.len() > most {
-            return self.give_back(class, most / 2);
-        }
+    pub fn free(&mut self, block: Block) -> Result<(), FreeError> {
+        let class = ffi::class_of(self.heap.book.as_ref(), block);
+        self.free_in(class.ok_or(FreeError::new(Refusal::NotOut, block))?, block)
+    }
+
+    /// Takes a block back that the pool has granted in a class, for callers who have it at hand.
+    ///
+    /// ```
+    /// # use vigbuso::{Class, Pool, Refusal};
+    /// let mut pool = Pool::open(64)?;
+    /// let [class, other] = [100, 200].map(|bytes| Class::for_size(bytes).unwrap());
+    /// let block = pool.alloc_in(class)?;
+    /// assert_eq!(pool.free_in(other, block).unwrap_err().refusal(), Refusal::NotOut);
+    /// pool.free_in(class, block)?;
+    /// # Ok::<(), vigbuso::Error>(())
+    /// ```
+    ///
+    /// # Errors
+    ///
+    /// As [`Pool::free`], and for a block that was granted in another class.
+    #[inline]
+    pub fn free_in(&mut self, class: Class, block: Block) -> Result<(), FreeError> {
+        ffi::free(self.heap.book.as_mut(), class, self.heap.host, block)
+            .map_err(|refusal| FreeError::new(refusal, block))?;
+        // Only a book that others write too has more granted than was counted.
+        self.used = self.used.saturating_sub(1);
+        self.used_bytes = self.used_bytes.saturating_sub(class.bytes());
         Ok(())
     }
 
-    /// The class of a block that the pool has handed out; none for every other one.
+    /// The class of a block that the pool has granted and not had back; none for every other one.
     ///
     /// ```
     /// # use vigbuso::{Class, Pool};
@@ -225,23 +281,52 @@ impl<B: AsRef<[u32]> + AsMut<[u32]>> Pool<B> {
     /// assert_eq!(pool.class_of(block), Class::for_size(100));
     /// pool.free(block)?;
     /// assert_eq!(pool.class_of(block), None);
-    /// # Ok::<(), Box<dyn std::error::Error>>(())
+    /// # Ok::<(), vigbuso::Error>(())
     /// ```
     #[must_use]
     #[inline]
     pub fn class_of(&self, block: Block) -> Option<Class> {
-        self.out.class_of(block)
+        let class = ffi::class_of(self.heap.book(), block)?;
+        ffi::granted(self.heap.book(), class, block).then_some(class)
     }
 
-    /// Gives the blocks back that have been longest in a stock, so that so many stay.
-    #[cold]
-    fn give_back(&mut self, class: Class, stay: usize) -> Result<(), ReleaseError> {
-        let stock = &mut self.stocks[class.index()].blocks;
-        let oldest = stock.len() - stay;
-        let outcome = self.heap.release_all(class, &mut stock[..oldest]);
-        let back = outcome.map_or_else(|error| error.released(), |()| oldest);
-        stock.drain(..back);
-        outcome
+    /// All bytes of a block that the pool has granted and not had back, to index the arena with; none for every other one. So no
+    /// neighbour is reached, as [`Block::range`] does with too long a length.
+    ///
+    /// ```
+    /// # use vigbuso::Pool;
+    /// let mut pool = Pool::open(64)?;
+    /// let block = pool.alloc(100)?;
+    /// assert_eq!(pool.range(block), Some(block.range(112)));
+    /// pool.free(block)?;
+    /// assert_eq!(pool.range(block), None);
+    /// # Ok::<(), vigbuso::Error>(())
+    /// ```
+    #[must_use]
+    pub fn range(&self, block: Block) -> Option<Range<usize>> {
+        Some(block.range(self.class_of(block)?.bytes()))
+    }
+
+    /// The blocks that the pool has granted and not had back, each with its class, by pages. Every block of a page that was ever handed
+    /// out is asked for.
+    ///
+    /// ```
+    /// # use vigbuso::{Class, Pool};
+    /// let mut pool = Pool::open(64)?;
+    /// let [one, two] = [pool.alloc(100)?, pool.alloc(20_000)?];
+    /// let sizes: Vec<usize> = pool.blocks().map(|(_, class)| class.bytes()).collect();
+    /// assert_eq!(sizes, [112, 20_736]);
+    /// pool.free(one)?;
+    /// assert!(pool.blocks().eq([(two, Class::for_size(20_000).unwrap())]));
+    /// # Ok::<(), vigbuso::Error>(())
+    /// ```
+    pub fn blocks(&self) -> impl Iterator<Item = (Block, Class)> + '_ {
+        let book = self.heap.book();
+        let runs = (0..frontier(book).min(self.heap.pages())).filter_map(move |page| {
+            let class = ffi::class_of(book, Block::first_of(page))?;
+            Some(class.blocks(page).map(move |block| (block, class)))
+        });
+        runs.flatten().filter(move |&(block, class)| ffi::granted(book, class, block))
     }
 
     /// Gives every block in stock back to the heap.
@@ -253,21 +338,17 @@ impl<B: AsRef<[u32]> + AsMut<[u32]>> Pool<B> {
     /// assert_eq!(pool.report()?.stocked, 63);
     /// pool.flush()?;
     /// assert_eq!(pool.report()?.stocked, 0);
-    /// # Ok::<(), Box<dyn std::error::Error>>(())
+    /// # Ok::<(), vigbuso::Error>(())
     /// ```
     ///
     /// # Errors
     ///
-    /// None on a book that only this heap has written. On a damaged one the first refusal; what was not refused is back nevertheless.
-    pub fn flush(&mut self) -> Result<(), ReleaseError> {
-        let mut outcome = Ok(());
-        for class in Class::all() {
-            outcome = outcome.and(self.give_back(class, 0));
-        }
-        outcome
+    /// None on a book that only this pool has written. On a damaged one the first refusal; what was not refused is back nevertheless.
+    pub fn flush(&mut self) -> Result<(), Refusal> {
+        self.heap.flush()
     }
 
-    /// Flushes the pool and gives the heap back.
+    /// Flushes the pool and gives the heap back. What was granted is out there.
     ///
     /// ```
     /// # use vigbuso::{Heap, Pool};
@@ -276,15 +357,40 @@ impl<B: AsRef<[u32]> + AsMut<[u32]>> Pool<B> {
     /// let class = pool.class_of(block).unwrap();
     /// let mut heap = pool.into_heap()?;
     /// heap.release(class, &[block])?;
-    /// # Ok::<(), Box<dyn std::error::Error>>(())
+    /// # Ok::<(), vigbuso::Error>(())
     /// ```
     ///
     /// # Errors
     ///
     /// As [`Pool::flush`].
-    pub fn into_heap(mut self) -> Result<Heap<B>, ReleaseError> {
+    pub fn into_heap(mut self) -> Result<Heap<B>, Refusal> {
         self.flush()?;
         Ok(self.heap)
+    }
+
+    /// The book, stocks and all. It can be kept, and [`resume`](Pool::resume)d.
+    ///
+    /// ```
+    /// # use vigbuso::{book_words, Pool};
+    /// assert_eq!(Pool::open(5)?.into_book().len(), book_words(5));
+    /// # Ok::<(), vigbuso::Refusal>(())
+    /// ```
+    #[must_use]
+    pub fn into_book(self) -> B {
+        self.heap.into_book()
+    }
+
+    /// The words of the book, to be read or copied.
+    ///
+    /// ```
+    /// # use vigbuso::Pool;
+    /// let pool = Pool::open(5)?;
+    /// assert_eq!(Pool::resume(pool.book().to_vec())?, pool);
+    /// # Ok::<(), vigbuso::Refusal>(())
+    /// ```
+    #[must_use]
+    pub fn book(&self) -> &[u32] {
+        self.heap.book()
     }
 
     /// The heap, to be asked: its report, its length, whether bytes are in the arena.
@@ -323,7 +429,7 @@ impl<B: AsRef<[u32]> + AsMut<[u32]>> Pool<B> {
     /// pool.free(two)?;
     /// let run = pool.commit(2)?.expect("nothing is in use").run;
     /// pool.release_run(run)?;
-    /// # Ok::<(), Box<dyn std::error::Error>>(())
+    /// # Ok::<(), vigbuso::Error>(())
     /// ```
     ///
     /// # Errors
@@ -363,7 +469,7 @@ impl<B: AsRef<[u32]> + AsMut<[u32]>> Pool<B> {
     /// let block = pool.alloc(100)?;
     /// let run = Run { first: block.page(), pages: 1 };
     /// assert_eq!(pool.release_run(run), Err(Refusal::NotHeld));
-    /// # Ok::<(), Box<dyn std::error::Error>>(())
+    /// # Ok::<(), vigbuso::Error>(())
     /// ```
     ///
     /// # Errors
@@ -381,10 +487,28 @@ impl<B: AsRef<[u32]> + AsMut<[u32]>> Pool<B> {
     /// let block = pool.alloc(100)?;
     /// assert_eq!(pool.stock().count(), 63);
     /// assert!(pool.stock().all(|other| other != block));
-    /// # Ok::<(), Box<dyn std::error::Error>>(())
+    /// # Ok::<(), vigbuso::Error>(())
     /// ```
     pub fn stock(&self) -> impl Iterator<Item = Block> + '_ {
-        self.stocks.iter().flat_map(|stock| stock.blocks.iter().copied())
+        Class::all().flat_map(move |class| {
+            let granules = entries(self.heap.book(), class.index(), self.stocked(class));
+            granules.iter().filter_map(move |&granule| class.block_at(granule.into()))
+        })
+    }
+
+    /// Blocks in a class's stock.
+    ///
+    /// ```
+    /// # use vigbuso::{Class, Pool};
+    /// let mut pool = Pool::open(64)?;
+    /// let class = Class::for_size(100).unwrap();
+    /// pool.alloc_in(class)?;
+    /// assert_eq!(pool.stocked(class), 63);
+    /// # Ok::<(), vigbuso::Error>(())
+    /// ```
+    #[must_use]
+    pub fn stocked(&self, class: Class) -> usize {
+        ffi::stocked(self.heap.book(), class) as usize
     }
 
     /// The figures of pool and arena.
@@ -399,7 +523,7 @@ impl<B: AsRef<[u32]> + AsMut<[u32]>> Pool<B> {
     ///     report.to_string(),
     ///     "1 block of 112 bytes in use, 63 in stock; 1 page held, 63 idle; 1 run committed, 0 from holes, 0 abandoned"
     /// );
-    /// # Ok::<(), Box<dyn std::error::Error>>(())
+    /// # Ok::<(), vigbuso::Error>(())
     /// ```
     ///
     /// # Errors
@@ -407,26 +531,41 @@ impl<B: AsRef<[u32]> + AsMut<[u32]>> Pool<B> {
     /// As [`Heap::report`].
     pub fn report(&self) -> Result<PoolReport, Refusal> {
         let arena = self.heap.report()?;
-        let none = PoolReport { used: 0, used_bytes: 0, stocked: 0, stocked_bytes: 0, arena };
-        let stocks = self.stocks.iter().zip(Class::all());
-        Ok(stocks.fold(none, |sum, (stock, class)| PoolReport {
-            used: sum.used + stock.used,
-            used_bytes: sum.used_bytes + stock.used * class.bytes(),
-            stocked: sum.stocked + stock.blocks.len(),
-            stocked_bytes: sum.stocked_bytes + stock.blocks.len() * class.bytes(),
-            arena,
+        let none = PoolReport { used: self.used, used_bytes: self.used_bytes, stocked: 0, stocked_bytes: 0, arena };
+        Ok(Class::all().fold(none, |sum, class| {
+            let stocked = self.stocked(class);
+            let stocked_bytes = sum.stocked_bytes + stocked * class.bytes();
+            PoolReport { stocked: sum.stocked + stocked, stocked_bytes, ..sum }
         }))
     }
 }
 
-impl<B: AsRef<[u32]>> fmt::Debug for Pool<B> {
-    fn fmt(&self, f: &mut fmt::Formatter) -> fmt::Result {
-        let used: usize = self.stocks.iter().map(|stock| stock.used).sum();
-        f.debug_struct("Pool").field("heap", &self.heap).field("used", &used).finish_non_exhaustive()
+impl<B> Clone for Pool<B>
+where
+    Heap<B>: Clone,
+{
+    fn clone(&self) -> Pool<B> {
+        Pool { heap: self.heap.clone(), ..*self }
     }
 }
 
-/// What a pool has handed out and what it has in stock, with the arena's figures. It prints as a line of status.
+/// Equal pools answer equal calls equally.
+impl<B: PartialEq> PartialEq for Pool<B> {
+    fn eq(&self, other: &Pool<B>) -> bool {
+        self.heap == other.heap
+    }
+}
+
+impl<B: Eq> Eq for Pool<B> {}
+
+impl<B: AsRef<[u32]>> fmt::Debug for Pool<B> {
+    fn fmt(&self, f: &mut fmt::Formatter) -> fmt::Result {
+        let mut pool = f.debug_struct("Pool");
+        pool.field("heap", &self.heap).field("used", &self.used).finish_non_exhaustive()
+    }
+}
+
+/// What a pool has granted and what it has in stock, with the arena's figures. It prints as a line of status.
 ///
 /// ```
 /// # use vigbuso::Pool;
@@ -437,7 +576,7 @@ impl<B: AsRef<[u32]>> fmt::Debug for Pool<B> {
 #[derive(Clone, Copy, PartialEq, Eq, Hash, Debug)]
 #[non_exhaustive]
 pub struct PoolReport {
-    /// Blocks that the pool has handed out.
+    /// Blocks that the pool has granted and not had back.
     pub used: usize,
     /// Their bytes.
     pub used_bytes: usize,

@@ -4,7 +4,7 @@ use alloc::vec::Vec;
 use core::fmt;
 use core::marker::PhantomData;
 
-use crate::{AllocError, Block, Class, Pool, Refusal, ReleaseError, PAGE_BYTES};
+use crate::{AllocError, Block, Class, FreeError, Pool, Refusal, PAGE_BYTES};
 
 /// A value that is kept as a fixed number of bytes. Byte arrays and unsigned integers are such values.
 ///
@@ -171,8 +171,8 @@ impl<'a, T: Record, B: AsRef<[u32]> + AsMut<[u32]>> Store<'a, T, B> {
     /// # Errors
     ///
     /// [`Refusal::NotOut`] where [`get`](Store::get) is none; else as [`Pool::free`].
-    pub fn remove(&mut self, block: Block) -> Result<T, ReleaseError> {
-        let record = self.get(block).ok_or_else(|| ReleaseError::new(Refusal::NotOut, Some((0, block))))?;
+    pub fn remove(&mut self, block: Block) -> Result<T, FreeError> {
+        let record = self.get(block).ok_or_else(|| FreeError::new(Refusal::NotOut, block))?;
         self.pool.free(block)?;
         Ok(record)
     }

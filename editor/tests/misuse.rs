@@ -1,8 +1,8 @@
-//! Blocks that a pool has not out are refused at once and named, in debug and in release builds.
+//! Blocks that a pool has not granted, or has had back, are refused at once and named, in debug and in release builds.
 
 use std::collections::HashMap;
 
-use vigbuso::{AllocError, Block, Class, Heap, Pool, Refusal, Rules};
+use vigbuso::{Block, Class, Heap, Pool, Refusal, Rules};
 
 /// Frees a block that is not out: it is named, and nothing changes.
 #[track_caller]
@@ -10,7 +10,8 @@ fn refused(pool: &mut Pool, block: Block) {
     let before = pool.report();
     assert_eq!(pool.class_of(block), None);
     let error = pool.free(block).expect_err("it is not out");
-    assert_eq!((error.refusal(), error.block()), (Refusal::NotOut, Some((0, block))));
+    assert!([Refusal::NotOut, Refusal::WrongKind].contains(&error.refusal()), "{error}");
+    assert_eq!(error.block(), block);
     assert_eq!(pool.report(), before);
 }
 
@@ -119,12 +120,10 @@ fn blocks_in_stock() {
 
 #[test]
 fn foreign_blocks() {
-    let mut heap = Heap::open(64).expect("64 pages");
-    let class = Class::for_size(100).expect("a class");
-    let before = heap.take(class).expect("an opened book");
-    let mut pool = Pool::new(heap);
+    let mut pool = Pool::open(64).expect("64 pages");
     let block = alloc(&mut pool, 100);
-    for &foreign in &before {
+    let mut other = Pool::open(64).expect("64 pages");
+    for foreign in alloc_all(&mut other, 16_000).into_iter().filter(|&foreign| foreign != block) {
         refused(&mut pool, foreign);
     }
     let granules = [4_096 + 3, 64 * 4_096, (1 << 32) + block.granule(), (1 << 62) - 1];
@@ -132,8 +131,41 @@ fn foreign_blocks() {
         refused(&mut pool, foreign);
     }
     pool.free(block).expect("it is out");
-    let mut heap = pool.into_heap().expect("all that was freed was out");
-    heap.release(class, &before).expect("they were out all the time");
+}
+
+/// A class that is named must be the block's.
+#[test]
+fn blocks_of_another_class() {
+    let mut pool = Pool::open(64).expect("64 pages");
+    for bytes in [16, 1_000, 20_000] {
+        let block = alloc(&mut pool, bytes);
+        let own = pool.class_of(block).expect("it is out");
+        let before = pool.clone();
+        for class in Class::all().filter(|&class| class != own) {
+            let error = pool.free_in(class, block).expect_err("it is out in another class");
+            let number = if class.kind() == own.kind() { Refusal::NotOut } else { Refusal::WrongKind };
+            assert_eq!((error.refusal(), error.block()), (number, block));
+        }
+        assert_eq!(pool, before);
+        pool.free_in(own, block).expect("it is out");
+        assert_eq!(pool.free_in(own, block).expect_err("twice").refusal(), Refusal::NotOut);
+    }
+}
+
+/// What a heap handed out counts as granted once its book is a pool's, each block once.
+#[test]
+fn blocks_of_the_heap_before() {
+    let mut heap = Heap::open(64).expect("64 pages");
+    let class = Class::for_size(100).expect("a class");
+    let before = heap.take(class).expect("an opened book");
+    let mut pool = Pool::resume(heap.into_book()).expect("as the heap left it");
+    assert_eq!(pool.report().expect("an opened book").used, before.len());
+    let block = alloc(&mut pool, 100);
+    assert!(!before.contains(&block));
+    free_all(&mut pool, &before);
+    for &block in &before {
+        refused(&mut pool, block);
+    }
 }
 
 /// Right and wrong frees mixed, against a list of what is in use.
@@ -186,57 +218,31 @@ fn just_the_blocks_in_use_can_be_freed() {
     assert_eq!(pool.report().expect("an opened book").used, used.len());
 }
 
-/// A book that is as it was at its opening whenever the heap writes it.
-struct Forgetful {
-    book: Vec<u32>,
-    opened: Vec<u32>,
-}
-
-impl AsRef<[u32]> for Forgetful {
-    fn as_ref(&self) -> &[u32] {
-        &self.book
-    }
-}
-
-impl AsMut<[u32]> for Forgetful {
-    fn as_mut(&mut self) -> &mut [u32] {
-        self.book.copy_from_slice(&self.opened);
-        &mut self.book
-    }
-}
-
-fn forgetful_pool() -> Pool<Forgetful> {
-    let opened = Heap::open(4).expect("four pages").into_book();
-    let book = Forgetful { book: opened.clone(), opened };
-    Pool::new(Heap::resume(book).expect("as it was opened"))
-}
-
-const DAMAGED: Result<Block, AllocError> = Err(AllocError::Refused(Refusal::BookWord));
-
-/// Whatever is done to the book, no block that is in use is handed out again, and no page with one to another class.
+/// A book whose words were changed: calls answer or are refused, and none reads or writes anything else.
 #[test]
-fn a_book_that_forgets() {
-    let mut pool = forgetful_pool();
-    let mut blocks: Vec<Block> = (0..64).map(|_| pool.alloc(100).expect("there is room")).collect();
-    assert_eq!([100, 200].map(|bytes| pool.alloc(bytes)), [DAMAGED; 2]);
-    blocks.sort_unstable();
-    blocks.dedup();
-    assert_eq!(blocks.len(), 64);
-    let held = blocks[0];
-    pool.free(held).expect("it is out");
-    assert_eq!(pool.alloc(100), Ok(held));
-}
-
-/// What is in stock for a class is not handed out on a page that another class has got.
-#[test]
-fn a_book_that_forgets_a_stock() {
-    let mut pool = forgetful_pool();
-    let block = pool.alloc(100).expect("there is room");
-    pool.free(block).expect("it is out");
-    let other = pool.alloc(200).expect("its page has no block in use");
-    assert_eq!(other.page(), block.page());
-    assert_eq!(pool.alloc(100), DAMAGED);
-    assert_eq!(pool.class_of(other), Class::for_size(200));
-    pool.free(other).expect("it is out");
-    assert_eq!(pool.report().expect("an opened book").used, 0);
+fn damaged_books() {
+    let mut random: u64 = 13;
+    let mut below = |limit: usize| {
+        random = random.wrapping_mul(6_364_136_223_846_793_005).wrapping_add(1_442_695_040_888_963_407);
+        (random >> 33) as usize % limit
+    };
+    let mut pool = Pool::open(8).expect("eight pages");
+    let sound: Vec<Block> = [16, 16, 100, 1_000, 16_384, 20_000].map(|bytes| alloc(&mut pool, bytes)).into();
+    let (mut resumed, mut refused) = (0, 0);
+    for _ in 0..2_000 {
+        let mut book = pool.book().to_vec();
+        for _ in 0..4 {
+            // Among the first words of the arena, the classes' rows and the entries of the stocks, or in a page's record.
+            let word = [below(12), 160 + below(608), 9_216 + below(19_456), 40_000 + below(4_112)][below(4)];
+            book[word] = [0, 1, 255, 256, 4_096, u32::MAX][below(6)];
+        }
+        let Ok(mut damaged) = Pool::resume(book) else { continue };
+        resumed += 1;
+        for &block in &sound {
+            refused += usize::from(damaged.free(block).is_err());
+            refused += usize::from(damaged.alloc([16, 100, 16_384, 30_000][below(4)]).is_err());
+        }
+        let _ = (damaged.flush(), damaged.report(), damaged.stock().count());
+    }
+    assert!(resumed > 1_000 && refused > 100, "{resumed} resumed, {refused} calls refused");
 }

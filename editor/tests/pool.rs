@@ -171,12 +171,67 @@ fn runs_beside_blocks() {
 
 #[test]
 fn a_pool_on_a_lent_book() {
-    let mut book = vec![0; book_words(8)];
-    let mut pool = Pool::new(Heap::on(&mut book[..], 8).expect("eight pages"));
+    let mut book = vec![7; book_words(8)];
+    let mut pool = Pool::on(&mut book[..], 8).expect("eight pages");
     let block = pool.alloc(100).expect("there is room");
     let class = pool.class_of(block).expect("the pool's");
-    pool.into_heap().expect("all that was freed was out");
+    pool.into_heap().expect("an opened book");
     let mut heap = Heap::resume(&mut book[..]).expect("as the pool left it");
     heap.release(class, &[block]).expect("it is out still");
     assert!(heap.release(class, &[block]).is_err());
+}
+
+/// A pool is all in its book: its clone, and one resumed on a copy of the book, go on as it does.
+#[test]
+fn a_pool_is_a_value() {
+    let mut random: u64 = 5;
+    let mut below = |limit: usize| below(&mut random, limit);
+    let mut pools = [Pool::open(40).expect("40 pages"), Pool::open(40).expect("40 pages")];
+    let mut blocks: Vec<Block> = Vec::new();
+    for turn in 0..30_000 {
+        let [one, two] = &mut pools;
+        if blocks.is_empty() || below(8) < 5 {
+            let bytes = [16, 24, 100, 1_000, 16_384, 30_000][below(6)];
+            let answer = one.alloc(bytes);
+            assert_eq!(two.alloc(bytes), answer, "turn {turn}");
+            blocks.extend(answer);
+        } else {
+            let block = blocks.swap_remove(below(blocks.len()));
+            assert_eq!([one.free(block), two.free(block)], [Ok(()); 2]);
+        }
+        if turn % 1_000 == 0 {
+            assert_eq!(one, two);
+            assert_eq!(one.report(), two.report());
+            let again = Pool::resume(one.book().to_vec()).expect("as the pool left it");
+            assert_eq!(again.report(), one.report(), "what is in use is counted");
+            let mut granted: Vec<Block> = again.blocks().map(|(block, _)| block).collect();
+            granted.sort_unstable();
+            blocks.sort_unstable();
+            assert_eq!(granted, blocks);
+            pools = [again.clone(), again];
+        }
+    }
+    let mut other = pools[0].clone();
+    other.flush().expect("an opened book");
+    assert_ne!(pools[0], other);
+    assert_eq!(pools[0].report().map(|report| report.used), other.report().map(|report| report.used));
+}
+
+/// A heap that goes on with a pool's book has what is in stock back: nothing is out but what was granted.
+#[test]
+fn a_heap_on_a_pools_book() {
+    let mut pool = Pool::open(8).expect("eight pages");
+    let blocks = [16, 100, 20_000].map(|bytes| pool.alloc(bytes).expect("there is room"));
+    let stock: Vec<Block> = pool.stock().collect();
+    assert_eq!(stock.len(), pool.report().expect("an opened book").stocked);
+    let mut heap = Heap::resume(pool.book().to_vec()).expect("as the pool left it");
+    for block in stock {
+        let class = Class::all().find(|class| class.first_page(block).is_some()).expect("a class");
+        assert!(heap.release(class, &[block]).is_err(), "{block:?} was in stock");
+    }
+    for block in blocks {
+        heap.release(pool.class_of(block).expect("granted"), &[block]).expect("it is out");
+    }
+    let pool = Pool::resume(heap.into_book()).expect("as the heap left it");
+    assert_eq!(pool.report().expect("an opened book").used, 0);
 }

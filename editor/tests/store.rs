@@ -28,7 +28,7 @@ fn has_none<T: Record>(pool: &mut Pool, arena: &mut [u8], block: Block, record: 
     let mut store = Store::<T>::on(pool, arena);
     assert!(store.get(block).is_none() && store.replace(block, record).is_none());
     let error = store.remove(block).err().expect("it is not out");
-    assert_eq!((error.refusal(), error.block()), (Refusal::NotOut, Some((0, block))));
+    assert_eq!((error.refusal(), error.block()), (Refusal::NotOut, block));
     assert_eq!(arena, before);
 }
 

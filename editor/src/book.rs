@@ -1,0 +1,46 @@
+//! What the crate itself knows of a book's words (docs/RANGES.md), and copies of memory that is mostly 0.
+
+use alloc::vec::Vec;
+
+use crate::ffi::{self, Unsigned};
+
+/// FRONTIER: no page from this one on was ever handed out.
+const FRONTIER: usize = 2;
+
+/// ENTRY 0 of class 0, and the entries of each class.
+const ENTRIES: usize = 9_216;
+pub(crate) const ENTRIES_OF_CLASS: usize = 256;
+
+/// Integers that are copied, or not, together: a page of the system has 4,096 bytes.
+const CHUNK: usize = 512;
+
+/// The first page that was never handed out. No record stands from there on.
+pub(crate) fn frontier(book: &[u32]) -> u64 {
+    book.get(FRONTIER).copied().map_or(0, u64::from)
+}
+
+/// The first granules of the blocks that a pool has in stock for the class at a place, so many of them.
+pub(crate) fn entries(book: &[u32], place: usize, count: usize) -> &[u32] {
+    let entries = book.get(ENTRIES + ENTRIES_OF_CLASS * place..).unwrap_or_default();
+    &entries[..count.min(ENTRIES_OF_CLASS).min(entries.len())]
+}
+
+/// A copy that touches only what is not 0.
+pub(crate) fn copy_used<T: Unsigned>(from: &[T]) -> Vec<T> {
+    let mut copy = ffi::zeroed(from.len()).unwrap_or_else(|| no_memory::<T>(from.len()));
+    for (old, new) in from.chunks(CHUNK).zip(copy.chunks_mut(CHUNK)) {
+        if old.iter().any(|&integer| integer != T::default()) {
+            new.copy_from_slice(old);
+        }
+    }
+    copy
+}
+
+/// As a `Vec` that cannot grow, where the caller is promised a value.
+#[cold]
+fn no_memory<T>(count: usize) -> ! {
+    match core::alloc::Layout::array::<T>(count) {
+        Ok(layout) => alloc::alloc::handle_alloc_error(layout),
+        Err(_) => panic!("capacity overflow"),
+    }
+}
