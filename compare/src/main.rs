@@ -22,6 +22,7 @@ mod parking;
 mod places;
 mod plan;
 mod planned;
+mod pool;
 mod port;
 mod progress;
 mod random;
@@ -30,6 +31,7 @@ mod run;
 mod shrink;
 mod sizes;
 mod speed;
+mod stocks;
 mod tally;
 #[cfg(test)]
 mod tests;
@@ -50,9 +52,11 @@ const USAGE: &str = "usage: compare COMMAND [--NAME VALUE ..]
                random histories, or the calls of G, on the original, written down with its answers
   replay       --file F
                histories that were written down, on the port
+  pool         [--calls N] [--seed S] [--scenario NAME]
+               random histories of the pool's calls, on a plain pool over the original and on the port
   model-test   [--calls N] [--seed S] [--scenario NAME] [--longest STEPS] [--file F] [--repository FOLDER]
                histories with the original's answers, computed by the checker on the model
-  damaged      [--calls N] [--seed S] [--kinds all|blocks] [--only HISTORY]
+  damaged      [--calls N] [--seed S] [--kinds all|blocks|pool] [--only HISTORY]
                calls with any arguments on damaged books
   marks        [--calls N] [--seed S]
                releases and takes of random histories, also on a book whose mark words hold anything
@@ -83,6 +87,7 @@ fn main() -> ExitCode {
         Some("histories") => histories::histories(rest),
         Some("record") => histories::record(rest),
         Some("replay") => histories::replay(rest),
+        Some("pool") => pool::run(rest),
         Some("model-test") => model_test::run(rest),
         Some("damaged") => damaged::run(rest),
         Some("marks") => marks::run(rest),
