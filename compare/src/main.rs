@@ -36,6 +36,7 @@ mod tally;
 #[cfg(test)]
 mod tests;
 mod touched;
+mod trace_file;
 mod traces;
 mod words;
 
@@ -70,6 +71,8 @@ const USAGE: &str = "usage: compare COMMAND [--NAME VALUE ..]
                a workload like a long fill, with holes that touch left apart and with joins
   traces       [--traces N] [--seed S]
                random traces on the port, against their calls one by one on the original and on the port
+  trace        FILE [--pages N]
+               a trace that a program wrote, on the original as it is and on the port: the first block that differs, and why
   memory       the memory that long direct commits touch
   speed        [--file F] [--seconds S]
                the port's time against the original's, for each scenario S seconds; the table is also written to F
@@ -96,6 +99,7 @@ fn main() -> ExitCode {
         Some("places") => places::run(rest),
         Some("joining") => joining::run(rest),
         Some("traces") => traces::run(rest),
+        Some("trace") => trace_file::run(rest),
         Some("memory") => touched::run(),
         Some("speed") => speed::time(rest),
         Some("count") => speed::count(rest),
