@@ -81,6 +81,24 @@ impl HoleStore {
         self.bytes += pages * ARENA_ALIGN;
         true
     }
+
+    /// Whether the run is stored, with A.4 and not A.8: "Memory of the lengths that vanished is set to their lowest index, and the joined
+    /// length is remembered."
+    fn store_remembered(&mut self, off: usize, pages: usize) -> bool {
+        let (before, after) = self.touching(off, pages);
+        let vanished = [before, after].map(|hole| hole.map(|i| self.entries[i].1));
+        let stored = self.store(off, pages);
+        if stored {
+            vanished.into_iter().flatten().for_each(|length| self.refresh_exact(length));
+            let has_it = |i: &usize| (self.entries[*i].0..self.entries[*i].0 + self.entries[*i].1 * ARENA_ALIGN).contains(&off);
+            let hole = (0..self.len).find(has_it).expect("the run is stored");
+            let length = self.entries[hole].1;
+            if length <= EXACT_BUCKET_MAX {
+                self.exact[length] = hole as u16;
+            }
+        }
+        stored
+    }
 }
 
 impl Arena {
@@ -104,6 +122,9 @@ impl Arena {
     #[cold]
     #[inline(never)]
     fn amended_take(&self, pages: usize) -> *mut u8 {
+        if rules::is(Rules::Joined) {
+            return self.original_take(pages);
+        }
         let mut holes = self.holes.lock();
         let chosen = holes.chosen(pages);
         let base = |off: usize| (self.start.load(Ordering::Relaxed) + off) as *mut u8;
@@ -134,7 +155,7 @@ impl Arena {
     fn amended_give(&self, base: *mut u8, pages: usize) {
         let off = base as usize - self.start.load(Ordering::Relaxed);
         let mut holes = self.holes.lock();
-        if !rules::is(Rules::Amended) {
+        if !rules::is(Rules::Amended) && !rules::is(Rules::Joined) {
             let joins = holes.case(off, pages).joins();
             drop(holes);
             if joins && rules::is(Rules::Watched) {
@@ -142,7 +163,11 @@ impl Arena {
             }
             return self.original_give(base, pages);
         }
-        if !holes.store(off, pages) {
+        let stored = match rules::is(Rules::Joined) {
+            true => holes.store_remembered(off, pages),
+            false => holes.store(off, pages),
+        };
+        if !stored {
             self.abandoned.fetch_add(1, Ordering::Relaxed);
         }
         self.hole_count.store(holes.len, Ordering::Release);

@@ -11,14 +11,62 @@ pub struct Lent<T> {
 
 #[derive(Clone, PartialEq, Eq, Debug)]
 pub enum Call {
-    Take { family: Family, class: u32, host: u32, lent: Lent<Word> },
-    ReleaseBlocks { family: Family, class: u32, host: u32, list: Vec<Word> },
-    ReleaseChunks { class: u32, host: u32, list: Vec<Word>, chunks: Vec<Word>, lent: Lent<u32> },
-    Commit { host: u32, pages: u64 },
-    Grow { host: u32, first: u64, old: u64, new: u64 },
-    Release { host: u32, first: u64, pages: u64 },
-    Contains { offset: u64, length: u64 },
+    Take {
+        family: Family,
+        class: u32,
+        host: u32,
+        lent: Lent<Word>,
+    },
+    ReleaseBlocks {
+        family: Family,
+        class: u32,
+        host: u32,
+        list: Vec<Word>,
+    },
+    ReleaseChunks {
+        class: u32,
+        host: u32,
+        list: Vec<Word>,
+        chunks: Vec<Word>,
+        lent: Lent<u32>,
+    },
+    Commit {
+        host: u32,
+        pages: u64,
+    },
+    Grow {
+        host: u32,
+        first: u64,
+        old: u64,
+        new: u64,
+    },
+    Release {
+        host: u32,
+        first: u64,
+        pages: u64,
+    },
+    Contains {
+        offset: u64,
+        length: u64,
+    },
     Report,
+    /// The pool's calls name a class by one number: small ones 0 to 63, medium ones 64 to 75.
+    Pool {
+        wish: Wish,
+        class: u32,
+        host: u32,
+    },
+    ClassOf {
+        block: Word,
+    },
+}
+
+/// What the pool is asked of a class.
+#[derive(Clone, Copy, PartialEq, Eq, Debug)]
+pub enum Wish {
+    Alloc,
+    Free(Word),
+    Trim,
 }
 
 #[derive(Clone, PartialEq, Eq, Debug)]
@@ -42,6 +90,11 @@ pub enum Answer {
     Contains(bool),
     /// Commits, reuses, abandoned, pages held, idle pages, and how many are both.
     Report([u64; FIGURES]),
+    /// The block that an alloc granted, or that a trim gave back to the heap; 0 for none.
+    Block(Word),
+    Freed,
+    /// The class that has the block's page; 76 for none.
+    Class(u32),
     /// Something that CALLS.md rules out, in words.
     Broken(String),
 }
@@ -62,10 +115,14 @@ pub enum Kind {
     Release,
     Contains,
     Report,
+    Alloc,
+    Free,
+    Trim,
+    ClassOf,
 }
 
 impl Kind {
-    pub const ALL: [Kind; 10] = [
+    pub const ALL: [Kind; 14] = [
         Kind::TakeBlocks,
         Kind::MediumTakeBlocks,
         Kind::ReleaseBlocks,
@@ -76,6 +133,10 @@ impl Kind {
         Kind::Release,
         Kind::Contains,
         Kind::Report,
+        Kind::Alloc,
+        Kind::Free,
+        Kind::Trim,
+        Kind::ClassOf,
     ];
 
     pub const fn name(self) -> &'static str {
@@ -90,6 +151,10 @@ impl Kind {
             Kind::Release => "release",
             Kind::Contains => "contains",
             Kind::Report => "report",
+            Kind::Alloc => "alloc",
+            Kind::Free => "free",
+            Kind::Trim => "trim",
+            Kind::ClassOf => "class_of",
         }
     }
 
@@ -111,6 +176,10 @@ impl Call {
             Call::Release { .. } => Kind::Release,
             Call::Contains { .. } => Kind::Contains,
             Call::Report => Kind::Report,
+            Call::Pool { wish: Wish::Alloc, .. } => Kind::Alloc,
+            Call::Pool { wish: Wish::Free(_), .. } => Kind::Free,
+            Call::Pool { wish: Wish::Trim, .. } => Kind::Trim,
+            Call::ClassOf { .. } => Kind::ClassOf,
         }
     }
 }

@@ -43,15 +43,16 @@ pub fn plan(random: &mut Random, asked: fn(Kind) -> bool, name: Option<&str>, pa
         .map(|scenario| (scenario.weight, scenario))
         .collect();
     let scenario = random.weighted(&fitting);
-    let mut maker = Maker { random: Random::new(random.word()), pages, length: 1, steps: Vec::new(), asked };
+    let mut maker = Maker { asked, ..Maker::new(random, pages) };
     (scenario.make)(&mut maker);
     maker.push(HOST_ALL, Intent::Report);
     let rows = if random.chance(1, 3) { parking::any_rows(random) } else { Vec::new() };
-    Plan { scenario: scenario.name, pages: maker.length, rows, steps: maker.steps }
+    maker.plan(scenario.name, rows)
 }
 
-struct Maker {
-    random: Random,
+/// The steps of a plan, as they are made.
+pub struct Maker {
+    pub random: Random,
     /// The arena's length, if it was asked for.
     pages: Option<u32>,
     length: u32,
@@ -60,18 +61,31 @@ struct Maker {
 }
 
 impl Maker {
-    fn arena(&mut self, low: u32, high: u32) {
+    pub fn new(random: &mut Random, pages: Option<u32>) -> Maker {
+        Maker { random: Random::new(random.word()), pages, length: 1, steps: Vec::new(), asked: |_| true }
+    }
+
+    pub fn plan(self, scenario: &'static str, rows: Vec<u32>) -> Plan {
+        Plan { scenario, pages: self.length, rows, steps: self.steps }
+    }
+
+    /// The arena's length.
+    pub fn pages(&self) -> u64 {
+        u64::from(self.length)
+    }
+
+    pub fn arena(&mut self, low: u32, high: u32) {
         let length = self.random.between(u64::from(low), u64::from(high)) as u32;
         self.length = self.pages.unwrap_or(length);
     }
 
-    fn push(&mut self, host: u32, intent: Intent) {
+    pub fn push(&mut self, host: u32, intent: Intent) {
         let chance = self.random.word();
         self.steps.push(Step { intent, host, chance });
     }
 
     /// With the host word that grants all, or now and then with any other.
-    fn add(&mut self, intent: Intent) {
+    pub fn add(&mut self, intent: Intent) {
         let host = match self.random.below(10) {
             0 => self.random.below(16) as u32,
             1 => HOST_ALL - HOST_COMMIT,
@@ -82,7 +96,7 @@ impl Maker {
     }
 
     /// The reservation is granted, so that what follows has an arena.
-    fn reserve(&mut self) {
+    pub fn reserve(&mut self) {
         let host = HOST_RESERVE | self.random.below(16) as u32;
         self.push(host, Intent::Commit { pages: 1 });
     }
@@ -105,7 +119,7 @@ impl Maker {
         }
     }
 
-    fn direct_step(&mut self) {
+    pub fn direct_step(&mut self) {
         match self.random.below(20) {
             0..=7 => {
                 let pages = self.run_length();
@@ -152,7 +166,7 @@ impl Maker {
         self.random.weighted(&[(2, Portion::One), (3, Portion::Some), (3, Portion::All)])
     }
 
-    fn class_step(&mut self, family: Family, class: u32) {
+    pub fn class_step(&mut self, family: Family, class: u32) {
         let portion = self.portion();
         match self.random.below(12) {
             0..=4 => self.add(Intent::Take { family, class }),
@@ -326,8 +340,7 @@ fn hole_limit_step(maker: &mut Maker, far: Range<u64>) {
 /// Steps where nearly 4,096 holes of one page are stored and the direct calls hold the pages from `first` on: longer
 /// holes up to the limit, one that is cut and given back there, then others.
 pub fn at_hole_limit(random: &mut Random, first: u64, steps: usize) -> Vec<Step> {
-    let random = Random::new(random.word());
-    let mut maker = Maker { random, pages: None, length: 40, steps: Vec::new(), asked: |_| true };
+    let mut maker = Maker { length: 40, ..Maker::new(random, None) };
     for hole in 0..6 {
         maker.push(HOST_ALL, Intent::ReleaseAt { first: first + 5 * hole, pages: if hole < 2 { 3 } else { 1 } });
     }

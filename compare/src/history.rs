@@ -10,6 +10,9 @@
 //! release HOST FIRST PAGES = 0
 //! contains OFFSET LENGTH = YES
 //! report = 0 COMMITS REUSES ABANDONED HELD IDLE OVERLAP
+//! alloc CLASS HOST = 0 BLOCK                                      (trim alike)
+//! free CLASS HOST BLOCK = 0
+//! class_of BLOCK = CLASS
 //! ```
 //!
 //! A refused call has just its number after `=`. A lent list of LENGTH entries holds FILL in each before the call.
@@ -17,7 +20,7 @@
 
 use std::fmt::Write;
 
-use crate::call::{Answer, Call, Due, Kind, Lent};
+use crate::call::{Answer, Call, Due, Kind, Lent, Wish};
 use crate::words::{Family, FIGURES, NO_PAGE};
 
 #[derive(Clone, PartialEq, Eq, Debug)]
@@ -85,6 +88,11 @@ fn arguments(call: &Call) -> Vec<u64> {
         Call::Release { host, first, pages } => vec![u64::from(*host), *first, *pages],
         Call::Contains { offset, length } => vec![*offset, *length],
         Call::Report => Vec::new(),
+        Call::Pool { wish, class, host } => {
+            let block = if let Wish::Free(block) = wish { Some(*block) } else { None };
+            [u64::from(*class), u64::from(*host)].into_iter().chain(block).collect()
+        }
+        Call::ClassOf { block } => vec![*block],
     }
 }
 
@@ -97,7 +105,9 @@ fn results(answer: &Answer) -> Vec<u64> {
         Answer::Run { first, fresh } => vec![0, u64::from(*first), u64::from(*fresh)],
         Answer::NoRun => vec![0, u64::from(NO_PAGE), 0],
         Answer::Grown(grown) => vec![0, u64::from(*grown)],
-        Answer::Released => vec![0],
+        Answer::Released | Answer::Freed => vec![0],
+        Answer::Block(block) => vec![0, *block],
+        Answer::Class(class) => vec![u64::from(*class)],
         Answer::Contains(yes) => vec![u64::from(*yes)],
         Answer::Report(figures) => [&[0], &figures[..]].concat(),
         Answer::Broken(_) => Vec::new(),
@@ -209,6 +219,16 @@ fn parse_call(kind: Kind, from: &mut Numbers) -> Option<Call> {
         Kind::Release => Call::Release { host: from.number()?, first: from.next()?, pages: from.next()? },
         Kind::Contains => Call::Contains { offset: from.next()?, length: from.next()? },
         Kind::Report => Call::Report,
+        Kind::Alloc | Kind::Free | Kind::Trim => {
+            let (class, host) = (from.number()?, from.number()?);
+            let wish = match kind {
+                Kind::Alloc => Wish::Alloc,
+                Kind::Trim => Wish::Trim,
+                _ => Wish::Free(from.next()?),
+            };
+            Call::Pool { wish, class, host }
+        }
+        Kind::ClassOf => Call::ClassOf { block: from.next()? },
     })
 }
 
@@ -220,8 +240,10 @@ fn family(kind: Kind) -> Family {
 }
 
 fn parse_answer(call: &Call, from: &mut Numbers) -> Option<Answer> {
-    if let Call::Contains { .. } = call {
-        return from.flag().map(Answer::Contains);
+    match call {
+        Call::Contains { .. } => return from.flag().map(Answer::Contains),
+        Call::ClassOf { .. } => return from.number().map(Answer::Class),
+        _ => {}
     }
     let number: u32 = from.number()?;
     if number != 0 {
@@ -247,6 +269,8 @@ fn parse_answer(call: &Call, from: &mut Numbers) -> Option<Answer> {
             }
             Answer::Report(figures)
         }
-        Call::Contains { .. } => unreachable!("answered above"),
+        Call::Pool { wish: Wish::Free(_), .. } => Answer::Freed,
+        Call::Pool { .. } => Answer::Block(from.next()?),
+        Call::Contains { .. } | Call::ClassOf { .. } => unreachable!("answered above"),
     })
 }

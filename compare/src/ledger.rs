@@ -1,12 +1,13 @@
-//! What the answers of a history say so far: who holds each page, and which blocks are out.
+//! What the answers of a history say so far: who holds each page, which blocks are out, and which the pool has granted.
 //!
 //! From this the tool knows which calls lie in document 01's domain, and tells what the original does not: the number
 //! of a refused call, and the report's pages held.
 
 use std::collections::BTreeMap;
 
-use crate::call::{Answer, Call};
+use crate::call::{Answer, Call, Wish};
 use crate::oracle;
+use crate::stocks::Stocks;
 use crate::words::{
     chunk_count, chunk_page, kind_of, page_of, Family, Word, CHUNK_KIND, HOST_ALL, MAX_CHUNKS, RUN_LIMIT, SMALL_CLASSES,
 };
@@ -35,6 +36,8 @@ pub struct Ledger {
     out: Vec<Vec<Out>>,
     direct: BTreeMap<u32, u32>,
     held: u64,
+    /// Of the pool; what is in stock no answer tells.
+    pub stocks: Stocks,
 }
 
 pub fn class_id(family: Family, class: u32) -> usize {
@@ -55,6 +58,7 @@ impl Ledger {
             out: vec![Vec::new(); CLASSES],
             direct: BTreeMap::new(),
             held: 0,
+            stocks: Stocks::new(),
         }
     }
 
@@ -82,6 +86,14 @@ impl Ledger {
     /// The first page of a block's page or span. The block is out.
     pub fn first_page(&self, word: Word) -> u32 {
         self.run[page_of(word) as usize]
+    }
+
+    /// The class that has a block's page, by one number; 76 for none.
+    pub fn class_of(&self, word: Word) -> u32 {
+        match self.owner.get(page_of(word) as usize) {
+            None | Some(&NOBODY | &DIRECT) => CLASSES as u32,
+            Some(&owner) => u32::from(owner) - 1,
+        }
     }
 
     /// Runs of the direct calls, by first page.
@@ -120,6 +132,10 @@ impl Ledger {
                 self.hold((first + old) as u32, (new - old) as u32);
             }
             (Call::Release { first, pages, .. }, Answer::Released) => self.let_go(*first as u32, *pages as u32),
+            (Call::Pool { wish: Wish::Alloc, class, .. }, Answer::Block(word)) if *word != 0 => {
+                self.stocks.grant(*class, *word);
+            }
+            (Call::Pool { wish: Wish::Free(word), class, .. }, Answer::Freed) => self.stocks.take_back(*class, *word),
             _ => {}
         }
     }
@@ -205,7 +221,12 @@ impl Ledger {
             Call::Release { host, first, pages } => {
                 first_of(&[(3, *host > HOST_ALL), (6, bad_run(*pages)), (12, !self.is_direct(*first, *pages))])
             }
-            Call::Contains { .. } | Call::Report => None,
+            Call::Pool { wish, class, host } => first_of(&[(3, *host > HOST_ALL), (4, *class >= CLASSES as u32)])
+                .or_else(|| match wish {
+                    Wish::Free(word) => self.stocks.refusal(*class, *word),
+                    Wish::Alloc | Wish::Trim => None,
+                }),
+            Call::Contains { .. } | Call::Report | Call::ClassOf { .. } => None,
         }
     }
 

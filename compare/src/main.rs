@@ -22,6 +22,7 @@ mod parking;
 mod places;
 mod plan;
 mod planned;
+mod pool;
 mod port;
 mod progress;
 mod random;
@@ -30,10 +31,12 @@ mod run;
 mod shrink;
 mod sizes;
 mod speed;
+mod stocks;
 mod tally;
 #[cfg(test)]
 mod tests;
 mod touched;
+mod trace_file;
 mod traces;
 mod words;
 
@@ -50,9 +53,11 @@ const USAGE: &str = "usage: compare COMMAND [--NAME VALUE ..]
                random histories, or the calls of G, on the original, written down with its answers
   replay       --file F
                histories that were written down, on the port
+  pool         [--calls N] [--seed S] [--scenario NAME]
+               random histories of the pool's calls, on a plain pool over the original and on the port
   model-test   [--calls N] [--seed S] [--scenario NAME] [--longest STEPS] [--file F] [--repository FOLDER]
                histories with the original's answers, computed by the checker on the model
-  damaged      [--calls N] [--seed S] [--kinds all|blocks] [--only HISTORY]
+  damaged      [--calls N] [--seed S] [--kinds all|blocks|pool] [--only HISTORY]
                calls with any arguments on damaged books
   marks        [--calls N] [--seed S]
                releases and takes of random histories, also on a book whose mark words hold anything
@@ -66,6 +71,8 @@ const USAGE: &str = "usage: compare COMMAND [--NAME VALUE ..]
                a workload like a long fill, with holes that touch left apart and with joins
   traces       [--traces N] [--seed S]
                random traces on the port, against their calls one by one on the original and on the port
+  trace        FILE [--pages N]
+               a trace that a program wrote, on the original as it is and on the port: the first block that differs, and why
   memory       the memory that long direct commits touch
   speed        [--file F] [--seconds S]
                the port's time against the original's, for each scenario S seconds; the table is also written to F
@@ -83,6 +90,7 @@ fn main() -> ExitCode {
         Some("histories") => histories::histories(rest),
         Some("record") => histories::record(rest),
         Some("replay") => histories::replay(rest),
+        Some("pool") => pool::run(rest),
         Some("model-test") => model_test::run(rest),
         Some("damaged") => damaged::run(rest),
         Some("marks") => marks::run(rest),
@@ -91,6 +99,7 @@ fn main() -> ExitCode {
         Some("places") => places::run(rest),
         Some("joining") => joining::run(rest),
         Some("traces") => traces::run(rest),
+        Some("trace") => trace_file::run(rest),
         Some("memory") => touched::run(),
         Some("speed") => speed::time(rest),
         Some("count") => speed::count(rest),

@@ -1,9 +1,10 @@
 //! A history before it is run: steps that say what is wanted, and find their arguments in the ledger when their turn
 //! comes. So a plan with some steps left out is again a plan of calls in document 01's domain.
 
-use crate::call::{Call, Lent};
+use crate::call::{Call, Lent, Wish};
 use crate::ledger::{Ledger, Out};
 use crate::oracle;
+use crate::pool::wrong as wrong_pool;
 use crate::random::Random;
 use crate::words::{block_word, chunk_word, page_of, Family, Word, MAX_CHUNKS, PAGE_BYTES, PAGE_GRANULES, RUN_LIMIT};
 
@@ -28,6 +29,14 @@ pub enum Piece {
     Part,
     /// So many pages at the front of a run.
     Front(u64),
+}
+
+/// Which granted block is freed.
+#[derive(Clone, Copy, PartialEq, Eq, Debug)]
+pub enum Which {
+    Latest,
+    Oldest,
+    Any,
 }
 
 #[derive(Clone, PartialEq, Eq, Debug)]
@@ -66,6 +75,24 @@ pub enum Intent {
     /// A call that is likely to be refused.
     Wrong {
         family: Family,
+        class: u32,
+    },
+    /// The pool's calls name a class by one number.
+    Alloc {
+        class: u32,
+    },
+    Free {
+        class: u32,
+        which: Which,
+    },
+    Trim {
+        class: u32,
+    },
+    ClassOf {
+        class: u32,
+    },
+    /// A call of the pool that is likely to be refused, mostly a free.
+    WrongPool {
         class: u32,
     },
 }
@@ -118,6 +145,23 @@ impl Step {
             Intent::Contains => Some(contains(&mut random, ledger.pages())),
             Intent::Report => Some(Call::Report),
             Intent::Wrong { family, class } => Some(wrong(&mut random, ledger, family, class, host)),
+            Intent::Alloc { class } => Some(Call::Pool { wish: Wish::Alloc, class, host }),
+            Intent::Free { class, which } => {
+                let granted = ledger.stocks.granted(class);
+                let word = match which {
+                    Which::Latest => granted.last().copied(),
+                    Which::Oldest => granted.first().copied(),
+                    Which::Any => (!granted.is_empty()).then(|| random.pick(granted)),
+                };
+                Some(Call::Pool { wish: Wish::Free(word?), class, host })
+            }
+            Intent::Trim { class } => {
+                // Seldom of an empty stock.
+                let asked = !ledger.stocks.stock(class).is_empty() || random.chance(1, 10);
+                asked.then_some(Call::Pool { wish: Wish::Trim, class, host })
+            }
+            Intent::ClassOf { class } => Some(Call::ClassOf { block: wrong_pool::block(&mut random, ledger, class) }),
+            Intent::WrongPool { class } => Some(wrong_pool::call(&mut random, ledger, class, host)),
         }
     }
 }

@@ -1,6 +1,6 @@
 //! The port, through the C boundary of CALLS.md.
 
-use crate::call::{Answer, Call, Lent};
+use crate::call::{Answer, Call, Lent, Wish};
 use crate::memory::{Fence, Fenced, Plain};
 use crate::planned::Planned;
 use crate::words::{Family, Word, FIGURES, NO_PAGE};
@@ -89,6 +89,10 @@ extern "C" {
         fates: *mut u32,
         room: usize,
     ) -> u32;
+    fn vigbuso_alloc(book: *mut u32, words: usize, class: u32, host: u32, block: *mut Word) -> u32;
+    fn vigbuso_free(book: *mut u32, words: usize, class: u32, host: u32, block: Word) -> u32;
+    fn vigbuso_trim(book: *mut u32, words: usize, class: u32, host: u32, block: *mut Word) -> u32;
+    fn vigbuso_class_of(book: *const u32, words: usize, block: Word) -> u32;
 }
 
 /// None for a size that is too large, which keeps the class.
@@ -241,6 +245,13 @@ pub fn ask(book: &mut [u32], room: &mut Room, call: &Call) -> Answer {
         Call::Release { host, first, pages } => release(book, *host, *first, *pages),
         Call::Contains { offset, length } => contains(book, *offset, *length),
         Call::Report => report(book),
+        Call::Pool { wish: Wish::Alloc, class, host } => one_block(plain_alloc(book, [*class, *host])),
+        Call::Pool { wish: Wish::Trim, class, host } => one_block(plain_trim(book, [*class, *host])),
+        Call::Pool { wish: Wish::Free(block), class, host } => match plain_free(book, [*class, *host], *block) {
+            0 => Answer::Freed,
+            number => refusal(number, true),
+        },
+        Call::ClassOf { block } => Answer::Class(plain_class_of(book, *block)),
     }
 }
 
@@ -427,5 +438,44 @@ fn report(book: &[u32]) -> Answer {
     match plain_report(book) {
         (0, figures) => Answer::Report(figures),
         (number, figures) => refusal(number, figures == [UNTOUCHED_FIGURE; FIGURES]),
+    }
+}
+
+/// What is returned, and the block.
+#[inline]
+pub fn plain_alloc(book: &mut [u32], [class, host]: [u32; 2]) -> (u32, Word) {
+    let mut block = UNTOUCHED_FIGURE;
+    // SAFETY: the book and the out-parameter are lent for the call.
+    let number = unsafe { vigbuso_alloc(book.as_mut_ptr(), book.len(), class, host, &mut block) };
+    (number, block)
+}
+
+/// What is returned, and the block.
+#[inline]
+pub fn plain_trim(book: &mut [u32], [class, host]: [u32; 2]) -> (u32, Word) {
+    let mut block = UNTOUCHED_FIGURE;
+    // SAFETY: the book and the out-parameter are lent for the call.
+    let number = unsafe { vigbuso_trim(book.as_mut_ptr(), book.len(), class, host, &mut block) };
+    (number, block)
+}
+
+/// What is returned.
+#[inline]
+pub fn plain_free(book: &mut [u32], [class, host]: [u32; 2], block: Word) -> u32 {
+    // SAFETY: the book is lent for the call.
+    unsafe { vigbuso_free(book.as_mut_ptr(), book.len(), class, host, block) }
+}
+
+/// What is returned.
+#[inline]
+pub fn plain_class_of(book: &[u32], block: Word) -> u32 {
+    // SAFETY: the book is lent for the call, to be read.
+    unsafe { vigbuso_class_of(book.as_ptr(), book.len(), block) }
+}
+
+fn one_block((number, block): (u32, Word)) -> Answer {
+    match number {
+        0 => Answer::Block(block),
+        _ => refusal(number, block == UNTOUCHED_FIGURE),
     }
 }

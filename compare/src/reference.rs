@@ -1,13 +1,17 @@
 //! One history on the original, with document 02's parts in it or without them: its answers, with the numbers of refused calls and the pages held from the ledger.
 
-use crate::call::{Answer, Call};
+use crate::call::{Answer, Call, Lent, Wish};
 use crate::ledger::Ledger;
 use crate::oracle::rules::Rules;
 use crate::oracle::Original;
+use crate::planned::family;
+use crate::words::{Word, SMALL_BATCH};
 
 pub struct Reference {
     original: Original,
     pub ledger: Ledger,
+    /// What the heap answered to the take or release that the last call of the pool made, if it made one.
+    pub heap: Option<Answer>,
 }
 
 impl Reference {
@@ -17,7 +21,7 @@ impl Reference {
     }
 
     pub fn open_with(pages: u32, rows: &[u32], rules: Rules) -> Reference {
-        Reference { original: Original::open(pages, rows, rules), ledger: Ledger::new(pages) }
+        Reference { original: Original::open(pages, rows, rules), ledger: Ledger::new(pages), heap: None }
     }
 
     /// Pages below the frontier.
@@ -42,6 +46,9 @@ impl Reference {
     }
 
     fn ask(&mut self, call: &Call) -> Answer {
+        if let Call::Pool { wish, class, host } = *call {
+            return self.pool(wish, class, host);
+        }
         let original = &mut self.original;
         match call {
             Call::Take { family, class, host, .. } => {
@@ -69,6 +76,52 @@ impl Reference {
                 let (held, idle) = (self.ledger.held(), original.idle_pages());
                 Answer::Report([commits, reuses, abandoned, held, idle, original.parked_pages()])
             }
+            Call::ClassOf { block } => Answer::Class(self.ledger.class_of(*block)),
+            Call::Pool { .. } => unreachable!("answered above"),
         }
+    }
+
+    /// The pool's calls, over the original's takes and releases. A free's block is granted in the class.
+    fn pool(&mut self, wish: Wish, class: u32, host: u32) -> Answer {
+        self.heap = None;
+        match wish {
+            Wish::Alloc => match self.ledger.stocks.pop(class) {
+                Some(word) => Answer::Block(word),
+                None => {
+                    let mut words = self.taken(class, host);
+                    let granted = words.pop();
+                    self.ledger.stocks.fill(class, words);
+                    Answer::Block(granted.unwrap_or(0))
+                }
+            },
+            Wish::Free(word) => {
+                if !self.ledger.stocks.push(class, word) {
+                    self.give_back(class, host, word);
+                }
+                Answer::Freed
+            }
+            Wish::Trim => match self.ledger.stocks.pop(class) {
+                Some(word) => {
+                    self.give_back(class, host, word);
+                    Answer::Block(word)
+                }
+                None => Answer::Block(0),
+            },
+        }
+    }
+
+    fn taken(&mut self, class: u32, host: u32) -> Vec<Word> {
+        let (family, class) = family(class);
+        let answer = self.answer(&Call::Take { family, class, host, lent: Lent { len: SMALL_BATCH, fill: 0 } });
+        self.heap = Some(answer.clone());
+        let Answer::Taken { words, .. } = answer else { panic!("the pool's take is answered by {answer:?}") };
+        words
+    }
+
+    fn give_back(&mut self, class: u32, host: u32, word: Word) {
+        let (family, class) = family(class);
+        let answer = self.answer(&Call::ReleaseBlocks { family, class, host, list: vec![word] });
+        assert!(matches!(answer, Answer::Fate(_)), "the pool's release is answered by {answer:?}");
+        self.heap = Some(answer);
     }
 }

@@ -17,6 +17,7 @@ mod planned;
 mod random;
 mod reference;
 mod sizes;
+mod stocks;
 mod words;
 
 use std::cell::RefCell;

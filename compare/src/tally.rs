@@ -45,7 +45,7 @@ impl Tally {
         self.most_hole_pages = self.most_hole_pages.max(pages);
     }
 
-    fn event(&mut self, name: &str) {
+    pub fn event(&mut self, name: &str) {
         match self.events.get_mut(name) {
             Some(times) => *times += 1,
             None => {
@@ -82,6 +82,7 @@ impl Tally {
             Answer::NoRun => self.event("commit answers none"),
             Answer::Grown(true) => self.event("growth answers yes"),
             Answer::Grown(false) => self.event("growth answers no"),
+            Answer::Block(0) => self.event(&format!("{} answers none", call.kind().name())),
             Answer::Report([.., overlap]) if *overlap > 0 => self.event("report with parked pages"),
             Answer::Taken { words, .. } if words.is_empty() => self.event("take answers none"),
             Answer::Taken { virgin: true, .. } => self.event("take is virgin"),

@@ -2,17 +2,21 @@
 
 use std::sync::Mutex;
 
-use crate::call::{Answer, Call, Due, Lent};
+use crate::call::{Answer, Call, Due, Lent, Wish};
 use crate::generate::{self, SCENARIOS};
 use crate::history::{self, History};
+use crate::ledger::Ledger;
 use crate::oracle::asked;
 use crate::oracle::rules::Rules;
 use crate::plan::{Intent, Place, Plan, Step};
+use crate::pool::{self, Apart};
 use crate::random::Random;
 use crate::reference::Reference;
 use crate::run;
 use crate::shrink::shrink;
 use crate::sizes::size_class;
+use crate::stocks::stock_most;
+use crate::trace_file::{self, Why};
 use crate::words::{block_word, chunk_word, granule_of, page_of, Family, Word, HOST_ALL, HOST_COMMIT, MAX_PAGES};
 
 /// The original has one arena for the process.
@@ -188,4 +192,163 @@ fn shrinks_to_what_fails() {
         small.steps.iter().map(|step| (&step.intent, step.host)).collect::<Vec<_>>(),
         [(&needed, HOST_ALL), (&last, HOST_ALL)]
     );
+}
+
+fn alloc(class: u32) -> Call {
+    Call::Pool { wish: Wish::Alloc, class, host: HOST_ALL }
+}
+
+fn free(class: u32, block: Word) -> Call {
+    Call::Pool { wish: Wish::Free(block), class, host: HOST_ALL }
+}
+
+fn trim(class: u32) -> Call {
+    Call::Pool { wish: Wish::Trim, class, host: HOST_ALL }
+}
+
+/// A page of class 45 has three blocks, which a take lists from the last: the first one is granted first.
+#[test]
+fn the_plain_pool() {
+    let [low, middle, high] = [3, 1_027, 2_051].map(|granule| block_word(Family::Small, granule));
+    let medium = block_word(Family::Medium, 3);
+    let calls = [
+        alloc(45),
+        Call::ClassOf { block: low },
+        free(45, high),   // in stock, never granted
+        free(44, low),    // another class's
+        free(45, medium), // another kind
+        free(76, low),
+        free(45, low),
+        free(45, low), // twice
+        alloc(45),
+        alloc(45),
+        trim(45),
+        trim(45),
+        free(45, high), // back at the heap
+    ];
+    let refused = Answer::Refused;
+    let due = [
+        Answer::Block(low),
+        Answer::Class(45),
+        refused(10),
+        refused(10),
+        refused(9),
+        refused(4),
+        Answer::Freed,
+        refused(10),
+        Answer::Block(low),
+        Answer::Block(middle),
+        Answer::Block(high),
+        Answer::Block(0),
+        refused(10),
+    ];
+    assert_eq!(answers(&calls), due);
+}
+
+/// 256 KiB of blocks, but 8 at least and 255 at most; the next one freed goes back to the heap.
+#[test]
+fn a_full_stock() {
+    assert_eq!([0, 22, 45, 64, 75].map(stock_most), [255, 252, 16, 14, 8]);
+    let _alone = ORIGINAL.lock().unwrap_or_else(|poisoned| poisoned.into_inner());
+    let mut reference = Reference::open(64, &[]);
+    let granted: Vec<Word> = (0..30)
+        .map(|_| match reference.answer(&alloc(45)) {
+            Answer::Block(word) => word,
+            other => panic!("an alloc answers {other:?}"),
+        })
+        .collect();
+    for (at, &word) in granted.iter().enumerate() {
+        assert_eq!(reference.answer(&free(45, word)), Answer::Freed);
+        assert_eq!(reference.heap.is_some(), at >= stock_most(45), "free {at}");
+    }
+}
+
+#[test]
+fn blocks_that_share_a_byte_are_told() {
+    let block = |granule| Answer::Block(block_word(Family::Small, granule));
+    let mut ledger = Ledger::new(8);
+    ledger.note(&commit(HOST_ALL, 1), &run_at(2, true), |_, _| 0);
+    let mut apart = Apart::default();
+    // Class 1 has blocks of 32 bytes.
+    assert!(apart.note(&alloc(1), &block(3), &ledger).is_ok());
+    assert!(apart.note(&alloc(1), &block(5), &ledger).is_ok());
+    assert!(apart.note(&alloc(1), &block(4), &ledger).is_err());
+    assert!(apart.note(&alloc(0), &block(6), &ledger).is_err());
+    assert!(apart.note(&alloc(0), &block(2 * 4_096 + 7), &ledger).is_err());
+    assert!(apart.note(&commit(HOST_ALL, 1), &run_at(0, true), &ledger).is_err());
+    assert!(apart.note(&commit(HOST_ALL, 1), &run_at(1, true), &ledger).is_ok());
+}
+
+/// Some calls of each of the pool's scenarios, compared with the port and read back from their text.
+#[test]
+fn the_pools_scenarios() {
+    let _alone = ORIGINAL.lock().unwrap_or_else(|poisoned| poisoned.into_inner());
+    let mut random = Random::new(7);
+    for scenario in &pool::SCENARIOS {
+        let plan = pool::plan(&mut random, Some(scenario.name));
+        let history = History { pages: plan.pages, rows: plan.rows.clone(), calls: run::record(&plan, |_| true) };
+        assert_eq!(history::parse(&history.text()), Ok(vec![history]));
+        let words = ["--calls", "3000", "--scenario", scenario.name].map(String::from);
+        assert_eq!(pool::run(&words), Ok(true), "{}", scenario.name);
+    }
+}
+
+/// Pages of class 45, three blocks each, so many that its stores are full once those below the last few are released. The last ones
+/// then go to the arena, in the order that is asked.
+fn given_pages(pages: &[u32], then: &[u32]) -> Vec<u32> {
+    const PAGES: u32 = 272;
+    const PARKED: u32 = 260;
+    let release = |page: u32| (3 * page..3 * page + 3).map(|place| 1 << 30 | place);
+    let takes = (0..PAGES).map(|_| 45);
+    let parked = (0..PARKED).flat_map(release);
+    let given = pages.iter().flat_map(|&page| release(page));
+    takes.chain(parked).chain(given).chain(then.iter().copied()).collect()
+}
+
+fn first_and_why(trace: &[u32]) -> (Option<usize>, Option<Why>) {
+    let _alone = ORIGINAL.lock().unwrap_or_else(|poisoned| poisoned.into_inner());
+    let compared = trace_file::compare(trace, 300).unwrap_or_else(|stop| panic!("{}", stop.told(trace)));
+    assert_eq!(compared.is_explained(), compared.why != Some(Why::None));
+    (compared.first, compared.why)
+}
+
+/// Of two holes of a page the original takes the one that was given last, and A.8 the lowest.
+#[test]
+fn a_trace_that_equal_holes_part() {
+    let trace = given_pages(&[262, 266], &[44, 2 << 30]);
+    assert_eq!(first_and_why(&trace), (Some(trace.len() - 2), Some(Why::A8)));
+}
+
+/// Three pages side by side are a span's by A.4; the original has three holes of a page, and its span comes from the frontier.
+#[test]
+fn a_trace_that_touching_holes_part() {
+    let trace = given_pages(&[263, 264, 265], &[64]);
+    assert_eq!(first_and_why(&trace), (Some(trace.len() - 1), Some(Why::A4)));
+    // The lowest of three is the joined one's first page as well.
+    assert_eq!(first_and_why(&given_pages(&[263, 264, 265], &[44])).1, Some(Why::Either));
+    // Two holes of three pages: they are there by A.4, and the lower one is taken by A.8.
+    let trace = given_pages(&[263, 264, 265, 267, 268, 269], &[64]);
+    assert_eq!(first_and_why(&trace).1, Some(Why::Both));
+}
+
+#[test]
+fn a_trace_without_a_difference() {
+    assert_eq!(first_and_why(&[0, 45, 64, 1 << 30, 1 << 30 | 70, 2 << 30, 0, 64]), (None, None));
+    assert_eq!(first_and_why(&given_pages(&[262], &[44])), (None, None));
+}
+
+#[test]
+fn a_malformed_trace_is_named() {
+    let _alone = ORIGINAL.lock().unwrap_or_else(|poisoned| poisoned.into_inner());
+    let told = |trace: &[u32]| trace_file::compare(trace, 4).map(|_| ()).unwrap_err().told(trace);
+    assert_eq!(told(&[45, 3 << 30]), "word 1 (0xc0000000) stops the trace: its kind is 3");
+    assert_eq!(told(&[76]), "word 0 (0x0000004c) stops the trace: class 76 is above 75");
+    assert_eq!(told(&[2 << 30 | 9]), "word 0 (0x80000009) stops the trace: a report with 9 below its kind");
+    let early = "word 1 (0x40000003) stops the trace: it releases place 3, which is not handed out yet";
+    assert_eq!(told(&[45, 1 << 30 | 3]), early);
+    let twice = "word 2 (0x40000000) stops the trace: it releases place 0, which was released before";
+    assert_eq!(told(&[45, 1 << 30, 1 << 30]), twice);
+    assert_eq!(trace_file::read(&[1, 0, 0, 0, 0, 0, 0, 64]), Ok(vec![1, 1 << 30]));
+    assert_eq!(trace_file::read(b"45\n1073741824\n"), Ok(vec![45, 1 << 30]));
+    assert!(trace_file::read(&[1, 0, 0, 0, 7]).is_err());
 }

@@ -27,9 +27,30 @@ struct Trace {
     figures: usize,
 }
 
+/// What a word says.
+#[derive(Clone, Copy, PartialEq, Eq, Debug)]
+pub enum Say {
+    Take(u32),
+    Release(usize),
+    Report,
+}
+
+/// What a word says, or why it stops every trace.
+pub fn say(word: u32) -> Result<Say, Reason> {
+    let number = word & ((1 << BITS) - 1);
+    match word >> BITS {
+        0 if number >= CLASSES => Err(Reason::Class),
+        0 => Ok(Say::Take(number)),
+        1 => Ok(Say::Release(number as usize)),
+        2 if number != 0 => Err(Reason::Report),
+        2 => Ok(Say::Report),
+        _ => Err(Reason::Kind),
+    }
+}
+
 /// Why a trace stopped.
 #[derive(Clone, Copy, PartialEq, Eq, Debug)]
-enum Reason {
+pub enum Reason {
     Kind,
     Report,
     Class,
@@ -81,18 +102,14 @@ impl Walk {
 
     /// Carries a word out, or says why it stops the trace.
     fn word(&mut self, word: u32, trace: &Trace) -> Result<(), Reason> {
-        let number = word & ((1 << BITS) - 1);
-        match word >> BITS {
-            0 if number >= CLASSES => Err(Reason::Class),
-            0 => self.take(number, trace.blocks),
-            1 => self.release(number as usize),
-            2 if number != 0 => Err(Reason::Report),
-            2 if self.figures.len() + FIGURES > trace.figures => Err(Reason::Figures),
-            2 => {
+        match say(word)? {
+            Say::Take(class) => self.take(class, trace.blocks),
+            Say::Release(place) => self.release(place),
+            Say::Report if self.figures.len() + FIGURES > trace.figures => Err(Reason::Figures),
+            Say::Report => {
                 self.report();
                 Ok(())
             }
-            _ => Err(Reason::Kind),
         }
     }
 

@@ -2,35 +2,39 @@
 
 use std::collections::{BTreeMap, VecDeque};
 
-use crate::call::{Answer, Call, Kind, Lent};
+use crate::call::{Answer, Call, Kind, Lent, Wish};
 use crate::oracle;
+use crate::planned::family;
 use crate::random::Random;
 use crate::words::{
     block_word, chunk_word, page_of, Family, Word, CHUNK_PAGE_BITS, HOST_ALL, HOST_COMMIT, MAX_CHUNKS, MAX_PAGES,
-    PAGE_BYTES, PAGE_GRANULES, RUN_LIMIT,
+    PAGE_BYTES, PAGE_GRANULES, RUN_LIMIT, SMALL_CLASSES,
 };
 
 /// Words and runs that are kept to make arguments of.
 const KEPT: usize = 600;
 
-pub struct Pool {
+/// What is known of the calls before.
+pub struct Known {
     pages: u32,
     kinds: &'static [Kind],
     classes: Vec<(Family, u32)>,
     /// Blocks that were taken, with their class.
     words: VecDeque<(Family, u32, Word)>,
+    /// Blocks of the pool that were given back.
+    gone: VecDeque<(Family, u32, Word)>,
     runs: VecDeque<(u64, u64)>,
 }
 
-impl Pool {
-    pub fn new(random: &mut Random, pages: u32, kinds: &'static [Kind]) -> Pool {
+impl Known {
+    pub fn new(random: &mut Random, pages: u32, kinds: &'static [Kind]) -> Known {
         let classes = (0..random.between(1, 3)).map(|_| match random.below(3) {
             0 => (Family::Medium, random.below(12) as u32),
             1 => (Family::Small, random.below(64) as u32),
             _ => (Family::Small, random.between(40, 46) as u32),
         });
         let classes = classes.collect();
-        Pool { pages, kinds, classes, words: VecDeque::new(), runs: VecDeque::new() }
+        Known { pages, kinds, classes, words: VecDeque::new(), gone: VecDeque::new(), runs: VecDeque::new() }
     }
 
     pub fn pages(&self) -> u32 {
@@ -48,9 +52,19 @@ impl Pool {
                 self.words.retain(|(_, _, word)| !list.contains(word));
             }
             (Call::Release { first, .. }, Answer::Released) => self.runs.retain(|run| run.0 != *first),
+            (Call::Pool { wish: Wish::Alloc, class, .. }, Answer::Block(word)) if *word != 0 => {
+                let (family, class) = family(*class);
+                self.words.push_back((family, class, *word));
+            }
+            (Call::Pool { wish: Wish::Free(word), class, .. }, Answer::Freed) => {
+                let (family, class) = family(*class);
+                self.words.retain(|(_, _, other)| other != word);
+                self.gone.push_back((family, class, *word));
+            }
             _ => {}
         }
         self.words.drain(..self.words.len().saturating_sub(KEPT));
+        self.gone.drain(..self.gone.len().saturating_sub(KEPT));
         self.runs.drain(..self.runs.len().saturating_sub(KEPT));
     }
 
@@ -88,6 +102,39 @@ impl Pool {
                 Call::Contains { offset: random.word() % (bytes + 2), length: self.length(random).wrapping_mul(65_536) }
             }
             Kind::Report => Call::Report,
+            Kind::Alloc => self.pool(random, Wish::Alloc, family, class, host),
+            Kind::Trim => self.pool(random, Wish::Trim, family, class, host),
+            Kind::Free => {
+                let block = self.block(random, family, class);
+                self.pool(random, Wish::Free(block), family, class, host)
+            }
+            Kind::ClassOf => Call::ClassOf { block: self.block(random, family, class) },
+        }
+    }
+
+    /// The pool names a class by one number.
+    fn pool(&self, random: &mut Random, wish: Wish, family: Family, class: u32, host: u32) -> Call {
+        let class = match family {
+            Family::Medium if !random.chance(1, 40) => class.saturating_add(SMALL_CLASSES),
+            _ => class,
+        };
+        Call::Pool { wish, class, host }
+    }
+
+    /// A block that was granted, mostly in this class; one that was given back since, or any word.
+    fn block(&self, random: &mut Random, family: Family, class: u32) -> Word {
+        let any = block_word(family, random.below(u64::from(self.pages) * PAGE_GRANULES));
+        let of_class = |list: &VecDeque<(Family, u32, Word)>| -> Vec<Word> {
+            list.iter().filter(|(of, number, _)| (*of, *number) == (family, class)).map(|&(_, _, word)| word).collect()
+        };
+        let one = |random: &mut Random, words: &[Word]| if words.is_empty() { any } else { random.pick(words) };
+        match random.below(16) {
+            0 => random.word(),
+            1 => any,
+            2 => one(random, &of_class(&self.words)) ^ (1 << random.below(64)),
+            3 | 4 => one(random, &of_class(&self.gone)),
+            5 => one(random, &self.words.iter().map(|&(_, _, word)| word).collect::<Vec<Word>>()),
+            _ => one(random, &of_class(&self.words)),
         }
     }
 

@@ -12,7 +12,7 @@ mod watch;
 
 use std::io::Write;
 
-use self::arguments::Pool;
+use self::arguments::Known;
 use self::book::Twins;
 use self::damage::Damage;
 use crate::arguments::Arguments;
@@ -28,6 +28,23 @@ const CALLS: u64 = 400;
 /// What `--kinds` asks for: every call, or those of blocks, most of them releases.
 const ALL: &str = "all";
 const BLOCKS: &str = "blocks";
+/// Or the pool's, with the direct ones between them.
+const POOL: &str = "pool";
+const POOL_KINDS: [Kind; 13] = [
+    Kind::Alloc,
+    Kind::Alloc,
+    Kind::Alloc,
+    Kind::Alloc,
+    Kind::Free,
+    Kind::Free,
+    Kind::Free,
+    Kind::Trim,
+    Kind::ClassOf,
+    Kind::Commit,
+    Kind::GrowFrontier,
+    Kind::Release,
+    Kind::Report,
+];
 const BLOCK_KINDS: [Kind; 4] = [Kind::TakeBlocks, Kind::ReleaseBlocks, Kind::ReleaseBinChunks, Kind::ReleaseBinChunks];
 /// The line that begins a history, for the process that watches.
 const MARK: char = '@';
@@ -40,7 +57,8 @@ pub fn run(words: &[String]) -> Result<bool, String> {
     let kinds: &'static [Kind] = match arguments.text("kinds").unwrap_or(ALL) {
         ALL => &Kind::ALL,
         BLOCKS => &BLOCK_KINDS,
-        other => return Err(format!("--kinds is {ALL} or {BLOCKS}, not {other}")),
+        POOL => &POOL_KINDS,
+        other => return Err(format!("--kinds is {ALL}, {BLOCKS} or {POOL}, not {other}")),
     };
     match arguments.text("worker") {
         Some(_) => Ok(work(calls, seed, kinds, only)),
@@ -82,7 +100,7 @@ struct Counts {
 struct History<'a> {
     random: &'a mut Random,
     twins: Twins,
-    pool: Pool,
+    known: Known,
     damage: Damage,
 }
 
@@ -92,8 +110,8 @@ impl History<'_> {
         let spare = random.weighted(&[(4, 0), (1, 1), (1, 1000)]);
         let content = random.pick(&[0, u32::MAX, 1, random.clone().word() as u32]);
         let twins = Twins::new(book_words(pages) + spare, content);
-        let pool = Pool::new(random, pages, kinds);
-        History { random, twins, pool, damage: Damage::default() }
+        let known = Known::new(random, pages, kinds);
+        History { random, twins, known, damage: Damage::default() }
     }
 
     fn run(&mut self, tally: &mut Tally, counts: &mut Counts, trace: bool) -> Result<(), String> {
@@ -101,7 +119,7 @@ impl History<'_> {
         self.open(trace)?;
         for _ in 0..CALLS {
             self.spoil_or_mend(counts);
-            let call = self.pool.call(self.random);
+            let call = self.known.call(self.random);
             if trace {
                 println!("{}", history::line(&call, &Answer::Broken("?".into())));
                 let _ = std::io::stdout().flush();
@@ -113,7 +131,7 @@ impl History<'_> {
             } else if answer == Answer::Refused(13) {
                 return Err(format!("13 on a book without damage: {}", history::line(&call, &answer)));
             }
-            self.pool.note(&call, &answer);
+            self.known.note(&call, &answer);
             tally.count(&call, &answer);
         }
         Ok(())
@@ -121,7 +139,7 @@ impl History<'_> {
 
     /// Openings that are refused, then one that is not.
     fn open(&mut self, trace: bool) -> Result<(), String> {
-        let pages = u64::from(self.pool.pages());
+        let pages = u64::from(self.known.pages());
         let beyond = u64::from(MAX_PAGES);
         let wrong = self.random.pick(&[0, pages + 100, beyond, beyond + 1, u64::MAX, 1 << 32, (1 << 32) + pages]);
         let rows = if self.random.chance(1, 2) { Vec::new() } else { parking::any_rows(self.random) };

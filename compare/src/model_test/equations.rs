@@ -123,8 +123,10 @@ fn call_term(call: &Call) -> String {
         Call::Release { host, first, pages } => format!("{host} {first} {pages}"),
         Call::Contains { offset, length } => format!("{offset} {length}"),
         Call::Report => String::new(),
+        Call::Pool { .. } | Call::ClassOf { .. } => unreachable!("the pool's calls are left out"),
     };
-    format!("{}.{} {arguments}", names::CALL_TYPE, names::call(call.kind())).trim_end().to_string()
+    let name = names::call(call.kind()).expect("a call of the model");
+    format!("{}.{name} {arguments}", names::CALL_TYPE).trim_end().to_string()
 }
 
 fn answer_term(call: &Call, answer: &Answer) -> String {
@@ -144,7 +146,8 @@ fn answer_term(call: &Call, answer: &Answer) -> String {
             let fields = names::FIGURES.iter().zip(figures).map(|(name, figure)| format!("{name} = {figure}"));
             (names::REPORTED, format!("(record {{ {} }})", fields.collect::<Vec<String>>().join("; ")))
         }
-        (_, Answer::Taken { .. } | Answer::Fates(_) | Answer::Broken(_)) => unreachable!("no answer of this call"),
+        (_, Answer::Taken { .. } | Answer::Fates(_) | Answer::Broken(_))
+        | (_, Answer::Block(_) | Answer::Freed | Answer::Class(_)) => unreachable!("no answer of this call"),
     };
     format!("{}.{name} {arguments}", names::ANSWER_TYPE).trim_end().to_string()
 }

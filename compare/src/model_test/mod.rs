@@ -49,7 +49,12 @@ pub fn run(words: &[String]) -> Result<bool, String> {
     let cases = match arguments.text("file") {
         Some(file) => {
             let text = fs::read_to_string(file).map_err(|error| format!("{file}: {error}"))?;
-            history::parse(&text)?.into_iter().map(|history| Case { start: None, history }).collect()
+            let histories = history::parse(&text)?;
+            let calls = || histories.iter().flat_map(|history| &history.calls);
+            if let Some((call, _)) = calls().find(|(call, _)| names::call(call.kind()).is_none()) {
+                return Err(format!("{file}: {} is no call of the model", call.kind().name()));
+            }
+            histories.into_iter().map(|history| Case { start: None, history }).collect()
         }
         None => generated(&arguments)?,
     };

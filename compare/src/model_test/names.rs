@@ -17,9 +17,9 @@ pub const PLAIN_RULES: &str = "plainRules";
 /// The answers of a history from an opening, by the arena's length, the rules and the calls, in the second.
 pub const ANSWERS: &str = "answers";
 
-/// The constructor of a call.
-pub const fn call(kind: Kind) -> &'static str {
-    match kind {
+/// The constructor of a call; none of the pool's, whose model is a crate of its own.
+pub const fn call(kind: Kind) -> Option<&'static str> {
+    Some(match kind {
         Kind::TakeBlocks => "takeBlocks",
         Kind::MediumTakeBlocks => "mediumTakeBlocks",
         Kind::ReleaseBlocks => "releaseBlocks",
@@ -30,7 +30,8 @@ pub const fn call(kind: Kind) -> &'static str {
         Kind::Release => "release",
         Kind::Contains => "contains",
         Kind::Report => "report",
-    }
+        Kind::Alloc | Kind::Free | Kind::Trim | Kind::ClassOf => return None,
+    })
 }
 
 /// Constructors of answers.

@@ -13,6 +13,8 @@ pub enum Rules {
     Plain = 2,
     /// Document 02's without A.4: holes that touch stay apart.
     Apart = 3,
+    /// Document 02's without A.8: which of equal holes is taken is the original's choice.
+    Joined = 4,
 }
 
 static RULES: AtomicU8 = AtomicU8::new(Rules::Amended as u8);
