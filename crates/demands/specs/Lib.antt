@@ -27,4 +27,5 @@ pub mod InOrder
 pub mod Repeats
 pub mod Wide
 pub mod Pool
+pub mod PoolContracts
 pub mod PoolRefusals
