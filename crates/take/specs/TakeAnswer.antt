@@ -1,12 +1,11 @@
 -- What a take answers, and that the code answered so.
 --     Takes      it is done
 --     Readies    its source is at hand: the fill is left
-use Prim.Native.Nat.{ℕ, zero, suc, _*_, _%_, _^_, _≤_}
-use mathlib.Core.Bool.{Bool, false, cond}
+use Prim.Native.Nat.{ℕ, zero, suc, _≤_}
+use mathlib.Core.Bool.{Bool, false}
 use mathlib.Core.List.{List}
 use mathlib.Core.Option.{some}
 use mathlib.Core.Path.{_≡_}
-use lib.Dec.{ltb, leb}
 use lib.ListN.{length}
 use Rattle.classes.specs.declared.Shape.{Shape}
 use Rattle.take.specs.declared.call.Take.{Take}
@@ -20,10 +19,6 @@ use Rattle.take.specs.TakePlan.{FillAsks, Filling, fills}
 abbrev pub answerOf : ℕ → ℕ → Bool → Take
 answerOf zero m v = Answer.Took m v
 answerOf (suc k) m v = Answer.Refused (suc k)
-
--- the same as one word: the lower half is the number or the count, the upper 0, or 1, or 2 where all are virgin
-abbrev pub answerIn : ℕ → Take
-answerIn w = cond (ltb w (2 ^ 32)) (Answer.Refused (w % 2 ^ 32)) (Answer.Took (w % 2 ^ 32) (leb (2 * 2 ^ 32) w))
 
 -- it answered r, and left the book b and the list l
 pub record Takes (r : Take) (b l : List ℕ) (t : Took) : Type 0 where

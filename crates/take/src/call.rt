@@ -5,7 +5,7 @@ ghost use Rattle.pages.specs.Asks.{RowAsks};
 ghost use Rattle.calls.specs.Take.{fromPartial, fromPark, takeNew, takeBlocks, takeCall};
 ghost use Rattle.take.specs.TakePlan.{TakeAsks, ParkedAsks, TakeRunAsks, TakeNewAsks, BlocksAsks, CallAsks, firstStore};
 ghost use Rattle.take.specs.TakeCount.{CountAsks};
-ghost use Rattle.take.specs.TakeAnswer.{answerIn, Takes, Readies, onRunAt};
+ghost use Rattle.take.specs.TakeAnswer.{Takes, Readies, onRunAt};
 use crate::take_fill::fill;
 use crate::take_plan::plan_parked;
 use crate::take_plan::plan_partial;
@@ -13,9 +13,6 @@ use crate::take_plan::supply;
 use classes::Shape;
 use pages::Park;
 use runs::Commit;
-
-// 2^32: the halves of an answer's word.
-const WORD: u64 = 4_294_967_296;
 
 // A refusal's number, or how many blocks stand in the list, and whether all are virgin.
 pub enum Take {
@@ -126,7 +123,7 @@ fn take_blocks(meta: &mut [u32], n: u32, c: u32, shape: Shape, host: u32, list: 
 }
 
 // A class's take from number 5 on, on the book of an arena of n pages.
-fn take_sized(meta: &mut [u32], n: u32, c: u32, host: u32, list: &mut [u64]) -> Take
+pub fn take_call(meta: &mut [u32], n: u32, c: u32, host: u32, list: &mut [u64]) -> Take
     requires { ⌜ CallAsks n (now meta) c ⌝ }
     ensures { λ r. ⌜ Takes r (now (meta .exit)) (now (list .exit)) (takeCall n (now (meta .entry)) c (shapeOf c) host (now (list .entry))) ⌝ }
 {
@@ -135,47 +132,4 @@ fn take_sized(meta: &mut [u32], n: u32, c: u32, host: u32, list: &mut [u64]) -> 
         return Take::Refused(5);
     }
     take_blocks(meta, n, c, shape, host, list)
-}
-
-// An answer as one word: it is returned in a register, where an enum goes through memory (docs/BACKEND.md).
-fn packed(answer: Take) -> u64
-    ensures { λ r. ⌜ answerIn r ≡ answer ⌝ }
-{
-    match answer {
-        Take::Refused(k) => k as u64,
-        Take::Took(m, v) => {
-            if v {
-                2 * WORD + m as u64
-            } else {
-                WORD + m as u64
-            }
-        }
-    }
-}
-
-// And back.
-pub fn answer_in(w: u64) -> Take
-    ensures { λ r. ⌜ r ≡ answerIn w ⌝ }
-{
-    let m = (w % WORD) as u32;
-    if w < WORD {
-        return Take::Refused(m);
-    }
-    Take::Took(m, 2 * WORD <= w)
-}
-
-// The take with its answer as one word.
-pub fn take_packed(meta: &mut [u32], n: u32, c: u32, host: u32, list: &mut [u64]) -> u64
-    requires { ⌜ CallAsks n (now meta) c ⌝ }
-    ensures { λ r. ⌜ Takes (answerIn r) (now (meta .exit)) (now (list .exit)) (takeCall n (now (meta .entry)) c (shapeOf c) host (now (list .entry))) ⌝ }
-{
-    packed(take_sized(meta, n, c, host, list))
-}
-
-// The same, with its answer as it is.
-pub fn take_call(meta: &mut [u32], n: u32, c: u32, host: u32, list: &mut [u64]) -> Take
-    requires { ⌜ CallAsks n (now meta) c ⌝ }
-    ensures { λ r. ⌜ Takes r (now (meta .exit)) (now (list .exit)) (takeCall n (now (meta .entry)) c (shapeOf c) host (now (list .entry))) ⌝ }
-{
-    answer_in(take_packed(meta, n, c, host, list))
 }

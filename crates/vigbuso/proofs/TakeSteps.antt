@@ -12,7 +12,7 @@ use Rattle.take.specs.declared.call.Take.{Take}
 use Rattle.take.specs.declared.call.Take.the-variants.{Refused, Took}
 use Rattle.calls.specs.Take as Heap
 use Rattle.calls.specs.Take.{takeCall}
-use Rattle.take.specs.TakeAnswer.{answerOf, answerIn, Takes}
+use Rattle.take.specs.TakeAnswer.{answerOf, Takes}
 use Rattle.take.specs.TakePlan.{CallAsks}
 use Rattle.vigbuso.specs.Faults.{classFault}
 use Rattle.vigbuso.specs.Blocks.{takeOn, TakeEnds}
@@ -33,10 +33,9 @@ module _ (b : List ℕ) (h many c r : ℕ) (e : r ≡ classFault b h many c) (lo
   unfolding takeOn
   take-unfit d = rw (← e, ne-eqb r 0 d) (record { answer = refusal r d _ _; book = refl; list = refl })
 
-  pub take-goes : (n w : ℕ) (s : Take) (x y : List ℕ) → r ≡ 0 → n ≡ get b (arena size)
-      → Takes (answerIn w) x y (takeCall n b (low + c) (shapeOf (low + c)) h l) → s ≡ answerIn w → Takes s x y (takeOn low many b c h l)
+  pub take-goes : (n : ℕ) (s : Take) (x y : List ℕ) → r ≡ 0 → n ≡ get b (arena size) → Takes s x y (takeCall n b (low + c) (shapeOf (low + c)) h l) → Takes s x y (takeOn low many b c h l)
   unfolding takeOn
-  take-goes n w s x y z f t a = rw (← e, eq-eqb r 0 z, a) (rw f at t)
+  take-goes n s x y z f t = rw (← e, eq-eqb r 0 z) (rw f at t)
 
 module _ (t : Heap.Took) (x y : List ℕ) (s : Take) (k : Takes s x y t) where
   pub take-ends-refused : (c m v : ℕ) → s ≡ Refused c → TakeEnds t c x y m m v v

@@ -15,7 +15,7 @@ fn take_on(meta: &mut [u32], low: u32, many: u32, class: u32, host: u32, list: &
         return Take::Refused(fault);
     }
     let size = fields::arena::size(meta);
-    take::call::answer_in(take::call::take_packed(meta, size, low + class, host, list))
+    take::call::take_call(meta, size, low + class, host, list)
 }
 
 #[no_mangle]

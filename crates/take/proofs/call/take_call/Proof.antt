@@ -1,5 +1,5 @@
 use borrow.Author.Needs.{needs}
-use Rattle.take.proofs.AnswerSteps.{takes-told}
+use Rattle.take.proofs.TakeSteps.{call-short, call-asks, call-done}
 use Rattle.take.proofs.call.take_call.Statement.{statement}
 use Rattle.take.proofs.call.take_call.Tie as tie
 
@@ -8,7 +8,9 @@ take-call-spec =
     tie.close
     (tie.spec
     (λ c κs. search needs)
-    (λ c κs. search needs)
+    (λ c. search needs)
+    (λ c. search call-short)
+    (λ c κs. search call-asks)
     (λ c. search needs)
     (λ c. search needs)
-    (λ c. search takes-told))
+    (λ c. search call-done))
