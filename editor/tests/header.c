@@ -201,10 +201,20 @@ static void pool(void) {
     IS(vigbuso_class_of(book, words, block), 10);
     IS(vigbuso_class_of(book, words, other), 75);
     IS(vigbuso_class_of(book, words, UINT64_MAX), VIGBUSO_CLASSES);
+    IS(vigbuso_granted(book, words, 10, block), 1);
+    IS(vigbuso_granted(book, words, 11, block), 0);
+    IS(vigbuso_granted(book, words, 10, block + 1), 0);
+    IS(vigbuso_granted(book, words, VIGBUSO_CLASSES, block), 0);
+    IS(vigbuso_granted(book, 0, 10, block), 0);
+    IS(vigbuso_stocked(book, words, 10), VIGBUSO_BATCH - 1);
+    IS(vigbuso_stocked(book, words, VIGBUSO_CLASSES), 0);
+    IS(vigbuso_stocked(book, 0, 10), 0);
     IS(vigbuso_free(book, words, 75, HOST, block), VIGBUSO_WRONG_KIND);
     IS(vigbuso_free(book, words, 11, HOST, block), VIGBUSO_NOT_OUT);
     IS(vigbuso_free(book, words, 10, HOST, block + 1), VIGBUSO_NOT_OUT);
     IS(vigbuso_free(book, words, 10, HOST, block), 0);
+    IS(vigbuso_granted(book, words, 10, block), 0);
+    IS(vigbuso_stocked(book, words, 10), VIGBUSO_BATCH);
     IS(vigbuso_free(book, words, 10, HOST, block), VIGBUSO_NOT_OUT);
     IS(vigbuso_free(book, words, 75, HOST, other), 0);
     for (uint32_t left = VIGBUSO_BATCH; left > 0; left--) {
