@@ -11,12 +11,26 @@ const FRONTIER: usize = 2;
 const ENTRIES: usize = 9_216;
 pub(crate) const ENTRIES_OF_CLASS: usize = 256;
 
+/// OWNER of page 0. Those of 256 pages stand together, each beside FIRST, in the record of the first of these pages.
+const OWNERS: usize = 43_344;
+const GROUP: usize = 256;
+const RECORD: usize = 4_112;
+
+/// OWNER of a page that the direct calls hold.
+const DIRECT: u32 = 77;
+
 /// Integers that are copied, or not, together: a page of the system has 4,096 bytes.
 const CHUNK: usize = 512;
 
 /// The first page that was never handed out. No record stands from there on.
 pub(crate) fn frontier(book: &[u32]) -> u64 {
     book.get(FRONTIER).copied().map_or(0, u64::from)
+}
+
+/// Whether the direct calls hold a page.
+pub(crate) fn held_by_hand(book: &[u32], page: u64) -> bool {
+    let place = usize::try_from(page).ok().map(|page| OWNERS + RECORD * GROUP * (page / GROUP) + 2 * (page % GROUP));
+    place.and_then(|place| book.get(place)) == Some(&DIRECT)
 }
 
 /// The first granules of the blocks that a pool has in stock for the class at a place, so many of them.
@@ -41,6 +55,6 @@ pub(crate) fn copy_used<T: Unsigned>(from: &[T]) -> Vec<T> {
 fn no_memory<T>(count: usize) -> ! {
     match core::alloc::Layout::array::<T>(count) {
         Ok(layout) => alloc::alloc::handle_alloc_error(layout),
-        Err(_) => panic!("capacity overflow"),
+        Err(error) => panic!("{error}"),
     }
 }

@@ -3,7 +3,7 @@
 use core::error;
 use core::fmt;
 
-use crate::{Block, Refusal};
+use crate::{Block, Handle, Refusal};
 
 /// All that a call of this crate can fail with. Every other error becomes one by `?`, so a program of several calls has one type.
 /// Later versions may have more of them.
@@ -34,6 +34,10 @@ pub enum Error {
     Open(OpenError),
     /// There is no block for a record.
     Alloc(AllocError),
+    /// A save was not loaded.
+    Load(LoadError),
+    /// The handle's record was freed.
+    Stale(Handle),
 }
 
 impl Error {
@@ -47,11 +51,13 @@ impl Error {
     #[must_use]
     pub const fn refusal(&self) -> Option<Refusal> {
         match self {
-            Error::Refused(refusal) | Error::Open(OpenError::Refused(refusal)) => Some(*refusal),
-            Error::Alloc(AllocError::Refused(refusal)) => Some(*refusal),
+            Error::Refused(refusal)
+            | Error::Open(OpenError::Refused(refusal))
+            | Error::Alloc(AllocError::Refused(refusal))
+            | Error::Load(LoadError::Refused(refusal)) => Some(*refusal),
             Error::Release(error) => Some(error.refusal()),
             Error::Free(error) => Some(error.refusal()),
-            Error::Open(_) | Error::Alloc(_) => None,
+            Error::Open(_) | Error::Alloc(_) | Error::Load(_) | Error::Stale(_) => None,
         }
     }
 }
@@ -64,6 +70,8 @@ impl fmt::Display for Error {
             Error::Free(error) => error.fmt(f),
             Error::Open(error) => error.fmt(f),
             Error::Alloc(error) => error.fmt(f),
+            Error::Load(error) => error.fmt(f),
+            Error::Stale(handle) => write!(f, "the record of {handle:?} was freed, or was never here"),
         }
     }
 }
@@ -72,11 +80,12 @@ impl error::Error for Error {
     /// It prints as the error that it is, so what is below is what caused that one.
     fn source(&self) -> Option<&(dyn error::Error + 'static)> {
         match self {
-            Error::Refused(_) => None,
+            Error::Refused(_) | Error::Stale(_) => None,
             Error::Release(error) => error.source(),
             Error::Free(error) => error.source(),
             Error::Open(error) => error.source(),
             Error::Alloc(error) => error.source(),
+            Error::Load(error) => error.source(),
         }
     }
 }
@@ -98,6 +107,7 @@ errors! {
     Free FreeError
     Open OpenError
     Alloc AllocError
+    Load LoadError
 }
 
 /// Why blocks were not released: the refusal, and the first block to blame with its place in the list.
@@ -302,7 +312,7 @@ impl fmt::Display for OpenError {
 
 impl error::Error for OpenError {}
 
-/// Why a [`Pool`](crate::Pool) has no block for a record.
+/// Why a [`Pool`](crate::Pool) has no block for a record, or a [`Region`](crate::Region) no place.
 ///
 /// ```
 /// use vigbuso::{AllocError, Pool};
@@ -314,10 +324,13 @@ impl error::Error for OpenError {}
 /// ```
 #[derive(Clone, Copy, PartialEq, Eq, Debug)]
 pub enum AllocError {
-    /// The record exceeds [`Class::MAX_BYTES`](crate::Class::MAX_BYTES): it is for a run of pages.
+    /// The record exceeds [`Class::MAX_BYTES`](crate::Class::MAX_BYTES): it is for a run of pages. In a [`Region`](crate::Region) it has
+    /// 2 GiB or more.
     TooLarge,
     /// The arena has no page left for its class; for a medium one, not enough of them side by side.
     Full,
+    /// The alignment is not a power of two up to [`PAGE_BYTES`](crate::PAGE_BYTES).
+    Alignment,
     /// The take was refused, which only a damaged book can cause.
     Refused(Refusal),
 }
@@ -325,7 +338,8 @@ pub enum AllocError {
 impl fmt::Display for AllocError {
     fn fmt(&self, f: &mut fmt::Formatter) -> fmt::Result {
         match self {
-            AllocError::TooLarge => f.write_str("the record exceeds 65,472 bytes"),
+            AllocError::TooLarge => f.write_str("the record is too large"),
+            AllocError::Alignment => f.write_str("the alignment is not a power of two up to 65,536"),
             AllocError::Full => f.write_str("the arena has no page left for the record's class"),
             AllocError::Refused(refusal) => refusal.fmt(f),
         }
@@ -333,3 +347,56 @@ impl fmt::Display for AllocError {
 }
 
 impl error::Error for AllocError {}
+
+/// Why bytes were not loaded as the heap, pool or region that they should be. Later versions may have more reasons.
+///
+/// ```
+/// use vigbuso::{LoadError, Pool};
+///
+/// let saved = Pool::open(64)?.save();
+/// let mut newer = saved.clone();
+/// newer[8] = 9;
+/// assert_eq!(Pool::load(&newer), Err(LoadError::Format(9)));
+/// assert_eq!(Pool::load(&saved[..saved.len() - 1]), Err(LoadError::Cut));
+/// # Ok::<(), vigbuso::Error>(())
+/// ```
+#[derive(Clone, Copy, PartialEq, Eq, Debug)]
+#[non_exhaustive]
+pub enum LoadError {
+    /// They do not begin as a save does.
+    NotASave,
+    /// They are a save in another format.
+    Format(u32),
+    /// They end too early.
+    Cut,
+    /// A byte was changed, or there are bytes behind the end: the checksum is another.
+    Changed,
+    /// They are a save of something else: of a heap, a pool or a region that was not asked for.
+    Content,
+    /// The checksum is right, and yet its parts do not fit each other.
+    Damaged,
+    /// The checksum is right, and yet the book is refused.
+    Refused(Refusal),
+    /// There is no memory for what it holds.
+    NoMemory {
+        /// Bytes of what there was no memory for.
+        bytes: usize,
+    },
+}
+
+impl fmt::Display for LoadError {
+    fn fmt(&self, f: &mut fmt::Formatter) -> fmt::Result {
+        match self {
+            LoadError::NotASave => f.write_str("the bytes do not begin as a save does"),
+            LoadError::Format(format) => write!(f, "the save has format {format}, which this version does not read"),
+            LoadError::Cut => f.write_str("the save is cut off"),
+            LoadError::Changed => f.write_str("the save was changed: its checksum is another"),
+            LoadError::Content => f.write_str("it is a save of something else"),
+            LoadError::Damaged => f.write_str("the parts of the save do not fit each other"),
+            LoadError::Refused(refusal) => refusal.fmt(f),
+            LoadError::NoMemory { bytes } => write!(f, "no memory for {bytes} bytes"),
+        }
+    }
+}
+
+impl error::Error for LoadError {}

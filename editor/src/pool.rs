@@ -4,8 +4,10 @@ use alloc::vec::Vec;
 use core::fmt;
 use core::ops::Range;
 
-use crate::book::{entries, frontier};
-use crate::{ffi, AllocError, Block, Class, Committed, FreeError, Heap, Host, OpenError, Refusal, Report, Rules, Run};
+use crate::book::{entries, frontier, held_by_hand};
+use crate::{
+    ffi, AllocError, Block, Class, Committed, FreeError, Heap, Host, OpenError, Refusal, Report, Rules, Run, Word,
+};
 
 /// A heap that hands blocks out and takes them back one by one. It keeps a stock of blocks for each class, so that the arena is
 /// seldom asked.
@@ -270,6 +272,35 @@ impl<B: AsRef<[u32]> + AsMut<[u32]>> Pool<B> {
         self.used = self.used.saturating_sub(1);
         self.used_bytes = self.used_bytes.saturating_sub(class.bytes());
         Ok(())
+    }
+
+    /// Takes the block at a granule back.
+    #[inline]
+    pub(crate) fn free_at(&mut self, granule: Word) -> Result<(), FreeError> {
+        let class = self.class_at(granule);
+        let block = class.and_then(|class| class.block_at(granule));
+        match class.zip(block) {
+            Some((class, block)) => self.free_in(class, block),
+            None => Err(FreeError::new(Refusal::NotOut, Block::small(granule).unwrap_or(Block::FILLER))),
+        }
+    }
+
+    /// The class that has the page of a granule.
+    #[inline]
+    pub(crate) fn class_at(&self, granule: Word) -> Option<Class> {
+        ffi::class_of(self.heap.book(), Block::small(granule)?)
+    }
+
+    /// The class of the block at a granule that the pool has granted and not had back.
+    pub(crate) fn granted_at(&self, granule: Word) -> Option<Class> {
+        let class = self.class_at(granule)?;
+        ffi::granted(self.heap.book(), class, class.block_at(granule)?).then_some(class)
+    }
+
+    /// Whether the direct calls hold all pages of a run.
+    pub(crate) fn holds(&self, run: Run) -> bool {
+        let end = run.first.saturating_add(run.pages);
+        end <= frontier(self.book()) && (run.first..end).all(|page| held_by_hand(self.book(), page))
     }
 
     /// The class of a block that the pool has granted and not had back; none for every other one.

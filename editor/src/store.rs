@@ -1,189 +1,341 @@
-//! Records of one type in a pool's blocks.
+//! Records of one type.
 
+use alloc::rc::Rc;
 use alloc::vec::Vec;
+use core::cell::RefCell;
 use core::fmt;
 use core::marker::PhantomData;
 
-use crate::{AllocError, Block, Class, FreeError, Pool, Refusal, PAGE_BYTES};
+use crate::{AllocError, Error, Handle, OpenError, Record, Region};
 
-/// A value that is kept as a fixed number of bytes. Byte arrays and unsigned integers are such values.
+/// Where a [`Store`] has its region: its own, a borrowed one, or one that it shares with other stores.
 ///
 /// ```
-/// use vigbuso::Record;
+/// use std::cell::RefCell;
+/// use std::rc::Rc;
+/// use vigbuso::{Region, Store};
 ///
-/// /// A word's place in a grid.
-/// struct Slot { row: u8, column: u8 }
+/// let region = Rc::new(RefCell::new(Region::open(64)?));
+/// let mut words = Store::<[u8; 5], _>::on(Rc::clone(&region), 0);
+/// let mut scores = Store::<i32, _>::on(region, 1);
+/// let (word, score) = (words.put(b"HERON")?, scores.put(&-3)?);
+/// assert_eq!((words.get(word), scores.get(score)), (Some(*b"HERON"), Some(-3)));
+/// # Ok::<(), vigbuso::Error>(())
+/// ```
+pub trait Keep {
+    /// Asks the region.
+    fn ask<A>(&self, ask: impl FnOnce(&Region) -> A) -> A;
+
+    /// Has the region do something.
+    fn act<A>(&mut self, act: impl FnOnce(&mut Region) -> A) -> A;
+}
+
+impl Keep for Region {
+    fn ask<A>(&self, ask: impl FnOnce(&Region) -> A) -> A {
+        ask(self)
+    }
+
+    fn act<A>(&mut self, act: impl FnOnce(&mut Region) -> A) -> A {
+        act(self)
+    }
+}
+
+impl Keep for &mut Region {
+    fn ask<A>(&self, ask: impl FnOnce(&Region) -> A) -> A {
+        ask(self)
+    }
+
+    fn act<A>(&mut self, act: impl FnOnce(&mut Region) -> A) -> A {
+        act(self)
+    }
+}
+
+/// A shared region is borrowed for one call at a time, so stores do not find it in use. A borrow of the program's own has to end
+/// before: a call panics otherwise.
+impl Keep for Rc<RefCell<Region>> {
+    fn ask<A>(&self, ask: impl FnOnce(&Region) -> A) -> A {
+        ask(&self.borrow())
+    }
+
+    fn act<A>(&mut self, act: impl FnOnce(&mut Region) -> A) -> A {
+        act(&mut self.borrow_mut())
+    }
+}
+
+/// Values of one type, each in a place of its own in a [`Region`].
 ///
-/// impl Record for Slot {
-///     const BYTES: usize = 2;
+/// A value is kept as its bytes ([`Record`]) and read as a copy, so there is nothing to index. Its [`Handle<T>`](Handle) says its type: one
+/// of another store's type does not compile. In every build a handle whose value was removed is refused from then on, and so is one
+/// of another store of the same type in the same region: stores are told apart by a number.
+///
+/// A store owns its region, borrows one, or shares one with others ([`Keep`]).
+///
+/// ```
+/// use vigbuso::{Handle, Record, Store};
+///
+/// /// A word and the one before it.
+/// #[derive(PartialEq, Debug)]
+/// struct Link { word: [u8; 5], before: Option<Handle<Link>> }
+///
+/// impl Record for Link {
+///     const BYTES: usize = 5 + 8;
 ///
 ///     fn write(&self, bytes: &mut [u8]) {
-///         bytes.copy_from_slice(&[self.row, self.column]);
+///         (self.word, self.before).write(bytes);
 ///     }
 ///
-///     fn read(bytes: &[u8]) -> Slot {
-///         Slot { row: bytes[0], column: bytes[1] }
+///     fn read(bytes: &[u8]) -> Link {
+///         let (word, before) = Record::read(bytes);
+///         Link { word, before }
 ///     }
 /// }
-/// ```
-pub trait Record {
-    /// How many bytes it is kept as: at most [`Class::MAX_BYTES`].
-    const BYTES: usize;
-
-    /// Writes it into just so many bytes.
-    fn write(&self, bytes: &mut [u8]);
-
-    /// Reads it from just so many bytes, as they were written.
-    fn read(bytes: &[u8]) -> Self;
-}
-
-impl<const N: usize> Record for [u8; N] {
-    const BYTES: usize = N;
-
-    fn write(&self, bytes: &mut [u8]) {
-        bytes.copy_from_slice(self);
-    }
-
-    fn read(bytes: &[u8]) -> [u8; N] {
-        let mut record = [0; N];
-        record.copy_from_slice(bytes);
-        record
-    }
-}
-
-macro_rules! integers {
-    ($($integer:ty)*) => {$(
-        impl Record for $integer {
-            const BYTES: usize = size_of::<$integer>();
-
-            fn write(&self, bytes: &mut [u8]) {
-                self.to_le_bytes().write(bytes);
-            }
-
-            fn read(bytes: &[u8]) -> $integer {
-                <$integer>::from_le_bytes(Record::read(bytes))
-            }
-        }
-    )*};
-}
-
-integers!(u8 u16 u32 u64 u128);
-
-/// Records of one type, in blocks of a pool and in an arena that are both lent: a view, made anew for each type.
 ///
+/// let mut links = Store::open(64)?;
+/// let first = links.put(&Link { word: *b"HERON", before: None })?;
+/// let second = links.put(&Link { word: *b"ASHES", before: Some(first) })?;
+/// let before = links.get(second).unwrap().before.unwrap();
+/// assert_eq!(links.remove(before)?.word, *b"HERON");
+/// assert_eq!(links.get(first), None);
+/// # Ok::<(), vigbuso::Error>(())
 /// ```
-/// use vigbuso::{Pool, Store, PAGE_BYTES};
-///
-/// let mut arena = vec![0; 64 * PAGE_BYTES];
-/// let mut pool = Pool::open(64)?;
-/// let mut scores = Store::<u64>::on(&mut pool, &mut arena);
-/// let block = scores.put(&765)?;
-/// assert_eq!(scores.get(block), Some(765));
-/// assert_eq!(scores.remove(block)?, 765);
-/// # Ok::<(), Box<dyn std::error::Error>>(())
-/// ```
-pub struct Store<'a, T, B = Vec<u32>> {
-    pool: &'a mut Pool<B>,
-    arena: &'a mut [u8],
-    records: PhantomData<T>,
+pub struct Store<T, R = Region> {
+    region: R,
+    number: u16,
+    records: PhantomData<fn() -> T>,
 }
 
-impl<'a, T: Record, B: AsRef<[u32]> + AsMut<[u32]>> Store<'a, T, B> {
-    /// A view of a pool and of its arena's bytes.
+impl<T: Record> Store<T> {
+    /// A store with a region of its own of so many pages, and number 0 there.
     ///
     /// ```
-    /// # use vigbuso::{Pool, Store, PAGE_BYTES};
-    /// let (mut pool, mut arena) = (Pool::open(1)?, [0; PAGE_BYTES]);
-    /// let names = Store::<[u8; 15]>::on(&mut pool, &mut arena);
-    /// # Ok::<(), vigbuso::Refusal>(())
+    /// # use vigbuso::Store;
+    /// let mut numbers = Store::<f64>::open(64)?;
+    /// let half = numbers.put(&0.5)?;
+    /// assert_eq!(numbers.get(half), Some(0.5));
+    /// # Ok::<(), vigbuso::Error>(())
+    /// ```
+    ///
+    /// # Errors
+    ///
+    /// As [`Region::open`].
+    pub fn open(pages: u64) -> Result<Store<T>, OpenError> {
+        Region::open(pages).map(|region| Store::on(region, 0))
+    }
+
+    /// The region, to be asked.
+    ///
+    /// ```
+    /// # use vigbuso::Store;
+    /// let mut numbers = Store::<u64>::open(64)?;
+    /// numbers.put(&7)?;
+    /// assert_eq!(numbers.region().len(), 1);
+    /// # Ok::<(), vigbuso::Error>(())
+    /// ```
+    #[must_use]
+    pub fn region(&self) -> &Region {
+        &self.region
+    }
+}
+
+impl<T: Record, R: Keep> Store<T, R> {
+    /// The store with a number in a region: what it had there, if the region was [loaded](Region::load) or had the store before.
+    /// Each store of a region has a number of its own.
+    ///
+    /// ```
+    /// # use vigbuso::{Region, Store};
+    /// let mut region = Region::open(64)?;
+    /// let handle = Store::on(&mut region, 5).put(&1.5_f32)?;
+    /// let region = Region::load(&region.save())?;
+    /// assert_eq!(Store::<f32, _>::on(region, 5).get(handle), Some(1.5));
+    /// # Ok::<(), vigbuso::Error>(())
     /// ```
     ///
     /// # Panics
     ///
-    /// If the arena has fewer bytes than the pool's pages.
-    pub fn on(pool: &'a mut Pool<B>, arena: &'a mut [u8]) -> Store<'a, T, B> {
-        let pages = pool.heap().pages();
-        assert!(arena.len() as u64 >= pages * PAGE_BYTES as u64, "{} bytes are no {pages} pages", arena.len());
-        Store { pool, arena, records: PhantomData }
+    /// If the number is [`Region::STORES`] or more.
+    pub fn on(region: R, number: u16) -> Store<T, R> {
+        assert!(number < Region::STORES, "store {number} of a region: it tells {} apart", Region::STORES);
+        Store { region, number, records: PhantomData }
     }
 
-    /// Puts a record into a block of its own.
+    /// The region back.
     ///
     /// ```
-    /// # use vigbuso::{Pool, Store, PAGE_BYTES};
-    /// # let (mut pool, mut arena) = (Pool::open(1)?, [0; PAGE_BYTES]);
-    /// let block = Store::on(&mut pool, &mut arena).put(b"HERON")?;
-    /// assert_eq!(&arena[block.range(5)], b"HERON");
-    /// # Ok::<(), Box<dyn std::error::Error>>(())
+    /// # use vigbuso::{Region, Store};
+    /// let mut numbers = Store::<u64>::open(64)?;
+    /// numbers.put(&7)?;
+    /// let region: Region = numbers.into_region();
+    /// assert_eq!(region.len(), 1);
+    /// # Ok::<(), vigbuso::Error>(())
+    /// ```
+    #[must_use]
+    pub fn into_region(self) -> R {
+        self.region
+    }
+
+    /// Puts a value into a place of its own.
+    ///
+    /// ```
+    /// # use vigbuso::Store;
+    /// let mut pairs = Store::open(64)?;
+    /// let handle = pairs.put(&(1_u8, -2_i64))?;
+    /// assert_eq!(pairs.get(handle), Some((1, -2)));
+    /// # Ok::<(), vigbuso::Error>(())
     /// ```
     ///
     /// # Errors
     ///
-    /// As [`Pool::alloc`].
-    pub fn put(&mut self, record: &T) -> Result<Block, AllocError> {
-        let block = self.pool.alloc(T::BYTES)?;
-        record.write(&mut self.arena[block.range(T::BYTES)]);
-        Ok(block)
+    /// As [`Region::alloc`]; [`AllocError::TooLarge`] above [`Class::MAX_BYTES`](crate::Class::MAX_BYTES).
+    pub fn put(&mut self, record: &T) -> Result<Handle<T>, AllocError> {
+        if T::BYTES > crate::Class::MAX_BYTES {
+            return Err(AllocError::TooLarge);
+        }
+        let number = self.number;
+        self.region.act(|region| {
+            let (handle, range) = region.begin(T::BYTES, 1, Some(number))?;
+            if let Some(bytes) = region.bytes_mut(range) {
+                record.write(bytes);
+            }
+            Ok(handle.typed())
+        })
     }
 
-    /// The record in a block; none if the pool has it not out in the record's class.
+    /// A value; none if it was removed.
     ///
     /// ```
-    /// # use vigbuso::{Pool, Store, PAGE_BYTES};
-    /// # let (mut pool, mut arena) = (Pool::open(9)?, vec![0; 9 * PAGE_BYTES]);
-    /// let block = Store::on(&mut pool, &mut arena).put(b"HERON")?;
-    /// assert_eq!(Store::on(&mut pool, &mut arena).get(block), Some(*b"HERON"));
-    /// assert_eq!(Store::<[u8; 500]>::on(&mut pool, &mut arena).get(block), None);
-    /// # Ok::<(), Box<dyn std::error::Error>>(())
+    /// # use vigbuso::Store;
+    /// let mut numbers = Store::open(64)?;
+    /// let handle = numbers.put(&7_u32)?;
+    /// assert_eq!(numbers.get(handle), Some(7));
+    /// numbers.remove(handle)?;
+    /// assert_eq!(numbers.get(handle), None);
+    /// # Ok::<(), vigbuso::Error>(())
     /// ```
     #[must_use]
-    pub fn get(&self, block: Block) -> Option<T> {
-        self.has(block).then(|| T::read(&self.arena[block.range(T::BYTES)]))
+    pub fn get(&self, handle: Handle<T>) -> Option<T> {
+        self.region.ask(|region| region.stored(handle.erase(), self.number, T::BYTES).map(T::read))
     }
 
-    /// Replaces the record in a block and answers the old one; none, and nothing is written, where [`get`](Store::get) is none.
+    /// Several values at once; none if one of them was removed.
     ///
     /// ```
-    /// # use vigbuso::{Pool, Store, PAGE_BYTES};
-    /// # let (mut pool, mut arena) = (Pool::open(1)?, [0; PAGE_BYTES]);
-    /// let mut words = Store::on(&mut pool, &mut arena);
-    /// let block = words.put(b"HERON")?;
-    /// assert_eq!(words.replace(block, b"ASHEN"), Some(*b"HERON"));
-    /// # Ok::<(), Box<dyn std::error::Error>>(())
+    /// # use vigbuso::Store;
+    /// let mut numbers = Store::open(64)?;
+    /// let handles = [7_u32, 8].map(|number| numbers.put(&number).unwrap());
+    /// assert_eq!(numbers.get_many(handles), Some([7, 8]));
+    /// # Ok::<(), vigbuso::Error>(())
     /// ```
-    pub fn replace(&mut self, block: Block, record: &T) -> Option<T> {
-        let old = self.get(block)?;
-        record.write(&mut self.arena[block.range(T::BYTES)]);
+    #[must_use]
+    pub fn get_many<const N: usize>(&self, handles: [Handle<T>; N]) -> Option<[T; N]> {
+        let found: Option<Vec<T>> = handles.into_iter().map(|handle| self.get(handle)).collect();
+        found?.try_into().ok()
+    }
+
+    /// Whether a handle's value is there.
+    ///
+    /// ```
+    /// # use vigbuso::Store;
+    /// let mut numbers = Store::open(64)?;
+    /// let handle = numbers.put(&7_u32)?;
+    /// assert!(numbers.contains(handle));
+    /// # Ok::<(), vigbuso::Error>(())
+    /// ```
+    #[must_use]
+    pub fn contains(&self, handle: Handle<T>) -> bool {
+        self.region.ask(|region| region.stored(handle.erase(), self.number, T::BYTES).is_some())
+    }
+
+    /// Replaces a value and answers the old one; none, and nothing is written, where [`get`](Store::get) is none.
+    ///
+    /// ```
+    /// # use vigbuso::Store;
+    /// let mut words = Store::open(64)?;
+    /// let word = words.put(b"HERON")?;
+    /// assert_eq!(words.replace(word, b"ASHES"), Some(*b"HERON"));
+    /// # Ok::<(), vigbuso::Error>(())
+    /// ```
+    pub fn replace(&mut self, handle: Handle<T>, record: &T) -> Option<T> {
+        let old = self.get(handle)?;
+        self.region.act(|region| region.get_mut(handle.erase()).map(|bytes| record.write(bytes)))?;
         Some(old)
     }
 
-    /// Frees a record's block and answers the record.
+    /// Changes a value where it stands; false where [`get`](Store::get) is none.
     ///
     /// ```
-    /// # use vigbuso::{Pool, Refusal, Store, PAGE_BYTES};
-    /// # let (mut pool, mut arena) = (Pool::open(1)?, [0; PAGE_BYTES]);
-    /// let mut words = Store::on(&mut pool, &mut arena);
-    /// let block = words.put(b"HERON")?;
-    /// assert_eq!(words.remove(block)?, *b"HERON");
-    /// # Ok::<(), Box<dyn std::error::Error>>(())
+    /// # use vigbuso::Store;
+    /// let mut numbers = Store::open(64)?;
+    /// let handle = numbers.put(&7_u32)?;
+    /// assert!(numbers.update(handle, |number| *number += 1));
+    /// assert_eq!(numbers.get(handle), Some(8));
+    /// # Ok::<(), vigbuso::Error>(())
+    /// ```
+    #[must_use = "it is false where there is no such value"]
+    pub fn update(&mut self, handle: Handle<T>, change: impl FnOnce(&mut T)) -> bool {
+        let Some(mut record) = self.get(handle) else { return false };
+        change(&mut record);
+        self.replace(handle, &record).is_some()
+    }
+
+    /// Removes a value and answers it. From now on its handle is refused.
+    ///
+    /// ```
+    /// # use vigbuso::{Error, Store};
+    /// let mut words = Store::open(64)?;
+    /// let word = words.put(b"HERON")?;
+    /// assert_eq!(words.remove(word), Ok(*b"HERON"));
+    /// assert_eq!(words.remove(word), Err(Error::Stale(word.erase())));
+    /// # Ok::<(), Error>(())
     /// ```
     ///
     /// # Errors
     ///
-    /// [`Refusal::NotOut`] where [`get`](Store::get) is none; else as [`Pool::free`].
-    pub fn remove(&mut self, block: Block) -> Result<T, FreeError> {
-        let record = self.get(block).ok_or_else(|| FreeError::new(Refusal::NotOut, block))?;
-        self.pool.free(block)?;
+    /// [`Error::Stale`] where [`get`](Store::get) is none; else as [`Region::free`].
+    pub fn remove(&mut self, handle: Handle<T>) -> Result<T, Error> {
+        let record = self.get(handle).ok_or(Error::Stale(handle.erase()))?;
+        self.region.act(|region| region.free(handle.erase()))?;
         Ok(record)
     }
 
-    fn has(&self, block: Block) -> bool {
-        Class::for_size(T::BYTES).is_some_and(|class| self.pool.class_of(block) == Some(class))
+    /// The handles of the values that are there now. All granules of pages that were ever used are gone over, as [`Region::iter`] does.
+    ///
+    /// ```
+    /// # use vigbuso::Store;
+    /// let mut numbers = Store::open(64)?;
+    /// let handle = numbers.put(&7_u32)?;
+    /// assert_eq!(numbers.handles(), [handle]);
+    /// # Ok::<(), vigbuso::Error>(())
+    /// ```
+    #[must_use]
+    pub fn handles(&self) -> Vec<Handle<T>> {
+        let handles = self.region.ask(|region| region.handles(self.number, T::BYTES));
+        handles.into_iter().map(Handle::typed).collect()
+    }
+
+    /// The values with their handles, in the order of their places.
+    ///
+    /// ```
+    /// # use vigbuso::Store;
+    /// let mut numbers = Store::open(64)?;
+    /// for number in 0..10_u32 {
+    ///     numbers.put(&number)?;
+    /// }
+    /// assert_eq!(numbers.iter().map(|(_, number)| number).sum::<u32>(), 45);
+    /// # Ok::<(), vigbuso::Error>(())
+    /// ```
+    pub fn iter(&self) -> impl Iterator<Item = (Handle<T>, T)> + '_ {
+        self.handles().into_iter().filter_map(|handle| Some((handle, self.get(handle)?)))
     }
 }
 
-impl<T, B: AsRef<[u32]>> fmt::Debug for Store<'_, T, B> {
+impl<T, R: Clone> Clone for Store<T, R> {
+    fn clone(&self) -> Store<T, R> {
+        Store { region: self.region.clone(), ..*self }
+    }
+}
+
+impl<T, R: fmt::Debug> fmt::Debug for Store<T, R> {
     fn fmt(&self, f: &mut fmt::Formatter) -> fmt::Result {
-        f.debug_struct("Store").field("pool", &self.pool).finish_non_exhaustive()
+        f.debug_struct("Store").field("number", &self.number).field("region", &self.region).finish()
     }
 }
