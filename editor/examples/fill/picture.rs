@@ -154,16 +154,28 @@ const GREY: Colour = Colour(232, 232, 232);
 const MIST: Colour = Colour(214, 226, 236);
 const YELLOW: Colour = Colour(250, 215, 90);
 
-/// Classes have these in turn, so that neighbours are easy to tell apart.
-const CLASSES: [Colour; 8] = [
+/// Classes have these in turn: twenty that the eye tells apart, from each other and from the colours above, neighbours most of all.
+const CLASSES: [Colour; 20] = [
     Colour(110, 178, 230),
-    Colour(244, 162, 97),
-    Colour(128, 196, 112),
-    Colour(236, 140, 170),
-    Colour(150, 150, 165),
-    Colour(90, 200, 190),
-    Colour(178, 144, 226),
-    Colour(200, 190, 100),
+    Colour(250, 160, 50),
+    Colour(220, 50, 70),
+    Colour(130, 180, 40),
+    Colour(50, 120, 240),
+    Colour(40, 230, 220),
+    Colour(250, 100, 160),
+    Colour(180, 110, 50),
+    Colour(130, 110, 180),
+    Colour(40, 230, 140),
+    Colour(40, 170, 120),
+    Colour(100, 130, 70),
+    Colour(190, 80, 190),
+    Colour(240, 180, 250),
+    Colour(250, 140, 130),
+    Colour(170, 220, 170),
+    Colour(40, 130, 130),
+    Colour(160, 150, 130),
+    Colour(160, 100, 120),
+    Colour(250, 200, 150),
 ];
 
 fn colours(holders: &[(Holder, usize)]) -> BTreeMap<Holder, Colour> {
