@@ -85,7 +85,7 @@ fn a_scale_of_sixteen_goes_up_to_sixteen() {
     let panel = svg.split("pages held, of 16</text>").nth(1).expect("the second panel");
     let numbers: Vec<&str> =
         panel.split("class=\"left\">").skip(1).map(|rest| rest.split('<').next().expect("a number")).collect();
-    assert_eq!(numbers, ["0", "5", "10", "15"]);
+    assert_eq!(numbers, ["0", "5", "10", "16"]);
     // 4 of 16 pages are a quarter of the panel's 150 pixels, and the curve's highest point.
     let lines: Vec<usize> =
         panel.split("y1=\"").skip(1).map(|rest| rest.split('"').next().expect("y").parse().expect("y")).collect();

@@ -13,6 +13,7 @@ use fill::grid::Grid;
 use fill::job::{Done, Job};
 use fill::search::{Progress, Stop};
 use fill::store::Store;
+use fill::svg::Colour;
 use fill::words::Words;
 use fill::{picture, plot, progress};
 use vigbuso::Rules;
@@ -221,12 +222,19 @@ fn twenty_classes_have_twenty_colours() {
     let legend = svg.rsplit("class=\"size\"").next().expect("the legend comes last");
     let colours: Vec<&str> = legend.split(" fill=\"#").skip(1).map(|rest| &rest[..6]).collect();
     assert_eq!(colours.len(), 20 + 3, "{legend}");
+    // The run by hand comes first, hole and fresh pages last.
+    let pale = |colour: &str| {
+        let [r, g, b] = [0, 2, 4].map(|at| u8::from_str_radix(&colour[at..at + 2], 16).expect("a colour"));
+        Colour(r, g, b).pale().code()[1..].to_string()
+    };
     for (at, a) in colours.iter().enumerate() {
         for b in &colours[..at] {
-            let classes = at > 0 && at < 21;
-            assert!(apart(a, b) > if classes { 25.0 } else { 5.0 }, "#{a} and #{b} are too like each other");
+            assert!(apart(a, b) > if at > 20 { 5.0 } else { 25.0 }, "#{a} and #{b} are too like each other");
+            assert!(at > 20 || apart(&pale(a), &pale(b)) > 9.0, "#{a} and #{b} are too like each other, pale");
         }
     }
+    // Each class's field has a stripe of it, however little is in use.
+    assert!(colours[1..21].iter().all(|colour| svg.contains(&format!("height=\"8\" fill=\"#{colour}\""))));
 }
 
 #[test]

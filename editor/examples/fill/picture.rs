@@ -55,9 +55,11 @@ const SIDE: usize = 28;
 const LEGEND_COLUMNS: usize = 3;
 const LEGEND_LINE: usize = 24;
 const SWATCH: usize = 16;
+/// At the top of each field.
+const STRIPE: usize = 8;
 
 const NOTE: &str =
-    "On a page: the bytes of its blocks; the filled part is in use. Pages of one span or one run are one field.";
+    "On a page: the bytes of its blocks; the part filled from below is in use. Pages of one span or one run are one field.";
 
 /// A square for each page, filled up to the part in use, those of a span or run as one field, and a legend.
 pub fn svg(pages: &Pages) -> String {
@@ -101,7 +103,7 @@ fn fields(pages: &Pages) -> Vec<(usize, usize)> {
     fields
 }
 
-/// A field, its colour pale where no byte is in use. It reaches out of the row where it goes on in another.
+/// A field: a stripe of its colour, which is pale below it where no byte is in use. It reaches out of the row where it goes on in another.
 fn draw(svg: &mut Svg, pages: &Pages, (first, last): (usize, usize), colour: Colour) {
     let (from_before, goes_on) = (first > 0 && pages.joined(first - 1), pages.joined(last));
     let out = |reaches: bool| if reaches { GAP } else { 0 };
@@ -119,6 +121,7 @@ fn draw(svg: &mut Svg, pages: &Pages, (first, last): (usize, usize), colour: Col
             svg.fill(Rect { x: left, y: field.y + field.height - height, width: right - left, height }, colour);
         }
     }
+    svg.fill(Rect { height: STRIPE, ..field }, colour);
     svg.frame(field, is_idle(holder));
     svg.text(field.x + field.width / 2, field.y + field.height / 2 + 4, "size", &label(holder));
 }
