@@ -6,7 +6,6 @@
 #include "vigbuso.h"
 
 enum { PAGES = 16, HOST = VIGBUSO_HOST_GRANTED, WORDS = VIGBUSO_BOOK_WORDS(PAGES) };
-
 static char arena[PAGES * VIGBUSO_PAGE_BYTES];
 static uint32_t book[WORDS];
 
@@ -24,7 +23,8 @@ static char *text_of(uint64_t block) { return arena + VIGBUSO_BYTE_OFFSET(block)
 static uint64_t put(const char *text) {
     uint64_t block = VIGBUSO_NONE;
     must(vigbuso_alloc(book, WORDS, vigbuso_class_for_size(strlen(text) + 1), HOST, &block));
-    return block == VIGBUSO_NONE ? block : (strcpy(text_of(block), text), block);
+    if (block != VIGBUSO_NONE) { strcpy(text_of(block), text); }
+    return block;
 }
 
 static uint32_t drop(uint64_t block) { return vigbuso_free(book, WORDS, vigbuso_class_of(book, WORDS, block), HOST, block); }
