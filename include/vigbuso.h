@@ -8,8 +8,8 @@
  * VIGBUSO_BOOK_WORDS(pages). The heap keeps all that it knows there and nothing elsewhere. It never reads or writes the
  * arena's bytes, so they may stand anywhere.
  *
- * vigbuso_size_class, vigbuso_contains and vigbuso_class_of return their answer. Every other function of the archive returns 0 if it was carried out, otherwise
- * the number of its refusal (enum vigbuso_refusal); the first that applies is returned. A refused call leaves the book, every
+ * vigbuso_size_class, vigbuso_contains, vigbuso_class_of, vigbuso_granted and vigbuso_stocked return their answer. Every other function of the archive
+ * returns 0 if it was carried out, otherwise the number of its refusal (enum vigbuso_refusal); the first that applies is returned. A refused call leaves the book, every
  * list and every out-parameter as they were; only a trace that stopped (16) leaves what its earlier words did.
  *
  * Any number, any list and any book is accepted. A list or book of length 0 may be NULL; an out-parameter may not. What a call is
@@ -481,11 +481,27 @@ uint32_t vigbuso_free(uint32_t *book, size_t book_len, uint32_t size_class, uint
 uint32_t vigbuso_trim(uint32_t *book, size_t book_len, uint32_t size_class, uint32_t host, uint64_t *block);
 
 /*
- * The class that has the page of a block's word: for vigbuso_free where the class is not at hand. It does not say that the block is out.
+ * The class that has the page of a block's word: for vigbuso_free where the class is not at hand. It does not say that the block is out;
+ * of a granted one it is the class that granted it.
  *   book   book_len words, read
  * Returns 0 to 75; VIGBUSO_CLASSES where no class has the page, and on a book that another call refuses as 1 or 2.
  */
 uint32_t vigbuso_class_of(const uint32_t *book, size_t book_len, uint64_t block);
+
+/*
+ * Whether vigbuso_alloc gave the block in that class and it was not given back since: what vigbuso_free takes.
+ *   book   book_len words, read
+ * Returns 1 or 0; 0 on a book that another call refuses as 1 or 2, and for VIGBUSO_CLASSES or more.
+ */
+uint32_t vigbuso_granted(const uint32_t *book, size_t book_len, uint32_t size_class, uint64_t block);
+
+/*
+ * How many blocks a class has in stock: so many trims empty it.
+ *   book   book_len words, read
+ * Returns 0 to 255; 0 on a book that another call refuses as 1 or 2, for VIGBUSO_CLASSES or more, and where the number in the book is out of
+ * its range (13).
+ */
+uint32_t vigbuso_stocked(const uint32_t *book, size_t book_len, uint32_t size_class);
 
 /*
  * Opens the heap as vigbuso_open does and carries a trace out on it, with everything granted (VIGBUSO_HOST_ALL). A word of the

@@ -95,6 +95,8 @@ static void nothing_lent(void) {
     IS(vigbuso_report(NULL, 0, figures), VIGBUSO_E_ARENA_LENGTH);
     IS(vigbuso_contains(NULL, 0, 0, 0), 0);
     IS(vigbuso_class_of(NULL, 0, (uint64_t)VIGBUSO_SMALL << 62 | 3), VIGBUSO_CLASSES);
+    IS(vigbuso_granted(NULL, 0, 0, (uint64_t)VIGBUSO_SMALL << 62 | 3), 0);
+    IS(vigbuso_stocked(NULL, 0, 0), 0);
     IS(vigbuso_alloc(NULL, 0, 0, HOST, &total), VIGBUSO_E_ARENA_LENGTH);
     IS(vigbuso_open(book, words, PAGES, NULL, 0), 0);
     IS(vigbuso_take_blocks(book, words, 0, HOST, NULL, 0, &number, &fate), VIGBUSO_E_LIST_TOO_SHORT);
@@ -328,10 +330,20 @@ static void pool(void) {
     IS(vigbuso_class_of(book, words, block), 10);
     IS(vigbuso_class_of(book, words, other), 75);
     IS(vigbuso_class_of(book, words, UINT64_MAX), VIGBUSO_CLASSES);
+    IS(vigbuso_granted(book, words, 10, block), 1);
+    IS(vigbuso_granted(book, words, 11, block), 0);
+    IS(vigbuso_granted(book, words, 10, block + 1), 0);
+    IS(vigbuso_granted(book, words, VIGBUSO_CLASSES, block), 0);
+    IS(vigbuso_granted(book, 0, 10, block), 0);
+    IS(vigbuso_stocked(book, words, 10), VIGBUSO_BATCH - 1);
+    IS(vigbuso_stocked(book, words, VIGBUSO_CLASSES), 0);
+    IS(vigbuso_stocked(book, 0, 10), 0);
     IS(vigbuso_free(book, words, 75, HOST, block), VIGBUSO_E_WRONG_KIND);
     IS(vigbuso_free(book, words, 11, HOST, block), VIGBUSO_E_NOT_OUT);
     IS(vigbuso_free(book, words, 10, HOST, block + 1), VIGBUSO_E_NOT_OUT);
     IS(vigbuso_free(book, words, 10, HOST, block), 0);
+    IS(vigbuso_granted(book, words, 10, block), 0);
+    IS(vigbuso_stocked(book, words, 10), VIGBUSO_BATCH);
     IS(vigbuso_free(book, words, 10, HOST, block), VIGBUSO_E_NOT_OUT);
     IS(vigbuso_free(book, words, 75, HOST, other), 0);
     for (uint32_t left = VIGBUSO_BATCH; left > 0; left--) {

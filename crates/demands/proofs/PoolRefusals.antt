@@ -6,9 +6,9 @@ use mathlib.Core.List.{List, [], _∷_, _++_}
 use mathlib.Core.Path.{_≡_, refl, sym, ap, ap₂, _∙_}
 use lib.Dec.{eqb, ltb, leb}
 use borrow.Author.Tests.{eq-eqb, eqb-true, ltb-true, ltb-false, le-ltb, lt-leb, not-false}
-use Rattle.facts.proofs.Bools.{by-cases, and-right, and-no, or-right}
+use Rattle.facts.proofs.Bools.{by-cases, and-left, and-right, and-no, or-right}
 use Rattle.words.specs.Host.{badHost}
-use Rattle.words.specs.Word.{granuleOf, kindOf}
+use Rattle.words.specs.Word.{kindOf}
 use Rattle.classes.specs.declared.Shape.{Shape}
 use Rattle.classes.specs.Shape.{shapeOf, classCount}
 use Rattle.classes.proofs.Shapes.{shape-sound}
@@ -23,8 +23,8 @@ use Rattle.calls.proofs.Out.{fault-marked, fault-foreign, passes}
 use Rattle.trace.proofs.Refused.{give-zero}
 use Rattle.pool.specs.Stock.{stockMost, blank}
 use Rattle.pool.specs.Pool.{PoolAnswer, Wish, hostIn, alloc, free, trim, refused, granted, trimmed, noBlock, freed, answered}
-use Rattle.poolcalls.specs.Stock.{countIn, entryIn, blockIn, stocked}
-use Rattle.poolcalls.specs.Calls.{Said, said, codeOf, blockOut, countFair, topFair, bringOn, tookOn, allocOn, gaveOn, freedOn, freeOn, trimOn, wishOn}
+use Rattle.poolcalls.specs.Stock.{countIn, entryIn, blockIn}
+use Rattle.poolcalls.specs.Calls.{Said, said, codeOf, blockOut, countFair, topFair, grantedIn, bringOn, tookOn, allocOn, gaveOn, freedOn, freeOn, trimOn, wishOn}
 use Rattle.vigbuso.specs.Faults.{callFault, classFault}
 use Rattle.vigbuso.specs.Pool.{poolOn}
 use Rattle.demands.specs.Ranges.{Use, strays}
@@ -132,11 +132,6 @@ alloc-row b c h =
     (λ e. rw (e, ← (top-strays b c (shapeOf c))) (unless _ _ (topFair n b c) 13 _ _ _ refl refl λ u. ends _ _ _ refl))
 
 -- ---- free
-two-turn : (b : List ℕ) (s t : Bool) (k : ℕ) (rows : List Row) (x o : Said) → code x ≡ k → x .book ≡ b → (s ≡ false → t ≡ false → Rows b rows o) → Rows b ((k, s || t) ∷ rows) (cond s x (cond t x o))
-two-turn b true t k rows x o e p f = record { number = e; kept = λ d. p }
-two-turn b false true k rows x o e p f = record { number = e; kept = λ d. p }
-two-turn b false false k rows x o e p f = let g = f refl refl in record { number = g .number; kept = g .kept }
-
 module _ (b : List ℕ) (c h w : ℕ) where
   abbrev sh : Shape
   sh = shapeOf c
@@ -182,12 +177,12 @@ module _ (b : List ℕ) (c h w : ℕ) where
         (λ e. rw e (record { number = refl; kept = λ d. absurd (d refl) }))
         (λ e. rw (e, full-strays) full-row)
 
-  free-row : Rows b ((9, not (ofKind (sh .kind) w)) ∷ (10, not (outAt length₀ b c sh w) || stocked b c (granuleOf w)) ∷ (13, not (ltb (countIn b c) (stockMost c)) && strays b (stockReads c ++ (marks ++ backs))) ∷ []) (freeOn length₀ b c h w)
+  free-row : Rows b ((9, not (ofKind (sh .kind) w)) ∷ (10, not (grantedIn length₀ b c w)) ∷ (13, not (ltb (countIn b c) (stockMost c)) && strays b (stockReads c ++ (marks ++ backs))) ∷ []) (freeOn length₀ b c h w)
   unfolding freeOn
   free-row =
       turn _ _ (not (ofKind (sh .kind) w)) 9 _ _ _ refl refl λ k.
-      two-turn b (not (outAt length₀ b c sh w)) (stocked b c (granuleOf w)) 10 _ _ _ refl refl λ o s.
-      freed-row (not-false (ofKind (sh .kind) w) k) (not-false (outAt length₀ b c sh w) o)
+      turn _ _ (not (grantedIn length₀ b c w)) 10 _ _ _ refl refl λ g.
+      freed-row (not-false (ofKind (sh .kind) w) k) (and-left (outAt length₀ b c sh w) _ (not-false (grantedIn length₀ b c w) g))
 
 -- ---- trim
 module _ (b : List ℕ) (c h : ℕ) (low : get b (arena size) ≤ maxPages) where

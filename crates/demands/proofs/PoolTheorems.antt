@@ -1,18 +1,22 @@
 -- The pool's demand holds of every history of the exported calls, on the words.
 use Prim.Native.Nat.{ℕ, _≤_}
-use mathlib.Core.Bool.{true, false}
+use mathlib.Core.Bool.{true, false, not, true≢false}
 use mathlib.Core.List.{List, [], _∷_, _++_, map, head-eq-of-cons-eq, tail-eq-of-cons-eq}
 use mathlib.Core.Logic.{_↔_, inl, inr}
 use mathlib.Core.Option.{none, some}
 use mathlib.Core.Path.{_≡_, refl, sym, ap, ap₂, _∙_, subst}
 use lib.Dec.{eqb, ltb}
 use lib.ListN.{length, getD, replicate}
+use native.Mathlib.Omega.{arith}
+use borrow.Author.Tests.{not-true}
 use Rattle.facts.specs.Lists.{elem, distinct}
-use Rattle.facts.proofs.Bools.{by-cases}
+use Rattle.facts.proofs.Bools.{by-cases, and-left, and-right}
 use Rattle.words.specs.Host.{badHost}
+use Rattle.words.specs.Word.{granuleOf}
 use Rattle.classes.specs.Shape.{shapeOf, classCount}
 use Rattle.rules.specs.Rules.{Rules, rulesOf}
-use Rattle.fields.specs.Ranges.{maxPages}
+use Rattle.fields.specs.Field.{arena, size, get}
+use Rattle.fields.specs.Ranges.{maxPages, metaFault}
 use Rattle.model.specs.Arena as Arenas
 use Rattle.model.specs.Calls.{Call, Answer, Named, names}
 use Rattle.model.specs.Release.{ofKind, outHere}
@@ -30,7 +34,7 @@ use Rattle.refinement.proofs.ArenaReached.{heap-next, reached-after}
 use Rattle.refinement.proofs.Book.{setting-of}
 use Rattle.refinement.proofs.Found.{out-here}
 use Rattle.refinement.proofs.Whole.{call-whole}
-use Rattle.pool.specs.Pool.{Pool, newPool, PoolCall, PoolAnswer, Wish, to, alloc, free, trim, callBy, poolStep, noBlock}
+use Rattle.pool.specs.Pool.{Pool, newPool, PoolCall, PoolAnswer, Wish, to, alloc, free, trim, callBy, poolStep, refused, noBlock, freed}
 use Rattle.pool.specs.Told.{PoolEvent, toldOf, poolEvents, poolEventsFrom, poolAfter, heapCalls, poolAnswersOf, isOf}
 use Rattle.pool.specs.Claims.{Bare, answerTo}
 use Rattle.pool.proofs.Apart.{pool-disjoint}
@@ -38,20 +42,24 @@ use Rattle.pool.proofs.Frees.{frees, unchanged}
 use Rattle.pool.proofs.OnHeap.{on-heap}
 use Rattle.pool.proofs.Conserved.{alloc-none, conserved}
 use Rattle.pool.proofs.Alone.{pool-alone}
-use Rattle.poolcalls.specs.Stock.{stockIn}
-use Rattle.vigbuso.specs.Pool.{poolOn}
+use Rattle.poolcalls.specs.Stock.{stockIn, stocked}
+use Rattle.poolcalls.specs.Calls.{grantedIn}
+use Rattle.vigbuso.specs.Faults.{admits}
+use Rattle.vigbuso.specs.Pool.{poolOn, grantedOn}
 use Rattle.poolrefinement.specs.Represents.{heapWord, PoolRep, StockRep}
 use Rattle.poolrefinement.proofs.Whole.{pool-agrees}
 use Rattle.poolrefinement.proofs.Frame.{heap-frame, words-changes, represents-still}
-use Rattle.poolrefinement.proofs.Stocks.{stock-still}
+use Rattle.poolrefinement.proofs.Stocks.{stocked-is, stock-still}
+use Rattle.poolrefinement.proofs.Wishes.{kind-word}
 use Rattle.poolrefinement.proofs.Runs.{stands}
 use Rattle.demands.specs.Call.{call}
 use Rattle.demands.specs.Run.{Opens, bookAfter}
 use Rattle.demands.specs.Pool.{poolRun, poolBook, heard, poolHeard, poolTold, FreeAnswers, PoolAt, PoolDemand}
-use Rattle.demands.proofs.Calls.{room, call-is}
+use Rattle.demands.proofs.Calls.{room, no-fault, call-is}
 use Rattle.demands.proofs.Histories.{run-represents}
 use Rattle.demands.proofs.Told.{bare, bare-live, live-bare, bare-disjoint}
 use Rattle.demands.proofs.PoolRuns.{ask-is, run-is, pool-rep, told-is}
+use Rattle.demands.proofs.PoolLook.{out-low, granted-class, stocked-rep}
 
 -- a block out, told with and without the runs
 out-bare : (vs : List Event) (c w : ℕ) → OutIn vs c w → OutIn (bare vs) c w
@@ -143,6 +151,44 @@ module _ (n : ℕ) (rows b : List ℕ) (o : Opens n rows b) (xs : List PoolCall)
   out-test : (c w : ℕ) → ltb c classCount ≡ true → ofKind (shapeOf c .kind) w ≡ true → outAt n d c (shapeOf c) w ≡ outHere (shapeOf c) (P .heap .classes c) w
   out-test c w hc k = out-here (setting-of n d (P .heap) (rep .heap) c hc) few (P .heap .classes c) (rep .heap .classes c hc) w k
 
+  -- ---- what the reading calls tell
+  admitted : (c : ℕ) → ltb c classCount ≡ true → admits d c ≡ true
+  unfolding admits
+  admitted c hc = rw (no-fault n d (room n rows b o .some-pages) few (heapAfter n (rulesOf rows) made) heap, hc)
+
+  stock-test : (c w : ℕ) → ltb c classCount ≡ true → ofKind (shapeOf c .kind) w ≡ true → stocked d c (granuleOf w) ≡ elem w (P .stock c)
+  stock-test c w hc k = stocked-is n d c (granuleOf w) (P .stock c) (rep .stocks c hc) ∙ ap (λ v. elem v (P .stock c)) (sym (kind-word (shapeOf c .kind) w k))
+
+  -- a grant is of its class's kind, since a free of it is no 9
+  grant-kind : (c w : ℕ) → ltb c classCount ≡ true → OutIn (poolTold n rows b xs) c w → ofKind (shapeOf c .kind) w ≡ true
+  grant-kind c w hc u =
+      by-cases (ofKind (shapeOf c .kind) w) (λ k. k) (λ k.
+      let f = free-answers c 0 w in
+      let yes = f .done refl hc .1 u in
+      let no = f .kind refl hc k in
+      let z : _≡_ {A = ℕ} 0 1 = cc in absurd (omega arith))
+
+  granted-told : (c w : ℕ) → (grantedOn d c w ≡ true) ↔ OutIn (poolTold n rows b xs) c w
+  unfolding grantedOn admits
+  granted-told c w =
+      let cons = conserved n few (rulesOf rows) xs in
+      let sized : get d (arena size) ≡ n = heap .arena .length in (
+        (λ g.
+            let hc = and-right (eqb (metaFault d) 0) _ (and-left (admits d c) _ g) in
+            let g₁ = and-right (admits d c) _ g in
+            let k = and-left (ofKind (shapeOf c .kind) w) _ g₁ in
+            let t : grantedIn n d c w ≡ true = subst (λ (m : ℕ). grantedIn m d c w ≡ true) sized (and-right (ofKind (shapeOf c .kind) w) _ g₁) in
+            elim (cons .out c w .0 (sym (out-test c w hc k) ∙ and-left (outAt n d c (shapeOf c) w) _ t)) [
+              | inl u ↦ out-in c w u
+              | inr s ↦ absurd (true≢false (sym (stock-test c w hc k ∙ s) ∙ not-true (stocked d c (granuleOf w)) (and-right (outAt n d c (shapeOf c) w) _ t)))
+            ]),
+        (λ u.
+            let hc = out-low (poolTold n rows b xs) c w u in
+            let k = grant-kind c w hc u in
+            let v = in-out c w u in
+            rw (no-fault n d (room n rows b o .some-pages) few (heapAfter n (rulesOf rows) made) heap, hc, k, sized, out-test c w hc k ∙ cons .out c w .1 (inl v), stock-test c w hc k ∙ cons .either c w v)),
+      )
+
   holds-after : PoolAt n rows d xs (poolTold n rows b xs) made
   holds-after =
       let cons = conserved n few (rulesOf rows) xs in
@@ -160,6 +206,9 @@ module _ (n : ℕ) (rows b : List ℕ) (o : Opens n rows b) (xs : List PoolCall)
         );
         either = λ c w hc u. ap (elem w) (stock-is c hc) ∙ cons .either c w (in-out c w u);
         once = λ c hc. ap distinct (stock-is c hc) ∙ cons .once c;
+        granted = granted-told;
+        class = λ c w u. granted-class d c w (granted-told c w .1 u);
+        stocked = λ c hc. stocked-rep n d c (P .stock c) (rep .stocks c hc) (admitted c hc);
       }
 
   trims-empty : (c h k : ℕ) → badHost h ≡ false → ltb c classCount ≡ true → length (stockIn d c) ≤ k → stockIn (poolBook n rows b (xs ++ replicate k (to c (trim h)))) c ≡ []

@@ -30,7 +30,7 @@ use Rattle.pool.specs.Claims.{Bare}
 use Rattle.poolcalls.specs.Stock.{stockIn}
 use Rattle.poolcalls.specs.Calls.{Said, said}
 use Rattle.vigbuso.specs.Direct.{openOn}
-use Rattle.vigbuso.specs.Pool.{poolOn}
+use Rattle.vigbuso.specs.Pool.{poolOn, classOn, grantedOn, stockedOn}
 use Rattle.refinement.specs.Represents.{Represents}
 use Rattle.poolrefinement.specs.Represents.{heapWord}
 use Rattle.poolrefinement.specs.Run.{saidFrom, bookFrom}
@@ -90,6 +90,10 @@ pub record PoolAt (n : ℕ) (rows d : List ℕ) (xs : List PoolCall) (vs : List 
       → (outAt n d c (shapeOf c) w ≡ true) ↔ (OutIn vs c w ⊎ (elem w (stockIn d c) ≡ true))
   pub either : (c w : ℕ) → ltb c classCount ≡ true → OutIn vs c w → elem w (stockIn d c) ≡ false
   pub once : (c : ℕ) → ltb c classCount ≡ true → distinct (stockIn d c) ≡ true
+  -- `vigbuso_granted` tells the grants not yet freed, `vigbuso_class_of` the class of each, `vigbuso_stocked` how many blocks are in stock
+  pub granted : (c w : ℕ) → (grantedOn d c w ≡ true) ↔ OutIn vs c w
+  pub class : (c w : ℕ) → OutIn vs c w → classOn d w ≡ c
+  pub stocked : (c : ℕ) → ltb c classCount ≡ true → stockedOn d c ≡ length (stockIn d c)
 
 pub record PoolDemand : Type 0 where
   pub after : (n : ℕ) (rows b : List ℕ) → Opens n rows b → (xs : List PoolCall) → PoolAt n rows (poolBook n rows b xs) xs (poolTold n rows b xs) (heapCalls n (rulesOf rows) xs)

@@ -6,14 +6,14 @@ use mathlib.Core.List.{List, [], _∷_, _++_}
 use mathlib.Core.Path.{_≡_}
 use lib.Dec.{eqb, ltb}
 use Rattle.words.specs.Host.{badHost}
-use Rattle.words.specs.Word.{granuleOf}
 use Rattle.classes.specs.Shape.{shapeOf, classCount}
 use Rattle.fields.specs.Field.{arena, size, get}
 use Rattle.model.specs.Release.{ofKind}
 use Rattle.calls.specs.Out.{startOf, outAt}
 use Rattle.pool.specs.Stock.{stockMost}
 use Rattle.pool.specs.Pool.{alloc, free, trim}
-use Rattle.poolcalls.specs.Stock.{countIn, blockIn, stocked}
+use Rattle.poolcalls.specs.Stock.{countIn, blockIn}
+use Rattle.poolcalls.specs.Calls.{grantedIn}
 use Rattle.vigbuso.specs.Pool.{poolOn, BlockEnds, FreeEnds}
 use Rattle.demands.specs.Ranges.{strays}
 use Rattle.demands.specs.Reads.{takeReads, barren, markReads, releaseReads, stockReads, topReads}
@@ -32,14 +32,14 @@ allocTable b c h =
     ++ (13, cond (eqb (countIn b c) 0) (strays b (takeReads b c (shapeOf c)) || barren b c (shapeOf c)) (strays b (topReads b c)))
     ∷ []
 
--- vigbuso_free: a block that is not granted in this class is not out there, or is in stock. A stock that holds enough is a release's concern
+-- vigbuso_free: a block that is not granted in this class is not out there, or is in stock (`grantedIn`). A stock that holds enough is a release's concern
 abbrev pub freeTable : List ℕ → ℕ → ℕ → ℕ → List Row
 freeTable b c h w =
     let n = get b (arena size) in
     let sh = shapeOf c in
     poolEarly b c h
     ++ (9, not (ofKind (sh .kind) w))
-    ∷ (10, not (outAt n b c sh w) || stocked b c (granuleOf w))
+    ∷ (10, not (grantedIn n b c w))
     ∷ (13, not (ltb (countIn b c) (stockMost c)) && strays b (stockReads c ++ (markReads b c sh (w ∷ []) ++ releaseReads b c sh 1 (startOf b w))))
     ∷ []
 

@@ -1,6 +1,7 @@
 -- An alloc, a free and a trim on the words, from number 9 on: the answer and the book, for any book. n is the arena's length, c the
 -- class's id, h the host word, w a block's. A refusal leaves the book.
 --     allocOn    the stock's top, or one take into a list of the pool's own: the last of its blocks is granted, the others are the stock
+--     grantedIn  a word of the class's kind is a block granted there
 --     freeOn     numbers 9, 10 and 13; then into the stock, or back to the heap where that holds enough
 --     trimOn     the stock's top goes back to the heap
 use Prim.Native.Nat.{ℕ, _-_, _*_}
@@ -51,6 +52,10 @@ countFair b c = leb (countIn b c) stockRoom
 unfoldable pub topFair : ℕ → List ℕ → ℕ → Bool
 topFair n b c = countFair b c && ltb (entryIn b c (countIn b c - 1)) (4096 * n)
 
+-- how many blocks there are; 0 for a COUNT out of its range
+unfoldable pub stockedIn : List ℕ → ℕ → ℕ
+stockedIn b c = cond (countFair b c) (countIn b c) 0
+
 -- ---- alloc
 -- m blocks of a list
 unfoldable pub bringOn : List ℕ → ℕ → ℕ → List ℕ → Said
@@ -78,12 +83,14 @@ freedOn n b c h w =
     (said (refused 13) b))
 
 -- the heap has the block out in the class, which therefore lies in the arena; and it is not in stock
+abbrev pub grantedIn : ℕ → List ℕ → ℕ → ℕ → Bool
+grantedIn n b c w = outAt n b c (shapeOf c) w && not (stocked b c (granuleOf w))
+
 unfoldable pub freeOn : ℕ → List ℕ → ℕ → ℕ → ℕ → Said
 freeOn n b c h w =
     cond (not (ofKind (shapeOf c .kind) w)) (said (refused 9) b)
-    (cond (not (outAt n b c (shapeOf c) w)) (said (refused 10) b)
-    (cond (stocked b c (granuleOf w)) (said (refused 10) b)
-    (freedOn n b c h w)))
+    (cond (not (grantedIn n b c w)) (said (refused 10) b)
+    (freedOn n b c h w))
 
 -- ---- trim
 unfoldable pub trimOn : ℕ → List ℕ → ℕ → ℕ → Said

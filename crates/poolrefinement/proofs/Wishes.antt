@@ -49,7 +49,7 @@ use Rattle.poolrefinement.specs.Represents.{heapWord, StockRep, PoolRep,
 use Rattle.poolrefinement.proofs.Frame.{class-frame, represents-still}
 use Rattle.poolrefinement.proofs.Stocks.{stocked-is, stock-still, count-word, changes-count, changes-put, counted-other, Top, top-of, pop-own, push-own, push-other}
 
-kind-word : (q w : ℕ) → ofKind q w ≡ true → w ≡ blockWord q (granuleOf w)
+pub kind-word : (q w : ℕ) → ofKind q w ≡ true → w ≡ blockWord q (granuleOf w)
 unfolding ofKind
 kind-word q w e = let z = eqb-true (kindOf w) q e in omega arith
 

@@ -5,24 +5,22 @@ use mathlib.Core.Bool.{Bool, true, false, cond, not}
 use mathlib.Core.List.{List, [], _∷_}
 use mathlib.Core.Path.{_≡_, refl, sym, ap, _∙_}
 use lib.Dec.{eqb, ltb, leb}
-use borrow.Author.Tests.{le-ltb, le-leb, lt-leb, eq-eqb, ne-eqb, eqb-true, ltb-true, leb-true, leb-false}
-use Rattle.facts.proofs.Bools.{by-cases}
+use borrow.Author.Tests.{le-leb, lt-leb, eq-eqb, eqb-true, ltb-true, leb-false}
+use Rattle.facts.proofs.Bools.{by-cases, and-no}
 use Rattle.words.specs.Word.{kindOf, granuleOf, blockWord}
-use Rattle.classes.specs.declared.Shape.{Shape}
 use Rattle.classes.specs.Shape.{shapeOf}
-use Rattle.classes.proofs.Shapes.{shape-sound}
 use Rattle.model.specs.Release.{ofKind}
-use Rattle.pages.specs.Stack.{pageAt}
-use Rattle.calls.specs.Out.{inRunOf, outAt, outFault, unmarked, repeats}
+use Rattle.calls.specs.Out.{outAt, outFault, unmarked, repeats}
 use Rattle.calls.specs.Release.{releasedNone, releaseBlocks}
 use Rattle.take.specs.TakePlan.{CallAsks}
 use Rattle.pool.specs.Stock.{stockMost}
 use Rattle.poolcalls.specs.Stock.{countIn, stocked, pushed}
 use Rattle.pool.specs.Pool.{refused, freed}
-use Rattle.poolcalls.specs.Calls.{said, countFair, gaveOn, freedOn, freeOn, FreeEnds}
+use Rattle.poolcalls.specs.Calls.{said, countFair, grantedIn, gaveOn, freedOn, freeOn, FreeEnds}
 use Rattle.stock.specs.Asks.{FreeAsks}
 use Rattle.stock.specs.Ends.{Gave, Kept, farFault, unfairFault}
 use Rattle.stock.proofs.RoomSteps.{room-limit}
+use Rattle.stock.proofs.LookSteps.{behind-kind, behind-granule, far-kind, near-kind, far-out}
 
 -- ---- not in the arena
 pub far-other : (x : ℕ) → 2 ^ 62 ≤ x → 9 ≡ farFault x
@@ -31,120 +29,97 @@ far-other x h = rw (le-leb (2 ^ 62) x h)
 pub far-away : (x : ℕ) → x < 2 ^ 62 → 10 ≡ farFault x
 far-away x h = rw (lt-leb (2 ^ 62) x h)
 
--- a word beyond the arena is out nowhere
-out-low : (n : ℕ) (b : List ℕ) (c : ℕ) (sh : Shape) (w : ℕ) → 4096 * n ≤ granuleOf w → outAt n b c sh w ≡ false
-unfolding outAt inRunOf
-out-low n b c sh w h = rw (le-ltb (pageAt w) n (omega arith))
-
 -- x is how far the word lies behind the class's first
-module _ (c w k x : ℕ) (ek : k ≡ blockWord (shapeOf c .kind) 0) (ex : (x + k) % 2 ^ 64 ≡ w) (fit : x < 2 ^ 64) where
-  base : k ≡ shapeOf c .kind * 2 ^ 62
-  base = ek ∙ omega arith
-
-  kind-of : x < 2 ^ 62 → kindOf w ≡ shapeOf c .kind
-  kind-of h = omega (arith, base, shape-sound c .known)
-
-  granule-of : x < 2 ^ 62 → x ≡ granuleOf w
-  granule-of h = omega (arith, base, shape-sound c .known)
-
-  other-kind : 2 ^ 62 ≤ x → kindOf w ≡ shapeOf c .kind → ⊥
-  other-kind h e = omega (arith, base, shape-sound c .known)
-
+module _ (c w x : ℕ) (ex : (x + blockWord (shapeOf c .kind) 0) % 2 ^ 64 ≡ w) (fit : x < 2 ^ 64) where
   module _ (n : ℕ) (b : List ℕ) (h : ℕ) where
     pub free-far : (r : ℕ) → 4096 * n ≤ x → r ≡ farFault x → FreeEnds (freeOn n b c h w) r b
-    unfolding freeOn ofKind
+    unfolding freeOn
     free-far r l e =
         by-cases (leb (2 ^ 62) x)
-        (λ t. rw (ne-eqb (kindOf w) (shapeOf c .kind) (other-kind (leb-true (2 ^ 62) x t))) (record { code = e ∙ rw t; book = refl }))
+        (λ t. rw (far-kind c w x ex fit t) (record { code = e ∙ rw t; book = refl }))
         (λ t.
         let s = leb-false (2 ^ 62) x t in
-        rw (eq-eqb (kindOf w) (shapeOf c .kind) (kind-of s), out-low n b c (shapeOf c) w (omega (arith, granule-of s))) (record { code = e ∙ rw t; book = refl }))
+        rw (near-kind c w x ex fit s, far-out c w x ex fit n b l s) (record { code = e ∙ rw t; book = refl }))
 
     pub free-asks : CallAsks n b c → x < 4096 * n → (j : ℕ) → j ≡ countIn b c → FreeAsks n b c j x w
     free-asks a l j e =
         let s : x < 2 ^ 62 = omega (arith, a .few) in
-        record { known = a .known; few = a .few; long = a .long; low = l; granule = granule-of s; kind = kind-of s; counted = e }
+        record { known = a .known; few = a .few; long = a .long; low = l; granule = behind-granule c w x ex fit s; kind = behind-kind c w x ex fit s; counted = e }
 
 -- ---- of the class's kind, in the arena
 module _ (n : ℕ) (b : List ℕ) (c k g w : ℕ) (a : FreeAsks n b c k g w) where
   pub asks-call : CallAsks n b c
   asks-call = record { known = a .known; few = a .few; long = a .long }
 
-  pub word-low : granuleOf w < 4096 * n
-  word-low = rw (← (a .granule)) (a .low)
-
   right-kind : ofKind (shapeOf c .kind) w ≡ true
   unfolding ofKind
   right-kind = eq-eqb (kindOf w) (shapeOf c .kind) (a .kind)
 
-  module _ (s : Bool) (es : s ≡ stocked b c g) where
-    stocked-is : stocked b c (granuleOf w) ≡ s
-    stocked-is = rw (← (a .granule)) (sym es)
+  free-is : (h : ℕ) → freeOn n b c h w ≡ cond (not (grantedIn n b c w)) (said (refused 10) b) (freedOn n b c h w)
+  unfolding freeOn
+  free-is h = rw right-kind
 
-    pub free-stocked : (h : ℕ) → s ≡ true → FreeEnds (freeOn n b c h w) 10 b
-    unfolding freeOn
-    free-stocked h z =
-        rw (right-kind, stocked-is, z)
-        (by-cases (outAt n b c (shapeOf c) w) (λ t. rw t (record { code = refl; book = refl })) (λ t. rw t (record { code = refl; book = refl })))
+  not-granted : (h : ℕ) → grantedIn n b c w ≡ false → FreeEnds (freeOn n b c h w) 10 b
+  not-granted h e = rw (free-is h, e) (record { code = refl; book = refl })
 
-    module _ (away : s ≡ false) where
-      free-is : (h : ℕ) → freeOn n b c h w ≡ cond (not (outAt n b c (shapeOf c) w)) (said (refused 10) b) (freedOn n b c h w)
-      unfolding freeOn
-      free-is h = rw (right-kind, stocked-is, away)
+  -- room in the stock
+  module _ (room : ltb k (stockMost c) ≡ true) where
+    pub keep-low : k < 256
+    keep-low = omega (arith, room-limit c, ltb-true k (stockMost c) room)
 
-      -- room in the stock
-      module _ (room : ltb k (stockMost c) ≡ true) where
-        pub keep-low : k < 256
-        keep-low = omega (arith, room-limit c, ltb-true k (stockMost c) room)
+    module _ (t : Bool) (et : t ≡ grantedIn n b c w) where
+      pub keep-absent : t ≡ false → Kept 10 b n b c w
+      keep-absent z = record { ends = λ h. not-granted h (sym et ∙ z) }
 
-        module _ (o : Bool) (eo : o ≡ outAt n b c (shapeOf c) w) where
-          pub keep-absent : o ≡ false → Kept 10 b n b c w
-          keep-absent z = record { ends = λ h. rw (free-is h, ← eo, z) (record { code = refl; book = refl }) }
+      pub keep-pushed : (b′ : List ℕ) → t ≡ true → b′ ≡ pushed b c g → Kept 0 b′ n b c w
+      unfolding freedOn
+      keep-pushed b′ z q =
+          let fewer : ltb (countIn b c) (stockMost c) ≡ true = rw (a .counted) at room in
+          record { ends = λ h. rw (free-is h, ← et, z, fewer) (record { code = refl; book = q ∙ ap (pushed b c) (a .granule) }) }
 
-          pub keep-pushed : (b′ : List ℕ) → o ≡ true → b′ ≡ pushed b c g → Kept 0 b′ n b c w
-          unfolding freedOn
-          keep-pushed b′ z q =
-              let fewer : ltb (countIn b c) (stockMost c) ≡ true = rw (a .counted) at room in
-              record { ends = λ h. rw (free-is h, ← eo, z, fewer) (record { code = refl; book = q ∙ ap (pushed b c) (a .granule) }) }
+  -- none
+  module _ (full : ltb k (stockMost c) ≡ false) (h : ℕ) where
+    full-is : freeOn n b c h w ≡ cond (not (grantedIn n b c w)) (said (refused 10) b) (cond (leb k 255) (gaveOn freed (releaseBlocks n b c (shapeOf c) h (w ∷ []) .book) (releaseBlocks n b c (shapeOf c) h (w ∷ []))) (said (refused 13) b))
+    unfolding freedOn countFair
+    full-is = free-is h ∙ rw (← (a .counted), full)
 
-      -- none
-      module _ (full : ltb k (stockMost c) ≡ false) (h : ℕ) where
-        full-is : freeOn n b c h w ≡ cond (not (outAt n b c (shapeOf c) w)) (said (refused 10) b) (cond (leb k 255) (gaveOn freed (releaseBlocks n b c (shapeOf c) h (w ∷ []) .book) (releaseBlocks n b c (shapeOf c) h (w ∷ []))) (said (refused 13) b))
-        unfolding freedOn countFair
-        full-is = free-is h ∙ rw (← (a .counted), full)
+    pub pass-unfair : (r : ℕ) → 255 < k → r ≡ unfairFault n b c w → FreeEnds (freeOn n b c h w) r b
+    pass-unfair r l e =
+        by-cases (grantedIn n b c w)
+        (λ t. rw (full-is, t, lt-leb k 255 l) (record { code = e ∙ rw t; book = refl }))
+        (λ t. rw (full-is, t) (record { code = e ∙ rw t; book = refl }))
 
-        pub pass-unfair : (r : ℕ) → 255 < k → r ≡ unfairFault n b c w → FreeEnds (freeOn n b c h w) r b
-        pass-unfair r l e =
-            by-cases (outAt n b c (shapeOf c) w)
-            (λ t. rw (full-is, t, lt-leb k 255 l) (record { code = e ∙ rw t; book = refl }))
-            (λ t. rw (full-is, t) (record { code = e ∙ rw t; book = refl }))
+    -- the heap refuses a block that is not out, as the pool does
+    not-out : outAt n b c (shapeOf c) w ≡ false → releaseBlocks n b c (shapeOf c) h (w ∷ []) ≡ releasedNone b 10
+    unfolding releaseBlocks outFault unmarked repeats
+    not-out t = rw (right-kind, t)
 
-        -- the heap refuses a block that is not out, as the pool does
-        not-out : outAt n b c (shapeOf c) w ≡ false → releaseBlocks n b c (shapeOf c) h (w ∷ []) ≡ releasedNone b 10
-        unfolding releaseBlocks outFault unmarked repeats
-        not-out t = rw (right-kind, t)
+    module _ (s : Bool) (es : s ≡ stocked b c g) where
+      stocked-is : stocked b c (granuleOf w) ≡ s
+      stocked-is = rw (← (a .granule)) (sym es)
 
-        pub pass-given : (r : ℕ) (b′ : List ℕ) → k ≤ 255 → Gave r b′ (releaseBlocks n b c (shapeOf c) h (w ∷ [])) → FreeEnds (freeOn n b c h w) r b′
-        unfolding gaveOn
-        pass-given r b′ l z =
-            by-cases (outAt n b c (shapeOf c) w)
-            (λ t.
-            rw (full-is, t, le-leb k 255 l)
-            (by-cases (eqb (releaseBlocks n b c (shapeOf c) h (w ∷ []) .code) 0)
-            (λ u. rw u (record { code = z .code ∙ eqb-true _ 0 u; book = z .book }))
-            (λ u. rw u (record { code = z .code; book = z .book }))))
-            (λ t.
-            let y : Gave r b′ (releasedNone b 10) = rw (not-out t) at z in
-            rw (full-is, t) (record { code = y .code; book = y .book }))
+      pub pass-stocked : s ≡ true → FreeEnds (freeOn n b c h w) 10 b
+      pass-stocked z = not-granted h (rw (stocked-is, z) (and-no (outAt n b c (shapeOf c) w)))
 
-  pub kept-stocked : (s : Bool) → s ≡ stocked b c g → s ≡ true → Kept 10 b n b c w
-  kept-stocked s es z = record { ends = λ h. free-stocked s es h z }
+      pub pass-given : (r : ℕ) (b′ : List ℕ) → s ≡ false → k ≤ 255 → Gave r b′ (releaseBlocks n b c (shapeOf c) h (w ∷ [])) → FreeEnds (freeOn n b c h w) r b′
+      unfolding gaveOn
+      pass-given r b′ away l z =
+          by-cases (outAt n b c (shapeOf c) w)
+          (λ t.
+          rw (full-is, t, stocked-is, away, le-leb k 255 l)
+          (by-cases (eqb (releaseBlocks n b c (shapeOf c) h (w ∷ []) .code) 0)
+          (λ u. rw u (record { code = z .code ∙ eqb-true _ 0 u; book = z .book }))
+          (λ u. rw u (record { code = z .code; book = z .book }))))
+          (λ t.
+          let y : Gave r b′ (releasedNone b 10) = rw (not-out t) at z in
+          rw (full-is, t) (record { code = y .code; book = y .book }))
 
-pub unfair-out : (n : ℕ) (b : List ℕ) (c w : ℕ) (o : Bool) → o ≡ outAt n b c (shapeOf c) w → o ≡ true → 13 ≡ unfairFault n b c w
-unfair-out n b c w o e z = rw (← e, z)
+module _ (n : ℕ) (b : List ℕ) (c w : ℕ) (t : Bool) (e : t ≡ grantedIn n b c w) where
+  pub unfair-granted : t ≡ true → 13 ≡ unfairFault n b c w
+  unfair-granted z = rw (← e, z)
 
-pub unfair-absent : (n : ℕ) (b : List ℕ) (c w : ℕ) (o : Bool) → o ≡ outAt n b c (shapeOf c) w → o ≡ false → 10 ≡ unfairFault n b c w
-unfair-absent n b c w o e z = rw (← e, z)
+  pub unfair-other : t ≡ false → 10 ≡ unfairFault n b c w
+  unfair-other z = rw (← e, z)
 
 pub free-kept : (n : ℕ) (b : List ℕ) (c h w r : ℕ) (b′ : List ℕ) → Kept r b′ n b c w → FreeEnds (freeOn n b c h w) r b′
 free-kept n b c h w r b′ k = k .ends h

@@ -2,7 +2,7 @@
 use Prim.Native.Nat.{ℕ, zero, suc, _+_, _-_, _*_, _/_, _%_, _^_, _≤_, _<_}
 use native.Mathlib.Omega.{arith}
 use native.Mathlib.Nat.{add-zero, div-add-mod', div-lt-iff-lt-mul}
-use mathlib.Core.Bool.{Bool, true, false, _&&_, and-false, true≢false}
+use mathlib.Core.Bool.{Bool, true, false, _&&_, and-true, and-false, true≢false}
 use mathlib.Core.List.{List}
 use mathlib.Core.Path.{_≡_, refl, sym, ap, _∙_}
 use lib.Dec.{eqb, ltb, leb}
@@ -76,10 +76,6 @@ module _ (n : ℕ) (b : List ℕ) (c p : ℕ) (a : PageAsks n b c p) where
       (λ t. rw (t, le-leb (p + 1) (get b (arena frontier)) (omega (arith, ltb-true p (get b (arena frontier)) t))) (and-true _))
       (λ t. rw (t, none t)))
     where
-      and-true : (x : Bool) → (x && true) ≡ x
-      and-true true = refl
-      and-true false = refl
-
       none : ltb p (get b (arena frontier)) ≡ false → leb (p + 1) (get b (arena frontier)) ≡ false
       none t = lt-leb (p + 1) (get b (arena frontier)) (omega (arith, ltb-false p (get b (arena frontier)) t))
 

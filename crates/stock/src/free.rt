@@ -9,13 +9,12 @@ ghost use Rattle.stock.specs.Asks.{FreeAsks};
 ghost use Rattle.stock.specs.Ends.{Kept, farFault, unfairFault};
 use crate::cells::count;
 use crate::give::give;
-use crate::out::is_out;
-use crate::out::out_at;
+use crate::look::behind;
+use crate::look::is_granted;
 use crate::places::is_stocked;
 use crate::places::push;
 use crate::room::STOCK_ROOM;
 use crate::room::has_room;
-use crate::top::block_word;
 
 // 2^62: words of one kind.
 const KIND: u64 = 4_611_686_018_427_387_904;
@@ -36,10 +35,7 @@ fn keep(meta: &mut [u32], n: u32, c: u32, k: u32, g: u32, w: u64) -> u32
     requires { ⌜ ltb k (stockMost c) ≡ true ⌝ }
     ensures { λ r. ⌜ Kept r (now (meta .exit)) n (now (meta .entry)) c w ⌝ }
 {
-    if is_stocked(meta, n, c, g) {
-        return 10;
-    }
-    if is_out(meta, n, c, w) {
+    if is_granted(meta, n, c, g, w) {
         push(meta, n, c, k, g);
         return 0;
     }
@@ -47,11 +43,11 @@ fn keep(meta: &mut [u32], n: u32, c: u32, k: u32, g: u32, w: u64) -> u32
 }
 
 // COUNT is out of its range.
-fn unfair(meta: &[u32], n: u32, c: u32, w: u64) -> u32
-    requires { ⌜ CallAsks n (now meta) c ⌝ }
+fn unfair(meta: &[u32], n: u32, c: u32, k: u32, g: u32, w: u64) -> u32
+    requires { ⌜ FreeAsks n (now meta) c k g w ⌝ }
     ensures { λ r. ⌜ r ≡ unfairFault n (now (meta .entry)) c w ⌝ }
 {
-    if out_at(meta, n, c, w) {
+    if is_granted(meta, n, c, g, w) {
         return 13;
     }
     10
@@ -63,21 +59,20 @@ fn pass_on(meta: &mut [u32], n: u32, c: u32, host: u32, k: u32, g: u32, w: u64) 
     requires { ⌜ ltb k (stockMost c) ≡ false ⌝ }
     ensures { λ r. ⌜ FreeEnds (freeOn n (now (meta .entry)) c host w) r (now (meta .exit)) ⌝ }
 {
+    if k > STOCK_ROOM {
+        return unfair(meta, n, c, k, g, w);
+    }
     if is_stocked(meta, n, c, g) {
         return 10;
-    }
-    if k > STOCK_ROOM {
-        return unfair(meta, n, c, w);
     }
     give(meta, n, c, host, w)
 }
 
-// One difference tells the block's kind and its granule.
 pub fn free(meta: &mut [u32], n: u32, c: u32, host: u32, w: u64) -> u32
     requires { ⌜ CallAsks n (now meta) c ⌝ }
     ensures { λ r. ⌜ FreeEnds (freeOn n (now (meta .entry)) c host w) r (now (meta .exit)) ⌝ }
 {
-    let x = std::num::wrapping_sub_u64(w, block_word(c, 0));
+    let x = behind(c, w);
     if x >= 4096 * (n as u64) {
         return far_fault(x);
     }

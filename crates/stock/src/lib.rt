@@ -3,6 +3,7 @@ pub mod alloc;
 mod cells;
 pub mod free;
 mod give;
+pub mod look;
 mod out;
 mod places;
 mod room;

@@ -1,19 +1,21 @@
 -- The ways out of the tests that come first, and what is known where none applies.
 --     call-book       no number from 1 to 3: neither 1 nor 2
 --     class-book, class-below    no number from 1 to 4: neither 1 nor 2, and the class is one of ours
+--     admits-book, admits-class    the same of `admits`
 --     id-fits         so that its id is a number of 32 bits
 use Prim.Native.Nat.{ℕ, _+_, _≤_, _<_}
-use mathlib.Core.Bool.{Bool, true, false, cond, true≢false}
+use mathlib.Core.Bool.{Bool, true, false, cond, _&&_, true≢false}
 use mathlib.Core.List.{List}
 use mathlib.Core.Path.{_≡_, refl, sym, _∙_}
-use lib.Dec.{eqb, leb}
+use lib.Dec.{eqb, ltb, leb}
 use mir.Val.{Fits}
 use mir.Syntax.{w32}
-use borrow.Author.Tests.{eq-eqb, ne-eqb, eqb-true, le-leb, lt-leb, leb-false}
+use borrow.Author.Tests.{eq-eqb, ne-eqb, eqb-true, le-leb, lt-leb, leb-false, ltb-true}
 use native.Mathlib.Omega.{arith}
+use Rattle.facts.proofs.Bools.{and-left, and-right}
 use Rattle.words.specs.Host.{badHost}
 use Rattle.fields.specs.Ranges.{metaFault}
-use Rattle.vigbuso.specs.Faults.{callFault, classFault}
+use Rattle.vigbuso.specs.Faults.{callFault, classFault, admits}
 
 -- a number f, then the test t of number k: where both give 0, neither applies
 record Clear (f : ℕ) (t : Bool) : Type 0 where
@@ -72,3 +74,23 @@ module _ (b : List ℕ) (h : ℕ) where
       pub class-fits : r ≡ 0 → c < many → 0 ≡ classFault b h many c
       unfolding classFault
       class-fits z l = rw (← e, eq-eqb r 0 z, lt-leb many c l)
+
+-- ---- a book and a class that are admitted
+module _ (b : List ℕ) (c : ℕ) where
+  module _ (r : ℕ) (e : r ≡ metaFault b) where
+    pub admits-not : (r ≡ 0 → ⊥) → false ≡ admits b c
+    unfolding admits
+    admits-not d = rw (← e, ne-eqb r 0 d)
+
+    pub admits-by : r ≡ 0 → ltb c 76 ≡ admits b c
+    unfolding admits
+    admits-by z = rw (← e, eq-eqb r 0 z)
+
+  module _ (t : Bool) (e : t ≡ admits b c) (z : t ≡ true) where
+    pub admits-book : metaFault b ≡ 0
+    unfolding admits
+    admits-book = eqb-true (metaFault b) 0 (and-left (eqb (metaFault b) 0) _ (sym e ∙ z))
+
+    pub admits-class : c < 76
+    unfolding admits
+    admits-class = ltb-true c 76 (and-right (eqb (metaFault b) 0) _ (sym e ∙ z))

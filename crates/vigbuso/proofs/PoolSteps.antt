@@ -1,19 +1,23 @@
 -- The ways out of the exported calls of the pool.
 use Prim.Native.Nat.{ℕ, _-_, _≤_, _<_}
 use native.Mathlib.Omega.{arith}
-use mathlib.Core.Bool.{cond}
+use mathlib.Core.Bool.{Bool, true, false, cond, _&&_}
 use mathlib.Core.List.{List}
 use mathlib.Core.Path.{_≡_, refl, sym, _∙_}
 use borrow.Author.Tests.{eq-eqb, ne-eqb, le-leb, lt-leb}
+use Rattle.classes.specs.Shape.{shapeOf}
 use Rattle.fields.specs.Field.{arena, size, get}
 use Rattle.fields.specs.Ranges.{metaFault}
+use Rattle.model.specs.Release.{ofKind}
 use Rattle.take.specs.TakePlan.{CallAsks}
+use Rattle.stock.specs.Asks.{StockAsks}
 use Rattle.trace.specs.Asks.{BookAsks}
 use Rattle.trace.specs.Words.{ownerAt, known}
 use Rattle.pool.specs.Pool.{Wish, alloc, free, trim, hostIn}
-use Rattle.poolcalls.specs.Calls.{wishOn, allocOn, freeOn, trimOn}
-use Rattle.vigbuso.specs.Faults.{classFault}
-use Rattle.vigbuso.specs.Pool.{poolOn, classOn, BlockEnds, FreeEnds}
+use Rattle.poolcalls.specs.Calls.{wishOn, allocOn, freeOn, trimOn, grantedIn, stockedIn}
+use Rattle.vigbuso.specs.Faults.{classFault, admits}
+use Rattle.vigbuso.specs.Pool.{poolOn, classOn, grantedOn, stockedOn, BlockEnds, FreeEnds}
+use Rattle.vigbuso.proofs.FaultSteps.{admits-book, admits-class}
 use Rattle.vigbuso.proofs.DirectSteps.{book-in}
 use Rattle.vigbuso.proofs.TakeSteps.{take-asks}
 
@@ -76,3 +80,30 @@ module _ (b : List ℕ) (w r : ℕ) (e : r ≡ metaFault b) where
 
           pub class-held : k ≤ 76 → k - 1 ≡ classOn b w
           class-held h = sym (held ∙ rw (le-leb 1 k (omega (arith, d)), le-leb k 76 h))
+
+-- ---- a granted block, and the blocks in stock
+module _ (b : List ℕ) (c : ℕ) (t : Bool) (e : t ≡ admits b c) where
+  pub granted-no : (w : ℕ) → t ≡ false → false ≡ grantedOn b c w
+  unfolding grantedOn
+  granted-no w z = rw (← e, z)
+
+  pub stocked-no : t ≡ false → 0 ≡ stockedOn b c
+  unfolding stockedOn
+  stocked-no z = rw (← e, z)
+
+  module _ (z : t ≡ true) where
+    pub admitted-asks : (n : ℕ) → n ≡ get b (arena size) → CallAsks n b c
+    admitted-asks n f =
+        let k = book-in b (admits-book b c t e z) n f in
+        record { known = admits-class b c t e z; few = k .small; long = k .long }
+
+    pub stock-asks : StockAsks b c
+    stock-asks = let a = admitted-asks (get b (arena size)) refl in record { known = a .known; long = omega (arith, a .long) }
+
+    pub granted-is : (n w : ℕ) (g : Bool) → n ≡ get b (arena size) → g ≡ (ofKind (shapeOf c .kind) w && grantedIn n b c w) → g ≡ grantedOn b c w
+    unfolding grantedOn
+    granted-is n w g f h = rw (← e, z, ← f) h
+
+    pub stocked-is : (k : ℕ) → k ≡ stockedIn b c → k ≡ stockedOn b c
+    unfolding stockedOn
+    stocked-is k h = rw (← e, z) h

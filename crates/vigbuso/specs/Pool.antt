@@ -2,16 +2,17 @@
 -- Numbers 1 to 4 come first, for 76 classes by one number; then it is a call on an arena of the length that the book holds.
 use Prim.Native.Nat.{ℕ, _-_}
 use mathlib.Core.List.{List}
-use mathlib.Core.Bool.{cond}
+use mathlib.Core.Bool.{Bool, cond, _&&_}
 use lib.Dec.{eqb}
-use Rattle.classes.specs.Shape.{classCount}
+use Rattle.classes.specs.Shape.{shapeOf, classCount}
 use Rattle.fields.specs.Field.{arena, size, get}
 use Rattle.fields.specs.Ranges.{metaFault}
+use Rattle.model.specs.Release.{ofKind}
 use Rattle.pool.specs.Pool.{Wish, hostIn, refused}
 pub use Rattle.poolcalls.specs.Calls.{BlockEnds, FreeEnds}
-use Rattle.poolcalls.specs.Calls.{Said, said, wishOn}
+use Rattle.poolcalls.specs.Calls.{Said, said, wishOn, grantedIn, stockedIn}
 use Rattle.trace.specs.Words.{ownerAt, known}
-use Rattle.vigbuso.specs.Faults.{classFault}
+use Rattle.vigbuso.specs.Faults.{classFault, admits}
 
 unfoldable pub poolOn : List ℕ → ℕ → Wish → Said
 poolOn b c x =
@@ -23,3 +24,11 @@ unfoldable pub classOn : List ℕ → ℕ → ℕ
 classOn b w =
     let k = ownerAt (get b (arena size)) b w in
     cond (eqb (metaFault b) 0) (cond (known k) (k - 1) classCount) classCount
+
+-- whether the block is granted in the class; not on a book that 1 or 2 refuses, nor in a class above 75
+unfoldable pub grantedOn : List ℕ → ℕ → ℕ → Bool
+grantedOn b c w = admits b c && (ofKind (shapeOf c .kind) w && grantedIn (get b (arena size)) b c w)
+
+-- how many blocks the class has in stock; 0 on a book that 1 or 2 refuses, in a class above 75, and for a COUNT out of its range
+unfoldable pub stockedOn : List ℕ → ℕ → ℕ
+stockedOn b c = cond (admits b c) (stockedIn b c) 0

@@ -1,6 +1,7 @@
 // The numbers that a call tests first, on any book and any numbers: 0 where none applies.
 ghost use mathlib.Core.Path.{_≡_};
-ghost use Rattle.vigbuso.specs.Faults.{callFault, classFault};
+ghost use Rattle.vigbuso.specs.Faults.{callFault, classFault, admits};
+use classes::CLASS_COUNT;
 use words::Host;
 
 // Numbers 1 to 3.
@@ -29,4 +30,14 @@ pub fn class_fault(meta: &[u32], host: u32, many: u32, class: u32) -> u32
         return 4;
     }
     0
+}
+
+// Neither 1 nor 2, and one of the 76 classes.
+pub fn is_admitted(meta: &[u32], class: u32) -> bool
+    ensures { λ r. ⌜ r ≡ admits (now (meta .entry)) class ⌝ }
+{
+    if fields::fault::meta_fault(meta) != 0 {
+        return false;
+    }
+    class < CLASS_COUNT
 }

@@ -1,10 +1,12 @@
 // One block out, one block back, and a stocked block back to the heap. Any number and any book is taken: numbers 1 to 4 stand before each call, for
-// classes 0 to 75 by one number.
+// classes 0 to 75 by one number. Three calls read only, and refuse nothing.
 use crate::faults::class_fault;
+use crate::faults::is_admitted;
 use classes::CLASS_COUNT;
 ghost use mathlib.Core.Path.{_≡_};
 ghost use Rattle.pool.specs.Pool.{alloc, free, trim};
-ghost use Rattle.vigbuso.specs.Pool.{poolOn, classOn, BlockEnds, FreeEnds};
+ghost use Rattle.words.specs.Host.{digit};
+ghost use Rattle.vigbuso.specs.Pool.{poolOn, classOn, grantedOn, stockedOn, BlockEnds, FreeEnds};
 
 #[no_mangle]
 pub extern "C" fn vigbuso_alloc(meta: &mut [u32], class: u32, host: u32, block: &mut u64) -> u32
@@ -59,4 +61,33 @@ pub extern "C" fn vigbuso_class_of(meta: &[u32], block: u64) -> u32
         return CLASS_COUNT;
     }
     owner - 1
+}
+
+fn granted_on(meta: &[u32], class: u32, block: u64) -> bool
+    ensures { λ r. ⌜ r ≡ grantedOn (now (meta .entry)) class block ⌝ }
+{
+    if is_admitted(meta, class) {
+        let size = fields::arena::size(meta);
+        return stock::look::granted(meta, size, class, block);
+    }
+    false
+}
+
+// 1 if the block is granted in the class: what a free of it would ask.
+#[no_mangle]
+pub extern "C" fn vigbuso_granted(meta: &[u32], class: u32, block: u64) -> u32
+    ensures { λ r. ⌜ r ≡ digit (grantedOn (now (meta .entry)) class block) ⌝ }
+{
+    granted_on(meta, class, block) as u32
+}
+
+// The blocks that the class has in stock.
+#[no_mangle]
+pub extern "C" fn vigbuso_stocked(meta: &[u32], class: u32) -> u32
+    ensures { λ r. ⌜ r ≡ stockedOn (now (meta .entry)) class ⌝ }
+{
+    if is_admitted(meta, class) {
+        return stock::look::stocked(meta, class);
+    }
+    0
 }

@@ -1,14 +1,11 @@
 use Rattle.stock.proofs.RoomSteps.{room-told}
 use borrow.Author.Needs.{needs}
-use Rattle.stock.proofs.FreeSteps.{free-far, free-asks, free-kept, free-asks}
+use Rattle.stock.proofs.FreeSteps.{free-far, free-asks, free-kept}
 use Rattle.stock.proofs.free.free.Statement.{statement}
 use Rattle.stock.proofs.free.free.Tie as tie
 
-block-word-requires : tie.Need-block-word-requires
-block-word-requires c κs = search needs
-
-wrapping-sub-u64-requires : tie.Need-wrapping-sub-u64-requires
-wrapping-sub-u64-requires c κs = search needs
+behind-requires : tie.Need-behind-requires
+behind-requires c κs = search needs
 
 mul-if1 : tie.Need-mul-if1
 mul-if1 c = search needs
@@ -53,8 +50,7 @@ pub free-spec : {M : Type 1} → statement M
 free-spec =
     tie.close
     (tie.spec
-    block-word-requires
-    wrapping-sub-u64-requires
+    behind-requires
     mul-if1
     far-fault-requires
     returns

@@ -1,25 +1,25 @@
 use borrow.Author.Needs.{needs}
-use Rattle.stock.proofs.FreeSteps.{free-stocked, asks-call, pass-unfair, asks-call, pass-given}
+use Rattle.stock.proofs.FreeSteps.{asks-call, pass-unfair, pass-stocked, pass-given}
 use Rattle.stock.proofs.free.pass_on.Statement.{statement}
 use Rattle.stock.proofs.free.pass_on.Tie as tie
 
-is-stocked-requires : tie.Need-is-stocked-requires
-is-stocked-requires c κs = search needs
+unfair-requires : tie.Need-unfair-requires
+unfair-requires c κs = search needs
 
 same-length : tie.Need-same-length
 same-length c = search needs
 
 returns : tie.Need-returns
-returns c = search free-stocked
+returns c = search pass-unfair
 
-unfair-requires : tie.Need-unfair-requires
-unfair-requires c κs = search asks-call
+is-stocked-requires : tie.Need-is-stocked-requires
+is-stocked-requires c κs = search needs
 
 same-length-2 : tie.Need-same-length-2
 same-length-2 c = search needs
 
 returns-2 : tie.Need-returns-2
-returns-2 c = search pass-unfair
+returns-2 c = search pass-stocked
 
 give-requires : tie.Need-give-requires
 give-requires c κs = search asks-call
@@ -34,10 +34,10 @@ pub pass-on-spec : {M : Type 1} → statement M
 pass-on-spec =
     tie.close
     (tie.spec
-    is-stocked-requires
+    unfair-requires
     same-length
     returns
-    unfair-requires
+    is-stocked-requires
     same-length-2
     returns-2
     give-requires

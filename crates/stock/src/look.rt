@@ -1,0 +1,58 @@
+// What a class's pool has: a block that is granted, the blocks in stock.
+ghost use mathlib.Core.Path.{_≡_};
+ghost use mathlib.Core.Bool.{_&&_};
+ghost use Prim.Native.Nat.{_+_, _%_, _^_};
+ghost use Rattle.words.specs.Word.{granuleOf, blockWord};
+ghost use Rattle.classes.specs.Shape.{shapeOf};
+ghost use Rattle.model.specs.Release.{ofKind};
+ghost use Rattle.poolcalls.specs.Calls.{grantedIn, stockedIn};
+ghost use Rattle.take.specs.TakePlan.{CallAsks};
+ghost use Rattle.stock.specs.Asks.{StockAsks, GranuleAsks};
+use crate::cells::count;
+use crate::out::is_out;
+use crate::places::is_stocked;
+use crate::room::STOCK_ROOM;
+use crate::top::block_word;
+
+// How far a word lies behind its class's first: one number tells its kind and its granule.
+pub fn behind(c: u32, w: u64) -> u64
+    ensures { λ r. ⌜ (r + blockWord (shapeOf c .kind) 0) % 2 ^ 64 ≡ w ⌝ }
+{
+    std::num::wrapping_sub_u64(w, block_word(c, 0))
+}
+
+// The block at granule g is not in stock, and the heap has it out.
+pub fn is_granted(meta: &[u32], n: u32, c: u32, g: u32, w: u64) -> bool
+    requires { ⌜ GranuleAsks n (now meta) c g ⌝ }
+    requires { ⌜ g ≡ granuleOf w ⌝ }
+    ensures { λ r. ⌜ r ≡ grantedIn n (now (meta .entry)) c w ⌝ }
+{
+    if is_stocked(meta, n, c, g) {
+        return false;
+    }
+    is_out(meta, n, c, w)
+}
+
+// For any word.
+pub fn granted(meta: &[u32], n: u32, c: u32, w: u64) -> bool
+    requires { ⌜ CallAsks n (now meta) c ⌝ }
+    ensures { λ r. ⌜ r ≡ (ofKind (shapeOf c .kind) w && grantedIn n (now (meta .entry)) c w) ⌝ }
+{
+    let x = behind(c, w);
+    if x >= 4096 * (n as u64) {
+        return false;
+    }
+    is_granted(meta, n, c, x as u32, w)
+}
+
+// COUNT; 0 where it is out of its range.
+pub fn stocked(meta: &[u32], c: u32) -> u32
+    requires { ⌜ StockAsks (now meta) c ⌝ }
+    ensures { λ r. ⌜ r ≡ stockedIn (now (meta .entry)) c ⌝ }
+{
+    let k = count(meta, c);
+    if k > STOCK_ROOM {
+        return 0;
+    }
+    k
+}
