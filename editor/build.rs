@@ -1,5 +1,6 @@
-//! Links `libvigbuso.a`: the one in the folder that `VIGBUSO_STATICLIB_DIR` names, otherwise the repository's own, which
-//! `rt staticlib vigbuso` makes anew here if it is not there or older than its sources.
+//! Links `libvigbuso.a`: the one in the folder that `VIGBUSO_STATICLIB_DIR` names; otherwise the one in the package's own `lib/`,
+//! where a release has it; otherwise the repository's own, which `rt staticlib vigbuso` makes anew here if it is not there or older
+//! than its sources. Documentation alone (`DOCS_RS` is set) needs none.
 
 use std::io::Write;
 use std::path::{Path, PathBuf};
@@ -8,22 +9,66 @@ use std::time::{Instant, SystemTime};
 use std::{env, fs};
 
 const ARCHIVE: &str = "libvigbuso.a";
+const NAMED: &str = "VIGBUSO_STATICLIB_DIR";
+
+/// The repository's list of crates.
+const CRATES: &str = "crates.txt";
+
+/// The name that only an archive with this crate's calls has. `src/ffi.rs` calls it, but the linker would say less plainly what is
+/// wrong with another archive.
+const ABI: &str = "vigbuso_abi_6";
 
 fn main() {
     println!("cargo:rerun-if-changed=build.rs");
-    println!("cargo:rerun-if-env-changed=VIGBUSO_STATICLIB_DIR");
+    println!("cargo:rerun-if-env-changed={NAMED}");
+    println!("cargo:rerun-if-env-changed=DOCS_RS");
+    if env::var_os("DOCS_RS").is_some() {
+        return;
+    }
     refuse_other_targets();
-    let folder = match env::var_os("VIGBUSO_STATICLIB_DIR") {
-        Some(folder) => PathBuf::from(folder),
-        None => own_folder(),
+    let package = PathBuf::from(env::var("CARGO_MANIFEST_DIR").expect("CARGO_MANIFEST_DIR"));
+    let folder = match env::var_os(NAMED).filter(|name| !name.is_empty()) {
+        Some(name) => named_folder(&package, Path::new(&name)),
+        None if package.join("lib").join(ARCHIVE).exists() => package.join("lib"),
+        None => own_folder(&package),
     };
     let archive = folder.join(ARCHIVE);
     println!("cargo:rerun-if-changed={}", archive.display());
-    assert!(archive.exists(), "{} is not there; VIGBUSO_STATICLIB_DIR names a folder without it", archive.display());
+    refuse_other_archives(&archive);
     println!("cargo:rustc-link-search=native={}", folder.display());
     println!("cargo:rustc-link-lib=static=vigbuso");
     // The test of the C header links the same archive.
     println!("cargo:rustc-env=VIGBUSO_ARCHIVE={}", archive.display());
+}
+
+/// A relative name is seen from where cargo was called, which the shell says in `PWD`: cargo runs this program in the package's
+/// folder. Where `PWD` is not set, it is seen from there.
+fn named_folder(package: &Path, name: &Path) -> PathBuf {
+    if name.is_relative() {
+        println!("cargo:rerun-if-env-changed=PWD");
+    }
+    let stand = env::var_os("PWD").map_or_else(|| package.to_path_buf(), PathBuf::from);
+    let folder = stand.join(name);
+    assert!(
+        folder.join(ARCHIVE).exists(),
+        "there is no {ARCHIVE} in {}, the folder that {NAMED} names ({}, seen from {})",
+        folder.display(),
+        name.display(),
+        stand.display()
+    );
+    folder
+}
+
+/// An archive of another version may have other parameters for the same name.
+fn refuse_other_archives(archive: &Path) {
+    let bytes = fs::read(archive).unwrap_or_else(|error| panic!("{}: {error}", archive.display()));
+    let has = format!("{ABI}\0");
+    assert!(
+        bytes.windows(has.len()).any(|part| part == has.as_bytes()),
+        "{} is not of version {}: it has no `{ABI}`, which this crate calls",
+        archive.display(),
+        env!("CARGO_PKG_VERSION")
+    );
 }
 
 /// The archive's code is for one kind of machine. The linker would say so less plainly.
@@ -35,9 +80,14 @@ fn refuse_other_targets() {
 }
 
 /// The repository's own archive, no older than what it is made of.
-fn own_folder() -> PathBuf {
-    let package = PathBuf::from(env::var("CARGO_MANIFEST_DIR").expect("CARGO_MANIFEST_DIR"));
-    let root = package.parent().expect("the package stands in the repository");
+fn own_folder(package: &Path) -> PathBuf {
+    let root = package.parent().unwrap_or(package);
+    assert!(
+        root.join(CRATES).exists(),
+        "there is no {ARCHIVE} in {}, and {} is not the repository that it can be made in: name its folder in {NAMED}",
+        package.join("lib").display(),
+        root.display()
+    );
     let folder = root.join("target/staticlib");
     let sources = sources(root);
     for source in &sources {
@@ -53,7 +103,7 @@ fn own_folder() -> PathBuf {
 
 /// The list of crates, and the folder of each crate in the archive: `vigbuso`, and what it uses directly or by others.
 fn sources(root: &Path) -> Vec<PathBuf> {
-    let list = root.join("crates.txt");
+    let list = root.join(CRATES);
     let text = fs::read_to_string(&list).unwrap_or_else(|error| panic!("{}: {error}", list.display()));
     let uses = |name: &str| {
         text.lines().find_map(|line| line.strip_prefix(name)?.strip_prefix(':')).unwrap_or("").split_whitespace()
@@ -88,7 +138,7 @@ fn build(root: &Path, why: &str) {
     }
     let start = Instant::now();
     let status = Command::new("rt").args(["staticlib", "vigbuso"]).current_dir(root).status().unwrap_or_else(|error| {
-        panic!("`rt` cannot be run ({error}): put it on the path, or name a folder with {ARCHIVE} in VIGBUSO_STATICLIB_DIR")
+        panic!("`rt` cannot be run ({error}): put it on the path, or name a folder with {ARCHIVE} in {NAMED}")
     });
     assert!(status.success(), "`rt staticlib vigbuso` failed: {status}");
     println!("cargo:warning={ARCHIVE} was made in {} s", start.elapsed().as_secs());

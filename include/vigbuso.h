@@ -1,8 +1,8 @@
 /*
  * Vigbuso's block heap, for C.
  *
- * Link libvigbuso.a (`rt staticlib vigbuso` writes it to target/staticlib/). docs/CALLS.md describes the calls; document 01,
- * the paper that it cites, states their rules.
+ * Link libvigbuso.a: a release has it in lib/, `rt staticlib vigbuso` writes it to target/staticlib/. docs/CALLS.md describes the
+ * calls; document 01, the paper that it cites, states their rules.
  *
  * The book is a slice of 32-bit words that the caller lends to every call: a pointer, then a length in words of at least
  * VIGBUSO_BOOK_WORDS(pages). The heap keeps all that it knows there and nothing elsewhere. It never reads or writes the
@@ -12,8 +12,8 @@
  * returns 0 if it was carried out, otherwise the number of its refusal (enum vigbuso_refusal); the first that applies is returned. A refused call leaves the book, every
  * list and every out-parameter as they were; only a trace that stopped (16) leaves what its earlier words did.
  *
- * Any number, any list and any book is accepted. What a call is lent must not overlap, and nobody else may write it
- * during the call. No function keeps a pointer, allocates or blocks.
+ * Any number, any list and any book is accepted. A list or book of length 0 may be NULL; an out-parameter may not. What a call is
+ * lent must not overlap, and nobody else may write it during the call. No function keeps a pointer, allocates or blocks.
  */
 #ifndef VIGBUSO_H
 #define VIGBUSO_H
@@ -27,9 +27,31 @@ extern "C" {
 
 /* The version of this header and of the archive that it is for. */
 #define VIGBUSO_VERSION_MAJOR 0
-#define VIGBUSO_VERSION_MINOR 5
+#define VIGBUSO_VERSION_MINOR 6
 #define VIGBUSO_VERSION_PATCH 0
-#define VIGBUSO_VERSION "0.5.0"
+#define VIGBUSO_VERSION "0.6.0"
+
+/*
+ * The number of the calls' form and of the book's words. It changes when a program or a book of before would be misread, and with
+ * it the name below, which is no call and returns the number. Every file that includes this header refers to that name, so that no
+ * archive of another number links.
+ */
+#define VIGBUSO_ABI 6u
+uint32_t vigbuso_abi_6(void);
+
+/* The reference. It is kept by a compiler that finds it unused, and by a linker that drops sections (retain). */
+#if defined(__GNUC__)
+#if defined(__has_attribute)
+#if __has_attribute(retain)
+#define VIGBUSO_KEPT_BY_THE_LINKER __attribute__((used, retain))
+#endif
+#endif
+#ifndef VIGBUSO_KEPT_BY_THE_LINKER
+#define VIGBUSO_KEPT_BY_THE_LINKER __attribute__((used))
+#endif
+static uint32_t (*const vigbuso_abi)(void) VIGBUSO_KEPT_BY_THE_LINKER = vigbuso_abi_6;
+#undef VIGBUSO_KEPT_BY_THE_LINKER
+#endif
 
 /* Bytes of a page, and of a granule: every block starts at a multiple of it. */
 #define VIGBUSO_PAGE_BYTES 65536u
@@ -108,30 +130,30 @@ enum vigbuso_fate { VIGBUSO_KEPT = 0, VIGBUSO_COLD = 1, VIGBUSO_TO_ARENA = 2, VI
 /* Numbers of refusals, in checking order; vigbuso_refusal_text says what each means. 13 stands twice in that order: in a release by list or
  * by chunks a word of marks that is not 0 comes between 9 and 15, every other book word last. */
 enum vigbuso_refusal {
-    VIGBUSO_ARENA_LENGTH = 1,
-    VIGBUSO_BOOK_TOO_SHORT = 2,
-    VIGBUSO_ROWS = 19,
-    VIGBUSO_TWO_ROWS = 18,
-    VIGBUSO_NO_ROW = 17,
-    VIGBUSO_PLAN = 14,
-    VIGBUSO_STOPPED = 16,
-    VIGBUSO_LISTING = 20,
-    VIGBUSO_GAME = 21,
-    VIGBUSO_GROWTH = 22,
-    VIGBUSO_TOP = 23,
-    VIGBUSO_SLOTS = 24,
-    VIGBUSO_HOST_WORD = 3,
-    VIGBUSO_CLASS = 4,
-    VIGBUSO_LIST_TOO_SHORT = 5,
-    VIGBUSO_RUN_LENGTH = 6,
-    VIGBUSO_EMPTY_LIST = 7,
-    VIGBUSO_CHUNKS = 8,
-    VIGBUSO_WRONG_KIND = 9,
-    VIGBUSO_REPEATED = 15,
-    VIGBUSO_NOT_OUT = 10,
-    VIGBUSO_OTHER_PAGE = 11,
-    VIGBUSO_NOT_HELD = 12,
-    VIGBUSO_BOOK_WORD = 13
+    VIGBUSO_E_ARENA_LENGTH = 1,
+    VIGBUSO_E_BOOK_TOO_SHORT = 2,
+    VIGBUSO_E_ROWS = 19,
+    VIGBUSO_E_TWO_ROWS = 18,
+    VIGBUSO_E_NO_ROW = 17,
+    VIGBUSO_E_PLAN = 14,
+    VIGBUSO_E_STOPPED = 16,
+    VIGBUSO_E_LISTING = 20,
+    VIGBUSO_E_GAME = 21,
+    VIGBUSO_E_GROWTH = 22,
+    VIGBUSO_E_TOP = 23,
+    VIGBUSO_E_SLOTS = 24,
+    VIGBUSO_E_HOST_WORD = 3,
+    VIGBUSO_E_CLASS = 4,
+    VIGBUSO_E_LIST_TOO_SHORT = 5,
+    VIGBUSO_E_RUN_LENGTH = 6,
+    VIGBUSO_E_EMPTY_LIST = 7,
+    VIGBUSO_E_CHUNKS = 8,
+    VIGBUSO_E_WRONG_KIND = 9,
+    VIGBUSO_E_REPEATED = 15,
+    VIGBUSO_E_NOT_OUT = 10,
+    VIGBUSO_E_OTHER_PAGE = 11,
+    VIGBUSO_E_NOT_HELD = 12,
+    VIGBUSO_E_BOOK_WORD = 13
 };
 
 /* What the number that a call returned means. */
@@ -218,6 +240,51 @@ static inline uint32_t vigbuso_medium_block_bytes(uint32_t size_class) {
  * Returns the kind that its blocks' words have: VIGBUSO_SMALL, VIGBUSO_MEDIUM, or VIGBUSO_NONE for too large.
  */
 uint32_t vigbuso_size_class(uint64_t size, uint32_t *size_class);
+
+/* The same class by the one number that the pool and a trace have, 0 to 75; VIGBUSO_CLASSES where the size is too large. */
+static inline uint32_t vigbuso_class_for_size(uint64_t size) {
+    uint32_t size_class = 0;
+    const uint32_t kind = vigbuso_size_class(size, &size_class);
+    return kind == VIGBUSO_SMALL ? size_class : kind == VIGBUSO_MEDIUM ? VIGBUSO_SMALL_CLASSES + size_class : VIGBUSO_CLASSES;
+}
+
+/* Of a class by the one number, 0 to 75: bytes of its blocks, and pages of its runs, 1 for a small class and those of a span for a
+ * medium one; 0 if there is no such class. */
+static inline uint32_t vigbuso_class_bytes(uint32_t size_class) {
+    return size_class < VIGBUSO_SMALL_CLASSES ? vigbuso_block_bytes(size_class)
+                                              : vigbuso_medium_block_bytes(size_class - VIGBUSO_SMALL_CLASSES);
+}
+
+static inline uint32_t vigbuso_class_pages(uint32_t size_class) {
+    if (size_class < VIGBUSO_SMALL_CLASSES) {
+        return 1;
+    }
+    /* A span has a header of 64 bytes and at least 8 blocks. */
+    return size_class < VIGBUSO_CLASSES ? (64u + 8u * vigbuso_class_bytes(size_class) - 1u) / VIGBUSO_PAGE_BYTES + 1u : 0u;
+}
+
+/*
+ * The first page of the page or span that a block is in, whose length is vigbuso_class_pages; VIGBUSO_NO_PAGE where no block of the
+ * class can start. The class is one number, 0 to 75 (vigbuso_class_of tells it). It does not say that the block is out.
+ */
+static inline uint32_t vigbuso_first_page(uint32_t size_class, uint64_t block) {
+    const int is_small = size_class < VIGBUSO_SMALL_CLASSES;
+    const uint64_t header = is_small ? 48u : 64u, bytes = vigbuso_class_bytes(size_class);
+    const uint32_t pages = vigbuso_class_pages(size_class);
+    uint32_t page, before;
+    if (VIGBUSO_KIND(block) != (is_small ? VIGBUSO_SMALL : VIGBUSO_MEDIUM) || VIGBUSO_PAGE(block) >= VIGBUSO_MAX_PAGES) {
+        return VIGBUSO_NO_PAGE;
+    }
+    page = (uint32_t)VIGBUSO_PAGE(block);
+    /* No two blocks of a span have the same place on their pages, so at most one first page fits. */
+    for (before = 0; before < pages && before <= page; before++) {
+        const uint64_t place = VIGBUSO_BYTE_OFFSET(block) - (uint64_t)(page - before) * VIGBUSO_PAGE_BYTES;
+        if (place >= header && (place - header) % bytes == 0 && place + bytes <= (uint64_t)pages * VIGBUSO_PAGE_BYTES) {
+            return page - before;
+        }
+    }
+    return VIGBUSO_NO_PAGE;
+}
 
 /*
  * Opens a heap on an arena of so many pages, 1 to 1,048,576. Every other call works on a book that was opened.
@@ -323,6 +390,67 @@ uint32_t vigbuso_medium_release_blocks(uint32_t *book, size_t book_len, uint32_t
 uint32_t vigbuso_release_bin_chunks(uint32_t *book, size_t book_len, uint32_t size_class, uint32_t host,
                                     const uint64_t *list, size_t list_len, const uint64_t *chunks, size_t chunks_len,
                                     uint32_t *fates, size_t fates_len);
+
+/* Sorts the words of a list, the least first: in place, and in n log n steps whatever the list is. */
+static inline void vigbuso_sort(uint64_t *list, size_t list_len) {
+    size_t heads = list_len / 2, len = list_len; /* the words from heads on are a heap: none is below its two children */
+    while (len > 1) {
+        size_t at, child;
+        uint64_t word;
+        if (heads > 0) {
+            word = list[--heads];
+            at = heads;
+        } else {
+            word = list[--len];
+            list[len] = list[0];
+            at = 0;
+        }
+        while ((child = 2 * at + 1) < len) {
+            if (child + 1 < len && list[child] < list[child + 1]) {
+                child++;
+            }
+            if (list[child] <= word) {
+                break;
+            }
+            list[at] = list[child];
+            at = child;
+        }
+        list[at] = word;
+    }
+}
+
+/*
+ * Releases blocks of one class, small or medium, wherever they are and in whatever order: the list is sorted, and goes back by a
+ * call for each page or span.
+ *   book        book_len words, written
+ *   size_class  the class by the one number, 0 to 75
+ *   list        list_len block words, sorted in place. An empty list is carried out, whatever else is given
+ *   released    how many words of the sorted list, from its front, are back
+ * Returns 0, or the refusal of the first page or span that was refused, 1, 2, 3, 4, 9, 13 (a mark), 15, 10, 13: of its blocks, from
+ * *released on, none is back, and none of those behind them.
+ */
+static inline uint32_t vigbuso_release_all(uint32_t *book, size_t book_len, uint32_t size_class, uint32_t host, uint64_t *list,
+                                           size_t list_len, size_t *released) {
+    vigbuso_sort(list, list_len);
+    *released = 0;
+    while (*released < list_len) {
+        const uint64_t *rest = list + *released;
+        const uint32_t first = vigbuso_first_page(size_class, rest[0]);
+        uint32_t fate = 0, refusal;
+        size_t len = 1;
+        while (len < list_len - *released && vigbuso_first_page(size_class, rest[len]) == first) {
+            len++;
+        }
+        refusal = size_class < VIGBUSO_SMALL_CLASSES
+                      ? vigbuso_release_blocks(book, book_len, size_class, host, rest, len, &fate)
+                      : vigbuso_medium_release_blocks(book, book_len, size_class - VIGBUSO_SMALL_CLASSES, host, rest, len, &fate);
+        if (refusal != 0) {
+            return refusal;
+        }
+        *released += len;
+    }
+    return 0;
+}
 
 /*
  * The pool: one block out, one block back. It keeps a stock of blocks for each class in the book itself, and makes at most one take

@@ -12,7 +12,7 @@ use std::process::ExitCode;
 
 use figures::arguments::{Arguments, USAGE};
 use figures::Outcome;
-use figures::{input, plot, table, wait};
+use figures::{input, plot, room, table, wait};
 use vigbuso::Heap;
 
 fn main() -> ExitCode {
@@ -35,8 +35,12 @@ fn run() -> Outcome<bool> {
     let file = &arguments.file;
     let bytes = std::fs::read(file).map_err(|error| format!("{file}: {error}"))?;
     let trace = input::trace(&bytes).map_err(|error| format!("{file}: {error}"))?;
-    let traced = wait::until_done(trace.words().len(), || Heap::from_trace(arguments.pages, &trace))?;
-    print!("{}", table::text(&trace, &traced));
+    let (traced, unserved) = wait::until_done(trace.words().len(), || {
+        let traced = Heap::from_trace(arguments.pages, &trace).map_err(|error| error.to_string())?;
+        let unserved = room::unserved(&trace, &traced).map_err(|error| error.to_string())?;
+        Ok::<_, String>((traced, unserved))
+    })?;
+    print!("{}", table::text(&trace, &traced, unserved));
     if let Some(svg) = &arguments.svg {
         std::fs::write(svg, plot::svg(&trace, &traced)).map_err(|error| format!("{svg}: {error}"))?;
         println!("picture: {svg}");

@@ -27,6 +27,7 @@ use alloc::vec::Vec;
 use crate::{Block, Chunk, Class, Fate, Figures, Growth, Host, Kind, Refusal, Report, Run, Word};
 
 extern "C" {
+    fn vigbuso_abi_6() -> u32;
     fn vigbuso_size_class(size: u64, class: *mut u32) -> u32;
     fn vigbuso_plan(sizes: *const u32, sizes_len: usize, takes: *const u32, takes_len: usize, total: *mut u64) -> u32;
     fn vigbuso_open(book: *mut u32, book_len: usize, pages: u64, rows: *const u32, rows_len: usize) -> u32;
@@ -116,6 +117,12 @@ extern "C" {
     fn vigbuso_short_histories(pages: u64, length: u64, list: *mut u32, list_len: usize, written: *mut u64) -> u32;
 }
 
+/// Every opening refers to the name of the archive's number, so that no archive of another number links.
+fn assert_abi() {
+    // SAFETY: nothing is lent.
+    assert_eq!(unsafe { vigbuso_abi_6() }, 6);
+}
+
 /// Whether a call was carried out.
 fn carried_out(number: u32) -> Result<(), Refusal> {
     match number {
@@ -173,6 +180,7 @@ pub(crate) fn plan(sizes: &[u32], takes: &[u32]) -> Result<u64, Refusal> {
 
 /// No rows are none of the caller's own rules.
 pub(crate) fn open(book: &mut [u32], pages: u64, rows: &[u32]) -> Result<(), Refusal> {
+    assert_abi();
     // SAFETY: both slices are lent for the call, the rows to be read.
     carried_out(unsafe { vigbuso_open(book.as_mut_ptr(), book.len(), pages, rows.as_ptr(), rows.len()) })
 }
@@ -344,6 +352,7 @@ pub(crate) fn trace(
     blocks: &mut [Block],
     figures: &mut [Figures],
 ) -> (Result<(), Refusal>, [usize; 3]) {
+    assert_abi();
     let mut done = [0; 3];
     // SAFETY: the four slices are lent for the call, the words to be read, and the local of three to be written. A `Block` is a
     // `Word`, and the words that are left in the list are those of blocks; `Figures` are five `u64` one after the other.

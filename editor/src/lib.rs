@@ -128,5 +128,5 @@ pub const GRANULE_BYTES: usize = 16;
 
 /// The README's example, tested as it stands there.
 #[cfg(doctest)]
-#[doc = include_str!("../../README.md")]
+#[doc = include_str!("../README.md")]
 struct Readme;

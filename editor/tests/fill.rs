@@ -13,6 +13,7 @@ use fill::grid::Grid;
 use fill::job::{Done, Job};
 use fill::search::{Progress, Stop};
 use fill::store::Store;
+use fill::svg::Colour;
 use fill::words::Words;
 use fill::{picture, plot, progress};
 use vigbuso::Rules;
@@ -191,6 +192,51 @@ fn spans_are_one_field_and_neighbours_have_other_colours() {
     }
 }
 
+/// How far apart the eye sees two colours, by CIE 1976: 2 is just noticed.
+fn apart(a: &str, b: &str) -> f64 {
+    let lab = |colour: &str| {
+        let part = |at: usize| f64::from(u8::from_str_radix(&colour[at..at + 2], 16).expect("a colour")) / 255.0;
+        let linear = |part: f64| if part <= 0.04045 { part / 12.92 } else { ((part + 0.055) / 1.055).powf(2.4) };
+        let [r, g, b] = [0, 2, 4].map(part).map(linear);
+        let x = (0.4124 * r + 0.3576 * g + 0.1805 * b) / 0.95047;
+        let (y, z) = (0.2126 * r + 0.7152 * g + 0.0722 * b, (0.0193 * r + 0.1192 * g + 0.9505 * b) / 1.08883);
+        let [x, y, z] = [x, y, z].map(|t: f64| if t > 0.008_856 { t.cbrt() } else { 7.787 * t + 16.0 / 116.0 });
+        [116.0 * y - 16.0, 500.0 * (x - y), 200.0 * (y - z)]
+    };
+    lab(a).iter().zip(lab(b)).map(|(a, b)| (a - b).powi(2)).sum::<f64>().sqrt()
+}
+
+/// Twenty classes, a hole, fresh pages and a run by hand: no two look alike in the legend.
+#[test]
+fn twenty_classes_have_twenty_colours() {
+    let mut store = Store::open(64, Rules::every(0, 0)).expect("an arena");
+    let put = |store: &mut Store, bytes| store.put(&vec![7; bytes]).expect("no refusal").expect("room");
+    let hole = put(&mut store, 16_384);
+    for number in 0..20 {
+        put(&mut store, vigbuso::Class::small(number).expect("a class").bytes());
+    }
+    put(&mut store, 70_000);
+    store.free(hole).expect("its place");
+    store.flush().expect("its blocks");
+    let svg = picture::svg(&store.pages().expect("what the heap says"));
+    let legend = svg.rsplit("class=\"size\"").next().expect("the legend comes last");
+    let colours: Vec<&str> = legend.split(" fill=\"#").skip(1).map(|rest| &rest[..6]).collect();
+    assert_eq!(colours.len(), 20 + 3, "{legend}");
+    // The run by hand comes first, hole and fresh pages last.
+    let pale = |colour: &str| {
+        let [r, g, b] = [0, 2, 4].map(|at| u8::from_str_radix(&colour[at..at + 2], 16).expect("a colour"));
+        Colour(r, g, b).pale().code()[1..].to_string()
+    };
+    for (at, a) in colours.iter().enumerate() {
+        for b in &colours[..at] {
+            assert!(apart(a, b) > if at > 20 { 5.0 } else { 25.0 }, "#{a} and #{b} are too like each other");
+            assert!(at > 20 || apart(&pale(a), &pale(b)) > 9.0, "#{a} and #{b} are too like each other, pale");
+        }
+    }
+    // Each class's field has a stripe of it, however little is in use.
+    assert!(colours[1..21].iter().all(|colour| svg.contains(&format!("height=\"8\" fill=\"#{colour}\""))));
+}
+
 #[test]
 fn parked_pages_are_drawn_as_such() {
     let mut store = Store::open(32, Rules::default()).expect("an arena");
@@ -220,27 +266,99 @@ fn pictures_say_what_they_show() {
     }
 }
 
-#[test]
-fn words_have_scores_of_their_own_or_by_their_letters() {
-    let words = Words::parse("# a remark\nbox\nbee 7\nCat\nit's\n\nbox\n").expect("words");
-    let scores: Vec<u16> = words.of_length(3).iter().map(|word| word.score).collect();
-    assert_eq!((scores, words.len(), words.left_out()), (vec![10 * (4 + 1 + 8) / 3, 7], 2, 2));
-    let error = Words::parse("cat many").expect_err("no score");
-    assert_eq!(error, "`cat many`: `many` is no score of at most 65535");
+/// The words of a list, with their scores.
+fn listed(text: &str) -> Vec<(String, u16)> {
+    let words = Words::parse(text).expect("words");
+    let letters = |letters: &[u8]| String::from_utf8(letters.to_vec()).expect("letters");
+    (0..16).flat_map(|length| words.of_length(length)).map(|word| (letters(&word.letters), word.score)).collect()
 }
 
 #[test]
-fn bad_grids_and_arguments_are_refused() {
-    assert!(Grid::parse(". .\n.").is_err_and(|error| error == "the grid's rows differ in length"));
-    assert!(Grid::parse(". x").is_err_and(|error| error.starts_with("`x` is no square")));
-    assert!(Grid::parse("# .\n. #").is_err_and(|error| error == "the grid has no room for a word"));
+fn words_have_scores_of_their_own_or_by_their_letters() {
+    let words = Words::parse("# a remark\nbox\nbee 7\nit's\n\nbox\n").expect("words");
+    let scores: Vec<u16> = words.of_length(3).iter().map(|word| word.score).collect();
+    assert_eq!((scores, words.len(), words.left_out()), (vec![10 * (4 + 1 + 8) / 3, 7], 2, 1));
+}
+
+/// As crossword programs write them: in either case, with a semicolon before the score, for Windows or not.
+#[test]
+fn word_lists_are_taken_as_they_come() {
+    let due = [("cat", 50), ("bee", 7)].map(|(word, score)| (word.to_string(), score));
+    for text in ["cat 50\nbee 7", "CAT;50\nBEE;7\n", "Cat ; 50\r\nbEE\t7\r\n", "\u{feff}CAT;50\nbee 7\ncat;9\nCAT 8"] {
+        assert_eq!(listed(text), due, "{text:?}");
+    }
+    let words = Words::parse("ICE CREAM;50\nCAF\u{c9};60\n;5\nmid-day;1").expect("words");
+    assert_eq!((words.len(), words.left_out()), (0, 4));
+}
+
+#[test]
+fn a_grid_has_spaces_or_none_and_letters_that_are_set() {
+    let squares = |text: &str| {
+        let grid = Grid::parse(text).expect("a grid");
+        (grid.slots().to_vec(), grid.set())
+    };
+    assert_eq!(squares(". . #\n. c .\n# . ."), squares("..#\n.C.\n#..\n"));
+    assert_eq!(squares("\n..#\r\n.C.\r\n#..\r\n\n").1, b"####c####");
+}
+
+/// Letters that are set stay, and what they make whole is a word.
+#[test]
+fn letters_that_are_set_stay() {
+    let plain = Job { grid: Grid::parse("...\n.#.\n...").expect("a grid"), ..job(2_000, 32) };
+    let set = Job { grid: Grid::parse(".AR\n.#.\nT..").expect("a grid"), ..job(2_000, 32) };
+    let [free, bound] = [&plain, &set].map(|job| shown(job, &run(job)));
+    assert_ne!(free, bound);
+    assert_eq!((&bound[1..6], &bound[12..13]), (" A R\n", "T"));
+    let best = run(&set).best.expect("a fill");
+    assert!(run(&plain).best.is_some_and(|free| free.score >= best.score));
+
+    let file = scratch("set.grid");
+    std::fs::write(&file, "AQB\n.#.\n...\n").expect("a file");
+    let arguments = Arguments { grid: Some(file.display().to_string()), turns: 2_000, ..Arguments::default() };
+    let job = Job::new(&arguments).expect("a word that is set whole");
+    assert_eq!(job.words.len(), 12_714);
+    let done = run(&job);
+    assert!(shown(&job, &done).starts_with("A Q B\n"));
+}
+
+/// What a user is told of a bad file: its name and the line.
+#[test]
+fn errors_name_the_file_and_the_line() {
+    let refused = |option: &str, text: &[u8]| {
+        let file = scratch(&format!("bad{option}"));
+        std::fs::write(&file, text).expect("a file");
+        let file = file.display().to_string();
+        let words = [option.to_string(), file.clone()];
+        let arguments = Arguments::parse(words.into_iter()).expect("an option");
+        let error = Job::new(&arguments).err().expect("a bad file").to_string();
+        error.strip_prefix(&format!("{file}: ")).expect("the file's name comes first").to_string()
+    };
+    let no_score = "line 3: `cat many`: `many` is no score of at most 65535";
+    assert_eq!(refused("--words", b"# words\n\ncat many\n"), no_score);
+    assert_eq!(refused("--words", b"bee;70000"), "line 1: `bee;70000`: `70000` is no score of at most 65535");
+    let no_square = "line 2: `?` is no square: a dot is an open one, a letter is one that is set, # is a block";
+    assert_eq!(refused("--grid", b"...\n.?.\n"), no_square);
+    assert_eq!(refused("--grid", b"...\n\n..\n"), "line 3: the row has 2 squares, and the first has 3");
+    assert_eq!(refused("--grid", b"#.\n.#\n"), "the grid has no room for a word");
+    assert_eq!(refused("--grid", b"\n#####\nQ.Q.Z\n"), "line 3: no word of examples/words.txt fits `Q.Q.Z` across");
+    assert_eq!(refused("--grid", b".#\nX#\nX#\nX#"), "line 1: no word of examples/words.txt fits `.XXX` down");
+    let words = ["--words", "/nowhere/words"].map(String::from);
+    let error = Job::new(&Arguments::parse(words.into_iter()).expect("an option")).err().expect("no file");
+    assert!(error.to_string().starts_with("/nowhere/words: "), "{error}");
+}
+
+#[test]
+fn bad_arguments_are_refused() {
     let parse = |words: &[&str]| Arguments::parse(words.iter().map(ToString::to_string));
     assert_eq!(parse(&[]), Ok(Arguments::default()));
     assert_eq!(parse(&["--turns", "7"]).map(|found| found.turns), Ok(7));
-    assert_eq!(parse(&["--turns", "0"]), Err("--turns wants a number above 0, not `0`".into()));
+    assert_eq!(parse(&["--turns", "0"]), Err("--turns wants a number from 1 to 4294967295, not `0`".into()));
+    assert_eq!(parse(&["--pages", "1048577"]), Err("--pages wants a number from 1 to 1048576, not `1048577`".into()));
     assert_eq!(parse(&["--pages"]), Err("--pages wants a value".into()));
     assert_eq!(parse(&["--keep", "0"]).map(|found| found.keep), Ok(Some(0)));
-    assert_eq!(parse(&["--keep", "all"]), Err("--keep wants a number".into()));
+    for bad in ["all", "257", "300", "-1"] {
+        assert_eq!(parse(&["--keep", bad]), Err(format!("--keep wants a number from 0 to 256, not `{bad}`")));
+    }
     assert!(parse(&["--page", "1"]).is_err_and(|error| error.starts_with("`--page` is no option")));
 }
 
@@ -248,6 +366,10 @@ fn bad_grids_and_arguments_are_refused() {
 fn a_progress_line_says_how_far_it_is() {
     let progress = Progress { turns: 5, standing: 3, best: None, blocks_out: 9 };
     assert_eq!(progress::text(&progress), "turned back 5 times, 3 words standing, 9 blocks out, no fill yet");
+}
+
+fn scratch(name: &str) -> PathBuf {
+    Path::new(env!("CARGO_TARGET_TMPDIR")).join(name)
 }
 
 fn cargo_fill(arguments: &[&Path]) -> Output {
@@ -259,8 +381,7 @@ fn cargo_fill(arguments: &[&Path]) -> Output {
 /// What a user sees: the same at every run, in the README and its pictures too.
 #[test]
 fn the_readme_shows_the_output() {
-    let file = |name: &str| -> PathBuf { Path::new(env!("CARGO_TARGET_TMPDIR")).join(name) };
-    let (arena, search) = (file("arena.svg"), file("search.svg"));
+    let (arena, search) = (scratch("arena.svg"), scratch("search.svg"));
     let arguments = ["--draw".as_ref(), "--svg".as_ref(), &*arena, "--plot".as_ref(), &*search];
     let run = cargo_fill(&arguments);
     assert!(run.status.success() && run.stderr.is_empty(), "{}", String::from_utf8_lossy(&run.stderr));

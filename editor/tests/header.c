@@ -56,21 +56,81 @@ static void block_bytes(void) {
     IS(vigbuso_medium_block_bytes(VIGBUSO_MEDIUM_CLASSES), 0);
 }
 
+/* The classes by one number: a heap of one run has just a run's blocks, each starts where the class says, and no others can. */
+static void runs_of_classes(void) {
+    for (uint32_t c = 0; c < VIGBUSO_CLASSES; c++) {
+        const uint32_t bytes = vigbuso_class_bytes(c), pages = vigbuso_class_pages(c);
+        const uint64_t kind = c < VIGBUSO_SMALL_CLASSES ? VIGBUSO_SMALL : VIGBUSO_MEDIUM;
+        uint32_t starts = 0, blocks = 0;
+        uint64_t block = 7;
+        IS(vigbuso_class_for_size(bytes), c < 46 || c > 63 ? c : 45);
+        IS(vigbuso_open(book, words, pages, NULL, 0), 0);
+        while (vigbuso_alloc(book, words, c, HOST, &block) == 0 && block != VIGBUSO_NONE) {
+            IS(vigbuso_first_page(c, block), 0);
+            IS(vigbuso_first_page(c, block + 5 * 4096), 5);
+            IS(vigbuso_first_page(c < VIGBUSO_SMALL_CLASSES ? 70 : 0, block), VIGBUSO_NO_PAGE);
+            blocks++;
+        }
+        for (uint64_t granule = 0; granule < (uint64_t)pages * 4096; granule++) {
+            starts += vigbuso_first_page(c, kind << 62 | granule) == 0;
+        }
+        IS(starts, blocks);
+        IS(vigbuso_first_page(c, (kind << 62 | (uint64_t)1 << 32) + 3), VIGBUSO_NO_PAGE);
+    }
+    IS(vigbuso_class_for_size(65473), VIGBUSO_CLASSES);
+    IS(vigbuso_class_bytes(VIGBUSO_CLASSES), 0);
+    IS(vigbuso_class_pages(VIGBUSO_CLASSES), 0);
+    IS(vigbuso_class_pages(64), 3);
+    IS(vigbuso_class_pages(75), 8);
+    IS(vigbuso_first_page(VIGBUSO_CLASSES, (uint64_t)VIGBUSO_MEDIUM << 62 | 4), VIGBUSO_NO_PAGE);
+    IS(vigbuso_first_page(0, VIGBUSO_NONE), VIGBUSO_NO_PAGE);
+}
+
+/* A length of 0 goes with a null pointer: no call reads or writes there. */
+static void nothing_lent(void) {
+    uint32_t number = 7, fate = 7;
+    uint64_t total = 7, figures[VIGBUSO_FIGURES], done[3] = {7, 7, 7};
+    size_t released = 7;
+    IS(vigbuso_open(NULL, 0, 1, NULL, 0), VIGBUSO_E_BOOK_TOO_SHORT);
+    IS(vigbuso_report(NULL, 0, figures), VIGBUSO_E_ARENA_LENGTH);
+    IS(vigbuso_contains(NULL, 0, 0, 0), 0);
+    IS(vigbuso_class_of(NULL, 0, (uint64_t)VIGBUSO_SMALL << 62 | 3), VIGBUSO_CLASSES);
+    IS(vigbuso_granted(NULL, 0, 0, (uint64_t)VIGBUSO_SMALL << 62 | 3), 0);
+    IS(vigbuso_stocked(NULL, 0, 0), 0);
+    IS(vigbuso_alloc(NULL, 0, 0, HOST, &total), VIGBUSO_E_ARENA_LENGTH);
+    IS(vigbuso_open(book, words, PAGES, NULL, 0), 0);
+    IS(vigbuso_take_blocks(book, words, 0, HOST, NULL, 0, &number, &fate), VIGBUSO_E_LIST_TOO_SHORT);
+    IS(vigbuso_medium_take_blocks(book, words, 0, HOST, NULL, 0, &number, &fate), VIGBUSO_E_LIST_TOO_SHORT);
+    IS(vigbuso_release_blocks(book, words, 0, HOST, NULL, 0, &fate), VIGBUSO_E_EMPTY_LIST);
+    IS(vigbuso_medium_release_blocks(book, words, 0, HOST, NULL, 0, &fate), VIGBUSO_E_EMPTY_LIST);
+    IS(vigbuso_release_bin_chunks(book, words, 0, HOST, NULL, 0, NULL, 0, NULL, 0), VIGBUSO_E_EMPTY_LIST);
+    IS(vigbuso_class_table(9, 8, 16384, 1, NULL, 0), VIGBUSO_E_SLOTS);
+    IS(vigbuso_plan(NULL, 0, NULL, 0, &total), VIGBUSO_E_PLAN);
+    IS(number == 7 && fate == 7 && total == 7, 1);
+    IS(vigbuso_short_histories(1, 0, NULL, 0, &total), 0);
+    IS(total, 0);
+    IS(vigbuso_trace(book, words, PAGES, NULL, 0, NULL, 0, NULL, 0, done), 0);
+    IS(done[0] + done[1] + done[2], 0);
+    IS(vigbuso_release_all(book, words, 0, HOST, NULL, 0, &released), 0);
+    IS(released, 0);
+}
+
 static void texts(void) {
     char version[32];
     sprintf(version, "%d.%d.%d", VIGBUSO_VERSION_MAJOR, VIGBUSO_VERSION_MINOR, VIGBUSO_VERSION_PATCH);
     IS(strcmp(version, VIGBUSO_VERSION), 0);
-    IS(strcmp(vigbuso_refusal_text(VIGBUSO_HOST_WORD), "the host word exceeds 15"), 0);
+    IS(vigbuso_abi_6(), VIGBUSO_ABI);
+    IS(strcmp(vigbuso_refusal_text(VIGBUSO_E_HOST_WORD), "the host word exceeds 15"), 0);
     IS(strcmp(vigbuso_refusal_text(0), "carried out"), 0);
     IS(strcmp(vigbuso_refusal_text(UINT32_MAX), "no refusal has this number"), 0);
 }
 
 static void opening(void) {
     IS(VIGBUSO_BOOK_WORDS(VIGBUSO_MAX_PAGES), (uint64_t)4311784512);
-    IS(vigbuso_open(book, words, 0, NULL, 0), VIGBUSO_ARENA_LENGTH);
-    IS(vigbuso_open(book, words, VIGBUSO_MAX_PAGES + 1, NULL, 0), VIGBUSO_ARENA_LENGTH);
-    IS(vigbuso_open(book, words, VIGBUSO_MAX_PAGES, NULL, 0), VIGBUSO_BOOK_TOO_SHORT);
-    IS(vigbuso_open(book, words - 1, PAGES, NULL, 0), VIGBUSO_BOOK_TOO_SHORT);
+    IS(vigbuso_open(book, words, 0, NULL, 0), VIGBUSO_E_ARENA_LENGTH);
+    IS(vigbuso_open(book, words, VIGBUSO_MAX_PAGES + 1, NULL, 0), VIGBUSO_E_ARENA_LENGTH);
+    IS(vigbuso_open(book, words, VIGBUSO_MAX_PAGES, NULL, 0), VIGBUSO_E_BOOK_TOO_SHORT);
+    IS(vigbuso_open(book, words - 1, PAGES, NULL, 0), VIGBUSO_E_BOOK_TOO_SHORT);
     IS(vigbuso_contains(book, words, 0, 1), 0);
     IS(vigbuso_open(book, words, PAGES, NULL, 0), 0);
 }
@@ -80,9 +140,9 @@ static void rules(void) {
     const uint32_t rows[4 * VIGBUSO_ROW] = {46, 63, VIGBUSO_LIMIT, VIGBUSO_LIMIT, 64, 75, 1, 0, 45, 45, 0, 0, 0, 44, 256, 256};
     uint64_t list[VIGBUSO_BATCH];
     uint32_t count = 0, virgin = 0, fate = 7;
-    IS(vigbuso_open(book, words, PAGES, rows, 15), VIGBUSO_ROWS);
-    IS(vigbuso_open(book, words, PAGES, rows + 1, 12), VIGBUSO_ROWS);
-    IS(vigbuso_open(book, words, PAGES, rows, 12), VIGBUSO_NO_ROW);
+    IS(vigbuso_open(book, words, PAGES, rows, 15), VIGBUSO_E_ROWS);
+    IS(vigbuso_open(book, words, PAGES, rows + 1, 12), VIGBUSO_E_ROWS);
+    IS(vigbuso_open(book, words, PAGES, rows, 12), VIGBUSO_E_NO_ROW);
     IS(vigbuso_open(book, words, PAGES, rows, 16), 0);
     IS(vigbuso_take_blocks(book, words, 45, HOST, list, VIGBUSO_BATCH, &count, &virgin), 0);
     IS(vigbuso_release_blocks(book, words, 45, HOST, list, count, &fate), 0);
@@ -114,7 +174,7 @@ static void nothing_parked(void) {
 static void small_blocks(void) {
     uint64_t list[VIGBUSO_BATCH];
     uint32_t count = 7, virgin = 7, fate = 7;
-    IS(vigbuso_take_blocks(book, words, 0, HOST, list, VIGBUSO_BATCH - 1, &count, &virgin), VIGBUSO_LIST_TOO_SHORT);
+    IS(vigbuso_take_blocks(book, words, 0, HOST, list, VIGBUSO_BATCH - 1, &count, &virgin), VIGBUSO_E_LIST_TOO_SHORT);
     IS(count, 7);
     IS(vigbuso_take_blocks(book, words, 0, HOST, list, VIGBUSO_BATCH, &count, &virgin), 0);
     IS(count, 64);
@@ -123,20 +183,20 @@ static void small_blocks(void) {
     IS(VIGBUSO_KIND(list[0]), VIGBUSO_SMALL);
     IS(VIGBUSO_BYTE_OFFSET(list[0]), 66 * 16);
     IS(VIGBUSO_PAGE(list[0]), 0);
-    IS(vigbuso_release_blocks(book, words, 0, HOST, list, 0, &fate), VIGBUSO_EMPTY_LIST);
-    IS(vigbuso_release_blocks(book, words, 0, 16, list, 3, &fate), VIGBUSO_HOST_WORD);
+    IS(vigbuso_release_blocks(book, words, 0, HOST, list, 0, &fate), VIGBUSO_E_EMPTY_LIST);
+    IS(vigbuso_release_blocks(book, words, 0, 16, list, 3, &fate), VIGBUSO_E_HOST_WORD);
     IS(fate, 7);
     IS(vigbuso_release_blocks(book, words, 0, HOST, list, 3, &fate), 0);
     IS(fate, VIGBUSO_KEPT);
-    IS(vigbuso_release_blocks(book, words, 0, HOST, list, 3, &fate), VIGBUSO_NOT_OUT);
+    IS(vigbuso_release_blocks(book, words, 0, HOST, list, 3, &fate), VIGBUSO_E_NOT_OUT);
     /* A granule beyond the arena: no bit of it is cut. */
     list[0] = list[4] + ((uint64_t)1 << 32);
     IS(VIGBUSO_PAGE(list[0]), (uint64_t)1 << 20);
     IS(VIGBUSO_BYTE_OFFSET(list[0]) - VIGBUSO_BYTE_OFFSET(list[4]), (uint64_t)1 << 36);
-    IS(vigbuso_release_blocks(book, words, 0, HOST, list, 1, &fate), VIGBUSO_NOT_OUT);
+    IS(vigbuso_release_blocks(book, words, 0, HOST, list, 1, &fate), VIGBUSO_E_NOT_OUT);
     list[0] = list[4];
-    IS(vigbuso_release_blocks(book, words, 0, HOST, list, 5, &fate), VIGBUSO_REPEATED);
-    IS(vigbuso_release_blocks(book, words, VIGBUSO_SMALL_CLASSES, HOST, list, 3, &fate), VIGBUSO_CLASS);
+    IS(vigbuso_release_blocks(book, words, 0, HOST, list, 5, &fate), VIGBUSO_E_REPEATED);
+    IS(vigbuso_release_blocks(book, words, VIGBUSO_SMALL_CLASSES, HOST, list, 3, &fate), VIGBUSO_E_CLASS);
 }
 
 static void medium_blocks(void) {
@@ -145,20 +205,20 @@ static void medium_blocks(void) {
     IS(vigbuso_medium_take_blocks(book, words, 0, HOST, list, VIGBUSO_BATCH, &count, &virgin), 0);
     IS(count, 10);
     IS(VIGBUSO_KIND(list[0]), VIGBUSO_MEDIUM);
-    IS(vigbuso_release_blocks(book, words, 0, HOST, list, count, &fate), VIGBUSO_WRONG_KIND);
+    IS(vigbuso_release_blocks(book, words, 0, HOST, list, count, &fate), VIGBUSO_E_WRONG_KIND);
     IS(vigbuso_medium_release_blocks(book, words, 0, HOST, list, count, &fate), 0);
     IS(fate, VIGBUSO_KEPT);
 }
 
 static void runs(void) {
     uint32_t first = 0, fresh = 7, grown = 7;
-    IS(vigbuso_commit(book, words, HOST, 0, &first, &fresh), VIGBUSO_RUN_LENGTH);
+    IS(vigbuso_commit(book, words, HOST, 0, &first, &fresh), VIGBUSO_E_RUN_LENGTH);
     IS(vigbuso_commit(book, words, HOST, 2, &first, &fresh), 0);
     IS(fresh, 1);
     IS(vigbuso_grow_frontier(book, words, HOST, first, 2, 3, &grown), 0);
     IS(grown, 1);
     IS(vigbuso_contains(book, words, (uint64_t)first * VIGBUSO_PAGE_BYTES, 3 * VIGBUSO_PAGE_BYTES), 1);
-    IS(vigbuso_release(book, words, HOST, first, 4), VIGBUSO_NOT_HELD);
+    IS(vigbuso_release(book, words, HOST, first, 4), VIGBUSO_E_NOT_HELD);
     IS(vigbuso_release(book, words, HOST, first, 3), 0);
     IS(vigbuso_commit(book, words, HOST, PAGES, &first, &fresh), 0);
     IS(first, VIGBUSO_NO_PAGE);
@@ -181,18 +241,87 @@ static void chunks(void) {
     IS(count, 3);
     chunk = VIGBUSO_CHUNK_WORD(count, VIGBUSO_PAGE(list[0]) + 262144);
     IS(VIGBUSO_KIND(chunk), VIGBUSO_CHUNK);
-    IS(vigbuso_release_bin_chunks(book, words, 45, HOST, list, count, &chunk, 1, fates, 2), VIGBUSO_OTHER_PAGE);
+    IS(vigbuso_release_bin_chunks(book, words, 45, HOST, list, count, &chunk, 1, fates, 2), VIGBUSO_E_OTHER_PAGE);
     chunk = VIGBUSO_CHUNK_WORD(count, VIGBUSO_PAGE(list[0]));
-    IS(vigbuso_release_bin_chunks(book, words, 45, HOST, list, count, &chunk, 1, fates, 0), VIGBUSO_CHUNKS);
+    IS(vigbuso_release_bin_chunks(book, words, 45, HOST, list, count, &chunk, 1, fates, 0), VIGBUSO_E_CHUNKS);
     IS(vigbuso_release_bin_chunks(book, words, 45, HOST, list, count, &chunk, 1, fates, 2), 0);
     IS(fates[0], VIGBUSO_KEPT + VIGBUSO_RETIRED);
     IS(fates[1], 7);
 }
 
+/* Numbers that go up and down without a pattern, the same at each run. */
+static uint64_t next_number(uint64_t *state) {
+    *state = *state * UINT64_C(6364136223846793005) + UINT64_C(1442695040888963407);
+    return *state >> 33;
+}
+
+/* Some of a class's blocks, of several pages or spans and in no order, go back at once; then one of them is refused. */
+static void all_of(uint32_t size_class, uint32_t takes) {
+    enum { MOST = 16 * VIGBUSO_BATCH };
+    static uint64_t list[MOST];
+    uint64_t state = size_class, figures[VIGBUSO_FIGURES];
+    size_t len = 0, released = 7;
+    uint32_t count = 0, virgin = 0;
+    const uint32_t row[VIGBUSO_ROW] = VIGBUSO_NOTHING_PARKED;
+    IS(vigbuso_open(book, words, PAGES, row, VIGBUSO_ROW), 0);
+    for (; takes > 0; takes--, len += count) {
+        IS((size_class < VIGBUSO_SMALL_CLASSES ? vigbuso_take_blocks : vigbuso_medium_take_blocks)(
+               book, words, size_class % VIGBUSO_SMALL_CLASSES, HOST, list + len, VIGBUSO_BATCH, &count, &virgin), 0);
+        IS(count > 0, 1);
+    }
+    for (size_t at = len - 1; at > 0; at--) {
+        const size_t other = (size_t)(next_number(&state) % (at + 1));
+        const uint64_t word = list[at];
+        list[at] = list[other];
+        list[other] = word;
+    }
+    /* The last one stands twice: nothing of its page or span goes back, all before it does. */
+    list[len] = list[0];
+    for (size_t at = 1; at < len; at++) {
+        list[len] = list[len] > list[at] ? list[len] : list[at];
+    }
+    IS(vigbuso_release_all(book, words, size_class, HOST, list, len + 1, &released), VIGBUSO_E_REPEATED);
+    IS(list[len - 1], list[len]);
+    IS(released < len && vigbuso_first_page(size_class, list[released]) == vigbuso_first_page(size_class, list[len]), 1);
+    IS(released == 0 || vigbuso_first_page(size_class, list[released - 1]) < vigbuso_first_page(size_class, list[len]), 1);
+    for (size_t at = 1; at <= len; at++) {
+        IS(list[at - 1] <= list[at], 1);
+    }
+    len -= released;
+    IS(vigbuso_release_all(book, words, size_class, HOST, list + released, len, &released), 0);
+    IS(released, len);
+    IS(vigbuso_report(book, words, figures), 0);
+    IS(figures[3], 0);
+    IS(vigbuso_release_all(book, words, size_class, HOST, list, 1, &released), VIGBUSO_E_NOT_OUT);
+    IS(released, 0);
+    list[0] ^= (uint64_t)3 << 62; /* the other kind */
+    IS(vigbuso_release_all(book, words, size_class, HOST, list, 1, &released), VIGBUSO_E_WRONG_KIND);
+    IS(vigbuso_release_all(book, words, size_class, 16, list, 1, &released), VIGBUSO_E_HOST_WORD);
+    IS(vigbuso_release_all(book, words, VIGBUSO_CLASSES, HOST, list, 1, &released), VIGBUSO_E_CLASS);
+}
+
+static void release_all(void) {
+    uint64_t list[7] = {5, UINT64_MAX, 5, 0, 9, 1, 2};
+    for (size_t len = 0; len <= 7; len++) {
+        vigbuso_sort(list, len);
+        for (size_t at = 1; at < len; at++) {
+            IS(list[at - 1] <= list[at], 1);
+        }
+    }
+    IS(list[0] == 0 && list[4] == 5 && list[6] == UINT64_MAX, 1);
+    all_of(0, 1);
+    all_of(0, 15);
+    all_of(30, 12);
+    all_of(45, 15);
+    all_of(64, 15);
+    all_of(70, 9);
+    all_of(75, 7);
+}
+
 /* One block out and back: a wrong free is refused, and the stock's blocks go back one by one. */
 static void pool(void) {
     uint64_t block = 7, other = 7;
-    IS(vigbuso_alloc(book, words, VIGBUSO_CLASSES, HOST, &block), VIGBUSO_CLASS);
+    IS(vigbuso_alloc(book, words, VIGBUSO_CLASSES, HOST, &block), VIGBUSO_E_CLASS);
     IS(block, 7);
     IS(vigbuso_alloc(book, words, 10, HOST, &block), 0);
     IS(VIGBUSO_KIND(block), VIGBUSO_SMALL);
@@ -209,13 +338,13 @@ static void pool(void) {
     IS(vigbuso_stocked(book, words, 10), VIGBUSO_BATCH - 1);
     IS(vigbuso_stocked(book, words, VIGBUSO_CLASSES), 0);
     IS(vigbuso_stocked(book, 0, 10), 0);
-    IS(vigbuso_free(book, words, 75, HOST, block), VIGBUSO_WRONG_KIND);
-    IS(vigbuso_free(book, words, 11, HOST, block), VIGBUSO_NOT_OUT);
-    IS(vigbuso_free(book, words, 10, HOST, block + 1), VIGBUSO_NOT_OUT);
+    IS(vigbuso_free(book, words, 75, HOST, block), VIGBUSO_E_WRONG_KIND);
+    IS(vigbuso_free(book, words, 11, HOST, block), VIGBUSO_E_NOT_OUT);
+    IS(vigbuso_free(book, words, 10, HOST, block + 1), VIGBUSO_E_NOT_OUT);
     IS(vigbuso_free(book, words, 10, HOST, block), 0);
     IS(vigbuso_granted(book, words, 10, block), 0);
     IS(vigbuso_stocked(book, words, 10), VIGBUSO_BATCH);
-    IS(vigbuso_free(book, words, 10, HOST, block), VIGBUSO_NOT_OUT);
+    IS(vigbuso_free(book, words, 10, HOST, block), VIGBUSO_E_NOT_OUT);
     IS(vigbuso_free(book, words, 75, HOST, other), 0);
     for (uint32_t left = VIGBUSO_BATCH; left > 0; left--) {
         IS(vigbuso_trim(book, words, 10, HOST, &block), 0);
@@ -230,10 +359,10 @@ static void trace(void) {
     const uint32_t says[4] = {VIGBUSO_TRACE_TAKE(45), VIGBUSO_TRACE_RELEASE(1), VIGBUSO_TRACE_REPORT, VIGBUSO_TRACE_RELEASE(1)};
     uint64_t blocks[4] = {7, 7, 7, 7};
     uint64_t figures[6] = {7, 7, 7, 7, 7, 7}, done[3] = {7, 7, 7};
-    IS(vigbuso_trace(book, words, 0, says, 4, blocks, 4, figures, 6, done), VIGBUSO_ARENA_LENGTH);
-    IS(vigbuso_trace(book, words, PAGES + 1, says, 4, blocks, 4, figures, 6, done), VIGBUSO_BOOK_TOO_SHORT);
+    IS(vigbuso_trace(book, words, 0, says, 4, blocks, 4, figures, 6, done), VIGBUSO_E_ARENA_LENGTH);
+    IS(vigbuso_trace(book, words, PAGES + 1, says, 4, blocks, 4, figures, 6, done), VIGBUSO_E_BOOK_TOO_SHORT);
     IS(done[0], 7);
-    IS(vigbuso_trace(book, words, PAGES, says, 4, blocks, 4, figures, 6, done), VIGBUSO_STOPPED);
+    IS(vigbuso_trace(book, words, PAGES, says, 4, blocks, 4, figures, 6, done), VIGBUSO_E_STOPPED);
     IS(done[0], 3);
     IS(done[1], 3);
     IS(done[2], 5);
@@ -251,16 +380,16 @@ static void trace(void) {
     IS(VIGBUSO_TRACE_RELEASE(((uint32_t)1 << 30) - 1), UINT32_C(0x7fffffff));
     const uint32_t beyond[2] = {VIGBUSO_TRACE_TAKE(45), VIGBUSO_TRACE_RELEASE((uint64_t)1 << 32)};
     IS(VIGBUSO_TRACE_RELEASE((uint32_t)1 << 30), beyond[1]);
-    IS(vigbuso_trace(book, words, PAGES, beyond, 2, blocks, 4, figures, 6, done), VIGBUSO_STOPPED);
+    IS(vigbuso_trace(book, words, PAGES, beyond, 2, blocks, 4, figures, 6, done), VIGBUSO_E_STOPPED);
     IS(done[0], 1);
 }
 
 static void class_table(void) {
     uint32_t list[66];
     list[64] = list[65] = 7;
-    IS(vigbuso_class_table(8, 8, 16384, 64, list, 66), VIGBUSO_GROWTH);
-    IS(vigbuso_class_table(9, 8, 16385, 64, list, 66), VIGBUSO_TOP);
-    IS(vigbuso_class_table(9, 8, 16384, 67, list, 66), VIGBUSO_SLOTS);
+    IS(vigbuso_class_table(8, 8, 16384, 64, list, 66), VIGBUSO_E_GROWTH);
+    IS(vigbuso_class_table(9, 8, 16385, 64, list, 66), VIGBUSO_E_TOP);
+    IS(vigbuso_class_table(9, 8, 16384, 67, list, 66), VIGBUSO_E_SLOTS);
     IS(vigbuso_class_table(9, 8, 16384, 64, list, 66), 0);
     for (uint32_t c = 0; c < VIGBUSO_SMALL_CLASSES; c++) {
         IS(list[c], vigbuso_block_bytes(c));
@@ -271,7 +400,7 @@ static void class_table(void) {
 
 static void game(void) {
     uint32_t wins = 7;
-    IS(vigbuso_asker_wins(7, 3, 6, &wins), VIGBUSO_GAME);
+    IS(vigbuso_asker_wins(7, 3, 6, &wins), VIGBUSO_E_GAME);
     IS(wins, 7);
     IS(vigbuso_asker_wins(3, 3, 6, &wins), 0);
     IS(wins, 1);
@@ -283,7 +412,7 @@ static void game(void) {
 static void plan(void) {
     const uint32_t sizes[3] = {0, 16385, 16}, takes[3] = {60, 2, 5};
     uint64_t total = 7;
-    IS(vigbuso_plan(sizes, 3, takes, 2, &total), VIGBUSO_PLAN);
+    IS(vigbuso_plan(sizes, 3, takes, 2, &total), VIGBUSO_E_PLAN);
     IS(total, 7);
     IS(vigbuso_plan(sizes, 3, takes, 3, &total), 0);
     IS(total, 2 + 6);
@@ -292,8 +421,8 @@ static void plan(void) {
 static void short_histories(void) {
     uint32_t list[5] = {7, 7, 7, 7, 7};
     uint64_t written = 7;
-    IS(vigbuso_short_histories(4, 2, list, 5, &written), VIGBUSO_LISTING);
-    IS(vigbuso_short_histories(1, 2, list, 3, &written), VIGBUSO_LISTING);
+    IS(vigbuso_short_histories(4, 2, list, 5, &written), VIGBUSO_E_LISTING);
+    IS(vigbuso_short_histories(1, 2, list, 3, &written), VIGBUSO_E_LISTING);
     IS(list[0], 7);
     IS(written, 7);
     IS(vigbuso_short_histories(1, 2, list, 5, &written), 0);
@@ -324,6 +453,9 @@ int main(void) {
     short_histories();
     rules();
     nothing_parked();
+    release_all();
+    runs_of_classes();
+    nothing_lent();
     free(book);
     printf("%d differences\n", differences);
     return differences != 0;

@@ -1,40 +1,82 @@
 //! `include/vigbuso.h` as a C or C++ program sees it: compiled without a warning, linked with the archive and run.
 
 use std::io::ErrorKind;
-use std::path::Path;
-use std::process::Command;
+use std::path::{Path, PathBuf};
+use std::process::{Command, Output};
 
 const HEADER: &str = include_str!("../../include/vigbuso.h");
 const WARNINGS: [&str; 4] = ["-Wall", "-Wextra", "-pedantic", "-Werror"];
+const C: (&str, &[&str]) = ("gcc", &["-std=c11"]);
+const CPP: (&str, &[&str]) = ("g++", &["-std=c++11", "-x", "c++"]);
 
-/// Compiles, links and runs `header.c`. Without the compiler it says so, and fails where the tests are a gate (`CI` is set).
-fn compiles_and_runs(compiler: &str, language: &[&str]) {
+/// What a command answers. Where it is not there the test says so, and fails where the tests are a gate (`CI` is set).
+fn run(command: &mut Command) -> Option<Output> {
+    match command.output() {
+        Err(error) if error.kind() == ErrorKind::NotFound => {
+            let name = command.get_program().to_string_lossy().into_owned();
+            assert!(std::env::var_os("CI").is_none(), "there is no {name} here, and `CI` is set");
+            println!("skipped: there is no {name} here");
+            None
+        }
+        other => Some(other.expect("the command is run")),
+    }
+}
+
+fn scratch(name: &str) -> PathBuf {
+    Path::new(env!("CARGO_TARGET_TMPDIR")).join(name)
+}
+
+/// Compiles a source of this package and links it with an archive.
+fn compile((compiler, language): (&str, &[&str]), source: &str, archive: &Path, program: &Path) -> Option<Output> {
     let package = Path::new(env!("CARGO_MANIFEST_DIR"));
-    let program = Path::new(env!("CARGO_TARGET_TMPDIR")).join(format!("header-{compiler}"));
     let mut command = Command::new(compiler);
     command.args(WARNINGS).args(language).arg("-I").arg(package.join("../include"));
-    command.arg(package.join("tests/header.c")).args(["-x", "none"]).arg(env!("VIGBUSO_ARCHIVE"));
-    let output = match command.arg("-o").arg(&program).output() {
-        Err(error) if error.kind() == ErrorKind::NotFound => {
-            assert!(std::env::var_os("CI").is_none(), "there is no {compiler} here, and `CI` is set");
-            println!("skipped: there is no {compiler} here, so the header is not compiled by it");
-            return;
-        }
-        other => other.expect("the compiler is run"),
-    };
-    assert!(output.status.success(), "{compiler}: {}", String::from_utf8_lossy(&output.stderr));
+    run(command.arg(package.join(source)).args(["-x", "none"]).arg(archive).arg("-o").arg(program))
+}
+
+/// What a program prints that was compiled and linked; none where there is no compiler.
+fn prints(language: (&str, &[&str]), source: &str, program: &str) -> Option<String> {
+    let program = scratch(program);
+    let compiled = compile(language, source, Path::new(env!("VIGBUSO_ARCHIVE")), &program)?;
+    assert!(compiled.status.success(), "{}: {}", language.0, String::from_utf8_lossy(&compiled.stderr));
     let ran = Command::new(&program).output().expect("the program is run");
-    assert!(ran.status.success(), "{}", String::from_utf8_lossy(&ran.stdout));
+    let printed = String::from_utf8_lossy(&ran.stdout).into_owned();
+    assert!(ran.status.success(), "{printed}{}", String::from_utf8_lossy(&ran.stderr));
+    Some(printed)
 }
 
 #[test]
 fn a_c_program_calls_every_function() {
-    compiles_and_runs("gcc", &["-std=c11"]);
+    prints(C, "tests/header.c", "header-c");
 }
 
 #[test]
 fn a_cpp_program_calls_every_function() {
-    compiles_and_runs("g++", &["-std=c++11", "-x", "c++"]);
+    prints(CPP, "tests/header.c", "header-cpp");
+}
+
+/// The example, in both languages.
+#[test]
+fn a_c_program_stores_records() {
+    let due = "Keeps bees (8): APIARIST\ndropped again: a block is not out in this class\n";
+    for (language, program) in [(C, "records-c"), (CPP, "records-cpp")] {
+        assert!(prints(language, "examples/records.c", program).is_none_or(|printed| printed == due));
+    }
+}
+
+/// An archive with another number, which its name has: that of before, say.
+#[test]
+fn another_archive_does_not_link() {
+    let (other, program) = (scratch("libother.a"), scratch("records-other"));
+    let mut rename = Command::new("objcopy");
+    rename.args(["--redefine-sym", "vigbuso_abi_6=vigbuso_abi_5", env!("VIGBUSO_ARCHIVE")]).arg(&other);
+    let Some(renamed) = run(&mut rename) else { return };
+    assert!(renamed.status.success(), "{}", String::from_utf8_lossy(&renamed.stderr));
+    for language in [C, CPP] {
+        let Some(compiled) = compile(language, "examples/records.c", &other, &program) else { return };
+        let said = String::from_utf8_lossy(&compiled.stderr);
+        assert!(!compiled.status.success() && said.contains("undefined reference to `vigbuso_abi_6'"), "{said}");
+    }
 }
 
 #[test]
@@ -48,7 +90,8 @@ fn the_version_is_the_crates() {
 fn no_function_is_left_out() {
     let program = include_str!("header.c");
     let names = HEADER.split("vigbuso_").skip(1).filter_map(|rest| rest.split_once('(')).map(|(name, _)| name);
-    for name in names.filter(|name| name.chars().all(|letter| letter.is_ascii_lowercase() || letter == '_')) {
+    let is_name = |name: &&str| name.chars().all(|c| c.is_ascii_lowercase() || c.is_ascii_digit() || c == '_');
+    for name in names.filter(is_name) {
         assert!(program.contains(&format!("vigbuso_{name}(")), "vigbuso_{name} is not called");
     }
 }

@@ -1,4 +1,5 @@
 // The exported C functions. Numbers and slices only; each is thin over a proved function.
+pub mod abi;
 pub mod arena_calls;
 pub mod asker;
 pub mod chunk_calls;

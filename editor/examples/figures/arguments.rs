@@ -1,5 +1,9 @@
 //! What the command line asks for.
 
+use vigbuso::MAX_PAGES;
+
+use super::number::number;
+
 pub const USAGE: &str = "\
 usage: figures FILE [--pages N] [--svg FILE]
 
@@ -23,7 +27,7 @@ impl Arguments {
             let mut next = || words.next().ok_or_else(|| format!("{word} wants a value"));
             match word.as_str() {
                 "--help" => return Ok(None),
-                "--pages" => pages = number(&next()?)?,
+                "--pages" => pages = number(&word, &next()?, &(1..=MAX_PAGES))?,
                 "--svg" => svg = Some(next()?),
                 _ if word.starts_with("--") => return Err(format!("`{word}` is no option\n\n{USAGE}")),
                 _ if file.is_some() => return Err(format!("one file is enough\n\n{USAGE}")),
@@ -33,8 +37,4 @@ impl Arguments {
         let file = file.ok_or_else(|| format!("no file is named\n\n{USAGE}"))?;
         Ok(Some(Arguments { file, pages, svg }))
     }
-}
-
-fn number(text: &str) -> Result<u64, String> {
-    text.parse().map_err(|_| format!("--pages wants a number, not `{text}`"))
 }

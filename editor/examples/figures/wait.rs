@@ -7,7 +7,7 @@ use std::time::{Duration, Instant};
 
 const PAUSE: Duration = Duration::from_millis(200);
 
-pub fn until_done<T: Send>(words: usize, work: impl FnOnce() -> T + Send) -> T {
+pub fn until_done<T: Send>(steps: usize, work: impl FnOnce() -> T + Send) -> T {
     let (on, start) = (stderr().is_terminal(), Instant::now());
     thread::scope(|scope| {
         let (done, waiting) = channel::<()>();
@@ -20,7 +20,7 @@ pub fn until_done<T: Send>(words: usize, work: impl FnOnce() -> T + Send) -> T {
         while waiting.recv_timeout(PAUSE) == Err(RecvTimeoutError::Timeout) {
             if on {
                 // A line that cannot be shown is no reason to end.
-                let _ = write!(stderr(), "\r{}\x1b[K", text(words, start.elapsed()));
+                let _ = write!(stderr(), "\r{}\x1b[K", text(steps, start.elapsed()));
                 shown = true;
             }
         }
@@ -31,6 +31,6 @@ pub fn until_done<T: Send>(words: usize, work: impl FnOnce() -> T + Send) -> T {
     })
 }
 
-pub fn text(words: usize, time: Duration) -> String {
-    format!("carrying out {words} words: {:.1} s", time.as_secs_f64())
+pub fn text(steps: usize, time: Duration) -> String {
+    format!("carrying out {steps} steps: {:.1} s", time.as_secs_f64())
 }

@@ -1,11 +1,17 @@
 //! What the command line asks for.
 
+use vigbuso::MAX_PAGES;
+
+use super::number::number;
+
 pub const USAGE: &str = "\
 usage: fill [--grid FILE] [--words FILE] [--pages N] [--turns N] [--keep N] [--draw] [--svg FILE]
             [--plot FILE] [--trace FILE]
 
-  --grid FILE   the grid: a row a line, a dot for a letter and # for a block, spaces between (9 x 9 by default)
-  --words FILE  the words: one a line, with a score after it or not (a list of 3 to 15 letters by default)
+  --grid FILE   the grid: a row a line, a dot for an open square, a letter for one that is set and # for a block,
+                with spaces between or not (9 x 9 by default)
+  --words FILE  the words: one a line, in either case, alone or as `word 50` or `WORD;50` with a score (a list of
+                3 to 15 letters by default)
   --pages N     pages of the arena, 64 KiB each (32 by default)
   --turns N     how often the search turns back before it is content with its best fill (20000 by default)
   --keep N      parking rules of its own: the class of the search's records keeps up to N empty pages, 0 to 256, and
@@ -50,19 +56,12 @@ impl Arguments {
                 "--trace" => found.trace = Some(next()?),
                 "--grid" => found.grid = Some(next()?),
                 "--words" => found.words = Some(next()?),
-                "--pages" => found.pages = number(&word, &next()?)?,
-                "--turns" => found.turns = number(&word, &next()?)?,
-                "--keep" => found.keep = Some(next()?.parse().map_err(|_| "--keep wants a number")?),
+                "--pages" => found.pages = number(&word, &next()?, &(1..=MAX_PAGES as usize))?,
+                "--turns" => found.turns = number(&word, &next()?, &(1..=u32::MAX as usize))?,
+                "--keep" => found.keep = Some(number(&word, &next()?, &(0..=256))?),
                 _ => return Err(format!("`{word}` is no option\n\n{USAGE}")),
             }
         }
         Ok(found)
-    }
-}
-
-fn number(option: &str, text: &str) -> Result<usize, String> {
-    match text.parse() {
-        Ok(number) if number > 0 => Ok(number),
-        _ => Err(format!("{option} wants a number above 0, not `{text}`")),
     }
 }

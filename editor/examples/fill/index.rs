@@ -48,6 +48,12 @@ impl Index {
         Ok(store.get(self.record, table.rows(place))?.chunks_exact(table.row.max(1)))
     }
 
+    /// The row of one letter there.
+    pub fn row<'a>(&self, store: &'a Store, length: usize, place: usize, letter: u8) -> Outcome<&'a [u8]> {
+        let row = self.rows(store, length, place)?.nth(usize::from(letter - b'a'));
+        Ok(row.unwrap_or_default()) // no words, no row
+    }
+
     pub fn release(self, store: &mut Store) -> Outcome<()> {
         store.free(self.record)
     }

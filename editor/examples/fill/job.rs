@@ -11,12 +11,12 @@ use super::history::Sample;
 use super::pages::Pages;
 use super::search::{Fill, Progress, Search, Stop};
 use super::store::{Store, Tally};
-use super::words::Words;
+use super::words::{Word, Words};
 use super::Outcome;
 
 /// 24 blocks, 30 words of three to five letters.
-const GRID: &str = include_str!("9x9.txt");
-const WORDS: &str = include_str!("../words.txt");
+const GRID: (&str, &str) = ("examples/fill/9x9.txt", include_str!("9x9.txt"));
+const WORDS: (&str, &str) = ("examples/words.txt", include_str!("../words.txt"));
 
 pub struct Job {
     pub grid: Grid,
@@ -45,15 +45,21 @@ pub struct Done {
 }
 
 impl Job {
+    /// Every error in a file names it, and the line.
     pub fn new(arguments: &Arguments) -> Outcome<Job> {
-        let text = |file: &Option<String>, default: &str| match file {
-            Some(file) => fs::read_to_string(file).map_err(|error| format!("{file}: {error}")),
-            None => Ok(default.to_string()),
-        };
-        let grid = Grid::parse(&text(&arguments.grid, GRID)?)?;
-        let words = Words::parse(&text(&arguments.words, WORDS)?)?;
-        if let Some(slot) = grid.slots().iter().find(|slot| words.of_length(slot.len()).is_empty()) {
-            return Err(format!("the grid wants a word of {} letters, and the list has none", slot.len()).into());
+        let (grid_file, grid) = source(arguments.grid.as_deref(), GRID)?;
+        let (words_file, words) = source(arguments.words.as_deref(), WORDS)?;
+        let grid = Grid::parse(&grid).map_err(|error| format!("{grid_file}: {error}"))?;
+        let mut words = Words::parse(&words).map_err(|error| format!("{words_file}: {error}"))?;
+        for slot in grid.slots() {
+            let set = grid.set_in(slot);
+            if set.len() == slot.len() {
+                // A word that is set whole is one, whether the list has it or not.
+                words.admit(&set.iter().map(|(_, letter)| *letter).collect::<Vec<_>>())?;
+            } else if !words.of_length(slot.len()).iter().any(|word| fits(word, &set)) {
+                let (line, described) = grid.describe(slot);
+                return Err(format!("{grid_file}: line {line}: no word of {words_file} fits {described}").into());
+            }
         }
         let Arguments { pages, turns, keep, .. } = *arguments;
         Ok(Job { grid, words, pages, turns, keep, traced: arguments.trace.is_some() })
@@ -121,4 +127,18 @@ impl Job {
              heap: {report}\n"
         )
     }
+}
+
+/// The name and the text of a file, or of what stands in for it. A byte that is no text spoils its own line only.
+fn source(file: Option<&str>, default: (&str, &str)) -> Result<(String, String), String> {
+    let Some(file) = file else {
+        return Ok((default.0.into(), default.1.into()));
+    };
+    let bytes = fs::read(file).map_err(|error| format!("{file}: {error}"))?;
+    Ok((file.into(), String::from_utf8_lossy(&bytes).into_owned()))
+}
+
+/// Whether a word has these letters at these places.
+fn fits(word: &Word, set: &[(usize, u8)]) -> bool {
+    set.iter().all(|&(place, letter)| word.letters[place] == letter)
 }

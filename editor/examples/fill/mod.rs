@@ -12,6 +12,7 @@ pub mod grid;
 pub mod history;
 pub mod index;
 pub mod job;
+pub mod number;
 pub mod pages;
 pub mod panels;
 pub mod picture;

@@ -12,6 +12,8 @@ const HEIGHT: usize = 150;
 /// Above each panel: what it shows. Below the last: numbers.
 const ABOVE: usize = 40;
 const BELOW: usize = 44;
+/// Between the lines of two numbers.
+const LABEL: usize = 14;
 
 pub const BLUE: Colour = Colour(40, 110, 180);
 pub const ORANGE: Colour = Colour(214, 110, 30);
@@ -52,11 +54,12 @@ pub fn svg(picture: &Picture, places: &[usize], curves: &[Curve]) -> String {
     svg.end()
 }
 
-/// A panel: its numbers, lines across, and the curve from its lowest to its highest value at each pixel.
+/// A panel: its numbers up to the last, lines across, and the curve from its lowest to its highest value at each pixel.
 fn draw(svg: &mut Svg, panel: Rect, curve: &Curve, places: &[usize], last: usize) {
     let height = |value: usize| panel.y + panel.height - value * panel.height / curve.most;
     svg.text(panel.x, panel.y - 10, "entry", &curve.name);
-    for value in ticks(curve.most) {
+    let below = ticks(curve.most).filter(|&value| height(value) >= panel.y + LABEL);
+    for value in below.chain([curve.most]) {
         svg.line((panel.x, height(value)), (panel.x + panel.width, height(value)), GREY, false);
         svg.text(panel.x - 8, height(value) + 4, "left", &value.to_string());
     }

@@ -55,9 +55,11 @@ const SIDE: usize = 28;
 const LEGEND_COLUMNS: usize = 3;
 const LEGEND_LINE: usize = 24;
 const SWATCH: usize = 16;
+/// At the top of each field.
+const STRIPE: usize = 8;
 
 const NOTE: &str =
-    "On a page: the bytes of its blocks; the filled part is in use. Pages of one span or one run are one field.";
+    "On a page: the bytes of its blocks; the part filled from below is in use. Pages of one span or one run are one field.";
 
 /// A square for each page, filled up to the part in use, those of a span or run as one field, and a legend.
 pub fn svg(pages: &Pages) -> String {
@@ -101,7 +103,7 @@ fn fields(pages: &Pages) -> Vec<(usize, usize)> {
     fields
 }
 
-/// A field, its colour pale where no byte is in use. It reaches out of the row where it goes on in another.
+/// A field: a stripe of its colour, which is pale below it where no byte is in use. It reaches out of the row where it goes on in another.
 fn draw(svg: &mut Svg, pages: &Pages, (first, last): (usize, usize), colour: Colour) {
     let (from_before, goes_on) = (first > 0 && pages.joined(first - 1), pages.joined(last));
     let out = |reaches: bool| if reaches { GAP } else { 0 };
@@ -119,6 +121,7 @@ fn draw(svg: &mut Svg, pages: &Pages, (first, last): (usize, usize), colour: Col
             svg.fill(Rect { x: left, y: field.y + field.height - height, width: right - left, height }, colour);
         }
     }
+    svg.fill(Rect { height: STRIPE, ..field }, colour);
     svg.frame(field, is_idle(holder));
     svg.text(field.x + field.width / 2, field.y + field.height / 2 + 4, "size", &label(holder));
 }
@@ -154,16 +157,28 @@ const GREY: Colour = Colour(232, 232, 232);
 const MIST: Colour = Colour(214, 226, 236);
 const YELLOW: Colour = Colour(250, 215, 90);
 
-/// Classes have these in turn, so that neighbours are easy to tell apart.
-const CLASSES: [Colour; 8] = [
+/// Classes have these in turn: twenty that the eye tells apart, from each other and from the colours above, neighbours most of all.
+const CLASSES: [Colour; 20] = [
     Colour(110, 178, 230),
-    Colour(244, 162, 97),
-    Colour(128, 196, 112),
-    Colour(236, 140, 170),
-    Colour(150, 150, 165),
-    Colour(90, 200, 190),
-    Colour(178, 144, 226),
-    Colour(200, 190, 100),
+    Colour(250, 160, 50),
+    Colour(220, 50, 70),
+    Colour(130, 180, 40),
+    Colour(50, 120, 240),
+    Colour(40, 230, 220),
+    Colour(250, 100, 160),
+    Colour(180, 110, 50),
+    Colour(130, 110, 180),
+    Colour(40, 230, 140),
+    Colour(40, 170, 120),
+    Colour(100, 130, 70),
+    Colour(190, 80, 190),
+    Colour(240, 180, 250),
+    Colour(250, 140, 130),
+    Colour(170, 220, 170),
+    Colour(40, 130, 130),
+    Colour(160, 150, 130),
+    Colour(160, 100, 120),
+    Colour(250, 200, 150),
 ];
 
 fn colours(holders: &[(Holder, usize)]) -> BTreeMap<Holder, Colour> {

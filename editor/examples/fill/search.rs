@@ -93,7 +93,11 @@ impl<'a> Search<'a> {
         let mut domains = Vec::new();
         for slot in grid.slots() {
             let list = words.of_length(slot.len());
-            domains.push(or_full!(domain(store, list, &Bits::below(list.len()))?));
+            let mut bits = Bits::below(list.len());
+            for (place, letter) in grid.set_in(slot) {
+                bits.keep(index.row(store, slot.len(), place, letter)?);
+            }
+            domains.push(or_full!(domain(store, list, &bits)?));
         }
         let standing = vec![None; domains.len()];
         Ok(Some(Search {
@@ -251,8 +255,7 @@ impl<'a> Search<'a> {
         for Crossing { here, other, there } in crossings {
             let old = self.domains[other];
             let mut bits = Bits::from_bytes(store.get(old.record, 0..old.record.bytes())?);
-            let mut rows = self.index.rows(store, self.grid.slots()[other].len(), there)?;
-            bits.keep(rows.nth(usize::from(letters[here] - b'a')).ok_or("the index has no such row")?);
+            bits.keep(self.index.row(store, self.grid.slots()[other].len(), there, letters[here])?);
             let Some(new) = domain(store, self.list(other), &bits)? else {
                 return Ok(false);
             };
@@ -292,7 +295,7 @@ impl<'a> Search<'a> {
     }
 
     fn letters(&self) -> Vec<u8> {
-        let mut letters = vec![b'#'; self.grid.squares()];
+        let mut letters = self.grid.set();
         for (slot, number) in self.standing.iter().enumerate() {
             let word = number.map(|number| &self.list(slot)[number].letters);
             for (&square, &letter) in self.grid.slots()[slot].iter().zip(word.into_iter().flatten()) {

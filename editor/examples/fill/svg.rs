@@ -13,10 +13,10 @@ impl Colour {
         format!("#{:02x}{:02x}{:02x}", self.0, self.1, self.2)
     }
 
-    /// A third of the colour, the rest white.
+    /// Half of the colour, the rest white.
     pub fn pale(self) -> Colour {
-        let third = |part: u8| 255 - (255 - part) / 3;
-        Colour(third(self.0), third(self.1), third(self.2))
+        let half = |part: u8| 255 - (255 - part) / 2;
+        Colour(half(self.0), half(self.1), half(self.2))
     }
 }
 

@@ -22,23 +22,41 @@ pub struct Words {
 }
 
 impl Words {
-    /// A word a line, with a score after it or not; a line that starts with # says something else. What is not in plain
-    /// lower case, as a name or a genitive, is left out.
+    /// A word a line, in either case, with a score after it or not: `word 50` or `WORD;50`. A line that starts with # says something
+    /// else. What has other than the 26 letters, as a genitive, is left out; of a word that stands twice the first counts.
     pub fn parse(text: &str) -> Result<Words, String> {
         let mut words = Words { lists: BTreeMap::new(), left_out: 0 };
         let mut seen = HashSet::new();
-        for line in text.lines().map(str::trim).filter(|line| !line.is_empty() && !line.starts_with('#')) {
-            let (letters, score) = line.split_once(char::is_whitespace).unwrap_or((line, ""));
-            if !letters.bytes().all(|letter| letter.is_ascii_lowercase()) {
+        for (line, number) in text.trim_start_matches('\u{feff}').lines().map(str::trim).zip(1..) {
+            if line.is_empty() || line.starts_with('#') {
+                continue;
+            }
+            let parts = line.rsplit_once(';').or_else(|| line.split_once(char::is_whitespace));
+            let (letters, score) = parts.map_or((line, ""), |(letters, score)| (letters.trim(), score.trim()));
+            let letters = letters.to_ascii_lowercase();
+            if letters.is_empty() || !letters.bytes().all(|letter| letter.is_ascii_lowercase()) {
                 words.left_out += 1;
-            } else if seen.insert(letters) {
-                words.add(letters.as_bytes(), score.trim()).map_err(|error| format!("`{line}`: {error}"))?;
+            } else if seen.insert(letters.clone()) {
+                words.add(letters.as_bytes(), score).map_err(|error| format!("line {number}: `{line}`: {error}"))?;
             }
         }
-        for list in words.lists.values_mut() {
+        words.sort();
+        Ok(words)
+    }
+
+    /// Adds a word that the grid has already, if the list has it not.
+    pub fn admit(&mut self, letters: &[u8]) -> Result<(), String> {
+        if !self.of_length(letters.len()).iter().any(|word| word.letters == letters) {
+            self.add(letters, "")?;
+            self.sort();
+        }
+        Ok(())
+    }
+
+    fn sort(&mut self) {
+        for list in self.lists.values_mut() {
             list.sort_by(|a, b| b.score.cmp(&a.score).then_with(|| a.letters.cmp(&b.letters)));
         }
-        Ok(words)
     }
 
     fn add(&mut self, letters: &[u8], score: &str) -> Result<(), String> {
@@ -58,7 +76,7 @@ impl Words {
         self.lists.values().map(Vec::len).sum()
     }
 
-    /// Lines that are no words in plain lower case.
+    /// Lines that are no words of the 26 letters.
     pub fn left_out(&self) -> usize {
         self.left_out
     }
