@@ -2,7 +2,7 @@
 
 use std::sync::Mutex;
 
-use crate::call::{Answer, Call, Due, Lent, Wish};
+use crate::call::{Answer, Call, Due, Lent, Look, Wish};
 use crate::generate::{self, SCENARIOS};
 use crate::history::{self, History};
 use crate::ledger::Ledger;
@@ -213,7 +213,10 @@ fn the_plain_pool() {
     let medium = block_word(Family::Medium, 3);
     let calls = [
         alloc(45),
-        Call::ClassOf { block: low },
+        Call::Look(Look::ClassOf(low)),
+        Call::Look(Look::Granted { class: 45, block: low }),
+        Call::Look(Look::Granted { class: 45, block: high }),
+        Call::Look(Look::Stocked { class: 45 }),
         free(45, high),   // in stock, never granted
         free(44, low),    // another class's
         free(45, medium), // another kind
@@ -229,7 +232,10 @@ fn the_plain_pool() {
     let refused = Answer::Refused;
     let due = [
         Answer::Block(low),
-        Answer::Class(45),
+        Answer::Told(45),
+        Answer::Told(1),
+        Answer::Told(0),
+        Answer::Told(2),
         refused(10),
         refused(10),
         refused(9),
