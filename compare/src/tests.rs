@@ -15,6 +15,7 @@ use crate::reference::Reference;
 use crate::run;
 use crate::shrink::shrink;
 use crate::sizes::size_class;
+use crate::speed::{fill_kinds, Style};
 use crate::stocks::stock_most;
 use crate::trace_file::{self, Why};
 use crate::words::{block_word, chunk_word, granule_of, page_of, Family, Word, HOST_ALL, HOST_COMMIT, MAX_PAGES};
@@ -357,4 +358,13 @@ fn a_malformed_trace_is_named() {
     assert_eq!(trace_file::read(&[1, 0, 0, 0, 0, 0, 0, 64]), Ok(vec![1, 1 << 30]));
     assert_eq!(trace_file::read(b"45\n1073741824\n"), Ok(vec![45, 1 << 30]));
     assert!(trace_file::read(&[1, 0, 0, 0, 7]).is_err());
+}
+
+/// A program's fill gives back single blocks, whole takes, and groups; the other just whole takes.
+#[test]
+fn what_the_fills_give_back() {
+    let [takes, singles, lists, groups, runs] = fill_kinds(Style::Mixed);
+    assert!(takes > 200 && singles > 80 && lists > 80 && groups > 10 && runs > 10, "{:?}", fill_kinds(Style::Mixed));
+    let [_, singles, _, _, _] = fill_kinds(Style::Takes);
+    assert_eq!(singles, 0);
 }
