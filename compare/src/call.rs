@@ -56,9 +56,15 @@ pub enum Call {
         class: u32,
         host: u32,
     },
-    ClassOf {
-        block: Word,
-    },
+    /// A call of the pool that only reads, and refuses nothing.
+    Look(Look),
+}
+
+#[derive(Clone, Copy, PartialEq, Eq, Debug)]
+pub enum Look {
+    ClassOf(Word),
+    Granted { class: u32, block: Word },
+    Stocked { class: u32 },
 }
 
 /// What the pool is asked of a class.
@@ -93,8 +99,8 @@ pub enum Answer {
     /// The block that an alloc granted, or that a trim gave back to the heap; 0 for none.
     Block(Word),
     Freed,
-    /// The class that has the block's page; 76 for none.
-    Class(u32),
+    /// What a look returns.
+    Told(u32),
     /// Something that CALLS.md rules out, in words.
     Broken(String),
 }
@@ -119,10 +125,12 @@ pub enum Kind {
     Free,
     Trim,
     ClassOf,
+    Granted,
+    Stocked,
 }
 
 impl Kind {
-    pub const ALL: [Kind; 14] = [
+    pub const ALL: [Kind; 16] = [
         Kind::TakeBlocks,
         Kind::MediumTakeBlocks,
         Kind::ReleaseBlocks,
@@ -137,6 +145,8 @@ impl Kind {
         Kind::Free,
         Kind::Trim,
         Kind::ClassOf,
+        Kind::Granted,
+        Kind::Stocked,
     ];
 
     pub const fn name(self) -> &'static str {
@@ -155,6 +165,8 @@ impl Kind {
             Kind::Free => "free",
             Kind::Trim => "trim",
             Kind::ClassOf => "class_of",
+            Kind::Granted => "granted",
+            Kind::Stocked => "stocked",
         }
     }
 
@@ -179,7 +191,9 @@ impl Call {
             Call::Pool { wish: Wish::Alloc, .. } => Kind::Alloc,
             Call::Pool { wish: Wish::Free(_), .. } => Kind::Free,
             Call::Pool { wish: Wish::Trim, .. } => Kind::Trim,
-            Call::ClassOf { .. } => Kind::ClassOf,
+            Call::Look(Look::ClassOf(_)) => Kind::ClassOf,
+            Call::Look(Look::Granted { .. }) => Kind::Granted,
+            Call::Look(Look::Stocked { .. }) => Kind::Stocked,
         }
     }
 }

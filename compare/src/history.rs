@@ -13,6 +13,8 @@
 //! alloc CLASS HOST = 0 BLOCK                                      (trim alike)
 //! free CLASS HOST BLOCK = 0
 //! class_of BLOCK = CLASS
+//! granted CLASS BLOCK = YES
+//! stocked CLASS = COUNT
 //! ```
 //!
 //! A refused call has just its number after `=`. A lent list of LENGTH entries holds FILL in each before the call.
@@ -20,7 +22,7 @@
 
 use std::fmt::Write;
 
-use crate::call::{Answer, Call, Due, Kind, Lent, Wish};
+use crate::call::{Answer, Call, Due, Kind, Lent, Look, Wish};
 use crate::words::{Family, FIGURES, NO_PAGE};
 
 #[derive(Clone, PartialEq, Eq, Debug)]
@@ -92,7 +94,9 @@ fn arguments(call: &Call) -> Vec<u64> {
             let block = if let Wish::Free(block) = wish { Some(*block) } else { None };
             [u64::from(*class), u64::from(*host)].into_iter().chain(block).collect()
         }
-        Call::ClassOf { block } => vec![*block],
+        Call::Look(Look::ClassOf(block)) => vec![*block],
+        Call::Look(Look::Granted { class, block }) => vec![u64::from(*class), *block],
+        Call::Look(Look::Stocked { class }) => vec![u64::from(*class)],
     }
 }
 
@@ -107,7 +111,7 @@ fn results(answer: &Answer) -> Vec<u64> {
         Answer::Grown(grown) => vec![0, u64::from(*grown)],
         Answer::Released | Answer::Freed => vec![0],
         Answer::Block(block) => vec![0, *block],
-        Answer::Class(class) => vec![u64::from(*class)],
+        Answer::Told(number) => vec![u64::from(*number)],
         Answer::Contains(yes) => vec![u64::from(*yes)],
         Answer::Report(figures) => [&[0], &figures[..]].concat(),
         Answer::Broken(_) => Vec::new(),
@@ -228,7 +232,9 @@ fn parse_call(kind: Kind, from: &mut Numbers) -> Option<Call> {
             };
             Call::Pool { wish, class, host }
         }
-        Kind::ClassOf => Call::ClassOf { block: from.next()? },
+        Kind::ClassOf => Call::Look(Look::ClassOf(from.next()?)),
+        Kind::Granted => Call::Look(Look::Granted { class: from.number()?, block: from.next()? }),
+        Kind::Stocked => Call::Look(Look::Stocked { class: from.number()? }),
     })
 }
 
@@ -242,7 +248,7 @@ fn family(kind: Kind) -> Family {
 fn parse_answer(call: &Call, from: &mut Numbers) -> Option<Answer> {
     match call {
         Call::Contains { .. } => return from.flag().map(Answer::Contains),
-        Call::ClassOf { .. } => return from.number().map(Answer::Class),
+        Call::Look(_) => return from.number().map(Answer::Told),
         _ => {}
     }
     let number: u32 = from.number()?;
@@ -271,6 +277,6 @@ fn parse_answer(call: &Call, from: &mut Numbers) -> Option<Answer> {
         }
         Call::Pool { wish: Wish::Free(_), .. } => Answer::Freed,
         Call::Pool { .. } => Answer::Block(from.next()?),
-        Call::Contains { .. } | Call::ClassOf { .. } => unreachable!("answered above"),
+        Call::Contains { .. } | Call::Look(_) => unreachable!("answered above"),
     })
 }

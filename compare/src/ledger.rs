@@ -226,7 +226,7 @@ impl Ledger {
                     Wish::Free(word) => self.stocks.refusal(*class, *word),
                     Wish::Alloc | Wish::Trim => None,
                 }),
-            Call::Contains { .. } | Call::Report | Call::ClassOf { .. } => None,
+            Call::Contains { .. } | Call::Report | Call::Look(_) => None,
         }
     }
 

@@ -1,7 +1,7 @@
 //! A history before it is run: steps that say what is wanted, and find their arguments in the ledger when their turn
 //! comes. So a plan with some steps left out is again a plan of calls in document 01's domain.
 
-use crate::call::{Call, Lent, Wish};
+use crate::call::{Call, Lent, Look, Wish};
 use crate::ledger::{Ledger, Out};
 use crate::oracle;
 use crate::pool::wrong as wrong_pool;
@@ -88,7 +88,8 @@ pub enum Intent {
     Trim {
         class: u32,
     },
-    ClassOf {
+    /// A call of the pool that only reads.
+    Look {
         class: u32,
     },
     /// A call of the pool that is likely to be refused, mostly a free.
@@ -160,9 +161,19 @@ impl Step {
                 let asked = !ledger.stocks.stock(class).is_empty() || random.chance(1, 10);
                 asked.then_some(Call::Pool { wish: Wish::Trim, class, host })
             }
-            Intent::ClassOf { class } => Some(Call::ClassOf { block: wrong_pool::block(&mut random, ledger, class) }),
+            Intent::Look { class } => Some(Call::Look(look(&mut random, ledger, class))),
             Intent::WrongPool { class } => Some(wrong_pool::call(&mut random, ledger, class, host)),
         }
+    }
+}
+
+fn look(random: &mut Random, ledger: &Ledger, class: u32) -> Look {
+    let block = wrong_pool::any_block(random, ledger, class);
+    let asked = if random.chance(1, 20) { random.below(80) as u32 } else { class };
+    match random.below(3) {
+        0 => Look::ClassOf(block),
+        1 => Look::Granted { class: asked, block },
+        _ => Look::Stocked { class: asked },
     }
 }
 

@@ -1,6 +1,6 @@
 //! The port, through the C boundary of CALLS.md.
 
-use crate::call::{Answer, Call, Lent, Wish};
+use crate::call::{Answer, Call, Lent, Look, Wish};
 use crate::memory::{Fence, Fenced, Plain};
 use crate::planned::Planned;
 use crate::words::{Family, Word, FIGURES, NO_PAGE};
@@ -93,6 +93,8 @@ extern "C" {
     fn vigbuso_free(book: *mut u32, words: usize, class: u32, host: u32, block: Word) -> u32;
     fn vigbuso_trim(book: *mut u32, words: usize, class: u32, host: u32, block: *mut Word) -> u32;
     fn vigbuso_class_of(book: *const u32, words: usize, block: Word) -> u32;
+    fn vigbuso_granted(book: *const u32, words: usize, class: u32, block: Word) -> u32;
+    fn vigbuso_stocked(book: *const u32, words: usize, class: u32) -> u32;
 }
 
 /// None for a size that is too large, which keeps the class.
@@ -251,7 +253,7 @@ pub fn ask(book: &mut [u32], room: &mut Room, call: &Call) -> Answer {
             0 => Answer::Freed,
             number => refusal(number, true),
         },
-        Call::ClassOf { block } => Answer::Class(plain_class_of(book, *block)),
+        Call::Look(look) => Answer::Told(plain_look(book, *look)),
     }
 }
 
@@ -468,9 +470,16 @@ pub fn plain_free(book: &mut [u32], [class, host]: [u32; 2], block: Word) -> u32
 
 /// What is returned.
 #[inline]
-pub fn plain_class_of(book: &[u32], block: Word) -> u32 {
+pub fn plain_look(book: &[u32], look: Look) -> u32 {
+    let (first, words) = (book.as_ptr(), book.len());
     // SAFETY: the book is lent for the call, to be read.
-    unsafe { vigbuso_class_of(book.as_ptr(), book.len(), block) }
+    unsafe {
+        match look {
+            Look::ClassOf(block) => vigbuso_class_of(first, words, block),
+            Look::Granted { class, block } => vigbuso_granted(first, words, class, block),
+            Look::Stocked { class } => vigbuso_stocked(first, words, class),
+        }
+    }
 }
 
 fn one_block((number, block): (u32, Word)) -> Answer {

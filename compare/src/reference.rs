@@ -1,10 +1,10 @@
 //! One history on the original, with document 02's parts in it or without them: its answers, with the numbers of refused calls and the pages held from the ledger.
 
-use crate::call::{Answer, Call, Lent, Wish};
+use crate::call::{Answer, Call, Lent, Look, Wish};
 use crate::ledger::Ledger;
 use crate::oracle::rules::Rules;
 use crate::oracle::Original;
-use crate::planned::family;
+use crate::planned::{family, CLASSES};
 use crate::words::{Word, SMALL_BATCH};
 
 pub struct Reference {
@@ -76,8 +76,18 @@ impl Reference {
                 let (held, idle) = (self.ledger.held(), original.idle_pages());
                 Answer::Report([commits, reuses, abandoned, held, idle, original.parked_pages()])
             }
-            Call::ClassOf { block } => Answer::Class(self.ledger.class_of(*block)),
+            Call::Look(look) => Answer::Told(self.look(*look)),
             Call::Pool { .. } => unreachable!("answered above"),
+        }
+    }
+
+    fn look(&self, look: Look) -> u32 {
+        let stocks = &self.ledger.stocks;
+        match look {
+            Look::ClassOf(block) => self.ledger.class_of(block),
+            Look::Granted { class, .. } | Look::Stocked { class } if class >= CLASSES => 0,
+            Look::Granted { class, block } => u32::from(stocks.granted(class).contains(&block)),
+            Look::Stocked { class } => stocks.stock(class).len() as u32,
         }
     }
 

@@ -2,7 +2,7 @@
 
 use std::sync::Mutex;
 
-use crate::call::{Answer, Call, Due, Lent, Wish};
+use crate::call::{Answer, Call, Due, Lent, Look, Wish};
 use crate::generate::{self, SCENARIOS};
 use crate::history::{self, History};
 use crate::ledger::Ledger;
@@ -15,6 +15,7 @@ use crate::reference::Reference;
 use crate::run;
 use crate::shrink::shrink;
 use crate::sizes::size_class;
+use crate::speed::{fill_kinds, Style};
 use crate::stocks::stock_most;
 use crate::trace_file::{self, Why};
 use crate::words::{block_word, chunk_word, granule_of, page_of, Family, Word, HOST_ALL, HOST_COMMIT, MAX_PAGES};
@@ -213,7 +214,10 @@ fn the_plain_pool() {
     let medium = block_word(Family::Medium, 3);
     let calls = [
         alloc(45),
-        Call::ClassOf { block: low },
+        Call::Look(Look::ClassOf(low)),
+        Call::Look(Look::Granted { class: 45, block: low }),
+        Call::Look(Look::Granted { class: 45, block: high }),
+        Call::Look(Look::Stocked { class: 45 }),
         free(45, high),   // in stock, never granted
         free(44, low),    // another class's
         free(45, medium), // another kind
@@ -229,7 +233,10 @@ fn the_plain_pool() {
     let refused = Answer::Refused;
     let due = [
         Answer::Block(low),
-        Answer::Class(45),
+        Answer::Told(45),
+        Answer::Told(1),
+        Answer::Told(0),
+        Answer::Told(2),
         refused(10),
         refused(10),
         refused(9),
@@ -351,4 +358,13 @@ fn a_malformed_trace_is_named() {
     assert_eq!(trace_file::read(&[1, 0, 0, 0, 0, 0, 0, 64]), Ok(vec![1, 1 << 30]));
     assert_eq!(trace_file::read(b"45\n1073741824\n"), Ok(vec![45, 1 << 30]));
     assert!(trace_file::read(&[1, 0, 0, 0, 7]).is_err());
+}
+
+/// A program's fill gives back single blocks, whole takes, and groups; the other just whole takes.
+#[test]
+fn what_the_fills_give_back() {
+    let [takes, singles, lists, groups, runs] = fill_kinds(Style::Mixed);
+    assert!(takes > 200 && singles > 80 && lists > 80 && groups > 10 && runs > 10, "{:?}", fill_kinds(Style::Mixed));
+    let [_, singles, _, _, _] = fill_kinds(Style::Takes);
+    assert_eq!(singles, 0);
 }

@@ -2,7 +2,7 @@
 
 use std::collections::{BTreeMap, VecDeque};
 
-use crate::call::{Answer, Call, Kind, Lent, Wish};
+use crate::call::{Answer, Call, Kind, Lent, Look, Wish};
 use crate::oracle;
 use crate::planned::family;
 use crate::random::Random;
@@ -102,23 +102,19 @@ impl Known {
                 Call::Contains { offset: random.word() % (bytes + 2), length: self.length(random).wrapping_mul(65_536) }
             }
             Kind::Report => Call::Report,
-            Kind::Alloc => self.pool(random, Wish::Alloc, family, class, host),
-            Kind::Trim => self.pool(random, Wish::Trim, family, class, host),
+            Kind::Alloc => Call::Pool { wish: Wish::Alloc, class: one_number(random, family, class), host },
+            Kind::Trim => Call::Pool { wish: Wish::Trim, class: one_number(random, family, class), host },
             Kind::Free => {
                 let block = self.block(random, family, class);
-                self.pool(random, Wish::Free(block), family, class, host)
+                Call::Pool { wish: Wish::Free(block), class: one_number(random, family, class), host }
             }
-            Kind::ClassOf => Call::ClassOf { block: self.block(random, family, class) },
+            Kind::ClassOf => Call::Look(Look::ClassOf(self.block(random, family, class))),
+            Kind::Granted => {
+                let block = self.block(random, family, class);
+                Call::Look(Look::Granted { class: one_number(random, family, class), block })
+            }
+            Kind::Stocked => Call::Look(Look::Stocked { class: one_number(random, family, class) }),
         }
-    }
-
-    /// The pool names a class by one number.
-    fn pool(&self, random: &mut Random, wish: Wish, family: Family, class: u32, host: u32) -> Call {
-        let class = match family {
-            Family::Medium if !random.chance(1, 40) => class.saturating_add(SMALL_CLASSES),
-            _ => class,
-        };
-        Call::Pool { wish, class, host }
     }
 
     /// A block that was granted, mostly in this class; one that was given back since, or any word.
@@ -210,6 +206,14 @@ impl Known {
         }
         let room = if random.chance(1, 20) { random.index(chunks.len() + 1) } else { chunks.len() + random.index(3) };
         Call::ReleaseChunks { class, host, list, chunks, lent: Lent { len: room, fill: random.word() as u32 } }
+    }
+}
+
+/// The pool names a class by one number.
+fn one_number(random: &mut Random, family: Family, class: u32) -> u32 {
+    match family {
+        Family::Medium if !random.chance(1, 40) => class.saturating_add(SMALL_CLASSES),
+        _ => class,
     }
 }
 

@@ -74,7 +74,7 @@ impl Twins {
         if let Answer::Broken(_) = front {
             return Err(history::line(call, &front));
         }
-        let reads = matches!(call, Call::Contains { .. } | Call::Report | Call::ClassOf { .. });
+        let reads = matches!(call, Call::Contains { .. } | Call::Report | Call::Look(_));
         let unchanged = reads || matches!(front, Answer::Refused(_));
         self.same(unchanged).map_err(|what| format!("{what}: {}", history::line(call, &front)))?;
         if !unchanged {

@@ -30,7 +30,7 @@ const ALL: &str = "all";
 const BLOCKS: &str = "blocks";
 /// Or the pool's, with the direct ones between them.
 const POOL: &str = "pool";
-const POOL_KINDS: [Kind; 13] = [
+const POOL_KINDS: [Kind; 15] = [
     Kind::Alloc,
     Kind::Alloc,
     Kind::Alloc,
@@ -40,6 +40,8 @@ const POOL_KINDS: [Kind; 13] = [
     Kind::Free,
     Kind::Trim,
     Kind::ClassOf,
+    Kind::Granted,
+    Kind::Stocked,
     Kind::Commit,
     Kind::GrowFrontier,
     Kind::Release,

@@ -123,7 +123,7 @@ fn call_term(call: &Call) -> String {
         Call::Release { host, first, pages } => format!("{host} {first} {pages}"),
         Call::Contains { offset, length } => format!("{offset} {length}"),
         Call::Report => String::new(),
-        Call::Pool { .. } | Call::ClassOf { .. } => unreachable!("the pool's calls are left out"),
+        Call::Pool { .. } | Call::Look(_) => unreachable!("the pool's calls are left out"),
     };
     let name = names::call(call.kind()).expect("a call of the model");
     format!("{}.{name} {arguments}", names::CALL_TYPE).trim_end().to_string()
@@ -147,7 +147,7 @@ fn answer_term(call: &Call, answer: &Answer) -> String {
             (names::REPORTED, format!("(record {{ {} }})", fields.collect::<Vec<String>>().join("; ")))
         }
         (_, Answer::Taken { .. } | Answer::Fates(_) | Answer::Broken(_))
-        | (_, Answer::Block(_) | Answer::Freed | Answer::Class(_)) => unreachable!("no answer of this call"),
+        | (_, Answer::Block(_) | Answer::Freed | Answer::Told(_)) => unreachable!("no answer of this call"),
     };
     format!("{}.{name} {arguments}", names::ANSWER_TYPE).trim_end().to_string()
 }

@@ -30,7 +30,7 @@ pub const fn call(kind: Kind) -> Option<&'static str> {
         Kind::Release => "release",
         Kind::Contains => "contains",
         Kind::Report => "report",
-        Kind::Alloc | Kind::Free | Kind::Trim | Kind::ClassOf => return None,
+        Kind::Alloc | Kind::Free | Kind::Trim | Kind::ClassOf | Kind::Granted | Kind::Stocked => return None,
     })
 }
 

@@ -1,6 +1,6 @@
 //! What happened at a call of the pool: how a wrong free was wrong, and what the call made the heap do.
 
-use crate::call::{Answer, Call, Wish};
+use crate::call::{Answer, Call, Look, Wish};
 use crate::ledger::Ledger;
 use crate::planned::{family, CLASSES};
 use crate::reference::Reference;
@@ -59,14 +59,18 @@ pub fn happened(call: &Call, answer: &Answer, reference: &Reference) -> Option<&
     })
 }
 
-/// Whether a class was found, and whether it is of the block's own kind.
+/// What a look told: whether a class was found, and whether it is of the block's own kind; whether a block is granted.
 pub fn found(call: &Call, answer: &Answer) -> Option<&'static str> {
     match (call, answer) {
-        (Call::ClassOf { .. }, Answer::Class(CLASSES)) => Some("class_of: none"),
-        (Call::ClassOf { block }, Answer::Class(class)) if family(*class).0.kind() == kind_of(*block) => {
+        (Call::Look(Look::ClassOf(_)), Answer::Told(CLASSES)) => Some("class_of: none"),
+        (Call::Look(Look::ClassOf(block)), Answer::Told(class)) if family(*class).0.kind() == kind_of(*block) => {
             Some("class_of: a class")
         }
-        (Call::ClassOf { .. }, _) => Some("class_of: a class of another kind"),
+        (Call::Look(Look::ClassOf(_)), _) => Some("class_of: a class of another kind"),
+        (Call::Look(Look::Granted { .. }), Answer::Told(1)) => Some("granted: yes"),
+        (Call::Look(Look::Granted { .. }), _) => Some("granted: no"),
+        (Call::Look(Look::Stocked { .. }), Answer::Told(0)) => Some("stocked: none"),
+        (Call::Look(Look::Stocked { .. }), _) => Some("stocked: some"),
         _ => None,
     }
 }

@@ -12,7 +12,7 @@ pub mod wrong;
 pub use self::apart::Apart;
 pub use self::scenarios::{plan, SCENARIOS};
 use crate::arguments::Arguments;
-use crate::call::{Answer, Call, Wish};
+use crate::call::{Answer, Call, Look, Wish};
 use crate::history::{self, History};
 use crate::ledger::{class_id, Ledger};
 use crate::memory::{Fence, Reserved};
@@ -164,7 +164,7 @@ fn compare(
 /// Whose a page at or above the frontier is stands in a word that no opening writes: `class_of` answers by what it holds.
 fn above_frontier(call: &Call, reference: &Reference) -> bool {
     let above = |word| (u64::from(reference.frontier())..u64::from(reference.ledger.pages())).contains(&page_of(word));
-    matches!(call, Call::ClassOf { block } if above(*block))
+    matches!(call, Call::Look(Look::ClassOf(block)) if above(*block))
 }
 
 /// A class is the pool's, or the heap's own calls take and release its blocks: what would be carried out on the other's is no call of
@@ -179,7 +179,9 @@ fn beside_the_pool(plan: &Plan, call: &Call, ledger: &Ledger) -> bool {
             *class < family.classes() && of_pool(class_id(*family, *class))
         }
         Call::ReleaseChunks { class, .. } => of_pool(*class as usize),
-        Call::Pool { wish: Wish::Free(word), class, .. } if *class < CLASSES => {
+        Call::Pool { wish: Wish::Free(word), class, .. } | Call::Look(Look::Granted { class, block: word })
+            if *class < CLASSES =>
+        {
             let (family, number) = family(*class);
             return !of_pool(*class as usize) && ledger.is_out(family, number, *word);
         }

@@ -73,8 +73,10 @@ fn pool_steps(maker: &mut Maker, class: u32) {
     let which = which(maker);
     let kind = maker.random.below(20);
     for _ in 0..number {
-        if maker.random.chance(1, 16) {
-            maker.add(Intent::WrongPool { class });
+        match maker.random.below(16) {
+            0 => maker.add(Intent::WrongPool { class }),
+            1 => maker.add(Intent::Look { class }),
+            _ => {}
         }
         match kind {
             0..=7 => maker.add(Intent::Alloc { class }),
@@ -89,7 +91,7 @@ fn pool_steps(maker: &mut Maker, class: u32) {
                 return;
             }
             _ => {
-                maker.add(Intent::ClassOf { class });
+                maker.add(Intent::Look { class });
                 return;
             }
         }
@@ -116,7 +118,7 @@ fn steps(maker: &mut Maker, classes: &[u32], number: u64) {
             }
             15 => {
                 let class = maker.random.pick(classes);
-                maker.add(Intent::ClassOf { class });
+                maker.add(Intent::Look { class });
             }
             _ => {
                 let class = maker.random.pick(classes);

@@ -10,10 +10,7 @@ use crate::words::{
 };
 
 pub fn call(random: &mut Random, ledger: &Ledger, class: u32, host: u32) -> Call {
-    let word = match random.below(4) {
-        0 => granted(random, ledger, class),
-        _ => block(random, ledger, class),
-    };
+    let word = any_block(random, ledger, class);
     let wish = random.weighted(&[(8, Wish::Free(word)), (1, Wish::Alloc), (1, Wish::Trim)]);
     let host = match random.below(12) {
         0 => random.between(16, 40) as u32,
@@ -30,6 +27,14 @@ pub fn call(random: &mut Random, ledger: &Ledger, class: u32, host: u32) -> Call
     Call::Pool { wish, class, host }
 }
 
+/// A block that is granted in the class, or another word.
+pub fn any_block(random: &mut Random, ledger: &Ledger, class: u32) -> Word {
+    match random.below(4) {
+        0 => granted(random, ledger, class),
+        _ => block(random, ledger, class),
+    }
+}
+
 /// A block that is granted in the class, if there is one.
 fn granted(random: &mut Random, ledger: &Ledger, class: u32) -> Word {
     match ledger.stocks.granted(class) {
@@ -39,7 +44,7 @@ fn granted(random: &mut Random, ledger: &Ledger, class: u32) -> Word {
 }
 
 /// A word that is likely to be no granted block of the class.
-pub fn block(random: &mut Random, ledger: &Ledger, class: u32) -> Word {
+fn block(random: &mut Random, ledger: &Ledger, class: u32) -> Word {
     let stocks = &ledger.stocks;
     let (family, number) = family(class);
     let known = granted(random, ledger, class);

@@ -18,6 +18,8 @@ use std::time::Duration;
 
 use self::counter::Counter;
 pub use self::fill::calls as fill_calls;
+#[cfg(test)]
+pub use self::fill::{kinds as fill_kinds, Style};
 use self::meter::Meter;
 use self::scenarios::Scenario;
 use self::sides::{OriginalSide, PortSide};

@@ -2,7 +2,7 @@
 
 use std::cmp::Reverse;
 
-use super::fill;
+use super::fill::{self, Style};
 use super::meter::Meter;
 use super::rounds::Round;
 use super::sides::{Class, Side, PAGES};
@@ -37,7 +37,7 @@ pub enum Scenario {
     /// Group releases: of so many pages so many blocks each.
     Chunks { class: Class, pages: u32, blocks: u32, order: Order },
     /// A search that takes and gives back blocks of some classes, and now and then a run.
-    Fill,
+    Fill { style: Style },
 }
 
 /// In what order the blocks of a release stand.
@@ -102,7 +102,8 @@ pub fn all() -> Vec<Scenario> {
     let sizes = [Family::Small, Family::Medium].map(|family| Scenario::Sizes { family });
     let arena_calls = equal.into_iter().chain(between).chain(no_fit).chain(one_fits).chain(report);
     let list_calls = batches.into_iter().chain(single).chain(ordered).chain(whole).chain(listed).chain(arena);
-    arena_calls.chain(list_calls).chain(in_order).chain(mixed).chain(sizes).chain([Scenario::Fill]).collect()
+    let fills = [Style::Takes, Style::Mixed].map(|style| Scenario::Fill { style });
+    arena_calls.chain(list_calls).chain(in_order).chain(mixed).chain(sizes).chain(fills).collect()
 }
 
 /// Calls that are measured together, where no scenario says otherwise.
@@ -154,7 +155,7 @@ impl Scenario {
                 let retired = if blocks == capacity(class) { ", retired" } else { "" };
                 plain(&[format!("group release, {pages} × {blocks} blocks{retired}{}, {}", order.name(), name(class))])
             }
-            Scenario::Fill => plain(&[fill::row()]),
+            Scenario::Fill { style } => plain(&[fill::row(style)]),
         }
     }
 
@@ -183,7 +184,7 @@ impl Scenario {
             Scenario::Listed { class, blocks, order } => listed(side, meter, class, blocks, order),
             Scenario::Arena { class, .. } => arena(side, meter, class),
             Scenario::Chunks { class, pages, blocks, order } => chunks(side, meter, class, [pages, blocks], order),
-            Scenario::Fill => fill::round(side, meter),
+            Scenario::Fill { style } => fill::round(side, meter, style),
         }
     }
 }
