@@ -1,12 +1,14 @@
 -- What a take answers, and that the code answered so.
---     Takes      it is done
---     Readies    its source is at hand: the fill is left
+--     Takes, TakesInto    it is done; through out-parameters
+--     Readies             its source is at hand: the fill is left
 use Prim.Native.Nat.{ℕ, zero, suc, _≤_}
-use mathlib.Core.Bool.{Bool, false}
+use mathlib.Core.Bool.{Bool, false, cond}
 use mathlib.Core.List.{List}
 use mathlib.Core.Option.{some}
 use mathlib.Core.Path.{_≡_}
+use lib.Dec.{eqb}
 use lib.ListN.{length}
+use Rattle.words.specs.Host.{digit}
 use Rattle.classes.specs.declared.Shape.{Shape}
 use Rattle.take.specs.declared.call.Take.{Take}
 use Rattle.take.specs.declared.call.Take.the-variants as Answer
@@ -25,6 +27,14 @@ pub record Takes (r : Take) (b l : List ℕ) (t : Took) : Type 0 where
   pub answer : r ≡ answerOf (t .code) (t .count) (t .virgin)
   pub book : b ≡ t .book
   pub list : l ≡ t .list
+
+-- the same through out-parameters: m and v are what they hold before the call, m′ and v′ after it
+pub record TakesInto (r : ℕ) (b l : List ℕ) (m m′ v v′ : ℕ) (t : Took) : Type 0 where
+  pub code : r ≡ t .code
+  pub book : b ≡ t .book
+  pub list : l ≡ t .list
+  pub count : m′ ≡ cond (eqb (t .code) 0) (t .count) m
+  pub virgin : v′ ≡ cond (eqb (t .code) 0) (digit (t .virgin)) v
 
 -- the source answered r and left the book b: whatever list is lent, a refusal and no page are all of the take t, and else the fill is what is left
 pub record Readies (r : Ready) (b : List ℕ) (c : ℕ) (sh : Shape) (t : List ℕ → Took) : Type 0 where

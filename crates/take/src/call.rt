@@ -5,7 +5,7 @@ ghost use Rattle.pages.specs.Asks.{RowAsks};
 ghost use Rattle.calls.specs.Take.{fromPartial, fromPark, takeNew, takeBlocks, takeCall};
 ghost use Rattle.take.specs.TakePlan.{TakeAsks, ParkedAsks, TakeRunAsks, TakeNewAsks, BlocksAsks, CallAsks, firstStore};
 ghost use Rattle.take.specs.TakeCount.{CountAsks};
-ghost use Rattle.take.specs.TakeAnswer.{Takes, Readies, onRunAt};
+ghost use Rattle.take.specs.TakeAnswer.{Takes, TakesInto, Readies, onRunAt};
 use crate::take_fill::fill;
 use crate::take_plan::plan_parked;
 use crate::take_plan::plan_partial;
@@ -123,7 +123,7 @@ fn take_blocks(meta: &mut [u32], n: u32, c: u32, shape: Shape, host: u32, list: 
 }
 
 // A class's take from number 5 on, on the book of an arena of n pages.
-pub fn take_call(meta: &mut [u32], n: u32, c: u32, host: u32, list: &mut [u64]) -> Take
+fn take_sized(meta: &mut [u32], n: u32, c: u32, host: u32, list: &mut [u64]) -> Take
     requires { ⌜ CallAsks n (now meta) c ⌝ }
     ensures { λ r. ⌜ Takes r (now (meta .exit)) (now (list .exit)) (takeCall n (now (meta .entry)) c (shapeOf c) host (now (list .entry))) ⌝ }
 {
@@ -132,4 +132,41 @@ pub fn take_call(meta: &mut [u32], n: u32, c: u32, host: u32, list: &mut [u64]) 
         return Take::Refused(5);
     }
     take_blocks(meta, n, c, shape, host, list)
+}
+
+// The same through the out-parameters that the exported takes have: an enum would go through memory (docs/BACKEND.md).
+pub fn take_into(
+    meta: &mut [u32],
+    n: u32,
+    c: u32,
+    host: u32,
+    list: &mut [u64],
+    count: &mut u32,
+    virgin: &mut u32,
+) -> u32
+    requires { ⌜ CallAsks n (now meta) c ⌝ }
+    ensures { λ r. ⌜ TakesInto r (now (meta .exit)) (now (list .exit)) (now (count .entry)) (now (count .exit)) (now (virgin .entry)) (now (virgin .exit)) (takeCall n (now (meta .entry)) c (shapeOf c) host (now (list .entry))) ⌝ }
+{
+    match take_sized(meta, n, c, host, list) {
+        Take::Refused(k) => k,
+        Take::Took(m, v) => {
+            *count = m;
+            *virgin = v as u32;
+            0
+        }
+    }
+}
+
+// And as one value.
+pub fn take_call(meta: &mut [u32], n: u32, c: u32, host: u32, list: &mut [u64]) -> Take
+    requires { ⌜ CallAsks n (now meta) c ⌝ }
+    ensures { λ r. ⌜ Takes r (now (meta .exit)) (now (list .exit)) (takeCall n (now (meta .entry)) c (shapeOf c) host (now (list .entry))) ⌝ }
+{
+    let mut count = 0;
+    let mut virgin = 0;
+    let code = take_into(meta, n, c, host, list, &mut count, &mut virgin);
+    if code != 0 {
+        return Take::Refused(code);
+    }
+    Take::Took(count, virgin == 1)
 }
