@@ -50,7 +50,7 @@ const USAGE: &str = "usage: compare COMMAND [--NAME VALUE ..]
                random histories, or the calls of G, on the original, written down with its answers
   replay       --file F
                histories that were written down, on the port
-  model-test   [--calls N] [--seed S] [--scenario NAME] [--longest STEPS] [--file F] [--repository FOLDER]
+  model-test   [--calls N] [--seed S] [--scenario NAME] [--longest STEPS] [--file F] [--repository FOLDER] [--rules original]
                histories with the original's answers, computed by the checker on the model
   damaged      [--calls N] [--seed S] [--kinds all|blocks] [--only HISTORY]
                calls with any arguments on damaged books
