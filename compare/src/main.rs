@@ -55,7 +55,7 @@ const USAGE: &str = "usage: compare COMMAND [--NAME VALUE ..]
                histories that were written down, on the port
   pool         [--calls N] [--seed S] [--scenario NAME]
                random histories of the pool's calls, on a plain pool over the original and on the port
-  model-test   [--calls N] [--seed S] [--scenario NAME] [--longest STEPS] [--file F] [--repository FOLDER]
+  model-test   [--calls N] [--seed S] [--scenario NAME] [--longest STEPS] [--file F] [--repository FOLDER] [--rules original]
                histories with the original's answers, computed by the checker on the model
   damaged      [--calls N] [--seed S] [--kinds all|blocks|pool] [--only HISTORY]
                calls with any arguments on damaged books

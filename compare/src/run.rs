@@ -96,7 +96,11 @@ pub fn answered(pages: u32, rows: &[u32], calls: Vec<Call>) -> Vec<Due> {
 
 /// Runs a plan on the original alone, leaving out what is not asked.
 pub fn record(plan: &Plan, asked: impl Fn(Kind) -> bool) -> Vec<Due> {
-    let mut reference = Reference::open(plan.pages, &plan.rows);
+    record_by(Rules::Amended, plan, asked)
+}
+
+pub fn record_by(rules: Rules, plan: &Plan, asked: impl Fn(Kind) -> bool) -> Vec<Due> {
+    let mut reference = Reference::open_with(plan.pages, &plan.rows, rules);
     let mut history = Vec::new();
     for wanted in &plan.steps {
         let Some(call) = wanted.call(&reference.ledger, reference.frontier()) else { continue };

@@ -11,6 +11,11 @@ pub fn module(own_crate: &str, history: &History) -> String {
     stated(own_crate, history, "Answers.{computed}", &format!("computed {}", words(&history.rows)))
 }
 
+/// The same by document 01's own hole store.
+pub fn module_original(own_crate: &str, history: &History) -> String {
+    stated(own_crate, history, "Answers.{computedOriginal}", "computedOriginal")
+}
+
 /// The same from a heap that the module `Combed` writes down.
 pub fn module_from(own_crate: &str, history: &History, start: &str) -> String {
     let uses = format!("Answers.{{computedFrom}}\nuse Rattle.{own_crate}.proofs.Combed.{{combed}}");
@@ -72,7 +77,10 @@ pub fn answers_module(unfolded: &[(String, String, Vec<String>)]) -> String {
          computed rows size calls = Histories.{answers} size ({rules_of} rows) calls\n\n\
          unfoldable pub computedFrom : Heap → ℕ → List {call_type} → List {answer_type}\n\
          unfolding computed\n\
-         computedFrom heap size calls = map (λ (e : Histories.Event). e .answer) (Histories.{events_from} size heap calls)\n",
+         computedFrom heap size calls = map (λ (e : Histories.Event). e .answer) (Histories.{events_from} size heap calls)\n\n\
+         unfoldable pub computedOriginal : ℕ → List {call_type} → List {answer_type}\n\
+         unfolding computed\n\
+         computedOriginal size calls = {original} size calls\n",
         model = names::CRATE,
         calls = names::CALLS_MODULE,
         history = names::HISTORY_MODULE,
@@ -83,6 +91,7 @@ pub fn answers_module(unfolded: &[(String, String, Vec<String>)]) -> String {
         answers = names::ANSWERS,
         heap_module = names::HEAP_MODULE,
         events_from = names::EVENTS_FROM,
+        original = format!("{}.{}", alias(names::CRATE, names::ORIGINAL_MODULE), names::ORIGINAL_ANSWERS),
         unfolding = unfolding.join(" "),
     )
 }

@@ -14,6 +14,7 @@ use crate::arguments::Arguments;
 use crate::call::Call;
 use crate::generate;
 use crate::history::{self, History};
+use crate::oracle::rules::Rules;
 use crate::progress::Progress;
 use crate::random::Random;
 use crate::run;
@@ -45,7 +46,12 @@ pub struct Case {
 }
 
 pub fn run(words: &[String]) -> Result<bool, String> {
-    let arguments = Arguments::read(words, &["calls", "seed", "file", "scenario", "longest", "repository"])?;
+    let arguments = Arguments::read(words, &["calls", "seed", "file", "scenario", "longest", "repository", "rules"])?;
+    let rules = match arguments.text("rules") {
+        None => Rules::Amended,
+        Some("original") => Rules::Plain,
+        Some(other) => return Err(format!("no rules {other}")),
+    };
     let cases = match arguments.text("file") {
         Some(file) => {
             let text = fs::read_to_string(file).map_err(|error| format!("{file}: {error}"))?;
@@ -56,12 +62,12 @@ pub fn run(words: &[String]) -> Result<bool, String> {
             }
             histories.into_iter().map(|history| Case { start: None, history }).collect()
         }
-        None => generated(&arguments)?,
+        None => generated(&arguments, rules)?,
     };
     let own = Path::new(env!("CARGO_MANIFEST_DIR")).join("..");
     let root = arguments.text("repository").map_or(own, PathBuf::from);
     let progress = Progress::begin();
-    let verdict = repository::check(&root, &cases)?;
+    let verdict = repository::check(&root, &cases, rules)?;
     let computed = cases.iter().enumerate().filter(|(at, _)| !verdict.too_long.contains(at));
     println!("{}", counted(computed.map(|(_, case)| case)));
     println!("{:.0} s for the checker", progress.seconds());
@@ -90,14 +96,15 @@ fn counted<'a>(cases: impl Iterator<Item = &'a Case>) -> Tally {
     tally
 }
 
-/// Rounds of histories until there are enough calls.
-fn generated(arguments: &Arguments) -> Result<Vec<Case>, String> {
+/// Rounds of histories until there are enough calls. At the limit of holes a heap is written down, without document 01's memory.
+fn generated(arguments: &Arguments, rules: Rules) -> Result<Vec<Case>, String> {
     let calls: usize = arguments.number("calls")?.unwrap_or(3_000);
     let mut random = Random::new(arguments.number("seed")?.unwrap_or(1));
     let longest: Option<usize> = arguments.number("longest")?;
     let round: Vec<(&str, usize, usize)> = ROUND
         .into_iter()
         .chain([HOLE_LIMIT])
+        .filter(|(name, ..)| rules == Rules::Amended || *name != HOLE_LIMIT.0)
         .filter(|(name, ..)| arguments.text("scenario").is_none_or(|only| only == *name))
         .collect();
     if round.is_empty() {
@@ -111,7 +118,7 @@ fn generated(arguments: &Arguments) -> Result<Vec<Case>, String> {
                 if name == HOLE_LIMIT.0 {
                     cases.extend(combed::cases(&mut random, steps));
                 } else {
-                    cases.push(case(&mut random, name, steps));
+                    cases.push(case(&mut random, name, steps, rules));
                 }
             }
         }
@@ -119,10 +126,13 @@ fn generated(arguments: &Arguments) -> Result<Vec<Case>, String> {
     Ok(cases)
 }
 
-fn case(random: &mut Random, name: &str, steps: usize) -> Case {
+fn case(random: &mut Random, name: &str, steps: usize, rules: Rules) -> Case {
     let mut plan = generate::plan(random, |_| true, Some(name), None);
     plan.steps.truncate(steps);
-    let calls = run::record(&plan, |_| true);
+    if rules == Rules::Plain {
+        plan.rows.clear();
+    }
+    let calls = run::record_by(rules, &plan, |_| true);
     let history = affordable(History { pages: plan.pages, rows: plan.rows, calls });
     Case { start: None, history }
 }

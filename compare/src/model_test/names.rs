@@ -16,6 +16,9 @@ pub const RULES_OF: &str = "rulesOf";
 pub const PLAIN_RULES: &str = "plainRules";
 /// The answers of a history from an opening, by the arena's length, the rules and the calls, in the second.
 pub const ANSWERS: &str = "answers";
+/// The same by document 01's own hole store, from an opening without rows, and its module.
+pub const ORIGINAL_MODULE: &str = "Original";
+pub const ORIGINAL_ANSWERS: &str = "originalAnswers";
 
 /// The constructor of a call; none of the pool's, whose model is a crate of its own.
 pub const fn call(kind: Kind) -> Option<&'static str> {

@@ -6,6 +6,7 @@ use std::path::{Path, PathBuf};
 use std::process::Command;
 
 use super::{combed, equations, names, Case};
+use crate::oracle::rules::Rules;
 
 /// The crate of equations.
 const OWN: &str = "as_answered";
@@ -28,12 +29,12 @@ pub struct Refused {
 
 /// Copies the model out of the repository at `root`, and has the checker compute the histories. Those that are too long
 /// for it are left out, and the others computed again, so that the verdict is on all the others at once.
-pub fn check(root: &Path, cases: &[Case]) -> Result<Verdict, String> {
+pub fn check(root: &Path, cases: &[Case], rules: Rules) -> Result<Verdict, String> {
     let folder = std::env::temp_dir().join(format!("vigbuso-model-test-{}", std::process::id()));
     let mut too_long: Vec<usize> = Vec::new();
     loop {
         let asked: Vec<usize> = (0..cases.len()).filter(|at| !too_long.contains(at)).collect();
-        let built = build(root, &folder, &asked, cases);
+        let built = build(root, &folder, &asked, cases, rules);
         built.map_err(|error| format!("{}: {error}", folder.display()))?;
         let (good, said) = run_checker(&folder)?;
         if good {
@@ -67,7 +68,7 @@ fn run_checker(folder: &Path) -> Result<(bool, String), String> {
     Ok((output.status.success(), said))
 }
 
-fn build(root: &Path, folder: &Path, asked: &[usize], cases: &[Case]) -> io::Result<()> {
+fn build(root: &Path, folder: &Path, asked: &[usize], cases: &[Case], rules: Rules) -> io::Result<()> {
     let list = fs::read_to_string(root.join("crates.txt"))?;
     let needed = closure(&list, names::CRATE);
     let mut crates = String::new();
@@ -94,6 +95,7 @@ fn build(root: &Path, folder: &Path, asked: &[usize], cases: &[Case]) -> io::Res
     }
     for &at in asked {
         let text = match &cases[at] {
+            Case { history, .. } if rules == Rules::Plain => equations::module_original(OWN, history),
             Case { start: None, history } => equations::module(OWN, history),
             Case { start: Some(comb), history } => equations::module_from(OWN, history, &comb.term()),
         };
