@@ -305,7 +305,7 @@ impl Region {
         let start = granule as usize * GRANULE_BYTES;
         let above = match store {
             Some(number) => Mark::STORED | u32::from(number) << 16,
-            None => ((start.next_multiple_of(align) - start) / GRANULE_BYTES << 16) as u32,
+            None => (((start.next_multiple_of(align) - start) / GRANULE_BYTES) << 16) as u32,
         };
         Ok((granule, above | len as u32))
     }
@@ -749,7 +749,7 @@ const DAMAGED: AllocError = AllocError::Refused(Refusal::BookWord);
 impl Clone for Region {
     fn clone(&self) -> Region {
         let arena = Arena::open(self.pages()).unwrap_or_else(|error| panic!("{error}"));
-        let mut clone = Region { pool: self.pool.clone(), arena, marks: copy_used(&self.marks), ..*self };
+        let mut clone = Region { pool: self.pool.clone(), arena, marks: copy_used(&self.marks, self.used()), ..*self };
         for (handle, record) in self {
             clone[handle].copy_from_slice(record);
         }
@@ -760,7 +760,7 @@ impl Clone for Region {
 /// Equal regions have the same records under the same handles, and answer equal calls equally.
 impl PartialEq for Region {
     fn eq(&self, other: &Region) -> bool {
-        self.pool == other.pool && self.marks == other.marks && self.iter().eq(other)
+        self.pool == other.pool && self.marks[..self.used()] == other.marks[..self.used()] && self.iter().eq(other)
     }
 }
 
@@ -846,5 +846,43 @@ impl FusedIterator for Records<'_> {}
 impl fmt::Debug for Records<'_> {
     fn fmt(&self, f: &mut fmt::Formatter) -> fmt::Result {
         f.debug_map().entries(self.clone()).finish()
+    }
+}
+
+#[cfg(test)]
+mod tests {
+    use super::*;
+    use std::vec;
+
+    /// A granule's last number is used up: the block is not given back, so that no handle ever names another record.
+    #[test]
+    fn a_granule_that_is_used_up() {
+        for len in [5, 70_000] {
+            let mut region = Region::open(4).expect("four pages");
+            let first = region.alloc(&vec![1; len]).expect("there is room");
+            region.free(first).expect("it is there");
+            let granule = first.granule() as usize;
+            region.marks[granule] = Mark { uses: u32::MAX - 1, measure: 0 }.word();
+            let last = region.alloc(&vec![2; len]).expect("there is room");
+            assert_eq!((last.granule(), last.uses()), (first.granule(), u32::MAX));
+            region.free(last).expect("it is there");
+            assert_eq!((region.len(), region.bytes(), region.get(last), region.get(first)), (0, 0, None, None));
+            let others: Vec<Handle> = core::iter::from_fn(|| region.alloc(&vec![3; len]).ok()).collect();
+            assert!(!others.is_empty() && others.iter().all(|other| other.granule() != first.granule()));
+            assert_eq!(Region::load(&region.save()), Ok(region));
+        }
+    }
+
+    /// Every measure says what it was made of.
+    #[test]
+    fn measures() {
+        let block = Mark { uses: 1, measure: 0x0fff_ffc0 };
+        assert_eq!((block.len(), block.shift(), block.store(), block.in_pages()), (65_472, 4_095 * 16, None, false));
+        let stored = Mark { uses: 1, measure: Mark::STORED | 16_383 << 16 | 9 };
+        assert_eq!((stored.len(), stored.shift(), stored.store(), stored.in_pages()), (9, 0, Some(16_383), false));
+        let pages = Mark { uses: 1, measure: measure_of((1 << 31) - 1).expect("31 bits") };
+        assert_eq!((pages.len(), pages.shift(), pages.store(), pages.in_pages()), ((1 << 31) - 1, 0, None, true));
+        assert_eq!((measure_of(1 << 31), pages.with_len(7).len(), stored.with_len(0).store()), (None, 7, Some(16_383)));
+        assert_eq!(Mark::from_word(stored.word()).range(3), 48..57);
     }
 }
