@@ -26,8 +26,8 @@ const ALIGNED: usize = 16_384;
 /// in every build, whatever stands at its place now.
 ///
 /// Records up to [`Class::MAX_BYTES`] bytes stand in the pool's blocks, longer ones, up to 2 GiB less a byte, in pages of their own.
-/// Beside the arena, its book takes a quarter of its length and the marks of its granules a half, of which only the parts of pages
-/// that were used are ever touched: 8 bytes for each record of up to 8 KiB.
+/// Beside the arena, its book takes a quarter of its length and the marks of its granules a half. That is address space: only what
+/// belongs to pages that were used is ever touched.
 ///
 /// A region is a value: it is cloned, compared, and [saved](Region::save) and [loaded](Region::load) with all of its records. What the
 /// pool does is proved; what the region does on top is tested.
@@ -194,7 +194,7 @@ impl Region {
 
     /// A region without a record, on a pool.
     fn on(pool: Pool) -> Result<Region, OpenError> {
-        let pages = pool.heap().pages();
+        let pages = pool.pages();
         let granules = usize::try_from(pages * PAGE_GRANULES).unwrap_or(usize::MAX);
         Ok(Region { pool, arena: Arena::open(pages)?, marks: zeroes(granules)?, records: 0, bytes: 0 })
     }
@@ -584,7 +584,7 @@ impl Region {
     /// ```
     #[must_use]
     pub fn pages(&self) -> u64 {
-        self.pool.heap().pages()
+        self.pool.pages()
     }
 
     /// The figures of the region's pool and arena. Records in pages of their own are no blocks; their pages are held.

@@ -260,3 +260,15 @@ fn a_record_of_each_class_and_its_length() {
     }
     assert_eq!(region.report().expect("an opened book").used, 2 * Class::COUNT);
 }
+
+/// Regions and stores can pass to another thread; handles name records of any type.
+#[test]
+fn between_threads() {
+    fn passes<T: Send + Sync + Unpin + std::panic::UnwindSafe>() {}
+    passes::<Region>();
+    passes::<vigbuso::Pool>();
+    passes::<vigbuso::Heap>();
+    passes::<vigbuso::Store<u32>>();
+    passes::<Handle<std::rc::Rc<u32>>>();
+    passes::<Error>();
+}
