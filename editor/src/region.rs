@@ -237,10 +237,8 @@ impl Region {
     /// As [`Region::alloc`], and [`AllocError::Alignment`].
     #[inline]
     pub fn alloc_aligned(&mut self, record: &[u8], align: usize) -> Result<Handle, AllocError> {
-        let (handle, range) = self.begin(record.len(), align, None)?;
-        if let Some(bytes) = self.arena.get_mut(range) {
-            bytes.copy_from_slice(record);
-        }
+        let (handle, bytes) = self.begin(record.len(), align, None)?;
+        bytes.copy_from_slice(record);
         Ok(handle)
     }
 
@@ -258,21 +256,19 @@ impl Region {
     ///
     /// As [`Region::alloc`].
     pub fn alloc_zeroed(&mut self, len: usize) -> Result<Handle, AllocError> {
-        let (handle, range) = self.begin(len, 1, None)?;
-        if let Some(bytes) = self.arena.get_mut(range) {
-            bytes.fill(0);
-        }
+        let (handle, bytes) = self.begin(len, 1, None)?;
+        bytes.fill(0);
         Ok(handle)
     }
 
-    /// A place for a record, and its handle. The bytes there are old ones.
+    /// A place for a record: its handle, and its bytes, which are old ones.
     #[inline]
     pub(crate) fn begin(
         &mut self,
         len: usize,
         align: usize,
         store: Option<u16>,
-    ) -> Result<(Handle, Range<usize>), AllocError> {
+    ) -> Result<(Handle, &mut [u8]), AllocError> {
         if !align.is_power_of_two() || align > PAGE_BYTES {
             return Err(AllocError::Alignment);
         }
@@ -282,12 +278,13 @@ impl Region {
         };
         let mark = self.marks.get_mut(granule as usize).ok_or(DAMAGED)?;
         let new = Mark { uses: Mark::from_word(*mark).uses.wrapping_add(1), measure };
-        // A record is here already: only a damaged book deals its block out again.
+        // Only a damaged book deals out a granule where a record is already, or bytes that are not in the arena.
         let handle = Handle::new(granule, new.uses).ok_or(DAMAGED)?;
+        let bytes = self.arena.get_mut(new.range(granule)).ok_or(DAMAGED)?;
         *mark = new.word();
         self.records += 1;
         self.bytes += len as u64;
-        Ok((handle, new.range(granule)))
+        Ok((handle, bytes))
     }
 
     /// A block that has room for a record and its alignment, as granule and measure.
@@ -337,11 +334,6 @@ impl Region {
     pub(crate) fn stored(&self, handle: Handle, store: u16, len: usize) -> Option<&[u8]> {
         let mark = self.mark(handle).filter(|mark| mark.store() == Some(store))?;
         self.arena.get(mark.range(handle.granule())).filter(|bytes| bytes.len() == len)
-    }
-
-    /// The bytes of a place that was begun.
-    pub(crate) fn bytes_mut(&mut self, range: Range<usize>) -> Option<&mut [u8]> {
-        self.arena.get_mut(range)
     }
 
     /// A record; none if it was freed.
@@ -490,11 +482,11 @@ impl Region {
         if aligned && natural && self.has_room(granule, mark, len)? {
             return Ok(self.measure(handle, mark, len));
         }
-        match self.begin(len, align, mark.store()) {
-            Ok((moved, new)) => {
-                let kept = old.len().min(len);
-                self.arena.copy(old.start..old.start + kept, new.start);
-                self.clear(new.start + kept..new.end);
+        // A store's record is where its block begins: aligned to more, it is no store's any more.
+        let store = mark.store().filter(|_| align <= GRANULE_BYTES);
+        match self.begin(len, align, store).map(|(moved, _)| moved) {
+            Ok(moved) => {
+                self.copy(old, moved);
                 self.free(handle)?;
                 Ok(moved)
             }
@@ -526,6 +518,15 @@ impl Region {
         self.bytes = self.bytes - old.len() as u64 + len as u64;
         self.clear(old.end..old.start + len);
         handle
+    }
+
+    /// Copies a record to one that was begun. What it is longer by is 0.
+    fn copy(&mut self, old: Range<usize>, moved: Handle) {
+        if let Some(new) = self.range(moved) {
+            let kept = old.len().min(new.len());
+            self.arena.copy(old.start..old.start + kept, new.start);
+            self.clear(new.start + kept..new.end);
+        }
     }
 
     /// Writes zeroes, if there is a byte.

@@ -109,6 +109,24 @@ fn sizes() {
     assert!(!Store::<i8, _>::on(&mut region, 0).contains(last));
 }
 
+/// As bytes a value can be resized and aligned; it is the store's as long as it has its length and place.
+#[test]
+fn values_as_records() {
+    fn store(region: &mut Region) -> Store<u32, &mut Region> {
+        Store::on(region, 3)
+    }
+    let mut region = Region::open(8).expect("eight pages");
+    let handle = store(&mut region).put(&0x0102_0304).expect("there is room");
+    let longer = region.resize(handle.erase(), 9).expect("there is room");
+    assert_eq!((longer, store(&mut region).get(handle)), (handle.erase(), None));
+    assert_eq!(region[longer], [4, 3, 2, 1, 0, 0, 0, 0, 0]);
+    let back = region.resize(longer, 4).expect("there is room");
+    assert_eq!(store(&mut region).get(other_type(back)), Some(0x0102_0304));
+    let aligned = region.resize_aligned(back, 4, 4_096).expect("there is room");
+    assert_eq!((region[aligned].as_ptr() as usize % 4_096, &region[aligned]), (0, &[4, 3, 2, 1][..]));
+    assert!(!store(&mut region).contains(other_type(aligned)) && store(&mut region).handles().is_empty());
+}
+
 #[test]
 #[should_panic(expected = "store 16384 of a region")]
 fn a_number_that_no_store_has() {
