@@ -1,16 +1,16 @@
-//! A pool against the system's malloc, on the same traces: what each program asked for and gave back, in its order.
+//! A pool and a region against the system's malloc, on the same traces: what each program asked for and gave back, in its order.
 //!
 //!     cargo bench --bench pool
 //!
-//! The traces are recorded anew each time, by small programs with a fixed seed. Replays alternate between the two sides; of
-//! each side's rounds the lower quartile counts. Every record gets its first eight bytes written.
+//! The traces are recorded anew each time, by small programs with a fixed seed. Replays alternate between the three sides; of
+//! each side's rounds the lower quartile counts. Every record gets its first eight bytes written; a region's, which is 0 else, all.
 #![allow(clippy::cast_possible_truncation, clippy::cast_precision_loss)] // sizes and times are small
 
 use std::collections::{BTreeMap, HashMap};
 use std::hint::black_box;
 use std::time::Instant;
 
-use vigbuso::{Block, Pool, PAGE_BYTES};
+use vigbuso::{Block, Handle, Pool, Region, PAGE_BYTES};
 
 const PAGES: usize = 2_048;
 const ROUNDS: usize = 41;
@@ -123,6 +123,7 @@ fn document(trace: &mut Recorder) {
     }
 }
 
+#[inline(never)] // so that its instructions can be counted
 fn with_malloc(steps: &[Step], slots: &mut [Vec<u8>]) {
     for step in steps {
         match *step {
@@ -136,6 +137,7 @@ fn with_malloc(steps: &[Step], slots: &mut [Vec<u8>]) {
     }
 }
 
+#[inline(never)]
 fn with_pool(steps: &[Step], slots: &mut [Option<Block>], pool: &mut Pool, arena: &mut [u8]) {
     for step in steps {
         match *step {
@@ -152,43 +154,67 @@ fn with_pool(steps: &[Step], slots: &mut [Option<Block>], pool: &mut Pool, arena
     }
 }
 
+#[inline(never)]
+fn with_region(steps: &[Step], slots: &mut [Option<Handle>], region: &mut Region) {
+    for step in steps {
+        match *step {
+            Step::Alloc { slot, bytes } => {
+                let handle = region.alloc_zeroed(bytes as usize).expect("there is room");
+                region[handle][..8].copy_from_slice(&[1; 8]);
+                slots[slot as usize] = black_box(Some(handle));
+            }
+            Step::Free { slot } => {
+                let handle = slots[slot as usize].take().expect("a record");
+                region.free(handle).expect("it is there");
+            }
+        }
+    }
+}
+
 /// The lower quartile of the rounds' times, in nanoseconds for each step.
 fn quartile(mut rounds: Vec<f64>) -> f64 {
     rounds.sort_by(f64::total_cmp);
     rounds[rounds.len() / 4]
 }
 
-fn measure(program: fn(&mut Recorder)) -> (usize, usize, f64, f64) {
+/// What a trace came to: its steps, its slots, and the nanoseconds of a step for each side.
+fn measure(program: fn(&mut Recorder)) -> (usize, usize, [f64; 3]) {
     let mut trace = Recorder { random: 1, ..Recorder::default() };
     program(&mut trace);
     let (steps, slots) = (trace.steps, trace.slots as usize);
     let (mut pool, mut arena) = (Pool::open(PAGES as u64).expect("a length"), vec![0; PAGES * PAGE_BYTES]);
-    let (mut records, mut blocks) = (vec![Vec::new(); slots], vec![None; slots]);
-    let (mut mallocs, mut pools) = (Vec::new(), Vec::new());
+    let mut region = Region::open(PAGES as u64).expect("a length");
+    let (mut records, mut blocks, mut handles) = (vec![Vec::new(); slots], vec![None; slots], vec![None; slots]);
+    let mut rounds = [const { Vec::new() }; 3];
     let time = |work: &mut dyn FnMut()| {
         let start = Instant::now();
         work();
         start.elapsed().as_nanos() as f64 / steps.len() as f64
     };
     for round in 0..ROUNDS {
-        let malloc = time(&mut || with_malloc(&steps, &mut records));
-        let pool = time(&mut || with_pool(&steps, &mut blocks, &mut pool, &mut arena));
-        // The first round finds cold memory on both sides.
+        let times = [
+            time(&mut || with_malloc(&steps, &mut records)),
+            time(&mut || with_pool(&steps, &mut blocks, &mut pool, &mut arena)),
+            time(&mut || with_region(&steps, &mut handles, &mut region)),
+        ];
+        // The first round finds cold memory on all sides.
         if round > 0 {
-            mallocs.push(malloc);
-            pools.push(pool);
+            rounds.iter_mut().zip(times).for_each(|(rounds, time)| rounds.push(time));
         }
     }
     pool.flush().expect("nothing was freed twice");
-    (steps.len(), slots, quartile(mallocs), quartile(pools))
+    assert!(region.is_empty());
+    (steps.len(), slots, rounds.map(quartile))
 }
 
 fn main() {
     let row = |name: &str, program: fn(&mut Recorder)| {
-        let (steps, slots, malloc, pool) = measure(program);
-        println!("| {name} | {steps} | {slots} | {malloc:.1} | {pool:.1} | {:.2} |", pool / malloc);
+        let (steps, slots, [malloc, pool, region]) = measure(program);
+        let (pools, regions) = (pool / malloc, region / malloc);
+        println!("| {name} | {steps} | {slots} | {malloc:.1} | {pool:.1} | {pools:.2} | {region:.1} | {regions:.2} |");
     };
-    println!("| trace | steps | records at a time, at most | malloc ns | pool ns | ratio |\n|---|---|---|---|---|---|");
+    println!("| trace | steps | records at a time, at most | malloc ns | pool ns | ratio | region ns | ratio |");
+    println!("|---|---|---|---|---|---|---|---|");
     row("values used latest", latest_used);
     row("a search that turns back", search);
     row("a queue in bursts", queue);

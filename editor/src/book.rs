@@ -39,10 +39,10 @@ pub(crate) fn entries(book: &[u32], place: usize, count: usize) -> &[u32] {
     &entries[..count.min(ENTRIES_OF_CLASS).min(entries.len())]
 }
 
-/// A copy that touches only what is not 0.
-pub(crate) fn copy_used<T: Unsigned>(from: &[T]) -> Vec<T> {
+/// A copy that touches only what is not 0. From `used` on all is.
+pub(crate) fn copy_used<T: Unsigned>(from: &[T], used: usize) -> Vec<T> {
     let mut copy = ffi::zeroed(from.len()).unwrap_or_else(|| no_memory::<T>(from.len()));
-    for (old, new) in from.chunks(CHUNK).zip(copy.chunks_mut(CHUNK)) {
+    for (old, new) in from[..used].chunks(CHUNK).zip(copy[..used].chunks_mut(CHUNK)) {
         if old.iter().any(|&integer| integer != T::default()) {
             new.copy_from_slice(old);
         }

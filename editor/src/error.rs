@@ -283,7 +283,8 @@ impl error::Error for FreeError {
     }
 }
 
-/// Why [`Heap::try_open`](crate::Heap::try_open) opened no heap.
+/// Why [`Heap::try_open`](crate::Heap::try_open), [`Pool::try_open`](crate::Pool::try_open) or
+/// [`Region::open`](crate::Region::open) opened nothing.
 ///
 /// ```
 /// use vigbuso::{Heap, OpenError, Refusal};
@@ -294,9 +295,9 @@ impl error::Error for FreeError {
 pub enum OpenError {
     /// The opening was refused.
     Refused(Refusal),
-    /// There is no memory for a book of so many bytes.
+    /// There is no memory for so many bytes: of the book, or of a region's arena or marks.
     NoMemory {
-        /// Bytes of the book.
+        /// Bytes of it.
         bytes: usize,
     },
 }
@@ -305,7 +306,7 @@ impl fmt::Display for OpenError {
     fn fmt(&self, f: &mut fmt::Formatter) -> fmt::Result {
         match self {
             OpenError::Refused(refusal) => refusal.fmt(f),
-            OpenError::NoMemory { bytes } => write!(f, "no memory for a book of {bytes} bytes"),
+            OpenError::NoMemory { bytes } => write!(f, "no memory for {bytes} bytes"),
         }
     }
 }

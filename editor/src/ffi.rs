@@ -19,7 +19,7 @@
 //! number 16, a trace that stopped.
 //! It keeps no pointer and has no state but the book. So no call here has a condition on its arguments' values. What it
 //! writes into a list is what its contract says: a take and a trace write words of blocks, which are not 0, and a release by
-//! chunks writes fates.
+//! chunks writes fates. An alloc and a trim write the word of a block, or 0 for none.
 
 use alloc::alloc::{alloc_zeroed, Layout};
 use alloc::vec::Vec;
@@ -124,11 +124,17 @@ fn assert_abi() {
 }
 
 /// Whether a call was carried out.
+#[inline]
 fn carried_out(number: u32) -> Result<(), Refusal> {
     match number {
         0 => Ok(()),
-        _ => Err(Refusal::from_number(number).expect("a call answers 0 or one of the papers' numbers")),
+        _ => Err(refusal(number)),
     }
+}
+
+#[cold]
+fn refusal(number: u32) -> Refusal {
+    Refusal::from_number(number).expect("a call answers 0 or one of the papers' numbers")
 }
 
 fn fate(number: u32) -> Fate {
@@ -475,6 +481,38 @@ mod tests {
         assert_eq!(medium, 4);
         assert_eq!(unsafe { vigbuso_release(words, len, 16, 0, 1) }, 3);
         assert_eq!(book, opened());
+    }
+
+    /// Classes are 0 to 75 by one number, and the questions answer 0 where the other calls are refused.
+    #[test]
+    fn the_pools_calls() {
+        let mut book = opened();
+        let (words, len, mut word) = (book.as_mut_ptr(), book.len(), 7);
+        let mut call = |alloc: bool, class, host| match alloc {
+            true => unsafe { vigbuso_alloc(words, len, class, host, &raw mut word) },
+            false => unsafe { vigbuso_trim(words, len, class, host, &raw mut word) },
+        };
+        for alloc in [true, false] {
+            assert_eq!([call(alloc, 0, 16), call(alloc, 76, u32::MAX), call(alloc, 76, 3)], [3, 3, 4]);
+        }
+        let block = 1 << 62 | 3;
+        let free = |class, host| unsafe { vigbuso_free(words, len, class, host, block) };
+        assert_eq!([free(0, 16), free(76, 3), free(75, 3), free(0, 3)], [3, 4, 9, 10]);
+        assert_eq!((word, &book), (7, &opened()), "a refusal changes nothing");
+        assert_eq!(trim(&mut book, small(0), Host::GRANTED), Ok(None));
+        assert_eq!(alloc(&mut book, small(0), Host::GRANTED).map(|block| block.map(Block::granule)), Ok(Some(3)));
+        assert_eq!((stocked(&book, small(0)), stocked(&book, small(1)), stocked(&[], small(0))), (63, 0, 0));
+        let [last, stocked_one, other] = [3, 4, 67].map(|granule| Block::small(granule).expect("62 bits"));
+        assert_eq!([last, stocked_one, other].map(|block| granted(&book, small(0), block)), [true, false, false]);
+        assert!(!granted(&book, small(1), last) && !granted(&[], small(0), last));
+        assert_eq!((class_of(&book, last), class_of(&[], last)), (Some(small(0)), None));
+        assert_eq!([free_again(&mut book, last), free_again(&mut book, last)], [Ok(()), Err(Refusal::NotOut)]);
+        assert_eq!(trim(&mut book, small(0), Host::GRANTED), Ok(Some(last)));
+        assert_eq!(stocked(&book, small(0)), 63);
+    }
+
+    fn free_again(book: &mut [u32], block: Block) -> Result<(), Refusal> {
+        free(book, small(0), Host::GRANTED, block)
     }
 
     #[test]

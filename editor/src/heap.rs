@@ -642,14 +642,14 @@ impl<B: AsRef<[u32]> + AsMut<[u32]>> Heap<B> {
 /// A clone of a heap with a book of its own touches only the words that are not 0.
 impl Clone for Heap {
     fn clone(&self) -> Heap {
-        Heap { book: copy_used(&self.book), ..*self }
+        Heap { book: copy_used(&self.book, self.book.len()), ..*self }
     }
 }
 
 /// As for a `Vec`.
 impl Clone for Heap<Box<[u32]>> {
     fn clone(&self) -> Heap<Box<[u32]>> {
-        Heap { book: copy_used(&self.book).into_boxed_slice(), ..*self }
+        Heap { book: copy_used(&self.book, self.book.len()).into_boxed_slice(), ..*self }
     }
 }
 

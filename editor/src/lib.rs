@@ -1,10 +1,26 @@
 //! The block heap Vigbuso, for Rust.
 //!
-//! A heap decides which bytes of one big arena belong to which of a program's many small records. It never reads or writes
-//! the arena's bytes: they stand wherever the caller keeps them, for example in a `Vec<u8>`, and a [`Block`] only says from
-//! which byte on a record may stand there.
+//! A heap decides which bytes of one big arena belong to which of a program's many small records.
 //!
-//! A [`Pool`] hands blocks out one by one:
+//! A [`Region`] has the arena, deals it out, and has the records: bytes go in, a [`Handle`] comes out.
+//!
+//! ```
+//! use vigbuso::{Error, Region};
+//!
+//! let mut region = Region::open(64)?; // 64 pages of 64 KiB
+//! let record = region.alloc(b"a record with 24 letters")?;
+//! assert_eq!(&region[record][..8], b"a record");
+//! region.free(record)?;
+//! assert_eq!(region.get(record), None); // and so for good, whatever stands there now
+//! assert_eq!(region.free(record), Err(Error::Stale(record)));
+//! # Ok::<(), Error>(())
+//! ```
+//!
+//! A [`Store`] has values of one type in a region, by typed handles. All of it is kept in a file and gone on with:
+//! [`Region::save`], [`Region::load`].
+//!
+//! Below a region is a [`Pool`]. It hands out [`Block`]s one by one, which only say from which byte on a record may stand: it never
+//! reads or writes the arena's bytes, which stand wherever the caller keeps them, for example in a `Vec<u8>`.
 //!
 //! ```
 //! use vigbuso::{Pool, PAGE_BYTES};
@@ -16,10 +32,10 @@
 //! arena[block.range(record.len())].copy_from_slice(record);
 //! pool.free(block)?;
 //! println!("{}", pool.report()?);
-//! # Ok::<(), Box<dyn std::error::Error>>(())
+//! # Ok::<(), vigbuso::Error>(())
 //! ```
 //!
-//! A [`Heap`] hands them out in batches, as the library's calls do:
+//! A [`Heap`] hands them out in batches, as the library's first calls do:
 //!
 //! ```
 //! use vigbuso::{Class, Heap};
@@ -29,25 +45,26 @@
 //! let mut blocks = heap.take(class)?; // 64 of them, 32 bytes each
 //! heap.release_all(class, &mut blocks)?;
 //! println!("{}", heap.report()?);
-//! # Ok::<(), vigbuso::Refusal>(())
+//! # Ok::<(), vigbuso::Error>(())
 //! ```
 //!
-//! Every call of the library is a method of [`Heap`], the size lookup is [`Class::for_size`]; [`plan`] works out, before a
+//! Every call of the library is a method of [`Heap`] or [`Pool`], the size lookup is [`Class::for_size`]; [`plan`] works out, before a
 //! large fill, how many pages it needs, and [`Heap::from_trace`], after one, what figures its [`Trace`] comes to;
 //! [`short_histories`] lists all that can happen in a few direct calls. A call with bad arguments changes nothing and answers a
-//! [`Refusal`]; only a trace that [stopped](Refusal::Stopped) leaves what it had done.
+//! [`Refusal`]; only a trace that [stopped](Refusal::Stopped) leaves what it had done. Every error of this crate becomes an [`Error`].
 //!
-//! | arena | blocks |
-//! |---|---|
-//! | [`Heap::open`], [`Heap::open_with`] its own parking [`Rules`], [`Heap::on`], [`Heap::reopen`], [`Heap::resume`] | [`Heap::take`] |
-//! | [`Heap::report`], [`Heap::contains`] | [`Heap::release`], [`Heap::release_all`] |
-//! | [`Heap::commit`], [`Heap::grow_frontier`], [`Heap::release_run`] | [`Heap::release_chunks`] |
+//! | arena | blocks in batches | blocks one by one |
+//! |---|---|---|
+//! | [`Heap::open`], [`Heap::open_with`] its own parking [`Rules`], [`Heap::on`], [`Heap::reopen`], [`Heap::resume`] | [`Heap::take`] | [`Pool::alloc`] |
+//! | [`Heap::report`], [`Heap::contains`] | [`Heap::release`], [`Heap::release_all`] | [`Pool::free`], [`Pool::free_in`] |
+//! | [`Heap::commit`], [`Heap::grow_frontier`], [`Heap::release_run`] | [`Heap::release_chunks`] | [`Pool::flush`] |
 //!
-//! The code behind the methods of [`Heap`] is proved: what each call answers and leaves behind is a definition, and the library is
-//! built only if the code does just that. This crate is the part that is not proved but tested, what can be misused in debug and in
-//! release builds: types over those calls, and [`Pool`] and [`Store`] on top, which refuse every block that is not out. Document 01,
-//! which the comments cite, is the paper that states the heap's rules; `docs/CALLS.md` of the repository describes the C functions,
-//! and which of them may change places, `docs/DEMANDS.md` what is proved of them.
+//! The code behind the methods of [`Heap`] and [`Pool`] is proved: what each call answers and leaves behind is a definition, and the
+//! library is built only if the code does just that. So it is proved that a block in use is never granted again, and that just the
+//! blocks granted and not yet freed can be freed. This crate is the part that is not proved but tested, what can be misused in debug
+//! and in release builds: types over those calls, [`Region`] and [`Store`] on top, and saves. Document 01, which the comments cite, is
+//! the paper that states the heap's rules; `docs/CALLS.md` of the repository describes the C functions and which of them
+//! may change places, `docs/DEMANDS.md` what is proved of them.
 //!
 //! The crate needs no `std`, only `alloc`.
 #![no_std]

@@ -65,6 +65,7 @@ impl DirectCall {
 /// # Errors
 ///
 /// [`Refusal::Listing`] if the pages are not 1 to 3 or the length is above 4.
+#[allow(clippy::cast_possible_truncation)] // there are at most 792 numbers, of histories of at most 4 calls
 pub fn short_histories(pages: u64, length: u64) -> Result<ShortHistories, Refusal> {
     let mut numbers = alloc::vec![0; MOST_NUMBERS];
     let written = ffi::short_histories(pages, length, &mut numbers)? as usize;

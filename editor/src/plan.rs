@@ -9,8 +9,7 @@ use crate::{ffi, Refusal};
 /// every host answer granted and no release. All the takes succeed, in whatever order they are made, exactly if the arena has so
 /// many pages. That is proved of the library.
 ///
-/// Several entries may be of one class. [`Refusal::Plan`] is the answer if the plan is empty or has more than 4,096 entries, a
-/// size is above [`Class::MAX_BYTES`](crate::Class::MAX_BYTES), or an entry has more than 1,000,000 takes.
+/// Several entries may be of one class.
 ///
 /// ```
 /// use vigbuso::{plan, Class, Heap};
@@ -27,6 +26,11 @@ use crate::{ffi, Refusal};
 /// # }
 /// # Ok::<(), vigbuso::Refusal>(())
 /// ```
+///
+/// # Errors
+///
+/// [`Refusal::Plan`] if the plan is empty or has more than 4,096 entries, a size is above
+/// [`Class::MAX_BYTES`](crate::Class::MAX_BYTES), or an entry has more than 1,000,000 takes.
 pub fn plan(takes: &[(usize, u32)]) -> Result<u64, Refusal> {
     // A size that is no word is too large, and so is the greatest word.
     let sizes: Vec<u32> = takes.iter().map(|&(bytes, _)| u32::try_from(bytes).unwrap_or(u32::MAX)).collect();
@@ -49,7 +53,8 @@ mod tests {
     #[test]
     fn every_class_needs_what_its_takes_use() {
         for class in Class::all() {
-            let takes = [2 * class.capacity().div_ceil(64) as u32 + 1, 3][usize::from(class.index() >= 64)];
+            let takes = [2 * u32::try_from(class.capacity().div_ceil(64)).expect("at most 64") + 1, 3]
+                [usize::from(class.index() >= 64)];
             let pages = plan(&[(class.bytes(), takes)]).expect("a plan");
             assert_eq!(pages, 3 * class.pages() as u64, "{class}");
             let order = vec![class; takes as usize];

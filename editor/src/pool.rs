@@ -19,7 +19,8 @@ use crate::{
 /// sees that too.
 ///
 /// All that a pool knows stands in its book, the stocks too. So a pool is a value as a heap is: cloned, compared,
-/// [saved](Pool::save) and [resumed](Pool::resume). Nobody else releases its blocks: it lends the heap to be asked alone.
+/// [saved](Pool::save) and [resumed](Pool::resume). Nobody else releases its blocks: of its heap it lends the direct calls and the
+/// report alone.
 ///
 /// ```
 /// use vigbuso::{Error, Pool, PAGE_BYTES};
@@ -424,16 +425,47 @@ impl<B: AsRef<[u32]> + AsMut<[u32]>> Pool<B> {
         self.heap.book()
     }
 
-    /// The heap, to be asked: its report, its length, whether bytes are in the arena.
+    /// The heap below. A program is not lent it: a clone of it would have the stocks too, and could release their blocks.
+    pub(crate) fn heap(&self) -> &Heap<B> {
+        &self.heap
+    }
+
+    /// The arena's length.
     ///
     /// ```
     /// # use vigbuso::Pool;
-    /// assert_eq!(Pool::open(64)?.heap().report()?.idle, 64);
+    /// assert_eq!(Pool::open(64)?.pages(), 64);
     /// # Ok::<(), vigbuso::Refusal>(())
     /// ```
     #[must_use]
-    pub fn heap(&self) -> &Heap<B> {
-        &self.heap
+    pub fn pages(&self) -> u64 {
+        self.heap.pages()
+    }
+
+    /// Whether these bytes, counted from the arena's start, are in the arena, as [`Heap::contains`].
+    ///
+    /// ```
+    /// # use vigbuso::Pool;
+    /// let mut pool = Pool::open(1)?;
+    /// let block = pool.alloc(100)?;
+    /// assert!(pool.contains(block.byte_offset(), 112) && !pool.contains(65_536, 1));
+    /// # Ok::<(), vigbuso::Error>(())
+    /// ```
+    #[must_use]
+    pub fn contains(&self, offset: u64, length: u64) -> bool {
+        self.heap.contains(offset, length)
+    }
+
+    /// The host word of all calls.
+    ///
+    /// ```
+    /// # use vigbuso::{Host, Pool};
+    /// assert_eq!(Pool::open(64)?.host(), Host::GRANTED);
+    /// # Ok::<(), vigbuso::Refusal>(())
+    /// ```
+    #[must_use]
+    pub fn host(&self) -> Host {
+        self.heap.host()
     }
 
     /// Sets the host word of all calls that follow, as [`Heap::set_host`].

@@ -205,7 +205,7 @@ mod tests {
         keeps(&None::<Handle<str>>, &[0; 8]);
         assert_eq!(<Option<Handle>>::read(&[2; 8]), None, "an even use");
         assert_eq!(Handle::<u8>::read(&[0; 8]), Handle::NOBODYS);
-        assert_eq!(bool::read(&[7]), true);
+        assert!(bool::read(&[7]));
         assert_eq!(char::read(&[0xff; 4]), char::REPLACEMENT_CHARACTER);
     }
 }

@@ -26,8 +26,8 @@ const ALIGNED: usize = 16_384;
 /// in every build, whatever stands at its place now.
 ///
 /// Records up to [`Class::MAX_BYTES`] bytes stand in the pool's blocks, longer ones, up to 2 GiB less a byte, in pages of their own.
-/// Beside the arena, its book takes a quarter of its length and the marks of its granules a half, of which only the parts of pages
-/// that were used are ever touched: 8 bytes for each record of up to 8 KiB.
+/// Beside the arena, its book takes a quarter of its length and the marks of its granules a half. That is address space: only what
+/// belongs to pages that were used is ever touched.
 ///
 /// A region is a value: it is cloned, compared, and [saved](Region::save) and [loaded](Region::load) with all of its records. What the
 /// pool does is proved; what the region does on top is tested.
@@ -194,7 +194,7 @@ impl Region {
 
     /// A region without a record, on a pool.
     fn on(pool: Pool) -> Result<Region, OpenError> {
-        let pages = pool.heap().pages();
+        let pages = pool.pages();
         let granules = usize::try_from(pages * PAGE_GRANULES).unwrap_or(usize::MAX);
         Ok(Region { pool, arena: Arena::open(pages)?, marks: zeroes(granules)?, records: 0, bytes: 0 })
     }
@@ -237,10 +237,8 @@ impl Region {
     /// As [`Region::alloc`], and [`AllocError::Alignment`].
     #[inline]
     pub fn alloc_aligned(&mut self, record: &[u8], align: usize) -> Result<Handle, AllocError> {
-        let (handle, range) = self.begin(record.len(), align, None)?;
-        if let Some(bytes) = self.arena.get_mut(range) {
-            bytes.copy_from_slice(record);
-        }
+        let (handle, bytes) = self.begin(record.len(), align, None)?;
+        bytes.copy_from_slice(record);
         Ok(handle)
     }
 
@@ -258,21 +256,19 @@ impl Region {
     ///
     /// As [`Region::alloc`].
     pub fn alloc_zeroed(&mut self, len: usize) -> Result<Handle, AllocError> {
-        let (handle, range) = self.begin(len, 1, None)?;
-        if let Some(bytes) = self.arena.get_mut(range) {
-            bytes.fill(0);
-        }
+        let (handle, bytes) = self.begin(len, 1, None)?;
+        bytes.fill(0);
         Ok(handle)
     }
 
-    /// A place for a record, and its handle. The bytes there are old ones.
+    /// A place for a record: its handle, and its bytes, which are old ones.
     #[inline]
     pub(crate) fn begin(
         &mut self,
         len: usize,
         align: usize,
         store: Option<u16>,
-    ) -> Result<(Handle, Range<usize>), AllocError> {
+    ) -> Result<(Handle, &mut [u8]), AllocError> {
         if !align.is_power_of_two() || align > PAGE_BYTES {
             return Err(AllocError::Alignment);
         }
@@ -282,12 +278,13 @@ impl Region {
         };
         let mark = self.marks.get_mut(granule as usize).ok_or(DAMAGED)?;
         let new = Mark { uses: Mark::from_word(*mark).uses.wrapping_add(1), measure };
-        // A record is here already: only a damaged book deals its block out again.
+        // Only a damaged book deals out a granule where a record is already, or bytes that are not in the arena.
         let handle = Handle::new(granule, new.uses).ok_or(DAMAGED)?;
+        let bytes = self.arena.get_mut(new.range(granule)).ok_or(DAMAGED)?;
         *mark = new.word();
         self.records += 1;
         self.bytes += len as u64;
-        Ok((handle, new.range(granule)))
+        Ok((handle, bytes))
     }
 
     /// A block that has room for a record and its alignment, as granule and measure.
@@ -305,7 +302,7 @@ impl Region {
         let start = granule as usize * GRANULE_BYTES;
         let above = match store {
             Some(number) => Mark::STORED | u32::from(number) << 16,
-            None => ((start.next_multiple_of(align) - start) / GRANULE_BYTES << 16) as u32,
+            None => (((start.next_multiple_of(align) - start) / GRANULE_BYTES) << 16) as u32,
         };
         Ok((granule, above | len as u32))
     }
@@ -337,11 +334,6 @@ impl Region {
     pub(crate) fn stored(&self, handle: Handle, store: u16, len: usize) -> Option<&[u8]> {
         let mark = self.mark(handle).filter(|mark| mark.store() == Some(store))?;
         self.arena.get(mark.range(handle.granule())).filter(|bytes| bytes.len() == len)
-    }
-
-    /// The bytes of a place that was begun.
-    pub(crate) fn bytes_mut(&mut self, range: Range<usize>) -> Option<&mut [u8]> {
-        self.arena.get_mut(range)
     }
 
     /// A record; none if it was freed.
@@ -490,11 +482,11 @@ impl Region {
         if aligned && natural && self.has_room(granule, mark, len)? {
             return Ok(self.measure(handle, mark, len));
         }
-        match self.begin(len, align, mark.store()) {
-            Ok((moved, new)) => {
-                let kept = old.len().min(len);
-                self.arena.copy(old.start..old.start + kept, new.start);
-                self.clear(new.start + kept..new.end);
+        // A store's record is where its block begins: aligned to more, it is no store's any more.
+        let store = mark.store().filter(|_| align <= GRANULE_BYTES);
+        match self.begin(len, align, store).map(|(moved, _)| moved) {
+            Ok(moved) => {
+                self.copy(old, moved);
                 self.free(handle)?;
                 Ok(moved)
             }
@@ -526,6 +518,15 @@ impl Region {
         self.bytes = self.bytes - old.len() as u64 + len as u64;
         self.clear(old.end..old.start + len);
         handle
+    }
+
+    /// Copies a record to one that was begun. What it is longer by is 0.
+    fn copy(&mut self, old: Range<usize>, moved: Handle) {
+        if let Some(new) = self.range(moved) {
+            let kept = old.len().min(new.len());
+            self.arena.copy(old.start..old.start + kept, new.start);
+            self.clear(new.start + kept..new.end);
+        }
     }
 
     /// Writes zeroes, if there is a byte.
@@ -584,7 +585,7 @@ impl Region {
     /// ```
     #[must_use]
     pub fn pages(&self) -> u64 {
-        self.pool.heap().pages()
+        self.pool.pages()
     }
 
     /// The figures of the region's pool and arena. Records in pages of their own are no blocks; their pages are held.
@@ -749,7 +750,7 @@ const DAMAGED: AllocError = AllocError::Refused(Refusal::BookWord);
 impl Clone for Region {
     fn clone(&self) -> Region {
         let arena = Arena::open(self.pages()).unwrap_or_else(|error| panic!("{error}"));
-        let mut clone = Region { pool: self.pool.clone(), arena, marks: copy_used(&self.marks), ..*self };
+        let mut clone = Region { pool: self.pool.clone(), arena, marks: copy_used(&self.marks, self.used()), ..*self };
         for (handle, record) in self {
             clone[handle].copy_from_slice(record);
         }
@@ -760,7 +761,7 @@ impl Clone for Region {
 /// Equal regions have the same records under the same handles, and answer equal calls equally.
 impl PartialEq for Region {
     fn eq(&self, other: &Region) -> bool {
-        self.pool == other.pool && self.marks == other.marks && self.iter().eq(other)
+        self.pool == other.pool && self.marks[..self.used()] == other.marks[..self.used()] && self.iter().eq(other)
     }
 }
 
@@ -846,5 +847,43 @@ impl FusedIterator for Records<'_> {}
 impl fmt::Debug for Records<'_> {
     fn fmt(&self, f: &mut fmt::Formatter) -> fmt::Result {
         f.debug_map().entries(self.clone()).finish()
+    }
+}
+
+#[cfg(test)]
+mod tests {
+    use super::*;
+    use std::vec;
+
+    /// A granule's last number is used up: the block is not given back, so that no handle ever names another record.
+    #[test]
+    fn a_granule_that_is_used_up() {
+        for len in [5, 70_000] {
+            let mut region = Region::open(4).expect("four pages");
+            let first = region.alloc(&vec![1; len]).expect("there is room");
+            region.free(first).expect("it is there");
+            let granule = first.granule() as usize;
+            region.marks[granule] = Mark { uses: u32::MAX - 1, measure: 0 }.word();
+            let last = region.alloc(&vec![2; len]).expect("there is room");
+            assert_eq!((last.granule(), last.uses()), (first.granule(), u32::MAX));
+            region.free(last).expect("it is there");
+            assert_eq!((region.len(), region.bytes(), region.get(last), region.get(first)), (0, 0, None, None));
+            let others: Vec<Handle> = core::iter::from_fn(|| region.alloc(&vec![3; len]).ok()).collect();
+            assert!(!others.is_empty() && others.iter().all(|other| other.granule() != first.granule()));
+            assert_eq!(Region::load(&region.save()), Ok(region));
+        }
+    }
+
+    /// Every measure says what it was made of.
+    #[test]
+    fn measures() {
+        let block = Mark { uses: 1, measure: 0x0fff_ffc0 };
+        assert_eq!((block.len(), block.shift(), block.store(), block.in_pages()), (65_472, 4_095 * 16, None, false));
+        let stored = Mark { uses: 1, measure: Mark::STORED | 16_383 << 16 | 9 };
+        assert_eq!((stored.len(), stored.shift(), stored.store(), stored.in_pages()), (9, 0, Some(16_383), false));
+        let pages = Mark { uses: 1, measure: measure_of((1 << 31) - 1).expect("31 bits") };
+        assert_eq!((pages.len(), pages.shift(), pages.store(), pages.in_pages()), ((1 << 31) - 1, 0, None, true));
+        assert_eq!((measure_of(1 << 31), pages.with_len(7).len(), stored.with_len(0).store()), (None, 7, Some(16_383)));
+        assert_eq!(Mark::from_word(stored.word()).range(3), 48..57);
     }
 }

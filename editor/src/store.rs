@@ -192,10 +192,8 @@ impl<T: Record, R: Keep> Store<T, R> {
         }
         let number = self.number;
         self.region.act(|region| {
-            let (handle, range) = region.begin(T::BYTES, 1, Some(number))?;
-            if let Some(bytes) = region.bytes_mut(range) {
-                record.write(bytes);
-            }
+            let (handle, bytes) = region.begin(T::BYTES, 1, Some(number))?;
+            record.write(bytes);
             Ok(handle.typed())
         })
     }

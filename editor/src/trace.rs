@@ -130,6 +130,7 @@ impl Trace {
     }
 
     /// What each word says; none for one that stops the trace by itself.
+    #[must_use = "it tells, and changes nothing"]
     pub fn says(&self) -> impl DoubleEndedIterator<Item = Option<Say>> + ExactSizeIterator + '_ {
         self.words.iter().map(|&word| Say::from_word(word))
     }

@@ -1,4 +1,5 @@
 //! Regions: records of every length keep their bytes, no neighbour is reached, and a handle is refused once its record was freed.
+#![allow(clippy::cast_possible_truncation, clippy::large_stack_arrays)] // patterns of bytes
 
 use std::collections::HashMap;
 
@@ -29,10 +30,11 @@ fn refused(region: &mut Region, stale: Handle) {
 fn as_a_map_does() {
     let mut random: u64 = 9;
     let mut below = |limit: usize| below(&mut random, limit);
-    let mut region = open(256);
+    let mut region = open(64);
     let mut plain: HashMap<Handle, (Vec<u8>, usize)> = HashMap::new();
     let (mut stale, mut full) = (Vec::new(), 0);
-    for turn in 0..20_000_usize {
+    let turns: usize = if cfg!(debug_assertions) { 3_000 } else { 30_000 };
+    for turn in 0..turns {
         let most = [64, 64, 64, 1_000, 1_000, 16_385, 65_600, 300_000][below(8)];
         let (len, align) = (below(most), 1 << below(17));
         let some = plain.keys().nth(below(plain.len().max(1))).copied();
@@ -91,7 +93,7 @@ fn as_a_map_does() {
     assert_eq!((found.len(), region.len()), (plain.len(), plain.len()));
     assert!(plain.iter().all(|(handle, (record, _))| found[handle] == *record));
     assert_eq!(region.bytes(), plain.values().map(|(record, _)| record.len() as u64).sum::<u64>());
-    for handle in stale.into_iter().take(5_000) {
+    for handle in stale.into_iter().take(2_000) {
         refused(&mut region, handle);
     }
     for handle in found.into_keys() {
@@ -257,4 +259,16 @@ fn a_record_of_each_class_and_its_length() {
         }
     }
     assert_eq!(region.report().expect("an opened book").used, 2 * Class::COUNT);
+}
+
+/// Regions and stores can pass to another thread; handles name records of any type.
+#[test]
+fn between_threads() {
+    fn passes<T: Send + Sync + Unpin + std::panic::UnwindSafe>() {}
+    passes::<Region>();
+    passes::<vigbuso::Pool>();
+    passes::<vigbuso::Heap>();
+    passes::<vigbuso::Store<u32>>();
+    passes::<Handle<std::rc::Rc<u32>>>();
+    passes::<Error>();
 }

@@ -1,4 +1,5 @@
 //! Saves: what was saved goes on as it was, and what was cut, changed or is something else is refused by name.
+#![allow(clippy::cast_possible_truncation, clippy::large_stack_arrays)] // patterns of bytes
 
 use vigbuso::{Block, Class, Error, Handle, Heap, Host, LoadError, Pool, Region, Rules};
 
@@ -171,7 +172,8 @@ fn forged_saves() {
     };
     let (mut loaded, mut refused) = (0, 0);
     let words = save.len() - 90_145; // before the records' bytes
-    for _ in 0..5_000 {
+    let turns = if cfg!(debug_assertions) { 400 } else { 5_000 };
+    for _ in 0..turns {
         let mut forged = save.clone();
         for _ in 0..=below(3) {
             forged[24 + below(words - 24)] = [0, 1, 2, 3, 16, 77, 127, 255][below(8)];
@@ -197,5 +199,5 @@ fn forged_saves() {
         }
         let _ = Region::load(&region.save());
     }
-    assert!(loaded > 500 && refused > 500, "{loaded} loaded, {refused} refused");
+    assert!(loaded > turns / 10 && refused > turns / 10, "{loaded} loaded, {refused} refused");
 }
