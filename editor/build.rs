@@ -1,6 +1,6 @@
-//! Links `libvigbuso.a`: the one in the folder that `VIGBUSO_STATICLIB_DIR` names; otherwise the one in the package's own `lib/`,
-//! where a release has it; otherwise the repository's own, which `rt staticlib vigbuso` makes anew here if it is not there or older
-//! than its sources. Documentation alone (`DOCS_RS` is set) needs none.
+//! Links `libvigbuso.a`: the one in the folder that `VIGBUSO_STATICLIB_DIR` names; otherwise, in the repository, its own, which
+//! `rt staticlib vigbuso` makes anew here if it is not there or older than its sources; elsewhere the one in the package's `lib/`,
+//! where a release has it. Documentation alone (`DOCS_RS` is set) needs none.
 
 use std::io::Write;
 use std::path::{Path, PathBuf};
@@ -27,10 +27,11 @@ fn main() {
     }
     refuse_other_targets();
     let package = PathBuf::from(env::var("CARGO_MANIFEST_DIR").expect("CARGO_MANIFEST_DIR"));
-    let folder = match env::var_os(NAMED).filter(|name| !name.is_empty()) {
-        Some(name) => named_folder(&package, Path::new(&name)),
-        None if package.join("lib").join(ARCHIVE).exists() => package.join("lib"),
-        None => own_folder(&package),
+    let root = package.parent().filter(|root| root.join(CRATES).exists());
+    let folder = match (env::var_os(NAMED).filter(|name| !name.is_empty()), root) {
+        (Some(name), _) => named_folder(&package, Path::new(&name)),
+        (None, Some(root)) => own_folder(root),
+        (None, None) => released_folder(&package),
     };
     let archive = folder.join(ARCHIVE);
     println!("cargo:rerun-if-changed={}", archive.display());
@@ -79,15 +80,19 @@ fn refuse_other_targets() {
     assert!(fits, "{ARCHIVE} links only into programs for x86-64 Linux, and the target is {target}");
 }
 
-/// The repository's own archive, no older than what it is made of.
-fn own_folder(package: &Path) -> PathBuf {
-    let root = package.parent().unwrap_or(package);
+/// Where a release has the archive.
+fn released_folder(package: &Path) -> PathBuf {
+    let folder = package.join("lib");
     assert!(
-        root.join(CRATES).exists(),
-        "there is no {ARCHIVE} in {}, and {} is not the repository that it can be made in: name its folder in {NAMED}",
-        package.join("lib").display(),
-        root.display()
+        folder.join(ARCHIVE).exists(),
+        "there is no {ARCHIVE} in {}, as a release has it, nor is this the repository that it is made in: name its folder in {NAMED}",
+        folder.display()
     );
+    folder
+}
+
+/// The repository's own archive, no older than what it is made of.
+fn own_folder(root: &Path) -> PathBuf {
     let folder = root.join("target/staticlib");
     let sources = sources(root);
     for source in &sources {

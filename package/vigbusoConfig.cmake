@@ -1,5 +1,5 @@
 # find_package(vigbuso) gives the target vigbuso::vigbuso. The folder may stand anywhere.
-if(NOT (CMAKE_SYSTEM_NAME STREQUAL "Linux" AND CMAKE_SYSTEM_PROCESSOR STREQUAL "x86_64"))
+if(NOT (CMAKE_SYSTEM_NAME STREQUAL "Linux" AND CMAKE_SYSTEM_PROCESSOR MATCHES "^(x86_64|amd64|AMD64)$"))
   set(vigbuso_FOUND FALSE)
   set(vigbuso_NOT_FOUND_MESSAGE
       "libvigbuso.a links only into programs for x86-64 Linux, not for ${CMAKE_SYSTEM_NAME} on ${CMAKE_SYSTEM_PROCESSOR}")
