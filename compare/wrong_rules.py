@@ -57,7 +57,15 @@ ROWS_CODE = "crates/rules/src/rows.rt"
 REPEATED = "(cond (repeats sh s ws) (refuse s 15)"
 FOREIGN = "(cond (not (every (outHere sh s) ws)) (refuse s 10)"
 # The boundary tests that look into the book.
-BOOK_TESTS = ["ranges::", "marks::", "joins::stands", "holes::a_cut_hole_keeps_its_index", "holes::the_last_hole_takes_a_used_up_ones_place"]
+BOOK_TESTS = [
+    "ranges::",
+    "marks::",
+    "joins::stands",
+    "chunks::chunks_give_their_runs_in_order",
+    "holes::a_cut_hole_keeps_its_index",
+    "holes::the_last_hole_takes_a_used_up_ones_place",
+    "runs::the_counts_are_kept_modulo_two_to_the_64th",
+]
 
 
 @dataclass

@@ -23,6 +23,7 @@ mod places;
 mod plan;
 mod planned;
 mod pool;
+mod pool_speed;
 mod port;
 mod progress;
 mod random;
@@ -77,7 +78,11 @@ const USAGE: &str = "usage: compare COMMAND [--NAME VALUE ..]
   speed        [--file F] [--seconds S]
                the port's time against the original's, for each scenario S seconds; the table is also written to F
   count        [--file F]
-               instructions of each call, the port's against the original's, by valgrind; the table is also written to F";
+               instructions of each call, the port's against the original's, by valgrind; the table is also written to F
+  pool-speed   [--file F] [--rounds N] [--rust-pool LIBRARY]
+               the pool's time against malloc, mimalloc and jemalloc where they are installed, and a library of the crate's Pool
+  pool-count   [--file F] [--rust-pool LIBRARY]
+               the same in instructions, by valgrind";
 
 fn main() -> ExitCode {
     let words: Vec<String> = std::env::args().skip(1).collect();
@@ -103,6 +108,8 @@ fn main() -> ExitCode {
         Some("memory") => touched::run(),
         Some("speed") => speed::time(rest),
         Some("count") => speed::count(rest),
+        Some("pool-speed") => pool_speed::time(rest),
+        Some("pool-count") => pool_speed::count(rest),
         _ => Err(USAGE.into()),
     };
     match result {

@@ -16,11 +16,12 @@ mod trace;
 use std::fs;
 use std::time::Duration;
 
-use self::counter::Counter;
+pub use self::counter::{counted, watch, Counter};
 pub use self::fill::calls as fill_calls;
 #[cfg(test)]
 pub use self::fill::{kinds as fill_kinds, Style};
 use self::meter::Meter;
+pub use self::rounds::Quartiles;
 use self::scenarios::Scenario;
 use self::sides::{OriginalSide, PortSide};
 use self::table::{Counts, Times};
@@ -53,7 +54,7 @@ pub fn time(words: &[String]) -> Result<bool, String> {
 
 pub fn count(words: &[String]) -> Result<bool, String> {
     let arguments = Arguments::read(words, &["file", "worker"])?;
-    let Some(dumps) = arguments.text("worker") else { return counter::watch("count", words) };
+    let Some(dumps) = arguments.text("worker") else { return watch("count", words, &counter::COUNTED, None) };
     let counter = Meter::Counter(Counter::new(dumps));
     let mut counts = Counts::default();
     oracle::shorten(LONGEST_COUNTED);
