@@ -1,1 +1,3 @@
 mod Zeros
+mod Made
+mod Reading

@@ -1,7 +1,7 @@
 use Prim.Native.Nat.{_≤_, _-_}
 use borrow.Author.Needs.{needs}
-use Rattle.replay.proofs.line.widened.Statement.{statement}
-use Rattle.replay.proofs.line.widened.Tie as tie
+use Rattle.replay.proofs.widened.Statement.{statement}
+use Rattle.replay.proofs.widened.Tie as tie
 
 abbrev Inv-loop : tie.InvT-loop
 Inv-loop words answers₀ i₀ answers i = i ≤ 4096
