@@ -38,7 +38,7 @@ use Rattle.refinement.specs.Run.{repliesFrom}
 use Rattle.demands.specs.Call.{call}
 use Rattle.demands.specs.Contracts.{runSeen, Shows, take-blocks, medium-take-blocks, release-blocks, medium-release-blocks, release-bin-chunks, commit, grow-frontier, release, contains, report, InTurn, ends, calls}
 use Rattle.demands.proofs.Calls.{room-plain}
-use Rattle.refinement.proofs.Basics.{digit-eqb}
+use Rattle.words.proofs.Answers.{digit-eqb}
 
 not-zero : (k : ℕ) → eqb (suc k) 0 ≡ false
 not-zero k = ne-eqb (suc k) 0 (λ e. omega (arith, e))

@@ -10,7 +10,7 @@ use Rattle.game.specs.Game.{empty, wins, badGame, played, askerWins, winsOut, G
 use Rattle.game.specs.Forces.{Forces}
 use Rattle.game.proofs.Theorems as Theorems
 use Rattle.pages.proofs.Downs.{digit-le}
-use Rattle.refinement.proofs.Basics.{digit-eqb}
+use Rattle.words.proofs.Answers.{digit-eqb}
 use Rattle.demands.specs.Game.{AskerWins, Game}
 
 -- what a call that was not refused wrote

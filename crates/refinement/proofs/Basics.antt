@@ -4,7 +4,7 @@ use Prim.Native.Nat.{ℕ}
 use mathlib.Core.Bool.{Bool, true, false}
 use mathlib.Core.List.{List}
 use mathlib.Core.Path.{_≡_, refl}
-use lib.Dec.{eqb, ltb, leb}
+use lib.Dec.{ltb, leb}
 use lib.ListN.{length}
 use Rattle.classes.specs.declared.Shape.{Shape}
 use Rattle.classes.specs.Sound.{Sound}
@@ -21,10 +21,6 @@ pub setting-kept : {n : ℕ} {b : List ℕ} {c : ℕ} {sh : Shape} (b′ : List 
 setting-kept b′ e s = record { long = rw e (s .long); row = s .row; shape = s .shape }
 
 -- ---- tests
-
-pub digit-eqb : (v : Bool) → eqb (digit v) 1 ≡ v
-digit-eqb true = refl
-digit-eqb false = refl
 
 pub digit-small : (t : Bool) → leb (digit t) 1 ≡ true
 digit-small true = refl

@@ -22,7 +22,8 @@ use Rattle.pages.specs.Links.{unlink}
 use Rattle.pages.specs.declared.Park.{Park}
 use Rattle.calls.specs.Take.{Filled, filledNone, thenFilled, unlistSpent, fillFrom}
 use Rattle.refinement.specs.Represents.{PageRep, ClassRep}
-use Rattle.refinement.proofs.Basics.{Setting, setting-kept, digit-eqb}
+use Rattle.words.proofs.Answers.{digit-eqb}
+use Rattle.refinement.proofs.Basics.{Setting, setting-kept}
 use Rattle.refinement.proofs.Frames.{ofClass, Only, only-trans}
 use Rattle.refinement.proofs.Moves.{at-partial, from-partial, full-out, unlink-only}
 use Rattle.refinement.proofs.Draw.{draw-data, draw-only, more-is, pop-rep, pop-blocks, pop-length, pop-size}

@@ -7,6 +7,7 @@ use mathlib.Core.Path.{_≡_, refl, sym, ap, _∙_}
 use mir.Val.{boolByte}
 use lib.Dec.{eqb}
 use borrow.Author.Tests.{ne-eqb}
+use Rattle.words.proofs.Answers.{digit-eqb}
 use Rattle.words.specs.Host.{digit}
 use Rattle.take.specs.declared.call.Take.{Take}
 use Rattle.calls.specs.Take as Heap
@@ -38,10 +39,6 @@ byte-digit : (v : Bool) → boolByte v ≡ digit v
 byte-digit true = refl
 byte-digit false = refl
 
-digit-one : (v : Bool) → eqb (digit v) 1 ≡ v
-digit-one true = refl
-digit-one false = refl
-
 module _ (t : Heap.Took) (x y : List ℕ) where
   module _ (s : Take) (k : Takes s x y t) where
     pub into-refused : (c m v : ℕ) → s ≡ Refused c → TakesInto c x y m m v v t
@@ -69,4 +66,4 @@ module _ (t : Heap.Took) (x y : List ℕ) where
         let u : t .code ≡ 0 = sym (k .code) ∙ z in
         let e : m′ ≡ t .count = rw u at (k .count) in
         let f : v′ ≡ digit (t .virgin) = rw u at (k .virgin) in
-        record { answer = rw (u, e, f, digit-one (t .virgin)); book = k .book; list = k .list }
+        record { answer = rw (u, e, f, digit-eqb (t .virgin)); book = k .book; list = k .list }

@@ -86,3 +86,8 @@ next-bit k h e = ap₂ (λ (x y : ℕ). x * 2 ^ k + y) (digit-bit k h) e ∙ sym
 pub host-again : (h : ℕ) → badHost h ≡ false → hostWord (reservationGranted h) (commitGranted h) (discardDone h) (discardZeroes h) ≡ h
 host-again h e =
     next-bit 3 h (next-bit 2 h (next-bit 1 h (omega (arith, digit-bit 0 h)))) ∙ mod-eq-of-lt (omega (arith, ltb-false hostMax h e))
+
+-- a digit is 1 exactly if what it tells is true
+pub digit-eqb : (v : Bool) → eqb (digit v) 1 ≡ v
+digit-eqb true = refl
+digit-eqb false = refl
