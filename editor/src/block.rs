@@ -180,7 +180,8 @@ impl Block {
     }
 
     /// The block's first `len` bytes, to index the arena with. The block does not tell its size: `len` is at most its class's
-    /// [`bytes`](crate::Class::bytes), or the range goes on into the next block.
+    /// [`bytes`](crate::Class::bytes), or the range goes on into the next block. [`Pool::range`](crate::Pool::range) has just the
+    /// block's bytes, and a [`Region`](crate::Region) reaches no other.
     ///
     /// ```
     /// use vigbuso::{Class, Heap, PAGE_BYTES};

@@ -43,11 +43,16 @@ pub(crate) fn entries(book: &[u32], place: usize, count: usize) -> &[u32] {
 pub(crate) fn copy_used<T: Unsigned>(from: &[T], used: usize) -> Vec<T> {
     let mut copy = ffi::zeroed(from.len()).unwrap_or_else(|| no_memory::<T>(from.len()));
     for (old, new) in from[..used].chunks(CHUNK).zip(copy[..used].chunks_mut(CHUNK)) {
-        if old.iter().any(|&integer| integer != T::default()) {
+        if !is_zero(old) {
             new.copy_from_slice(old);
         }
     }
     copy
+}
+
+/// Whether all of up to 512 integers are 0.
+pub(crate) fn is_zero<T: Unsigned>(integers: &[T]) -> bool {
+    *integers == [T::default(); CHUNK][..integers.len()]
 }
 
 /// As a `Vec` that cannot grow, where the caller is promised a value.

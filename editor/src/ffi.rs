@@ -488,9 +488,9 @@ mod tests {
     fn the_pools_calls() {
         let mut book = opened();
         let (words, len, mut word) = (book.as_mut_ptr(), book.len(), 7);
-        let mut call = |alloc: bool, class, host| match alloc {
-            true => unsafe { vigbuso_alloc(words, len, class, host, &raw mut word) },
-            false => unsafe { vigbuso_trim(words, len, class, host, &raw mut word) },
+        let mut call = |alloc: bool, class, host| {
+            let call = if alloc { vigbuso_alloc } else { vigbuso_trim };
+            unsafe { call(words, len, class, host, &raw mut word) }
         };
         for alloc in [true, false] {
             assert_eq!([call(alloc, 0, 16), call(alloc, 76, u32::MAX), call(alloc, 76, 3)], [3, 3, 4]);

@@ -145,8 +145,8 @@ impl<B: AsRef<[u32]> + AsMut<[u32]>> Pool<B> {
     /// and arena's record are tested as [`Heap::resume`] does; a book that was damaged elsewhere makes no call unsafe, but what calls
     /// answer may mean nothing.
     ///
-    /// Every block that is out and in no stock counts as granted, so on a book of a [`Heap`] those that its takes have handed out. All
-    /// blocks are gone over once, to count those in use.
+    /// Every block that is out and in no stock counts as granted, so on a book of a [`Heap`] those that its takes have handed out. (What
+    /// is proved speaks of pools from their opening on.) All blocks are gone over once, to count those in use.
     ///
     /// ```
     /// # use vigbuso::Pool;

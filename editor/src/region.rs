@@ -26,6 +26,10 @@ const ALIGNED: usize = 16_384;
 /// in every build, whatever stands at its place now.
 ///
 /// Records up to [`Class::MAX_BYTES`] bytes stand in the pool's blocks, longer ones, up to 2 GiB less a byte, in pages of their own.
+/// Records of about one length share pages: each of 46 lengths of blocks needs a page at least, and each of 12 above 16,384 bytes three to
+/// eight side by side. So a region for records of many lengths has some pages more than their bytes need, or the answer is soon
+/// [`AllocError::Full`]. A page without a record serves every length again.
+///
 /// Beside the arena, its book takes a quarter of its length and the marks of its granules a half. That is address space: only what
 /// belongs to pages that were used is ever touched.
 ///

@@ -16,7 +16,7 @@
 
 use alloc::vec::Vec;
 
-use crate::book::frontier;
+use crate::book::{frontier, is_zero};
 use crate::ffi::Unsigned;
 use crate::heap::{book_words, own_words, zeroes};
 use crate::{Heap, Host, LoadError, OpenError, Pool, Record};
@@ -66,13 +66,12 @@ impl Writer {
 
     /// Those that are not 0, by stretches.
     pub(crate) fn words<T: Unsigned + Record>(&mut self, words: &[T]) {
-        let used = |chunk: &[T]| chunk.iter().any(|&word| word != T::default());
         let mut place = 0;
-        for stretch in words.chunks(CHUNK).collect::<Vec<_>>().chunk_by(|a, b| used(a) == used(b)) {
+        let chunks: Vec<&[T]> = words.chunks(CHUNK).collect();
+        for stretch in chunks.chunk_by(|a, b| is_zero(a) == is_zero(b)) {
             let count = stretch.iter().map(|chunk| chunk.len()).sum::<usize>();
-            if used(stretch[0]) {
-                self.number(&(place as u64));
-                self.number(&(count as u64));
+            if !is_zero(stretch[0]) {
+                self.number(&[place as u64, count as u64]);
                 words[place..place + count].iter().for_each(|word| self.number(word));
             }
             place += count;

@@ -98,6 +98,17 @@ impl Keep for Rc<RefCell<Region>> {
 /// assert_eq!(links.get(first), None);
 /// # Ok::<(), vigbuso::Error>(())
 /// ```
+///
+/// A handle of a word names no number:
+///
+/// ```compile_fail,E0308
+/// # use vigbuso::Store;
+/// let mut words = Store::<[u8; 5]>::open(1)?;
+/// let numbers = Store::<u32>::open(1)?;
+/// let word = words.put(b"HERON")?;
+/// numbers.get(word);
+/// # Ok::<(), vigbuso::Error>(())
+/// ```
 pub struct Store<T, R = Region> {
     region: R,
     number: u16,

@@ -217,6 +217,21 @@ fn a_pool_is_a_value() {
     assert_eq!(pools[0].report().map(|report| report.used), other.report().map(|report| report.used));
 }
 
+/// Also with a book in a box, and with words that nobody has used.
+#[test]
+fn clones_of_given_books() {
+    let mut heap = Heap::on(vec![7; book_words(8)].into_boxed_slice(), 8).expect("eight pages");
+    let class = Class::for_size(100).expect("a class");
+    let blocks = heap.take(class).expect("an opened book");
+    let mut clone = heap.clone();
+    assert_eq!(clone, heap);
+    assert_eq!(clone.release(class, &blocks[..5]), heap.release(class, &blocks[..5]));
+    assert_eq!(clone, heap);
+    let pool = Pool::on(vec![7; book_words(8)], 8).expect("eight pages");
+    assert_eq!(pool.clone(), pool);
+    assert_ne!(pool, Pool::open(8).expect("eight pages"), "its words are others, though it answers the same");
+}
+
 /// A heap that goes on with a pool's book has what is in stock back: nothing is out but what was granted.
 #[test]
 fn a_heap_on_a_pools_book() {

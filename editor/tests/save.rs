@@ -172,7 +172,7 @@ fn forged_saves() {
     };
     let (mut loaded, mut refused) = (0, 0);
     let words = save.len() - 90_145; // before the records' bytes
-    let turns = if cfg!(debug_assertions) { 400 } else { 5_000 };
+    let turns = if cfg!(debug_assertions) { 150 } else { 5_000 };
     for _ in 0..turns {
         let mut forged = save.clone();
         for _ in 0..=below(3) {
