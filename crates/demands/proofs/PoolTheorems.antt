@@ -1,6 +1,6 @@
 -- The pool's demand holds of every history of the exported calls, on the words.
 use Prim.Native.Nat.{ℕ, _≤_}
-use mathlib.Core.Bool.{true, false, not, true≢false}
+use mathlib.Core.Bool.{true, false, true≢false}
 use mathlib.Core.List.{List, [], _∷_, _++_, map, head-eq-of-cons-eq, tail-eq-of-cons-eq}
 use mathlib.Core.Logic.{_↔_, inl, inr}
 use mathlib.Core.Option.{none, some}
@@ -34,7 +34,7 @@ use Rattle.refinement.proofs.ArenaReached.{heap-next, reached-after}
 use Rattle.refinement.proofs.Book.{setting-of}
 use Rattle.refinement.proofs.Found.{out-here}
 use Rattle.refinement.proofs.Whole.{call-whole}
-use Rattle.pool.specs.Pool.{Pool, newPool, PoolCall, PoolAnswer, Wish, to, alloc, free, trim, callBy, poolStep, refused, noBlock, freed}
+use Rattle.pool.specs.Pool.{Pool, newPool, PoolCall, PoolAnswer, Wish, to, alloc, free, trim, callBy, poolStep, noBlock}
 use Rattle.pool.specs.Told.{PoolEvent, toldOf, poolEvents, poolEventsFrom, poolAfter, heapCalls, poolAnswersOf, isOf}
 use Rattle.pool.specs.Claims.{Bare, answerTo}
 use Rattle.pool.proofs.Apart.{pool-disjoint}
