@@ -121,7 +121,7 @@ pub use region::{Records, Region};
 pub use report::Report;
 pub use rules::Rules;
 pub use run::{Committed, Run};
-pub use store::{Keep, Store};
+pub use store::{Keep, KeepMut, Store};
 pub use table::{class_table, Growth};
 pub use taken::{Taken, BATCH};
 pub use trace::{Done, Figures, Say, Trace, TraceError, Traced};

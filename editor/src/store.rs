@@ -8,7 +8,8 @@ use core::marker::PhantomData;
 
 use crate::{AllocError, Error, Handle, OpenError, Record, Region};
 
-/// Where a [`Store`] has its region: its own, a borrowed one, or one that it shares with other stores.
+/// Where a [`Store`] has its region: its own, a borrowed one, or one that it shares with other stores. A region that is lent to be
+/// read alone has a store to be read alone.
 ///
 /// ```
 /// use std::cell::RefCell;
@@ -17,46 +18,69 @@ use crate::{AllocError, Error, Handle, OpenError, Record, Region};
 ///
 /// let region = Rc::new(RefCell::new(Region::open(64)?));
 /// let mut words = Store::<[u8; 5], _>::on(Rc::clone(&region), 0);
-/// let mut scores = Store::<i32, _>::on(region, 1);
+/// let mut scores = Store::<i32, _>::on(Rc::clone(&region), 1);
 /// let (word, score) = (words.put(b"HERON")?, scores.put(&-3)?);
 /// assert_eq!((words.get(word), scores.get(score)), (Some(*b"HERON"), Some(-3)));
+/// assert_eq!(Store::on(&*region.borrow(), 1).get(score), Some(-3));
 /// # Ok::<(), vigbuso::Error>(())
 /// ```
 pub trait Keep {
     /// Asks the region.
     fn ask<A>(&self, ask: impl FnOnce(&Region) -> A) -> A;
+}
 
+/// Where a [`Store`] has a region that it can change. A shared region is borrowed for one call at a time, so that stores do not find it in
+/// use; a borrow of the program's own has to end before, or the call panics.
+///
+/// ```
+/// use vigbuso::{Handle, KeepMut, Region, Store};
+///
+/// /// Numbers, wherever their store has its region.
+/// fn put_all(store: &mut Store<u32, impl KeepMut>, numbers: &[u32]) -> Vec<Handle<u32>> {
+///     numbers.iter().filter_map(|number| store.put(number).ok()).collect()
+/// }
+///
+/// let mut region = Region::open(64)?;
+/// assert_eq!(put_all(&mut Store::on(&mut region, 0), &[7, 8]).len(), 2);
+/// # Ok::<(), vigbuso::Error>(())
+/// ```
+pub trait KeepMut: Keep {
     /// Has the region do something.
     fn act<A>(&mut self, act: impl FnOnce(&mut Region) -> A) -> A;
 }
 
-impl Keep for Region {
-    fn ask<A>(&self, ask: impl FnOnce(&Region) -> A) -> A {
-        ask(self)
-    }
-
-    fn act<A>(&mut self, act: impl FnOnce(&mut Region) -> A) -> A {
-        act(self)
-    }
+/// A region that is there for the store alone, or borrowed.
+macro_rules! keeps {
+    ($($region:ty)*) => {$(
+        impl Keep for $region {
+            fn ask<A>(&self, ask: impl FnOnce(&Region) -> A) -> A {
+                ask(self)
+            }
+        }
+    )*};
 }
 
-impl Keep for &mut Region {
-    fn ask<A>(&self, ask: impl FnOnce(&Region) -> A) -> A {
-        ask(self)
-    }
+keeps!(Region &Region &mut Region);
 
-    fn act<A>(&mut self, act: impl FnOnce(&mut Region) -> A) -> A {
-        act(self)
-    }
-}
-
-/// A shared region is borrowed for one call at a time, so stores do not find it in use. A borrow of the program's own has to end
-/// before: a call panics otherwise.
 impl Keep for Rc<RefCell<Region>> {
     fn ask<A>(&self, ask: impl FnOnce(&Region) -> A) -> A {
         ask(&self.borrow())
     }
+}
 
+impl KeepMut for Region {
+    fn act<A>(&mut self, act: impl FnOnce(&mut Region) -> A) -> A {
+        act(self)
+    }
+}
+
+impl KeepMut for &mut Region {
+    fn act<A>(&mut self, act: impl FnOnce(&mut Region) -> A) -> A {
+        act(self)
+    }
+}
+
+impl KeepMut for Rc<RefCell<Region>> {
     fn act<A>(&mut self, act: impl FnOnce(&mut Region) -> A) -> A {
         act(&mut self.borrow_mut())
     }
@@ -68,7 +92,7 @@ impl Keep for Rc<RefCell<Region>> {
 /// of another store's type does not compile. In every build a handle whose value was removed is refused from then on, and so is one
 /// of another store of the same type in the same region: stores are told apart by a number.
 ///
-/// A store owns its region, borrows one, or shares one with others ([`Keep`]).
+/// A store owns its region, borrows one, or shares one with others ([`Keep`], [`KeepMut`]).
 ///
 /// ```
 /// use vigbuso::{Handle, Record, Store};
@@ -184,31 +208,6 @@ impl<T: Record, R: Keep> Store<T, R> {
         self.region
     }
 
-    /// Puts a value into a place of its own.
-    ///
-    /// ```
-    /// # use vigbuso::Store;
-    /// let mut pairs = Store::open(64)?;
-    /// let handle = pairs.put(&(1_u8, -2_i64))?;
-    /// assert_eq!(pairs.get(handle), Some((1, -2)));
-    /// # Ok::<(), vigbuso::Error>(())
-    /// ```
-    ///
-    /// # Errors
-    ///
-    /// As [`Region::alloc`]; [`AllocError::TooLarge`] above [`Class::MAX_BYTES`](crate::Class::MAX_BYTES).
-    pub fn put(&mut self, record: &T) -> Result<Handle<T>, AllocError> {
-        if T::BYTES > crate::Class::MAX_BYTES {
-            return Err(AllocError::TooLarge);
-        }
-        let number = self.number;
-        self.region.act(|region| {
-            let (handle, bytes) = region.begin(T::BYTES, 1, Some(number))?;
-            record.write(bytes);
-            Ok(handle.typed())
-        })
-    }
-
     /// A value; none if it was removed.
     ///
     /// ```
@@ -252,6 +251,63 @@ impl<T: Record, R: Keep> Store<T, R> {
     #[must_use]
     pub fn contains(&self, handle: Handle<T>) -> bool {
         self.region.ask(|region| region.stored(handle.erase(), self.number, T::BYTES).is_some())
+    }
+
+    /// The handles of the values that are there now. All granules of pages that were ever used are gone over, as [`Region::iter`] does.
+    ///
+    /// ```
+    /// # use vigbuso::Store;
+    /// let mut numbers = Store::open(64)?;
+    /// let handle = numbers.put(&7_u32)?;
+    /// assert_eq!(numbers.handles(), [handle]);
+    /// # Ok::<(), vigbuso::Error>(())
+    /// ```
+    #[must_use]
+    pub fn handles(&self) -> Vec<Handle<T>> {
+        let handles = self.region.ask(|region| region.handles(self.number, T::BYTES));
+        handles.into_iter().map(Handle::typed).collect()
+    }
+
+    /// The values with their handles, in the order of their places.
+    ///
+    /// ```
+    /// # use vigbuso::Store;
+    /// let mut numbers = Store::open(64)?;
+    /// for number in 0..10_u32 {
+    ///     numbers.put(&number)?;
+    /// }
+    /// assert_eq!(numbers.iter().map(|(_, number)| number).sum::<u32>(), 45);
+    /// # Ok::<(), vigbuso::Error>(())
+    /// ```
+    pub fn iter(&self) -> impl Iterator<Item = (Handle<T>, T)> + '_ {
+        self.handles().into_iter().filter_map(|handle| Some((handle, self.get(handle)?)))
+    }
+}
+
+impl<T: Record, R: KeepMut> Store<T, R> {
+    /// Puts a value into a place of its own.
+    ///
+    /// ```
+    /// # use vigbuso::Store;
+    /// let mut pairs = Store::open(64)?;
+    /// let handle = pairs.put(&(1_u8, -2_i64))?;
+    /// assert_eq!(pairs.get(handle), Some((1, -2)));
+    /// # Ok::<(), vigbuso::Error>(())
+    /// ```
+    ///
+    /// # Errors
+    ///
+    /// As [`Region::alloc`]; [`AllocError::TooLarge`] above [`Class::MAX_BYTES`](crate::Class::MAX_BYTES).
+    pub fn put(&mut self, record: &T) -> Result<Handle<T>, AllocError> {
+        if T::BYTES > crate::Class::MAX_BYTES {
+            return Err(AllocError::TooLarge);
+        }
+        let number = self.number;
+        self.region.act(|region| {
+            let (handle, bytes) = region.begin(T::BYTES, 1, Some(number))?;
+            record.write(bytes);
+            Ok(handle.typed())
+        })
     }
 
     /// Replaces a value and answers the old one; none, and nothing is written, where [`get`](Store::get) is none.
@@ -304,36 +360,6 @@ impl<T: Record, R: Keep> Store<T, R> {
         let record = self.get(handle).ok_or(Error::Stale(handle.erase()))?;
         self.region.act(|region| region.free(handle.erase()))?;
         Ok(record)
-    }
-
-    /// The handles of the values that are there now. All granules of pages that were ever used are gone over, as [`Region::iter`] does.
-    ///
-    /// ```
-    /// # use vigbuso::Store;
-    /// let mut numbers = Store::open(64)?;
-    /// let handle = numbers.put(&7_u32)?;
-    /// assert_eq!(numbers.handles(), [handle]);
-    /// # Ok::<(), vigbuso::Error>(())
-    /// ```
-    #[must_use]
-    pub fn handles(&self) -> Vec<Handle<T>> {
-        let handles = self.region.ask(|region| region.handles(self.number, T::BYTES));
-        handles.into_iter().map(Handle::typed).collect()
-    }
-
-    /// The values with their handles, in the order of their places.
-    ///
-    /// ```
-    /// # use vigbuso::Store;
-    /// let mut numbers = Store::open(64)?;
-    /// for number in 0..10_u32 {
-    ///     numbers.put(&number)?;
-    /// }
-    /// assert_eq!(numbers.iter().map(|(_, number)| number).sum::<u32>(), 45);
-    /// # Ok::<(), vigbuso::Error>(())
-    /// ```
-    pub fn iter(&self) -> impl Iterator<Item = (Handle<T>, T)> + '_ {
-        self.handles().into_iter().filter_map(|handle| Some((handle, self.get(handle)?)))
     }
 }
 

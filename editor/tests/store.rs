@@ -5,7 +5,7 @@ use std::cell::RefCell;
 use std::collections::HashMap;
 use std::rc::Rc;
 
-use vigbuso::{AllocError, Error, Handle, Keep, Record, Region, Store};
+use vigbuso::{AllocError, Error, Handle, KeepMut, Record, Region, Store};
 
 type Word = [u8; 20];
 
@@ -37,7 +37,7 @@ fn a_store_of_values() {
 
 /// There is no such value in the store: it is not read, not written and not removed, in debug and in release builds.
 #[track_caller]
-fn has_none<T: Record, R: Keep>(store: &mut Store<T, R>, handle: Handle<T>, value: &T) {
+fn has_none<T: Record, R: KeepMut>(store: &mut Store<T, R>, handle: Handle<T>, value: &T) {
     assert!(store.get(handle).is_none() && store.replace(handle, value).is_none() && !store.contains(handle));
     assert!(!store.update(handle, |_| panic!("there is none")) && store.get_many([handle]).is_none());
     assert_eq!(store.remove(handle).err(), Some(Error::Stale(handle.erase())));
@@ -90,6 +90,7 @@ fn stores_that_share_a_region() {
     assert_eq!(region.borrow().len(), 4);
     let saved = region.borrow().save();
     let mut again = Store::<u32, _>::on(Region::load(&saved).expect("as it was saved"), 2);
+    assert!(Store::<u32, _>::on(again.region(), 1).iter().eq([(handles[0], 10)]), "a store to be read");
     assert_eq!(again.remove(handles[1]), Ok(20));
     has_none(&mut again, handles[0], &0);
 }
