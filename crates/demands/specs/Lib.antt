@@ -25,6 +25,7 @@ pub mod ChangePlaces
 pub mod Reorders
 pub mod InOrder
 pub mod Repeats
+pub mod Marks
 pub mod Wide
 pub mod Pool
 pub mod PoolContracts
