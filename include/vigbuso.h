@@ -356,7 +356,8 @@ uint32_t vigbuso_trim(uint32_t *book, size_t book_len, uint32_t size_class, uint
  * The class that has the page of a block's word: for vigbuso_free where the class is not at hand. It does not say that the block is out;
  * of a granted one it is the class that granted it.
  *   book   book_len words, read
- * Returns 0 to 75; VIGBUSO_CLASSES where no class has the page, and on a book that another call refuses as 1 or 2.
+ * Returns 0 to 75; VIGBUSO_CLASSES where no class has the page, and on a book that another call refuses as 1 or 2. For a page that was
+ * never handed out it is what the book happens to hold there; vigbuso_free refuses such a block.
  */
 uint32_t vigbuso_class_of(const uint32_t *book, size_t book_len, uint64_t block);
 

@@ -1,8 +1,8 @@
 -- What the pool's reading calls tell: a granted block, its class, the blocks in stock.
 --     live-low        an entry not yet released is of one of the 76 classes
 --     granted-class   of a granted block, on any book, OWNER of its page has the class
---     stocked-rep     COUNT is the length of the stock, on a book that stands for a pool
-use Prim.Native.Nat.{ℕ, zero, suc, _+_, _-_}
+--     stocked-rep, few-rep    COUNT is the length of the stock, and in its range, on a book that stands for a pool
+use Prim.Native.Nat.{ℕ, zero, suc, _+_, _-_, _≤_}
 use native.Mathlib.Omega.{arith}
 use mathlib.Core.Bool.{true, _&&_}
 use mathlib.Core.List.{List, [], _∷_}
@@ -91,6 +91,9 @@ module _ (n : ℕ) (b : List ℕ) (c : ℕ) (st : List ℕ) (r : StockRep n b c 
   count-length : (m : ℕ) → length (stockFrom b c m) ≡ m
   count-length zero = refl
   count-length (suc m) = ap suc (count-length m)
+
+  pub few-rep : length (stockIn b c) ≤ stockRoom
+  few-rep = rw (count-length (countIn b c)) (r .few)
 
   pub stocked-rep : admits b c ≡ true → stockedOn b c ≡ length (stockIn b c)
   unfolding stockedOn stockedIn countFair

@@ -1,40 +1,44 @@
 -- Each of the pool's calls answers the first number of its table that applies, and then leaves the book and its out-parameter.
-use Prim.Native.Nat.{ℕ, _-_, _*_, _<_, _≤_}
+use Prim.Native.Nat.{ℕ, suc, _-_, _*_, _<_, _≤_}
 use native.Mathlib.Omega.{arith}
 use mathlib.Core.Bool.{Bool, true, false, cond, not, _&&_, _||_}
 use mathlib.Core.List.{List, [], _∷_, _++_}
+use mathlib.Core.Logic.{_↔_}
 use mathlib.Core.Path.{_≡_, refl, sym, ap, ap₂, _∙_}
 use lib.Dec.{eqb, ltb, leb}
-use borrow.Author.Tests.{eq-eqb, eqb-true, ltb-true, ltb-false, le-ltb, lt-leb, not-false}
+use borrow.Author.Tests.{eq-eqb, eqb-true, eqb-false, ltb-true, ltb-false, lt-ltb, le-ltb, le-leb, lt-leb, leb-true, leb-false, not-false}
 use Rattle.facts.proofs.Bools.{by-cases, and-left, and-right, and-no, or-right}
-use Rattle.words.specs.Host.{badHost}
+use Rattle.words.specs.Host.{badHost, digit}
 use Rattle.words.specs.Word.{kindOf}
 use Rattle.classes.specs.declared.Shape.{Shape}
 use Rattle.classes.specs.Shape.{shapeOf, classCount}
 use Rattle.classes.proofs.Shapes.{shape-sound}
-use Rattle.fields.specs.Field.{arena, size, get}
+use Rattle.fields.specs.Field.{arena, page, size, owner, get}
 use Rattle.fields.specs.Ranges.{metaFault, maxPages}
 use Rattle.model.specs.Release.{ofKind}
-use Rattle.pages.specs.Stack.{indexOf}
+use Rattle.pages.specs.Stack.{pageAt, indexOf}
+use Rattle.pages.proofs.Downs.{digit-le}
 use Rattle.calls.specs.Out.{startOf, outAt, unmarked, repeats}
 use Rattle.calls.specs.Release.{Released, releasedNone, releaseFair, releaseBlocks, giveBackAt}
 use Rattle.calls.specs.Take.{Took, takeCall, takeBlocks}
 use Rattle.calls.proofs.Out.{fault-marked, fault-foreign, passes}
+use Rattle.trace.specs.Words.{ownerAt, known}
 use Rattle.trace.proofs.Refused.{give-zero}
 use Rattle.pool.specs.Stock.{stockMost, blank}
 use Rattle.pool.specs.Pool.{PoolAnswer, Wish, hostIn, alloc, free, trim, refused, granted, trimmed, noBlock, freed, answered}
 use Rattle.poolcalls.specs.Stock.{countIn, entryIn, blockIn}
-use Rattle.poolcalls.specs.Calls.{Said, said, codeOf, blockOut, countFair, topFair, grantedIn, bringOn, tookOn, allocOn, gaveOn, freedOn, freeOn, trimOn, wishOn}
-use Rattle.vigbuso.specs.Faults.{callFault, classFault}
-use Rattle.vigbuso.specs.Pool.{poolOn}
+use Rattle.poolcalls.specs.Calls.{Said, said, codeOf, blockOut, countFair, topFair, grantedIn, stockedIn, bringOn, tookOn, allocOn, gaveOn, freedOn, freeOn, trimOn, wishOn}
+use Rattle.vigbuso.specs.Faults.{callFault, classFault, admits}
+use Rattle.vigbuso.specs.Pool.{poolOn, classOn, grantedOn, stockedOn}
 use Rattle.demands.specs.Ranges.{Use, strays}
 use Rattle.demands.specs.Reads.{takeReads, barren, markReads, releaseReads, stockReads, topReads}
-use Rattle.demands.specs.Refusals.{Row}
-use Rattle.demands.specs.PoolRefusals.{poolEarly, allocTable, freeTable, trimTable, PoolDemand1}
+use Rattle.demands.specs.Refusals.{Row, firstNumber}
+use Rattle.demands.specs.PoolRefusals.{poolEarly, allocTable, freeTable, trimTable, lookEarly, grantedTable, stockedTable, PoolDemand1}
 use Rattle.demands.proofs.Ranges.{fits-append, number-13, take-strays, top-strays, release-strays}
 use Rattle.demands.proofs.RefusalsLaws.{Ends, ends, turn, unless, book-turn, chain}
 use Rattle.demands.proofs.RefusalsCalls.{take-row, last-code}
-use Rattle.demands.proofs.Refusals.{refuses}
+use Rattle.demands.proofs.Refusals.{refuses, digit-one}
+use Rattle.demands.proofs.PoolLook.{granted-class}
 
 abbrev turned : List ℕ → ℕ → Said
 turned b k = said (refused k) b
@@ -256,10 +260,125 @@ trim-table b c h =
     (λ big. long-rows b c (trim h) big _)
     (λ low. early b c (trim h) _ (trim-row b c h (ltb-false maxPages (get b (arena size)) low)))
 
+-- ---- the calls that only read
+module _ (b : List ℕ) (c : ℕ) (rows : List Row) where
+  look-first : cond (eqb (metaFault b) 0) (cond (leb classCount c) 4 (firstNumber rows)) (metaFault b) ≡ firstNumber (lookEarly b c ++ rows)
+  unfolding metaFault
+  look-first = book-turn {R = ℕ} (λ x. x) (λ x. Unit {0}) ((4, leb classCount c) ∷ rows) (λ x. x) _ (λ x. refl) (λ x. tt) (record { number = refl; kept = λ d. tt }) (get b (arena size)) b .number
+
+  -- no number of a table applies
+  record Clear : Type 0 where
+    admitted : admits b c ≡ true
+    rest : firstNumber rows ≡ 0
+
+  clear : firstNumber (lookEarly b c ++ rows) ≡ 0 → Clear
+  unfolding admits
+  clear z =
+      by-cases (eqb (metaFault b) 0)
+      (λ e. by-cases (leb classCount c)
+      (λ l. let y : _≡_ {A = ℕ} 4 0 = rw (e, l) at (look-first ∙ z) in absurd (omega arith))
+      (λ l. record { admitted = rw (e, lt-ltb c classCount (leb-false classCount c l)); rest = rw (e, l) at (look-first ∙ z) }))
+      (λ e. absurd (eqb-false (metaFault b) 0 e (rw e at (look-first ∙ z))))
+
+  cleared : Clear → firstNumber (lookEarly b c ++ rows) ≡ 0
+  unfolding admits
+  cleared k =
+      let l = ltb-true c classCount (and-right (eqb (metaFault b) 0) _ (k .admitted)) in
+      sym look-first ∙ rw (and-left (eqb (metaFault b) 0) _ (k .admitted), lt-leb classCount c l) (k .rest)
+
+-- two tests, or one, that both pass
+both-pass : (s t : Bool) → firstNumber ((9, not s) ∷ (10, not t) ∷ []) ≡ 0 → (s && t) ≡ true
+both-pass true true z = refl
+both-pass true false z = absurd (omega arith)
+both-pass false t z = absurd (omega arith)
+
+pass-both : (s t : Bool) → (s && t) ≡ true → firstNumber ((9, not s) ∷ (10, not t) ∷ []) ≡ 0
+pass-both true true z = refl
+pass-both true false z = cc
+pass-both false t z = cc
+
+one-pass : (t : Bool) → firstNumber ((13, not t) ∷ []) ≡ 0 → t ≡ true
+one-pass true z = refl
+one-pass false z = absurd (omega arith)
+
+module _ (b : List ℕ) (c w : ℕ) where
+  abbrev asks : List Row
+  asks = (9, not (ofKind (shapeOf c .kind) w)) ∷ (10, not (grantedIn (get b (arena size)) b c w)) ∷ []
+
+  granted-yes : firstNumber (grantedTable b c w) ≡ 0 → grantedOn b c w ≡ true
+  unfolding grantedOn
+  granted-yes z = let k = clear b c asks z in rw (k .admitted) (both-pass (ofKind (shapeOf c .kind) w) (grantedIn (get b (arena size)) b c w) (k .rest))
+
+  yes-granted : grantedOn b c w ≡ true → firstNumber (grantedTable b c w) ≡ 0
+  unfolding grantedOn
+  yes-granted g =
+      cleared b c asks
+      (record {
+        admitted = and-left (admits b c) _ g;
+        rest = pass-both (ofKind (shapeOf c .kind) w) (grantedIn (get b (arena size)) b c w) (and-right (admits b c) _ g);
+      })
+
+module _ (b : List ℕ) (c : ℕ) where
+  count-strays : strays b (stockReads c) ≡ not (countFair b c)
+  unfolding strays
+  count-strays = ap not (sym (number-13 b .stock c))
+
+  stock-counted : firstNumber (stockedTable b c) ≡ 0 → stockedOn b c ≡ countIn b c
+  unfolding stockedOn stockedIn
+  stock-counted e = let k = clear b c ((13, strays b (stockReads c)) ∷ []) e in rw (k .admitted, one-pass (countFair b c) (rw count-strays at (k .rest)))
+
+  stock-none : (firstNumber (stockedTable b c) ≡ 0 → ⊥) → stockedOn b c ≡ 0
+  unfolding stockedOn stockedIn
+  stock-none d =
+      by-cases (admits b c)
+      (λ a. by-cases (countFair b c)
+      (λ f. absurd (d (cleared b c ((13, strays b (stockReads c)) ∷ []) (record { admitted = a; rest = rw (count-strays, f) }))))
+      (λ f. rw (a, f)))
+      (λ a. rw a)
+
+module _ (b : List ℕ) (w : ℕ) where
+  abbrev k : ℕ
+  k = ownerAt (get b (arena size)) b w
+
+  class-low : classOn b w ≤ classCount
+  unfolding classOn
+  class-low =
+      by-cases (eqb (metaFault b) 0)
+      (λ e. by-cases (known k) (λ t. rw (e, t) (omega (arith, leb-true k 76 (and-right (leb 1 k) _ t)))) (λ t. rw (e, t) (omega arith)))
+      (λ e. rw e (omega arith))
+
+  class-owned : (c : ℕ) → admits b c ≡ true → (classOn b w ≡ c) ↔ ((pageAt w < get b (arena size)) × (get b (page owner (pageAt w)) ≡ suc c))
+  unfolding classOn admits ownerAt
+  class-owned c a =
+      let n = get b (arena size) in
+      let fit = and-left (eqb (metaFault b) 0) _ a in
+      let low = ltb-true c classCount (and-right (eqb (metaFault b) 0) _ a) in (
+        (λ z. by-cases (ltb (pageAt w) n)
+            (λ t.
+            let o = get b (page owner (pageAt w)) in (
+              ltb-true (pageAt w) n t,
+              by-cases (known o)
+                  (λ u. let y : o - 1 ≡ c = rw (fit, t, u) at z in omega (arith, leb-true 1 o (and-left (leb 1 o) _ u)))
+                  (λ u. let y : 76 ≡ c = rw (fit, t, u) at z in absurd (omega arith)),
+            ))
+            (λ t. let y : 76 ≡ c = rw (fit, t) at z in absurd (omega arith))),
+        (λ p. rw (fit, lt-ltb (pageAt w) n (p .0), p .1, le-leb 1 (suc c) (omega arith), le-leb (suc c) 76 (omega arith)) (omega arith)),
+      )
+
 -- ---- the demand
 pub pool-demand-1 : PoolDemand1
 pool-demand-1 = record {
   alloc = λ b c h r b′ w w′ e. refuses _ _ _ _ (alloc-table b c h) _ r refl (e .code) λ d s. (e .book ∙ s, e .block ∙ block-kept (poolOn b c (alloc h) .answer) w d);
   free = λ b c h w r b′ e. refuses _ _ _ _ (free-table b c h w) _ r refl (e .code) λ d s. e .book ∙ s;
+  granted = λ b c w r e. record {
+    plain = rw e (digit-le (grantedOn b c w));
+    yes = (λ z. yes-granted b c w (digit-one (grantedOn b c w) (sym e ∙ z)), λ z. e ∙ ap digit (granted-yes b c w z));
+  };
+  stocked = λ b c r e. record { counted = λ z. e ∙ stock-counted b c z; none = λ d. e ∙ stock-none b c d };
+  class = λ b w r e. record {
+    low = rw e (class-low b w);
+    granted = λ c z. e ∙ granted-class b c w (granted-yes b c w z);
+    owned = λ c z. rw e (class-owned b w c (clear b c [] z .admitted));
+  };
   trim = λ b c h r b′ w w′ e. refuses _ _ _ _ (trim-table b c h) _ r refl (e .code) λ d s. (e .book ∙ s, e .block ∙ block-kept (poolOn b c (trim h) .answer) w d);
 }

@@ -1,6 +1,6 @@
 -- The pool's demand holds of every history of the exported calls, on the words.
 use Prim.Native.Nat.{ℕ, _≤_}
-use mathlib.Core.Bool.{true, false, not, true≢false}
+use mathlib.Core.Bool.{true, false, true≢false}
 use mathlib.Core.List.{List, [], _∷_, _++_, map, head-eq-of-cons-eq, tail-eq-of-cons-eq}
 use mathlib.Core.Logic.{_↔_, inl, inr}
 use mathlib.Core.Option.{none, some}
@@ -8,7 +8,7 @@ use mathlib.Core.Path.{_≡_, refl, sym, ap, ap₂, _∙_, subst}
 use lib.Dec.{eqb, ltb}
 use lib.ListN.{length, getD, replicate}
 use native.Mathlib.Omega.{arith}
-use borrow.Author.Tests.{not-true}
+use borrow.Author.Tests.{not-true, eq-eqb}
 use Rattle.facts.specs.Lists.{elem, distinct}
 use Rattle.facts.proofs.Bools.{by-cases, and-left, and-right}
 use Rattle.words.specs.Host.{badHost}
@@ -18,7 +18,7 @@ use Rattle.rules.specs.Rules.{Rules, rulesOf}
 use Rattle.fields.specs.Field.{arena, size, get}
 use Rattle.fields.specs.Ranges.{maxPages, metaFault}
 use Rattle.model.specs.Arena as Arenas
-use Rattle.model.specs.Calls.{Call, Answer, Named, names}
+use Rattle.model.specs.Calls.{Call, Answer, Named, names, giveBack, isRefused}
 use Rattle.model.specs.Release.{ofKind, outHere}
 use Rattle.model.specs.Heap.{Heap, newHeap, step}
 use Rattle.model.specs.History.{Event, heapAfter}
@@ -34,9 +34,10 @@ use Rattle.refinement.proofs.ArenaReached.{heap-next, reached-after}
 use Rattle.refinement.proofs.Book.{setting-of}
 use Rattle.refinement.proofs.Found.{out-here}
 use Rattle.refinement.proofs.Whole.{call-whole}
-use Rattle.pool.specs.Pool.{Pool, newPool, PoolCall, PoolAnswer, Wish, to, alloc, free, trim, callBy, poolStep, refused, noBlock, freed}
+use Rattle.pool.specs.Pool.{Pool, newPool, PoolCall, PoolAnswer, Wish, to, alloc, free, trim, callBy, callFor, poolStep, Plan, Done, carry, ends, firstOf, numberOf, refused, trimmed, noBlock}
 use Rattle.pool.specs.Told.{PoolEvent, toldOf, poolEvents, poolEventsFrom, poolAfter, heapCalls, poolAnswersOf, isOf}
 use Rattle.pool.specs.Claims.{Bare, answerTo}
+use Rattle.pool.proofs.Plans.{Planned, is-turned, is-bare, is-trimmed, planned}
 use Rattle.pool.proofs.Apart.{pool-disjoint}
 use Rattle.pool.proofs.Frees.{frees, unchanged}
 use Rattle.pool.proofs.OnHeap.{on-heap}
@@ -59,7 +60,7 @@ use Rattle.demands.proofs.Calls.{room, no-fault, call-is}
 use Rattle.demands.proofs.Histories.{run-represents}
 use Rattle.demands.proofs.Told.{bare, bare-live, live-bare, bare-disjoint}
 use Rattle.demands.proofs.PoolRuns.{ask-is, run-is, pool-rep, told-is}
-use Rattle.demands.proofs.PoolLook.{out-low, granted-class, stocked-rep}
+use Rattle.demands.proofs.PoolLook.{out-low, granted-class, stocked-rep, few-rep}
 
 -- a block out, told with and without the runs
 out-bare : (vs : List Event) (c w : ℕ) → OutIn vs c w → OutIn (bare vs) c w
@@ -83,6 +84,24 @@ module _ (n : ℕ) (some-pages : 1 ≤ n) (few-pages : n ≤ maxPages) (rules : 
       let Q₁ : Represents n (call e y .book) (heapAfter n rules (made ++ y ∷ [])) = subst (λ (r : Reply). Represents n (r .book) (heapAfter n rules (made ++ y ∷ []))) (sym v) (subst (λ (G : Heap). Represents n (callReply n e y .book) G) (sym g) (q .heap)) in
       let same : call b y .answer ≡ call e y .answer = ap (λ r. r .answer) u ∙ p .answer ∙ sym (q .answer) ∙ sym (ap (λ r. r .answer) v) in
       ap₂ (λ (a : Answer) (zs : List Answer). a ∷ zs) same (answers-same ys (made ++ y ∷ []) (call b y .book) (call e y .book) R₁ Q₁)
+
+-- ---- a trim: the block that it answers was the stock's top
+record Leaves (n : ℕ) (P : Pool) (c w : ℕ) (o : Done) : Type 0 where
+  low : ltb c classCount ≡ true
+  top : P .stock c ≡ w ∷ o .pool .stock c
+
+top-leaves : (n : ℕ) (P : Pool) (c h w : ℕ) {p : Plan} → Planned c (P .heap .classes c) (P .stock c) (trim h) p → carry n P c (trim h) p .answer ≡ trimmed w → Leaves n P c w (carry n P c (trim h) p)
+unfolding carry ends
+top-leaves n P c h w (is-turned m) e = let z : _≡_ {A = ℕ} 0 1 = cc in absurd (omega arith)
+top-leaves n P c h w (is-bare y) e = let z : _≡_ {A = ℕ} 0 1 = cc in absurd (omega arith)
+top-leaves n P c h w (is-trimmed {w = v} {ws = ws} ok low y) e =
+    by-cases (isRefused (step n (P .heap) (callFor c (giveBack h (v ∷ []))) .answer))
+    (λ r. let u : refused (numberOf (step n (P .heap) (callFor c (giveBack h (v ∷ []))) .answer)) ≡ trimmed w = rw r at e in let z : _≡_ {A = ℕ} 0 1 = cc in absurd (omega arith))
+    (λ r.
+    let u : firstOf (P .stock c) ≡ trimmed w = rw r at e in
+    let f : trimmed v ≡ trimmed w = sym (ap firstOf y) ∙ u in
+    let same : v ≡ w = cc in
+    record { low = low; top = rw (r, eq-eqb c c refl) (y ∙ ap (λ x. x ∷ ws) same) })
 
 module _ (n : ℕ) (rows b : List ℕ) (o : Opens n rows b) (xs : List PoolCall) where
   abbrev d : List ℕ
@@ -189,6 +208,15 @@ module _ (n : ℕ) (rows b : List ℕ) (o : Opens n rows b) (xs : List PoolCall)
             rw (no-fault n d (room n rows b o .some-pages) few (heapAfter n (rulesOf rows) made) heap, hc, k, sized, out-test c w hc k ∙ cons .out c w .1 (inl v), stock-test c w hc k ∙ cons .either c w v)),
       )
 
+  -- the stock after a trim
+  trim-stock : (c h w : ℕ) → poolOn d c (trim h) .answer ≡ trimmed w → stockIn d c ≡ w ∷ stockIn (poolOn d c (trim h) .book) c
+  unfolding poolStep
+  trim-stock c h w e =
+      let t = top-leaves n P c h w (planned c (P .heap .classes c) (P .stock c) (trim h)) (sym (answer-is c (trim h)) ∙ e) in
+      let same : stockIn (poolOn d c (trim h) .book) c ≡ poolStep n P (to c (trim h)) .pool .stock c
+      = ap (λ s. stockIn (s .book) c) (ask-is n (room n rows b o .some-pages) few d P rep c (trim h)) ∙ pool-agrees n few (rulesOf rows) xs d rep c (trim h) .pool .stocks c (t .low) .same in
+      stock-is c (t .low) ∙ t .top ∙ ap (λ s. w ∷ s) (sym same)
+
   holds-after : PoolAt n rows d xs (poolTold n rows b xs) made
   holds-after =
       let cons = conserved n few (rulesOf rows) xs in
@@ -209,6 +237,8 @@ module _ (n : ℕ) (rows b : List ℕ) (o : Opens n rows b) (xs : List PoolCall)
         granted = granted-told;
         class = λ c w u. granted-class d c w (granted-told c w .1 u);
         stocked = λ c hc. stocked-rep n d c (P .stock c) (rep .stocks c hc) (admitted c hc);
+        few = λ c hc. few-rep n d c (P .stock c) (rep .stocks c hc);
+        trimmed = trim-stock;
       }
 
   trims-empty : (c h k : ℕ) → badHost h ≡ false → ltb c classCount ≡ true → length (stockIn d c) ≤ k → stockIn (poolBook n rows b (xs ++ replicate k (to c (trim h)))) c ≡ []

@@ -178,7 +178,7 @@ module _ (b : List ℕ) (o k : ℕ) where
           (λ z. rw z (contained-exactly (get b (arena size)) o k (loadArena b) .1 (c .within)))
           (λ z. absurd (eqb-false (metaFault b) 0 z (rw z at (row-first ∙ c .fair))))
 
-digit-one : (t : Bool) → digit t ≡ 1 → t ≡ true
+pub digit-one : (t : Bool) → digit t ≡ 1 → t ≡ true
 digit-one true e = refl
 digit-one false e = absurd (omega arith)
 

@@ -26,4 +26,5 @@ pub mod InOrder
 pub mod Repeats
 pub mod Wide
 pub mod Pool
+pub mod PoolContracts
 pub mod PoolRefusals

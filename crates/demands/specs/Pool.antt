@@ -24,7 +24,8 @@ use Rattle.model.specs.Entries.{OutIn}
 use Rattle.model.specs.Demands.{Disjoint}
 use Rattle.arena.specs.Load.{loadArena}
 use Rattle.calls.specs.Out.{outAt}
-use Rattle.pool.specs.Pool.{PoolCall, PoolAnswer, Wish, Direct, to, direct, alloc, free, trim, callBy, answered, refused, noBlock, freed}
+use Rattle.pool.specs.Stock.{stockRoom}
+use Rattle.pool.specs.Pool.{PoolCall, PoolAnswer, Wish, Direct, to, direct, alloc, free, trim, callBy, answered, refused, trimmed, noBlock, freed}
 use Rattle.pool.specs.Told.{PoolEvent, toldOf, poolEvents, heapCalls, poolCallsOf, poolAnswersOf, poolRunsOf}
 use Rattle.pool.specs.Claims.{Bare}
 use Rattle.poolcalls.specs.Stock.{stockIn}
@@ -94,6 +95,9 @@ pub record PoolAt (n : ℕ) (rows d : List ℕ) (xs : List PoolCall) (vs : List 
   pub granted : (c w : ℕ) → (grantedOn d c w ≡ true) ↔ OutIn vs c w
   pub class : (c w : ℕ) → OutIn vs c w → classOn d w ≡ c
   pub stocked : (c : ℕ) → ltb c classCount ≡ true → stockedOn d c ≡ length (stockIn d c)
+  -- no stock holds more than its room; a trim answers the block that leaves it, and leaves the others
+  pub few : (c : ℕ) → ltb c classCount ≡ true → length (stockIn d c) ≤ stockRoom
+  pub trimmed : (c h w : ℕ) → poolOn d c (trim h) .answer ≡ trimmed w → stockIn d c ≡ w ∷ stockIn (poolOn d c (trim h) .book) c
 
 pub record PoolDemand : Type 0 where
   pub after : (n : ℕ) (rows b : List ℕ) → Opens n rows b → (xs : List PoolCall) → PoolAt n rows (poolBook n rows b xs) xs (poolTold n rows b xs) (heapCalls n (rulesOf rows) xs)

@@ -1,23 +1,25 @@
 -- Demand 1 for the pool's calls: the numbers that each can answer, in checking order, and whether each applies, as Specs/Refusals has them for
 -- the others. Where a call goes on to the heap, the heap's own numbers are among them. b is the book, c a class's id, h the host word, w a block's.
-use Prim.Native.Nat.{ℕ, _-_}
+use Prim.Native.Nat.{ℕ, suc, _-_, _≤_, _<_}
 use mathlib.Core.Bool.{cond, not, _&&_, _||_}
+use mathlib.Core.Logic.{_↔_}
 use mathlib.Core.List.{List, [], _∷_, _++_}
 use mathlib.Core.Path.{_≡_}
 use lib.Dec.{eqb, ltb}
-use Rattle.words.specs.Host.{badHost}
+use Rattle.words.specs.Host.{badHost, digit}
 use Rattle.classes.specs.Shape.{shapeOf, classCount}
-use Rattle.fields.specs.Field.{arena, size, get}
+use Rattle.fields.specs.Field.{arena, page, size, owner, get}
 use Rattle.model.specs.Release.{ofKind}
+use Rattle.pages.specs.Stack.{pageAt}
 use Rattle.calls.specs.Out.{startOf, outAt}
 use Rattle.pool.specs.Stock.{stockMost}
 use Rattle.pool.specs.Pool.{alloc, free, trim}
 use Rattle.poolcalls.specs.Stock.{countIn, blockIn}
 use Rattle.poolcalls.specs.Calls.{grantedIn}
-use Rattle.vigbuso.specs.Pool.{poolOn, BlockEnds, FreeEnds}
+use Rattle.vigbuso.specs.Pool.{poolOn, classOn, grantedOn, stockedOn, BlockEnds, FreeEnds}
 use Rattle.demands.specs.Ranges.{strays}
 use Rattle.demands.specs.Reads.{takeReads, barren, markReads, releaseReads, stockReads, topReads}
-use Rattle.demands.specs.Refusals.{badLength, tooShort, noClass, Row, Refuses}
+use Rattle.demands.specs.Refusals.{badLength, tooShort, noClass, Row, firstNumber, Refuses}
 
 -- 4 is "The class is 64 or more, medium 12 or more.": the ids of all classes are 0 to 75
 abbrev pub poolEarly : List ℕ → ℕ → ℕ → List Row
@@ -66,7 +68,37 @@ FreeRefuses = (b : List ℕ) (c h w r : ℕ) (b′ : List ℕ) → FreeEnds (poo
 abbrev pub TrimRefuses : Type 0
 TrimRefuses = (b : List ℕ) (c h r : ℕ) (b′ : List ℕ) (w w′ : ℕ) → BlockEnds (poolOn b c (trim h)) r b′ w w′ → Refuses (trimTable b c h) r ((b′ ≡ b) × (w′ ≡ w))
 
+-- ---- the calls that only read refuse nothing; a table says when they have an answer
+abbrev pub lookEarly : List ℕ → ℕ → List Row
+lookEarly b c =
+    let n = get b (arena size) in
+    (1, badLength n) ∷ (2, tooShort n b) ∷ (4, noClass classCount c) ∷ []
+
+-- what vigbuso_free asks of the block
+abbrev pub grantedTable : List ℕ → ℕ → ℕ → List Row
+grantedTable b c w = lookEarly b c ++ (9, not (ofKind (shapeOf c .kind) w)) ∷ (10, not (grantedIn (get b (arena size)) b c w)) ∷ []
+
+abbrev pub stockedTable : List ℕ → ℕ → List Row
+stockedTable b c = lookEarly b c ++ (13, strays b (stockReads c)) ∷ []
+
+pub record GrantedAnswer (b : List ℕ) (c w r : ℕ) : Type 0 where
+  pub plain : r ≤ 1
+  pub yes : (r ≡ 1) ↔ (firstNumber (grantedTable b c w) ≡ 0)
+
+pub record StockedAnswer (b : List ℕ) (c r : ℕ) : Type 0 where
+  pub counted : firstNumber (stockedTable b c) ≡ 0 → r ≡ countIn b c
+  pub none : (firstNumber (stockedTable b c) ≡ 0 → ⊥) → r ≡ 0
+
+-- a class that the block is granted in is its page's, by OWNER
+pub record ClassAnswer (b : List ℕ) (w r : ℕ) : Type 0 where
+  pub low : r ≤ classCount
+  pub granted : (c : ℕ) → firstNumber (grantedTable b c w) ≡ 0 → r ≡ c
+  pub owned : (c : ℕ) → firstNumber (lookEarly b c) ≡ 0 → (r ≡ c) ↔ ((pageAt w < get b (arena size)) × (get b (page owner (pageAt w)) ≡ suc c))
+
 pub record PoolDemand1 : Type 0 where
   pub alloc : AllocRefuses
   pub free : FreeRefuses
   pub trim : TrimRefuses
+  pub granted : (b : List ℕ) (c w r : ℕ) → r ≡ digit (grantedOn b c w) → GrantedAnswer b c w r
+  pub stocked : (b : List ℕ) (c r : ℕ) → r ≡ stockedOn b c → StockedAnswer b c r
+  pub class : (b : List ℕ) (w r : ℕ) → r ≡ classOn b w → ClassAnswer b w r

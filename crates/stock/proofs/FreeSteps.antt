@@ -1,7 +1,7 @@
 -- The ways out of a free.
 use Prim.Native.Nat.{ℕ, _+_, _*_, _%_, _^_, _≤_, _<_}
 use native.Mathlib.Omega.{arith}
-use mathlib.Core.Bool.{Bool, true, false, cond, not}
+use mathlib.Core.Bool.{Bool, true, false, cond, not, and-true}
 use mathlib.Core.List.{List, [], _∷_}
 use mathlib.Core.Path.{_≡_, refl, sym, ap, _∙_}
 use lib.Dec.{eqb, ltb, leb}
@@ -16,8 +16,8 @@ use Rattle.take.specs.TakePlan.{CallAsks}
 use Rattle.pool.specs.Stock.{stockMost}
 use Rattle.poolcalls.specs.Stock.{countIn, stocked, pushed}
 use Rattle.pool.specs.Pool.{refused, freed}
-use Rattle.poolcalls.specs.Calls.{said, countFair, grantedIn, gaveOn, freedOn, freeOn, FreeEnds}
-use Rattle.stock.specs.Asks.{FreeAsks}
+use Rattle.poolcalls.specs.Calls.{said, countFair, gaveOn, freedOn, freeOn, FreeEnds}
+use Rattle.stock.specs.Asks.{NearAsks, FreeAsks}
 use Rattle.stock.specs.Ends.{Gave, Kept, farFault, unfairFault}
 use Rattle.stock.proofs.RoomSteps.{room-limit}
 use Rattle.stock.proofs.LookSteps.{behind-kind, behind-granule, far-kind, near-kind, far-out}
@@ -41,51 +41,65 @@ module _ (c w x : ℕ) (ex : (x + blockWord (shapeOf c .kind) 0) % 2 ^ 64 ≡ w)
         let s = leb-false (2 ^ 62) x t in
         rw (near-kind c w x ex fit s, far-out c w x ex fit n b l s) (record { code = e ∙ rw t; book = refl }))
 
-    pub free-asks : CallAsks n b c → x < 4096 * n → (j : ℕ) → j ≡ countIn b c → FreeAsks n b c j x w
-    free-asks a l j e =
+    pub free-near : CallAsks n b c → x < 4096 * n → NearAsks n b c x w
+    free-near a l =
         let s : x < 2 ^ 62 = omega (arith, a .few) in
-        record { known = a .known; few = a .few; long = a .long; low = l; granule = behind-granule c w x ex fit s; kind = behind-kind c w x ex fit s; counted = e }
+        record { known = a .known; few = a .few; long = a .long; low = l; granule = behind-granule c w x ex fit s; kind = behind-kind c w x ex fit s }
 
 -- ---- of the class's kind, in the arena
-module _ (n : ℕ) (b : List ℕ) (c k g w : ℕ) (a : FreeAsks n b c k g w) where
+module _ (n : ℕ) (b : List ℕ) (c g w : ℕ) (a : NearAsks n b c g w) (s : Bool) (es : s ≡ stocked b c g) where
+  pub free-stocked : (h : ℕ) → s ≡ true → FreeEnds (freeOn n b c h w) 10 b
+  unfolding freeOn ofKind
+  free-stocked h z =
+      let st : stocked b c (granuleOf w) ≡ true = rw (← (a .granule)) (sym es ∙ z) in
+      rw (eq-eqb (kindOf w) (shapeOf c .kind) (a .kind), st, and-no (outAt n b c (shapeOf c) w)) (record { code = refl; book = refl })
+
+  pub free-asks : s ≡ false → FreeAsks n b c g w
+  free-asks z = record { known = a .known; few = a .few; long = a .long; low = a .low; granule = a .granule; kind = a .kind; away = sym es ∙ z }
+
+-- ---- and not in stock
+module _ (n : ℕ) (b : List ℕ) (c g w : ℕ) (a : FreeAsks n b c g w) where
   pub asks-call : CallAsks n b c
   asks-call = record { known = a .known; few = a .few; long = a .long }
+
+  pub word-low : granuleOf w < 4096 * n
+  word-low = rw (← (a .granule)) (a .low)
 
   right-kind : ofKind (shapeOf c .kind) w ≡ true
   unfolding ofKind
   right-kind = eq-eqb (kindOf w) (shapeOf c .kind) (a .kind)
 
-  free-is : (h : ℕ) → freeOn n b c h w ≡ cond (not (grantedIn n b c w)) (said (refused 10) b) (freedOn n b c h w)
-  unfolding freeOn
-  free-is h = rw right-kind
+  not-stocked : stocked b c (granuleOf w) ≡ false
+  not-stocked = rw (← (a .granule)) (a .away)
 
-  not-granted : (h : ℕ) → grantedIn n b c w ≡ false → FreeEnds (freeOn n b c h w) 10 b
-  not-granted h e = rw (free-is h, e) (record { code = refl; book = refl })
+  free-is : (h : ℕ) → freeOn n b c h w ≡ cond (not (outAt n b c (shapeOf c) w)) (said (refused 10) b) (freedOn n b c h w)
+  unfolding freeOn
+  free-is h = rw (right-kind, not-stocked, and-true (outAt n b c (shapeOf c) w))
 
   -- room in the stock
-  module _ (room : ltb k (stockMost c) ≡ true) where
+  module _ (k : ℕ) (ek : k ≡ countIn b c) (room : ltb k (stockMost c) ≡ true) where
     pub keep-low : k < 256
     keep-low = omega (arith, room-limit c, ltb-true k (stockMost c) room)
 
-    module _ (t : Bool) (et : t ≡ grantedIn n b c w) where
-      pub keep-absent : t ≡ false → Kept 10 b n b c w
-      keep-absent z = record { ends = λ h. not-granted h (sym et ∙ z) }
+    module _ (o : Bool) (eo : o ≡ outAt n b c (shapeOf c) w) where
+      pub keep-absent : o ≡ false → Kept 10 b n b c w
+      keep-absent z = record { ends = λ h. rw (free-is h, ← eo, z) (record { code = refl; book = refl }) }
 
-      pub keep-pushed : (b′ : List ℕ) → t ≡ true → b′ ≡ pushed b c g → Kept 0 b′ n b c w
+      pub keep-pushed : (b′ : List ℕ) → o ≡ true → b′ ≡ pushed b c g → Kept 0 b′ n b c w
       unfolding freedOn
       keep-pushed b′ z q =
-          let fewer : ltb (countIn b c) (stockMost c) ≡ true = rw (a .counted) at room in
-          record { ends = λ h. rw (free-is h, ← et, z, fewer) (record { code = refl; book = q ∙ ap (pushed b c) (a .granule) }) }
+          let fewer : ltb (countIn b c) (stockMost c) ≡ true = rw ek at room in
+          record { ends = λ h. rw (free-is h, ← eo, z, fewer) (record { code = refl; book = q ∙ ap (pushed b c) (a .granule) }) }
 
   -- none
-  module _ (full : ltb k (stockMost c) ≡ false) (h : ℕ) where
-    full-is : freeOn n b c h w ≡ cond (not (grantedIn n b c w)) (said (refused 10) b) (cond (leb k 255) (gaveOn freed (releaseBlocks n b c (shapeOf c) h (w ∷ []) .book) (releaseBlocks n b c (shapeOf c) h (w ∷ []))) (said (refused 13) b))
+  module _ (k : ℕ) (ek : k ≡ countIn b c) (full : ltb k (stockMost c) ≡ false) (h : ℕ) where
+    full-is : freeOn n b c h w ≡ cond (not (outAt n b c (shapeOf c) w)) (said (refused 10) b) (cond (leb k 255) (gaveOn freed (releaseBlocks n b c (shapeOf c) h (w ∷ []) .book) (releaseBlocks n b c (shapeOf c) h (w ∷ []))) (said (refused 13) b))
     unfolding freedOn countFair
-    full-is = free-is h ∙ rw (← (a .counted), full)
+    full-is = free-is h ∙ rw (← ek, full)
 
     pub pass-unfair : (r : ℕ) → 255 < k → r ≡ unfairFault n b c w → FreeEnds (freeOn n b c h w) r b
     pass-unfair r l e =
-        by-cases (grantedIn n b c w)
+        by-cases (outAt n b c (shapeOf c) w)
         (λ t. rw (full-is, t, lt-leb k 255 l) (record { code = e ∙ rw t; book = refl }))
         (λ t. rw (full-is, t) (record { code = e ∙ rw t; book = refl }))
 
@@ -94,32 +108,25 @@ module _ (n : ℕ) (b : List ℕ) (c k g w : ℕ) (a : FreeAsks n b c k g w) whe
     unfolding releaseBlocks outFault unmarked repeats
     not-out t = rw (right-kind, t)
 
-    module _ (s : Bool) (es : s ≡ stocked b c g) where
-      stocked-is : stocked b c (granuleOf w) ≡ s
-      stocked-is = rw (← (a .granule)) (sym es)
+    pub pass-given : (r : ℕ) (b′ : List ℕ) → k ≤ 255 → Gave r b′ (releaseBlocks n b c (shapeOf c) h (w ∷ [])) → FreeEnds (freeOn n b c h w) r b′
+    unfolding gaveOn
+    pass-given r b′ l z =
+        by-cases (outAt n b c (shapeOf c) w)
+        (λ t.
+        rw (full-is, t, le-leb k 255 l)
+        (by-cases (eqb (releaseBlocks n b c (shapeOf c) h (w ∷ []) .code) 0)
+        (λ u. rw u (record { code = z .code ∙ eqb-true _ 0 u; book = z .book }))
+        (λ u. rw u (record { code = z .code; book = z .book }))))
+        (λ t.
+        let y : Gave r b′ (releasedNone b 10) = rw (not-out t) at z in
+        rw (full-is, t) (record { code = y .code; book = y .book }))
 
-      pub pass-stocked : s ≡ true → FreeEnds (freeOn n b c h w) 10 b
-      pass-stocked z = not-granted h (rw (stocked-is, z) (and-no (outAt n b c (shapeOf c) w)))
+module _ (n : ℕ) (b : List ℕ) (c w : ℕ) (o : Bool) (e : o ≡ outAt n b c (shapeOf c) w) where
+  pub unfair-out : o ≡ true → 13 ≡ unfairFault n b c w
+  unfair-out z = rw (← e, z)
 
-      pub pass-given : (r : ℕ) (b′ : List ℕ) → s ≡ false → k ≤ 255 → Gave r b′ (releaseBlocks n b c (shapeOf c) h (w ∷ [])) → FreeEnds (freeOn n b c h w) r b′
-      unfolding gaveOn
-      pass-given r b′ away l z =
-          by-cases (outAt n b c (shapeOf c) w)
-          (λ t.
-          rw (full-is, t, stocked-is, away, le-leb k 255 l)
-          (by-cases (eqb (releaseBlocks n b c (shapeOf c) h (w ∷ []) .code) 0)
-          (λ u. rw u (record { code = z .code ∙ eqb-true _ 0 u; book = z .book }))
-          (λ u. rw u (record { code = z .code; book = z .book }))))
-          (λ t.
-          let y : Gave r b′ (releasedNone b 10) = rw (not-out t) at z in
-          rw (full-is, t) (record { code = y .code; book = y .book }))
-
-module _ (n : ℕ) (b : List ℕ) (c w : ℕ) (t : Bool) (e : t ≡ grantedIn n b c w) where
-  pub unfair-granted : t ≡ true → 13 ≡ unfairFault n b c w
-  unfair-granted z = rw (← e, z)
-
-  pub unfair-other : t ≡ false → 10 ≡ unfairFault n b c w
-  unfair-other z = rw (← e, z)
+  pub unfair-absent : o ≡ false → 10 ≡ unfairFault n b c w
+  unfair-absent z = rw (← e, z)
 
 pub free-kept : (n : ℕ) (b : List ℕ) (c h w r : ℕ) (b′ : List ℕ) → Kept r b′ n b c w → FreeEnds (freeOn n b c h w) r b′
 free-kept n b c h w r b′ k = k .ends h

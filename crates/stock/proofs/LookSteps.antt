@@ -29,23 +29,6 @@ module _ (b : List ℕ) (c k : ℕ) (e : k ≡ countIn b c) where
   unfolding stockedIn countFair
   stock-counted h = rw (← e, le-leb k 255 h)
 
--- ---- a block at a granule
-module _ (n : ℕ) (b : List ℕ) (c g w : ℕ) (eg : g ≡ granuleOf w) (s : Bool) (es : s ≡ stocked b c g) where
-  stocked-is : stocked b c (granuleOf w) ≡ s
-  stocked-is = rw (← eg) (sym es)
-
-  pub granted-stocked : s ≡ true → false ≡ grantedIn n b c w
-  granted-stocked z = sym (rw (stocked-is, z) (and-no (outAt n b c (shapeOf c) w)))
-
-  pub granted-out : (o : Bool) → s ≡ false → o ≡ outAt n b c (shapeOf c) w → o ≡ grantedIn n b c w
-  granted-out o z eo = rw (stocked-is, z, ← eo) (sym (and-true o))
-
-pub granule-low : (n : ℕ) (b : List ℕ) (c g w : ℕ) → GranuleAsks n b c g → g ≡ granuleOf w → granuleOf w < 4096 * n
-granule-low n b c g w a e = rw (← e) (a .low)
-
-pub granule-call : (n : ℕ) (b : List ℕ) (c g : ℕ) → GranuleAsks n b c g → CallAsks n b c
-granule-call n b c g a = record { known = a .known; few = a .few; long = a .long }
-
 -- ---- any word. One beyond the arena is out nowhere
 out-low : (n : ℕ) (b : List ℕ) (c : ℕ) (sh : Shape) (w : ℕ) → 4096 * n ≤ granuleOf w → outAt n b c sh w ≡ false
 unfolding outAt inRunOf
@@ -87,8 +70,15 @@ module _ (c w x : ℕ) (ex : (x + blockWord (shapeOf c .kind) 0) % 2 ^ 64 ≡ w)
       pub near-asks : GranuleAsks n b c x
       near-asks = record { known = a .known; few = a .few; long = a .long; low = l }
 
-      pub near-granule : x ≡ granuleOf w
-      near-granule = behind-granule near
+      pub near-low : granuleOf w < 4096 * n
+      near-low = omega (arith, behind-granule near)
 
-      pub granted-near : (t : Bool) → t ≡ grantedIn n b c w → t ≡ (ofKind (shapeOf c .kind) w && grantedIn n b c w)
-      granted-near t e = rw (near-kind near, ← e)
+      module _ (s : Bool) (es : s ≡ stocked b c x) where
+        near-stocked : stocked b c (granuleOf w) ≡ s
+        near-stocked = rw (← (behind-granule near)) (sym es)
+
+        pub granted-stocked : s ≡ true → false ≡ (ofKind (shapeOf c .kind) w && grantedIn n b c w)
+        granted-stocked z = rw (near-kind near, near-stocked, z) (sym (and-no (outAt n b c (shapeOf c) w)))
+
+        pub granted-out : (o : Bool) → s ≡ false → o ≡ outAt n b c (shapeOf c) w → o ≡ (ofKind (shapeOf c .kind) w && grantedIn n b c w)
+        granted-out o z eo = rw (near-kind near, near-stocked, z, ← eo) (sym (and-true o))

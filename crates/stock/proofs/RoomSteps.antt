@@ -3,14 +3,17 @@ use Prim.Native.Nat.{ℕ, _+_, _*_, _/_, _^_, _≤_, _<_}
 use native.Mathlib.Omega.{arith}
 use native.Mathlib.Nat.{mul-le-mul, le-div-iff-mul-le}
 use mathlib.Core.Bool.{Bool, true, false}
-use mathlib.Core.Path.{_≡_, sym, _∙_}
-use lib.Dec.{ltb, leb}
+use mathlib.Core.Path.{_≡_, refl, sym, ap, _∙_}
+use lib.Dec.{eqb, ltb, leb}
 use mir.Val.{Fits}
 use mir.Syntax.{w32}
-use borrow.Author.Tests.{lt-ltb, le-ltb, ltb-true, ltb-false, leb-true, leb-false}
+use borrow.Author.Tests.{lt-ltb, le-ltb, eqb-true, ltb-true, ltb-false, leb-true, leb-false}
+use Rattle.facts.specs.Lists.{every, below}
 use Rattle.facts.proofs.Bools.{by-cases}
+use Rattle.facts.proofs.Lists.{every-at}
 use Rattle.classes.specs.declared.Shape.{Shape}
-use Rattle.classes.specs.Shape.{shapeOf}
+use Rattle.classes.specs.Sizes.{smallSizes}
+use Rattle.classes.specs.Shape.{shapeOf, smallShape}
 use Rattle.classes.proofs.Shapes.{shape-sound}
 use Rattle.stack.proofs.InverseLaws.{narrow}
 use Rattle.pool.specs.Stock.{stockLeast, stockLimit, stockBytes, clamped, stockMost}
@@ -32,7 +35,15 @@ below-clamped k x l h =
     by-cases (ltb x stockLeast) (λ e. rw e (le-ltb k stockLeast l ∙ sym (le-ltb k x (omega (arith, ltb-true x stockLeast e)))))
     (λ e. rw e (by-cases (ltb stockLimit x) (λ f. rw f (lt-ltb k stockLimit h ∙ sym (lt-ltb k x (omega (arith, ltb-true stockLimit x f))))) (λ f. rw f)))
 
+-- classes whose blocks are at most 1,024 bytes: 255 of them are within 256 KiB
+all-limited : every (λ c. eqb (stockMost c) stockLimit) (below 22) ≡ true
+unfolding stockMost shapeOf smallShape smallSizes
+all-limited = refl
+
 module _ (c k : ℕ) where
+  pub room-limited : c < 22 → ltb k 255 ≡ ltb k (stockMost c)
+  room-limited h = ap (ltb k) (sym (eqb-true (stockMost c) stockLimit (every-at (λ j. eqb (stockMost j) stockLimit) 22 c all-limited h)))
+
   pub room-few : k < 8 → true ≡ ltb k (stockMost c)
   unfolding stockMost
   room-few h = sym (lt-ltb k (clamped (stockBytes / (shapeOf c .block * 16))) (omega (arith, clamped-least (stockBytes / (shapeOf c .block * 16)))))

@@ -1,5 +1,6 @@
 -- What the pool's functions ask of their callers. n is the arena's length, c a class's id, g a granule, p a page, w a block's word, k the blocks in stock.
 use Prim.Native.Nat.{ℕ, _*_, _≤_, _<_}
+use mathlib.Core.Bool.{false}
 use mathlib.Core.List.{List}
 use mathlib.Core.Path.{_≡_}
 use lib.ListN.{length, getD}
@@ -7,7 +8,7 @@ use Rattle.words.specs.Word.{kindOf, granuleOf}
 use Rattle.classes.specs.Shape.{shapeOf}
 use Rattle.fields.specs.Field.{words}
 use Rattle.fields.specs.Ranges.{maxPages}
-use Rattle.poolcalls.specs.Stock.{countIn}
+use Rattle.poolcalls.specs.Stock.{countIn, stocked}
 
 pub record StockAsks (b : List ℕ) (c : ℕ) : Type 0 where
   pub known : c < 76
@@ -47,12 +48,21 @@ pub record SmallAsks (n : ℕ) (b : List ℕ) (c w : ℕ) : Type 0 where
   pub long : words n ≤ length b
   pub low : granuleOf w < 4096 * n
 
--- a word of the class's kind whose granule is in the arena, and its stock
-pub record FreeAsks (n : ℕ) (b : List ℕ) (c k g w : ℕ) : Type 0 where
+-- a word of the class's kind whose granule is in the arena
+pub record NearAsks (n : ℕ) (b : List ℕ) (c g w : ℕ) : Type 0 where
   pub known : c < 76
   pub few : n ≤ maxPages
   pub long : words n ≤ length b
   pub low : g < 4096 * n
   pub granule : g ≡ granuleOf w
   pub kind : kindOf w ≡ shapeOf c .kind
-  pub counted : k ≡ countIn b c
+
+-- and not in stock
+pub record FreeAsks (n : ℕ) (b : List ℕ) (c g w : ℕ) : Type 0 where
+  pub known : c < 76
+  pub few : n ≤ maxPages
+  pub long : words n ≤ length b
+  pub low : g < 4096 * n
+  pub granule : g ≡ granuleOf w
+  pub kind : kindOf w ≡ shapeOf c .kind
+  pub away : stocked b c g ≡ false

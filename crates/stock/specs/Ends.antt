@@ -7,8 +7,10 @@ use mathlib.Core.Bool.{cond}
 use mathlib.Core.List.{List}
 use mathlib.Core.Path.{_≡_}
 use lib.Dec.{leb}
+use Rattle.classes.specs.Shape.{shapeOf}
+use Rattle.calls.specs.Out.{outAt}
 use Rattle.calls.specs.Release.{Released}
-use Rattle.poolcalls.specs.Calls.{Said, codeOf, blockOut, grantedIn, freeOn, FreeEnds}
+use Rattle.poolcalls.specs.Calls.{Said, codeOf, blockOut, freeOn, FreeEnds}
 
 pub record Gave (r : ℕ) (b : List ℕ) (z : Released) : Type 0 where
   pub code : r ≡ z .code
@@ -27,4 +29,4 @@ abbrev pub farFault : ℕ → ℕ
 farFault x = cond (leb (2 ^ 62) x) 9 10
 
 abbrev pub unfairFault : ℕ → List ℕ → ℕ → ℕ → ℕ
-unfairFault n b c w = cond (grantedIn n b c w) 13 10
+unfairFault n b c w = cond (outAt n b c (shapeOf c) w) 13 10

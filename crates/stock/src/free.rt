@@ -4,13 +4,14 @@ ghost use mathlib.Core.Bool.{true, false};
 ghost use lib.Dec.{ltb};
 ghost use Rattle.take.specs.TakePlan.{CallAsks};
 ghost use Rattle.pool.specs.Stock.{stockMost};
+ghost use Rattle.poolcalls.specs.Stock.{countIn};
 ghost use Rattle.poolcalls.specs.Calls.{freeOn, FreeEnds};
-ghost use Rattle.stock.specs.Asks.{FreeAsks};
+ghost use Rattle.stock.specs.Asks.{NearAsks, FreeAsks};
 ghost use Rattle.stock.specs.Ends.{Kept, farFault, unfairFault};
 use crate::cells::count;
 use crate::give::give;
 use crate::look::behind;
-use crate::look::is_granted;
+use crate::out::is_out;
 use crate::places::is_stocked;
 use crate::places::push;
 use crate::room::STOCK_ROOM;
@@ -31,11 +32,12 @@ fn far_fault(x: u64) -> u32
 
 // A stock of k blocks that has room for the block at granule g.
 fn keep(meta: &mut [u32], n: u32, c: u32, k: u32, g: u32, w: u64) -> u32
-    requires { ⌜ FreeAsks n (now meta) c k g w ⌝ }
+    requires { ⌜ FreeAsks n (now meta) c g w ⌝ }
+    requires { ⌜ k ≡ countIn (now meta) c ⌝ }
     requires { ⌜ ltb k (stockMost c) ≡ true ⌝ }
     ensures { λ r. ⌜ Kept r (now (meta .exit)) n (now (meta .entry)) c w ⌝ }
 {
-    if is_granted(meta, n, c, g, w) {
+    if is_out(meta, n, c, w) {
         push(meta, n, c, k, g);
         return 0;
     }
@@ -43,11 +45,11 @@ fn keep(meta: &mut [u32], n: u32, c: u32, k: u32, g: u32, w: u64) -> u32
 }
 
 // COUNT is out of its range.
-fn unfair(meta: &[u32], n: u32, c: u32, k: u32, g: u32, w: u64) -> u32
-    requires { ⌜ FreeAsks n (now meta) c k g w ⌝ }
+fn unfair(meta: &[u32], n: u32, c: u32, g: u32, w: u64) -> u32
+    requires { ⌜ FreeAsks n (now meta) c g w ⌝ }
     ensures { λ r. ⌜ r ≡ unfairFault n (now (meta .entry)) c w ⌝ }
 {
-    if is_granted(meta, n, c, g, w) {
+    if is_out(meta, n, c, w) {
         return 13;
     }
     10
@@ -55,17 +57,30 @@ fn unfair(meta: &[u32], n: u32, c: u32, k: u32, g: u32, w: u64) -> u32
 
 // A stock of k blocks, which has none: the heap tests the block itself.
 fn pass_on(meta: &mut [u32], n: u32, c: u32, host: u32, k: u32, g: u32, w: u64) -> u32
-    requires { ⌜ FreeAsks n (now meta) c k g w ⌝ }
+    requires { ⌜ FreeAsks n (now meta) c g w ⌝ }
+    requires { ⌜ k ≡ countIn (now meta) c ⌝ }
     requires { ⌜ ltb k (stockMost c) ≡ false ⌝ }
     ensures { λ r. ⌜ FreeEnds (freeOn n (now (meta .entry)) c host w) r (now (meta .exit)) ⌝ }
 {
     if k > STOCK_ROOM {
-        return unfair(meta, n, c, k, g, w);
+        return unfair(meta, n, c, g, w);
     }
+    give(meta, n, c, host, w)
+}
+
+// The block at granule g of the arena.
+fn take_back(meta: &mut [u32], n: u32, c: u32, host: u32, g: u32, w: u64) -> u32
+    requires { ⌜ NearAsks n (now meta) c g w ⌝ }
+    ensures { λ r. ⌜ FreeEnds (freeOn n (now (meta .entry)) c host w) r (now (meta .exit)) ⌝ }
+{
     if is_stocked(meta, n, c, g) {
         return 10;
     }
-    give(meta, n, c, host, w)
+    let k = count(meta, c);
+    if has_room(c, k) {
+        return keep(meta, n, c, k, g, w);
+    }
+    pass_on(meta, n, c, host, k, g, w)
 }
 
 pub fn free(meta: &mut [u32], n: u32, c: u32, host: u32, w: u64) -> u32
@@ -76,9 +91,5 @@ pub fn free(meta: &mut [u32], n: u32, c: u32, host: u32, w: u64) -> u32
     if x >= 4096 * (n as u64) {
         return far_fault(x);
     }
-    let k = count(meta, c);
-    if has_room(c, k) {
-        return keep(meta, n, c, k, x as u32, w);
-    }
-    pass_on(meta, n, c, host, k, x as u32, w)
+    take_back(meta, n, c, host, x as u32, w)
 }

@@ -2,12 +2,12 @@
 ghost use mathlib.Core.Path.{_≡_};
 ghost use mathlib.Core.Bool.{_&&_};
 ghost use Prim.Native.Nat.{_+_, _%_, _^_};
-ghost use Rattle.words.specs.Word.{granuleOf, blockWord};
+ghost use Rattle.words.specs.Word.{blockWord};
 ghost use Rattle.classes.specs.Shape.{shapeOf};
 ghost use Rattle.model.specs.Release.{ofKind};
 ghost use Rattle.poolcalls.specs.Calls.{grantedIn, stockedIn};
 ghost use Rattle.take.specs.TakePlan.{CallAsks};
-ghost use Rattle.stock.specs.Asks.{StockAsks, GranuleAsks};
+ghost use Rattle.stock.specs.Asks.{StockAsks};
 use crate::cells::count;
 use crate::out::is_out;
 use crate::places::is_stocked;
@@ -21,19 +21,7 @@ pub fn behind(c: u32, w: u64) -> u64
     std::num::wrapping_sub_u64(w, block_word(c, 0))
 }
 
-// The block at granule g is not in stock, and the heap has it out.
-pub fn is_granted(meta: &[u32], n: u32, c: u32, g: u32, w: u64) -> bool
-    requires { ⌜ GranuleAsks n (now meta) c g ⌝ }
-    requires { ⌜ g ≡ granuleOf w ⌝ }
-    ensures { λ r. ⌜ r ≡ grantedIn n (now (meta .entry)) c w ⌝ }
-{
-    if is_stocked(meta, n, c, g) {
-        return false;
-    }
-    is_out(meta, n, c, w)
-}
-
-// For any word.
+// A block that the class's pool granted: it is not in stock, and the heap has it out. For any word.
 pub fn granted(meta: &[u32], n: u32, c: u32, w: u64) -> bool
     requires { ⌜ CallAsks n (now meta) c ⌝ }
     ensures { λ r. ⌜ r ≡ (ofKind (shapeOf c .kind) w && grantedIn n (now (meta .entry)) c w) ⌝ }
@@ -42,7 +30,10 @@ pub fn granted(meta: &[u32], n: u32, c: u32, w: u64) -> bool
     if x >= 4096 * (n as u64) {
         return false;
     }
-    is_granted(meta, n, c, x as u32, w)
+    if is_stocked(meta, n, c, x as u32) {
+        return false;
+    }
+    is_out(meta, n, c, w)
 }
 
 // COUNT; 0 where it is out of its range.

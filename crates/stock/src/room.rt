@@ -11,13 +11,20 @@ const STOCK_LIMIT: u32 = 255;
 
 const STOCK_GRANULES: u32 = 16_384;
 
+// Of the classes below this, with blocks up to 1,024 bytes, the most are in 256 KiB.
+const LIMITED: u32 = 22;
+
 // No stock holds more: a place in it is 8 bits.
 pub const STOCK_ROOM: u32 = 255;
 
-// A stock of k blocks holds fewer than the class's most. No division: k is below a quotient if k + 1 times the divisor is at most the dividend.
+// A stock of k blocks holds fewer than the class's most. No division: k is below a quotient if k + 1 times the divisor is at most the dividend. The class's
+// numbers are not looked at where the class alone tells.
 pub fn has_room(c: u32, k: u32) -> bool
     ensures { λ r. ⌜ r ≡ ltb k (stockMost c) ⌝ }
 {
+    if c < LIMITED {
+        return k < STOCK_LIMIT;
+    }
     if k < STOCK_LEAST {
         return true;
     }

@@ -1,31 +1,37 @@
 -- What the contract of each exported function says of a call is what the demands say of it.
 use Prim.Native.Nat.{ℕ}
 use mathlib.Core.List.{List}
-use mathlib.Core.Path.{_≡_, sym, _∙_, subst}
+use mathlib.Core.Path.{_≡_, sym, ap, _∙_, subst}
 use Rattle.words.specs.Host.{digit}
 use Rattle.tables.specs.Table.{classTable, TableEnds}
 use Rattle.game.specs.Game.{askerWins, GameEnds}
 use Rattle.fields.specs.Outcome.{Did}
 use Rattle.model.specs.Calls as Calls
+use Rattle.pool.specs.Pool.{alloc, free, trim}
 use Rattle.plan.specs.Code.{PlanEnds}
 use Rattle.listing.specs.Listing.{shortHistories, ListingEnds}
 use Rattle.direct.specs.Answer.{Releases}
 use Rattle.trace.specs.Words.{traceOn}
+use Rattle.vigbuso.specs.Pool.{poolOn, classOn, grantedOn, stockedOn, BlockEnds, FreeEnds}
 use Rattle.vigbuso.specs.Trace.{TraceEnds}
 use Rattle.vigbuso.specs.Direct as Direct
 use Rattle.vigbuso.specs.Direct.{openOn, commitOn, CommitEnds, growOn, GrowEnds, containsOn, reportOn, ReportEnds}
 use Rattle.vigbuso.specs.Blocks as Blocks
 use Rattle.vigbuso.specs.Blocks.{takeOn, TakeEnds, ReleaseEnds, chunksOn, ChunksEnds}
 use Rattle.demands.specs.Contracts as Shows
+use Rattle.demands.specs.PoolContracts as PoolShows
+use Rattle.demands.proofs.PoolContracts.{pool-shows-call}
+use Rattle.demands.proofs.PoolTheorems.{pool-demand}
+use Rattle.demands.proofs.PoolRefusals.{pool-demand-1}
 use Rattle.demands.proofs.Contracts.{shows-call}
-use Rattle.demands.proofs.Refusals.{open-refuses, commit-refuses, grow-refuses, give-refuses, report-refuses, take-refuses, release-refuses, chunks-refuses, contains-answers, table-refuses, game-refuses, plan-refuses, listing-refuses}
+use Rattle.demands.proofs.Refusals.{digit-one, open-refuses, commit-refuses, grow-refuses, give-refuses, report-refuses, take-refuses, release-refuses, chunks-refuses, contains-answers, table-refuses, game-refuses, plan-refuses, listing-refuses}
 use Rattle.demands.specs.ClassTables.{SmallTable}
 use Rattle.demands.proofs.ClassTables.{class-tables}
 use Rattle.demands.specs.Game.{ThreeYes}
 use Rattle.demands.proofs.Game.{game}
 use Rattle.demands.specs.Listing.{OnePageTwoCalls}
 use Rattle.demands.proofs.Listing.{short-histories}
-use Rattle.witness.specs.Seen.{Opened, TakeSeen, ListSeen, ChunksSeen, CommitSeen, GrowSeen, GiveSeen, ContainsSeen, ReportSeen, TableSeen, GameSeen, PlanSeen, ListingSeen, TraceSeen}
+use Rattle.witness.specs.Seen.{Opened, TakeSeen, ListSeen, ChunksSeen, CommitSeen, GrowSeen, GiveSeen, ContainsSeen, ReportSeen, TableSeen, GameSeen, PlanSeen, ListingSeen, TraceSeen, AllocSeen, FreeSeen, TrimSeen, GrantedSeen, StockedSeen, ClassSeen}
 use Rattle.demands.proofs.Plan.{fits}
 use Rattle.demands.specs.Start.{opening}
 use Rattle.demands.proofs.Idle.{idle}
@@ -112,4 +118,37 @@ module _ (n : ℕ) (b ws bl fl dn : List ℕ) (r : ℕ) (b′ bl′ fl′ dn′ 
     starts = trace .starts n b ws bl fl dn r b′ bl′ fl′ dn′ e;
     book = e .book;
     did = trace .traces n b ws bl fl dn r b′ bl′ fl′ dn′ e;
+  }
+
+-- ---- the pool
+module _ (b : List ℕ) (r : ℕ) (b′ : List ℕ) where
+  pub alloc-seen : (c h w w′ : ℕ) → BlockEnds (poolOn b c (alloc h)) r b′ w w′ → AllocSeen c h r b b′ w w′
+  alloc-seen c h w w′ e = record { number = pool-demand-1 .alloc b c h r b′ w w′ e; replies = pool-shows-call (PoolShows.alloc c h r w w′ b′ e) }
+
+  pub free-seen : (c h w : ℕ) → FreeEnds (poolOn b c (free h w)) r b′ → FreeSeen c h w r b b′
+  free-seen c h w e = record { number = pool-demand-1 .free b c h w r b′ e; replies = pool-shows-call (PoolShows.free c h w r b′ e) }
+
+  pub trim-seen : (c h w w′ : ℕ) → BlockEnds (poolOn b c (trim h)) r b′ w w′ → TrimSeen c h r b b′ w w′
+  trim-seen c h w w′ e = record { number = pool-demand-1 .trim b c h r b′ w w′ e; replies = pool-shows-call (PoolShows.trim c h r w w′ b′ e) }
+
+module _ (b : List ℕ) (r : ℕ) where
+  pub granted-seen : (c w : ℕ) → r ≡ digit (grantedOn b c w) → GrantedSeen b c w r
+  granted-seen c w e = record {
+    answer = pool-demand-1 .granted b c w r e;
+    told = λ n rows b₀ o xs d.
+        let t = pool-demand .after n rows b₀ o xs .granted c w in
+        let f : r ≡ digit (grantedOn _ c w) = e ∙ ap (λ s. digit (grantedOn s c w)) d in
+        (λ z. t .0 (digit-one _ (sym f ∙ z)), λ u. f ∙ ap digit (t .1 u));
+  }
+
+  pub stocked-seen : (c : ℕ) → r ≡ stockedOn b c → StockedSeen b c r
+  stocked-seen c e = record {
+    answer = pool-demand-1 .stocked b c r e;
+    told = λ low n rows b₀ o xs d. e ∙ rw d (pool-demand .after n rows b₀ o xs .stocked c low);
+  }
+
+  pub class-seen : (w : ℕ) → r ≡ classOn b w → ClassSeen b w r
+  class-seen w e = record {
+    answer = pool-demand-1 .class b w r e;
+    told = λ c n rows b₀ o xs d u. e ∙ rw d (pool-demand .after n rows b₀ o xs .class c w u);
   }

@@ -3,21 +3,33 @@
 --     Numbered    the number that a call answers is document 01's (demand 1)
 --     Seen        that, and the call's reply is the one that the histories of demands 2 and 3 are made of
 --     Opened      the same of an opening, which starts a history
+--     WishSeen    the same of an alloc, a free or a trim, and of the histories of the pool
 --     .. Seen     Seen, for what the functions of one shape are lent
 -- r is what the function returns; a name with ′ is what a lent slice or an out-parameter holds afterwards.
 use Prim.Native.Nat.{ℕ}
 use mathlib.Core.List.{List}
 use mathlib.Core.Logic.{_⊎_, _↔_}
 use mathlib.Core.Path.{_≡_}
-use lib.Dec.{eqb}
+use mathlib.Core.Bool.{true}
+use lib.Dec.{eqb, ltb}
+use lib.ListN.{length}
+use Rattle.classes.specs.Shape.{classCount}
 use Rattle.model.specs.Calls as Calls
 use Rattle.model.specs.Calls.{Call, taken, fate, fates, released, contained, reported}
+use Rattle.model.specs.History.{Event}
+use Rattle.model.specs.Entries.{OutIn}
+use Rattle.pool.specs.Pool.{PoolCall, Wish, to, alloc, free, trim, granted, trimmed}
+use Rattle.poolcalls.specs.Stock.{stockIn}
+use Rattle.poolcalls.specs.Calls.{Said, said}
 use Rattle.refinement.specs.Direct.{Reply, reply}
 use Rattle.vigbuso.specs.Direct.{figuresIn}
 use Rattle.demands.specs.Call.{call}
 use Rattle.demands.specs.Run.{Opens}
 use Rattle.demands.specs.Contracts.{runSeen}
-use Rattle.demands.specs.Refusals.{Refuses, Contains, openTable, commitTable, growTable, giveTable, reportTable, takeTable, releaseTable, chunksTable, rateTable, gameTable, planTable, listingTable, traceTable}
+use Rattle.demands.specs.Pool.{poolCall, poolBook, poolTold}
+use Rattle.demands.specs.PoolContracts.{blockSeen, freeSeen}
+use Rattle.demands.specs.PoolRefusals.{allocTable, freeTable, trimTable, GrantedAnswer, StockedAnswer, ClassAnswer}
+use Rattle.demands.specs.Refusals.{Row, Refuses, Contains, openTable, commitTable, growTable, giveTable, reportTable, takeTable, releaseTable, chunksTable, rateTable, gameTable, planTable, listingTable, traceTable}
 use Rattle.demands.specs.ClassTables.{ClassTable, Reaches}
 use Rattle.demands.specs.Game.{AskerWins}
 use Rattle.demands.specs.Plan.{Fits}
@@ -107,3 +119,33 @@ pub record TraceSeen (n : ℕ) (b ws bl fl dn : List ℕ) (r : ℕ) (b′ bl′ 
   pub starts : ((r ≡ 0) ⊎ (r ≡ 16)) ↔ Starts (trace n b ws bl fl dn)
   pub book : b′ ≡ begun (trace n b ws bl fl dn)
   pub did : Starts (trace n b ws bl fl dn) → Traces n b ws bl fl r b′ bl′ fl′ dn′
+
+-- ---- the pool: a class's wish on any book
+pub record WishSeen (b : List ℕ) (c : ℕ) (x : Wish) (rows : List Row) (r : ℕ) (s : Said) (Same : Type 0) : Type 0 where
+  pub number : Refuses rows r Same
+  pub replies : s ≡ poolCall b (to c x)
+
+abbrev pub AllocSeen : (c h r : ℕ) → (b b′ : List ℕ) → (w w′ : ℕ) → Type 0
+AllocSeen c h r b b′ w w′ = WishSeen b c (alloc h) (allocTable b c h) r (said (blockSeen granted r w′) b′) ((b′ ≡ b) × (w′ ≡ w))
+
+abbrev pub FreeSeen : (c h w r : ℕ) → (b b′ : List ℕ) → Type 0
+FreeSeen c h w r b b′ = WishSeen b c (free h w) (freeTable b c h w) r (said (freeSeen r) b′) (b′ ≡ b)
+
+abbrev pub TrimSeen : (c h r : ℕ) → (b b′ : List ℕ) → (w w′ : ℕ) → Type 0
+TrimSeen c h r b b′ w w′ = WishSeen b c (trim h) (trimTable b c h) r (said (blockSeen trimmed r w′) b′) ((b′ ≡ b) × (w′ ≡ w))
+
+-- what holds of what is told by every pool history that left the book b
+abbrev pub AfterPool : List ℕ → (List Event → Type 0) → Type 0
+AfterPool b P = (n : ℕ) (rows b₀ : List ℕ) → Opens n rows b₀ → (xs : List PoolCall) → b ≡ poolBook n rows b₀ xs → P (poolTold n rows b₀ xs)
+
+pub record GrantedSeen (b : List ℕ) (c w r : ℕ) : Type 0 where
+  pub answer : GrantedAnswer b c w r
+  pub told : AfterPool b (λ vs. (r ≡ 1) ↔ OutIn vs c w)
+
+pub record StockedSeen (b : List ℕ) (c r : ℕ) : Type 0 where
+  pub answer : StockedAnswer b c r
+  pub told : ltb c classCount ≡ true → AfterPool b (λ vs. r ≡ length (stockIn b c))
+
+pub record ClassSeen (b : List ℕ) (w r : ℕ) : Type 0 where
+  pub answer : ClassAnswer b w r
+  pub told : (c : ℕ) → AfterPool b (λ vs. OutIn vs c w → r ≡ c)

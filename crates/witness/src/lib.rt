@@ -6,6 +6,7 @@ pub mod chunk_calls;
 pub mod class_table;
 pub mod lookup;
 pub mod plan_call;
+pub mod pool_calls;
 pub mod release_calls;
 pub mod short_histories;
 pub mod take_calls;

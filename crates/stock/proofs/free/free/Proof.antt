@@ -1,6 +1,5 @@
-use Rattle.stock.proofs.RoomSteps.{room-told}
 use borrow.Author.Needs.{needs}
-use Rattle.stock.proofs.FreeSteps.{free-far, free-asks, free-kept}
+use Rattle.stock.proofs.FreeSteps.{free-far, free-near}
 use Rattle.stock.proofs.free.free.Statement.{statement}
 use Rattle.stock.proofs.free.free.Tie as tie
 
@@ -16,35 +15,17 @@ far-fault-requires c κs = search needs
 returns : tie.Need-returns
 returns c = search free-far
 
-count-requires : tie.Need-count-requires
-count-requires c κs = search needs
+cast-take-back : tie.Need-cast-take-back
+cast-take-back c = search needs
 
-has-room-requires : tie.Need-has-room-requires
-has-room-requires c κs = search needs
-
-cast-keep : tie.Need-cast-keep
-cast-keep c = search needs
-
-keep-requires : tie.Need-keep-requires
-keep-requires c κs = (search free-asks, search room-told)
+take-back-requires : tie.Need-take-back-requires
+take-back-requires c κs = search free-near
 
 same-length : tie.Need-same-length
 same-length c = search needs
 
 returns-2 : tie.Need-returns-2
-returns-2 c = search free-kept
-
-cast-pass-on : tie.Need-cast-pass-on
-cast-pass-on c = search needs
-
-pass-on-requires : tie.Need-pass-on-requires
-pass-on-requires c κs = (search free-asks, search room-told)
-
-same-length-2 : tie.Need-same-length-2
-same-length-2 c = search needs
-
-returns-3 : tie.Need-returns-3
-returns-3 c = search needs
+returns-2 c = search needs
 
 pub free-spec : {M : Type 1} → statement M
 free-spec =
@@ -54,13 +35,7 @@ free-spec =
     mul-if1
     far-fault-requires
     returns
-    count-requires
-    has-room-requires
-    cast-keep
-    keep-requires
+    cast-take-back
+    take-back-requires
     same-length
-    returns-2
-    cast-pass-on
-    pass-on-requires
-    same-length-2
-    returns-3)
+    returns-2)

@@ -1,10 +1,10 @@
 use borrow.Author.Needs.{needs}
-use Rattle.stock.proofs.FreeSteps.{keep-low, keep-pushed, keep-absent}
+use Rattle.stock.proofs.FreeSteps.{asks-call, word-low, keep-low, keep-pushed, keep-absent}
 use Rattle.stock.proofs.free.keep.Statement.{statement}
 use Rattle.stock.proofs.free.keep.Tie as tie
 
-is-granted-requires : tie.Need-is-granted-requires
-is-granted-requires c κs = search needs
+is-out-requires : tie.Need-is-out-requires
+is-out-requires c κs = search (needs, asks-call, word-low)
 
 push-requires : tie.Need-push-requires
 push-requires c κs = search (needs, keep-low)
@@ -22,4 +22,4 @@ returns-2 : tie.Need-returns-2
 returns-2 c = search keep-absent
 
 pub keep-spec : {M : Type 1} → statement M
-keep-spec = tie.close (tie.spec is-granted-requires push-requires same-length returns same-length-2 returns-2)
+keep-spec = tie.close (tie.spec is-out-requires push-requires same-length returns same-length-2 returns-2)

@@ -1,5 +1,5 @@
 use borrow.Author.Needs.{needs}
-use Rattle.stock.proofs.LookSteps.{granted-far, near-asks, near-granule, granted-near}
+use Rattle.stock.proofs.LookSteps.{granted-far, near-asks, near-low, granted-stocked, granted-out}
 use Rattle.stock.proofs.look.granted.Statement.{statement}
 use Rattle.stock.proofs.look.granted.Tie as tie
 
@@ -12,16 +12,30 @@ mul-if1 c = search needs
 returns : tie.Need-returns
 returns c = search granted-far
 
-cast-is-granted : tie.Need-cast-is-granted
-cast-is-granted c = search needs
+cast-is-stocked : tie.Need-cast-is-stocked
+cast-is-stocked c = search needs
 
-is-granted-requires : tie.Need-is-granted-requires
-is-granted-requires c κs = (search near-asks, search near-granule)
+is-stocked-requires : tie.Need-is-stocked-requires
+is-stocked-requires c κs = search near-asks
 
 returns-2 : tie.Need-returns-2
-returns-2 c = search granted-near
+returns-2 c = search granted-stocked
+
+is-out-requires : tie.Need-is-out-requires
+is-out-requires c κs = search (needs, near-low)
+
+returns-3 : tie.Need-returns-3
+returns-3 c = search granted-out
 
 pub granted-spec : {M : Type 1} → statement M
 granted-spec =
     tie.close
-    (tie.spec behind-requires mul-if1 returns cast-is-granted is-granted-requires returns-2)
+    (tie.spec
+    behind-requires
+    mul-if1
+    returns
+    cast-is-stocked
+    is-stocked-requires
+    returns-2
+    is-out-requires
+    returns-3)

@@ -1,0 +1,54 @@
+use Rattle.stock.proofs.RoomSteps.{room-told}
+use borrow.Author.Needs.{needs}
+use Rattle.stock.proofs.FreeSteps.{free-stocked, free-asks, free-kept}
+use Rattle.stock.proofs.free.take_back.Statement.{statement}
+use Rattle.stock.proofs.free.take_back.Tie as tie
+
+is-stocked-requires : tie.Need-is-stocked-requires
+is-stocked-requires c κs = search needs
+
+same-length : tie.Need-same-length
+same-length c = search needs
+
+returns : tie.Need-returns
+returns c = search free-stocked
+
+count-requires : tie.Need-count-requires
+count-requires c κs = search needs
+
+has-room-requires : tie.Need-has-room-requires
+has-room-requires c κs = search needs
+
+keep-requires : tie.Need-keep-requires
+keep-requires c κs = (search free-asks, (search needs, search room-told))
+
+same-length-2 : tie.Need-same-length-2
+same-length-2 c = search needs
+
+returns-2 : tie.Need-returns-2
+returns-2 c = search free-kept
+
+pass-on-requires : tie.Need-pass-on-requires
+pass-on-requires c κs = (search free-asks, (search needs, search room-told))
+
+same-length-3 : tie.Need-same-length-3
+same-length-3 c = search needs
+
+returns-3 : tie.Need-returns-3
+returns-3 c = search needs
+
+pub take-back-spec : {M : Type 1} → statement M
+take-back-spec =
+    tie.close
+    (tie.spec
+    is-stocked-requires
+    same-length
+    returns
+    count-requires
+    has-room-requires
+    keep-requires
+    same-length-2
+    returns-2
+    pass-on-requires
+    same-length-3
+    returns-3)
