@@ -9,6 +9,8 @@ mod events;
 mod scenarios;
 pub mod wrong;
 
+use std::ops::Range;
+
 pub use self::apart::Apart;
 pub use self::scenarios::{plan, SCENARIOS};
 use crate::arguments::Arguments;
@@ -68,7 +70,7 @@ struct Books {
     room: Room,
 }
 
-/// Pages whose words are compared and overwritten, at the front and at the end of a long arena.
+/// Pages whose words are compared and overwritten, at the end of a long arena.
 const LOOKED_AT: u32 = 512;
 
 impl Books {
@@ -96,13 +98,11 @@ impl Books {
     }
 }
 
-/// The words of a short book, or of a long one's first and last pages: no history here uses others.
-fn looked_at(pages: u32) -> Vec<std::ops::Range<usize>> {
-    match pages.checked_sub(2 * LOOKED_AT) {
-        None => vec![0..book_words(pages)],
-        // Who holds a page stands in the record of the first of 256.
-        Some(_) => vec![0..book_words(1), book_words((pages - LOOKED_AT) / 256 * 256)..book_words(pages)],
-    }
+/// All words of a short book, those of a long one that are no page's, and its last pages': histories on a long arena keep to these.
+fn looked_at(pages: u32) -> [Range<usize>; 2] {
+    // Who holds a page stands in the record of the first of 256.
+    let first = pages.saturating_sub(LOOKED_AT) / 256 * 256;
+    [0..book_words(1.min(first)), book_words(first)..book_words(pages)]
 }
 
 fn same(one: &[u32], other: &[u32], pages: u32) -> Result<(), String> {

@@ -1,6 +1,7 @@
 //! Allocators in shared libraries, where they are installed.
 
 use std::ffi::{c_char, c_void, CStr, CString};
+use std::mem::transmute;
 
 extern "C" {
     fn dlopen(file: *const c_char, flags: i32) -> *mut c_void;
@@ -14,9 +15,12 @@ const NOW: i32 = 2;
 /// jemalloc's variables of a thread want more room than the loader leaves by itself.
 pub const TUNABLE: &str = "glibc.rtld.optional_static_tls=32768";
 
+type Alloc = unsafe extern "C" fn(usize) -> *mut u8;
+type Free = unsafe extern "C" fn(*mut u8);
+
 pub struct Loaded {
-    pub alloc: unsafe extern "C" fn(usize) -> *mut u8,
-    pub free: unsafe extern "C" fn(*mut u8),
+    pub alloc: Alloc,
+    pub free: Free,
 }
 
 /// A library's `alloc` and `free`, by their names there; or why it is not to be had.
@@ -33,6 +37,6 @@ pub fn load(file: &str, [alloc, free]: [&str; 2]) -> Result<Loaded, String> {
         if alloc.is_null() || free.is_null() {
             return Err(format!("{file:?} has no such functions"));
         }
-        Ok(Loaded { alloc: std::mem::transmute(alloc), free: std::mem::transmute(free) })
+        Ok(Loaded { alloc: transmute::<*mut c_void, Alloc>(alloc), free: transmute::<*mut c_void, Free>(free) })
     }
 }

@@ -26,8 +26,11 @@ const LIBRARIES: [(&str, &str, [&str; 2]); 2] =
 /// Of a library that is named: compare/rust_pool has them.
 const RUST_POOL: [&str; 2] = ["rust_pool_alloc", "rust_pool_free"];
 
+/// A side by its name.
+type Named = (&'static str, Box<dyn Side>);
+
 /// Every side that there is, and of the others why not.
-fn all_sides(rust_pool: Option<&str>) -> (Vec<(&'static str, Box<dyn Side>)>, Vec<String>) {
+fn all_sides(rust_pool: Option<&str>) -> (Vec<Named>, Vec<String>) {
     let mut sides = vec![
         ("malloc", sides::glibc()),
         ("pool, class at hand", sides::by_class()),
@@ -152,7 +155,7 @@ fn count_steps(counter: &Counter, arguments: &Arguments) -> Result<bool, String>
     told(&(text + &missing.concat()), arguments)
 }
 
-fn header(sides: &[(&str, Box<dyn Side>)], what: &str) -> String {
+fn header(sides: &[Named], what: &str) -> String {
     let names: String = sides.iter().map(|(name, _)| format!(" {name} |")).collect();
     format!("| {what} | steps |{names}\n|---|---|{}\n", "---|".repeat(sides.len()))
 }

@@ -38,7 +38,7 @@ use Rattle.refinement.specs.Run.{repliesFrom}
 use Rattle.demands.specs.Call.{call}
 use Rattle.demands.specs.Contracts.{runSeen, Shows, take-blocks, medium-take-blocks, release-blocks, medium-release-blocks, release-bin-chunks, commit, grow-frontier, release, contains, report, InTurn, ends, calls}
 use Rattle.demands.proofs.Calls.{room-plain}
-use Rattle.words.proofs.Answers.{digit-eqb}
+use Rattle.words.proofs.Answers.{eqb-digit}
 
 not-zero : (k : ℕ) → eqb (suc k) 0 ≡ false
 not-zero k = ne-eqb (suc k) 0 (λ e. omega (arith, e))
@@ -53,7 +53,7 @@ none-some e = let z : _≡_ {A = ℕ} 0 1 = cc in omega arith
 module _ (b : List ℕ) where
   take-read : (k m : ℕ) (l : List ℕ) (v : Bool) (m₀ v₀ : ℕ)
       → reply k (taken m l v) b ≡ reply (codeOut (answerOf k m v)) (taken (countOut (answerOf k m v) m₀) l (eqb (virginOut (answerOf k m v) v₀) 1)) b
-  take-read zero m l v m₀ v₀ = rw digit-eqb
+  take-read zero m l v m₀ v₀ = rw eqb-digit
   take-read (suc k) m l v m₀ v₀ = rw (not-zero k)
 
   list-read : (k f f₀ : ℕ) → reply k (fate f) b ≡ reply (releaseCode (answerAs k f)) (fate (fateOut (answerAs k f) f₀)) b
@@ -68,7 +68,7 @@ module _ (b : List ℕ) where
   commit-read : (k : ℕ) (q : Option ℕ) (f : Bool) (q₀ f₀ : ℕ) → ((p : ℕ) → k ≡ 0 → q ≡ some p → eqb p noPage ≡ false)
       → reply k (answerRun q f) b ≡ reply (commitCode (Runs.answerOf k q f)) (runSeen (firstOut (Runs.answerOf k q f) q₀) (freshOut (Runs.answerOf k q f) f₀)) b
   commit-read zero none f q₀ f₀ low = refl
-  commit-read zero (some p) f q₀ f₀ low = rw (low p refl refl, digit-eqb)
+  commit-read zero (some p) f q₀ f₀ low = rw (low p refl refl, eqb-digit)
   commit-read (suc k) q f q₀ f₀ low = rw (not-zero k)
 
 -- ---- the run that a commit answers lies in the arena, so its first page is not the greatest number
@@ -135,7 +135,7 @@ shows-call (release-bin-chunks c h r b′ ws gs fs fs′ e) = rw (e .code, e .bo
 shows-call {b} (commit h m r q q′ f f′ b′ e) = rw (e .code, e .book, e .first, e .fresh) (sym (commit-read _ _ _ _ q f (commit-low b h m)))
 shows-call (grow-frontier h q old new r g g′ b′ e) = rw (e .code, e .book, e .grown) (sym (grow-read _ _ _ g))
 shows-call (release h q m r b′ e) = rw (e .code, e .book)
-shows-call (contains o k r e) = rw (e, digit-eqb)
+shows-call (contains o k r e) = rw (e, eqb-digit)
 shows-call {b} (report r fs fs′ e) = report-says b fs fs′ r e
 
 pub in-turn-replies : {b : List ℕ} {xs : List Call} {ws : List Reply} → InTurn b xs ws → ws ≡ repliesFrom call b xs

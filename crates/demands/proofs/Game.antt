@@ -10,7 +10,7 @@ use Rattle.game.specs.Game.{empty, wins, badGame, played, askerWins, winsOut, G
 use Rattle.game.specs.Forces.{Forces}
 use Rattle.game.proofs.Theorems as Theorems
 use Rattle.pages.proofs.Downs.{digit-le}
-use Rattle.words.proofs.Answers.{digit-eqb}
+use Rattle.words.proofs.Answers.{eqb-digit}
 use Rattle.demands.specs.Game.{AskerWins, Game}
 
 -- what a call that was not refused wrote
@@ -28,7 +28,7 @@ module _ (n limit k r w w′ : ℕ) (e : GameEnds (askerWins n limit k) r w w′
       let same : (wins n limit k empty ≡ true) ↔ Forces n limit k empty = Theorems.game-is n limit k in
       record {
         plain = rw written (digit-le (wins n limit k empty));
-        game-is = (λ y. same .0 (sym (digit-eqb (wins n limit k empty)) ∙ eq-eqb _ 1 (sym written ∙ y)), λ f. written ∙ ap digit (same .1 f));
+        game-is = (λ y. same .0 (sym (eqb-digit (wins n limit k empty)) ∙ eq-eqb _ 1 (sym written ∙ y)), λ f. written ∙ ap digit (same .1 f));
       }
 
 no-moves : (n limit : ℕ) → wins n limit 0 empty ≡ false

@@ -22,7 +22,7 @@ use Rattle.pages.specs.Links.{unlink}
 use Rattle.pages.specs.declared.Park.{Park}
 use Rattle.calls.specs.Take.{Filled, filledNone, thenFilled, unlistSpent, fillFrom}
 use Rattle.refinement.specs.Represents.{PageRep, ClassRep}
-use Rattle.words.proofs.Answers.{digit-eqb}
+use Rattle.words.proofs.Answers.{eqb-digit}
 use Rattle.refinement.proofs.Basics.{Setting, setting-kept}
 use Rattle.refinement.proofs.Frames.{ofClass, Only, only-trans}
 use Rattle.refinement.proofs.Moves.{at-partial, from-partial, full-out, unlink-only}
@@ -148,7 +148,7 @@ module _ {n c : ℕ} {sh : Shape} {k : Park} {xs ys : List Page} where
     more₁ = more-is rep₁
 
     clean : eqb (get b (page virgin (p .first))) 1 ≡ p .virgin
-    clean = ap (λ x. eqb x 1) (r .partials .0 .holds .clean) ∙ digit-eqb (p .virgin)
+    clean = ap (λ x. eqb x 1) (r .partials .0 .holds .clean) ∙ eqb-digit (p .virgin)
 
     size : length (latest b sh (p .first) m) ≡ min (m - length (p .free)) (sh .capacity - p .carved) + min m (length (p .free))
     size = pop-size s (r .partials .0) m

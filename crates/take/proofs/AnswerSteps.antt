@@ -7,7 +7,7 @@ use mathlib.Core.Path.{_≡_, refl, sym, ap, _∙_}
 use mir.Val.{boolByte}
 use lib.Dec.{eqb}
 use borrow.Author.Tests.{ne-eqb}
-use Rattle.words.proofs.Answers.{digit-eqb}
+use Rattle.words.proofs.Answers.{eqb-digit}
 use Rattle.words.specs.Host.{digit}
 use Rattle.take.specs.declared.call.Take.{Take}
 use Rattle.calls.specs.Take as Heap
@@ -66,4 +66,4 @@ module _ (t : Heap.Took) (x y : List ℕ) where
         let u : t .code ≡ 0 = sym (k .code) ∙ z in
         let e : m′ ≡ t .count = rw u at (k .count) in
         let f : v′ ≡ digit (t .virgin) = rw u at (k .virgin) in
-        record { answer = rw (u, e, f, digit-eqb (t .virgin)); book = k .book; list = k .list }
+        record { answer = rw (u, e, f, eqb-digit (t .virgin)); book = k .book; list = k .list }

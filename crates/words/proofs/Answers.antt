@@ -25,7 +25,7 @@ eqb-digit : (b : Bool) → eqb (digit b) 1 ≡ b
 eqb-digit true = refl
 eqb-digit false = refl
 
-pub digit-eqb : (x : ℕ) → x < 2 → digit (eqb x 1) ≡ x
+digit-eqb : (x : ℕ) → x < 2 → digit (eqb x 1) ≡ x
 digit-eqb zero h = refl
 digit-eqb (suc zero) h = refl
 digit-eqb (suc (suc x)) h = omega arith
@@ -86,3 +86,8 @@ next-bit k h e = ap₂ (λ (x y : ℕ). x * 2 ^ k + y) (digit-bit k h) e ∙ sym
 pub host-again : (h : ℕ) → badHost h ≡ false → hostWord (reservationGranted h) (commitGranted h) (discardDone h) (discardZeroes h) ≡ h
 host-again h e =
     next-bit 3 h (next-bit 2 h (next-bit 1 h (omega (arith, digit-bit 0 h)))) ∙ mod-eq-of-lt (omega (arith, ltb-false hostMax h e))
+
+-- a digit is 1 exactly if what it tells is true
+pub eqb-digit : (v : Bool) → eqb (digit v) 1 ≡ v
+eqb-digit true = refl
+eqb-digit false = refl
