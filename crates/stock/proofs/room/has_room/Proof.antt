@@ -9,8 +9,8 @@ returns c = search room-few
 returns-2 : tie.Need-returns-2
 returns-2 c = search room-none
 
-shape-at-requires : tie.Need-shape-at-requires
-shape-at-requires c κs = search needs
+shape-of-requires : tie.Need-shape-of-requires
+shape-of-requires c κs = search needs
 
 add-result : tie.Need-add-result
 add-result c = search needs
@@ -23,4 +23,4 @@ returns-3 c = search room-by
 
 pub has-room-spec : {M : Type 1} → statement M
 has-room-spec =
-    tie.close (tie.spec returns returns-2 shape-at-requires add-result mul-result returns-3)
+    tie.close (tie.spec returns returns-2 shape-of-requires add-result mul-result returns-3)
