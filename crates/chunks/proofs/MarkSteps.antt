@@ -24,12 +24,13 @@ use Rattle.pages.specs.Stack.{pageAt}
 use Rattle.pages.proofs.Downs.{every-mono}
 use Rattle.calls.specs.Out.{inRunOf, outAt, outFault}
 use Rattle.calls.specs.Chunks.{chunksMatch, chunksFair}
-use Rattle.release.specs.Marks.{freshCount, freshBook, noMarks}
+use Rattle.release.specs.Marks.{freshCount, freshBook, noMarks, countBy, bookBy}
 use Rattle.release.specs.MarkAsks.{FieldAsks, MarkedIn}
 use Rattle.release.proofs.Bits.{isBit}
 use Rattle.release.proofs.RunLaws.{within-arena}
 use Rattle.release.proofs.OutLaws.{run-of-out}
-use Rattle.release.proofs.MarkLaws.{mark-bits, all-single}
+use Rattle.release.proofs.MarkLaws.{mark-bits}
+use Rattle.release.proofs.RunMarks.{fresh-changes, AllFresh, all-fresh, not-marked, not-repeated}
 use Rattle.release.proofs.Testing.{fault-none}
 use Rattle.tally.specs.Match.{isPage, inArena, hasPage, pageFits, pagesMatch, arenaMatch, Matched}
 use Rattle.tally.proofs.MatchLaws.{low-page}
@@ -37,7 +38,7 @@ use Rattle.chunks.specs.Pass.{cleared}
 use Rattle.chunks.specs.CallAsks.{passFault, testFault}
 use Rattle.chunks.specs.Marks.{pageReady, ownCount, ownBook, sweep, takePages, clearPages}
 use Rattle.chunks.specs.MarkAsks.{OwnAsks, OwnMarked, SweepAsks, ReadyAsks, MarkedAsks, TryAsks, MatchedAsks, SetAsks, TookMarked, Tried}
-use Rattle.chunks.proofs.PageMarks.{own-count, own-book, fresh-within, none-counted, none-left, none-marked, own-changes, AllOwn, all-own, own-clean, ready-words, clears-own, takes-own}
+use Rattle.chunks.proofs.PageMarks.{own-count, own-book, fresh-within, none-counted, none-left, none-marked, ready-words, clears-own, takes-own}
 use Rattle.chunks.proofs.CallTests.{chunks-fair-kept, match-is}
 
 -- ---- a chunk's page
@@ -148,7 +149,7 @@ module _ (n : ℕ) (b : List ℕ) (sh : Shape) (ws : List ℕ) (a : OwnAsks n b 
           }
 
   pub own-ends : (b′ : List ℕ) (i : ℕ) → OwnInv b sh ws b′ i → length ws ≤ i → OwnMarked i b′ b sh ws
-  unfolding ownCount ownBook
+  unfolding countBy bookBy
   own-ends b′ i v l =
       let d : drop i ws ≡ [] = drop-past ws i l in
       record { answer = omega (arith, rw d at (v .answer)); left = rw d at (v .left) }
@@ -211,7 +212,7 @@ module _ (n : ℕ) (b : List ℕ) (c : ℕ) (sh : Shape) (m : ℕ) (ws gs : List
 
   module _ (k : ℕ) (b′ : List ℕ) (z : OwnMarked k b′ b sh ws) where
     changes : Changes isBit b (ownBook b sh ws)
-    changes = mark-bits b _ (own-changes sh sound one m few all b ws)
+    changes = mark-bits b _ (fresh-changes sh sound pageAt b ws)
 
     long-now : words n ≤ length b′
     long-now = rw (z .left) (omega (arith, changes .long, long))
@@ -226,8 +227,8 @@ module _ (n : ℕ) (b : List ℕ) (c : ℕ) (sh : Shape) (m : ℕ) (ws gs : List
       counted : ownCount b sh ws ≡ length ws
       counted = sym (z .answer) ∙ y
 
-      known : AllOwn sh sound one m few all n c b ws
-      known = all-own sh sound one m few all n c b ws (ready-words sh sound one m few all n c b gs ws (a .ready) has .0) counted
+      known : AllFresh sh sound pageAt n c b ws
+      known = all-fresh sh sound pageAt n c b ws (ready-words sh sound one m few all n c b gs ws (a .ready) has .0) counted
 
       pub marked-asks : MarkedAsks n b′ c sh m gs
       marked-asks = record {
@@ -242,8 +243,8 @@ module _ (n : ℕ) (b : List ℕ) (c : ℕ) (sh : Shape) (m : ℕ) (ws gs : List
       no-fault : outFault n b c sh ws ≡ 0
       no-fault =
           fault-none n b c sh ws
-          (own-clean sh sound one m few all n c b ws (ready-words sh sound one m few all n c b gs ws (a .ready) has .1))
-          (all-single n c sh sound b (sh .kind) ws (le-leb (words n) (length b) long) (known .kinds) (known .counted))
+          (not-marked sh sound pageAt n c m all b ws (ready-words sh sound one m few all n c b gs ws (a .ready) has .1) known)
+          (not-repeated sh sound pageAt n c b ws known (le-leb (words n) (length b) long))
           (known .out)
 
       matches : chunksMatch b ws gs ≡ true

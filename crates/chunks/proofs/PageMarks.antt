@@ -1,6 +1,5 @@
 -- The blocks of a group release marked on their pages. Of a class whose runs are one page.
 --     own-count, own-book    neighbours on one page marked together, then the rest
---     all-own                all marked: what that tells of each word, and that the class's way comes to the list's end too
 --     takes-own              all marked: the marks of the chunks' pages taken away by words clear just the listed blocks' out bits
 --     clears-own             the marks of the chunks' pages cleared: the book at entry
 use Prim.Native.Nat.{ℕ, suc, _+_, _*_, _/_, _≤_, _<_}
@@ -8,35 +7,28 @@ use native.Mathlib.Omega.{arith}
 use mathlib.Core.Bool.{Bool, true, false, not, _&&_, false≢true}
 use mathlib.Core.List.{List, [], _∷_, map}
 use mathlib.Core.Logic.{_≢_}
-use mathlib.Core.Path.{_≡_, refl, sym, ap, _∙_}
+use mathlib.Core.Path.{_≡_, refl, ap, _∙_}
 use lib.Dec.{eqb}
 use lib.ListN.{length, drop}
-use borrow.Author.Tests.{eqb-true, eqb-false, ltb-true, eq-eqb, not-true}
+use borrow.Author.Tests.{eqb-true, eqb-false, ltb-true, not-true}
 use Rattle.facts.specs.Lists.{every, elem, distinct}
 use Rattle.facts.proofs.Bools.{by-cases, and-left, and-right, nor-left, nor-right}
-use Rattle.facts.proofs.Lists.{every-same}
 use Rattle.words.specs.Word.{pageOf}
 use Rattle.classes.specs.declared.Shape.{Shape}
 use Rattle.classes.specs.Sound.{Sound}
 use Rattle.fields.specs.Field.{mark, out, get, put, words}
 use Rattle.fields.specs.Clear.{clearMarks}
-use Rattle.fields.proofs.Changes.{Changes, changes-none, changes-trans}
 use Rattle.fields.proofs.Laws.{length-put}
 use Rattle.model.specs.Release.{ofKind}
 use Rattle.pages.specs.Runs.{whole}
 use Rattle.pages.specs.Stack.{indexOf, isBlock, pageAt}
-use Rattle.calls.specs.Out.{startOf, outAt, outs, clean, unmarked}
-use Rattle.release.specs.Marks.{markAt, setMark, freshAt, markedIn, markCount, freshIn, freshCount, freshBook, noMarks, takeMarks}
-use Rattle.release.proofs.Bits.{below-capacity, whole-kept}
-use Rattle.release.proofs.RunLaws.{not-before, not-behind, run-out, run-start}
-use Rattle.release.proofs.OutLaws.{block-of-out}
-use Rattle.release.proofs.MarkLaws.{isMarkWord, mark-bits, out-kept}
+use Rattle.release.specs.Marks.{markAt, setMark, freshAt, markedIn, freshIn, freshCount, freshBook, noMarks, takeMarks, countBy, bookBy}
+use Rattle.release.proofs.RunLaws.{not-before, not-behind}
 use Rattle.release.proofs.TakeMarks.{lengths, takes-marked, out-past, mark-past, out-still, mark-still}
-use Rattle.release.proofs.RunMarks.{clean-at, none-taken, none-cleared, clear-past, clear-away, fresh-kind, fresh-low, fresh-word, fresh-out, fresh-mark, fresh-put, fresh-is-out, fresh-is-free}
+use Rattle.release.proofs.RunMarks.{none-taken, none-cleared, clear-past, clear-away, fresh-low, fresh-word, fresh-out, fresh-mark, clears-by, inWhole}
 use Rattle.tally.specs.Match.{hasPage, inArena}
 use Rattle.chunks.specs.Pass.{cleared}
 use Rattle.chunks.specs.Marks.{pageReady, ownCount, ownBook, takePages, clearPages}
-use Rattle.chunks.proofs.Gather.{page-start}
 
 module _ (sh : Shape) (s : Sound sh) (one : sh .pages ≡ 1) where
   -- ---- neighbours on page q
@@ -48,7 +40,7 @@ module _ (sh : Shape) (s : Sound sh) (one : sh .pages ≡ 1) where
 
   module _ (q : ℕ) where
     pub own-count : (b vs : List ℕ) → ownCount b sh vs ≡ freshCount b sh q vs + ownCount (freshBook b sh q vs) sh (drop (freshCount b sh q vs) vs)
-    unfolding ownCount freshCount freshBook
+    unfolding countBy bookBy
     own-count b [] = refl
     own-count b (v ∷ vs) = by (freshIn b sh q v) refl (own-count (markedIn b sh q v) vs)
       where
@@ -59,7 +51,7 @@ module _ (sh : Shape) (s : Sound sh) (one : sh .pages ≡ 1) where
         by false o z = rw o (omega arith)
 
     pub own-book : (b vs : List ℕ) → ownBook b sh vs ≡ ownBook (freshBook b sh q vs) sh (drop (freshCount b sh q vs) vs)
-    unfolding ownBook freshCount freshBook
+    unfolding bookBy countBy
     own-book b [] = refl
     own-book b (v ∷ vs) = by (freshIn b sh q v) refl (own-book (markedIn b sh q v) vs)
       where
@@ -70,7 +62,7 @@ module _ (sh : Shape) (s : Sound sh) (one : sh .pages ≡ 1) where
         by false o z = rw o
 
     pub fresh-within : (b vs : List ℕ) → freshCount b sh q vs ≤ length vs
-    unfolding freshCount
+    unfolding countBy
     fresh-within b [] = omega arith
     fresh-within b (v ∷ vs) = by (freshIn b sh q v) refl (fresh-within (markedIn b sh q v) vs)
       where
@@ -81,85 +73,23 @@ module _ (sh : Shape) (s : Sound sh) (one : sh .pages ≡ 1) where
     -- the first word is not marked: none is
     module _ (b : List ℕ) (v : ℕ) (vs : List ℕ) (e : pageAt v ≡ q) (z : freshCount b sh q (v ∷ vs) ≡ 0) where
       not-fresh : freshIn b sh q v ≡ false
-      unfolding freshCount
+      unfolding countBy
       not-fresh = by-cases (freshIn b sh q v) (λ o. absurd (omega (arith, rw o at z))) (λ o. o)
 
       pub none-counted : ownCount b sh (v ∷ vs) ≡ 0
-      unfolding ownCount
+      unfolding countBy
       none-counted = rw (e, not-fresh)
 
       pub none-left : ownBook b sh (v ∷ vs) ≡ b
-      unfolding ownBook
+      unfolding bookBy
       none-left = rw (e, not-fresh)
 
       pub none-marked : freshBook b sh q (v ∷ vs) ≡ b
-      unfolding freshBook
+      unfolding bookBy
       none-marked = rw not-fresh
 
   module _ (m : ℕ) (few : m ≤ 128) (all : sh .capacity ≤ 32 * m) where
-    -- ---- nothing but marks is changed
-    own-put : (b : List ℕ) (w : ℕ) → freshIn b sh (pageAt w) w ≡ true → Changes isMarkWord b (markedIn b sh (pageAt w) w)
-    own-put b w o = fresh-put sh s (pageAt w) b w o
-
-    pub own-changes : (b ws : List ℕ) → Changes isMarkWord b (ownBook b sh ws)
-    unfolding ownBook
-    own-changes b [] = changes-none isMarkWord b
-    own-changes b (w ∷ ws) = by (freshIn b sh (pageAt w) w) refl (own-changes (markedIn b sh (pageAt w) w) ws)
-      where
-        by : (t : Bool) → freshIn b sh (pageAt w) w ≡ t → Changes isMarkWord (markedIn b sh (pageAt w) w) (ownBook (markedIn b sh (pageAt w) w) sh ws) → Changes isMarkWord b (ownBook b sh (w ∷ ws))
-        by true o z = rw o (changes-trans isMarkWord b (markedIn b sh (pageAt w) w) _ (own-put b w o) z)
-        by false o z = rw o (changes-none isMarkWord b)
-
-    -- ---- the tests
     module _ (n c : ℕ) where
-      abbrev onRun : List ℕ → ℕ → Bool
-      onRun b w = whole n b sh c (pageAt w)
-
-      pub record AllOwn (b ws : List ℕ) : Type 0 where
-        pub counted : markCount n b c sh ws ≡ length ws
-        pub kinds : every (ofKind (sh .kind)) ws ≡ true
-        pub out : every (outAt n b c sh) ws ≡ true
-
-      pub all-own : (b ws : List ℕ) → every (onRun b) ws ≡ true → ownCount b sh ws ≡ length ws → AllOwn b ws
-      unfolding ownCount markCount
-      all-own b [] h l = record { counted = refl; kinds = refl; out = refl }
-      all-own b (w ∷ ws) h l = by (freshIn b sh (pageAt w) w) refl (λ o. all-own (markedIn b sh (pageAt w) w) ws)
-        where
-          by : (t : Bool) → freshIn b sh (pageAt w) w ≡ t
-              → (freshIn b sh (pageAt w) w ≡ true → every (onRun (markedIn b sh (pageAt w) w)) ws ≡ true → ownCount (markedIn b sh (pageAt w) w) sh ws ≡ length ws → AllOwn (markedIn b sh (pageAt w) w) ws)
-              → AllOwn b (w ∷ ws)
-          by false o z = absurd (omega (arith, rw o at l))
-          by true o z =
-              let q = pageAt w in
-              let b′ = markedIn b sh q w in
-              let g = own-put b w o in
-              let k : ownCount (markedIn b sh (pageAt w) w) sh ws ≡ length ws = omega (arith, rw o at l) in
-              let r = z o (every-same (onRun b′) (onRun b) ws (λ v. whole-kept b b′ (mark-bits b b′ g) n sh c (pageAt v)) ∙ and-right (onRun b w) _ h) k in
-              let i = fresh-is-out sh s q n c b w o in
-              let x = run-out n c sh s q b (and-left (onRun b w) _ h) w i in
-              let y = run-start n c sh s q b (and-left (onRun b w) _ h) w i in
-              record {
-                counted = rw (x, y, fresh-is-free sh s q n c b w o) (ap suc (r .counted));
-                kinds = rw (fresh-kind sh s q b w o) (r .kinds);
-                out = rw x (sym (every-same _ _ ws (out-kept n c sh s b b′ g)) ∙ r .out);
-              }
-
-      clean-own : (b : List ℕ) (w : ℕ) → noMarks b (pageAt w) m ≡ true → outAt n b c sh w ≡ true → clean b sh w ≡ true
-      clean-own b w e o =
-          let x = page-start n c sh s one b w o in
-          let z = below-capacity sh (startOf b w) w (block-of-out n c sh s b w o) in
-          let l : indexOf sh (startOf b w) w / 32 < m = omega arith in
-          eq-eqb _ 0 (ap (λ p. get b (mark p (indexOf sh (startOf b w) w / 32))) x ∙ clean-at b (pageAt w) m (indexOf sh (startOf b w) w / 32) e l)
-
-      pub own-clean : (b ws : List ℕ) → every (λ w. noMarks b (pageAt w) m) ws ≡ true → unmarked n b c sh ws ≡ true
-      unfolding unmarked
-      own-clean b [] e = refl
-      own-clean b (w ∷ ws) e = by (outAt n b c sh w) refl (own-clean b ws (and-right (noMarks b (pageAt w) m) _ e))
-        where
-          by : (t : Bool) → outAt n b c sh w ≡ t → every (clean b sh) (outs n b c sh ws) ≡ true → every (clean b sh) (outs n b c sh (w ∷ ws)) ≡ true
-          by true o z = rw (o, clean-own b w (and-left (noMarks b (pageAt w) m) _ e) o, z)
-          by false o z = rw o z
-
       -- ---- the pages that are ready: those of the words
       ready-at : (b : List ℕ) (q : ℕ) (gs : List ℕ) → every (pageReady n b c sh m) gs ≡ true → elem q (map pageOf gs) ≡ true → (whole n b sh c q && noMarks b q m) ≡ true
       unfolding pageReady
@@ -170,12 +100,12 @@ module _ (sh : Shape) (s : Sound sh) (one : sh .pages ≡ 1) where
           (λ d. rw (eqb-true q (pageOf g) d) (and-left (t g) (every t gs) e))
           (λ d. ready-at b q gs (and-right (t g) (every t gs) e) (rw d at h))
 
-      pub ready-words : (b gs ws : List ℕ) → every (pageReady n b c sh m) gs ≡ true → every (hasPage gs) ws ≡ true → (every (onRun b) ws ≡ true) × (every (λ w. noMarks b (pageAt w) m) ws ≡ true)
+      pub ready-words : (b gs ws : List ℕ) → every (pageReady n b c sh m) gs ≡ true → every (hasPage gs) ws ≡ true → (every (inWhole sh s pageAt n c b) ws ≡ true) × (every (λ w. noMarks b (pageAt w) m) ws ≡ true)
       ready-words b gs [] e h = (refl, refl)
       ready-words b gs (w ∷ ws) e h =
           let z = ready-at b (pageAt w) gs e (and-left (hasPage gs w) _ h) in
           let y = ready-words b gs ws e (and-right (hasPage gs w) _ h) in
-          (rw (and-left (onRun b w) _ z) (y .0), rw (and-right (onRun b w) _ z) (y .1))
+          (rw (and-left (inWhole sh s pageAt n c b w) _ z) (y .0), rw (and-right (inWhole sh s pageAt n c b w) _ z) (y .1))
 
     -- ---- a mark among the chunks' pages
     apart : (q : ℕ) (g : ℕ) → eqb q (pageOf g) ≡ false → q ≢ pageOf g
@@ -241,7 +171,7 @@ module _ (sh : Shape) (s : Sound sh) (one : sh .pages ≡ 1) where
 
       takes-fresh : (gs : List ℕ) → distinct (map pageOf gs) ≡ true → (b ws : List ℕ) → words n ≤ length b → every (inArena n) ws ≡ true → every (hasPage gs) ws ≡ true → ownCount b sh ws ≡ length ws
           → takePages (ownBook b sh ws) m gs ≡ cleared (takePages b m gs) sh ws
-      unfolding ownCount ownBook cleared
+      unfolding countBy bookBy cleared
       takes-fresh gs u b [] l i e k = refl
       takes-fresh gs u b (w ∷ ws) l i e k =
           by (freshIn b sh (pageAt w) w) refl (takes-fresh gs u (markedIn b sh (pageAt w) w) ws (rw (marked-long b (pageAt w) w) l) (and-right (inArena n w) _ i) (and-right (hasPage gs w) _ e))
@@ -256,19 +186,9 @@ module _ (sh : Shape) (s : Sound sh) (one : sh .pages ≡ 1) where
       unfolding markedIn
       clear-fresh gs b w e o = clears-one (pageAt w) (indexOf sh (pageAt w) w / 32) _ (fresh-word sh s (pageAt w) b w o m all) gs e b
 
-      clears-fresh : (gs b ws : List ℕ) → every (hasPage gs) ws ≡ true → clearPages (ownBook b sh ws) m gs ≡ clearPages b m gs
-      unfolding ownBook
-      clears-fresh gs b [] e = refl
-      clears-fresh gs b (w ∷ ws) e = by (freshIn b sh (pageAt w) w) refl (clears-fresh gs (markedIn b sh (pageAt w) w) ws (and-right (hasPage gs w) _ e))
-        where
-          by : (t : Bool) → freshIn b sh (pageAt w) w ≡ t → clearPages (ownBook (markedIn b sh (pageAt w) w) sh ws) m gs ≡ clearPages (markedIn b sh (pageAt w) w) m gs
-              → clearPages (ownBook b sh (w ∷ ws)) m gs ≡ clearPages b m gs
-          by true o z = rw o (z ∙ clear-fresh gs b w (and-left (hasPage gs w) _ e) o)
-          by false o z = rw o
-
       module _ (b gs ws : List ℕ) (r : every (pageReady n b c sh m) gs ≡ true) (e : every (hasPage gs) ws ≡ true) where
         pub clears-own : clearPages (ownBook b sh ws) m gs ≡ b
-        clears-own = clears-fresh gs b ws e ∙ clear-none b gs r
+        clears-own = clears-by sh s pageAt (λ d. clearPages d m gs) (hasPage gs) (λ d w h o. clear-fresh gs d w h o) b ws e ∙ clear-none b gs r
 
         pub takes-own : distinct (map pageOf gs) ≡ true → words n ≤ length b → every (inArena n) ws ≡ true → ownCount b sh ws ≡ length ws → takePages (ownBook b sh ws) m gs ≡ cleared b sh ws
         takes-own u l i k = takes-fresh gs u b ws l i e k ∙ ap (λ d. cleared d sh ws) (take-none b gs r)

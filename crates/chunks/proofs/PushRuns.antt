@@ -21,7 +21,7 @@ use Rattle.classes.specs.declared.Shape.{Shape}
 use Rattle.fields.specs.Field.{page, slot, free, words, get, put, Has}
 use Rattle.fields.specs.Ranges.{maxPages}
 use Rattle.fields.proofs.Laws.{get-put-same, put-comm, put-put-same, put-get, length-put}
-use Rattle.pages.specs.Asks.{LayAsks}
+use Rattle.pages.specs.Asks.{LayAsks, IndexAsks}
 use Rattle.pages.specs.Stack.{blocksFrom, indexOf, isBlock, pageAt, push}
 use Rattle.pages.proofs.Pushes.{length-push}
 use Rattle.tally.specs.Match.{wordsOn}
@@ -177,6 +177,30 @@ module _ (b : List ℕ) (sh : Shape) (q : ℕ) (ws : List ℕ) (a : TailAsks b s
     pub tail-done : (b₂ : List ℕ) → b₂ ≡ put b₁ (page free q) (t + length ws) → b₂ ≡ pushAll b sh ws
     tail-done b₂ g = g ∙ ap (λ z. put z (page free q) (t + length ws)) f ∙ rw e (run-pushed b sh q (a .asks .there) ws (a .on) (a .asks .slots))
 
+-- ---- push_block
+module _ (b : List ℕ) (sh : Shape) (q w : ℕ) (a : TailAsks b sh q (w ∷ [])) where
+  pub one-index : IndexAsks sh q w
+  one-index = record { sound = a .asks .sound; below = a .asks .below; bit = and-left (ltb (indexOf sh q w) 4096) true (a .asks .bits) }
+
+  pub one-block : isBlock sh q w ≡ true
+  one-block = and-left (isBlock sh q w) true (a .blocks)
+
+  module _ (t : ℕ) (e : t ≡ get b (page free q)) where
+    one-room : t + 1 ≤ 4096
+    one-room = omega (arith, a .asks .slots)
+
+    pub one-slot : Has b (slot q t)
+    one-slot = omega (arith, one-room, a .asks .there)
+
+    pub one-fits : Fits w32 (t + 1)
+    one-fits = record { fits = omega (arith, one-room) }
+
+    pub one-done : (i : ℕ) → i ≡ indexOf sh q w → (b₁ b₂ : List ℕ) → b₁ ≡ put b (slot q t) i → b₂ ≡ put b₁ (page free q) (t + 1) → b₂ ≡ pushAll b sh (w ∷ [])
+    unfolding pushAll pushOne
+    one-done i h b₁ b₂ f g =
+        let on : pageAt w ≡ q = eqb-true (pageAt w) q (and-left (onPage q w) true (a .on)) in
+        rw (g, f, h, e, on)
+
 -- ---- push_last
 module _ (b : List ℕ) (sh : Shape) (ws : List ℕ) (a : LastAsks b sh ws) where
   pub all-reach : every inReach ws ≡ true
@@ -207,8 +231,8 @@ module _ (b : List ℕ) (sh : Shape) (ws : List ℕ) (a : LastAsks b sh ws) wher
     part-is : take (length ws - k) (drop k ws) ≡ drop k ws
     part-is = take-all (length ws - k) (drop k ws) (omega (arith, length-drop k ws))
 
-    pub last-asks : TailAsks b sh q (take (length ws - k) (drop k ws))
-    last-asks = rw part-is (record {
+    last-tail : TailAsks b sh q (drop k ws)
+    last-tail = record {
       asks = record {
         sound = a .all .sound;
         below = a .all .below q on-some;
@@ -218,7 +242,20 @@ module _ (b : List ℕ) (sh : Shape) (ws : List ℕ) (a : LastAsks b sh ws) wher
       };
       blocks = near-blocks sh q (drop k ws) (every-drop (ownBlock sh) k ws (a .blocks)) (z .on);
       on = z .on;
-    })
+    }
+
+    pub last-asks : TailAsks b sh q (take (length ws - k) (drop k ws))
+    last-asks = rw part-is last-tail
+
+    -- the last word alone
+    alone-is : k ≡ length ws - 1 → drop k ws ≡ getD ws (length ws - 1) 0 ∷ []
+    alone-is h = ap (λ z. drop z ws) h ∙ drop-one ws (length ws) (λ z. omega (arith, a .some)) (omega arith) ∙ ap (λ z. getD ws (length ws - 1) 0 ∷ z) (drop-length ws)
+
+    pub last-alone : k ≡ length ws - 1 → TailAsks b sh q (getD ws (length ws - 1) 0 ∷ [])
+    last-alone h = rw (← alone-is h) last-tail
+
+    pub alone-done : k ≡ length ws - 1 → (b′ : List ℕ) → b′ ≡ pushAll b sh (getD ws (length ws - 1) 0 ∷ []) → PushedFrom k b′ b sh ws
+    alone-done h b′ l = record { some = tail-some; left = l ∙ ap (pushAll b sh) (sym (alone-is h)) }
 
     pub last-done : (b′ : List ℕ) → b′ ≡ pushAll b sh (take (length ws - k) (drop k ws)) → PushedFrom k b′ b sh ws
     last-done b′ l = record { some = tail-some; left = l ∙ ap (pushAll b sh) part-is }

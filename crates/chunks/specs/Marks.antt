@@ -4,26 +4,24 @@
 --     ownCount, ownBook   marking in turn, up to the first word that is not out on its page or is marked: how many were, and the book then
 --     takePages           on the chunks' pages: the marked blocks' out bits cleared and the marks with them, a word at a time
 --     clearPages          the marks cleared, a word at a time
-use Prim.Native.Nat.{ℕ, suc}
-use mathlib.Core.Bool.{Bool, cond, _&&_}
+use Prim.Native.Nat.{ℕ}
+use mathlib.Core.Bool.{Bool, _&&_}
 use mathlib.Core.List.{List, [], _∷_}
 use Rattle.words.specs.Word.{pageOf}
 use Rattle.classes.specs.declared.Shape.{Shape}
 use Rattle.fields.specs.Clear.{clearMarks}
 use Rattle.pages.specs.Runs.{whole}
 use Rattle.pages.specs.Stack.{pageAt}
-use Rattle.release.specs.Marks.{markedIn, freshIn, noMarks, takeMarks}
+use Rattle.release.specs.Marks.{countBy, bookBy, noMarks, takeMarks}
 
 unfoldable pub pageReady : ℕ → List ℕ → ℕ → Shape → ℕ → ℕ → Bool
 pageReady n b c sh m g = whole n b sh c (pageOf g) && noMarks b (pageOf g) m
 
-unfoldable pub ownCount : List ℕ → Shape → List ℕ → ℕ
-ownCount b sh [] = 0
-ownCount b sh (w ∷ ws) = cond (freshIn b sh (pageAt w) w) (suc (ownCount (markedIn b sh (pageAt w) w) sh ws)) 0
+abbrev pub ownCount : List ℕ → Shape → List ℕ → ℕ
+ownCount = countBy pageAt
 
-unfoldable pub ownBook : List ℕ → Shape → List ℕ → List ℕ
-ownBook b sh [] = b
-ownBook b sh (w ∷ ws) = cond (freshIn b sh (pageAt w) w) (ownBook (markedIn b sh (pageAt w) w) sh ws) b
+abbrev pub ownBook : List ℕ → Shape → List ℕ → List ℕ
+ownBook = bookBy pageAt
 
 -- a step on the chunks' pages, in their order
 abbrev pub sweep : (List ℕ → ℕ → List ℕ) → List ℕ → List ℕ → List ℕ

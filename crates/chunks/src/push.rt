@@ -68,13 +68,28 @@ fn push_tail(meta: &mut [u32], shape: Shape, q: u32, list: &[u64])
     fields::page::set_free(meta, q, top + list.len() as u32);
 }
 
+// One block: laid as a list of one it would take a tenth longer where the blocks of many pages are mixed.
+fn push_block(meta: &mut [u32], shape: Shape, q: u32, w: u64)
+    requires { ⌜ TailAsks (now meta) shape q (w ∷ []) ⌝ }
+    ensures { λ _. ⌜ now (meta .exit) ≡ pushAll (now (meta .entry)) shape (w ∷ []) ⌝ }
+{
+    let top = fields::page::free(meta, q);
+    fields::slot::set_entry(meta, q, top, index_of(shape, q, w));
+    fields::page::set_free(meta, q, top + 1);
+}
+
 // The list's last word, and those on its page before it: how many are left.
 fn push_last(meta: &mut [u32], shape: Shape, list: &[u64]) -> usize
     requires { ⌜ LastAsks (now meta) shape (now list) ⌝ }
     ensures { λ r. ⌜ PushedFrom r (now (meta .exit)) (now (meta .entry)) shape (now (list .entry)) ⌝ }
 {
-    let q = page_within(list[list.len() - 1]);
+    let last = list.len() - 1;
+    let q = page_within(list[last]);
     let k = tail_on(list, q);
+    if k == last {
+        push_block(meta, shape, q, list[last]);
+        return k;
+    }
     push_tail(meta, shape, q, &list[k..]);
     k
 }

@@ -1,7 +1,6 @@
 pub mod Table
 pub mod Match
 pub mod Shapes
-pub mod Rows
 pub mod Rounding
 pub mod Answers
 pub mod NearFit

@@ -13,6 +13,7 @@ use Rattle.facts.proofs.Bools.{and-left, and-right}
 use Rattle.classes.specs.declared.Shape.{Shape}
 use Rattle.classes.specs.Sizes.{smallSizes, mediumSizes, pageBytes, smallCapacity, spanPages, spanCapacity}
 use Rattle.classes.specs.Shape.{inverse, smallOf, mediumOf, smallShape, mediumShape, shapeOf}
+use Rattle.classes.specs.Near.{blockBytes}
 use Rattle.classes.specs.Sound.{Sound}
 use Rattle.classes.proofs.Table.{every-at}
 
@@ -89,23 +90,24 @@ module _ (size : ℕ) (f : filled size ≡ true) where
   most : size ≤ pageBytes
   most = leb-true size pageBytes (and-right (leb 16 size) _ f)
 
-module _ (c size : ℕ) (e : size ≡ getD smallSizes c 16384) where
-  pub small-some : 16 ≤ size
-  small-some = rw e (some _ (small-filled c))
+-- by its class's id
+filled-bytes : (c : ℕ) → filled (blockBytes c) ≡ true
+unfolding blockBytes
+filled-bytes c = true-cond filled (ltb c 64) _ _ (small-filled c) (medium-filled (c - 64))
+
+module _ (c size : ℕ) (e : size ≡ blockBytes c) where
+  pub some-bytes : 16 ≤ size
+  some-bytes = rw e (some _ (filled-bytes c))
+
+  pub most-bytes : size ≤ pageBytes
+  most-bytes = rw e (most _ (filled-bytes c))
 
   pub small-shaped : (k i : ℕ) → c < 64 → k ≡ smallCapacity size → i ≡ inverse (size / 16) → smallOf (size / 16) k i ≡ shapeOf c
-  unfolding shapeOf smallShape
+  unfolding shapeOf smallShape blockBytes
   small-shaped k i h ek ei = rw (ek, ei, e, lt-ltb c 64 h)
 
-module _ (c size : ℕ) (e : size ≡ getD mediumSizes (c - 64) 65472) where
-  pub medium-some : 16 ≤ size
-  medium-some = rw e (some _ (medium-filled (c - 64)))
-
-  pub medium-most : size ≤ pageBytes
-  medium-most = rw e (most _ (medium-filled (c - 64)))
-
   pub medium-shaped : (g k i : ℕ) → 64 ≤ c → g ≡ spanPages size → k ≡ spanCapacity size → i ≡ inverse (size / 16) → mediumOf (size / 16) g k i ≡ shapeOf c
-  unfolding shapeOf mediumShape
+  unfolding shapeOf mediumShape blockBytes
   medium-shaped g k i h eg ek ei = rw (eg, ek, ei, e, le-ltb c 64 h)
 
 -- the inverse, as the code makes it

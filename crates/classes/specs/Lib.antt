@@ -1,6 +1,5 @@
 pub mod Sizes
 pub mod Shape
-pub mod Row
 pub mod Sound
 pub mod Lookup
 pub mod Near

@@ -1,4 +1,4 @@
--- A class near a size: where the lookup starts, so that one comparison gives the first fit.
+-- A class near a size: where the lookup starts, so that one comparison gives the first fit. And the block size of a class by its id.
 use Prim.Native.Nat.{ℕ, zero, suc, _+_, _-_, _*_, _/_, _<_, min}
 use mathlib.Core.Path.{_≡_}
 use mathlib.Core.Bool.{Bool, false, cond, _&&_, _||_}
@@ -27,9 +27,17 @@ stepOf size = cond (leb size 4096) ((size + 31) / 32) ((size + 61951) / 512)
 abbrev pub lastStep : ℕ
 lastStep = 248
 
--- a class is near all sizes of a step, in their family
+-- a class, by its id, is near all sizes of a step
 unfoldable pub entered : ℕ → ℕ → Bool
-entered step class =
-    cond (leb step 128) (near (32 * step - 31) (32 * step) class smallSizes)
-    (cond (leb step 152) (near (512 * step - 61951) (512 * step - 61440) class smallSizes)
-    (near (512 * step - 61951) (min (512 * step - 61440) maxMediumSize) class mediumSizes))
+entered step id =
+    cond (leb step 128) (near (32 * step - 31) (32 * step) id smallSizes)
+    (cond (leb step 152) (near (512 * step - 61951) (512 * step - 61440) id smallSizes)
+    (leb 64 id && near (512 * step - 61951) (min (512 * step - 61440) maxMediumSize) (id - 64) mediumSizes))
+
+-- the block size of a class by its id; past the last class it is the last one's
+unfoldable pub blockBytes : ℕ → ℕ
+blockBytes id = cond (ltb id 64) (getD smallSizes id 16384) (getD mediumSizes (id - 64) 65472)
+
+-- its entry in the two tables
+abbrev pub entryIn : List ℕ → List ℕ → ℕ → ℕ
+entryIn small medium id = cond (ltb id 64) (getD small id 0) (getD medium (min (id - 64) 11) 0)

@@ -4,7 +4,6 @@ mod in_tables;
 mod lookup;
 mod medium_lut;
 mod near;
-mod row;
 mod runs;
 mod sizes;
 
@@ -12,13 +11,12 @@ pub use class_lut::small_classes;
 pub use in_tables::class_in;
 pub use lookup::size_class;
 pub use medium_lut::medium_classes;
-pub use runs::shape_at;
 pub use runs::shape_of;
 pub use sizes::CLASS_COUNT;
 pub use sizes::NUM_CLASSES;
 pub use sizes::NUM_MEDIUM;
+pub use sizes::block_bytes;
 pub use sizes::medium_capacity_for;
-pub use sizes::medium_size;
 pub use sizes::span_pages_for;
 
 // The class of a size (document 02, A.6).

@@ -5,12 +5,13 @@ ghost use Prim.Native.Nat.{_+_, _<_, _≤_};
 ghost use lib.Dec.{leb};
 ghost use Rattle.classes.specs.Sizes.{maxMediumSize};
 ghost use Rattle.classes.specs.Lookup.{sizeClass};
+ghost use Rattle.classes.specs.Shape.{classCount};
 ghost use Rattle.classes.specs.Near.{stepOf};
 use super::Sized;
 use super::in_tables::wide;
 use super::near::by_step;
-use super::sizes::medium_size;
-use super::sizes::small_size;
+use super::sizes::NUM_CLASSES;
+use super::sizes::block_bytes;
 
 // The step of a size: of 32 bytes up to 4,096, of 512 from there on.
 fn step_of(size: u32) -> u8
@@ -25,7 +26,7 @@ fn step_of(size: u32) -> u8
 
 // The class near, or the next where its blocks are too short.
 fn fit(size: u32, class: u32, bytes: u32) -> u32
-    requires { ⌜ class < 64 ⌝ }
+    requires { ⌜ class < classCount ⌝ }
     ensures { λ r. ⌜ r ≡ cond (leb size bytes) class (class + 1) ⌝ }
 {
     if size <= bytes { class } else { class + 1 }
@@ -39,9 +40,10 @@ pub fn size_class(size: u64) -> Sized
         return Sized::TooLarge;
     }
     let bytes = size as u32;
-    let class = wide(by_step(step_of(bytes)));
-    if size <= 16384 {
-        return Sized::Small(fit(bytes, class, small_size(class)));
+    let near = wide(by_step(step_of(bytes)));
+    let class = fit(bytes, near, block_bytes(near));
+    if class < NUM_CLASSES {
+        return Sized::Small(class);
     }
-    Sized::Medium(fit(bytes, class, medium_size(class)))
+    Sized::Medium(class - NUM_CLASSES)
 }

@@ -1,20 +1,14 @@
-// The shape of a class, from its block size; for the release of one block from the class's word.
+// The shape of a class, from its block size.
 ghost use mathlib.Core.Path.{_≡_};
 ghost use Prim.Native.Nat.{_≤_};
 ghost use Rattle.classes.specs.Shape.{inverse, smallOf, mediumOf, shapeOf};
 use super::Shape;
-use super::row::block_in;
-use super::row::capacity_in;
-use super::row::inverse_in;
-use super::row::pages_in;
-use super::row::row_of;
 use super::sizes::NUM_CLASSES;
 use super::sizes::PAGE_HEADER;
 use super::sizes::SPAN_HEADER;
+use super::sizes::block_bytes;
 use super::sizes::medium_capacity_for;
-use super::sizes::medium_size;
 use super::sizes::small_capacity_for;
-use super::sizes::small_size;
 use super::sizes::span_pages_for;
 
 const GRANULE: u32 = 16;
@@ -62,33 +56,11 @@ fn medium_shape(block: u32, pages: u32, capacity: u32, inverse: u64) -> Shape
 pub fn shape_of(id: u32) -> Shape
     ensures { λ r. ⌜ r ≡ shapeOf id ⌝ }
 {
-    if id < NUM_CLASSES {
-        let size = small_size(id);
-        let block = size / GRANULE;
-        return small_shape(block, small_capacity_for(size), inverse_of(block));
-    }
-    let size = medium_size(id - NUM_CLASSES);
+    let size = block_bytes(id);
     let block = size / GRANULE;
-    medium_shape(
-        block,
-        span_pages_for(size),
-        medium_capacity_for(size),
-        inverse_of(block),
-    )
-}
-
-// The same by the class's word.
-pub fn shape_at(id: u32) -> Shape
-    ensures { λ r. ⌜ r ≡ shapeOf id ⌝ }
-{
-    let row = row_of(id);
+    let inverse = inverse_of(block);
     if id < NUM_CLASSES {
-        return small_shape(block_in(row), capacity_in(row), inverse_in(row));
+        return small_shape(block, small_capacity_for(size), inverse);
     }
-    medium_shape(
-        block_in(row),
-        pages_in(row),
-        capacity_in(row),
-        inverse_in(row),
-    )
+    medium_shape(block, span_pages_for(size), medium_capacity_for(size), inverse)
 }

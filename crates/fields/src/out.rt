@@ -2,8 +2,8 @@
 ghost use mathlib.Core.Path.{_≡_};
 ghost use Prim.Native.Nat.{_+_, _*_, _≤_, _<_};
 ghost use Rattle.fields.specs.Clear.{clearOut};
-ghost use Rattle.fields.specs.Field.{out, word, Has, get, put};
-ghost use Rattle.fields.specs.Mark.{markOut};
+ghost use Rattle.fields.specs.Field.{mark, out, word, Has, get, put};
+ghost use Rattle.fields.specs.Mark.{markOut, outsAt, flipWord};
 use crate::bits::place_bits;
 use crate::bits::read_bits;
 use crate::bits::set_ones;
@@ -13,6 +13,23 @@ fn out_word(p: u32, i: u32) -> usize
     ensures { λ r. ⌜ r ≡ word (out p i) ⌝ }
 {
     page_word(p, 16 + (i / 32) as usize)
+}
+
+// The out bits of blocks 32 j to 32 j + 31.
+pub fn bits(meta: &[u32], p: u32, j: u32) -> u32
+    requires { ⌜ Has (now meta) (mark p j) ⌝ }
+    ensures { λ r. ⌜ r ≡ outsAt (now (meta .entry)) p j ⌝ }
+{
+    meta[page_word(p, 16 + j as usize)]
+}
+
+// Those at which x has a 1 change.
+pub fn flip(meta: &mut [u32], p: u32, j: u32, x: u32)
+    requires { ⌜ Has (now meta) (mark p j) ⌝ }
+    ensures { λ _. ⌜ now (meta .exit) ≡ flipWord (now (meta .entry)) p j x ⌝ }
+{
+    let at = page_word(p, 16 + j as usize);
+    meta[at] ^= x;
 }
 
 pub fn bit(meta: &[u32], p: u32, i: u32) -> u32

@@ -1,5 +1,6 @@
 // Prints the medium classes: their count, then for each its number, block bytes, pages per span and blocks per span.
 ghost use mathlib.Core.Path.{_≡_};
+ghost use Prim.Native.Nat.{_<_};
 ghost use Rattle.mediumlist.specs.Line.{lineOf};
 use libc::STDOUT_FILENO;
 
@@ -12,9 +13,10 @@ struct Line {
 }
 
 fn describe(class: u32) -> Line
+    requires { ⌜ class < 12 ⌝ }
     ensures { λ r. ⌜ r ≡ lineOf class ⌝ }
 {
-    let bytes = classes::medium_size(class);
+    let bytes = classes::block_bytes(classes::NUM_CLASSES + class);
     Line {
         class,
         bytes,

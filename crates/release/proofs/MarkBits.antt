@@ -18,7 +18,8 @@ use borrow.Author.Tests.{eq-eqb, ne-eqb, eqb-true}
 use Rattle.facts.proofs.Bools.{and-left, and-right}
 use Rattle.fields.specs.Field.{bits, mark, read, place, get, put}
 use Rattle.fields.proofs.Parts.{below, above, read-le, read-small, read-place-other}
-use Rattle.release.specs.Marks.{setMark, freshAt, outWord, freshBits, setBits}
+use Rattle.fields.specs.Mark.{outWord, outsAt}
+use Rattle.release.specs.Marks.{setMark, freshAt, freshBits, setBits}
 use Rattle.release.specs.MarkAsks.{MarkedBits, MarkedBlock}
 
 -- ---- the mask
@@ -42,40 +43,28 @@ module _ (s n m : ℕ) (e : m ≡ place (bits s n) 0 (2 ^ n - 1)) where
   not-none w d h = let z : 0 * 2 ^ s ≡ 0 = omega arith in d (masked w ∙ ap (λ t. t * 2 ^ s) h ∙ z)
 
 -- ---- the ways out
-module _ (b : List ℕ) (q j s n at m : ℕ) (a : at ≡ 40000 + 4112 * q + (16 + j)) (e : m ≡ place (bits s n) 0 (2 ^ n - 1)) where
-  outs-are : getD b at 0 ≡ getD b (outWord q j) 0
-  outs-are = ap (λ i. getD b i 0) (omega (arith, a))
-
-  marks-are : getD b (at + 128) 0 ≡ get b (mark q j)
-  unfolding get
-  marks-are = ap (λ i. getD b i 0) (omega (arith, a))
-
-  pub bits-idle : (bitAnd (getD b at 0) m ≡ m → ⊥) → MarkedBits false b b q j s n
+module _ (b : List ℕ) (q j s n m : ℕ) (e : m ≡ place (bits s n) 0 (2 ^ n - 1)) (outs : ℕ) (a : outs ≡ outsAt b q j) where
+  pub bits-idle : (bitAnd outs m ≡ m → ⊥) → MarkedBits false b b q j s n
   bits-idle d =
-      let z : read (bits s n) (getD b (outWord q j) 0) ≡ 2 ^ n - 1 → ⊥ = λ u. not-all s n m e (getD b at 0) d (ap (read (bits s n)) outs-are ∙ u) in
+      let z : read (bits s n) (outsAt b q j) ≡ 2 ^ n - 1 → ⊥ = λ u. not-all s n m e outs d (ap (read (bits s n)) a ∙ u) in
       let y : freshBits b q j s n ≡ false = rw (ne-eqb _ _ z) in
       record { answer = sym y; left = rw y }
 
-  module _ (o : bitAnd (getD b at 0) m ≡ m) where
-    outs-all : eqb (read (bits s n) (getD b (outWord q j) 0)) (2 ^ n - 1) ≡ true
-    outs-all = eq-eqb _ _ (ap (read (bits s n)) (sym outs-are) ∙ all-of s n m e (getD b at 0) o)
+  module _ (o : bitAnd outs m ≡ m) (marks : ℕ) (k : marks ≡ get b (mark q j)) where
+    outs-all : eqb (read (bits s n) (outsAt b q j)) (2 ^ n - 1) ≡ true
+    outs-all = eq-eqb _ _ (ap (read (bits s n)) (sym a) ∙ all-of s n m e outs o)
 
-    pub bits-marked : (bitAnd (getD b (at + 128) 0) m ≡ 0 → ⊥) → MarkedBits false b b q j s n
+    pub bits-marked : (bitAnd marks m ≡ 0 → ⊥) → MarkedBits false b b q j s n
     bits-marked d =
-        let z : read (bits s n) (get b (mark q j)) ≡ 0 → ⊥ = λ u. not-none s n m e (getD b (at + 128) 0) d (ap (read (bits s n)) marks-are ∙ u) in
+        let z : read (bits s n) (get b (mark q j)) ≡ 0 → ⊥ = λ u. not-none s n m e marks d (ap (read (bits s n)) k ∙ u) in
         let y : freshBits b q j s n ≡ false = rw (outs-all, ne-eqb _ _ z) in
         record { answer = sym y; left = rw y }
 
-    pub bits-set : bitAnd (getD b (at + 128) 0) m ≡ 0 → (v : ℕ) → v ≡ place (bits s n) (getD b (at + 128) 0) (2 ^ n - 1) → (b′ : List ℕ) → b′ ≡ set b (at + 128) v → MarkedBits true b′ b q j s n
-    unfolding put
+    pub bits-set : bitAnd marks m ≡ 0 → (v : ℕ) → v ≡ place (bits s n) marks (2 ^ n - 1) → (b′ : List ℕ) → b′ ≡ put b (mark q j) v → MarkedBits true b′ b q j s n
     bits-set h v f b′ g =
-        let z : eqb (read (bits s n) (get b (mark q j))) 0 ≡ true = eq-eqb _ _ (ap (read (bits s n)) (sym marks-are) ∙ none-of s n m e (getD b (at + 128) 0) h) in
+        let z : eqb (read (bits s n) (get b (mark q j))) 0 ≡ true = eq-eqb _ _ (ap (read (bits s n)) (sym k) ∙ none-of s n m e marks h) in
         let y : freshBits b q j s n ≡ true = rw (outs-all, z) in
-        let i : at + 128 ≡ 40144 + 4112 * q + j = omega (arith, a) in
-        record {
-          answer = sym y;
-          left = rw y (g ∙ ap (λ x. set b x v) i ∙ ap (set b (40144 + 4112 * q + j)) (f ∙ ap (λ x. place (bits s n) x (2 ^ n - 1)) marks-are));
-        }
+        record { answer = sym y; left = rw y (g ∙ ap (put b (mark q j)) (f ∙ ap (λ x. place (bits s n) x (2 ^ n - 1)) k)) }
 
 -- ---- one block
 bit-none : (m : ℕ) → m < 2 → eqb m 0 ≡ not (eqb m 1)

@@ -20,7 +20,7 @@ use Rattle.facts.proofs.Bools.{and-right}
 use Rattle.release.specs.declared.Found.{Found}
 use Rattle.release.specs.declared.Found.the-variants.{At, Nothing}
 use Rattle.release.specs.Blocks.{blockIn}
-use Rattle.release.specs.Marks.{setMark, freshAt, markedIn, freshIn, freshCount, freshBook}
+use Rattle.release.specs.Marks.{setMark, freshAt, markedIn, freshIn, freshCount, freshBook, countBy, bookBy}
 use Rattle.release.specs.MarkAsks.{MarkedBlock, MarkedOne, MarkedIn, MarkedTo, Reaches, Alone}
 use Rattle.release.proofs.Bits.{below-capacity}
 use Rattle.release.proofs.BlockSteps.{none-found, found-at}
@@ -67,11 +67,11 @@ module _ (b : List ℕ) (sh : Shape) (q : ℕ) (ws : List ℕ) where
 
   -- a word that is not marked, and the list's end
   no-more : (i : ℕ) → i < length ws → freshIn b sh q (getD ws i 0) ≡ false → (freshCount b sh q (drop i ws) ≡ 0) × (freshBook b sh q (drop i ws) ≡ b)
-  unfolding freshCount freshBook
+  unfolding countBy bookBy
   no-more i l o = rw (drop-cons ws i 0 l, o) (refl, refl)
 
   no-words : (i : ℕ) → length ws ≤ i → (freshCount b sh q (drop i ws) ≡ 0) × (freshBook b sh q (drop i ws) ≡ b)
-  unfolding freshCount freshBook
+  unfolding countBy bookBy
   no-words i l = rw (drop-past ws i l) (refl, refl)
 
   ended : (from i : ℕ) (b₀ : List ℕ) → Reaches i b b₀ sh q ws from → (freshCount b sh q (drop i ws) ≡ 0) × (freshBook b sh q (drop i ws) ≡ b) → MarkedIn i b b₀ sh q ws from
@@ -94,7 +94,7 @@ module _ (b : List ℕ) (sh : Shape) (q : ℕ) (ws : List ℕ) (from e : ℕ) (f
 
   module _ (b′ b″ : List ℕ) (i : ℕ) (r : Bool) (v : FewInv b sh q ws from e b′ i) (l : i < e) (o : MarkedOne r b″ b′ sh q (getD ws i 0)) (k : length b″ ≡ length b′) where
     pub few-goes-on : r ≡ true → FewInv b sh q ws from e b″ (i + 1)
-    unfolding freshCount freshBook
+    unfolding countBy bookBy
     few-goes-on t =
         let z = sym (o .answer) ∙ t in
         let u = rw z at (o .left) in

@@ -39,6 +39,8 @@ use Rattle.release.specs.declared.Ready.the-variants.{No, In}
 use Rattle.release.specs.Asks.{ClassAsks, StartAsks, TakeAsks}
 use Rattle.release.specs.Blocks.{runAt}
 use Rattle.release.specs.Fair.{FairAsks}
+use Rattle.facts.proofs.Lists.{every-made}
+use Rattle.pages.specs.Runs.{whole}
 use Rattle.release.specs.Marks.{freshCount, freshBook, noMarks, allFresh, takeMarks}
 use Rattle.release.specs.MarkAsks.{FieldAsks, MarkedIn, MarkedAll, FaultAsks, Faulted}
 use Rattle.release.specs.Act.{settleAt, takenBy, tried, answerAs, SettleAsks, ListAsks, RunAsks, MarkedAsks, PassedAsks, Parked, Answered, PreparedAt, Prepared, Attempted, Finished}
@@ -326,7 +328,7 @@ module _ (b : List ℕ) (sh : Shape) (q : ℕ) (ws : List ℕ) (a : FieldAsks b 
       none-set = rw (← e) (sym k ∙ x)
 
       pub clear-asks : ClearAsks b′ q m
-      clear-asks = rw (s .left) (record { few = marks-asks .few; there = omega (arith, fresh-changes sh (a .sound) q b ws .long, a .there) })
+      clear-asks = rw (s .left) (record { few = marks-asks .few; there = omega (arith, fresh-changes sh (a .sound) (λ w. q) b ws .long, a .there) })
 
       pub all-set : r ≡ length ws → MarkedAll true b′ b sh q ws
       unfolding allFresh
@@ -370,10 +372,10 @@ module _ (n : ℕ) (b : List ℕ) (c : ℕ) (sh : Shape) (q : ℕ) (ws : List �
     all = rw e (marks-all-of sh)
 
     marked-changes : Changes isBit b (freshBook b sh q ws)
-    marked-changes = mark-bits b _ (fresh-changes sh sound q b ws)
+    marked-changes = mark-bits b _ (fresh-changes sh sound (λ w. q) b ws)
 
-    fresh : AllFresh sh sound q n c b ws
-    fresh = all-fresh sh sound q n c b ws (a .run) all-marked
+    fresh : AllFresh sh sound (λ w. q) n c b ws
+    fresh = all-fresh sh sound (λ w. q) n c b ws (every-made (λ w. whole n b sh c q) ws (λ k l. a .run)) all-marked
 
     all-ready : PreparedAt q m (freshBook b sh q ws) n b c sh ws
     all-ready = record {
@@ -381,7 +383,7 @@ module _ (n : ℕ) (b : List ℕ) (c : ℕ) (sh : Shape) (q : ℕ) (ws : List �
         class = a .class;
         some = a .some;
         kinds = fresh .kinds;
-        passed = fault-none n b c sh ws (not-marked sh sound q n c m all b ws no-marks fresh) (not-repeated sh sound q n c b ws fresh (le-leb (words n) (length b) (a .class .long))) (fresh .out);
+        passed = fault-none n b c sh ws (not-marked sh sound (λ w. q) n c m all b ws (every-made (λ w. noMarks b q m) ws (λ k l. no-marks)) fresh) (not-repeated sh sound (λ w. q) n c b ws fresh (le-leb (words n) (length b) (a .class .long))) (fresh .out);
       };
       start = a .start;
       alone = fresh .start;

@@ -26,8 +26,9 @@ use Rattle.model.specs.Release.{ofKind}
 use Rattle.pages.specs.Runs.{whole}
 use Rattle.pages.specs.Stack.{marks, indexOf, isBlock}
 use Rattle.calls.specs.Out.{startOf, outIn, outAt, outs, clean, unmarked, repeats}
-use Rattle.release.specs.Marks.{markAt, freshAt, isMarkedIn, markedIn, markCount, freshIn, freshCount, freshBook, outWord, noMarks, takeWord, takeMarks}
-use Rattle.facts.proofs.Lists.{every-same}
+use Rattle.fields.specs.Mark.{outWord}
+use Rattle.release.specs.Marks.{markAt, freshAt, isMarkedIn, markedIn, markCount, freshIn, freshCount, freshBook, noMarks, takeWord, takeMarks, countBy, bookBy}
+use Rattle.facts.proofs.Lists.{every-same, every-made}
 use Rattle.release.proofs.Bits.{out-in, below-capacity, whole-kept, start-kept}
 use Rattle.release.proofs.RunLaws.{low-marks, run-out, run-start}
 use Rattle.release.proofs.OutLaws.{block-of-out}
@@ -132,42 +133,13 @@ module _ (sh : Shape) (s : Sound sh) (q : ℕ) where
     pub fresh-mark : markAt b q (indexOf sh q w) ≡ 0
     fresh-mark = not-one _ (read-small (indexOf sh q w % 32) 1 (get b (mark q (indexOf sh q w / 32)))) (and-right (eqb (get b (out q (indexOf sh q w))) 1) _ fresh-at)
 
-  -- ---- clearing by words
-  module _ (m : ℕ) (few : m ≤ 128) (all : sh .capacity ≤ 32 * m) where
-    clear-one : (b : List ℕ) (w : ℕ) → freshIn b sh q w ≡ true → clearMarks (markedIn b sh q w) q m ≡ clearMarks b q m
-    unfolding markedIn
-    clear-one b w o = clear-past b q m (indexOf sh q w / 32) _ (fresh-word b w o m all) few
-
-    clears-fresh : (b : List ℕ) (ws : List ℕ) → clearMarks (freshBook b sh q ws) q m ≡ clearMarks b q m
-    unfolding freshBook
-    clears-fresh b [] = refl
-    clears-fresh b (w ∷ ws) = by (freshIn b sh q w) refl (clears-fresh (markedIn b sh q w) ws)
-      where
-        by : (t : Bool) → freshIn b sh q w ≡ t → clearMarks (freshBook (markedIn b sh q w) sh q ws) q m ≡ clearMarks (markedIn b sh q w) q m
-            → clearMarks (freshBook b sh q (w ∷ ws)) q m ≡ clearMarks b q m
-        by true o z = rw o (z ∙ clear-one b w o)
-        by false o z = rw o
-
-    pub clears-run : (b : List ℕ) (ws : List ℕ) → noMarks b q m ≡ true → clearMarks (freshBook b sh q ws) q m ≡ b
-    clears-run b ws e = clears-fresh b ws ∙ none-cleared b q m e
-
-  -- ---- nothing but marks is changed
   pub fresh-put : (b : List ℕ) (w : ℕ) → freshIn b sh q w ≡ true → Changes isMarkWord b (markedIn b sh q w)
   unfolding markedIn
   fresh-put b w o = put-mark b q (indexOf sh q w / 32) _ (omega (arith, fresh-low b w o))
 
-  pub fresh-changes : (b : List ℕ) (ws : List ℕ) → Changes isMarkWord b (freshBook b sh q ws)
-  unfolding freshBook
-  fresh-changes b [] = changes-none isMarkWord b
-  fresh-changes b (w ∷ ws) = by (freshIn b sh q w) refl (fresh-changes (markedIn b sh q w) ws)
-    where
-      by : (t : Bool) → freshIn b sh q w ≡ t → Changes isMarkWord (markedIn b sh q w) (freshBook (markedIn b sh q w) sh q ws) → Changes isMarkWord b (freshBook b sh q (w ∷ ws))
-      by true o z = rw o (changes-trans isMarkWord b (markedIn b sh q w) _ (fresh-put b w o) z)
-      by false o z = rw o (changes-none isMarkWord b)
-
   -- ---- taking by words
   lows : (b : List ℕ) (ws : List ℕ) → freshCount b sh q ws ≡ length ws → every (λ j. ltb j 4096) (map (indexOf sh q) ws) ≡ true
-  unfolding freshCount
+  unfolding countBy
   lows b [] l = refl
   lows b (w ∷ ws) l = by (freshIn b sh q w) refl (lows (markedIn b sh q w) ws)
     where
@@ -188,7 +160,7 @@ module _ (sh : Shape) (s : Sound sh) (q : ℕ) where
 
     takes-fresh : (b : List ℕ) (ws : List ℕ) → words (q + 1) ≤ length b → freshCount b sh q ws ≡ length ws
         → takeMarks (freshBook b sh q ws) q m ≡ marks (takeMarks b q m) q 0 (map (indexOf sh q) ws)
-    unfolding freshCount freshBook
+    unfolding countBy bookBy
     takes-fresh b [] long l = refl
     takes-fresh b (w ∷ ws) long l =
         by (freshIn b sh q w) refl (takes-fresh (markedIn b sh q w) ws (rw (marked-long b w) long)) (lows (markedIn b sh q w) ws)
@@ -207,43 +179,70 @@ module _ (sh : Shape) (s : Sound sh) (q : ℕ) where
         → takeMarks (freshBook b sh q ws) q m ≡ marks b q 0 (map (indexOf sh q) ws)
     takes-all b ws long e l = takes-fresh b ws long l ∙ ap (λ d. marks d q 0 (map (indexOf sh q) ws)) (none-taken b q m e)
 
-  -- ---- the tests, in a run that is wholly the class's
+  pub fresh-is-out : (b : List ℕ) (w : ℕ) → freshIn b sh q w ≡ true → outIn b sh q w ≡ true
+  fresh-is-out b w o = out-in b sh q w ∙ rw (fresh-block b w o, fresh-out b w o)
+
+  pub fresh-is-free : (b : List ℕ) (w : ℕ) → freshIn b sh q w ≡ true → isMarkedIn b sh q w ≡ false
+  unfolding isMarkedIn
+  fresh-is-free b w o = rw (fresh-mark b w o)
+
+-- ---- lists: each word in the run that `at` says for it
+module _ (sh : Shape) (s : Sound sh) (at : ℕ → ℕ) where
+  -- nothing but marks is changed
+  pub fresh-changes : (b : List ℕ) (ws : List ℕ) → Changes isMarkWord b (bookBy at b sh ws)
+  unfolding bookBy
+  fresh-changes b [] = changes-none isMarkWord b
+  fresh-changes b (w ∷ ws) = by (freshIn b sh (at w) w) refl (fresh-changes (markedIn b sh (at w) w) ws)
+    where
+      by : (t : Bool) → freshIn b sh (at w) w ≡ t → Changes isMarkWord (markedIn b sh (at w) w) (bookBy at (markedIn b sh (at w) w) sh ws) → Changes isMarkWord b (bookBy at b sh (w ∷ ws))
+      by true o z = rw o (changes-trans isMarkWord b (markedIn b sh (at w) w) _ (fresh-put sh s (at w) b w o) z)
+      by false o z = rw o (changes-none isMarkWord b)
+
+  -- a way to clear that passes over the mark of each word passes over all of them
+  pub clears-by : (clear : List ℕ → List ℕ) (has : ℕ → Bool) → ((b : List ℕ) (w : ℕ) → has w ≡ true → freshIn b sh (at w) w ≡ true → clear (markedIn b sh (at w) w) ≡ clear b)
+      → (b : List ℕ) (ws : List ℕ) → every has ws ≡ true → clear (bookBy at b sh ws) ≡ clear b
+  unfolding bookBy
+  clears-by clear has f b [] e = refl
+  clears-by clear has f b (w ∷ ws) e = by (freshIn b sh (at w) w) refl (clears-by clear has f (markedIn b sh (at w) w) ws (and-right (has w) _ e))
+    where
+      by : (t : Bool) → freshIn b sh (at w) w ≡ t → clear (bookBy at (markedIn b sh (at w) w) sh ws) ≡ clear (markedIn b sh (at w) w) → clear (bookBy at b sh (w ∷ ws)) ≡ clear b
+      by true o z = rw o (z ∙ f b w (and-left (has w) _ e) o)
+      by false o z = rw o
+
   module _ (n c : ℕ) where
-    pub fresh-is-out : (b : List ℕ) (w : ℕ) → freshIn b sh q w ≡ true → outIn b sh q w ≡ true
-    fresh-is-out b w o = out-in b sh q w ∙ rw (fresh-block b w o, fresh-out b w o)
+    abbrev pub inWhole : List ℕ → ℕ → Bool
+    inWhole b w = whole n b sh c (at w)
 
-    pub fresh-is-free : (b : List ℕ) (w : ℕ) → freshIn b sh q w ≡ true → isMarkedIn b sh q w ≡ false
-    unfolding isMarkedIn
-    fresh-is-free b w o = rw (fresh-mark b w o)
-
-    still-whole : (b : List ℕ) (w : ℕ) → freshIn b sh q w ≡ true → whole n b sh c q ≡ true → whole n (markedIn b sh q w) sh c q ≡ true
-    still-whole b w o h = whole-kept b (markedIn b sh q w) (mark-bits b (markedIn b sh q w) (fresh-put b w o)) n sh c q ∙ h
-
-    -- what an all-marked list shows of each word, and that the class's way comes to its end too
+    -- what an all-marked list shows of each word, in runs that are wholly the class's, and that the class's way comes to its end too
     pub record AllFresh (b : List ℕ) (ws : List ℕ) : Type 0 where
       pub counted : markCount n b c sh ws ≡ length ws
       pub kinds : every (ofKind (sh .kind)) ws ≡ true
       pub out : every (outAt n b c sh) ws ≡ true
-      pub start : every (λ w. eqb (startOf b w) q) ws ≡ true
+      pub start : every (λ w. eqb (startOf b w) (at w)) ws ≡ true
 
-    pub all-fresh : (b : List ℕ) (ws : List ℕ) → whole n b sh c q ≡ true → freshCount b sh q ws ≡ length ws → AllFresh b ws
-    unfolding freshCount markCount
+    pub all-fresh : (b : List ℕ) (ws : List ℕ) → every (inWhole b) ws ≡ true → countBy at b sh ws ≡ length ws → AllFresh b ws
+    unfolding countBy markCount
     all-fresh b [] h l = record { counted = refl; kinds = refl; out = refl; start = refl }
-    all-fresh b (w ∷ ws) h l = by (freshIn b sh q w) refl (λ o. all-fresh (markedIn b sh q w) ws (still-whole b w o h))
+    all-fresh b (w ∷ ws) h l = by (freshIn b sh (at w) w) refl (λ o. all-fresh (markedIn b sh (at w) w) ws)
       where
-        by : (t : Bool) → freshIn b sh q w ≡ t → (freshIn b sh q w ≡ true → freshCount (markedIn b sh q w) sh q ws ≡ length ws → AllFresh (markedIn b sh q w) ws) → AllFresh b (w ∷ ws)
+        by : (t : Bool) → freshIn b sh (at w) w ≡ t
+            → (freshIn b sh (at w) w ≡ true → every (inWhole (markedIn b sh (at w) w)) ws ≡ true → countBy at (markedIn b sh (at w) w) sh ws ≡ length ws → AllFresh (markedIn b sh (at w) w) ws)
+            → AllFresh b (w ∷ ws)
         by false o z = absurd (omega (arith, rw o at l))
         by true o z =
-            let k : freshCount (markedIn b sh q w) sh q ws ≡ length ws = omega (arith, rw o at l) in
-            let r = z o k in
-            let g = fresh-put b w o in
-            let x = run-out n c sh s q b h w (fresh-is-out b w o) in
-            let y = run-start n c sh s q b h w (fresh-is-out b w o) in
+            let b′ = markedIn b sh (at w) w in
+            let g = fresh-put sh s (at w) b w o in
+            let m = mark-bits b b′ g in
+            let k : countBy at (markedIn b sh (at w) w) sh ws ≡ length ws = omega (arith, rw o at l) in
+            let r = z o (every-same (inWhole b′) (inWhole b) ws (λ v. whole-kept b b′ m n sh c (at v)) ∙ and-right (inWhole b w) _ h) k in
+            let i = fresh-is-out sh s (at w) b w o in
+            let x = run-out n c sh s (at w) b (and-left (inWhole b w) _ h) w i in
+            let y = run-start n c sh s (at w) b (and-left (inWhole b w) _ h) w i in
             record {
-              counted = rw (x, y, fresh-is-free b w o) (ap suc (r .counted));
-              kinds = rw (fresh-kind b w o) (r .kinds);
-              out = rw x (sym (every-same _ _ ws (out-kept n c sh s b (markedIn b sh q w) g)) ∙ r .out);
-              start = rw (eq-eqb (startOf b w) q y) (sym (every-same _ _ ws (λ v. rw (start-kept b (markedIn b sh q w) (mark-bits b (markedIn b sh q w) g) v))) ∙ r .start);
+              counted = rw (x, y, fresh-is-free sh s (at w) b w o) (ap suc (r .counted));
+              kinds = rw (fresh-kind sh s (at w) b w o) (r .kinds);
+              out = rw x (sym (every-same _ _ ws (out-kept n c sh s b b′ g)) ∙ r .out);
+              start = rw (eq-eqb (startOf b w) (at w) y) (sym (every-same _ _ ws (λ v. rw (start-kept b b′ m v))) ∙ r .start);
             }
 
     -- ---- the numbers: none of 13 (a mark), 15, 10, 11 applies to a list that is all marked
@@ -252,20 +251,29 @@ module _ (sh : Shape) (s : Sound sh) (q : ℕ) where
       not-repeated hb = all-single n c sh s b (sh .kind) ws hb (r .kinds) (r .counted)
 
     module _ (m : ℕ) (all : sh .capacity ≤ 32 * m) where
-      clean-of : (b : List ℕ) (w : ℕ) → noMarks b q m ≡ true → eqb (startOf b w) q ≡ true → outAt n b c sh w ≡ true → clean b sh w ≡ true
+      clean-of : (b : List ℕ) (w : ℕ) → noMarks b (at w) m ≡ true → eqb (startOf b w) (at w) ≡ true → outAt n b c sh w ≡ true → clean b sh w ≡ true
       clean-of b w e y o =
-          let x : startOf b w ≡ q = eqb-true (startOf b w) q y in
-          let l : indexOf sh q w / 32 < m = omega (arith, below-capacity sh q w (rw x at (block-of-out n c sh s b w o))) in
-          eq-eqb _ 0 (ap (λ p. get b (mark p (indexOf sh p w / 32))) x ∙ clean-at b q m (indexOf sh q w / 32) e l)
+          let x : startOf b w ≡ at w = eqb-true (startOf b w) (at w) y in
+          let l : indexOf sh (at w) w / 32 < m = omega (arith, below-capacity sh (at w) w (rw x at (block-of-out n c sh s b w o))) in
+          eq-eqb _ 0 (ap (λ p. get b (mark p (indexOf sh p w / 32))) x ∙ clean-at b (at w) m (indexOf sh (at w) w / 32) e l)
 
-      all-clean : (b : List ℕ) (ws : List ℕ) → noMarks b q m ≡ true → every (λ w. eqb (startOf b w) q) ws ≡ true → every (clean b sh) (outs n b c sh ws) ≡ true
+      all-clean : (b : List ℕ) (ws : List ℕ) → every (λ w. noMarks b (at w) m) ws ≡ true → every (λ w. eqb (startOf b w) (at w)) ws ≡ true → every (clean b sh) (outs n b c sh ws) ≡ true
       all-clean b [] e y = refl
-      all-clean b (w ∷ ws) e y = by (outAt n b c sh w) refl (all-clean b ws e (and-right (eqb (startOf b w) q) _ y))
+      all-clean b (w ∷ ws) e y = by (outAt n b c sh w) refl (all-clean b ws (and-right (noMarks b (at w) m) _ e) (and-right (eqb (startOf b w) (at w)) _ y))
         where
           by : (t : Bool) → outAt n b c sh w ≡ t → every (clean b sh) (outs n b c sh ws) ≡ true → every (clean b sh) (outs n b c sh (w ∷ ws)) ≡ true
-          by true o z = rw (o, clean-of b w e (and-left (eqb (startOf b w) q) _ y) o, z)
+          by true o z = rw (o, clean-of b w (and-left (noMarks b (at w) m) _ e) (and-left (eqb (startOf b w) (at w)) _ y) o, z)
           by false o z = rw o z
 
-      pub not-marked : (b : List ℕ) (ws : List ℕ) → noMarks b q m ≡ true → AllFresh b ws → unmarked n b c sh ws ≡ true
+      pub not-marked : (b : List ℕ) (ws : List ℕ) → every (λ w. noMarks b (at w) m) ws ≡ true → AllFresh b ws → unmarked n b c sh ws ≡ true
       unfolding unmarked
       not-marked b ws e r = all-clean b ws e (r .start)
+
+-- ---- clearing by words
+module _ (sh : Shape) (s : Sound sh) (q m : ℕ) (few : m ≤ 128) (all : sh .capacity ≤ 32 * m) where
+  clear-one : (b : List ℕ) (w : ℕ) → freshIn b sh q w ≡ true → clearMarks (markedIn b sh q w) q m ≡ clearMarks b q m
+  unfolding markedIn
+  clear-one b w o = clear-past b q m (indexOf sh q w / 32) _ (fresh-word sh s q b w o m all) few
+
+  pub clears-run : (b : List ℕ) (ws : List ℕ) → noMarks b q m ≡ true → clearMarks (freshBook b sh q ws) q m ≡ b
+  clears-run b ws e = clears-by sh s (λ w. q) (λ d. clearMarks d q m) (λ w. true) (λ d w t o. clear-one d w o) b ws (every-made (λ w. true) ws (λ k l. refl)) ∙ none-cleared b q m e

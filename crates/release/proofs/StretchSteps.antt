@@ -23,7 +23,7 @@ use Rattle.pages.specs.Stack.{blocksFrom, indexOf, isBlock}
 use Rattle.release.specs.declared.Found.{Found}
 use Rattle.release.specs.declared.Found.the-variants.{At}
 use Rattle.release.specs.Blocks.{blockIn}
-use Rattle.release.specs.Marks.{setMark, freshAt, markedIn, freshIn, freshCount, freshBook, freshBits, setBits}
+use Rattle.release.specs.Marks.{setMark, freshAt, markedIn, freshIn, freshCount, freshBook, freshBits, setBits, countBy, bookBy}
 use Rattle.release.specs.MarkAsks.{Near, MarkedBits, Stretched, Reaches, Alone}
 use Rattle.release.proofs.Bits.{from-block, at-block, below-capacity}
 use Rattle.release.proofs.BlockSteps.{found-at, outside}
@@ -138,11 +138,11 @@ module _ (sh : Shape) (q j : ℕ) where
     marked-one = ap (setMark b q) (o .index) ∙ set-at b q (32 * j + t) j t refl h
 
     one-count : freshCount b sh q (w ∷ ws) ≡ suc (freshCount (setBits b q j t 1) sh q ws)
-    unfolding freshCount
+    unfolding countBy
     one-count = rw (fresh-one, marked-one)
 
     one-book : freshBook b sh q (w ∷ ws) ≡ freshBook (setBits b q j t 1) sh q ws
-    unfolding freshBook
+    unfolding bookBy
     one-book = rw (fresh-one, marked-one)
 
   there-still : (b : List ℕ) (t : ℕ) → 40144 + 4112 * q + j < length b → 40144 + 4112 * q + j < length (setBits b q j t 1)

@@ -3,18 +3,19 @@
 --     markAt, setMark         the mark of block i of the run at q, and the book with it set
 --     markCount, markBook     marking in turn: how many words were passed before one that is marked already, and the book then
 --     clearBook               the words of marks of the listed blocks that are out, set to 0, whole
---     freshCount, freshBook   the same in the run at q alone, up to the first word that is not out there or is marked
+--     countBy, bookBy         the same, each word in a run that is told, up to the first that is not out there or is marked
+--     freshCount, freshBook   all in the run at q
 --     freshBits, setBits      blocks of one word of marks at once
 --     takeMarks               in one run: the marked blocks' out bits cleared and the marks with them, a word at a time
-use Prim.Native.Nat.{ℕ, zero, suc, _+_, _-_, _*_, _/_, _%_, _^_}
+use Prim.Native.Nat.{ℕ, zero, suc, _-_, _/_, _%_, _^_}
 use mathlib.Core.Bool.{Bool, true, cond, not, _&&_}
 use mathlib.Core.List.{List, [], _∷_}
 use lib.Dec.{eqb}
-use lib.Bits.{bitXor}
-use lib.ListN.{length, getD, set}
+use lib.ListN.{length}
 use Rattle.facts.specs.Lists.{every, below}
 use Rattle.classes.specs.declared.Shape.{Shape}
 use Rattle.fields.specs.Field.{bits, out, mark, read, place, get, put}
+use Rattle.fields.specs.Mark.{outsAt, flipWord}
 use Rattle.pages.specs.Carve.{outWords}
 use Rattle.model.specs.Release.{ofKind}
 use Rattle.pages.specs.Stack.{indexOf, isBlock}
@@ -58,27 +59,30 @@ unfoldable pub clearBook : ℕ → List ℕ → ℕ → Shape → List ℕ → L
 clearBook n b c sh [] = b
 clearBook n b c sh (w ∷ ws) = clearBook n (cond (outAt n b c sh w) (put b (markOf b sh w) 0) b) c sh ws
 
--- ---- words of the class's kind, in the run at q alone
+-- ---- words of the class's kind
 -- a block that is out and not marked
 unfoldable pub freshIn : List ℕ → Shape → ℕ → ℕ → Bool
 freshIn b sh q w = ofKind (sh .kind) w && (isBlock sh q w && freshAt b q (indexOf sh q w))
 
-unfoldable pub freshCount : List ℕ → Shape → ℕ → List ℕ → ℕ
-freshCount b sh q [] = 0
-freshCount b sh q (w ∷ ws) = cond (freshIn b sh q w) (suc (freshCount (markedIn b sh q w) sh q ws)) 0
+-- each word in the run that `at` says for it
+unfoldable pub countBy : (ℕ → ℕ) → List ℕ → Shape → List ℕ → ℕ
+countBy at b sh [] = 0
+countBy at b sh (w ∷ ws) = cond (freshIn b sh (at w) w) (suc (countBy at (markedIn b sh (at w) w) sh ws)) 0
 
-unfoldable pub freshBook : List ℕ → Shape → ℕ → List ℕ → List ℕ
-freshBook b sh q [] = b
-freshBook b sh q (w ∷ ws) = cond (freshIn b sh q w) (freshBook (markedIn b sh q w) sh q ws) b
+unfoldable pub bookBy : (ℕ → ℕ) → List ℕ → Shape → List ℕ → List ℕ
+bookBy at b sh [] = b
+bookBy at b sh (w ∷ ws) = cond (freshIn b sh (at w) w) (bookBy at (markedIn b sh (at w) w) sh ws) b
+
+abbrev pub freshCount : List ℕ → Shape → ℕ → List ℕ → ℕ
+freshCount b sh q = countBy (λ w. q) b sh
+
+abbrev pub freshBook : List ℕ → Shape → ℕ → List ℕ → List ℕ
+freshBook b sh q = bookBy (λ w. q) b sh
 
 -- ---- the marks of the run at q, 32 at a time
--- the out bits of blocks 32 j to 32 j + 31 are this word
-abbrev pub outWord : ℕ → ℕ → ℕ
-outWord q j = 40016 + 4112 * q + j
-
 -- the n blocks from 32 j + s on, whose bits are in one word: they are out and not marked; the book with them marked
 abbrev pub freshBits : List ℕ → ℕ → ℕ → ℕ → ℕ → Bool
-freshBits b q j s n = eqb (read (bits s n) (getD b (outWord q j) 0)) (2 ^ n - 1) && eqb (read (bits s n) (get b (mark q j))) 0
+freshBits b q j s n = eqb (read (bits s n) (outsAt b q j)) (2 ^ n - 1) && eqb (read (bits s n) (get b (mark q j))) 0
 
 abbrev pub setBits : List ℕ → ℕ → ℕ → ℕ → ℕ → List ℕ
 setBits b q j s n = put b (mark q j) (place (bits s n) (get b (mark q j)) (2 ^ n - 1))
@@ -90,9 +94,6 @@ noMarks b q m = every (λ j. eqb (get b (mark q j)) 0) (below m)
 -- every listed word is a block of the run that is out, each once, and the run has no mark
 unfoldable pub allFresh : List ℕ → Shape → ℕ → List ℕ → Bool
 allFresh b sh q ws = noMarks b q (outWords sh) && eqb (freshCount b sh q ws) (length ws)
-
-abbrev pub flipWord : List ℕ → ℕ → ℕ → ℕ → List ℕ
-flipWord b q j x = set b (outWord q j) (bitXor (getD b (outWord q j) 0) x)
 
 -- the blocks that are marked are out no longer, and no mark is left
 unfoldable pub takeWord : List ℕ → ℕ → ℕ → List ℕ

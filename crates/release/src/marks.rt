@@ -8,7 +8,7 @@ ghost use Rattle.fields.specs.Field.{mark, Has};
 ghost use Rattle.fields.specs.Clear.{clearMarks};
 ghost use Rattle.pages.specs.Carve.{outWords};
 ghost use Rattle.pages.specs.Asks.{ClearAsks};
-ghost use Rattle.release.specs.Marks.{noMarks, flipWord, takeWord, takeMarks};
+ghost use Rattle.release.specs.Marks.{noMarks, takeWord, takeMarks};
 ghost use Rattle.release.specs.MarkAsks.{FieldAsks, Near, MarkedBits, MarkedBlock, MarkedOne, MarkedIn, MarkedTo, Stretched, Reaches, Alone};
 use super::Found;
 use super::blocks::behind;
@@ -22,17 +22,16 @@ fn mark_bits(meta: &mut [u32], q: u32, j: u32, s: u32, n: u32) -> bool
     requires { ⌜ (s < 32) × (s + n ≤ 32) ⌝ }
     ensures { λ r. ⌜ MarkedBits r (now (meta .exit)) (now (meta .entry)) q j s n ⌝ }
 {
-    let at = fields::page::page_word(q, 16 + j as usize);
     let mask = fields::bits::set_ones(0, s, n);
-    let outs = meta[at];
-    let marks = meta[at + 128];
+    let outs = fields::out::bits(meta, q, j);
     if outs & mask != mask {
         return false;
     }
+    let marks = fields::marks::word(meta, q, j);
     if marks & mask != 0 {
         return false;
     }
-    meta[at + 128] = fields::bits::set_ones(marks, s, n);
+    fields::marks::set_word(meta, q, j, fields::bits::set_ones(marks, s, n));
     true
 }
 
@@ -302,21 +301,12 @@ pub fn clear_marks(meta: &mut [u32], q: u32, m: u32)
     }
 }
 
-// The out bits at which the given word has a 1 change.
-fn flip_outs(meta: &mut [u32], q: u32, j: u32, marks: u32)
-    requires { ⌜ Has (now meta) (mark q j) ⌝ }
-    ensures { λ _. ⌜ now (meta .exit) ≡ flipWord (now (meta .entry)) q j marks ⌝ }
-{
-    let at = fields::page::page_word(q, 16 + j as usize);
-    meta[at] ^= marks;
-}
-
 fn take_word(meta: &mut [u32], q: u32, j: u32)
     requires { ⌜ Has (now meta) (mark q j) ⌝ }
     ensures { λ _. ⌜ now (meta .exit) ≡ takeWord (now (meta .entry)) q j ⌝ }
 {
     let marks = fields::marks::word(meta, q, j);
-    flip_outs(meta, q, j, marks);
+    fields::out::flip(meta, q, j, marks);
     fields::marks::set_word(meta, q, j, 0);
 }
 

@@ -18,7 +18,7 @@ use super::fair::page_fair;
 use super::fair::row_fair;
 use super::park::relist;
 use classes::Shape;
-use classes::shape_at;
+use classes::shape_of;
 use stack::push_one;
 use stack::word_of;
 
@@ -95,7 +95,7 @@ pub fn release_one(meta: &mut [u32], n: u32, c: u32, w: u64) -> bool
     requires { ⌜ ClassAsks n (now meta) c (shapeOf c) ⌝ }
     ensures { λ r. ⌜ OneBack r (now (meta .exit)) n (now (meta .entry)) c (shapeOf c) w ⌝ }
 {
-    let shape = shape_at(c);
+    let shape = shape_of(c);
     let run = run_of(meta, n, c, shape, w);
     let Found::At(q) = run else {
         return false;

@@ -1,4 +1,4 @@
-use Rattle.chunks.proofs.PushRuns.{all-reach, last-page, last-asks, last-done}
+use Rattle.chunks.proofs.PushRuns.{all-reach, last-page, last-alone, alone-done, last-asks, last-done}
 use borrow.Author.Needs.{needs}
 use Rattle.chunks.proofs.push.push_last.Statement.{statement}
 use Rattle.chunks.proofs.push.push_last.Tie as tie
@@ -7,5 +7,5 @@ pub push-last-spec : {M : Type 1} → statement M
 push-last-spec =
     tie.close
     (tie.spec
-    (λ c. search needs) (λ c. search needs) (λ c. search needs) (λ c κs. search last-page) (λ c κs. search all-reach) (λ c. search needs) (λ c. search needs) (λ c. search needs)
-    (λ c. search needs) (λ c κs. search last-asks) (λ c. search needs) (λ c. search last-done))
+    (λ c. search needs) (λ c. search needs) (λ c. search needs) (λ c κs. search last-page) (λ c κs. search all-reach) (λ c. search needs) (λ c. search needs) (λ c κs. search last-alone) (λ c. search needs) (λ c. search alone-done) (λ c. search needs) (λ c. search needs)
+    (λ c. search needs) (λ c. search needs) (λ c κs. search last-asks) (λ c. search needs) (λ c. search last-done))
