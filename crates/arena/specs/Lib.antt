@@ -4,4 +4,4 @@ pub mod Fair
 pub mod Owners
 pub mod Calls
 pub mod Open
-pub mod Represents
+pub mod way

@@ -26,14 +26,14 @@ use Rattle.pages.specs.Fair.{linksFair, limitsAt}
 use Rattle.release.proofs.Bits.{isBit, in-run-kept}
 use Rattle.release.proofs.FairSteps.{links-fair}
 use Rattle.release.proofs.OutLaws.{run-of-out, block-of-out, index-of-out, page-of-out}
-use Rattle.tally.specs.Match.{wordsOn, Matched}
+use Rattle.tally.specs.way.Match.{wordsOn, Matched}
 use Rattle.tally.proofs.MatchLaws.{arena-is}
-use Rattle.chunks.specs.Pass.{cleared, pushOne, pushAll, givesIn}
-use Rattle.chunks.specs.PushAsks.{ownBlock, PushAllAsks}
-use Rattle.chunks.specs.FairAsks.{ChunksFairAsks}
-use Rattle.chunks.specs.PlaceAsks.{placeFair, PlaceAsks, Placed}
-use Rattle.chunks.specs.GiveAsks.{givesFair, GiveChunksAsks}
-use Rattle.chunks.specs.CallAsks.{allPlaced, settledTo, passFault, hasBit, PassAsks, TakenAsks, BitsAsks, SettleAsks, TakenBy, ChunksAnswered}
+use Rattle.chunks.specs.way.Pass.{cleared, pushOne, pushAll, givesIn}
+use Rattle.chunks.specs.way.PushAsks.{ownBlock, PushAllAsks}
+use Rattle.chunks.specs.way.FairAsks.{ChunksFairAsks}
+use Rattle.chunks.specs.way.PlaceAsks.{placeFair, PlaceAsks, Placed}
+use Rattle.chunks.specs.way.GiveAsks.{givesFair, GiveChunksAsks}
+use Rattle.chunks.specs.way.CallAsks.{allPlaced, settledTo, passFault, hasBit, PassAsks, TakenAsks, BitsAsks, SettleAsks, TakenBy, ChunksAnswered}
 use Rattle.chunks.proofs.PushLaws.{push-free, on-here, on-more}
 use Rattle.chunks.proofs.Gather.{page-start}
 use Rattle.chunks.proofs.GatherGives.{idle, ofClass, gives-count, gives-in, fates-length, all-changes}

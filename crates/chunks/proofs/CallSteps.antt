@@ -16,7 +16,7 @@ use Rattle.facts.proofs.Bools.{by-cases, and-left}
 use Rattle.words.specs.Word.{chunkKind}
 use Rattle.classes.specs.declared.Shape.{Shape}
 use Rattle.classes.specs.Shape.{smallShape, shapeOf}
-use Rattle.classes.specs.Sound.{Sound}
+use Rattle.classes.specs.way.Sound.{Sound}
 use Rattle.classes.proofs.Shapes.{shape-sound}
 use Rattle.fields.specs.Field.{words}
 use Rattle.fields.specs.Ranges.{maxPages}
@@ -25,10 +25,10 @@ use Rattle.model.specs.Chunks.{chunksMax}
 use Rattle.calls.specs.Out.{outAt, outFault}
 use Rattle.calls.proofs.Out.{passed}
 use Rattle.calls.specs.Chunks.{chunksMatch, chunksFair, settleChunks, chunksNone, releaseChunks}
-use Rattle.release.specs.MarkAsks.{FaultAsks, Faulted}
-use Rattle.chunks.specs.Pass.{cleared}
-use Rattle.chunks.specs.CallAsks.{allPlaced, settledTo, passFault, testFault, CallAsks, ListedAsks, TestAsks, PassAsks, SettleAsks, TakenBy, ChunksAnswered}
-use Rattle.chunks.specs.MarkAsks.{TryAsks, Tried}
+use Rattle.release.specs.way.MarkAsks.{FaultAsks, Faulted}
+use Rattle.chunks.specs.way.Pass.{cleared}
+use Rattle.chunks.specs.way.CallAsks.{allPlaced, settledTo, passFault, testFault, CallAsks, ListedAsks, TestAsks, PassAsks, SettleAsks, TakenBy, ChunksAnswered}
+use Rattle.chunks.specs.way.MarkAsks.{TryAsks, Tried}
 use Rattle.chunks.proofs.Gather.{gathered}
 use Rattle.chunks.proofs.CallTests.{fair-pages}
 use Rattle.chunks.proofs.CallPasses.{settle-next}

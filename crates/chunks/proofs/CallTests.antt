@@ -33,8 +33,8 @@ use Rattle.release.proofs.FairSteps.{page-room, page-carved}
 use Rattle.fields.specs.Ranges.{maxPages}
 use Rattle.pages.proofs.Downs.{every-mono}
 use Rattle.model.specs.Chunks.{chunksMax}
-use Rattle.tally.specs.Match.{wordsOn, pageFits, hasPage, pagesMatch, inArena, MatchAsks}
-use Rattle.chunks.specs.CallAsks.{CallAsks}
+use Rattle.tally.specs.way.Match.{wordsOn, pageFits, hasPage, pagesMatch, inArena, MatchAsks}
+use Rattle.chunks.specs.way.CallAsks.{CallAsks}
 
 -- ---- what number 11's test asks
 pub match-asks : (n : ℕ) (b : List ℕ) (c : ℕ) (sh : Shape) (gs : List ℕ) → CallAsks n b c sh → length gs ≤ chunksMax → MatchAsks n b gs

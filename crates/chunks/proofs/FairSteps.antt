@@ -29,13 +29,13 @@ use Rattle.model.specs.Spot.{spotOf, isEmpty, isCold, isArena}
 use Rattle.pages.proofs.Downs.{digit-le}
 use Rattle.calls.specs.Release.{pageFair, rowFair}
 use Rattle.calls.specs.Chunks.{returnsAll, runsGiven, pagesGiven, chunksFair}
-use Rattle.pages.specs.Asks.{PageAsks}
+use Rattle.pages.specs.way.Asks.{PageAsks}
 use Rattle.pages.specs.Fair.{limitsAt}
 use Rattle.release.proofs.FairSteps.{page-room, count-low, limits-low}
 use Rattle.release.proofs.Spots.{empty-room}
 use Rattle.chunks.specs.declared.fair.Stores.{Stores}
-use Rattle.chunks.specs.GiveAsks.{givesFair}
-use Rattle.chunks.specs.FairAsks.{chunkFair, spotted, counted, PagesAsks, ReturnsAsks, SpottedAsks, CountAsks, RunsAsks, PagesGivenAsks, ChunksFairAsks}
+use Rattle.chunks.specs.way.GiveAsks.{givesFair}
+use Rattle.chunks.specs.way.FairAsks.{chunkFair, spotted, counted, PagesAsks, ReturnsAsks, SpottedAsks, CountAsks, RunsAsks, PagesGivenAsks, ChunksFairAsks}
 
 -- ---- a chunk's page
 pub chunk-is : (b : List ℕ) (sh : Shape) (g v m q : ℕ) → v ≡ g → m ≡ countOf v → q ≡ pageOf g → (r : Bool) → r ≡ pageFair b sh m q → r ≡ chunkFair b sh g

@@ -17,7 +17,7 @@ use Rattle.facts.proofs.Bools.{by-cases, and-left, and-right}
 use Rattle.facts.proofs.Lists.{every-same}
 use Rattle.words.specs.Word.{countOf, pageOf}
 use Rattle.classes.specs.declared.Shape.{Shape}
-use Rattle.classes.specs.Sound.{Sound}
+use Rattle.classes.specs.way.Sound.{Sound}
 use Rattle.fields.specs.Field.{arena, page, slot, out, frontier, first, free, virgin, get, words}
 use Rattle.fields.proofs.Laws.{put-comm}
 use Rattle.fields.proofs.Changes.{Changes, changes-trans}
@@ -30,7 +30,7 @@ use Rattle.calls.specs.Release.{pageFair}
 use Rattle.calls.specs.Chunks.{blocksOn, chunkFits, chunksMatch, chunkBackAt, givesOf, Settled, settleChunks}
 use Rattle.release.proofs.OutLaws.{run-of-out, index-of-out, page-of-out}
 use Rattle.release.proofs.FairSteps.{page-room, page-carved}
-use Rattle.chunks.specs.Pass.{cleared, pushAll, placeAt, placeAll}
+use Rattle.chunks.specs.way.Pass.{cleared, pushAll, placeAt, placeAll}
 use Rattle.chunks.proofs.GatherPlace.{stirs, onBook, place-past, place-changes}
 use Rattle.chunks.proofs.GatherPush.{laid, laidAll, blocksOf, Fits, laid-changes, onPages, pushes}
 

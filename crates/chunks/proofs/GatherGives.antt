@@ -16,7 +16,7 @@ use Rattle.facts.specs.Lists.{All, elem, distinct}
 use Rattle.facts.proofs.Bools.{by-cases, and-left, and-right}
 use Rattle.words.specs.Word.{pageOf}
 use Rattle.classes.specs.declared.Shape.{Shape}
-use Rattle.classes.specs.Sound.{Sound}
+use Rattle.classes.specs.way.Sound.{Sound}
 use Rattle.fields.specs.Field.{Field, arena, mark, class, hole, page, out, slot, region, off, emptyCount, coldCount, next, free, carved, virgin, get, put, words, ClassField, emptyLimit, coldLimit}
 use Rattle.rules.specs.declared.Limits.{Limits}
 use Rattle.fields.proofs.Laws.{get-put-same, get-put-other, length-put}
@@ -34,9 +34,9 @@ use Rattle.model.specs.declared.Spot.the-variants.{ToEmpty, ToCold, ToArena}
 use Rattle.model.specs.Spot.{isEmpty, isCold, isArena, fateOf, retired}
 use Rattle.calls.specs.Release.{Released, released, unlisted, relisted, spotAt, parkAs, parkAt, emptied, markRetired}
 use Rattle.calls.specs.Chunks.{givesOf, returnsAll, runsGiven}
-use Rattle.release.specs.Act.{coldVirgin}
+use Rattle.release.specs.way.Act.{coldVirgin}
 use Rattle.release.proofs.ParkSteps.{unlisted-changes, relisted-changes, carve-changes}
-use Rattle.chunks.specs.Pass.{placeAt, placeAll, givesIn}
+use Rattle.chunks.specs.way.Pass.{placeAt, placeAll, givesIn}
 use Rattle.chunks.proofs.GatherPlace.{stirs, place-changes}
 
 -- where t tells whether the page has no block out, and k is its spot then

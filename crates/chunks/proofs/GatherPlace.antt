@@ -30,8 +30,8 @@ use Rattle.pages.proofs.Frames.{changes-link, changes-unlink, changes-stow, cha
 use Rattle.model.specs.declared.Spot.{Spot}
 use Rattle.model.specs.declared.Spot.the-variants.{ToEmpty, ToCold, ToArena}
 use Rattle.calls.specs.Release.{Released, released, unlisted, relisted, parkAs, parkedIn, spotAt, parkAt, emptied, markRetired}
-use Rattle.release.specs.Act.{coldVirgin}
-use Rattle.chunks.specs.Pass.{placeAt}
+use Rattle.release.specs.way.Act.{coldVirgin}
+use Rattle.chunks.specs.way.Pass.{placeAt}
 
 abbrev pub aside : ℕ → Field → Bool
 aside q f = (eqb (region f) 4 && eqb (off f) 1) || ((leb 5 (region f) || (eqb (region f) 4 && (eqb (off f) 4 || eqb (off f) 5))) && not (eqb (row f) q))

@@ -21,7 +21,7 @@ use Rattle.pages.specs.Stack.{marks, push, indexOf, pageAt}
 use Rattle.pages.proofs.Downs.{small}
 use Rattle.pages.proofs.Marks.{isMark, length-marks, marks-changes}
 use Rattle.pages.proofs.Pushes.{length-push, push-changes}
-use Rattle.chunks.specs.Pass.{cleared, pushOne, pushAll}
+use Rattle.chunks.specs.way.Pass.{cleared, pushOne, pushAll}
 use Rattle.chunks.proofs.GatherPlace.{aside, stirs, stirs-own, own, past-put, past-push, past-marks}
 
 unfoldable pub laid : List ℕ → ℕ → ℕ → List ℕ → List ℕ

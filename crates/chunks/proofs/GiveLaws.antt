@@ -36,10 +36,10 @@ use Rattle.arena.proofs.Frames.{loaded-length, isOwner, holes-same, holes-there
 use Rattle.holes.proofs.StoreLaws.{holes-length}
 use Rattle.holes.proofs.EndsFair.{place-fair}
 use Rattle.holes.proofs.Acts.{FairRecord, fair-record, status-code}
-use Rattle.runs.specs.Asks.{GiveIn}
+use Rattle.runs.specs.way.Asks.{GiveIn}
 use Rattle.calls.specs.Chunks.{givesOf, giveRuns}
-use Rattle.chunks.specs.Pass.{givesIn}
-use Rattle.chunks.specs.GiveAsks.{givesFair, GiveChunkAsks, GiveChunksAsks}
+use Rattle.chunks.specs.way.Pass.{givesIn}
+use Rattle.chunks.specs.way.GiveAsks.{givesFair, GiveChunkAsks, GiveChunksAsks}
 
 -- ---- the arena's words, stored
 module _ (n : ℕ) (b : List ℕ) (hb : leb (words n) (length b) ≡ true) (a : Arena) (few : length (a .store .holes) ≤ 4096) where

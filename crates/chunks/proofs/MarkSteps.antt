@@ -14,30 +14,30 @@ use Rattle.facts.proofs.Bools.{and-left, and-right}
 use Rattle.facts.proofs.Lists.{drop-past, every-get}
 use Rattle.words.specs.Word.{pageOf}
 use Rattle.classes.specs.declared.Shape.{Shape}
-use Rattle.classes.specs.Sound.{Sound}
+use Rattle.classes.specs.way.Sound.{Sound}
 use Rattle.fields.specs.Field.{words}
 use Rattle.fields.proofs.Changes.{Changes}
-use Rattle.pages.specs.Asks.{ClearAsks}
+use Rattle.pages.specs.way.Asks.{ClearAsks}
 use Rattle.pages.specs.Carve.{outWords}
 use Rattle.pages.specs.Runs.{whole}
 use Rattle.pages.specs.Stack.{pageAt}
 use Rattle.pages.proofs.Downs.{every-mono}
 use Rattle.calls.specs.Out.{inRunOf, outAt, outFault}
 use Rattle.calls.specs.Chunks.{chunksMatch, chunksFair}
-use Rattle.release.specs.Marks.{freshCount, freshBook, noMarks, countBy, bookBy}
-use Rattle.release.specs.MarkAsks.{FieldAsks, MarkedIn}
+use Rattle.release.specs.way.Marks.{freshCount, freshBook, noMarks, countBy, bookBy}
+use Rattle.release.specs.way.MarkAsks.{FieldAsks, MarkedIn}
 use Rattle.release.proofs.Bits.{isBit}
 use Rattle.release.proofs.RunLaws.{within-arena}
 use Rattle.release.proofs.OutLaws.{run-of-out}
 use Rattle.release.proofs.MarkLaws.{mark-bits}
 use Rattle.release.proofs.RunMarks.{fresh-changes, AllFresh, all-fresh, not-marked, not-repeated}
 use Rattle.release.proofs.Testing.{fault-none}
-use Rattle.tally.specs.Match.{isPage, inArena, hasPage, pageFits, pagesMatch, arenaMatch, Matched}
+use Rattle.tally.specs.way.Match.{isPage, inArena, hasPage, pageFits, pagesMatch, arenaMatch, Matched}
 use Rattle.tally.proofs.MatchLaws.{low-page}
-use Rattle.chunks.specs.Pass.{cleared}
-use Rattle.chunks.specs.CallAsks.{passFault, testFault}
-use Rattle.chunks.specs.Marks.{pageReady, ownCount, ownBook, sweep, takePages, clearPages}
-use Rattle.chunks.specs.MarkAsks.{OwnAsks, OwnMarked, SweepAsks, ReadyAsks, MarkedAsks, TryAsks, MatchedAsks, SetAsks, TookMarked, Tried}
+use Rattle.chunks.specs.way.Pass.{cleared}
+use Rattle.chunks.specs.way.CallAsks.{passFault, testFault}
+use Rattle.chunks.specs.way.Marks.{pageReady, ownCount, ownBook, sweep, takePages, clearPages}
+use Rattle.chunks.specs.way.MarkAsks.{OwnAsks, OwnMarked, SweepAsks, ReadyAsks, MarkedAsks, TryAsks, MatchedAsks, SetAsks, TookMarked, Tried}
 use Rattle.chunks.proofs.PageMarks.{own-count, own-book, fresh-within, none-counted, none-left, none-marked, ready-words, clears-own, takes-own}
 use Rattle.chunks.proofs.CallTests.{chunks-fair-kept, match-is}
 

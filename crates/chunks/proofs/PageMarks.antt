@@ -15,20 +15,20 @@ use Rattle.facts.specs.Lists.{every, elem, distinct}
 use Rattle.facts.proofs.Bools.{by-cases, and-left, and-right, nor-left, nor-right}
 use Rattle.words.specs.Word.{pageOf}
 use Rattle.classes.specs.declared.Shape.{Shape}
-use Rattle.classes.specs.Sound.{Sound}
+use Rattle.classes.specs.way.Sound.{Sound}
 use Rattle.fields.specs.Field.{mark, out, get, put, words}
 use Rattle.fields.specs.Clear.{clearMarks}
 use Rattle.fields.proofs.Laws.{length-put}
 use Rattle.model.specs.Release.{ofKind}
 use Rattle.pages.specs.Runs.{whole}
 use Rattle.pages.specs.Stack.{indexOf, isBlock, pageAt}
-use Rattle.release.specs.Marks.{markAt, setMark, freshAt, markedIn, freshIn, freshCount, freshBook, noMarks, takeMarks, countBy, bookBy}
+use Rattle.release.specs.way.Marks.{markAt, setMark, freshAt, markedIn, freshIn, freshCount, freshBook, noMarks, takeMarks, countBy, bookBy}
 use Rattle.release.proofs.RunLaws.{not-before, not-behind}
 use Rattle.release.proofs.TakeMarks.{lengths, takes-marked, out-past, mark-past, out-still, mark-still}
 use Rattle.release.proofs.RunMarks.{none-taken, none-cleared, clear-past, clear-away, fresh-low, fresh-word, fresh-out, fresh-mark, clears-by, inWhole}
-use Rattle.tally.specs.Match.{hasPage, inArena}
-use Rattle.chunks.specs.Pass.{cleared}
-use Rattle.chunks.specs.Marks.{pageReady, ownCount, ownBook, takePages, clearPages}
+use Rattle.tally.specs.way.Match.{hasPage, inArena}
+use Rattle.chunks.specs.way.Pass.{cleared}
+use Rattle.chunks.specs.way.Marks.{pageReady, ownCount, ownBook, takePages, clearPages}
 
 module _ (sh : Shape) (s : Sound sh) (one : sh .pages ≡ 1) where
   -- ---- neighbours on page q

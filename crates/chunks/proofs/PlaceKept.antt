@@ -19,7 +19,7 @@ use lib.Seq.{getD-set-same, getD-set-other, set-out}
 use borrow.Author.Tests.{leb-true, ltb-true, eqb-true, eqb-false, le-leb, lt-ltb, eq-eqb, ne-eqb}
 use Rattle.facts.proofs.Bools.{and-left, and-right}
 use Rattle.classes.specs.declared.Shape.{Shape}
-use Rattle.classes.specs.Sound.{Sound}
+use Rattle.classes.specs.way.Sound.{Sound}
 use Rattle.rules.specs.Rules.{Fit}
 use Rattle.fields.specs.Field.{Field, PageField, arena, class, page, word, part, whole, region, off, frontier, partial, emptyLimit, coldLimit, next, prev, free, carved, listed, virgin, words, get, put, ok}
 use Rattle.fields.specs.Outcome.{putAt}
@@ -36,11 +36,11 @@ use Rattle.model.specs.declared.Spot.the-variants.{ToEmpty, ToCold, ToArena}
 use Rattle.model.specs.Spot.{isEmpty, isCold}
 use Rattle.calls.specs.Release.{rowFair, unlisted, relisted, released, spotAt, parkedIn, parkAt, emptied, markRetired}
 use Rattle.pages.specs.Fair.{linksFair, storeFair, limitsAt}
-use Rattle.release.specs.Act.{coldVirgin, ParkingAsks}
+use Rattle.release.specs.way.Act.{coldVirgin, ParkingAsks}
 use Rattle.release.proofs.FairSteps.{count-low, limits-low}
 use Rattle.release.proofs.Spots.{empty-room, cold-room}
 use Rattle.release.proofs.ParkSteps.{unlisted-changes}
-use Rattle.chunks.specs.Pass.{placeAt}
+use Rattle.chunks.specs.way.Pass.{placeAt}
 
 -- ---- the tests as bounds
 pub record Row (b : List ℕ) (c : ℕ) : Type 0 where

@@ -17,13 +17,13 @@ use Rattle.words.specs.Word.{pageOf}
 use Rattle.classes.specs.declared.Shape.{Shape}
 use Rattle.fields.specs.Field.{arena, page, frontier, free, carved, virgin, words, get, put}
 use Rattle.model.specs.Spot.{arenaFate}
-use Rattle.pages.specs.Asks.{LinkAsks}
+use Rattle.pages.specs.way.Asks.{LinkAsks}
 use Rattle.calls.specs.Release.{relisted, spotAt, parkAt, emptied}
 use Rattle.pages.specs.Fair.{linksFair}
-use Rattle.release.specs.Act.{ParkingAsks, Parked}
+use Rattle.release.specs.way.Act.{ParkingAsks, Parked}
 use Rattle.release.proofs.Spots.{fate-low}
-use Rattle.chunks.specs.Pass.{placeAt, placeAll}
-use Rattle.chunks.specs.PlaceAsks.{placeFair, PlaceAsks, Placed}
+use Rattle.chunks.specs.way.Pass.{placeAt, placeAll}
+use Rattle.chunks.specs.way.PlaceAsks.{placeFair, PlaceAsks, Placed}
 use Rattle.chunks.proofs.PlaceKept.{Steady, row-out, ties-out, steady-none, virgin-steady, emptied-steady, placed-steady, asks-kept}
 
 pub retires : (b b₁ b₂ : List ℕ) (q : ℕ) → b₁ ≡ put b (page carved q) 0 → b₂ ≡ put b₁ (page free q) 0 → b₂ ≡ emptied b q

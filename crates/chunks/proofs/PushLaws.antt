@@ -16,13 +16,13 @@ use Rattle.facts.proofs.Lists.{drop-past, every-get}
 use Rattle.classes.specs.declared.Shape.{Shape}
 use Rattle.fields.specs.Field.{page, slot, out, free, words, get, put, Has}
 use Rattle.fields.proofs.Laws.{get-put-same, get-put-other, length-put}
-use Rattle.pages.specs.Asks.{IndexAsks}
+use Rattle.pages.specs.way.Asks.{IndexAsks}
 use Rattle.fields.specs.Ranges.{maxPages}
 use Rattle.pages.specs.Stack.{indexOf, isBlock, pageAt}
-use Rattle.chunks.specs.CallAsks.{hasBit, BitsAsks}
-use Rattle.chunks.specs.Pass.{cleared, pushOne, pushAll}
-use Rattle.chunks.specs.PushAsks.{ownBlock, PushAllAsks}
-use Rattle.tally.specs.Match.{wordsOn}
+use Rattle.chunks.specs.way.CallAsks.{hasBit, BitsAsks}
+use Rattle.chunks.specs.way.Pass.{cleared, pushOne, pushAll}
+use Rattle.chunks.specs.way.PushAsks.{ownBlock, PushAllAsks}
+use Rattle.tally.specs.way.Match.{wordsOn}
 
 -- ---- one block
 pub one-length : (b : List ℕ) (q i : ℕ) → length (pushOne b q i) ≡ length b

@@ -1,6 +1,6 @@
 // A group release: the numbers in their order, each over both lists, and then the passes. A refusal leaves every word as it was.
 ghost use Rattle.calls.specs.Chunks.{releaseChunks};
-ghost use Rattle.chunks.specs.CallAsks.{allPlaced, settledTo, passFault, testFault, CallAsks, ListedAsks, TestAsks, PassAsks, SettleAsks, TakenBy, ChunksAnswered};
+ghost use Rattle.chunks.specs.way.CallAsks.{allPlaced, settledTo, passFault, testFault, CallAsks, ListedAsks, TestAsks, PassAsks, SettleAsks, TakenBy, ChunksAnswered};
 use super::fair::chunks_fair;
 use super::gives::give_chunks;
 use super::place::place_chunks;

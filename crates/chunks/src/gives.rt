@@ -2,8 +2,8 @@
 ghost use mathlib.Core.Path.{_≡_};
 ghost use Rattle.words.specs.Word.{pageOf};
 ghost use Rattle.calls.specs.Chunks.{givesOf, giveRuns};
-ghost use Rattle.chunks.specs.Pass.{givesIn};
-ghost use Rattle.chunks.specs.GiveAsks.{GiveChunkAsks, GiveChunksAsks};
+ghost use Rattle.chunks.specs.way.Pass.{givesIn};
+ghost use Rattle.chunks.specs.way.GiveAsks.{GiveChunkAsks, GiveChunksAsks};
 use classes::Shape;
 use pages::chunk_page;
 use release::ARENA_FATE;

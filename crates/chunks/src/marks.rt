@@ -1,8 +1,8 @@
 // The listed blocks marked, each on the page that has its granule, and the marks of the chunks' pages taken or cleared.
 ghost use mathlib.Core.Path.{_≡_};
 ghost use Rattle.facts.specs.Lists.{every};
-ghost use Rattle.chunks.specs.Marks.{pageReady, takePages, clearPages};
-ghost use Rattle.chunks.specs.MarkAsks.{OwnAsks, OwnMarked, SweepAsks, ReadyAsks};
+ghost use Rattle.chunks.specs.way.Marks.{pageReady, takePages, clearPages};
+ghost use Rattle.chunks.specs.way.MarkAsks.{OwnAsks, OwnMarked, SweepAsks, ReadyAsks};
 use classes::Shape;
 use pages::chunk_page;
 use pages::page_within;

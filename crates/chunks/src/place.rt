@@ -1,10 +1,10 @@
 // Where the chunks' pages go once their blocks are back, in the chunks' order.
 ghost use mathlib.Core.Path.{_≡_};
 ghost use Rattle.calls.specs.Release.{emptied};
-ghost use Rattle.pages.specs.Asks.{PageAsks};
-ghost use Rattle.release.specs.Act.{ParkingAsks, Parked};
-ghost use Rattle.chunks.specs.Pass.{placeAt};
-ghost use Rattle.chunks.specs.PlaceAsks.{PlaceAsks, Placed};
+ghost use Rattle.pages.specs.way.Asks.{PageAsks};
+ghost use Rattle.release.specs.way.Act.{ParkingAsks, Parked};
+ghost use Rattle.chunks.specs.way.Pass.{placeAt};
+ghost use Rattle.chunks.specs.way.PlaceAsks.{PlaceAsks, Placed};
 use classes::Shape;
 use pages::chunk_page;
 use release::KEPT_FATE;

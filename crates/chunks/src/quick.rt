@@ -1,5 +1,5 @@
 // The taking of a group release's blocks in as few passes as there can be. Where there is a doubt the book is as it was.
-ghost use Rattle.chunks.specs.MarkAsks.{MarkedAsks, TryAsks, MatchedAsks, SetAsks, TookMarked, Tried};
+ghost use Rattle.chunks.specs.way.MarkAsks.{MarkedAsks, TryAsks, MatchedAsks, SetAsks, TookMarked, Tried};
 use super::fair::chunks_fair;
 use super::marks::clear_pages;
 use super::marks::mark_words;

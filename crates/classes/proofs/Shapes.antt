@@ -13,8 +13,8 @@ use Rattle.facts.proofs.Bools.{and-left, and-right}
 use Rattle.classes.specs.declared.Shape.{Shape}
 use Rattle.classes.specs.Sizes.{smallSizes, mediumSizes, pageBytes, smallCapacity, spanPages, spanCapacity}
 use Rattle.classes.specs.Shape.{inverse, smallOf, mediumOf, smallShape, mediumShape, shapeOf}
-use Rattle.classes.specs.Near.{blockBytes}
-use Rattle.classes.specs.Sound.{Sound}
+use Rattle.classes.specs.way.Near.{blockBytes}
+use Rattle.classes.specs.way.Sound.{Sound}
 use Rattle.classes.proofs.Table.{every-at}
 
 abbrev within : ℕ → ℕ → ℕ → Bool

@@ -6,7 +6,7 @@ ghost use lib.Dec.{leb};
 ghost use Rattle.classes.specs.Sizes.{maxMediumSize};
 ghost use Rattle.classes.specs.Lookup.{sizeClass};
 ghost use Rattle.classes.specs.Shape.{classCount};
-ghost use Rattle.classes.specs.Near.{stepOf};
+ghost use Rattle.classes.specs.way.Near.{stepOf};
 use super::Sized;
 use super::in_tables::wide;
 use super::near::by_step;

@@ -3,7 +3,7 @@
 ghost use mathlib.Core.Bool.{true};
 ghost use mathlib.Core.Path.{_≡_};
 ghost use Prim.Native.Nat.{_≤_};
-ghost use Rattle.classes.specs.Near.{lastStep, entered};
+ghost use Rattle.classes.specs.way.Near.{lastStep, entered};
 
 // The class of a step of sizes. As a `u8` the step needs no test of the table's length.
 pub fn by_step(step: u8) -> u8

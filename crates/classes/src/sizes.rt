@@ -2,7 +2,7 @@
 ghost use mathlib.Core.Path.{_≡_};
 ghost use Prim.Native.Nat.{_<_, _≤_};
 ghost use Rattle.classes.specs.Sizes.{pageBytes, smallCapacity, spanPages, spanCapacity};
-ghost use Rattle.classes.specs.Near.{entryIn, blockBytes};
+ghost use Rattle.classes.specs.way.Near.{entryIn, blockBytes};
 
 const PAGE_SIZE: u32 = 65536;
 

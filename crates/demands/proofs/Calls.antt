@@ -29,7 +29,7 @@ use Rattle.vigbuso.specs.Direct as Direct
 use Rattle.vigbuso.specs.Direct.{openFault, openOn, commitOn, growOn, containsOn, reportOn}
 use Rattle.vigbuso.specs.Blocks as Blocks
 use Rattle.vigbuso.specs.Blocks.{takeOn, chunksOn}
-use Rattle.refinement.specs.Represents.{Represents}
+use Rattle.refinement.specs.way.Represents.{Represents}
 use Rattle.refinement.specs.Direct.{turnedReply, directReply}
 use Rattle.refinement.specs.Run.{replyAs, callReply}
 use Rattle.demands.specs.Call.{call}

@@ -17,7 +17,7 @@ use Rattle.words.specs.Host.{hostMax, badHost}
 use Rattle.words.specs.Word.{chunkKind, countOf, pageOf}
 use Rattle.classes.specs.declared.Shape.{Shape}
 use Rattle.classes.specs.Shape.{smallShape, shapeOf}
-use Rattle.classes.specs.Sound.{Sound}
+use Rattle.classes.specs.way.Sound.{Sound}
 use Rattle.classes.proofs.Shapes.{shape-sound}
 use Rattle.rules.specs.Rules.{rulesOf}
 use Rattle.rules.specs.declared.Limits.{Limits}

@@ -25,8 +25,8 @@ use Rattle.model.proofs.BestFit.{commits}
 use Rattle.arena.specs.Load.{loadArena, loadStore}
 use Rattle.arena.specs.Fair.{holeFair, holesFair, recordFair, commitFair, reportFair}
 use Rattle.arena.specs.Calls.{commitCall, commitFor}
-use Rattle.take.specs.TakeAnswer.{answerOf}
-use Rattle.release.specs.Act.{answerAs}
+use Rattle.take.specs.Answer.{answerOf}
+use Rattle.release.specs.Answer.{answerAs}
 use Rattle.runs.specs.Answer as Runs
 use Rattle.runs.specs.Answer.{commitCode}
 use Rattle.direct.specs.Answer.{grownAs, growCode, reportOf}

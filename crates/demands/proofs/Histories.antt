@@ -21,7 +21,7 @@ use Rattle.model.specs.Heap.{Heap, step, newHeap}
 use Rattle.model.specs.History.{heapAfter, answers}
 use Rattle.arena.specs.Open.{opened}
 use Rattle.vigbuso.specs.Direct.{openOn}
-use Rattle.refinement.specs.Represents.{Represents}
+use Rattle.refinement.specs.way.Represents.{Represents}
 use Rattle.refinement.specs.Direct.{Reply, Agrees}
 use Rattle.refinement.specs.Run.{callReply, repliesFrom, bookFrom, answersIn}
 use Rattle.refinement.proofs.ArenaReached.{heap-next}

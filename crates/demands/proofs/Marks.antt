@@ -16,7 +16,7 @@ use Rattle.words.specs.Host.{badHost}
 use Rattle.words.specs.Word.{granuleOf, chunkKind, pageOf, countOf}
 use Rattle.classes.specs.declared.Shape.{Shape}
 use Rattle.classes.specs.Shape.{shapeOf}
-use Rattle.classes.specs.Sound.{Sound}
+use Rattle.classes.specs.way.Sound.{Sound}
 use Rattle.classes.proofs.Shapes.{shape-sound}
 use Rattle.fields.specs.Field as Fields
 use Rattle.fields.specs.Field.{ClassField, Field, next, prev, region, off, row, pageOff, first, arena, mark, class, hole, page, out, slot, size, state, frontier, holes, held, partial, empty, cold, get, put, same, words}
@@ -58,7 +58,7 @@ use Rattle.pages.specs.Fair.{headerFair}
 use Rattle.calls.specs.Out.{startOf, outIn, inRunOf, outAt, unmarked, repeats, outFault}
 use Rattle.calls.specs.Release.{Released, firstOf, releaseFair, giveBackAt, lastStep, releaseBlocks, pageFair, spotAt, parkAt, parkedIn, unlisted, relisted, emptied, leaves, placed}
 use Rattle.calls.specs.Chunks.{blocksOn, chunkFits, chunksMatch, chunksFair, releaseChunks, chunkBackAt, settleChunks, giveRuns}
-use Rattle.take.specs.TakePlan.{TakeAsks, ParkedAsks, TakeRunAsks, walksFrom, woken}
+use Rattle.take.specs.way.TakePlan.{TakeAsks, ParkedAsks, TakeRunAsks, walksFrom, woken}
 use Rattle.take.proofs.TakePages.{positive}
 use Rattle.take.proofs.Walk.{stops, walk-step}
 use Rattle.take.proofs.Fill.{turned, length-map}

@@ -18,7 +18,7 @@ use Rattle.words.specs.Word.{granuleOf}
 use Rattle.classes.specs.declared.Shape.{Shape}
 use Rattle.classes.specs.Sizes.{pageBytes, granuleBytes}
 use Rattle.classes.specs.Shape.{shapeOf}
-use Rattle.classes.specs.Sound.{Sound}
+use Rattle.classes.specs.way.Sound.{Sound}
 use Rattle.classes.proofs.Shapes.{shape-sound}
 use Rattle.rules.specs.Rules.{Rules}
 use Rattle.fields.specs.Ranges.{maxPages}

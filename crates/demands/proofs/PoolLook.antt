@@ -29,7 +29,7 @@ use Rattle.refinement.proofs.ArenaHolders.{names-below}
 use Rattle.pool.specs.Stock.{stockRoom}
 use Rattle.poolcalls.specs.Stock.{countIn, stockFrom, stockIn}
 use Rattle.poolcalls.specs.Calls.{countFair, stockedIn}
-use Rattle.poolrefinement.specs.Represents.{StockRep}
+use Rattle.poolrefinement.specs.way.Represents.{StockRep}
 use Rattle.vigbuso.specs.Faults.{admits}
 use Rattle.vigbuso.specs.Pool.{classOn, grantedOn, stockedOn}
 

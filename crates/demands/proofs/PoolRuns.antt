@@ -25,7 +25,7 @@ use Rattle.pool.proofs.Conserved.{pool-append}
 use Rattle.poolcalls.specs.Calls.{Said}
 use Rattle.vigbuso.specs.Direct.{openOn}
 use Rattle.vigbuso.specs.Pool.{poolOn}
-use Rattle.poolrefinement.specs.Represents.{PoolRep}
+use Rattle.poolrefinement.specs.way.Represents.{PoolRep}
 use Rattle.poolrefinement.specs.Run.{askOn, onCall, saidFrom, bookFrom}
 use Rattle.poolrefinement.proofs.Runs.{opened-pool, call-agrees, pool-runs}
 use Rattle.demands.specs.Run.{Opens}

@@ -27,7 +27,7 @@ use Rattle.model.proofs.Ways.{goes}
 use Rattle.model.proofs.Alone.{other}
 use Rattle.arena.specs.Load.{loadArena}
 use Rattle.calls.specs.Out.{outAt}
-use Rattle.refinement.specs.Represents.{Represents}
+use Rattle.refinement.specs.way.Represents.{Represents}
 use Rattle.refinement.specs.Direct.{Reply}
 use Rattle.refinement.specs.Run.{callReply, repliesFrom, answersIn}
 use Rattle.refinement.proofs.ArenaReached.{heap-next, reached-after}
@@ -36,7 +36,8 @@ use Rattle.refinement.proofs.Found.{out-here}
 use Rattle.refinement.proofs.Whole.{call-whole}
 use Rattle.pool.specs.Pool.{Pool, newPool, PoolCall, PoolAnswer, Wish, to, alloc, free, trim, callBy, callFor, poolStep, Plan, Done, carry, ends, firstOf, numberOf, refused, trimmed, noBlock}
 use Rattle.pool.specs.Told.{PoolEvent, toldOf, poolEvents, poolEventsFrom, poolAfter, heapCalls, poolAnswersOf, isOf}
-use Rattle.pool.specs.Claims.{Bare, answerTo}
+use Rattle.pool.specs.way.Claims.{answerTo}
+use Rattle.pool.specs.Bare.{Bare}
 use Rattle.pool.proofs.Plans.{Planned, is-turned, is-bare, is-trimmed, planned}
 use Rattle.pool.proofs.Apart.{pool-disjoint}
 use Rattle.pool.proofs.Frees.{frees, unchanged}
@@ -47,7 +48,8 @@ use Rattle.poolcalls.specs.Stock.{stockIn, stocked}
 use Rattle.poolcalls.specs.Calls.{grantedIn}
 use Rattle.vigbuso.specs.Faults.{admits}
 use Rattle.vigbuso.specs.Pool.{poolOn, grantedOn}
-use Rattle.poolrefinement.specs.Represents.{heapWord, PoolRep, StockRep}
+use Rattle.poolrefinement.specs.way.Represents.{PoolRep, StockRep}
+use Rattle.poolcalls.specs.HeapWords.{heapWord}
 use Rattle.poolrefinement.proofs.Whole.{pool-agrees}
 use Rattle.poolrefinement.proofs.Frame.{heap-frame, words-changes, represents-still}
 use Rattle.poolrefinement.proofs.Stocks.{stocked-is, stock-still}
@@ -55,6 +57,7 @@ use Rattle.poolrefinement.proofs.Wishes.{kind-word}
 use Rattle.poolrefinement.proofs.Runs.{stands}
 use Rattle.demands.specs.Call.{call}
 use Rattle.demands.specs.Run.{Opens, bookAfter}
+use Rattle.demands.specs.way.PoolStands.{PoolStands}
 use Rattle.demands.specs.Pool.{poolRun, poolBook, heard, poolHeard, poolTold, FreeAnswers, PoolAt, PoolDemand}
 use Rattle.demands.proofs.Calls.{room, no-fault, call-is}
 use Rattle.demands.proofs.Histories.{run-represents}
@@ -224,7 +227,6 @@ module _ (n : ℕ) (rows b : List ℕ) (o : Opens n rows b) (xs : List PoolCall)
         disjoint = rw (told-is n rows b o xs) (bare-disjoint vs (pool-disjoint n few (rulesOf rows) xs));
         frees = free-answers;
         none = none-answers;
-        onHeap = heap;
         made-done = on-heap n few (rulesOf rows) xs .done;
         numbers = λ c x k e. unchanged n few (rulesOf rows) xs c x .low k (sym (answer-is c x) ∙ e);
         fair = λ y e. call-whole n few (rulesOf rows) made d heap (callBy y) .fair (ap (λ r. r .code) (sym (call-reply (callBy y))) ∙ e);
@@ -306,3 +308,6 @@ pool-demand = record {
   words = frame;
   beside = beside;
 }
+
+pub pool-stands : (n : ℕ) (rows b : List ℕ) → Opens n rows b → (xs : List PoolCall) → PoolStands n rows (poolBook n rows b xs) (heapCalls n (rulesOf rows) xs)
+pool-stands n rows b o xs = record { onHeap = heap n rows b o xs }

@@ -20,7 +20,7 @@ use Rattle.words.specs.Word.{kindBits}
 use Rattle.words.proofs.RoundTrip.{kind-block}
 use Rattle.classes.specs.declared.Shape.{Shape}
 use Rattle.classes.specs.Shape.{shapeOf}
-use Rattle.classes.specs.Sound.{Sound}
+use Rattle.classes.specs.way.Sound.{Sound}
 use Rattle.classes.proofs.Shapes.{shape-sound}
 use Rattle.rules.specs.declared.Limits.{Limits}
 use Rattle.rules.specs.Rules.{Rules, rulesOf}

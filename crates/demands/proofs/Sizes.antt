@@ -15,7 +15,7 @@ use Rattle.facts.proofs.Lists.{every-at}
 use Rattle.classes.specs.declared.Shape.{Shape}
 use Rattle.classes.specs.Sizes.{smallSizes, mediumSizes, granuleBytes}
 use Rattle.classes.specs.Shape.{smallShape, mediumShape, shapeOf}
-use Rattle.classes.specs.Sound.{Sound}
+use Rattle.classes.specs.way.Sound.{Sound}
 use Rattle.classes.proofs.Shapes.{shape-sound}
 use Rattle.classes.proofs.Table as Table
 use Rattle.classes.proofs.Table.{getD-within}

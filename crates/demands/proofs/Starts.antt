@@ -9,7 +9,7 @@ use mathlib.Core.Path.{_≡_, refl, sym, ap, subst}
 use Rattle.model.specs.Calls.{Call}
 use Rattle.model.specs.Heap.{step}
 use Rattle.model.specs.History.{heapAfter}
-use Rattle.refinement.specs.Represents.{Represents}
+use Rattle.refinement.specs.way.Represents.{Represents}
 use Rattle.refinement.specs.Direct.{Reply, Agrees}
 use Rattle.refinement.specs.Run.{callReply, repliesFrom, bookFrom}
 use Rattle.refinement.proofs.Whole.{call-whole}

@@ -16,7 +16,7 @@ use Rattle.model.proofs.Theorems as Model
 use Rattle.model.proofs.Alone as Alone
 use Rattle.arena.specs.Load.{loadArena}
 use Rattle.vigbuso.specs.Direct.{openOn}
-use Rattle.refinement.specs.Represents.{Represents}
+use Rattle.refinement.specs.way.Represents.{Represents}
 use Rattle.refinement.specs.Direct.{Reply}
 use Rattle.refinement.specs.Run.{callReply, repliesFrom, answersIn}
 use Rattle.demands.specs.Call.{call}

@@ -30,3 +30,4 @@ pub mod Wide
 pub mod Pool
 pub mod PoolContracts
 pub mod PoolRefusals
+pub mod way

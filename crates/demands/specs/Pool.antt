@@ -27,13 +27,12 @@ use Rattle.calls.specs.Out.{outAt}
 use Rattle.pool.specs.Stock.{stockRoom}
 use Rattle.pool.specs.Pool.{PoolCall, PoolAnswer, Wish, Direct, to, direct, alloc, free, trim, callBy, answered, refused, trimmed, noBlock, freed}
 use Rattle.pool.specs.Told.{PoolEvent, toldOf, poolEvents, heapCalls, poolCallsOf, poolAnswersOf, poolRunsOf}
-use Rattle.pool.specs.Claims.{Bare}
+use Rattle.pool.specs.Bare.{Bare}
 use Rattle.poolcalls.specs.Stock.{stockIn}
 use Rattle.poolcalls.specs.Calls.{Said, said}
 use Rattle.vigbuso.specs.Direct.{openOn}
 use Rattle.vigbuso.specs.Pool.{poolOn, classOn, grantedOn, stockedOn}
-use Rattle.refinement.specs.Represents.{Represents}
-use Rattle.poolrefinement.specs.Represents.{heapWord}
+use Rattle.poolcalls.specs.HeapWords.{heapWord}
 use Rattle.poolrefinement.specs.Run.{saidFrom, bookFrom}
 use Rattle.demands.specs.Call.{call}
 use Rattle.refinement.specs.Run.{repliesFrom, answersIn}
@@ -79,9 +78,8 @@ pub record PoolAt (n : ℕ) (rows d : List ℕ) (xs : List PoolCall) (vs : List 
   pub none : (c h : ℕ) → badHost h ≡ false → ltb c classCount ≡ true
       → (poolOn d c (alloc h) .answer ≡ noBlock)
       ↔ ((stockIn d c ≡ []) × Bare (heapAfter n (rulesOf rows) made .classes c) × (Arenas.commit n h (shapeOf c .pages) (loadArena d) .run ≡ none))
-  -- the heap's calls that the history makes are a history of document 01's calls, of which none that names a class is refused; the book stands for
-  -- the heap that they lead to
-  pub onHeap : Represents n d (heapAfter n (rulesOf rows) made)
+  -- the heap's calls that the history makes are a history of document 01's calls, of which none that names a class is refused (`heapPart` below: the heap's
+  -- part of the book is what they leave)
   pub made-done : All (λ v. isSome (names (v .call)) ≡ true → isRefused (v .answer) ≡ false) (events n (rulesOf rows) made)
   -- a call that is refused has number 3, 4, 9 or 10 (and leaves the book, as Specs/PoolRefusals says of every book); 13 never answers, a direct call neither
   pub numbers : (c : ℕ) (x : Wish) (k : ℕ) → poolOn d c x .answer ≡ refused k → elem k (3 ∷ 4 ∷ 9 ∷ 10 ∷ []) ≡ true

@@ -20,7 +20,7 @@ use Rattle.classes.specs.Shape.{classCount}
 use Rattle.rules.specs.declared.Limits.{Limits}
 use Rattle.rules.specs.Rules.{rulesOf}
 use Rattle.fields.proofs.Laws.{length-put}
-use Rattle.direct.specs.Asks.{RowIn}
+use Rattle.direct.specs.way.Asks.{RowIn}
 use Rattle.model.specs.Heap.{badRun, badGrowth, direct}
 use Rattle.model.specs.Arena as Model
 use Rattle.holes.specs.declared.Arena.{Arena}
@@ -29,14 +29,15 @@ use Rattle.runs.specs.declared.Commit.the-variants.{Refused}
 use Rattle.direct.specs.declared.Grow.{Grow}
 use Rattle.arena.specs.Load.{statusOf, loadArena}
 use Rattle.arena.specs.Owners.{ownerCode}
-use Rattle.holes.specs.Record.{recordOf}
+use Rattle.holes.specs.way.Record.{recordOf}
 use Rattle.arena.specs.Fair.{recordFair, holesEndFair, giveFair, growGives, growFair}
 use Rattle.arena.specs.Open.{cleared, headWords, limited, ruled}
 use Rattle.arena.specs.Calls.{commitFor, commitCall, given, heldDirect, releaseCall, growCall, containsCall}
-use Rattle.holes.specs.Act.{endNone, endRun, endGiven, settle, fromFrontier, growWith, growActs, clamped}
-use Rattle.runs.specs.Asks.{GiveIn, BookIn, EndsIn}
+use Rattle.holes.specs.way.Act.{endNone, endRun, endGiven, settle, fromFrontier, growWith, growActs, clamped}
+use Rattle.runs.specs.way.Asks.{GiveIn, BookIn, EndsIn}
 use Rattle.runs.specs.Answer.{answerOf, Answers}
-use Rattle.direct.specs.Answer.{grownAs, growCommit, Grew, Grows, fairGrow, Releases, heldRelease}
+use Rattle.direct.specs.Answer.{grownAs, Releases}
+use Rattle.direct.specs.way.Acts.{growCommit, Grew, Grows, fairGrow, heldRelease}
 use Rattle.holes.proofs.Acts.{fair-record, grow-acts}
 use Rattle.holes.proofs.PlanLaws.{clamp-commit, clamp-growth, clamp-grow, clamped-le}
 

@@ -23,11 +23,11 @@ use Rattle.direct.specs.declared.Report.the-variants.{Told, Refused}
 use Rattle.arena.specs.Load.{loadStore, loadArena}
 use Rattle.arena.specs.Fair.{recordFair, countsFair, allCountsFair, reportFair}
 use Rattle.arena.specs.Calls.{parkedRuns, figures}
-use Rattle.holes.specs.Record.{recordOf}
+use Rattle.holes.specs.way.Record.{recordOf}
 use Rattle.holes.proofs.Acts.{fair-record}
-use Rattle.runs.specs.Asks.{BookIn}
+use Rattle.runs.specs.way.Asks.{BookIn}
 use Rattle.direct.specs.Answer.{reportOf}
-use Rattle.direct.specs.Asks.{CountsIn, parkedMax, Parks}
+use Rattle.direct.specs.way.Asks.{CountsIn, parkedMax, Parks}
 
 -- ---- number 13, class by class
 module _ (b : List ℕ) (c x : ℕ) (e : x ≡ get b (class emptyCount c)) where

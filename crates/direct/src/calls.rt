@@ -16,10 +16,11 @@ ghost use Rattle.model.specs.Heap.{badRun, badGrowth, direct};
 ghost use Rattle.arena.specs.Owners.{ownerCode};
 ghost use Rattle.arena.specs.Fair.{growFair};
 ghost use Rattle.arena.specs.Calls.{commitCall, releaseCall, growCall, containsCall};
-ghost use Rattle.holes.specs.Act.{clamped, growActs};
-ghost use Rattle.runs.specs.Asks.{BookIn};
+ghost use Rattle.holes.specs.way.Act.{clamped, growActs};
+ghost use Rattle.runs.specs.way.Asks.{BookIn};
 ghost use Rattle.runs.specs.Answer.{Answers};
-ghost use Rattle.direct.specs.Answer.{growCommit, Releases, Grows, Grew, fairGrow, heldRelease};
+ghost use Rattle.direct.specs.Answer.{Releases};
+ghost use Rattle.direct.specs.way.Acts.{growCommit, Grows, Grew, fairGrow, heldRelease};
 
 fn bad_run(pages: u64) -> bool
     ensures { λ r. ⌜ r ≡ badRun pages ⌝ }

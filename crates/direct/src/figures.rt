@@ -11,9 +11,9 @@ ghost use lib.ListN.{length};
 ghost use Rattle.model.specs.Heap.{parkedPages};
 ghost use Rattle.arena.specs.Fair.{countsFair, allCountsFair, reportFair};
 ghost use Rattle.arena.specs.Calls.{parkedRuns, figures};
-ghost use Rattle.runs.specs.Asks.{BookIn};
+ghost use Rattle.runs.specs.way.Asks.{BookIn};
 ghost use Rattle.direct.specs.Answer.{reportOf};
-ghost use Rattle.direct.specs.Asks.{RowIn, CountsIn, Parks};
+ghost use Rattle.direct.specs.way.Asks.{RowIn, CountsIn, Parks};
 
 // A class's counts of parked runs are in their range.
 fn counts_fair(meta: &[u32], c: u32) -> bool

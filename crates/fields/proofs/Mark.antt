@@ -13,7 +13,7 @@ use lib.ListN.{length, getD, set}
 use lib.Pow.{pow-pos, pow-add, pow-mono, ones-lt, high-ones, shl-exact, shr-shr, mod-pow-add, recompose}
 use lib.Seq.{getD-set-same, set-getD, set-set}
 use Rattle.fields.specs.Field.{bits, place, out, slot, put}
-use Rattle.fields.specs.Mark.{markOut}
+use Rattle.fields.specs.way.Mark.{markOut}
 use Rattle.fields.proofs.Parts.{below, read-le, read-place-other}
 use Rattle.fields.proofs.Shifts.{one-shl}
 

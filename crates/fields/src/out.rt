@@ -3,7 +3,7 @@ ghost use mathlib.Core.Path.{_≡_};
 ghost use Prim.Native.Nat.{_+_, _*_, _≤_, _<_};
 ghost use Rattle.fields.specs.Clear.{clearOut};
 ghost use Rattle.fields.specs.Field.{mark, out, word, Has, get, put};
-ghost use Rattle.fields.specs.Mark.{markOut, outsAt, flipWord};
+ghost use Rattle.fields.specs.way.Mark.{markOut, outsAt, flipWord};
 use crate::bits::place_bits;
 use crate::bits::read_bits;
 use crate::bits::set_ones;

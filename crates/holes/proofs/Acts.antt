@@ -32,12 +32,12 @@ use Rattle.model.proofs.Placing.{finds}
 use Rattle.holes.specs.declared.Arena.{Arena as Record}
 use Rattle.arena.specs.Load.{statusOf, statusCode, loadHole, loadHoles, loadStore, loadArena}
 use Rattle.arena.specs.Store.{storeHole, storeHoles, storeArena}
-use Rattle.holes.specs.Record.{recordOf, storeRecord, advanced, counted}
+use Rattle.holes.specs.way.Record.{recordOf, storeRecord, advanced, counted}
 use Rattle.arena.specs.Fair.{recordFair, holeEndsFair, holesEndFair, holeFair, holesFair, commitFair}
 use Rattle.arena.specs.Owners.{ownerCode, own}
-use Rattle.holes.specs.Plan.{indexCode, planAs, planOf, neighboursOf}
+use Rattle.holes.specs.way.Plan.{indexCode, planAs, planOf, neighboursOf}
 use Rattle.arena.specs.Calls.{Committed, settledArena, readyArena, arenaAs, committedArena, grownArena, advance, passedTo, committed, commitFor, given, grownBy, grownBook, growBook}
-use Rattle.holes.specs.Act.{withState, touching, giveWords, giveRecord, drawWords, drawRecord, endNone, endRun, endGiven, settle, fromFrontier, holeDrawn, commitDrawn, commitPlanned, planned, commitRead, commitActs, givenWith, giveActs, growWith, growActs}
+use Rattle.holes.specs.way.Act.{withState, touching, giveWords, giveRecord, drawWords, drawRecord, endNone, endRun, endGiven, settle, fromFrontier, holeDrawn, commitDrawn, commitPlanned, planned, commitRead, commitActs, givenWith, giveActs, growWith, growActs}
 use Rattle.holes.proofs.StoreLaws.{holes-length, holes-kept, holes-set, holes-removed, loaded-at, removed-length}
 use Rattle.holes.proofs.Joins.{holds, place-stands, no-place}
 use Rattle.holes.proofs.EndsFair.{every-at, every-weaker, take-fair}

@@ -25,7 +25,7 @@ use Rattle.arena.specs.Store.{storeHole}
 use Rattle.arena.specs.Fair.{holeEndsFair}
 use Rattle.arena.proofs.Frames.{loaded-length}
 use Rattle.holes.specs.declared.Arena.{Arena as Record}
-use Rattle.holes.specs.Act.{drawWords, drawRecord}
+use Rattle.holes.specs.way.Act.{drawWords, drawRecord}
 use Rattle.holes.proofs.StoreLaws.{loaded-set, loaded-at, loaded-last, loaded-front}
 
 module _ (t : Hole → Bool) where

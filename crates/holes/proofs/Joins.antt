@@ -23,9 +23,9 @@ use Rattle.arena.specs.Load.{loadHole, loadHoles}
 use Rattle.arena.specs.Store.{storeHole, storeHoles}
 use Rattle.arena.proofs.Frames.{loaded-length}
 use Rattle.holes.specs.declared.Arena.{Arena as Record}
-use Rattle.holes.specs.Record.{abandoning}
-use Rattle.holes.specs.Plan.{indexCode}
-use Rattle.holes.specs.Act.{withHoles, bothWords, placeWords, placeRecord}
+use Rattle.holes.specs.way.Record.{abandoning}
+use Rattle.holes.specs.way.Plan.{indexCode}
+use Rattle.holes.specs.way.Act.{withHoles, bothWords, placeWords, placeRecord}
 use Rattle.holes.proofs.StoreLaws.{hole-comm, hole-kept, holes-kept, holes-set, holes-append, loaded-at, loaded-last, loaded-front, set-past}
 
 -- ---- one hole of a list set: what is before the last, and the last

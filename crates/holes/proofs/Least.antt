@@ -15,8 +15,8 @@ use Rattle.model.specs.declared.Hole.{Hole}
 use Rattle.model.specs.HoleStore.{goesBefore, Fit, fitAt, nearer, leastFit, indexOf}
 use Rattle.arena.specs.Fair.{holeFair}
 use Rattle.holes.specs.declared.holes.Best.{Best}
-use Rattle.holes.specs.Plan.{indexCode, planAs, planOf}
-use Rattle.holes.specs.Scan.{over, key, noBest, betterOf, weighed, bestOf, codeAt}
+use Rattle.holes.specs.way.Plan.{indexCode, planAs, planOf}
+use Rattle.holes.specs.way.Scan.{over, key, noBest, betterOf, weighed, bestOf, codeAt}
 
 -- ---- one hole
 module _ (need i k : ℕ) (h : Hole) (b : Best) (e : k ≡ key need h) where

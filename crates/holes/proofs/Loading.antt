@@ -11,7 +11,7 @@ use lib.ListN.{length, getD}
 use Rattle.facts.specs.Lists.{every}
 use Rattle.model.specs.declared.Hole.{Hole}
 use Rattle.arena.specs.Load.{loadHole, loadHoles}
-use Rattle.holes.specs.Scan.{weighed}
+use Rattle.holes.specs.way.Scan.{weighed}
 
 -- ---- in their range
 pub and-true : (t : Bool) → (t && true) ≡ t

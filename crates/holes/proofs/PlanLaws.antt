@@ -21,11 +21,11 @@ use Rattle.model.proofs.StoreLaws.{Chosen, at-hole, no-hole, chosen}
 use Rattle.holes.specs.declared.Arena.{Arena}
 use Rattle.holes.specs.declared.Plan.{Plan}
 use Rattle.arena.specs.Load.{loadHole, loadHoles}
-use Rattle.holes.specs.Record.{recordOf}
+use Rattle.holes.specs.way.Record.{recordOf}
 use Rattle.arena.specs.Fair.{recordFair, holeFair, holesFair, growGives, growFair}
-use Rattle.holes.specs.Plan.{indexCode}
+use Rattle.holes.specs.way.Plan.{indexCode}
 use Rattle.arena.specs.Calls.{commitRefused, commitFor}
-use Rattle.holes.specs.Act.{endNone, fromFrontier, commitDrawn, nextState, withState, commitPlanned, planned, commitRead, commitActs, growWith, growActs, clamped}
+use Rattle.holes.specs.way.Act.{endNone, fromFrontier, commitDrawn, nextState, withState, commitPlanned, planned, commitRead, commitActs, growWith, growActs, clamped}
 use Rattle.arena.proofs.Frames.{loaded-length}
 use Rattle.holes.proofs.StoreLaws.{loaded-at}
 use Rattle.holes.proofs.EndsFair.{every-at}

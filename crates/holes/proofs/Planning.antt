@@ -19,8 +19,8 @@ use Rattle.holes.specs.declared.holes.Best.{Best}
 use Rattle.holes.specs.declared.holes.Beside.{Beside}
 use Rattle.holes.specs.declared.holes.Edges.{Edges}
 use Rattle.holes.specs.declared.Plan.{Plan}
-use Rattle.holes.specs.Plan.{planAs, planOf, Searches, neighboursOf}
-use Rattle.holes.specs.Scan.{noBest, betterOf, weighed, bestOf, codeAt, noBeside, besideAt}
+use Rattle.holes.specs.way.Plan.{planAs, planOf, Searches, neighboursOf}
+use Rattle.holes.specs.way.Scan.{noBest, betterOf, weighed, bestOf, codeAt, noBeside, besideAt}
 use Rattle.holes.proofs.Loading.{and-true, part-fair, part-weighed}
 use Rattle.holes.proofs.Least.{plan-is}
 use Rattle.holes.proofs.Touching.{neighbours-are, all-ends-fair}

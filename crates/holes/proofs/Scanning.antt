@@ -8,7 +8,7 @@ use mathlib.Core.List.{List}
 use lib.ListN.{length, getD, take, drop, drop-of-length-le}
 use lib.Seq.{drop-cons, getD-take, length-take-le}
 use Rattle.model.specs.declared.Hole.{Hole}
-use Rattle.holes.specs.Scan.{noHole, weighed}
+use Rattle.holes.specs.way.Scan.{noHole, weighed}
 
 -- what the holes at j and on come to, where the first stands at the index `from`
 abbrev pub weighedFrom : {X : Type 0} → (ℕ → Hole → X → X) → ℕ → ℕ → List Hole → X → ℕ → X

@@ -18,7 +18,7 @@ use denote.Exit.{yes, Last}
 use denote.Signature.{Signature, plain, shrSliceOf}
 use denote.Laws.{Typed}
 use denote.Triple.Clauses.{Ended, Clauses, closing}
-use Rattle.holes.specs.Scan.{noHole, weighed, betterOf, besideAt}
+use Rattle.holes.specs.way.Scan.{noHole, weighed, betterOf, besideAt}
 use Rattle.model.specs.declared.Hole.{Hole}
 use Rattle.holes.proofs.Calling.{Plain}
 use Rattle.holes.proofs.Proving.{Walks}

@@ -15,8 +15,8 @@ use Rattle.model.specs.declared.Hole.{Hole}
 use Rattle.model.specs.HoleStore.{next, lowestThat, endsAt, startsAt, holeBefore, holeAfter}
 use Rattle.arena.specs.Fair.{holeFair, holeEndsFair}
 use Rattle.holes.specs.declared.holes.Edges.{Edges}
-use Rattle.holes.specs.Plan.{indexCode, neighboursOf}
-use Rattle.holes.specs.Scan.{noBeside, weighed, besideOf}
+use Rattle.holes.specs.way.Plan.{indexCode, neighboursOf}
+use Rattle.holes.specs.way.Scan.{noBeside, weighed, besideOf}
 
 -- the code of an index behind i others
 abbrev codeBehind : ℕ → Option ℕ → ℕ

@@ -1,5 +1,1 @@
-pub mod Record
-pub mod Plan
-pub mod Act
-pub mod Scan
-pub mod Change
+pub mod way

@@ -8,7 +8,7 @@ ghost use lib.ListN.{length, getD, take};
 ghost use Rattle.fields.specs.Field.{hole, pages, Has};
 ghost use Rattle.arena.specs.Load.{loadHole};
 ghost use Rattle.arena.specs.Fair.{holeFair};
-ghost use Rattle.holes.specs.Scan.{noHole, key, betterOf, bestOf, besideAt, besideOf};
+ghost use Rattle.holes.specs.way.Scan.{noHole, key, betterOf, bestOf, besideAt, besideOf};
 
 pub fn hole_at(holes: &[Hole], i: usize) -> Hole
     requires { ⌜ i < length (now holes) ⌝ }

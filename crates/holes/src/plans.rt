@@ -18,8 +18,8 @@ ghost use Rattle.facts.specs.Lists.{every};
 ghost use Rattle.model.specs.HoleStore.{holeSlots};
 ghost use Rattle.arena.specs.Load.{loadHoles};
 ghost use Rattle.arena.specs.Fair.{holeFair};
-ghost use Rattle.holes.specs.Plan.{planOf, Searches, neighboursOf};
-ghost use Rattle.holes.specs.Scan.{bestOf, codeAt, besideOf};
+ghost use Rattle.holes.specs.way.Plan.{planOf, Searches, neighboursOf};
+ghost use Rattle.holes.specs.way.Scan.{bestOf, codeAt, besideOf};
 
 // What a search answers where a hole is out of its range: it is beyond every code.
 pub const UNFAIR: u64 = 4_294_967_296;

@@ -5,7 +5,7 @@ ghost use mathlib.Core.Path.{_≡_};
 ghost use Prim.Native.Nat.{_+_, _≤_, _<_, _^_};
 ghost use mathlib.Core.Bool.{cond};
 ghost use Rattle.model.specs.Arena.{more};
-ghost use Rattle.holes.specs.Change.{drawnBy, gainedBy};
+ghost use Rattle.holes.specs.way.Change.{drawnBy, gainedBy};
 
 // What a commit comes to: the state and the number of holes that it leaves, the pages that the frontier moves on by or that the
 // holes lose, and whether it is counted, as a commit and as a reuse.

@@ -15,7 +15,7 @@ use Rattle.fields.proofs.Clear.{length-clear, clear-more, marks-past-out}
 use Rattle.words.specs.Host.{digit}
 use Rattle.pages.specs.Runs.{nameRun}
 use Rattle.pages.specs.Stack.{downs, push}
-use Rattle.pages.specs.Asks.{StockAsks, CarveAsks, ClearAsks}
+use Rattle.pages.specs.way.Asks.{StockAsks, CarveAsks, ClearAsks}
 use Rattle.pages.specs.Carve.{stocked, carveAnew, bareBits, bareRun, newRun}
 use Rattle.pages.proofs.Downs.{length-downs}
 use Rattle.pages.proofs.Frames.{stocked-le}

@@ -12,7 +12,7 @@ use Rattle.fields.specs.Outcome.{putAt}
 use Rattle.fields.proofs.Laws.{get-put-other, length-put}
 use Rattle.pages.specs.declared.Park.{Park}
 use Rattle.pages.specs.declared.Park.the-variants.{Empty, Cold}
-use Rattle.pages.specs.Asks.{LinkAsks, WakeAsks}
+use Rattle.pages.specs.way.Asks.{LinkAsks, WakeAsks}
 use Rattle.pages.specs.Links.{pointNext, linked, cutOut, link, unlink, top, stored, stow, unstow, wake}
 
 pub pointNext-none : (b b′ : List ℕ) (c code v : ℕ) → code ≡ 0 → b′ ≡ put b (class partial c) v → b′ ≡ pointNext b c code v

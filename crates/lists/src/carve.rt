@@ -6,7 +6,7 @@ ghost use Rattle.fields.specs.Field.{mark, put};
 ghost use Rattle.words.specs.Host.{digit};
 ghost use Rattle.pages.specs.Stack.{downs, push};
 ghost use Rattle.pages.specs.Carve.{stocked, carveAnew, bareBits, newRun};
-ghost use Rattle.pages.specs.Asks.{StockAsks, CarveAsks, ClearAsks, NewAsks};
+ghost use Rattle.pages.specs.way.Asks.{StockAsks, CarveAsks, ClearAsks, NewAsks};
 use crate::runs::name_run;
 use classes::Shape;
 use words::Word;

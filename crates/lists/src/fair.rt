@@ -1,7 +1,7 @@
 // Number 13 on a page's words and on a class's stores: each is in its range.
 ghost use mathlib.Core.Path.{_≡_};
 ghost use Rattle.pages.specs.Fair.{headerFair, linksFair, storeFair};
-ghost use Rattle.pages.specs.Asks.{PageAsks, RowAsks};
+ghost use Rattle.pages.specs.way.Asks.{PageAsks, RowAsks};
 use crate::stores::store_count;
 use crate::stores::store_top;
 use classes::Shape;

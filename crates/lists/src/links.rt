@@ -5,7 +5,7 @@ ghost use lib.ListN.{length};
 ghost use Rattle.fields.specs.Field.{prev, words};
 ghost use Rattle.fields.specs.Outcome.{putAt};
 ghost use Rattle.pages.specs.Links.{pointNext, linked, cutOut, link, unlink};
-ghost use Rattle.pages.specs.Asks.{LinkAsks, CutAsks, UnlinkAsks};
+ghost use Rattle.pages.specs.way.Asks.{LinkAsks, CutAsks, UnlinkAsks};
 
 // PREV of the page that a code stands for, where it stands for one.
 fn set_prev_at(meta: &mut [u32], code: u32, v: u32)

@@ -3,7 +3,7 @@ ghost use mathlib.Core.Path.{_≡_};
 ghost use Prim.Native.Nat.{_+_};
 ghost use Rattle.facts.specs.Lists.{every, below};
 ghost use Rattle.pages.specs.Runs.{ofRun, whole, nameRun};
-ghost use Rattle.pages.specs.Asks.{OfRunAsks, WholeAsks, RunAsks};
+ghost use Rattle.pages.specs.way.Asks.{OfRunAsks, WholeAsks, RunAsks};
 use classes::Shape;
 
 // Page k of the run at q is the class's, and names q.

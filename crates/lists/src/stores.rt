@@ -2,7 +2,7 @@
 ghost use mathlib.Core.Path.{_≡_};
 ghost use Rattle.fields.specs.Field.{class, get, put};
 ghost use Rattle.pages.specs.Links.{top, stored, stow, unstow, wake};
-ghost use Rattle.pages.specs.Asks.{RowAsks, ParkAsks, UnparkAsks, WakeAsks};
+ghost use Rattle.pages.specs.way.Asks.{RowAsks, ParkAsks, UnparkAsks, WakeAsks};
 use crate::links::link_partial;
 use pages::Park;
 

@@ -10,7 +10,7 @@ use lib.ListN.{length, take, length-reverse, length-take}
 use lib.Seq.{take-append-seam, take-nil}
 use borrow.Author.Tests.{ne-eqb}
 use Rattle.classes.specs.declared.Shape.{Shape}
-use Rattle.classes.specs.Sound.{Sound}
+use Rattle.classes.specs.way.Sound.{Sound}
 use Rattle.model.specs.Calls.{blocksOf}
 use Rattle.model.specs.Page.{Page, isMedium, wordOf, wordsFrom, carveAs, carvedNow, pop}
 use Rattle.model.specs.Class.{Result, after, fillFromList, served, onRun}

@@ -11,7 +11,7 @@ use Rattle.facts.specs.Lists.{isNil, All, total, elem, count}
 use Rattle.facts.proofs.Bools.{by-cases, and-right}
 use Rattle.classes.specs.declared.Shape.{Shape}
 use Rattle.classes.specs.Shape.{shapeOf}
-use Rattle.classes.specs.Sound.{Sound}
+use Rattle.classes.specs.way.Sound.{Sound}
 use Rattle.classes.proofs.Shapes.{shape-sound}
 use Rattle.rules.specs.Rules.{Rules}
 use Rattle.model.specs.Calls.{Call}

@@ -13,7 +13,7 @@ use Rattle.facts.proofs.Bools.{by-cases, and-left, and-right}
 use Rattle.model.specs.Cover.{covers}
 use Rattle.words.specs.Word.{kindBits}
 use Rattle.classes.specs.declared.Shape.{Shape}
-use Rattle.classes.specs.Sound.{Sound}
+use Rattle.classes.specs.way.Sound.{Sound}
 use Rattle.model.specs.Page.{Page, pageGranules, wordOf, wordsFrom, isMedium, carveAs, carve, carvedWords, isOut, noneOut, carvedNow, pop, returned, retire, reused}
 use Rattle.model.specs.Class.{Cold, Filled, stays, after, fillFromList, thawed}
 use Rattle.model.proofs.Counts.{count-append, count-reverse, count-cut, elem-count, count-elem, every-count}

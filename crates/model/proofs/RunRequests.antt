@@ -14,7 +14,7 @@ use Rattle.facts.specs.Lists.{isNil, filter, every, elem, any, distinct, count}
 use Rattle.facts.proofs.Bools.{by-cases, and-left, and-right, and-no}
 use Rattle.words.specs.Word.{countOf, pageOf}
 use Rattle.classes.specs.declared.Shape.{Shape}
-use Rattle.classes.specs.Sound.{Sound}
+use Rattle.classes.specs.way.Sound.{Sound}
 use Rattle.rules.specs.declared.Limits.{Limits}
 use Rattle.model.specs.Calls as Calls
 use Rattle.model.specs.Calls.{Request, hostOf, releasedBy}

@@ -10,7 +10,7 @@ use Rattle.facts.specs.Lists.{total, any, elem, count}
 use Rattle.facts.proofs.Bools.{by-cases, and-left, and-no}
 use Rattle.words.specs.Host.{discardZeroed}
 use Rattle.classes.specs.declared.Shape.{Shape}
-use Rattle.classes.specs.Sound.{Sound}
+use Rattle.classes.specs.way.Sound.{Sound}
 use Rattle.model.specs.Cover.{covers}
 use Rattle.model.specs.Page.{Page, isMedium, isOut, carvedWords, wordsFrom, reused}
 use Rattle.model.specs.Class.{Class, Cold, thawed}

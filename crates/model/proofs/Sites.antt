@@ -10,7 +10,7 @@ use borrow.Author.Tests.{eqb-true, leb-true, leb-false}
 use Rattle.facts.specs.Lists.{All, total, isSome}
 use Rattle.facts.proofs.Bools.{by-cases}
 use Rattle.classes.specs.declared.Shape.{Shape}
-use Rattle.classes.specs.Sound.{Sound}
+use Rattle.classes.specs.way.Sound.{Sound}
 use Rattle.model.specs.Page.{Page, isOut}
 use Rattle.model.specs.Class.{Class}
 use Rattle.model.specs.Release.{Found, find, prepend, Site, inPartial, inFull, orElse, mapFound, locate, outHere}

@@ -10,7 +10,7 @@ use borrow.Author.Tests.{eqb-true, eq-eqb}
 use Rattle.facts.specs.Lists.{every, elem, count}
 use Rattle.facts.proofs.Bools.{by-cases}
 use Rattle.classes.specs.declared.Shape.{Shape}
-use Rattle.classes.specs.Sound.{Sound}
+use Rattle.classes.specs.way.Sound.{Sound}
 use Rattle.model.specs.Page.{Page, carvedWords, noneOut}
 use Rattle.model.proofs.Counts.{count-append, count-elem}
 use Rattle.model.proofs.NewRun.{length-words}

@@ -3,4 +3,4 @@ pub mod Stack
 pub mod Links
 pub mod Carve
 pub mod Fair
-pub mod Asks
+pub mod way

@@ -12,7 +12,7 @@ use Rattle.facts.specs.Lists.{below, every}
 use Rattle.facts.proofs.Bools.{by-cases}
 use Rattle.classes.specs.declared.Shape.{Shape}
 use Rattle.classes.specs.Shape.{shapeOf}
-use Rattle.classes.specs.Sound.{Sound}
+use Rattle.classes.specs.way.Sound.{Sound}
 use Rattle.classes.proofs.Shapes.{shape-sound}
 use Rattle.rules.specs.declared.Limits.{Limits}
 use Rattle.rules.specs.Rules.{Rules}
@@ -32,7 +32,7 @@ use Rattle.pool.specs.Stock.{blank}
 use Rattle.pool.specs.Pool as Pools
 use Rattle.pool.specs.Pool.{Pool, newPool, PoolCall, Plan, Wish, PoolAnswer, Done, to, direct, Direct, trim, turn, stays, poolStep, carry, pass, plan, bring, ends, callFor, callBy, noBlock, refused}
 use Rattle.pool.specs.Told.{PoolEvent, eventOf, poolEventsFrom, poolEvents, isOf, poolCallsOf, poolAnswersOf, poolRunsOf}
-use Rattle.pool.specs.Claims.{PoolAlone}
+use Rattle.pool.specs.way.Claims.{PoolAlone}
 use Rattle.pool.proofs.Lives.{direct-none}
 use Rattle.pool.proofs.Plans.{Planned, is-turned, is-popped, is-taken, is-put, is-given, is-bare, is-trimmed, planned}
 use Rattle.pool.proofs.HeapCalls.{step-take, step-give, take-done}

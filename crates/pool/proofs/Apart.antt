@@ -20,7 +20,7 @@ use Rattle.model.proofs.Accounts.{not-direct}
 use Rattle.model.proofs.Apart.{in-one, at-self, entry-held, entry-inside, entry-kind, class-same, word-same}
 use Rattle.pool.specs.Pool.{Pool, PoolCall}
 use Rattle.pool.specs.Told.{toldOf, poolEvents}
-use Rattle.pool.specs.Claims.{PoolDisjoint}
+use Rattle.pool.specs.way.Claims.{PoolDisjoint}
 use Rattle.pool.proofs.Kept.{PoolInv, pool-kept, at-most}
 
 has-byte : (e e′ : Entry) (b : ℕ) → e′ .class ≡ e .class → e′ .word ≡ e .word → HasByte e b → HasByte e′ b

@@ -22,7 +22,7 @@ use Rattle.model.proofs.Sites.{here-out}
 use Rattle.model.proofs.Theorems.{yielding}
 use Rattle.pool.specs.Pool.{Pool, newPool, PoolCall, to, trim, poolStep, plan, planTrim, carry, ends}
 use Rattle.pool.specs.Told.{toldOf, poolEvents, poolFrom, poolAfter, heapCalls}
-use Rattle.pool.specs.Claims.{AllocNone, Conserved}
+use Rattle.pool.specs.way.Claims.{AllocNone, Conserved}
 use Rattle.pool.proofs.Kept.{PoolInv, PoolKept, pool-kept, call-kept, at-most}
 use Rattle.pool.proofs.Frees.{out-there, stock-out, gives, told-out, out-told, none-when}
 use Rattle.pool.proofs.OnHeap.{on-heap}

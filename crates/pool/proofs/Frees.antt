@@ -15,7 +15,7 @@ use Rattle.words.specs.Limits.{maxPages}
 use Rattle.words.specs.Word.{kindOf}
 use Rattle.words.specs.Host.{badHost}
 use Rattle.classes.specs.declared.Shape.{Shape}
-use Rattle.classes.specs.Sound.{Sound}
+use Rattle.classes.specs.way.Sound.{Sound}
 use Rattle.classes.specs.Shape.{shapeOf, classCount}
 use Rattle.classes.proofs.Shapes.{shape-sound}
 use Rattle.rules.specs.declared.Limits.{Limits}
@@ -40,7 +40,8 @@ use Rattle.model.proofs.Yields.{served-yields, thawed-more, new-more}
 use Rattle.pool.specs.Stock.{stockMost, blank}
 use Rattle.pool.specs.Pool.{Pool, PoolCall, Plan, Wish, to, alloc, free, turn, poolStep, carry, plan, planFree, planAlloc, isGranted, bring, ends, callFor, refused, noBlock, freed, trimmed}
 use Rattle.pool.specs.Told.{toldOf, poolEvents, poolAfter}
-use Rattle.pool.specs.Claims.{Bare, Frees, Unchanged}
+use Rattle.pool.specs.way.Claims.{Frees, Unchanged}
+use Rattle.pool.specs.Bare.{Bare}
 use Rattle.pool.proofs.Kept.{PoolInv, pool-kept, at-most, grant-one}
 use Rattle.pool.proofs.Plans.{Planned, is-turned, is-popped, is-taken, is-put, is-given, is-bare, is-trimmed, planned, plan-low}
 use Rattle.pool.proofs.HeapCalls.{step-take, step-give, give-done, take-done, take-few, Within, take-within}

@@ -14,7 +14,7 @@ use Rattle.classes.specs.Shape.{shapeOf, classCount}
 use Rattle.rules.specs.declared.Limits.{Limits}
 use Rattle.model.specs.Calls as Calls
 use Rattle.model.specs.Calls.{Answer, hostIn, wayOf, blocksOf, isRefused, take, giveBack}
-use Rattle.classes.specs.Sound.{Sound}
+use Rattle.classes.specs.way.Sound.{Sound}
 use Rattle.model.specs.Page.{Page, isOut, carve, reused}
 use native.Mathlib.Omega.{arith}
 use lib.ListN.{length, drop, length-append}

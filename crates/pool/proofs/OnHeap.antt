@@ -14,7 +14,7 @@ use Rattle.model.specs.Entries.{Entry}
 use Rattle.model.proofs.Pages.{all-append}
 use Rattle.pool.specs.Pool.{Pool, newPool, PoolCall, Plan, Wish, Direct, to, direct, turn, stays, goes, poolStep, carry, pass, plan}
 use Rattle.pool.specs.Told.{poolFrom, heapCallsFrom}
-use Rattle.pool.specs.Claims.{OnHeap}
+use Rattle.pool.specs.way.Claims.{OnHeap}
 use Rattle.pool.proofs.Lives.{direct-none}
 use Rattle.pool.proofs.Plans.{Planned, is-turned, is-popped, is-taken, is-put, is-given, is-bare, is-trimmed, planned}
 use Rattle.pool.proofs.Kept.{PoolInv, PoolKept, call-kept, new-kept, grant-one}

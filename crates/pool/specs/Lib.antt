@@ -1,4 +1,5 @@
 pub mod Stock
 pub mod Pool
 pub mod Told
-pub mod Claims
+pub mod Bare
+pub mod way

@@ -32,7 +32,7 @@ use Rattle.arena.specs.Owners.{ownerCode}
 use Rattle.arena.specs.Load.{loadArena}
 use Rattle.arena.specs.Fair.{commitFair, growFair, giveFair}
 use Rattle.arena.specs.Calls.{commitFor, commitCall, growCall, releaseCall, heldDirect}
-use Rattle.refinement.specs.Represents.{Represents}
+use Rattle.refinement.specs.way.Represents.{Represents}
 use Rattle.refinement.specs.Direct.{directReply}
 use Rattle.refinement.specs.Run.{classReply, replyAs, callReply}
 use Rattle.refinement.proofs.ArenaFrames.{committed-changes, grown-changes, given-changes}
@@ -47,7 +47,7 @@ use Rattle.refinement.proofs.LocalFill.{Home}
 use Rattle.refinement.proofs.LocalArena.{ArenaIn, in-arena, in-hole, committed-in, grown-in, given-in}
 use Rattle.refinement.proofs.Lengths.{Ours, reply-long}
 use Rattle.refinement.proofs.LocalReply.{Abroad, reply-local, ours-row}
-use Rattle.poolrefinement.specs.Represents.{heapWord}
+use Rattle.poolcalls.specs.HeapWords.{heapWord}
 
 pub not-mix : (S : ℕ → Bool) (b d : List ℕ) (i : ℕ) → S i ≡ false → length b ≡ length d → getD (mix S b d) i 0 ≡ getD d i 0
 unfolding mix

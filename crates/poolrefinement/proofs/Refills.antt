@@ -25,7 +25,7 @@ use Rattle.model.proofs.EntryCounts.{is}
 use Rattle.model.proofs.Counts.{elem-count, count-not, count-reverse}
 use Rattle.model.proofs.Update.{update-same, update-other, other-way}
 use Rattle.calls.specs.Take.{Took, takeCall}
-use Rattle.refinement.specs.Represents.{Represents}
+use Rattle.refinement.specs.way.Represents.{Represents}
 use Rattle.refinement.specs.Direct.{Agrees}
 use Rattle.refinement.specs.Classes.{takeReply}
 use Rattle.refinement.proofs.ArenaReached.{Reached}
@@ -41,7 +41,8 @@ use Rattle.pool.proofs.Frees.{took-done, took-few, took-within}
 use Rattle.poolcalls.specs.Stock.{countIn, entryIn, blockIn, filled}
 use Rattle.poolcalls.specs.Calls.{Said, said, bringOn, tookOn, allocOn}
 use Rattle.poolcalls.proofs.Laws.{in-stock}
-use Rattle.poolrefinement.specs.Represents.{heapWord, StockRep, PoolRep, PoolAgrees}
+use Rattle.poolrefinement.specs.way.Represents.{StockRep, PoolRep, PoolAgrees}
+use Rattle.poolcalls.specs.HeapWords.{heapWord}
 use Rattle.poolrefinement.proofs.Frame.{class-frame, represents-still}
 use Rattle.poolrefinement.proofs.Stocks.{stock-still, Fresh, Off, filled-own, filled-other, filled-changes}
 use Rattle.poolrefinement.proofs.Wishes.{granule-of, stocks-with, code-zero, none-count}

@@ -15,7 +15,7 @@ use Rattle.arena.specs.Open.{opened, ruled, cleared, headWords}
 use Rattle.model.specs.Calls.{Call}
 use Rattle.model.specs.Heap.{step}
 use Rattle.model.specs.History.{heapAfter}
-use Rattle.refinement.specs.Represents.{Represents}
+use Rattle.refinement.specs.way.Represents.{Represents}
 use Rattle.refinement.specs.Direct.{Agrees}
 use Rattle.refinement.specs.Run.{callReply}
 use Rattle.refinement.proofs.OpenRep.{opened-represents, cleared-at}
@@ -25,8 +25,10 @@ use Rattle.pool.specs.Told.{poolFrom, poolAfter, poolEventsFrom, heapCalls}
 use Rattle.pool.proofs.OnHeap.{on-heap}
 use Rattle.pool.proofs.Conserved.{pool-append}
 use Rattle.poolcalls.specs.Stock.{countAt, countIn, stockFrom}
-use Rattle.poolrefinement.specs.Represents.{heapWord, StockRep, PoolRep, PoolAgrees}
-use Rattle.poolrefinement.specs.Run.{onCall, saidFrom, bookFrom, PoolRuns}
+use Rattle.poolrefinement.specs.way.Represents.{StockRep, PoolRep, PoolAgrees}
+use Rattle.poolcalls.specs.HeapWords.{heapWord}
+use Rattle.poolrefinement.specs.Run.{onCall, saidFrom, bookFrom}
+use Rattle.poolrefinement.specs.way.Runs.{PoolRuns}
 use Rattle.poolrefinement.proofs.Frame.{field-in, heap-frame}
 use Rattle.poolrefinement.proofs.Stocks.{stock-still, count-word}
 use Rattle.poolrefinement.proofs.Whole.{pool-agrees}

@@ -19,7 +19,8 @@ use Rattle.fields.proofs.Changes.{Changes, changes-none, changes-trans}
 use Rattle.pool.specs.Stock.{stockRoom}
 use Rattle.poolcalls.specs.Stock.{countAt, entryAt, placeAt, placeBits, countIn, entryIn, placeIn, blockIn, stockFrom, stocked, putEntry, putPlace, putCount, put, pushed, putAll, filled}
 use Rattle.poolcalls.proofs.Laws.{in-stock, stock-in, place-bound, count-count, count-other, entry-count, place-count, count-entry, entry-entry, entry-same, entry-other, place-entry, count-place, entry-place, place-place, place-other}
-use Rattle.poolrefinement.specs.Represents.{ofPlaces, heapWord, StockRep}
+use Rattle.poolrefinement.specs.way.Represents.{StockRep}
+use Rattle.poolcalls.specs.HeapWords.{ofPlaces, heapWord}
 use Rattle.poolrefinement.proofs.Frame.{set-changes}
 
 pub stocked-is : (n : ℕ) (b : List ℕ) (c g : ℕ) (st : List ℕ) → StockRep n b c st → stocked b c g ≡ elem (blockWord (shapeOf c .kind) g) st

@@ -28,7 +28,7 @@ use Rattle.pool.proofs.OnHeap.{on-heap, heap-append}
 use Rattle.pool.proofs.Conserved.{listed-after}
 use Rattle.poolcalls.specs.Stock.{countIn, stockFrom}
 use Rattle.poolcalls.specs.Calls.{Said, said, wishOn}
-use Rattle.poolrefinement.specs.Represents.{PoolRep, PoolAgrees}
+use Rattle.poolrefinement.specs.way.Represents.{PoolRep, PoolAgrees}
 use Rattle.poolrefinement.specs.Run.{askOn}
 use Rattle.poolrefinement.proofs.Wishes.{popped-agrees, put-agrees, given-agrees, trimmed-agrees, bare-agrees, kind-refused, grant-refused}
 use Rattle.poolrefinement.proofs.Refills.{taken-agrees}

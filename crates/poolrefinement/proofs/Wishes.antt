@@ -28,7 +28,7 @@ use Rattle.model.proofs.EntryCounts.{is}
 use Rattle.model.proofs.Counts.{elem-count, count-not}
 use Rattle.calls.specs.Out.{outAt}
 use Rattle.calls.specs.Release.{Released, releaseBlocks}
-use Rattle.refinement.specs.Represents.{Represents}
+use Rattle.refinement.specs.way.Represents.{Represents}
 use Rattle.refinement.specs.Direct.{Agrees}
 use Rattle.refinement.specs.Releases.{listReply}
 use Rattle.refinement.proofs.ArenaReached.{Reached}
@@ -45,7 +45,8 @@ use Rattle.pool.proofs.Frees.{gives}
 use Rattle.poolcalls.specs.Stock.{countAt, countIn, entryIn, blockIn, stockFrom, stocked, put, putCount, pushed}
 use Rattle.poolcalls.specs.Calls.{said, countFair, topFair, allocOn, gaveOn, freedOn, freeOn, trimOn}
 use Rattle.poolcalls.proofs.Laws.{in-stock}
-use Rattle.poolrefinement.specs.Represents.{heapWord, StockRep, PoolRep, PoolAgrees}
+use Rattle.poolrefinement.specs.way.Represents.{StockRep, PoolRep, PoolAgrees}
+use Rattle.poolcalls.specs.HeapWords.{heapWord}
 use Rattle.poolrefinement.proofs.Frame.{class-frame, represents-still}
 use Rattle.poolrefinement.proofs.Stocks.{stocked-is, stock-still, count-word, changes-count, changes-put, counted-other, Top, top-of, pop-own, push-own, push-other}
 

@@ -1,2 +1,2 @@
-pub mod Represents
 pub mod Run
+pub mod way

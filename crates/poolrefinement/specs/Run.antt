@@ -2,17 +2,13 @@
 -- length. Assumes nothing.
 use Prim.Native.Nat.{ℕ}
 use mathlib.Core.Bool.{cond, not}
-use mathlib.Core.List.{List, [], _∷_, map}
-use mathlib.Core.Path.{_≡_}
+use mathlib.Core.List.{List, [], _∷_}
 use lib.Dec.{ltb}
 use Rattle.words.specs.Host.{badHost}
 use Rattle.classes.specs.Shape.{classCount}
-use Rattle.rules.specs.Rules.{Rules}
 use Rattle.refinement.specs.Run.{callReply}
 use Rattle.pool.specs.Pool.{PoolCall, PoolAnswer, Wish, hostIn, to, direct, callBy, answered, refused}
-use Rattle.pool.specs.Told.{poolEvents, poolAfter}
 use Rattle.poolcalls.specs.Calls.{Said, said, wishOn}
-use Rattle.poolrefinement.specs.Represents.{PoolRep}
 
 -- numbers 3 and 4, then the wish
 unfoldable pub askOn : ℕ → List ℕ → ℕ → Wish → Said
@@ -31,8 +27,3 @@ module _ (f : List ℕ → PoolCall → Said) where
   abbrev pub bookFrom : List ℕ → List PoolCall → List ℕ
   bookFrom b [] = b
   bookFrom b (x ∷ xs) = bookFrom (f b x .book) xs
-
--- a history from the book b is answered as the model's, and leaves a book that stands for the model's pool
-pub record PoolRuns (n : ℕ) (rules : Rules) (b : List ℕ) (xs : List PoolCall) : Type 0 where
-  pub answers : saidFrom (onCall n) b xs ≡ map (λ v. v .answer) (poolEvents n rules xs)
-  pub book : PoolRep n (bookFrom (onCall n) b xs) (poolAfter n rules xs)

@@ -20,7 +20,7 @@ use Rattle.model.specs.Heap.{Heap, heldPages}
 use Rattle.model.proofs.IdlePages.{HolesBelow}
 use Rattle.arena.specs.Load.{statusCode, loadHoles, loadStore, loadArena}
 use Rattle.arena.specs.Fair.{holeEndsFair, holesEndFair, holeFair, recordFair, holesFair, commitFair, giveFair, growGives, growFair}
-use Rattle.arena.specs.Represents.{ArenaRep}
+use Rattle.arena.specs.way.Represents.{ArenaRep}
 use Rattle.arena.proofs.Frames.{loaded-length}
 use Rattle.refinement.proofs.ArenaReached.{Reached, reached-holes, held-le}
 

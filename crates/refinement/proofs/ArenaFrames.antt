@@ -33,7 +33,7 @@ use Rattle.arena.specs.Owners.{own, ownRun}
 use Rattle.arena.specs.Calls.{advance, passedTo, committed, commitBook, given, grownBy, grownBook, growBook}
 use Rattle.arena.proofs.Frames.{isStored, arena-changes}
 use Rattle.refinement.proofs.ArenaStored.{Few, commit-stored, grow-stored, stored-changes}
-use Rattle.refinement.specs.Represents.{RuleRep}
+use Rattle.refinement.specs.way.Represents.{RuleRep}
 use Rattle.refinement.proofs.Frames.{rule-kept}
 
 -- ---- which words

@@ -12,7 +12,7 @@ use lib.Dec.{eqb, ltb}
 use borrow.Author.Tests.{eq-eqb, ne-eqb}
 use Rattle.model.specs.Cover.{inRun, covers}
 use Rattle.classes.specs.declared.Shape.{Shape}
-use Rattle.classes.specs.Sound.{Sound}
+use Rattle.classes.specs.way.Sound.{Sound}
 use Rattle.fields.specs.Field.{next, prev, free, carved, listed, virgin}
 use Rattle.fields.proofs.Changes.{Changes}
 use Rattle.model.specs.Page.{Page}
@@ -20,8 +20,8 @@ use Rattle.model.specs.Heap.{Heap, isHeld}
 use Rattle.pages.specs.Runs.{whole}
 use Rattle.pages.specs.declared.Park.{Park}
 use Rattle.arena.specs.Calls.{given}
-use Rattle.arena.specs.Represents.{ArenaRep}
-use Rattle.refinement.specs.Represents.{heads, ClassRep}
+use Rattle.arena.specs.way.Represents.{ArenaRep}
+use Rattle.refinement.specs.way.Represents.{heads, ClassRep}
 use Rattle.refinement.proofs.Basics.{digit-le}
 use Rattle.refinement.proofs.Kept.{Keeps, class-now, class-kept, listed-whole}
 use Rattle.refinement.proofs.ArenaReached.{Reached}

@@ -24,7 +24,7 @@ use Rattle.model.proofs.ArenaLaws.{idle, commit-law, grow-law, grow-rises, give
 use Rattle.pages.specs.Runs.{whole}
 use Rattle.arena.specs.Owners.{ownerCode}
 use Rattle.arena.specs.Calls.{commitBook, given, grownBy, growBook}
-use Rattle.arena.specs.Represents.{ArenaRep}
+use Rattle.arena.specs.way.Represents.{ArenaRep}
 use Rattle.refinement.proofs.ArenaReached.{Reached, heapOf, above-nobody, idle-nobody}
 use Rattle.refinement.proofs.ArenaFair.{loads-frontier}
 use Rattle.refinement.proofs.ArenaFrames.{isStep, inRunOf, either, passed, step-first, committed-changes, grown-changes, given-changes, names, whole-same, whole-names, named-whole}

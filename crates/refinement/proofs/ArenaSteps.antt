@@ -21,7 +21,7 @@ use Rattle.model.specs.Heap.{Heap, Holder, nobody, passTo, heldPages}
 use Rattle.model.specs.Class.{Class}
 use Rattle.arena.specs.Load.{statusCode, loadArena}
 use Rattle.arena.specs.Owners.{ownerCode, own}
-use Rattle.arena.specs.Represents.{ArenaRep}
+use Rattle.arena.specs.way.Represents.{ArenaRep}
 use Rattle.arena.proofs.Frames.{isStored}
 use Rattle.refinement.proofs.ArenaStore.{long-kept, load-kept, load-written}
 use Rattle.refinement.proofs.ArenaStored.{Stored, stored-changes, stored-written}

@@ -7,7 +7,7 @@ use mathlib.Core.Path.{_≡_, refl}
 use lib.Dec.{ltb, leb}
 use lib.ListN.{length}
 use Rattle.classes.specs.declared.Shape.{Shape}
-use Rattle.classes.specs.Sound.{Sound}
+use Rattle.classes.specs.way.Sound.{Sound}
 use Rattle.fields.specs.Field.{words}
 use Rattle.words.specs.Host.{digit}
 pub use Rattle.pages.proofs.Downs.{digit-true, digit-false, digit-le, digit-cases, eq-cases}

@@ -20,7 +20,7 @@ use Rattle.pages.specs.Stack.{tops, downs}
 use Rattle.pages.proofs.Downs.{digit-true, digit-false, digit-cases, eq-cases}
 pub use Rattle.pages.proofs.Downs.{length-downs, count-downs}
 use Rattle.model.proofs.Used.{itself}
-use Rattle.refinement.specs.Represents.{Slots}
+use Rattle.refinement.specs.way.Represents.{Slots}
 use Rattle.refinement.proofs.Basics.{Setting}
 use Rattle.refinement.proofs.Lists.{}
 

@@ -15,7 +15,7 @@ use Rattle.classes.proofs.Shapes.{shape-sound}
 use Rattle.fields.specs.Field.{arena, frontier, get}
 use Rattle.model.specs.Class.{Class}
 use Rattle.model.specs.Heap.{Heap}
-use Rattle.refinement.specs.Represents.{StateRep, Represents}
+use Rattle.refinement.specs.way.Represents.{StateRep, Represents}
 use Rattle.refinement.proofs.ArenaReached.{Reached, heapOf}
 use Rattle.refinement.proofs.ArenaFair.{loads-frontier}
 use Rattle.refinement.proofs.ArenaSteps.{rep-classes}

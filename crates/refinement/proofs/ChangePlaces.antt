@@ -30,7 +30,7 @@ use Rattle.model.proofs.Yields.{yielding}
 use Rattle.calls.specs.Take.{takeCall}
 use Rattle.calls.specs.Release.{releaseBlocks}
 use Rattle.calls.specs.Chunks.{releaseChunks}
-use Rattle.refinement.specs.Represents.{Represents}
+use Rattle.refinement.specs.way.Represents.{Represents}
 use Rattle.refinement.specs.Direct.{Reply, turnedReply}
 use Rattle.refinement.specs.Run.{classReply, callReply}
 use Rattle.refinement.proofs.ArenaReached.{reached-after, heap-next}

@@ -21,7 +21,7 @@ use Rattle.model.specs.Chunks.{startsAt, fitsOn, chunkedOn, chunked}
 use Rattle.model.proofs.Find.{all-at}
 use Rattle.calls.specs.Out.{startOf, outAt}
 use Rattle.calls.specs.Chunks.{blocksOn, chunkFits, chunksMatch}
-use Rattle.refinement.specs.Represents.{PageRep, StateRep}
+use Rattle.refinement.specs.way.Represents.{PageRep, StateRep}
 use Rattle.refinement.proofs.Basics.{Setting}
 use Rattle.refinement.proofs.Found.{Located, nowhere, inList, inNone, located, located-passes, found-at, placed-rep, same-page, out-here}
 

@@ -33,7 +33,7 @@ use Rattle.model.proofs.Find.{pageIn, located-first}
 use Rattle.calls.specs.Out.{outAt}
 use Rattle.calls.specs.Release.{pageFair}
 use Rattle.calls.specs.Chunks.{blocksOn, chunksMatch, returnsAll, runsGiven, pagesGiven, chunksFair, settleChunks, giveRuns, ChunksReleased, chunksNone, releaseChunks}
-use Rattle.refinement.specs.Represents.{Represents}
+use Rattle.refinement.specs.way.Represents.{Represents}
 use Rattle.refinement.specs.Direct.{Agrees}
 use Rattle.refinement.specs.Releases.{chunksReply}
 use Rattle.refinement.proofs.Basics.{Setting, setting-kept}

@@ -35,7 +35,7 @@ use Rattle.calls.specs.Out.{startOf}
 use Rattle.calls.specs.Release.{Released}
 use Rattle.calls.specs.Chunks as Words
 use Rattle.calls.specs.Chunks.{blocksOn, returnsAll, runsGiven, chunkBackAt, givesOf, settleChunks}
-use Rattle.refinement.specs.Represents.{firsts, RuleRep}
+use Rattle.refinement.specs.way.Represents.{firsts, RuleRep}
 use Rattle.refinement.proofs.Basics.{Setting, setting-kept}
 use Rattle.refinement.proofs.Frames.{Only, only-owns, only-trans, only-rule}
 use Rattle.refinement.proofs.Moves.{full-in}

@@ -18,7 +18,7 @@ use Rattle.model.proofs.ArenaLaws.{commit-law, grow-law, grow-rises, grow-bound
 use Rattle.model.proofs.IdlePages.{run-below, commit-below}
 use Rattle.arena.specs.Owners.{ownerCode, own}
 use Rattle.arena.specs.Calls.{advance, passedTo, committed, commitBook, commitFor, grownBy, grownBook, growBook}
-use Rattle.arena.specs.Represents.{ArenaRep}
+use Rattle.arena.specs.way.Represents.{ArenaRep}
 use Rattle.refinement.proofs.ArenaStored.{Stored, commit-stored, grow-stored, stored-few}
 use Rattle.refinement.proofs.ArenaReached.{Reached, heapOf, idle-once, above-nobody}
 use Rattle.refinement.proofs.ArenaFair.{loads-frontier, commit-passes}

@@ -21,7 +21,7 @@ use Rattle.model.specs.Heap.{Heap, nobody, class, passTo}
 use Rattle.model.proofs.ArenaLaws.{idle, commit-law}
 use Rattle.model.proofs.IdlePages.{commit-below}
 use Rattle.pages.specs.Runs.{whole}
-use Rattle.arena.specs.Represents.{ArenaRep}
+use Rattle.arena.specs.way.Represents.{ArenaRep}
 use Rattle.refinement.proofs.ArenaReached.{Reached, heapOf, idle-once, idle-nobody}
 use Rattle.refinement.proofs.ArenaFair.{loads-frontier}
 use Rattle.refinement.proofs.ArenaFrames.{whole-names, whole-ends}

@@ -17,7 +17,7 @@ use Rattle.facts.specs.Lists.{elem, count}
 use Rattle.facts.proofs.Bools.{by-cases, and-left, and-right}
 use Rattle.words.specs.Word.{kindOf, granuleOf}
 use Rattle.classes.specs.declared.Shape.{Shape}
-use Rattle.classes.specs.Sound.{Sound}
+use Rattle.classes.specs.way.Sound.{Sound}
 use Rattle.fields.specs.Field.{arena, page, out, first, frontier, get}
 use Rattle.fields.specs.Ranges.{maxPages}
 use Rattle.model.specs.Page.{Page, wordOf, wordsFrom, isOut, carvedWords}
@@ -28,7 +28,7 @@ use Rattle.model.proofs.Apart.{which}
 use Rattle.words.specs.Host.{digit}
 use Rattle.pages.specs.Stack.{marked, blocksFrom, indexOf, pageAt, isBlock}
 use Rattle.calls.specs.Out.{startOf, outIn, inRunOf, outAt}
-use Rattle.refinement.specs.Represents.{PageRep}
+use Rattle.refinement.specs.way.Represents.{PageRep}
 use Rattle.refinement.proofs.Basics.{Setting, digit-cases}
 use Rattle.refinement.proofs.Frames.{whole-says}
 

@@ -27,8 +27,8 @@ use Rattle.model.proofs.HistoryArena.{good-run, longer}
 use Rattle.pages.specs.Runs.{whole}
 use Rattle.arena.specs.Owners.{ownerCode}
 use Rattle.arena.specs.Calls.{commitCall, everyDirect, heldDirect, growCall, grownBy, releaseCall, containsCall, figures, reportCode}
-use Rattle.arena.specs.Represents.{ArenaRep}
-use Rattle.refinement.specs.Represents.{Represents}
+use Rattle.arena.specs.way.Represents.{ArenaRep}
+use Rattle.refinement.specs.way.Represents.{Represents}
 use Rattle.refinement.specs.Direct.{Reply, reply, commitReply, growReply, releaseReply, directReply, Agrees}
 use Rattle.refinement.proofs.ArenaHolders.{isKnown}
 use Rattle.refinement.proofs.ArenaReached.{Reached, held-below}

@@ -24,7 +24,7 @@ use Rattle.pages.specs.Stack.{marked, downs, marks, carvedNow, latest, draw, ha
 use Rattle.pages.proofs.Downs.{digit-le, digit-false, length-downs, count-downs, every-below}
 use Rattle.pages.proofs.Draws.{draw-changes, draw-free, draw-carved}
 use Rattle.pages.proofs.Marks.{marks-at}
-use Rattle.refinement.specs.Represents.{Holds, PageRep}
+use Rattle.refinement.specs.way.Represents.{Holds, PageRep}
 use Rattle.refinement.proofs.Basics.{Setting}
 use Rattle.refinement.proofs.Frames.{isData, ofClass, Only, data-owns, whole-kept, whole-in, whole-owner, marked-kept, slots-kept}
 use Rattle.refinement.proofs.Blocks.{map-append, map-reverse, map-take, map-drop, length-map, words-downs, fits, in-row, every-counts, tops-take, slots-drop}

@@ -21,7 +21,7 @@ use Rattle.pages.specs.Stack.{latest, draw, hasMore}
 use Rattle.pages.specs.Links.{unlink}
 use Rattle.pages.specs.declared.Park.{Park}
 use Rattle.calls.specs.Take.{Filled, filledNone, thenFilled, unlistSpent, fillFrom}
-use Rattle.refinement.specs.Represents.{PageRep, ClassRep}
+use Rattle.refinement.specs.way.Represents.{PageRep, ClassRep}
 use Rattle.words.proofs.Answers.{eqb-digit}
 use Rattle.refinement.proofs.Basics.{Setting, setting-kept}
 use Rattle.refinement.proofs.Frames.{ofClass, Only, only-trans}

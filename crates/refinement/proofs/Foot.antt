@@ -9,11 +9,11 @@ use mathlib.Core.Path.{_≡_, sym, _∙_}
 use lib.Dec.{eqb, ltb}
 use borrow.Author.Tests.{eq-eqb, ne-eqb, lt-ltb, le-ltb, ltb-true}
 use Rattle.classes.specs.declared.Shape.{Shape}
-use Rattle.classes.specs.Sound.{Sound}
+use Rattle.classes.specs.way.Sound.{Sound}
 use Rattle.fields.specs.Field.{page, owner, pair, get}
 use Rattle.facts.proofs.Bools.{by-cases}
 use Rattle.pages.specs.Runs.{whole}
-use Rattle.refinement.specs.Foot.{pageOf, foot, off}
+use Rattle.refinement.specs.way.Foot.{pageOf, foot, off}
 use Rattle.refinement.proofs.Frames.{whole-owner}
 use Rattle.refinement.proofs.Mix.{PageIn}
 use Rattle.refinement.proofs.LocalFill.{Home}

@@ -26,7 +26,7 @@ use Rattle.pages.specs.Runs.{whole}
 use Rattle.pages.specs.declared.Park.the-variants.{Empty}
 use Rattle.calls.specs.Out.{startOf, outIn, inRunOf, outAt}
 use Rattle.calls.specs.Release.{unlisted, relisted}
-use Rattle.refinement.specs.Represents.{PageRep, Parked, heads, ClassRep, StateRep}
+use Rattle.refinement.specs.way.Represents.{PageRep, Parked, heads, ClassRep, StateRep}
 use Rattle.refinement.proofs.Basics.{Setting}
 use Rattle.refinement.proofs.Frames.{isData, ofClass, Only}
 use Rattle.refinement.proofs.Moves.{full-out, at-partial, at-full, from-partial, to-partial, unlink-only, link-only}

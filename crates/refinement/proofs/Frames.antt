@@ -17,13 +17,13 @@ use Rattle.facts.specs.Lists.{every, below}
 use Rattle.facts.proofs.Bools.{by-cases, bool-eq, and-left, and-right}
 use Rattle.facts.proofs.Lists.{every-at, every-of}
 use Rattle.classes.specs.declared.Shape.{Shape}
-use Rattle.classes.specs.Sound.{Sound}
+use Rattle.classes.specs.way.Sound.{Sound}
 use Rattle.fields.specs.Field.{Field, arena, class, hole, page, mark, slot, out, owner, first, frontier, pageOff, get, ok, emptyLimit, coldLimit, classOff}
 use Rattle.rules.specs.declared.Limits.{Limits}
 use Rattle.fields.proofs.Changes.{Changes, changes-trans, changes-mono}
 use Rattle.pages.specs.Runs.{ofRun, whole}
 use Rattle.pages.specs.Stack.{marked}
-use Rattle.refinement.specs.Represents.{Slots, RuleRep}
+use Rattle.refinement.specs.way.Represents.{Slots, RuleRep}
 
 -- ---- runs
 pub record Whole (n : ℕ) (b : List ℕ) (sh : Shape) (c q : ℕ) : Type 0 where

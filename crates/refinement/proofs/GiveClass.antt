@@ -26,8 +26,8 @@ use Rattle.pages.specs.Runs.{whole}
 use Rattle.pages.specs.declared.Park.the-variants.{Empty}
 use Rattle.arena.specs.Owners.{ownerCode}
 use Rattle.arena.specs.Calls.{given}
-use Rattle.arena.specs.Represents.{ArenaRep}
-use Rattle.refinement.specs.Represents.{ClassRep, StateRep, Represents}
+use Rattle.arena.specs.way.Represents.{ArenaRep}
+use Rattle.refinement.specs.way.Represents.{ClassRep, StateRep, Represents}
 use Rattle.refinement.proofs.Frames.{ofClass, Only, only-rule}
 use Rattle.refinement.proofs.Kept.{class-beside}
 use Rattle.refinement.proofs.ArenaReached.{Reached, heapOf}

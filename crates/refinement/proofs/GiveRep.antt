@@ -18,7 +18,7 @@ use Rattle.arena.specs.Store.{storeArena}
 use Rattle.arena.specs.Owners.{own}
 use Rattle.arena.specs.Fair.{giveFair}
 use Rattle.arena.specs.Calls.{given}
-use Rattle.arena.specs.Represents.{ArenaRep}
+use Rattle.arena.specs.way.Represents.{ArenaRep}
 use Rattle.refinement.proofs.ArenaStored.{once}
 use Rattle.refinement.proofs.ArenaReached.{Reached, heapOf, held-below}
 use Rattle.refinement.proofs.ArenaFair.{give-passes}

@@ -31,10 +31,10 @@ use Rattle.pages.specs.Runs.{whole}
 use Rattle.pages.specs.declared.Park.{Park}
 use Rattle.pages.specs.Carve.{newRun}
 use Rattle.arena.specs.Calls.{commitBook}
-use Rattle.arena.specs.Represents.{ArenaRep}
+use Rattle.arena.specs.way.Represents.{ArenaRep}
 use Rattle.refinement.proofs.ArenaKeeps.{step-class}
 use Rattle.refinement.proofs.CommitRuns.{claim-none, claim-others, claim-new}
-use Rattle.refinement.specs.Represents.{ClassRep, Represents, RuleRep}
+use Rattle.refinement.specs.way.Represents.{ClassRep, Represents, RuleRep}
 use Rattle.refinement.proofs.ArenaStored.{commit-stored, stored-few}
 use Rattle.refinement.proofs.ArenaReached.{Reached, heapOf, idle-once, reached-commit}
 use Rattle.refinement.proofs.ArenaFrames.{isStep, inRunOf, either, passed, step-row, step-page, step-first, step-out, step-mark, step-slot, committed-changes, step-rule}

@@ -15,7 +15,7 @@ use borrow.Author.Tests.{ne-eqb, lt-ltb, ltb-true}
 use Rattle.facts.proofs.Bools.{by-cases}
 use Rattle.facts.specs.Lists.{All, count}
 use Rattle.classes.specs.declared.Shape.{Shape}
-use Rattle.classes.specs.Sound.{Sound}
+use Rattle.classes.specs.way.Sound.{Sound}
 use Rattle.fields.specs.Field.{ClassField, class, page, mark, slot, out, partial, owner, next, prev, free, carved, listed, virgin, get, classOff}
 use Rattle.model.specs.Page.{Page}
 use Rattle.model.proofs.Pages.{all-append}
@@ -24,8 +24,8 @@ use Rattle.pages.specs.Runs.{whole}
 use Rattle.pages.specs.Stack.{marked}
 use Rattle.pages.specs.declared.Park.{Park}
 use Rattle.pages.specs.Links.{other, top, stored}
-use Rattle.refinement.specs.Chain.{In, Chain, Line, Stack}
-use Rattle.refinement.specs.Represents.{Holds, PageRep, Parked, firsts, heads, ClassRep}
+use Rattle.refinement.specs.way.Chain.{In, Chain, Line, Stack}
+use Rattle.refinement.specs.way.Represents.{Holds, PageRep, Parked, firsts, heads, ClassRep}
 use Rattle.refinement.proofs.Lists.{segment-kept, in-count, all-along}
 use Rattle.refinement.proofs.Frames.{Only, only-owns, whole-kept, whole-owner, marked-kept, slots-kept}
 

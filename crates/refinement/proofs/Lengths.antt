@@ -30,7 +30,7 @@ use Rattle.calls.specs.Out.{outFault}
 use Rattle.calls.proofs.Out.{passed}
 use Rattle.calls.specs.Release.{Released}
 use Rattle.calls.specs.Chunks.{chunksMatch, chunksFair, settleChunks, giveRuns, ChunksReleased, releaseChunks}
-use Rattle.refinement.specs.Represents.{firsts, StateRep, ClassRep, Represents}
+use Rattle.refinement.specs.way.Represents.{firsts, StateRep, ClassRep, Represents}
 use Rattle.refinement.specs.Run.{classReply}
 use Rattle.refinement.proofs.Frames.{Only}
 use Rattle.refinement.proofs.ArenaFrames.{given-changes}

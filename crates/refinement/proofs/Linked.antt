@@ -18,7 +18,7 @@ use Rattle.fields.proofs.Outcome.{length-putAt, get-putAt-same, get-putAt-other
 use Rattle.pages.specs.declared.Park.{Park}
 use Rattle.pages.specs.declared.Park.the-variants.{Empty, Cold}
 use Rattle.pages.specs.Links.{pointNext, linked, cutOut, link, unlink, top, stored, stow, unstow}
-use Rattle.refinement.specs.Chain.{In, Distinct, Segment, Chain, Stack}
+use Rattle.refinement.specs.way.Chain.{In, Distinct, Segment, Chain, Stack}
 use Rattle.refinement.proofs.Lists.{in-left, in-right, in-without, Middle, middle, lastCode, last-in, last-suc, first-page, last-page, segment-kept, segment-redirect, Parted, part, join}
 use Rattle.refinement.proofs.Kept.{line-kept}
 use Rattle.refinement.proofs.Links.{isLink, link-lets, link-changes, unlink-changes, link-next, link-prev}

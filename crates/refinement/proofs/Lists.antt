@@ -14,8 +14,8 @@ use borrow.Author.Tests.{eq-eqb}
 use Rattle.facts.specs.Lists.{All, count}
 use Rattle.fields.specs.Field.{page, next, prev, get}
 use Rattle.model.specs.Page.{Page}
-use Rattle.refinement.specs.Chain.{In, Distinct, Segment}
-use Rattle.refinement.specs.Represents.{firsts, heads}
+use Rattle.refinement.specs.way.Chain.{In, Distinct, Segment}
+use Rattle.refinement.specs.way.Represents.{firsts, heads}
 
 pub in-left : (z : ℕ) (ys zs : List ℕ) → In z ys → In z (ys ++ zs)
 in-left z (y ∷ ys) zs (inl e) = inl e

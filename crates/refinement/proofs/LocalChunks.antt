@@ -35,7 +35,7 @@ use Rattle.calls.specs.Out.{startOf, inRunOf, outAt}
 use Rattle.calls.specs.Release.{Released}
 use Rattle.calls.specs.Chunks as Words
 use Rattle.calls.specs.Chunks.{blocksOn, chunksMatch, chunksFair, chunkBackAt, givesOf, settleChunks, giveRuns, chunksNone, releaseChunks}
-use Rattle.refinement.specs.Represents.{StateRep, RuleRep, Represents}
+use Rattle.refinement.specs.way.Represents.{StateRep, RuleRep, Represents}
 use Rattle.refinement.proofs.Basics.{Setting, setting-kept}
 use Rattle.refinement.proofs.Frames.{ofClass, Only, only-trans, only-rule}
 use Rattle.refinement.proofs.ArenaReached.{Reached}

@@ -21,7 +21,7 @@ use Rattle.pages.specs.Links.{link, unlink, stow, unstow, wake}
 use Rattle.pages.specs.declared.Park.{Park}
 use Rattle.pages.proofs.Downs.{small, every-below}
 use Rattle.calls.specs.Take.{Filled, filledNone, thenFilled, unlistSpent, fillFrom}
-use Rattle.refinement.specs.Represents.{Slots, heads, ClassRep}
+use Rattle.refinement.specs.way.Represents.{Slots, heads, ClassRep}
 use Rattle.refinement.proofs.Basics.{Setting, setting-kept}
 use Rattle.refinement.proofs.Frames.{Only, only-owns, whole-kept}
 use Rattle.refinement.proofs.Neighbours.{each-listed, each-head, each-beside}

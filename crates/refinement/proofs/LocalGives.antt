@@ -23,7 +23,7 @@ use Rattle.arena.specs.Owners.{ownerCode}
 use Rattle.arena.specs.Calls.{given}
 use Rattle.pages.specs.Runs.{whole}
 use Rattle.calls.specs.Chunks.{giveRuns}
-use Rattle.refinement.specs.Represents.{firsts, StateRep, Represents}
+use Rattle.refinement.specs.way.Represents.{firsts, StateRep, Represents}
 use Rattle.refinement.proofs.Frames.{Only, whole-says}
 use Rattle.refinement.proofs.ArenaReached.{Reached}
 use Rattle.refinement.proofs.ArenaFair.{loads-frontier, loads-number}

@@ -26,7 +26,7 @@ use Rattle.arena.specs.Owners.{ownerCode}
 use Rattle.pages.specs.Stack.{indexOf}
 use Rattle.calls.specs.Out.{startOf, outAt}
 use Rattle.calls.specs.Release.{Released, releasedNone, lastStep, giveBackAt, releaseFair, releaseBlocks}
-use Rattle.refinement.specs.Represents.{StateRep, Represents}
+use Rattle.refinement.specs.way.Represents.{StateRep, Represents}
 use Rattle.refinement.proofs.Basics.{Setting}
 use Rattle.refinement.proofs.ArenaReached.{Reached}
 use Rattle.refinement.proofs.Book.{setting-of, state-as}

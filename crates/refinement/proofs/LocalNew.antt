@@ -19,7 +19,7 @@ use Rattle.pages.specs.Links.{link}
 use Rattle.pages.specs.Carve.{newRun}
 use Rattle.calls.specs.Take.{onRun, takeNew}
 use Rattle.arena.specs.Calls.{commitBook}
-use Rattle.refinement.specs.Represents.{ClassRep, Represents}
+use Rattle.refinement.specs.way.Represents.{ClassRep, Represents}
 use Rattle.refinement.proofs.ArenaReached.{Reached}
 use Rattle.refinement.proofs.ArenaFair.{loads-frontier}
 use Rattle.refinement.proofs.CommitRep.{commit-for}

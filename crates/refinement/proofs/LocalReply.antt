@@ -30,7 +30,7 @@ use Rattle.arena.specs.Owners.{ownerCode}
 use Rattle.pages.specs.Runs.{whole}
 use Rattle.calls.specs.Take.{takeNew}
 use Rattle.calls.specs.Chunks.{releaseChunks}
-use Rattle.refinement.specs.Represents.{StateRep, Represents}
+use Rattle.refinement.specs.way.Represents.{StateRep, Represents}
 use Rattle.refinement.specs.Run.{classReply}
 use Rattle.refinement.proofs.ArenaReached.{Reached}
 use Rattle.refinement.proofs.ArenaFair.{loads-frontier}
@@ -44,7 +44,7 @@ use Rattle.refinement.proofs.LocalNew.{new-local}
 use Rattle.refinement.proofs.LocalList.{Roams, list-local}
 use Rattle.refinement.proofs.LocalChunks.{group-local}
 use Rattle.refinement.proofs.Lengths.{Ours, reply-long}
-use Rattle.refinement.specs.Foot.{foot, off}
+use Rattle.refinement.specs.way.Foot.{foot, off}
 use Rattle.refinement.proofs.Foot.{foot-home, off-home, off-arena, off-page}
 
 pub ours-row : (c : ℕ) (x : Request) → Ours c x → ltb c 76 ≡ true

@@ -15,7 +15,7 @@ use Rattle.model.specs.Demands.{StaysHome, stays}
 use Rattle.facts.proofs.Bools.{by-cases}
 use Rattle.pages.specs.declared.Park.the-variants.{Cold}
 use Rattle.calls.specs.Take.{takeNew, takeBlocks, takeCall}
-use Rattle.refinement.specs.Represents.{StateRep}
+use Rattle.refinement.specs.way.Represents.{StateRep}
 use Rattle.refinement.proofs.Basics.{Setting}
 use Rattle.refinement.proofs.Moves.{swap}
 use Rattle.refinement.proofs.Fill.{AllMore}

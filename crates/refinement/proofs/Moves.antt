@@ -13,7 +13,7 @@ use lib.ListN.{length}
 use borrow.Author.Tests.{ne-eqb, eq-eqb}
 use Rattle.facts.specs.Lists.{All, count}
 use Rattle.classes.specs.declared.Shape.{Shape}
-use Rattle.classes.specs.Sound.{Sound}
+use Rattle.classes.specs.way.Sound.{Sound}
 use Rattle.fields.specs.Field.{class, page, mark, slot, out, partial, owner, next, prev, free, carved, listed, virgin, get, put, words}
 use Rattle.fields.proofs.Laws.{get-put-same, length-put}
 use Rattle.fields.proofs.Changes.{Changes}
@@ -25,8 +25,8 @@ use Rattle.pages.specs.declared.Park.the-variants.{Empty, Cold}
 use Rattle.pages.specs.Links.{linked, unlinked, link, unlink, other, top, stored, stow, unstow}
 use Rattle.pages.proofs.Downs.{digit-le}
 use Rattle.model.proofs.Used.{itself}
-use Rattle.refinement.specs.Chain.{In, Chain}
-use Rattle.refinement.specs.Represents.{PageRep, Parked, firsts, heads, ClassRep}
+use Rattle.refinement.specs.way.Chain.{In, Chain}
+use Rattle.refinement.specs.way.Represents.{PageRep, Parked, firsts, heads, ClassRep}
 use Rattle.refinement.proofs.ArenaStore.{long-kept}
 use Rattle.refinement.proofs.Basics.{Setting}
 use Rattle.refinement.proofs.Lists.{in-left, in-count, off, not-in, firsts-append, firsts-at, heads-at, all-along, last-page, part}

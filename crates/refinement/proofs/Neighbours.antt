@@ -9,13 +9,13 @@ use mathlib.Core.List.{List, _∷_, _++_}
 use mathlib.Core.Logic.{inr}
 use mathlib.Core.Path.{_≡_, sym, _∙_, subst}
 use Rattle.classes.specs.declared.Shape.{Shape}
-use Rattle.classes.specs.Sound.{Sound}
+use Rattle.classes.specs.way.Sound.{Sound}
 use Rattle.fields.specs.Field.{class, page, partial, next, prev, get}
 use Rattle.model.specs.Page.{Page}
 use Rattle.pages.specs.Runs.{whole}
 use Rattle.pages.specs.declared.Park.{Park}
-use Rattle.refinement.specs.Chain.{In, Chain}
-use Rattle.refinement.specs.Represents.{firsts, heads, ClassRep}
+use Rattle.refinement.specs.way.Chain.{In, Chain}
+use Rattle.refinement.specs.way.Represents.{firsts, heads, ClassRep}
 use Rattle.refinement.proofs.Lists.{in-left, in-right, in-count, firsts-append, first-page, last-page, part}
 use Rattle.refinement.proofs.Kept.{listed-whole}
 

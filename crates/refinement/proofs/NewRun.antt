@@ -19,7 +19,7 @@ use Rattle.pages.specs.Carve.{bareRun, newRun}
 use Rattle.pages.proofs.Frames.{changes-new}
 use Rattle.pages.proofs.NewRun as Runs
 use Rattle.pages.proofs.NewRun.{bare-long, bare-listed, bare-outs, bare-marks}
-use Rattle.refinement.specs.Represents.{PageRep}
+use Rattle.refinement.specs.way.Represents.{PageRep}
 use Rattle.refinement.proofs.Basics.{Setting, setting-kept}
 use Rattle.refinement.proofs.Pushes.{anew-holds, carve-rep}
 

@@ -27,8 +27,8 @@ use Rattle.model.specs.Heap.{newHeap}
 use Rattle.pages.specs.Runs as Runs
 use Rattle.arena.specs.Load.{loadHoles}
 use Rattle.arena.specs.Open.{cleared, headWords, limited, ruled, opened}
-use Rattle.arena.specs.Represents.{ArenaRep}
-use Rattle.refinement.specs.Represents.{StateRep, Represents}
+use Rattle.arena.specs.way.Represents.{ArenaRep}
+use Rattle.refinement.specs.way.Represents.{StateRep, Represents}
 use Rattle.refinement.proofs.ArenaStore.{load-written}
 
 -- ---- the first words are 0

@@ -23,7 +23,7 @@ use Rattle.pages.specs.Runs.{whole}
 use Rattle.pages.specs.Stack.{indexOf, isBlock}
 use Rattle.pages.specs.Carve.{outWords}
 use Rattle.calls.specs.Out.{startOf, outIn, outAt, clean, unmarked, repeats, outFault}
-use Rattle.refinement.specs.Represents.{PageRep, Parked, heads, StateRep}
+use Rattle.refinement.specs.way.Represents.{PageRep, Parked, heads, StateRep}
 use Rattle.refinement.proofs.Basics.{Setting}
 use Rattle.refinement.proofs.Found.{spot, all-spot, run-of, out-here, outs-here}
 

@@ -13,7 +13,7 @@ use borrow.Author.Tests.{eq-eqb, ne-eqb, ltb-false, le-leb, lt-ltb}
 use Rattle.facts.specs.Lists.{isNil, All, count}
 use Rattle.facts.proofs.Bools.{by-cases, or-left, or-right}
 use Rattle.classes.specs.declared.Shape.{Shape}
-use Rattle.classes.specs.Sound.{Sound}
+use Rattle.classes.specs.way.Sound.{Sound}
 use Rattle.fields.specs.Field.{arena, class, page, free, carved, next, frontier, get}
 use Rattle.model.specs.Page as Page
 use Rattle.model.specs.Page.{Page, wordOf}
@@ -25,8 +25,8 @@ use Rattle.pages.specs.Links.{top}
 use Rattle.pages.specs.Fair.{headerFair}
 use Rattle.calls.specs.Take.{pageReady, sound, walk, parkFair}
 use Rattle.pages.proofs.Downs.{digit-cases}
-use Rattle.refinement.specs.Chain.{Segment, Line, Stack}
-use Rattle.refinement.specs.Represents.{Holds, PageRep, Parked, firsts}
+use Rattle.refinement.specs.way.Chain.{Segment, Line, Stack}
+use Rattle.refinement.specs.way.Represents.{Holds, PageRep, Parked, firsts}
 use Rattle.refinement.proofs.Basics.{digit-small}
 use Rattle.refinement.proofs.Frames.{whole-below}
 use Rattle.refinement.proofs.Blocks.{few-counts, every-counts, tops-take}

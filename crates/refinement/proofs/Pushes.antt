@@ -23,7 +23,7 @@ use Rattle.pages.specs.Carve.{stocked, carveAnew, outWords}
 use Rattle.pages.proofs.Downs.{digit-false, length-downs, small}
 use Rattle.pages.proofs.Pushes.{length-push, push-kept}
 use Rattle.pages.proofs.Frames.{changes-carve}
-use Rattle.refinement.specs.Represents.{Slots, Holds, PageRep}
+use Rattle.refinement.specs.way.Represents.{Slots, Holds, PageRep}
 use Rattle.refinement.proofs.ArenaStore.{long-kept}
 use Rattle.refinement.proofs.Basics.{Setting}
 use Rattle.refinement.proofs.Frames.{isData, ofClass, Only, marked-kept}

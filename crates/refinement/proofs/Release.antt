@@ -32,7 +32,7 @@ use Rattle.model.specs.declared.Spot.the-variants.{ToCold}
 use Rattle.model.specs.Spot.{keepsEmpty, spotOf, arenaFate, fateOf}
 use Rattle.calls.specs.Release.{Released, released, unlisted, relisted, parkCold, parkAs, parkAt, giveBackAt, emptied, markRetired}
 use Rattle.calls.specs.Chunks.{chunkBackAt}
-use Rattle.refinement.specs.Represents.{PageRep, firsts, ClassRep, RuleRep}
+use Rattle.refinement.specs.way.Represents.{PageRep, firsts, ClassRep, RuleRep}
 use Rattle.refinement.proofs.Basics.{Setting, setting-kept}
 use Rattle.refinement.proofs.Frames.{ofClass, Only, only-trans, only-rule, data-owns, whole-kept, whole-in, whole-owner}
 use Rattle.refinement.proofs.Moves.{swap, at-full, to-store, stow-only}

@@ -25,8 +25,8 @@ use Rattle.arena.specs.Fair.{giveFair}
 use Rattle.model.specs.Spot.{isArena}
 use Rattle.pages.specs.Fair.{headerFair}
 use Rattle.calls.specs.Release.{pageFair, rowFair, spotAt, spotFair, releaseFair}
-use Rattle.refinement.specs.Chain.{In, Line}
-use Rattle.refinement.specs.Represents.{firsts, heads, ClassRep, RuleRep, Represents}
+use Rattle.refinement.specs.way.Chain.{In, Line}
+use Rattle.refinement.specs.way.Represents.{firsts, heads, ClassRep, RuleRep, Represents}
 use Rattle.refinement.proofs.Basics.{Setting, digit-small}
 use Rattle.refinement.proofs.Lists.{in-count}
 use Rattle.refinement.proofs.Frames.{whole-below}

@@ -21,7 +21,7 @@ use Rattle.model.specs.Arena.{give, giveAll}
 use Rattle.model.specs.Heap.{Heap, Holder, nobody, isHeld, passTo, heldPages}
 use Rattle.arena.specs.Calls.{given}
 use Rattle.calls.specs.Chunks.{giveRuns}
-use Rattle.refinement.specs.Represents.{firsts, StateRep, Represents}
+use Rattle.refinement.specs.way.Represents.{firsts, StateRep, Represents}
 use Rattle.refinement.proofs.Frames.{ofClass, Only}
 use Rattle.refinement.proofs.ArenaReached.{Reached, heapOf, reached-classes, reached-give}
 use Rattle.refinement.proofs.ArenaHeld.{held-less}

@@ -18,7 +18,7 @@ use Rattle.model.specs.Heap as Heaps
 use Rattle.model.specs.Heap.{Heap, parkedPages}
 use Rattle.arena.specs.Fair.{recordFair, countsFair, allCountsFair, reportFair}
 use Rattle.arena.specs.Calls.{parkedRuns}
-use Rattle.refinement.specs.Represents.{StateRep}
+use Rattle.refinement.specs.way.Represents.{StateRep}
 use Rattle.refinement.proofs.Release.{length-firsts}
 
 -- the words stand for every class

@@ -29,7 +29,7 @@ use Rattle.pages.proofs.Marks.{marks-changes, marks-at}
 use Rattle.pages.proofs.Frames.{back-free}
 use Rattle.pages.proofs.Pushes.{length-push, push-changes, push-kept}
 use Rattle.calls.specs.Release.{emptied}
-use Rattle.refinement.specs.Represents.{Holds, PageRep}
+use Rattle.refinement.specs.way.Represents.{Holds, PageRep}
 use Rattle.refinement.proofs.ArenaStore.{long-kept}
 use Rattle.refinement.proofs.Basics.{Setting, setting-kept, digit-le, digit-false, digit-cases}
 use Rattle.refinement.proofs.Frames.{isData, ofClass, Only, data-owns, whole-kept, whole-in, whole-owner, marked-kept, slots-kept}

@@ -15,7 +15,7 @@ use Rattle.pages.specs.declared.Park.{Park}
 use Rattle.pages.specs.declared.Park.the-variants.{Empty, Cold}
 use Rattle.pages.specs.Links.{wake}
 use Rattle.calls.specs.Take.{took, fillFrom, fromPartial, fromPark, takeNew, takeBlocks}
-use Rattle.refinement.specs.Represents.{ClassRep, StateRep}
+use Rattle.refinement.specs.way.Represents.{ClassRep, StateRep}
 use Rattle.refinement.proofs.Basics.{Setting}
 use Rattle.refinement.proofs.Moves.{swap}
 use Rattle.refinement.proofs.Fill.{AllMore, pred}

@@ -15,7 +15,7 @@ use Rattle.pages.specs.declared.Park.{Park}
 use Rattle.pages.specs.declared.Park.the-variants.{Empty, Cold}
 use Rattle.pages.specs.Links.{other, unstow, wake}
 use Rattle.calls.specs.Take.{Took, Filled, took, fillFrom, takeNew, takeBlocks}
-use Rattle.refinement.specs.Represents.{ClassRep, StateRep}
+use Rattle.refinement.specs.way.Represents.{ClassRep, StateRep}
 use Rattle.refinement.proofs.Basics.{Setting, setting-kept}
 use Rattle.refinement.proofs.Sources.{take-partial, take-empty, take-cold, take-none}
 use Rattle.refinement.proofs.Frames.{Only, only-trans}

@@ -38,7 +38,7 @@ use Rattle.pages.specs.Carve.{newRun}
 use Rattle.calls.specs.Take.{Took, tookNone, fillFrom, onRun, takeNew, takeCall}
 use Rattle.arena.specs.Calls.{commitBook}
 use Rattle.refinement.proofs.GiveClass.{arena-only}
-use Rattle.refinement.specs.Represents.{ClassRep, Represents}
+use Rattle.refinement.specs.way.Represents.{ClassRep, Represents}
 use Rattle.refinement.specs.Classes.{takeReply}
 use Rattle.refinement.specs.Direct.{Agrees}
 use Rattle.refinement.proofs.ArenaReached.{Reached, heapOf, reached-after}

@@ -21,7 +21,7 @@ use Rattle.model.specs.Calls.{Call, names, hostIn, wayTo, wayOf}
 use Rattle.model.specs.Heap.{Heap, directCall, route, step, newHeap}
 use Rattle.model.specs.History.{Event, eventsFrom, heapFrom, heapAfter, answers}
 use Rattle.arena.specs.Open.{opened}
-use Rattle.refinement.specs.Represents.{Represents}
+use Rattle.refinement.specs.way.Represents.{Represents}
 use Rattle.refinement.specs.Direct.{Reply, Agrees, directReply}
 use Rattle.refinement.specs.Run.{replyAs, callReply, repliesFrom, bookFrom, answersIn}
 use Rattle.refinement.proofs.ArenaReached.{reached-after, heap-next}

@@ -1,7 +1,5 @@
-pub mod Chain
-pub mod Represents
 pub mod Direct
 pub mod Classes
 pub mod Releases
 pub mod Run
-pub mod Foot
+pub mod way

@@ -9,7 +9,7 @@ use lib.ListN.{length, length-map}
 use borrow.Author.Tests.{leb-true, eqb-true, le-leb, lt-ltb, eq-eqb, ne-eqb}
 use Rattle.facts.proofs.Bools.{and-left, and-right}
 use Rattle.classes.specs.declared.Shape.{Shape}
-use Rattle.classes.specs.Sound.{Sound}
+use Rattle.classes.specs.way.Sound.{Sound}
 use Rattle.fields.specs.Field.{Field, arena, class, hole, page, region, off, frontier, partial, empty, emptyCount, cold, coldCount, next, prev, free, carved, listed, virgin, get, put, words, ok, emptyLimit, coldLimit}
 use Rattle.fields.proofs.Laws.{get-put-same, length-put}
 use Rattle.fields.proofs.Changes.{Changes}
@@ -19,9 +19,9 @@ use Rattle.model.specs.Spot.{isArena}
 use Rattle.arena.specs.Fair.{giveFair}
 use Rattle.arena.proofs.Frames.{give-kept}
 use Rattle.arena.specs.Calls.{given}
-use Rattle.runs.specs.Asks.{GiveIn}
+use Rattle.runs.specs.way.Asks.{GiveIn}
 use Rattle.pages.specs.declared.Park.the-variants.{Empty, Cold}
-use Rattle.pages.specs.Asks.{LinkAsks, PushAsks}
+use Rattle.pages.specs.way.Asks.{LinkAsks, PushAsks}
 use Rattle.pages.specs.Links.{stow}
 use Rattle.pages.specs.Stack.{push, pushed, indexOf}
 use Rattle.pages.specs.Carve.{carveAnew}
@@ -29,7 +29,7 @@ use Rattle.pages.proofs.Pushes.{length-push}
 use Rattle.pages.proofs.Frames.{changes-stow, changes-pushed}
 use Rattle.calls.specs.Release.{pageFair, rowFair, relisted, released, unlisted, parkCold, parkedIn, spotAt, parkAt, spotFair, releaseFair, lastStep}
 use Rattle.pages.specs.Fair.{linksFair}
-use Rattle.release.specs.Act.{settleAt, coldVirgin, ParkingAsks, BackAsks, SettleAsks, Parked}
+use Rattle.release.specs.way.Act.{settleAt, coldVirgin, ParkingAsks, BackAsks, SettleAsks, Parked}
 use Rattle.release.proofs.Spots.{arena-alone}
 use Rattle.release.proofs.FairSteps.{page-room, page-carved, links-fair, head-low}
 use Rattle.release.proofs.ParkSteps.{moves, unlisted-changes, relisted-changes, carve-changes}

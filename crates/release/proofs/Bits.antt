@@ -17,7 +17,7 @@ use Rattle.fields.proofs.Changes.{Changes, changes-none, changes-put}
 use Rattle.pages.specs.Runs.{ofRun, whole}
 use Rattle.pages.specs.Stack.{blocksFrom, indexOf, pageAt, isBlock}
 use Rattle.calls.specs.Out.{startOf, outIn, inRunOf}
-use Rattle.release.specs.Blocks.{bitIn}
+use Rattle.release.specs.way.Blocks.{bitIn}
 
 -- ---- a change of out bits, or of marks
 abbrev pub isBit : Field → Bool

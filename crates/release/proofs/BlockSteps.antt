@@ -12,15 +12,15 @@ use borrow.Author.Tests.{le-leb, lt-ltb, eq-eqb, ne-eqb, eqb-true}
 use Rattle.words.specs.Word.{kindOf, granuleOf}
 use Rattle.classes.specs.declared.Shape.{Shape}
 use Rattle.classes.specs.Shape.{inverse}
-use Rattle.classes.specs.Sound.{Sound}
+use Rattle.classes.specs.way.Sound.{Sound}
 use Rattle.fields.specs.Ranges.{maxPages}
 use Rattle.model.specs.Page.{wordOf}
 use Rattle.model.specs.Release.{ofKind}
 use Rattle.pages.specs.Stack.{blocksFrom, indexOf, isBlock}
 use Rattle.stack.proofs.InverseLaws.{behind-point, past-point, narrow, product-fits, divides, quotient-fits}
 use Rattle.release.specs.declared.Found.the-variants.{At, Nothing}
-use Rattle.release.specs.Blocks.{found, blockAt, blockIn}
-use Rattle.release.specs.MarkAsks.{Near}
+use Rattle.release.specs.way.Blocks.{found, blockAt, blockIn}
+use Rattle.release.specs.way.MarkAsks.{Near}
 use Rattle.release.proofs.Bits.{from-block, at-block, below-capacity}
 
 -- x granules behind the run's first block

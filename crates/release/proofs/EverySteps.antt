@@ -14,7 +14,7 @@ use Rattle.facts.proofs.Lists.{drop-past, every-get}
 use Rattle.fields.specs.Field.{page, first, get, words, Has}
 use Rattle.pages.specs.Stack.{pageAt}
 use Rattle.calls.specs.Out.{startOf}
-use Rattle.release.specs.Asks.{StartAsks}
+use Rattle.release.specs.way.Asks.{StartAsks}
 
 pub record EveryInv (t : ℕ → Bool) (ws : List ℕ) (i : ℕ) : Type 0 where
   pub within : i ≤ length ws

@@ -26,7 +26,7 @@ use Rattle.pages.specs.Links.{top, stored}
 use Rattle.pages.specs.Fair.{headerFair, linksFair, storeFair, limitsAt, limitsFair}
 use Rattle.pages.proofs.FairLaws.{carved-low, room-left}
 use Rattle.calls.specs.Release.{pageFair, rowFair, spotAt, spotFair, releaseFair}
-use Rattle.release.specs.Fair.{FairAsks, SpotFairAsks}
+use Rattle.release.specs.way.Fair.{FairAsks, SpotFairAsks}
 
 -- ---- a page
 module _ (b : List ℕ) (sh : Shape) (m q : ℕ) where

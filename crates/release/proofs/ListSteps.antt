@@ -13,8 +13,8 @@ use Rattle.classes.specs.declared.Shape.{Shape}
 use Rattle.fields.specs.Field.{out, put, Has}
 use Rattle.fields.proofs.Laws.{length-put}
 use Rattle.pages.specs.Stack.{marks, indexOf, isBlock}
-use Rattle.pages.specs.Asks.{IndexAsks}
-use Rattle.release.specs.Asks.{TakeAsks}
+use Rattle.pages.specs.way.Asks.{IndexAsks}
+use Rattle.release.specs.way.Asks.{TakeAsks}
 
 module _ (b₀ : List ℕ) (sh : Shape) (q : ℕ) (ws : List ℕ) where
   -- those from place i on are out no longer

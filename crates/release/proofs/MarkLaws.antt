@@ -15,7 +15,7 @@ use lib.ListN.{length, take}
 use borrow.Author.Tests.{eqb-true, eqb-false, lt-ltb, eq-eqb, ne-eqb}
 use Rattle.words.specs.Word.{kindOf}
 use Rattle.classes.specs.declared.Shape.{Shape}
-use Rattle.classes.specs.Sound.{Sound}
+use Rattle.classes.specs.way.Sound.{Sound}
 use Rattle.fields.specs.Field.{Field, bits, out, mark, region, read, place, get, put, same, words}
 use Rattle.facts.proofs.Bools.{and-left, and-right}
 use Rattle.fields.proofs.Laws.{get-put-same, get-put-other, put-put-same, put-comm, put-get}
@@ -25,7 +25,7 @@ use Rattle.facts.specs.Lists.{every, elem, distinct}
 use Rattle.model.specs.Release.{ofKind}
 use Rattle.pages.specs.Stack.{indexOf, isBlock}
 use Rattle.calls.specs.Out.{startOf, outIn, outAt, markOf, outs, clean, unmarked, repeats}
-use Rattle.release.specs.Marks.{isMarkedIn, markedIn, isMarked, marked, markCount, markBook, clearBook}
+use Rattle.release.specs.way.Marks.{isMarkedIn, markedIn, isMarked, marked, markCount, markBook, clearBook}
 use Rattle.release.proofs.Bits.{isBit, start-kept, in-run-kept, out-in, below-capacity, one-word}
 use Rattle.release.proofs.OutLaws.{kind-of, block-of-out, index-of-out, start-of-out}
 

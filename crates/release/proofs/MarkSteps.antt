@@ -12,16 +12,16 @@ use mir.Syntax.{w32}
 use lib.ListN.{length, getD, drop}
 use lib.Seq.{drop-cons}
 use Rattle.classes.specs.declared.Shape.{Shape}
-use Rattle.classes.specs.Sound.{Sound}
+use Rattle.classes.specs.way.Sound.{Sound}
 use Rattle.fields.specs.Field.{mark, words, Has}
 use Rattle.model.specs.Release.{ofKind}
 use Rattle.pages.specs.Stack.{indexOf, isBlock}
 use Rattle.facts.proofs.Bools.{and-right}
 use Rattle.release.specs.declared.Found.{Found}
 use Rattle.release.specs.declared.Found.the-variants.{At, Nothing}
-use Rattle.release.specs.Blocks.{blockIn}
-use Rattle.release.specs.Marks.{setMark, freshAt, markedIn, freshIn, freshCount, freshBook, countBy, bookBy}
-use Rattle.release.specs.MarkAsks.{MarkedBlock, MarkedOne, MarkedIn, MarkedTo, Reaches, Alone}
+use Rattle.release.specs.way.Blocks.{blockIn}
+use Rattle.release.specs.way.Marks.{setMark, freshAt, markedIn, freshIn, freshCount, freshBook, countBy, bookBy}
+use Rattle.release.specs.way.MarkAsks.{MarkedBlock, MarkedOne, MarkedIn, MarkedTo, Reaches, Alone}
 use Rattle.release.proofs.Bits.{below-capacity}
 use Rattle.release.proofs.BlockSteps.{none-found, found-at}
 use Rattle.facts.proofs.Lists.{drop-past}

@@ -10,8 +10,8 @@ use lib.Dec.{eqb}
 use lib.ListN.{length}
 use Rattle.fields.specs.Field.{mark, get, put, Has}
 use Rattle.fields.specs.Clear.{clearMarks}
-use Rattle.release.specs.Marks.{noMarks, takeWord, takeMarks}
-use Rattle.pages.specs.Asks.{ClearAsks}
+use Rattle.release.specs.way.Marks.{noMarks, takeWord, takeMarks}
+use Rattle.pages.specs.way.Asks.{ClearAsks}
 use Rattle.release.proofs.RunSteps.{or-none}
 
 pub word-there : (b b′ : List ℕ) (q m j : ℕ) → ClearAsks b q m → length b′ ≡ length b → j < m → Has b′ (mark q j)

@@ -14,7 +14,7 @@ use Rattle.fields.specs.Field.{arena, class, page, frontier, partial, out, mark
 use Rattle.fields.proofs.Changes.{Changes}
 use Rattle.model.specs.Release.{ofKind}
 use Rattle.model.specs.Page.{wordOf}
-use Rattle.pages.specs.Asks.{LinkAsks, WordAsks}
+use Rattle.pages.specs.way.Asks.{LinkAsks, WordAsks}
 use Rattle.pages.specs.Stack.{marks, pushed, back, indexOf, isBlock}
 use Rattle.pages.proofs.Marks.{marks-changes}
 use Rattle.calls.specs.Out.{startOf, inRunOf, outIn, outAt, clean, unmarked, outFault}
@@ -24,12 +24,12 @@ use Rattle.release.specs.declared.Found.{Found}
 use Rattle.release.specs.declared.Found.the-variants.{At, Nothing}
 use Rattle.release.specs.declared.Released.{Released}
 use Rattle.release.specs.declared.Released.the-variants.{Fate}
-use Rattle.release.specs.Asks.{ClassAsks}
-use Rattle.release.specs.Blocks.{blockIn, runAt}
-use Rattle.release.specs.Fair.{FairAsks}
-use Rattle.release.specs.MarkAsks.{Near}
-use Rattle.release.specs.Act.{settleAt, RunAsks, Answered, PreparedAt, Finished}
-use Rattle.release.specs.One.{readyAt, staysFair, backReady, oneIn, oneReady, backBook, PutAsks, BackAsks, BackOne, OneIn, OneBack}
+use Rattle.release.specs.way.Asks.{ClassAsks}
+use Rattle.release.specs.way.Blocks.{blockIn, runAt}
+use Rattle.release.specs.way.Fair.{FairAsks}
+use Rattle.release.specs.way.MarkAsks.{Near}
+use Rattle.release.specs.way.Act.{settleAt, RunAsks, Answered, PreparedAt, Finished}
+use Rattle.release.specs.way.One.{readyAt, staysFair, backReady, oneIn, oneReady, backBook, PutAsks, BackAsks, BackOne, OneIn, OneBack}
 use Rattle.release.proofs.Bits.{isBit, out-in, below-capacity}
 use Rattle.release.proofs.BlockSteps.{none-found, found-at}
 use Rattle.release.proofs.FairSteps.{page-room, page-carved, head-low, above-arena, no-page, no-row, spot-last}

@@ -9,13 +9,13 @@ use borrow.Author.Tests.{leb-true, ltb-true, eqb-true}
 use Rattle.facts.proofs.Bools.{and-left, and-right}
 use Rattle.words.specs.Word.{kindOf}
 use Rattle.classes.specs.declared.Shape.{Shape}
-use Rattle.classes.specs.Sound.{Sound}
+use Rattle.classes.specs.way.Sound.{Sound}
 use Rattle.fields.specs.Field.{arena, frontier, get}
 use Rattle.model.specs.Release.{ofKind}
 use Rattle.pages.specs.Runs.{whole}
 use Rattle.pages.specs.Stack.{indexOf, pageAt, isBlock}
 use Rattle.calls.specs.Out.{startOf, inRunOf, outIn, outAt}
-use Rattle.release.specs.Blocks.{bitIn}
+use Rattle.release.specs.way.Blocks.{bitIn}
 use Rattle.release.proofs.Bits.{out-in, below-capacity}
 
 pub kind-of : (k v : ℕ) → ofKind k v ≡ true → kindOf v ≡ k

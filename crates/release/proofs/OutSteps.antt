@@ -21,10 +21,10 @@ use Rattle.release.specs.declared.Found.{Found}
 use Rattle.release.specs.declared.Found.the-variants.{At, Nothing}
 use Rattle.release.specs.declared.Out.{Out}
 use Rattle.release.specs.declared.Out.the-variants.{Block, Nowhere}
-use Rattle.release.specs.Asks.{ClassAsks}
-use Rattle.release.specs.Blocks.{blockAt, runAt, outAs, findOut}
-use Rattle.release.specs.Marks.{isMarkedIn, markedIn, isMarked, marked, markCount, markBook, clearBook, cleanAt}
-use Rattle.release.specs.MarkAsks.{MarkedBlock, MarkedList}
+use Rattle.release.specs.way.Asks.{ClassAsks}
+use Rattle.release.specs.way.Blocks.{blockAt, runAt, outAs, findOut}
+use Rattle.release.specs.way.Marks.{isMarkedIn, markedIn, isMarked, marked, markCount, markBook, clearBook, cleanAt}
+use Rattle.release.specs.way.MarkAsks.{MarkedBlock, MarkedList}
 use Rattle.release.proofs.Bits.{out-in, below-capacity}
 use Rattle.release.proofs.BlockSteps.{none-found, found-at}
 use Rattle.release.proofs.RunSteps.{run-there}

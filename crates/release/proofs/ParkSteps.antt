@@ -10,7 +10,7 @@ use borrow.Author.Tests.{leb-true, lt-ltb, eq-eqb, ne-eqb}
 use Rattle.facts.proofs.Bools.{and-left, and-right}
 use Rattle.words.specs.Host.{discardZeroed}
 use Rattle.classes.specs.declared.Shape.{Shape}
-use Rattle.classes.specs.Sound.{Sound}
+use Rattle.classes.specs.way.Sound.{Sound}
 use Rattle.fields.specs.Field.{Field, arena, class, page, region, off, frontier, emptyCount, coldCount, next, prev, listed, get}
 use Rattle.fields.specs.Ranges.{maxParked}
 use Rattle.fields.proofs.Changes.{Changes, changes-none}
@@ -19,12 +19,12 @@ use Rattle.model.specs.declared.Spot.the-variants.{ToEmpty, ToCold, ToArena}
 use Rattle.model.specs.Spot.{fateOf}
 use Rattle.pages.specs.declared.Park.{Park}
 use Rattle.pages.specs.declared.Park.the-variants.{Empty, Cold}
-use Rattle.pages.specs.Asks.{UnlinkAsks, ParkAsks}
+use Rattle.pages.specs.way.Asks.{UnlinkAsks, ParkAsks}
 use Rattle.pages.specs.Links.{link, unlink, stow, stored}
 use Rattle.pages.specs.Carve.{carveAnew}
 use Rattle.pages.proofs.Frames.{changes-link, changes-unlink, changes-carve}
 use Rattle.calls.specs.Release.{unlisted, relisted, parkCold, parkedIn, spotAt, parkAt}
-use Rattle.release.specs.Act.{coldVirgin, ParkingAsks, ColdAsks, StoreAsks, Parked}
+use Rattle.release.specs.way.Act.{coldVirgin, ParkingAsks, ColdAsks, StoreAsks, Parked}
 use Rattle.release.proofs.FairSteps.{count-low}
 
 abbrev pub moves : Field → Bool

@@ -13,7 +13,7 @@ use borrow.Author.Tests.{eqb-true, le-leb, lt-ltb, ltb-true, eq-eqb, ne-eqb}
 use Rattle.facts.specs.Lists.{isNil, every}
 use Rattle.facts.proofs.Bools.{and-left, and-right}
 use Rattle.classes.specs.declared.Shape.{Shape}
-use Rattle.classes.specs.Sound.{Sound}
+use Rattle.classes.specs.way.Sound.{Sound}
 use Rattle.fields.specs.Field.{arena, class, page, frontier, partial, empty, emptyCount, cold, coldCount, first, next, prev, free, carved, listed, virgin, get, words, Has, hole, emptyLimit, coldLimit}
 use Rattle.fields.specs.Clear.{clearMarks}
 use Rattle.pages.specs.Carve.{outWords}
@@ -21,7 +21,7 @@ use Rattle.fields.proofs.Changes.{Changes}
 use Rattle.model.specs.Release.{ofKind}
 use Rattle.arena.proofs.Frames.{give-kept}
 use Rattle.arena.specs.Calls.{given}
-use Rattle.pages.specs.Asks.{ClearAsks}
+use Rattle.pages.specs.way.Asks.{ClearAsks}
 use Rattle.pages.specs.Fair.{headerFair}
 use Rattle.pages.specs.Stack.{marks, pushed, indexOf, isBlock, pageAt, back}
 use Rattle.pages.proofs.Downs.{small, every-mono}
@@ -36,14 +36,15 @@ use Rattle.release.specs.declared.Released.{Released}
 use Rattle.release.specs.declared.Released.the-variants.{Refused, Fate}
 use Rattle.release.specs.declared.Ready.{Ready}
 use Rattle.release.specs.declared.Ready.the-variants.{No, In}
-use Rattle.release.specs.Asks.{ClassAsks, StartAsks, TakeAsks}
-use Rattle.release.specs.Blocks.{runAt}
-use Rattle.release.specs.Fair.{FairAsks}
+use Rattle.release.specs.way.Asks.{ClassAsks, StartAsks, TakeAsks}
+use Rattle.release.specs.way.Blocks.{runAt}
+use Rattle.release.specs.way.Fair.{FairAsks}
 use Rattle.facts.proofs.Lists.{every-made}
 use Rattle.pages.specs.Runs.{whole}
-use Rattle.release.specs.Marks.{freshCount, freshBook, noMarks, allFresh, takeMarks}
-use Rattle.release.specs.MarkAsks.{FieldAsks, MarkedIn, MarkedAll, FaultAsks, Faulted}
-use Rattle.release.specs.Act.{settleAt, takenBy, tried, answerAs, SettleAsks, ListAsks, RunAsks, MarkedAsks, PassedAsks, Parked, Answered, PreparedAt, Prepared, Attempted, Finished}
+use Rattle.release.specs.way.Marks.{freshCount, freshBook, noMarks, allFresh, takeMarks}
+use Rattle.release.specs.way.MarkAsks.{FieldAsks, MarkedIn, MarkedAll, FaultAsks, Faulted}
+use Rattle.release.specs.way.Act.{settleAt, takenBy, tried, SettleAsks, ListAsks, RunAsks, MarkedAsks, PassedAsks, Parked, Answered, PreparedAt, Prepared, Attempted, Finished}
+use Rattle.release.specs.Answer.{answerAs}
 use Rattle.release.proofs.Bits.{isBit, out-in}
 use Rattle.release.proofs.BlockSteps.{none-found, found-at}
 use Rattle.release.proofs.RunSteps.{run-whole}

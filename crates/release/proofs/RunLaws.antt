@@ -15,7 +15,7 @@ use Rattle.facts.specs.Lists.{every}
 use Rattle.facts.proofs.Bools.{and-left, and-right}
 use Rattle.facts.proofs.Lists.{every-at}
 use Rattle.classes.specs.declared.Shape.{Shape}
-use Rattle.classes.specs.Sound.{Sound}
+use Rattle.classes.specs.way.Sound.{Sound}
 use Rattle.fields.specs.Field.{arena, page, out, frontier, owner, first, get, put, same}
 use Rattle.fields.proofs.Laws.{put-comm}
 use Rattle.fields.proofs.Changes.{same-eq}

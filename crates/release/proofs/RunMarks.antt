@@ -14,7 +14,7 @@ use lib.ListN.{length, getD, set}
 use lib.Seq.{set-getD, set-set}
 use borrow.Author.Tests.{eqb-true, lt-ltb, eq-eqb, ne-eqb}
 use Rattle.classes.specs.declared.Shape.{Shape}
-use Rattle.classes.specs.Sound.{Sound}
+use Rattle.classes.specs.way.Sound.{Sound}
 use Rattle.fields.specs.Field.{mark, out, get, put, words}
 use Rattle.fields.specs.Clear.{clearMarks}
 use Rattle.facts.proofs.Bools.{and-left, and-right}
@@ -26,8 +26,8 @@ use Rattle.model.specs.Release.{ofKind}
 use Rattle.pages.specs.Runs.{whole}
 use Rattle.pages.specs.Stack.{marks, indexOf, isBlock}
 use Rattle.calls.specs.Out.{startOf, outIn, outAt, outs, clean, unmarked, repeats}
-use Rattle.fields.specs.Mark.{outWord}
-use Rattle.release.specs.Marks.{markAt, freshAt, isMarkedIn, markedIn, markCount, freshIn, freshCount, freshBook, noMarks, takeWord, takeMarks, countBy, bookBy}
+use Rattle.fields.specs.way.Mark.{outWord}
+use Rattle.release.specs.way.Marks.{markAt, freshAt, isMarkedIn, markedIn, markCount, freshIn, freshCount, freshBook, noMarks, takeWord, takeMarks, countBy, bookBy}
 use Rattle.facts.proofs.Lists.{every-same, every-made}
 use Rattle.release.proofs.Bits.{out-in, below-capacity, whole-kept, start-kept}
 use Rattle.release.proofs.RunLaws.{low-marks, run-out, run-start}

@@ -16,7 +16,7 @@ use Rattle.facts.proofs.Bools.{and-left, and-right}
 use Rattle.facts.proofs.Lists.{drop-past}
 use Rattle.words.specs.Word.{kindOf}
 use Rattle.classes.specs.declared.Shape.{Shape}
-use Rattle.classes.specs.Sound.{Sound}
+use Rattle.classes.specs.way.Sound.{Sound}
 use Rattle.fields.specs.Field.{arena, page, frontier, first, get, words}
 use Rattle.fields.specs.Ranges.{maxPages}
 use Rattle.model.specs.Release.{ofKind}
@@ -25,8 +25,8 @@ use Rattle.pages.specs.Stack.{pageAt}
 use Rattle.calls.specs.Out.{startOf, inRunOf}
 use Rattle.release.specs.declared.Found.{Found}
 use Rattle.release.specs.declared.Found.the-variants.{At, Nothing}
-use Rattle.release.specs.Blocks.{runAt}
-use Rattle.release.specs.Asks.{InAsks}
+use Rattle.release.specs.way.Blocks.{runAt}
+use Rattle.release.specs.way.Asks.{InAsks}
 use Rattle.release.proofs.BlockSteps.{found-at}
 
 module _ (n : ℕ) (b : List ℕ) (c : ℕ) (sh : Shape) (w p : ℕ) (e : p ≡ pageAt w) where

@@ -12,9 +12,9 @@ use Rattle.fields.specs.Field.{words}
 use Rattle.facts.specs.Lists.{every}
 use Rattle.calls.specs.Out.{outAt, unmarked, repeats, outFault}
 use Rattle.calls.proofs.Out.{fault-marked, fault-repeats, fault-foreign}
-use Rattle.release.specs.Asks.{ClassAsks}
-use Rattle.release.specs.Marks.{isMarked, marked, markCount, clearBook}
-use Rattle.release.specs.MarkAsks.{MarkedList, FaultAsks, TestAsks, Tested, Faulted}
+use Rattle.release.specs.way.Asks.{ClassAsks}
+use Rattle.release.specs.way.Marks.{isMarked, marked, markCount, clearBook}
+use Rattle.release.specs.way.MarkAsks.{MarkedList, FaultAsks, TestAsks, Tested, Faulted}
 use Rattle.release.proofs.MarkLaws.{book-changes, repeats-found, marks-clear}
 
 pub fault-none : (n : ℕ) (b : List ℕ) (c : ℕ) (sh : Shape) (ws : List ℕ) → unmarked n b c sh ws ≡ true → repeats n b c sh ws ≡ false → every (outAt n b c sh) ws ≡ true → outFault n b c sh ws ≡ 0

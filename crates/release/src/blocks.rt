@@ -1,12 +1,12 @@
 // Where a listed word's block is: its run, and its index there.
 ghost use mathlib.Core.Path.{_≡_};
 ghost use Prim.Native.Nat.{_+_, _%_, _^_, _<_};
-ghost use Rattle.classes.specs.Sound.{Sound};
+ghost use Rattle.classes.specs.way.Sound.{Sound};
 ghost use Rattle.fields.specs.Ranges.{maxPages};
 ghost use Rattle.words.specs.Word.{granuleOf, wordBits};
-ghost use Rattle.release.specs.Blocks.{blockAt, blockIn, runAt, findOut};
-ghost use Rattle.release.specs.Asks.{ClassAsks};
-ghost use Rattle.release.specs.MarkAsks.{Near};
+ghost use Rattle.release.specs.way.Blocks.{blockAt, blockIn, runAt, findOut};
+ghost use Rattle.release.specs.way.Asks.{ClassAsks};
+ghost use Rattle.release.specs.way.MarkAsks.{Near};
 use super::Found;
 use super::Out;
 use classes::Shape;

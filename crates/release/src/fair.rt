@@ -2,13 +2,13 @@
 ghost use mathlib.Core.Path.{_≡_};
 ghost use mathlib.Core.Bool.{true};
 ghost use Prim.Native.Nat.{_≤_, _<_};
-ghost use Rattle.classes.specs.Sound.{Sound};
+ghost use Rattle.classes.specs.way.Sound.{Sound};
 ghost use Rattle.fields.specs.Ranges.{maxParked};
-ghost use Rattle.pages.specs.Asks.{PageAsks, RowAsks};
+ghost use Rattle.pages.specs.way.Asks.{PageAsks, RowAsks};
 ghost use Rattle.pages.specs.Fair.{limitsAt, limitsFair};
 ghost use Rattle.model.specs.Spot.{keepsEmpty, spotOf};
 ghost use Rattle.calls.specs.Release.{pageFair, rowFair, spotAt, spotFair, releaseFair};
-ghost use Rattle.release.specs.Fair.{SpotAsks, FairAsks, SpotFairAsks};
+ghost use Rattle.release.specs.way.Fair.{SpotAsks, FairAsks, SpotFairAsks};
 use classes::Shape;
 use model::Spot;
 use pages::Park;

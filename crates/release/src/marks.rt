@@ -3,13 +3,13 @@
 ghost use mathlib.Core.Path.{_≡_};
 ghost use Prim.Native.Nat.{_+_, _/_, _≤_, _<_, min};
 ghost use lib.ListN.{length};
-ghost use Rattle.classes.specs.Sound.{Sound};
+ghost use Rattle.classes.specs.way.Sound.{Sound};
 ghost use Rattle.fields.specs.Field.{mark, Has};
 ghost use Rattle.fields.specs.Clear.{clearMarks};
 ghost use Rattle.pages.specs.Carve.{outWords};
-ghost use Rattle.pages.specs.Asks.{ClearAsks};
-ghost use Rattle.release.specs.Marks.{noMarks, takeWord, takeMarks};
-ghost use Rattle.release.specs.MarkAsks.{FieldAsks, Near, MarkedBits, MarkedBlock, MarkedOne, MarkedIn, MarkedTo, Stretched, Reaches, Alone};
+ghost use Rattle.pages.specs.way.Asks.{ClearAsks};
+ghost use Rattle.release.specs.way.Marks.{noMarks, takeWord, takeMarks};
+ghost use Rattle.release.specs.way.MarkAsks.{FieldAsks, Near, MarkedBits, MarkedBlock, MarkedOne, MarkedIn, MarkedTo, Stretched, Reaches, Alone};
 use super::Found;
 use super::blocks::behind;
 use super::blocks::block_in;

@@ -5,8 +5,8 @@ use mathlib.Core.Path.{_≡_}
 use lib.ListN.{getD, set}
 use Rattle.arena.specs.Calls.{Committed, Done}
 use Rattle.vigbuso.specs.Direct.{CommitEnds, GrowEnds}
-use Rattle.replay.specs.Line.{low}
-use Rattle.replay.specs.Calls.{Made, committed, grown}
+use Rattle.replay.specs.way.Line.{low}
+use Rattle.replay.specs.way.Calls.{Made, committed, grown}
 
 module _ (a : List ℕ) {b : List ℕ} {k v w x y : ℕ} where
   pub grow-made : {o : Done} → GrowEnds o k b v w → v ≡ low (getD a 1 0) → x ≡ k → y ≡ w → Made (o .book) (grown o a) b (set (set a 0 x) 1 y)

@@ -6,7 +6,7 @@ use mathlib.Core.Path.{_≡_}
 use lib.Dec.{eqb, leb}
 use lib.ListN.{set}
 use borrow.Author.Tests.{eq-eqb, ne-eqb, le-leb, lt-ltb, le-ltb, lt-leb}
-use Rattle.replay.specs.Line.{readByte, putAt}
+use Rattle.replay.specs.way.Line.{readByte, putAt}
 
 module _ (v b : ℕ) where
   pub blank : b ≡ 32 → 0 ≡ readByte v b

@@ -7,7 +7,7 @@ ghost use mathlib.Core.Path.{_≡_};
 ghost use lib.ListN.{getD, set};
 ghost use Rattle.words.specs.Host.{digit};
 ghost use Rattle.vigbuso.specs.Direct.{commitOn, growOn, releaseOn, containsOn, reportOn};
-ghost use Rattle.replay.specs.Calls.{Made, committed, grown, reported};
+ghost use Rattle.replay.specs.way.Calls.{Made, committed, grown, reported};
 
 pub fn commit(meta: &mut [u32], line: &Numbers, words: &Words, mut answers: Numbers) -> Numbers
     ensures { λ r. ⌜ Made (commitOn (now (meta .entry)) (getD (now (words .entry)) 1 0) (getD (now (line .entry)) 2 0) .book) (committed (commitOn (now (meta .entry)) (getD (now (words .entry)) 1 0) (getD (now (line .entry)) 2 0)) answers) (now (meta .exit)) r ⌝ }

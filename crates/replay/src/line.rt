@@ -2,8 +2,8 @@
 ghost use Prim.Native.Nat.{_+_, _≤_, min};
 ghost use mathlib.Core.Path.{_≡_};
 ghost use lib.ListN.{getD};
-ghost use Rattle.replay.specs.Line as Line;
-ghost use Rattle.replay.specs.Line.{readByte, putAt};
+ghost use Rattle.replay.specs.way.Line as Line;
+ghost use Rattle.replay.specs.way.Line.{readByte, putAt};
 
 // A line's numbers, or its answers; and the low halves of its numbers.
 pub type Numbers = [u64; 4096];

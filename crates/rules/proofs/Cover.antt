@@ -17,7 +17,7 @@ use Rattle.words.specs.Limits.{maxParked}
 use Rattle.classes.specs.Shape.{classCount}
 use Rattle.rules.specs.declared.Limits.{Limits}
 use Rattle.rules.specs.Rules.{plainRules, RuleRow, rowsIn, spans, rowsOn, rowsFor, limitsFit, goodRow, badRows, twoRows, noRow, rowsFault, rowLimits, limitsIn, rulesOf, RowOf, ItsRow, RowsCover, Fit}
-use Rattle.rules.specs.Rows.{rowAt}
+use Rattle.rules.specs.way.Rows.{rowAt}
 use Rattle.rules.proofs.RowSteps.{rows-next, rows-past}
 
 -- ---- what no number leaves

@@ -15,7 +15,7 @@ use Rattle.words.specs.Limits.{maxParked}
 use Rattle.classes.specs.Shape.{classCount}
 use Rattle.rules.specs.declared.Limits.{Limits}
 use Rattle.rules.specs.Rules.{limits, plainRules, rowsIn, spans, rowsOn, rowsFor, limitsFit, goodRow, badRows, twoRows, noRow, rowsFault, rowLimits, limitsIn, rulesOf}
-use Rattle.rules.specs.Rows.{rowAt, HasRow}
+use Rattle.rules.specs.way.Rows.{rowAt, HasRow}
 
 -- ---- one row
 module _ (ws : List ℕ) (i : ℕ) where

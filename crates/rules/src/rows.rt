@@ -1,7 +1,7 @@
 // Rule rows: four numbers each, the first and the last class, the empty and the cold limit. Every loop goes by rows or by classes.
 ghost use mathlib.Core.Path.{_≡_};
 ghost use Rattle.facts.specs.Lists.{every};
-ghost use Rattle.rules.specs.Rows.{HasRow, rowAt};
+ghost use Rattle.rules.specs.way.Rows.{HasRow, rowAt};
 ghost use Rattle.rules.specs.Rules.{plainRules, spans, limitsFit, goodRow, rowsIn, rowsFor, badRows, twoRows, noRow, rowsFault, rowLimits, rulesOf};
 use super::Limits;
 use classes::CLASS_COUNT;

@@ -19,13 +19,13 @@ use Rattle.model.specs.HoleStore.{hole}
 use Rattle.runs.specs.declared.Request.{Request}
 use Rattle.runs.specs.declared.Commit.{Commit}
 use Rattle.runs.specs.declared.Commit.the-variants.{Run, Nothing}
-use Rattle.holes.specs.Change.{drawnBy, gainedBy}
-use Rattle.holes.specs.Record.{storeRecord, advanced, counted}
+use Rattle.holes.specs.way.Change.{drawnBy, gainedBy}
+use Rattle.holes.specs.way.Record.{storeRecord, advanced, counted}
 use Rattle.arena.specs.Owners.{own}
 use Rattle.arena.specs.Load.{loadHole, loadHoles}
 use Rattle.arena.specs.Store.{storeHole}
-use Rattle.holes.specs.Act.{withState, Gives, drawWords, drawRecord, Draws, endNone, endRun, endGiven, settle, fromFrontier, holeDrawn, commitDrawn, nextState, commitPlanned}
-use Rattle.runs.specs.Asks.{RecordIn, HoleIn, PlanIn, EndsIn, RequestIn, RunIn, BackIn}
+use Rattle.holes.specs.way.Act.{withState, Gives, drawWords, drawRecord, Draws, endNone, endRun, endGiven, settle, fromFrontier, holeDrawn, commitDrawn, nextState, commitPlanned}
+use Rattle.runs.specs.way.Asks.{RecordIn, HoleIn, PlanIn, EndsIn, RequestIn, RunIn, BackIn}
 use Rattle.runs.specs.Answer.{Answers}
 use Rattle.holes.proofs.StoreLaws.{hole-length}
 use Rattle.holes.proofs.EndsFair.{ends-more, draw-fair}

@@ -13,12 +13,12 @@ use Rattle.holes.specs.declared.Plan.{Plan}
 use Rattle.runs.specs.declared.Commit.{Commit}
 use Rattle.runs.specs.declared.Commit.the-variants.{Refused, Nothing}
 use Rattle.arena.specs.Load.{loadHole, loadHoles}
-use Rattle.holes.specs.Record.{recordOf, storeRecord}
+use Rattle.holes.specs.way.Record.{recordOf, storeRecord}
 use Rattle.arena.specs.Fair.{recordFair, commitFair}
-use Rattle.holes.specs.Plan.{planOf}
+use Rattle.holes.specs.way.Plan.{planOf}
 use Rattle.arena.specs.Calls.{commitFor}
-use Rattle.holes.specs.Act.{withState, endNone, fromFrontier, commitPlanned, planned, commitRead, commitActs, growWith}
-use Rattle.runs.specs.Asks.{RecordIn, HoleIn, PlanIn, EndsIn, RequestIn, BookIn}
+use Rattle.holes.specs.way.Act.{withState, endNone, fromFrontier, commitPlanned, planned, commitRead, commitActs, growWith}
+use Rattle.runs.specs.way.Asks.{RecordIn, HoleIn, PlanIn, EndsIn, RequestIn, BookIn}
 use Rattle.runs.specs.Answer.{Answers}
 use Rattle.holes.proofs.Acts.{fair-record, planned-is, ends-of, commit-acts}
 use Rattle.holes.proofs.PlanLaws.{plan-fits}

@@ -18,9 +18,9 @@ use Rattle.fields.proofs.Laws.{length-put}
 use Rattle.holes.specs.declared.Arena.{Arena}
 use Rattle.holes.specs.declared.holes.Beside.{Beside}
 use Rattle.holes.specs.declared.record.Gain.{Gain}
-use Rattle.holes.specs.Change.{gainedBy, gains, lost}
-use Rattle.holes.specs.Record.{abandoning}
-use Rattle.holes.specs.Plan.{indexCode, planOf, Searches, neighboursOf}
+use Rattle.holes.specs.way.Change.{gainedBy, gains, lost}
+use Rattle.holes.specs.way.Record.{abandoning}
+use Rattle.holes.specs.way.Plan.{indexCode, planOf, Searches, neighboursOf}
 use Rattle.arena.specs.Fair.{recordFair, holeEndsFair, holesEndFair}
 use Rattle.arena.specs.Owners.{own}
 use Rattle.arena.specs.Load.{loadHole, loadHoles}
@@ -29,11 +29,11 @@ use Rattle.arena.proofs.Frames.{loaded-length}
 use Rattle.model.specs.declared.Hole.{Hole}
 use Rattle.model.specs.HoleStore.{hole, holeAt, endsAt, startsAt, holeBefore, holeAfter, withBefore, withAfter, withBoth}
 use Rattle.model.proofs.Placing.{Found, found, not-found, finds}
-use Rattle.holes.specs.Act.{bothWords, placeWords, placeRecord, Places, edges, touching, giveWords, giveRecord, Gives}
+use Rattle.holes.specs.way.Act.{bothWords, placeWords, placeRecord, Places, edges, touching, giveWords, giveRecord, Gives}
 use Rattle.holes.proofs.StoreLaws.{loaded-at}
 use Rattle.holes.proofs.EndsFair.{ends-at}
 use Rattle.holes.proofs.Planning.{ends-are, ends-not}
-use Rattle.runs.specs.Asks.{StoreIn, SlotIn, StoredIn, TouchIn}
+use Rattle.runs.specs.way.Asks.{StoreIn, SlotIn, StoredIn, TouchIn}
 
 -- ---- the record's test: one failing word is enough
 module _ (n : ℕ) (b : List ℕ) where

@@ -12,13 +12,13 @@ use Rattle.arena.specs.Load.{loadHoles}
 use Rattle.arena.specs.Fair.{recordFair}
 use Rattle.arena.specs.Calls.{commitFor}
 use Rattle.holes.specs.declared.Arena.{Arena}
-use Rattle.holes.specs.Record.{recordOf}
-use Rattle.holes.specs.Plan.{planOf, Searches}
-use Rattle.holes.specs.Act.{withState, nextState, endNone, endRun, settle, fromFrontier, holeDrawn, commitDrawn, commitPlanned, planned, commitRead, commitActs}
+use Rattle.holes.specs.way.Record.{recordOf}
+use Rattle.holes.specs.way.Plan.{planOf, Searches}
+use Rattle.holes.specs.way.Act.{withState, nextState, endNone, endRun, settle, fromFrontier, holeDrawn, commitDrawn, commitPlanned, planned, commitRead, commitActs}
 use Rattle.holes.proofs.Acts.{commit-acts}
 use Rattle.holes.proofs.Planning.{found-fair, found-small, found-code, found-not}
-use Rattle.runs.specs.Asks.{BookIn}
-use Rattle.runs.specs.Would.{wouldDraw, wouldCommit, hasRun}
+use Rattle.runs.specs.way.Asks.{BookIn}
+use Rattle.runs.specs.way.Would.{wouldDraw, wouldCommit, hasRun}
 
 module _ (a : Arena) (code n m : ℕ) where
   pub draw-off : a .state ≡ 2 → false ≡ wouldDraw a code n m

@@ -1,3 +1,2 @@
-pub mod Asks
 pub mod Answer
-pub mod Would
+pub mod way

@@ -20,10 +20,10 @@ ghost use Rattle.words.specs.Host.{commitGranted};
 ghost use Rattle.fields.specs.Field.{arena, held, put};
 ghost use Rattle.arena.specs.Load.{loadHole};
 ghost use Rattle.arena.specs.Owners.{own};
-ghost use Rattle.holes.specs.Record.{storeRecord};
-ghost use Rattle.holes.specs.Change.{drawnBy};
-ghost use Rattle.holes.specs.Act.{withState, Draws, endNone, endGiven, fromFrontier, holeDrawn, commitDrawn, nextState, commitPlanned};
-ghost use Rattle.runs.specs.Asks.{RecordIn, HoleIn, PlanIn, EndsIn, RequestIn, RunIn, BackIn};
+ghost use Rattle.holes.specs.way.Record.{storeRecord};
+ghost use Rattle.holes.specs.way.Change.{drawnBy};
+ghost use Rattle.holes.specs.way.Act.{withState, Draws, endNone, endGiven, fromFrontier, holeDrawn, commitDrawn, nextState, commitPlanned};
+ghost use Rattle.runs.specs.way.Asks.{RecordIn, HoleIn, PlanIn, EndsIn, RequestIn, RunIn, BackIn};
 ghost use Rattle.runs.specs.Answer.{Answers};
 
 // No run: of the record only the state can change.

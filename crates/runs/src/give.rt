@@ -18,9 +18,9 @@ ghost use Rattle.arena.specs.Load.{loadHole};
 ghost use Rattle.arena.specs.Store.{storeHole};
 ghost use Rattle.arena.specs.Fair.{giveFair};
 ghost use Rattle.arena.specs.Calls.{given};
-ghost use Rattle.holes.specs.Change.{gains, lost};
-ghost use Rattle.holes.specs.Act.{bothWords, Places, Gives, endGiven};
-ghost use Rattle.runs.specs.Asks.{StoreIn, SlotIn, StoredIn, TouchIn, GiveIn, BackIn};
+ghost use Rattle.holes.specs.way.Change.{gains, lost};
+ghost use Rattle.holes.specs.way.Act.{bothWords, Places, Gives, endGiven};
+ghost use Rattle.runs.specs.way.Asks.{StoreIn, SlotIn, StoredIn, TouchIn, GiveIn, BackIn};
 
 // The holes gain pages; the run is lost.
 fn gains(count: u32, pages: u32) -> Gain

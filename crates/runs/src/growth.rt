@@ -12,8 +12,8 @@ ghost use Prim.Native.Nat.{_+_, _≤_};
 ghost use Rattle.words.specs.Limits.{maxPages};
 ghost use Rattle.words.specs.Host.{commitGranted};
 ghost use Rattle.arena.specs.Fair.{growGives, growFair};
-ghost use Rattle.holes.specs.Act.{growWith};
-ghost use Rattle.runs.specs.Asks.{RecordIn, EndsIn, RequestIn, BookIn};
+ghost use Rattle.holes.specs.way.Act.{growWith};
+ghost use Rattle.runs.specs.way.Asks.{RecordIn, EndsIn, RequestIn, BookIn};
 ghost use Rattle.runs.specs.Answer.{Answers};
 
 // The run that ends at page `end` grows by the request's pages, if the frontier is there and the arena suffices.

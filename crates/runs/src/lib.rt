@@ -14,8 +14,8 @@ ghost use Prim.Native.Nat.{_+_, _≤_};
 ghost use Rattle.words.specs.Limits.{maxPages};
 ghost use Rattle.arena.specs.Fair.{recordFair};
 ghost use Rattle.arena.specs.Calls.{commitFor};
-ghost use Rattle.holes.specs.Act.{commitRead};
-ghost use Rattle.runs.specs.Asks.{BookIn, RequestIn};
+ghost use Rattle.holes.specs.way.Act.{commitRead};
+ghost use Rattle.runs.specs.way.Asks.{BookIn, RequestIn};
 ghost use Rattle.runs.specs.Answer.{Answers};
 
 // What is asked of the arena: pages for an owner, in an arena of so many pages; the host word, and HELD as it was.

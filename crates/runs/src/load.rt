@@ -6,7 +6,7 @@ use words::limits::HOLE_SLOTS;
 ghost use mathlib.Core.Path.{_≡_};
 ghost use Prim.Native.Nat.{_≤_};
 ghost use lib.ListN.{length};
-ghost use Rattle.holes.specs.Record.{recordOf};
+ghost use Rattle.holes.specs.way.Record.{recordOf};
 ghost use Rattle.words.specs.Limits.{holeSlots};
 ghost use Rattle.fields.specs.Field.{arena, holes, get};
 ghost use Rattle.arena.specs.Fair.{recordFair, holesEndFair};

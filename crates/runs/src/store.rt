@@ -9,8 +9,8 @@ ghost use lib.ListN.{length};
 ghost use Rattle.words.specs.Limits.{holeSlots};
 ghost use Rattle.model.specs.HoleStore.{hole};
 ghost use Rattle.arena.specs.Store.{storeHole, storeCounts, storeTop};
-ghost use Rattle.holes.specs.Change.{drawnBy, gainedBy};
-ghost use Rattle.holes.specs.Record.{storeRecord};
+ghost use Rattle.holes.specs.way.Change.{drawnBy, gainedBy};
+ghost use Rattle.holes.specs.way.Record.{storeRecord};
 
 fn store_counts(meta: &mut [u32], a: Arena)
     requires { ⌜ 40000 ≤ length (now meta) ⌝ }

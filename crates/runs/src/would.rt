@@ -7,9 +7,9 @@ ghost use mathlib.Core.Path.{_≡_};
 ghost use Prim.Native.Nat.{_+_, _≤_};
 ghost use Rattle.words.specs.Limits.{maxPages};
 ghost use Rattle.arena.specs.Fair.{recordFair};
-ghost use Rattle.holes.specs.Record.{recordOf};
-ghost use Rattle.runs.specs.Asks.{BookIn, RecordIn};
-ghost use Rattle.runs.specs.Would.{wouldDraw, wouldCommit};
+ghost use Rattle.holes.specs.way.Record.{recordOf};
+ghost use Rattle.runs.specs.way.Asks.{BookIn, RecordIn};
+ghost use Rattle.runs.specs.way.Would.{wouldDraw, wouldCommit};
 
 fn would_draw(a: Arena, code: u32, size: u32, pages: u32) -> bool
     requires { ⌜ RecordIn size a × (size ≤ maxPages) × (pages ≤ maxPages + 1) ⌝ }

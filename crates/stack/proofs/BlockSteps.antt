@@ -13,7 +13,7 @@ use Rattle.classes.specs.declared.Shape.{Shape}
 use Rattle.fields.specs.Field.{page, free, carved, get}
 use Rattle.model.specs.Page.{wordOf}
 use Rattle.pages.specs.Stack.{hasMore, blocksFrom, indexOf, isBlock}
-use Rattle.pages.specs.Asks.{WordAsks, IndexAsks}
+use Rattle.pages.specs.way.Asks.{WordAsks, IndexAsks}
 use Rattle.stack.proofs.InverseLaws.{divides}
 
 -- a block lies within its run

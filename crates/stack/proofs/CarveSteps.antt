@@ -13,11 +13,11 @@ use Rattle.facts.specs.Lists.{every}
 use Rattle.facts.proofs.Bools.{by-cases, and-left, and-right}
 use Rattle.classes.specs.declared.Shape.{Shape}
 use Rattle.fields.specs.Field.{out, put}
-use Rattle.fields.specs.Mark.{markOut}
+use Rattle.fields.specs.way.Mark.{markOut}
 use Rattle.fields.proofs.Laws.{length-put, put-comm}
 use Rattle.model.specs.Page.{wordOf}
 use Rattle.pages.specs.Stack.{downs, marks, spliced, Gave}
-use Rattle.pages.specs.Asks.{NameAsks, FreshAsks}
+use Rattle.pages.specs.way.Asks.{NameAsks, FreshAsks}
 use Rattle.pages.proofs.Downs.{small, length-downs, downs-below}
 use Rattle.pages.proofs.Marks.{marks-append}
 use Rattle.pages.proofs.Spliced.{spliced-none, spliced-one, spliced-twice}

@@ -9,7 +9,7 @@ use Rattle.classes.specs.declared.Shape.{Shape}
 use Rattle.fields.specs.Field.{page, out, free, carved, get, put}
 use Rattle.model.specs.Page.{wordOf}
 use Rattle.pages.specs.Stack.{tops, downs, marks, carvedNow, latest, draw, spliced, Gave, Drawn}
-use Rattle.pages.specs.Asks.{GiveAsks, BothAsks, DrawAsks}
+use Rattle.pages.specs.way.Asks.{GiveAsks, BothAsks, DrawAsks}
 use Rattle.pages.proofs.Downs.{length-downs, every-below}
 use Rattle.pages.proofs.Tops.{length-tops, tops-cut, tops-fewer}
 use Rattle.pages.proofs.Marks.{length-marks, marks-append}

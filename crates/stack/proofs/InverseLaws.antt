@@ -10,7 +10,7 @@ use mir.Syntax.{w32, w64}
 use lib.Pow.{high, low}
 use Rattle.classes.specs.declared.Shape.{Shape}
 use Rattle.classes.specs.Shape.{inverse}
-use Rattle.classes.specs.Sound.{Sound}
+use Rattle.classes.specs.way.Sound.{Sound}
 
 -- what the inverse of d has too much, d times
 abbrev excess : ℕ → ℕ

@@ -13,11 +13,11 @@ use Rattle.facts.proofs.Bools.{and-right}
 use Rattle.classes.specs.declared.Shape.{Shape}
 use Rattle.fields.specs.Field.{slot, get}
 use Rattle.pages.specs.Stack.{tops, downs, Gave}
-use Rattle.pages.specs.Asks.{GiveAsks, PopAsks, FreshAsks}
+use Rattle.pages.specs.way.Asks.{GiveAsks, PopAsks, FreshAsks}
 use Rattle.pages.proofs.Downs.{small, every-reverse, every-below}
 use Rattle.pages.proofs.Tops.{length-tops, tops-fewer, tops-kept, popped-more, every-tops}
 use Rattle.pages.proofs.Marks.{marks-kept}
-use Rattle.stack.specs.Stretch.{StretchAsks}
+use Rattle.stack.specs.way.Stretch.{StretchAsks}
 use Rattle.stack.proofs.DrawSteps.{gave-none, gave-more, gave-long}
 
 tops-join : (b : List ℕ) (q h n t : ℕ) → h ≤ t → tops b q (h + n) t ≡ tops b q h t ++ tops b q n (t - h)

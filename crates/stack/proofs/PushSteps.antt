@@ -12,13 +12,13 @@ use mathlib.Core.Bool.{true}
 use Rattle.facts.specs.Lists.{every}
 use Rattle.facts.proofs.Lists.{every-get}
 use Rattle.classes.specs.declared.Shape.{Shape}
-use Rattle.classes.specs.Sound.{Sound}
+use Rattle.classes.specs.way.Sound.{Sound}
 use Rattle.fields.specs.Ranges.{maxPages}
 use Rattle.fields.specs.Field.{page, slot, free, virgin, get, put}
 use Rattle.fields.proofs.Laws.{length-put}
 use Rattle.pages.specs.Stack.{pageSlots, indexOf, isBlock, push, pushed}
-use Rattle.pages.specs.Asks.{IndexAsks, LayAsks}
-use Rattle.stack.specs.Lay.{PairsAsks}
+use Rattle.pages.specs.way.Asks.{IndexAsks, LayAsks}
+use Rattle.stack.specs.way.Lay.{PairsAsks}
 
 -- each listed word's block has an index
 index-asks : (sh : Shape) (q : ℕ) (ws : List ℕ) (k : ℕ) → Sound sh → q < maxPages → every (λ w. ltb (indexOf sh q w) pageSlots) ws ≡ true → k < length ws → IndexAsks sh q (getD ws k 0)

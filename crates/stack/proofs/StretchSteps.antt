@@ -10,7 +10,7 @@ use Rattle.facts.proofs.Bools.{and-left, and-right}
 use Rattle.fields.specs.Field.{slot, get}
 use Rattle.pages.specs.Stack.{tops, downs}
 use Rattle.pages.proofs.Tops.{popped-more}
-use Rattle.stack.specs.Stretch.{StretchAsks}
+use Rattle.stack.specs.way.Stretch.{StretchAsks}
 
 module _ (b : List ℕ) (q : ℕ) where
   abbrev pairIs : ℕ → ℕ → ℕ → Bool → Bool

@@ -1,2 +1,1 @@
-pub mod Lay
-pub mod Stretch
+pub mod way

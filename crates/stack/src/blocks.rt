@@ -6,7 +6,7 @@ ghost use Rattle.fields.specs.Field.{words};
 ghost use Rattle.model.specs.Page.{wordOf};
 ghost use mathlib.Core.Bool.{true};
 ghost use Rattle.pages.specs.Stack.{hasMore, indexOf, isBlock};
-ghost use Rattle.pages.specs.Asks.{WordAsks, IndexAsks};
+ghost use Rattle.pages.specs.way.Asks.{WordAsks, IndexAsks};
 use classes::Shape;
 use words::Word;
 

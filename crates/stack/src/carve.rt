@@ -4,7 +4,7 @@ ghost use mathlib.Core.Path.{_≡_};
 ghost use Prim.Native.Nat.{_-_};
 ghost use Rattle.model.specs.Page.{wordOf};
 ghost use Rattle.pages.specs.Stack.{downs, marks, spliced, Gave};
-ghost use Rattle.pages.specs.Asks.{NameAsks, MarkAsks, FreshAsks};
+ghost use Rattle.pages.specs.way.Asks.{NameAsks, MarkAsks, FreshAsks};
 use crate::blocks::min;
 use crate::blocks::word_of;
 use classes::Shape;

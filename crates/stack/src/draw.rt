@@ -2,7 +2,7 @@
 // A list is filled from a place downwards, so that the latest stands first.
 ghost use mathlib.Core.List.{_++_, reverse};
 ghost use Rattle.pages.specs.Stack.{tops, downs, Gave, Drawn};
-ghost use Rattle.pages.specs.Asks.{BothAsks, DrawAsks};
+ghost use Rattle.pages.specs.way.Asks.{BothAsks, DrawAsks};
 use crate::blocks::min;
 use crate::carve::carve_blocks;
 use crate::pop::pop_blocks;

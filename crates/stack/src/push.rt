@@ -6,8 +6,8 @@ ghost use Prim.Native.Nat.{_*_};
 ghost use lib.ListN.{take};
 ghost use Rattle.facts.specs.Lists.{every};
 ghost use Rattle.pages.specs.Stack.{indexOf, isBlock, push, pushed};
-ghost use Rattle.pages.specs.Asks.{LayAsks, PushAsks};
-ghost use Rattle.stack.specs.Lay.{PairsAsks};
+ghost use Rattle.pages.specs.way.Asks.{LayAsks, PushAsks};
+ghost use Rattle.stack.specs.way.Lay.{PairsAsks};
 use crate::blocks::index_of;
 use classes::Shape;
 

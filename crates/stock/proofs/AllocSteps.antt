@@ -13,16 +13,16 @@ use Rattle.classes.proofs.Shapes.{shape-sound}
 use Rattle.calls.specs.Take.{takeCall}
 use Rattle.take.specs.declared.call.Take.{Take}
 use Rattle.take.specs.declared.call.Take.the-variants.{Refused, Took}
-use Rattle.take.specs.TakeAnswer.{Takes}
-use Rattle.take.specs.TakePlan.{CallAsks}
+use Rattle.take.specs.way.TakeAnswer.{Takes}
+use Rattle.take.specs.way.TakePlan.{CallAsks}
 use Rattle.take.proofs.AnswerSteps.{told-refused, told-code, told-count, told-number}
 use Rattle.take.proofs.TakeSpares.{call-spares}
 use Rattle.take.proofs.InArena.{take-in-arena}
 use Rattle.pool.specs.Stock.{blank}
 use Rattle.poolcalls.specs.Stock.{countIn, entryIn, putCount, putAll}
 use Rattle.poolcalls.specs.Calls.{topFair, bringOn, tookOn, allocOn, BlockEnds}
-use Rattle.stock.specs.Asks.{ListAsks}
-use Rattle.stock.specs.Ends.{Brings}
+use Rattle.stock.specs.way.Asks.{ListAsks}
+use Rattle.stock.specs.way.Ends.{Brings}
 
 -- ---- of m blocks the last is granted
 module _ (b : List ℕ) (c m : ℕ) (l : List ℕ) where

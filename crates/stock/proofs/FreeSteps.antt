@@ -12,13 +12,13 @@ use Rattle.classes.specs.Shape.{shapeOf}
 use Rattle.model.specs.Release.{ofKind}
 use Rattle.calls.specs.Out.{outAt, outFault, unmarked, repeats}
 use Rattle.calls.specs.Release.{releasedNone, releaseBlocks}
-use Rattle.take.specs.TakePlan.{CallAsks}
+use Rattle.take.specs.way.TakePlan.{CallAsks}
 use Rattle.pool.specs.Stock.{stockMost}
 use Rattle.poolcalls.specs.Stock.{countIn, stocked, pushed}
 use Rattle.pool.specs.Pool.{refused, freed}
 use Rattle.poolcalls.specs.Calls.{said, countFair, gaveOn, freedOn, freeOn, FreeEnds}
-use Rattle.stock.specs.Asks.{NearAsks, FreeAsks}
-use Rattle.stock.specs.Ends.{Gave, Kept, farFault, unfairFault}
+use Rattle.stock.specs.way.Asks.{NearAsks, FreeAsks}
+use Rattle.stock.specs.way.Ends.{Gave, Kept, farFault, unfairFault}
 use Rattle.stock.proofs.RoomSteps.{room-limit}
 use Rattle.stock.proofs.LookSteps.{behind-kind, behind-granule, far-kind, near-kind, far-out}
 

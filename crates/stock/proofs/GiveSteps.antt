@@ -10,12 +10,13 @@ use Rattle.calls.specs.Release as Heap
 use Rattle.calls.specs.Release.{releaseBlocks}
 use Rattle.release.specs.declared.Released.{Released}
 use Rattle.release.specs.declared.Released.the-variants.{Refused, Fate}
-use Rattle.release.specs.Act.{answerAs, Answered}
-use Rattle.release.specs.Asks.{ClassAsks}
-use Rattle.release.specs.One.{OneBack}
+use Rattle.release.specs.way.Act.{Answered}
+use Rattle.release.specs.Answer.{answerAs}
+use Rattle.release.specs.way.Asks.{ClassAsks}
+use Rattle.release.specs.way.One.{OneBack}
 use Rattle.release.proofs.OneSteps.{one-carried, one-left}
-use Rattle.take.specs.TakePlan.{CallAsks}
-use Rattle.stock.specs.Ends.{Gave}
+use Rattle.take.specs.way.TakePlan.{CallAsks}
+use Rattle.stock.specs.way.Ends.{Gave}
 
 -- what the heap's functions ask of a class
 pub class-asks : (n : ℕ) (b : List ℕ) (c : ℕ) (sh : Shape) → CallAsks n b c → sh ≡ shapeOf c → ClassAsks n b c sh

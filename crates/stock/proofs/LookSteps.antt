@@ -14,10 +14,10 @@ use Rattle.classes.proofs.Shapes.{shape-sound}
 use Rattle.model.specs.Release.{ofKind}
 use Rattle.pages.specs.Stack.{pageAt}
 use Rattle.calls.specs.Out.{inRunOf, outAt}
-use Rattle.take.specs.TakePlan.{CallAsks}
+use Rattle.take.specs.way.TakePlan.{CallAsks}
 use Rattle.poolcalls.specs.Stock.{countIn, stocked}
 use Rattle.poolcalls.specs.Calls.{countFair, grantedIn, stockedIn}
-use Rattle.stock.specs.Asks.{GranuleAsks}
+use Rattle.stock.specs.way.Asks.{GranuleAsks}
 
 -- ---- the blocks in stock
 module _ (b : List ℕ) (c k : ℕ) (e : k ≡ countIn b c) where

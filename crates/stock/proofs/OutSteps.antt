@@ -14,7 +14,7 @@ use Rattle.facts.proofs.Bools.{by-cases, and-left, and-right}
 use Rattle.words.specs.Word.{granuleOf}
 use Rattle.classes.specs.declared.Shape.{Shape}
 use Rattle.classes.specs.Shape.{shapeOf, smallShape, inverse}
-use Rattle.classes.specs.Sound.{Sound}
+use Rattle.classes.specs.way.Sound.{Sound}
 use Rattle.classes.proofs.Shapes.{shape-sound}
 use Rattle.fields.specs.Field.{arena, page, out, frontier, owner, first, get, words, Has}
 use Rattle.pages.specs.Runs.{whole}
@@ -25,11 +25,11 @@ use Rattle.release.specs.declared.Found.{Found}
 use Rattle.release.specs.declared.Found.the-variants.{At, Nothing}
 use Rattle.release.specs.declared.Out.{Out}
 use Rattle.release.specs.declared.Out.the-variants.{Block, Nowhere}
-use Rattle.release.specs.Blocks.{blockAt, findOut}
+use Rattle.release.specs.way.Blocks.{blockAt, findOut}
 use Rattle.release.proofs.BlockSteps.{none-found, found-at}
 use Rattle.release.proofs.Bits.{below-capacity}
 use Rattle.release.proofs.OutSteps.{not-out, is-out}
-use Rattle.stock.specs.Asks.{PageAsks, SmallAsks}
+use Rattle.stock.specs.way.Asks.{PageAsks, SmallAsks}
 
 -- ---- by the run that has the word's granule
 found-block : (sh : Shape) (q w : ℕ) (f : Found) (i : ℕ) → f ≡ blockAt sh q w → f ≡ At i → (isBlock sh q w ≡ true) × (i ≡ indexOf sh q w)

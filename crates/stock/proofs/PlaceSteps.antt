@@ -12,9 +12,9 @@ use lib.Seq.{drop-cons, getD-take}
 use borrow.Author.Tests.{lt-ltb, le-ltb}
 use Rattle.facts.proofs.Lists.{drop-past}
 use Rattle.words.specs.Word.{granuleOf}
-use Rattle.take.specs.TakePlan.{CallAsks}
+use Rattle.take.specs.way.TakePlan.{CallAsks}
 use Rattle.poolcalls.specs.Stock.{placeAt, countIn, entryIn, placeIn, stocked, putCount, putEntry, putPlace, put, pushed, putAll}
-use Rattle.stock.specs.Asks.{ListAsks}
+use Rattle.stock.specs.way.Asks.{ListAsks}
 
 pub push-step : (b b₁ b₂ : List ℕ) (c k g : ℕ) → k ≡ countIn b c → b₁ ≡ put b c k g → b₂ ≡ putCount b₁ c (k + 1) → b₂ ≡ pushed b c g
 push-step b b₁ b₂ c k g p q r = r ∙ rw (q, p) (ap (putCount (put b c (countIn b c) g) c) (omega arith))

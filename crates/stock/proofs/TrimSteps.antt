@@ -9,7 +9,7 @@ use Rattle.classes.specs.Shape.{shapeOf}
 use Rattle.calls.specs.Release.{releaseBlocks}
 use Rattle.poolcalls.specs.Stock.{countIn, entryIn, blockIn, putCount}
 use Rattle.poolcalls.specs.Calls.{topFair, gaveOn, trimOn, BlockEnds}
-use Rattle.stock.specs.Ends.{Gave}
+use Rattle.stock.specs.way.Ends.{Gave}
 
 module _ (n : ℕ) (b : List ℕ) (c h k : ℕ) (e : k ≡ countIn b c) where
   pub trim-none : (old : ℕ) → k ≡ 0 → BlockEnds (trimOn n b c h) 0 b old 0

@@ -1,11 +1,11 @@
 // An alloc: the stock's top, or a take that fills the stock.
 ghost use Rattle.classes.specs.Shape.{shapeOf};
 ghost use Rattle.calls.specs.Take.{takeCall};
-ghost use Rattle.take.specs.TakePlan.{CallAsks};
+ghost use Rattle.take.specs.way.TakePlan.{CallAsks};
 ghost use Rattle.pool.specs.Stock.{blank};
 ghost use Rattle.poolcalls.specs.Calls.{bringOn, tookOn, allocOn, BlockEnds};
-ghost use Rattle.stock.specs.Asks.{ListAsks};
-ghost use Rattle.stock.specs.Ends.{Brings};
+ghost use Rattle.stock.specs.way.Asks.{ListAsks};
+ghost use Rattle.stock.specs.way.Ends.{Brings};
 use crate::cells::count;
 use crate::cells::entry;
 use crate::cells::set_count;

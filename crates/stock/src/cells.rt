@@ -3,7 +3,7 @@ ghost use mathlib.Core.Path.{_≡_};
 ghost use Prim.Native.Nat.{_+_, _*_, _/_, _%_, _<_};
 ghost use lib.ListN.{length};
 ghost use Rattle.poolcalls.specs.Stock.{countAt, entryAt, placeAt, countIn, entryIn, placeIn, putCount, putEntry, putPlace};
-ghost use Rattle.stock.specs.Asks.{StockAsks};
+ghost use Rattle.stock.specs.way.Asks.{StockAsks};
 use fields::bits::place_bits;
 use fields::bits::read_bits;
 

@@ -2,12 +2,12 @@
 ghost use mathlib.Core.Path.{_≡_};
 ghost use mathlib.Core.Bool.{true, false};
 ghost use lib.Dec.{ltb};
-ghost use Rattle.take.specs.TakePlan.{CallAsks};
+ghost use Rattle.take.specs.way.TakePlan.{CallAsks};
 ghost use Rattle.pool.specs.Stock.{stockMost};
 ghost use Rattle.poolcalls.specs.Stock.{countIn};
 ghost use Rattle.poolcalls.specs.Calls.{freeOn, FreeEnds};
-ghost use Rattle.stock.specs.Asks.{NearAsks, FreeAsks};
-ghost use Rattle.stock.specs.Ends.{Kept, farFault, unfairFault};
+ghost use Rattle.stock.specs.way.Asks.{NearAsks, FreeAsks};
+ghost use Rattle.stock.specs.way.Ends.{Kept, farFault, unfairFault};
 use crate::cells::count;
 use crate::give::give;
 use crate::look::behind;

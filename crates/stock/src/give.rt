@@ -2,8 +2,8 @@
 ghost use mathlib.Core.List.{_∷_, []};
 ghost use Rattle.classes.specs.Shape.{shapeOf};
 ghost use Rattle.calls.specs.Release.{releaseBlocks};
-ghost use Rattle.take.specs.TakePlan.{CallAsks};
-ghost use Rattle.stock.specs.Ends.{Gave};
+ghost use Rattle.take.specs.way.TakePlan.{CallAsks};
+ghost use Rattle.stock.specs.way.Ends.{Gave};
 use release::Released;
 
 // The release of one block: 0, or its number. A list is made only where `release_one` leaves it.

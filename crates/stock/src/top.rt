@@ -4,7 +4,7 @@ ghost use Prim.Native.Nat.{_<_};
 ghost use Rattle.words.specs.Word.{blockWord};
 ghost use Rattle.classes.specs.Shape.{shapeOf};
 ghost use Rattle.poolcalls.specs.Calls.{topFair};
-ghost use Rattle.stock.specs.Asks.{TopAsks};
+ghost use Rattle.stock.specs.way.Asks.{TopAsks};
 use crate::cells::entry;
 use crate::room::STOCK_ROOM;
 use words::Word;

@@ -1,5 +1,5 @@
 // A trim: the stock's top goes back to the heap.
-ghost use Rattle.take.specs.TakePlan.{CallAsks};
+ghost use Rattle.take.specs.way.TakePlan.{CallAsks};
 ghost use Rattle.poolcalls.specs.Calls.{trimOn, BlockEnds};
 use crate::cells::count;
 use crate::cells::entry;

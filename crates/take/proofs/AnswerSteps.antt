@@ -12,7 +12,8 @@ use Rattle.words.specs.Host.{digit}
 use Rattle.take.specs.declared.call.Take.{Take}
 use Rattle.calls.specs.Take as Heap
 use Rattle.take.specs.declared.call.Take.the-variants.{Refused, Took}
-use Rattle.take.specs.TakeAnswer.{answerOf, Takes, TakesInto}
+use Rattle.take.specs.way.TakeAnswer.{Takes, TakesInto}
+use Rattle.take.specs.Answer.{answerOf}
 
 pub told-refused : (k j : ℕ) (w : Bool) (m : ℕ) → answerOf k j w ≡ Refused m → k ≡ 0 → ⊥
 told-refused zero j w m e y = let z : _≡_ {A = ℕ} 0 1 = cc in omega arith

@@ -17,7 +17,7 @@ use Rattle.classes.proofs.Shapes.{shape-sound}
 use Rattle.fields.specs.Field.{arena, class, frontier, partial, empty, cold, words, get}
 use Rattle.runs.specs.declared.Commit.the-variants as Made
 use Rattle.runs.specs.Answer as Arena
-use Rattle.runs.specs.Would.{wouldCommit}
+use Rattle.runs.specs.way.Would.{wouldCommit}
 use Rattle.runs.proofs.WouldSteps.{would-is}
 use Rattle.arena.specs.Calls.{Committed, commitFor}
 use Rattle.pages.specs.Stack.{latest}
@@ -27,8 +27,8 @@ use Rattle.pages.specs.declared.Park.the-variants.{Empty, Cold}
 use Rattle.pages.proofs.Draws.{latest-length}
 use Rattle.calls.specs.Take.{Filled, parkFair, tookNone, took, fromPartial, fromPark, onRun, takeNew, takeBlocks}
 use Rattle.take.specs.declared.take_plan.Plan.{Plan}
-use Rattle.take.specs.TakePlan.{TakeAsks, TakeRunAsks, CallAsks, walksFrom, fills, Foretold, woken}
-use Rattle.take.specs.TakeCount.{newCount, CountAsks, Counts}
+use Rattle.take.specs.way.TakePlan.{TakeAsks, TakeRunAsks, CallAsks, walksFrom, fills, Foretold, woken}
+use Rattle.take.specs.way.TakeCount.{newCount, CountAsks, Counts}
 use Rattle.take.proofs.TakeNew.{stocked-le, new-free, new-carved}
 use Rattle.take.proofs.TakeSteps.{linked-planned, new-runs}
 

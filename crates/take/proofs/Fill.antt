@@ -12,7 +12,7 @@ use lib.ListN.{length, length-append}
 use borrow.Author.Tests.{lt-ltb, leb-true, eq-eqb, ne-eqb}
 use Rattle.facts.proofs.Bools.{by-cases, or-right}
 use Rattle.classes.specs.declared.Shape.{Shape}
-use Rattle.classes.specs.Sound.{Sound}
+use Rattle.classes.specs.way.Sound.{Sound}
 use Rattle.fields.specs.Field.{Field, arena, class, page, out, frontier, partial, next, prev, free, carved, virgin, region, off, get, ok, words}
 use Rattle.fields.proofs.Laws.{get-put-same, get-put-other, length-put}
 use Rattle.fields.proofs.Outcome.{get-putAt-other}

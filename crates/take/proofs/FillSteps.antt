@@ -14,11 +14,11 @@ use Rattle.fields.specs.Field.{arena, class, page, frontier, partial, next, pre
 use Rattle.model.specs.Page.{wordOf}
 use Rattle.pages.specs.Stack.{latest, draw, hasMore, spliced, Drawn}
 use Rattle.pages.specs.Links.{unlink}
-use Rattle.pages.specs.Asks.{DrawAsks, UnlinkAsks}
+use Rattle.pages.specs.way.Asks.{DrawAsks, UnlinkAsks}
 use Rattle.pages.proofs.Draws.{draw-changes}
 use Rattle.pages.proofs.Spliced.{length-spliced}
 use Rattle.calls.specs.Take.{walk, filledNone, thenFilled, unlistSpent, fillFrom}
-use Rattle.take.specs.TakePlan.{TakeAsks, fills, TurnAsks, GaveTurn, FillAsks, Filling}
+use Rattle.take.specs.way.TakePlan.{TakeAsks, fills, TurnAsks, GaveTurn, FillAsks, Filling}
 use Rattle.take.proofs.TakePages.{whole-below, latest-some, latest-most, positive}
 use Rattle.take.proofs.TakeDraws.{latest-small}
 use Rattle.take.proofs.Walk.{stops, some-wanted, some-page, Step, walk-below, walk-step}

@@ -13,7 +13,7 @@ use Rattle.facts.specs.Lists.{All, every}
 use Rattle.facts.proofs.Bools.{by-cases, and-left, and-right}
 use Rattle.words.specs.Word.{granuleOf}
 use Rattle.classes.specs.declared.Shape.{Shape}
-use Rattle.classes.specs.Sound.{Sound}
+use Rattle.classes.specs.way.Sound.{Sound}
 use Rattle.fields.specs.Field.{arena, class, frontier, partial, empty, cold, get, words}
 use Rattle.fields.specs.Ranges.{maxPages}
 use Rattle.model.specs.Page.{wordOf}
@@ -26,7 +26,7 @@ use Rattle.pages.specs.declared.Park.{Park}
 use Rattle.pages.specs.declared.Park.the-variants.{Empty, Cold}
 use Rattle.pages.proofs.Draws.{latest-below}
 use Rattle.calls.specs.Take.{Took, tookNone, walk, parkFair, fillFrom, unlistSpent, filled, fromPartial, fromPark, onRun, takeNew, takeBlocks, takeCall}
-use Rattle.take.specs.TakePlan.{TakeAsks, ParkedAsks, TakeRunAsks, walksFrom, fills, woken}
+use Rattle.take.specs.way.TakePlan.{TakeAsks, ParkedAsks, TakeRunAsks, walksFrom, fills, woken}
 use Rattle.take.proofs.TakePages.{whole-below, positive}
 use Rattle.take.proofs.Walk.{stops, walk-step}
 use Rattle.take.proofs.Fill.{turned}

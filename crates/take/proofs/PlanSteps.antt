@@ -18,7 +18,7 @@ use Rattle.pages.specs.Fair.{headerFair}
 use Rattle.pages.proofs.FairLaws.{carved-low, room-left}
 use Rattle.calls.specs.Take.{pageReady, sound, walk}
 use Rattle.take.specs.declared.take_plan.Plan.{Plan}
-use Rattle.take.specs.TakePlan.{TakeAsks, TopsAsks, SupplyAsks, share, walksFrom, fills, Foretold}
+use Rattle.take.specs.way.TakePlan.{TakeAsks, TopsAsks, SupplyAsks, share, walksFrom, fills, Foretold}
 use Rattle.take.proofs.TakePages.{sound-fair, fair-sound, whole-below, latest-some, latest-most, positive}
 use Rattle.take.proofs.Walk.{planned, planned-stops, planned-goes, stops, stops-full, stops-none, walk-stops, walk-step}
 use Rattle.take.proofs.Fill.{foreseen, fill-planned}

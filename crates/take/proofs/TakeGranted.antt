@@ -21,11 +21,11 @@ use Rattle.model.specs.declared.Hole.{Hole}
 use Rattle.holes.specs.declared.Arena.{Arena}
 use Rattle.arena.specs.Load.{loadHole}
 use Rattle.arena.specs.Store.{storeHole, storeCounts, storeTop}
-use Rattle.holes.specs.Record.{recordOf, storeRecord, advanced, counted}
+use Rattle.holes.specs.way.Record.{recordOf, storeRecord, advanced, counted}
 use Rattle.arena.specs.Fair.{recordFair}
 use Rattle.arena.specs.Owners.{own}
 use Rattle.arena.specs.Calls.{Committed, commitRefused, commitFor}
-use Rattle.holes.specs.Act.{withState, drawWords, drawRecord, endNone, endRun, endGiven, settle, fromFrontier, holeDrawn, commitDrawn, nextState, commitPlanned, planned, commitRead, commitActs}
+use Rattle.holes.specs.way.Act.{withState, drawWords, drawRecord, endNone, endRun, endGiven, settle, fromFrontier, holeDrawn, commitDrawn, nextState, commitPlanned, planned, commitRead, commitActs}
 use Rattle.arena.proofs.Frames.{isStored, isOwner, record-changes, own-changes}
 use Rattle.holes.proofs.Acts.{FairRecord, fair-record, commit-acts}
 use Rattle.holes.proofs.PlanLaws.{plan-fits}

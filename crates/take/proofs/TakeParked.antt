@@ -16,11 +16,11 @@ use Rattle.pages.specs.Stack.{latest}
 use Rattle.pages.specs.Links.{top, stored, unstow}
 use Rattle.pages.specs.declared.Park.{Park}
 use Rattle.pages.specs.declared.Park.the-variants.{Empty, Cold}
-use Rattle.pages.specs.Asks.{WakeAsks}
+use Rattle.pages.specs.way.Asks.{WakeAsks}
 use Rattle.pages.proofs.Frames.{changes-unstow}
 use Rattle.pages.specs.Fair.{storeFair}
 use Rattle.calls.specs.Take.{sound, parkFair}
-use Rattle.take.specs.TakePlan.{TakeAsks, SupplyAsks, walksFrom, fills, Foretold, ParkedAsks, woken}
+use Rattle.take.specs.way.TakePlan.{TakeAsks, SupplyAsks, walksFrom, fills, Foretold, ParkedAsks, woken}
 use Rattle.take.proofs.TakePages.{Fair, sound-fair, whole-below, Alike, fair-alike, latest-alike}
 use Rattle.take.proofs.TakeAlone.{link-changes, alone-walks, alone-planned}
 use Rattle.take.proofs.Fill.{foreseen, fill-planned}

@@ -27,15 +27,16 @@ use Rattle.pages.specs.Links.{link, top, wake}
 use Rattle.pages.specs.Carve.{newRun}
 use Rattle.pages.specs.declared.Park.{Park}
 use Rattle.pages.specs.declared.Park.the-variants.{Empty, Cold}
-use Rattle.pages.specs.Asks.{WakeAsks, LinkAsks, NewAsks}
+use Rattle.pages.specs.way.Asks.{WakeAsks, LinkAsks, NewAsks}
 use Rattle.take.specs.declared.call.Take as Taken
 use Rattle.take.specs.declared.call.Ready.{Ready}
 use Rattle.take.specs.declared.call.Ready.the-variants as Found
 use Rattle.take.specs.declared.call.Take.the-variants as Answer
 use Rattle.take.specs.declared.take_plan.Plan.{Plan}
 use Rattle.calls.specs.Take.{parkFair, Took, filled, fromPartial, fromPark, onRun, takeNew, takeBlocks, takeCall}
-use Rattle.take.specs.TakePlan.{TakeAsks, SupplyAsks, TakeRunAsks, TakeNewAsks, BlocksAsks, CallAsks, walksFrom, fills, Foretold, ParkedAsks, firstStore, woken, FillAsks, Filling}
-use Rattle.take.specs.TakeAnswer.{answerOf, Takes, Readies, onRunAt}
+use Rattle.take.specs.way.TakePlan.{TakeAsks, SupplyAsks, TakeRunAsks, TakeNewAsks, BlocksAsks, CallAsks, walksFrom, fills, Foretold, ParkedAsks, firstStore, woken, FillAsks, Filling}
+use Rattle.take.specs.way.TakeAnswer.{Takes, Readies, onRunAt}
+use Rattle.take.specs.Answer.{answerOf}
 use Rattle.take.proofs.TakePages.{Fair}
 use Rattle.take.proofs.Fill.{fill-most, foreseen, fill-planned}
 use Rattle.take.proofs.TakeAlone.{link-changes, alone-walks, alone-planned}

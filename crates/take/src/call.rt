@@ -1,11 +1,11 @@
 // Takes of blocks, small and medium, from number 5 on: the first source that has a page is made ready, then the list is filled.
 ghost use mathlib.Core.Path.{_≡_};
 ghost use Rattle.classes.specs.Shape.{shapeOf};
-ghost use Rattle.pages.specs.Asks.{RowAsks};
+ghost use Rattle.pages.specs.way.Asks.{RowAsks};
 ghost use Rattle.calls.specs.Take.{fromPartial, fromPark, takeNew, takeBlocks, takeCall};
-ghost use Rattle.take.specs.TakePlan.{TakeAsks, ParkedAsks, TakeRunAsks, TakeNewAsks, BlocksAsks, CallAsks, firstStore};
-ghost use Rattle.take.specs.TakeCount.{CountAsks};
-ghost use Rattle.take.specs.TakeAnswer.{Takes, TakesInto, Readies, onRunAt};
+ghost use Rattle.take.specs.way.TakePlan.{TakeAsks, ParkedAsks, TakeRunAsks, TakeNewAsks, BlocksAsks, CallAsks, firstStore};
+ghost use Rattle.take.specs.way.TakeCount.{CountAsks};
+ghost use Rattle.take.specs.way.TakeAnswer.{Takes, TakesInto, Readies, onRunAt};
 use crate::take_fill::fill;
 use crate::take_plan::plan_parked;
 use crate::take_plan::plan_partial;

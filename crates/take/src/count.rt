@@ -1,10 +1,10 @@
 // How many blocks a take would answer, all being granted. Nothing is written.
 ghost use mathlib.Core.Bool.{cond};
 ghost use mathlib.Core.Path.{_≡_};
-ghost use Rattle.classes.specs.Sound.{Sound};
-ghost use Rattle.runs.specs.Asks.{BookIn};
-ghost use Rattle.take.specs.TakePlan.{CallAsks};
-ghost use Rattle.take.specs.TakeCount.{newCount, CountAsks, Counts};
+ghost use Rattle.classes.specs.way.Sound.{Sound};
+ghost use Rattle.runs.specs.way.Asks.{BookIn};
+ghost use Rattle.take.specs.way.TakePlan.{CallAsks};
+ghost use Rattle.take.specs.way.TakeCount.{newCount, CountAsks, Counts};
 ghost use Rattle.classes.specs.Shape.{shapeOf};
 use crate::take_plan::Plan;
 use crate::take_plan::plan_parked;

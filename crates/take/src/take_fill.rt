@@ -1,8 +1,8 @@
 // The fill of a take: blocks from the partial list's head on, written from the last place down, so that the latest stands first.
 ghost use mathlib.Core.Path.{_≡_};
-ghost use Rattle.pages.specs.Asks.{UnlinkAsks};
+ghost use Rattle.pages.specs.way.Asks.{UnlinkAsks};
 ghost use Rattle.calls.specs.Take.{unlistSpent};
-ghost use Rattle.take.specs.TakePlan.{fills, TurnAsks, GaveTurn, FillAsks, Filling};
+ghost use Rattle.take.specs.way.TakePlan.{fills, TurnAsks, GaveTurn, FillAsks, Filling};
 use classes::Shape;
 
 // A page that gave its last block leaves the list.

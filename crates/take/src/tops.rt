@@ -6,7 +6,7 @@ ghost use lib.Dec.{ltb};
 ghost use Rattle.facts.specs.Lists.{every};
 ghost use Rattle.fields.specs.Field.{slot, get};
 ghost use Rattle.pages.specs.Stack.{tops};
-ghost use Rattle.take.specs.TakePlan.{TopsAsks};
+ghost use Rattle.take.specs.way.TakePlan.{TopsAsks};
 
 // Both entries of word x of the stack are below `carved`, and those before them were.
 fn pair_below(meta: &[u32], q: u32, x: u32, carved: u32, before: bool) -> bool

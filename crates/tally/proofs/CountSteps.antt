@@ -15,8 +15,8 @@ use Rattle.facts.proofs.Lists.{drop-past, every-same, below-last}
 use Rattle.words.specs.Word.{countOf, pageOf}
 use Rattle.fields.specs.Field.{page, tally, words, get, Has}
 use Rattle.pages.specs.Stack.{pageAt}
-use Rattle.tally.specs.Tally.{pageIn, tallyIn, namedBy, ofChunk, chunkAt, hasChunk, runOn, agrees, fits, tallied}
-use Rattle.tally.specs.Asks.{Counted, OneAsks, FitAsks}
+use Rattle.tally.specs.way.Tally.{pageIn, tallyIn, namedBy, ofChunk, chunkAt, hasChunk, runOn, agrees, fits, tallied}
+use Rattle.tally.specs.way.Asks.{Counted, OneAsks, FitAsks}
 use Rattle.tally.proofs.NameSteps.{page-below, tally-there}
 
 -- ---- of_chunk

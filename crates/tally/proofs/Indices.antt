@@ -10,7 +10,7 @@ use borrow.Author.Tests.{eqb-true, eq-eqb, not-true}
 use Rattle.facts.specs.Lists.{elem, distinct}
 use Rattle.facts.proofs.Bools.{by-cases, and-left, and-right, or-right}
 use Rattle.words.specs.Word.{pageOf}
-use Rattle.tally.specs.Tally.{pageIn}
+use Rattle.tally.specs.way.Tally.{pageIn}
 
 -- ---- tests
 

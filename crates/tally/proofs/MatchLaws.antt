@@ -14,8 +14,8 @@ use Rattle.words.specs.Word.{countOf, pageOf}
 use Rattle.fields.specs.Field.{page, tally, words, get}
 use Rattle.pages.specs.Stack.{pageAt}
 use Rattle.model.specs.Chunks.{chunksMax}
-use Rattle.tally.specs.Match.{isPage, wordsOn, pageFits, hasPage, pagesMatch, arenaMatch, inArena}
-use Rattle.tally.specs.Tally.{pageIn, tallyIn, named, namedBy, ofChunk, chunkAt, hasChunk, agrees, tallied}
+use Rattle.tally.specs.way.Match.{isPage, wordsOn, pageFits, hasPage, pagesMatch, arenaMatch, inArena}
+use Rattle.tally.specs.way.Tally.{pageIn, tallyIn, named, namedBy, ofChunk, chunkAt, hasChunk, agrees, tallied}
 use Rattle.tally.proofs.Indices.{elem-at, elem-found, distinct-at, distinct-of}
 use Rattle.tally.proofs.NameLaws.{page-in, finds}
 

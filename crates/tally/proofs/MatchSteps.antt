@@ -13,10 +13,10 @@ use Rattle.words.specs.Word.{pageOf}
 use Rattle.fields.specs.Field.{page, tally, word, words}
 use Rattle.fields.specs.Ranges.{maxPages}
 use Rattle.pages.proofs.Downs.{every-mono}
-use Rattle.tally.specs.Match.{arenaMatch, MatchAsks, Matched}
-use Rattle.tally.specs.Tally.{unnamed, tallied}
-use Rattle.tally.specs.Match.{isPage}
-use Rattle.tally.specs.Asks.{tallyThere, chunkThere, NameAsks, Named, CountAsks, FitAsks, RoomAsks}
+use Rattle.tally.specs.way.Match.{arenaMatch, MatchAsks, Matched}
+use Rattle.tally.specs.way.Tally.{unnamed, tallied}
+use Rattle.tally.specs.way.Match.{isPage}
+use Rattle.tally.specs.way.Asks.{tallyThere, chunkThere, NameAsks, Named, CountAsks, FitAsks, RoomAsks}
 use Rattle.tally.proofs.NameLaws.{unnames}
 use Rattle.tally.proofs.MatchLaws.{tallied-is}
 

@@ -11,8 +11,8 @@ use Rattle.facts.specs.Lists.{every}
 use Rattle.facts.proofs.Lists.{every-get}
 use Rattle.fields.specs.Field.{page, tally, words, get, put}
 use Rattle.fields.proofs.Laws.{get-put-same, get-put-other, put-put-same, put-get, length-put}
-use Rattle.tally.specs.Tally.{pageIn, tallyIn, named, Saved, unnamed}
-use Rattle.tally.specs.Match.{isPage}
+use Rattle.tally.specs.way.Tally.{pageIn, tallyIn, named, Saved, unnamed}
+use Rattle.tally.specs.way.Match.{isPage}
 
 module _ (n : ℕ) (b gs : List ℕ) (hb : leb (words n) (length b) ≡ true) (pages : every (isPage n) gs ≡ true) where
   pub length-named : (m : ℕ) → length (named b gs m) ≡ length b

@@ -16,9 +16,9 @@ use Rattle.words.specs.Word.{pageOf}
 use Rattle.fields.specs.Field.{page, tally, word, get, put, Has}
 use Rattle.fields.specs.Ranges.{maxPages}
 use Rattle.fields.proofs.Laws.{length-put}
-use Rattle.tally.specs.Tally.{pageIn, tallyIn, named, Saved, unnamed}
-use Rattle.tally.specs.Match.{isPage}
-use Rattle.tally.specs.Asks.{tallyThere, chunkThere, NameAsks, Named}
+use Rattle.tally.specs.way.Tally.{pageIn, tallyIn, named, Saved, unnamed}
+use Rattle.tally.specs.way.Match.{isPage}
+use Rattle.tally.specs.way.Asks.{tallyThere, chunkThere, NameAsks, Named}
 
 -- ---- all_pages
 pub page-test : (v p g n : ℕ) → v ≡ g → p ≡ pageOf v → ltb p n ≡ isPage n g

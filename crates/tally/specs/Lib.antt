@@ -1,3 +1,1 @@
-pub mod Match
-pub mod Tally
-pub mod Asks
+pub mod way

@@ -1,8 +1,8 @@
 // The test over both lists, with room for what stood in TALLY and for the counts.
 ghost use Prim.Native.Nat.{_≤_};
 ghost use lib.ListN.{length};
-ghost use Rattle.tally.specs.Match.{MatchAsks, Matched};
-ghost use Rattle.tally.specs.Asks.{RoomAsks};
+ghost use Rattle.tally.specs.way.Match.{MatchAsks, Matched};
+ghost use Rattle.tally.specs.way.Asks.{RoomAsks};
 use super::counts::tallies_agree;
 use super::naming::all_pages;
 use super::naming::name_chunks;

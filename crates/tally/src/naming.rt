@@ -2,9 +2,9 @@
 ghost use mathlib.Core.Path.{_≡_};
 ghost use lib.ListN.{length};
 ghost use Rattle.facts.specs.Lists.{every};
-ghost use Rattle.tally.specs.Match.{isPage};
-ghost use Rattle.tally.specs.Tally.{unnamed};
-ghost use Rattle.tally.specs.Asks.{NameAsks, Named};
+ghost use Rattle.tally.specs.way.Match.{isPage};
+ghost use Rattle.tally.specs.way.Tally.{unnamed};
+ghost use Rattle.tally.specs.way.Asks.{NameAsks, Named};
 use pages::chunk_page;
 use words::Word;
 

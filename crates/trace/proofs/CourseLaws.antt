@@ -14,11 +14,11 @@ use Rattle.trace.specs.declared.steps.Step.{Step}
 use Rattle.trace.specs.declared.steps.Step.the-variants.{Stops, Goes}
 use Rattle.trace.specs.Trace.{Room, sayOf}
 use Rattle.trace.specs.Words.{Going, straight, begins, goes, after, stops, carried, roomOf}
-use Rattle.trace.specs.Asks.{BookAsks, straightened}
-use Rattle.trace.specs.Steps.{Lent, lent, goingOf, TallyAsks, Stopped, Went, Carried}
+use Rattle.trace.specs.way.Asks.{BookAsks, straightened}
+use Rattle.trace.specs.way.Steps.{Lent, lent, goingOf, TallyAsks, Stopped, Went, Carried}
 use Rattle.rules.specs.Rules.{rulesOf}
 use Rattle.arena.specs.Open.{opened}
-use Rattle.trace.specs.Course.{Coursed, Ran}
+use Rattle.trace.specs.way.Course.{Coursed, Ran}
 
 goes-more : (n : ℕ) (g : Going) (ws : List ℕ) (i : ℕ) → i < length ws → goes n g (ListN.take (suc i) ws) ≡ after n (goes n g (ListN.take i ws)) (getD ws i 0)
 goes-more n g [] i h = absurd (omega arith)

@@ -6,7 +6,7 @@ use mathlib.Core.Path.{_≡_, refl, ap}
 use lib.ListN.{length, getD, set, take, drop}
 use lib.Seq.{paste, paste-suc}
 use Rattle.trace.specs.Words.{straight}
-use Rattle.trace.specs.Asks.{straightened}
+use Rattle.trace.specs.way.Asks.{straightened}
 
 -- one more is copied
 pub pasted-more : (d s to : List ℕ) (at i : ℕ) → at + i < length d → i < length s → to ≡ paste d at s i → set to (at + i) (getD s i 0) ≡ paste d at s (i + 1)

@@ -14,7 +14,7 @@ use Rattle.direct.specs.declared.Report.the-variants.{Refused, Told}
 use Rattle.direct.specs.Answer.{reportOf}
 use Rattle.trace.specs.declared.steps.Tally.{Tally}
 use Rattle.trace.specs.declared.steps.Step.the-variants.{Stops, Goes}
-use Rattle.trace.specs.Steps.{CarriedReport}
+use Rattle.trace.specs.way.Steps.{CarriedReport}
 use Rattle.trace.proofs.StepWays.{or-true}
 
 module _ (n : ℕ) (b fl : List ℕ) (t : Tally) (a : t .told ≤ length fl) where

@@ -17,13 +17,14 @@ use Rattle.classes.specs.declared.Shape.{Shape}
 use Rattle.classes.specs.Shape.{shapeOf}
 use Rattle.release.specs.declared.Released.{Released}
 use Rattle.release.specs.declared.Released.the-variants.{Refused, Fate}
-use Rattle.release.specs.Act.{Answered, answerAs}
+use Rattle.release.specs.way.Act.{Answered}
+use Rattle.release.specs.Answer.{answerAs}
 use Rattle.trace.specs.declared.steps.Tally.{Tally}
 use Rattle.trace.specs.declared.steps.Step.the-variants.{Stops, Goes}
 use Rattle.trace.specs.Trace as Trace
 use Rattle.trace.specs.Trace.{max}
 use Rattle.trace.specs.Words.{isBlock, turned, straight, sizeOf, backNow, classAt}
-use Rattle.trace.specs.Steps.{lent, CarriedBlocks}
+use Rattle.trace.specs.way.Steps.{lent, CarriedBlocks}
 use Rattle.trace.proofs.Refused.{back-keeps}
 
 module _ (w k : ℕ) (e : k ≡ kindOf w) where

@@ -16,16 +16,16 @@ use Rattle.classes.proofs.Shapes.{shape-sound}
 use Rattle.calls.specs.Take.{takeCall}
 use Rattle.take.specs.declared.call.Take.{Take}
 use Rattle.take.specs.declared.call.Take.the-variants.{Refused, Took}
-use Rattle.take.specs.TakeAnswer.{Takes}
+use Rattle.take.specs.way.TakeAnswer.{Takes}
 use Rattle.take.proofs.AnswerSteps.{told-refused, told-code, told-count}
-use Rattle.take.specs.TakeCount.{Counts}
+use Rattle.take.specs.way.TakeCount.{Counts}
 use Rattle.trace.specs.declared.steps.Tally.{Tally}
 use Rattle.trace.specs.declared.steps.Step.the-variants.{Stops, Goes}
 use Rattle.trace.specs.Trace as Trace
 use Rattle.trace.specs.Trace.{max, blank}
 use Rattle.trace.specs.Words.{takeNow, sizeOf, bytesMax}
-use Rattle.trace.specs.Asks.{MoreAsks, TakesAt, mayTake}
-use Rattle.trace.specs.Steps.{CarriedBlocks}
+use Rattle.trace.specs.way.Asks.{MoreAsks, TakesAt, mayTake}
+use Rattle.trace.specs.way.Steps.{CarriedBlocks}
 use Rattle.trace.proofs.Refused.{take-spares}
 use Rattle.trace.proofs.StepWays.{or-true}
 

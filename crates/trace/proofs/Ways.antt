@@ -12,12 +12,12 @@ use Rattle.pages.specs.Stack.{pageAt}
 use Rattle.calls.specs.Release.{releaseBlocks}
 use Rattle.release.specs.declared.Released.{Released}
 use Rattle.release.specs.declared.Released.the-variants.{Refused, Fate}
-use Rattle.release.specs.Asks.{ClassAsks}
-use Rattle.release.specs.Act.{Answered}
-use Rattle.release.specs.One.{OneBack}
+use Rattle.release.specs.way.Asks.{ClassAsks}
+use Rattle.release.specs.way.Act.{Answered}
+use Rattle.release.specs.way.One.{OneBack}
 use Rattle.release.proofs.OneSteps.{one-left, one-carried}
 use Rattle.trace.specs.Words.{ownerAt, backNow}
-use Rattle.trace.specs.Asks.{BookAsks}
+use Rattle.trace.specs.way.Asks.{BookAsks}
 
 -- ---- a block's page
 pub owner-in : (n : ℕ) (b : List ℕ) (w p r : ℕ) → p ≡ pageAt w → p < n → r ≡ get b (page owner p) → r ≡ ownerAt n b w

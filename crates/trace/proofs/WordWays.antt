@@ -10,7 +10,7 @@ use Rattle.trace.specs.declared.steps.Step.{Step}
 use Rattle.trace.specs.declared.steps.Step.the-variants.{Stops}
 use Rattle.trace.specs.Trace as Trace
 use Rattle.trace.specs.Trace.{sayOf, wrong}
-use Rattle.trace.specs.Steps.{lent, Carried, CarriedBlocks, CarriedReport}
+use Rattle.trace.specs.way.Steps.{lent, Carried, CarriedBlocks, CarriedReport}
 
 module _ (k m : ℕ) where
   pub report-kind : (k ≡ 2 → ⊥) → false ≡ (eqb k 2 && eqb m 0)

@@ -1,5 +1,3 @@
 pub mod Trace
 pub mod Words
-pub mod Asks
-pub mod Steps
-pub mod Course
+pub mod way

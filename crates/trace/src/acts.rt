@@ -2,10 +2,10 @@
 ghost use mathlib.Core.Path.{_≡_};
 ghost use lib.Dec.{leb};
 ghost use Rattle.words.specs.Host.{hostMax};
-ghost use Rattle.take.specs.TakePlan.{CallAsks};
-ghost use Rattle.release.specs.Act.{Answered};
+ghost use Rattle.take.specs.way.TakePlan.{CallAsks};
+ghost use Rattle.release.specs.way.Act.{Answered};
 ghost use Rattle.trace.specs.Words.{ownerAt, classAt, takeNow, backNow};
-ghost use Rattle.trace.specs.Asks.{BookAsks, TakesAt};
+ghost use Rattle.trace.specs.way.Asks.{BookAsks, TakesAt};
 ghost use Prim.Native.Nat.{_+_, _≤_};
 ghost use lib.ListN.{length};
 use crate::lists::lay;

@@ -1,7 +1,7 @@
 // A trace's words in turn, up to the first that stops it.
-ghost use Rattle.trace.specs.Steps.{lent};
-ghost use Rattle.trace.specs.Course.{Coursed, Ran};
-ghost use Rattle.trace.specs.Asks.{BookAsks};
+ghost use Rattle.trace.specs.way.Steps.{lent};
+ghost use Rattle.trace.specs.way.Course.{Coursed, Ran};
+ghost use Rattle.trace.specs.way.Asks.{BookAsks};
 use crate::lists::straighten;
 use crate::steps::Step;
 use crate::steps::Tally;

@@ -6,7 +6,7 @@ ghost use lib.ListN.{length};
 ghost use lib.Seq.{paste};
 ghost use Rattle.words.specs.Word.{kindOf, granuleOf, packBlock};
 ghost use Rattle.trace.specs.Words.{isBlock, turned, straight};
-ghost use Rattle.trace.specs.Asks.{straightened};
+ghost use Rattle.trace.specs.way.Asks.{straightened};
 use words::Word;
 
 fn kind_of(w: u64) -> u32

@@ -10,7 +10,7 @@ use Rattle.classes.specs.declared.Shape.{Shape}
 use Rattle.classes.specs.Shape.{shapeOf, smallShape}
 use Rattle.fields.specs.Field.{arena, size, get}
 use Rattle.calls.specs.Chunks.{ChunksReleased, releaseChunks}
-use Rattle.chunks.specs.CallAsks.{CallAsks, ChunksAnswered}
+use Rattle.chunks.specs.way.CallAsks.{CallAsks, ChunksAnswered}
 use Rattle.vigbuso.specs.Faults.{classFault}
 use Rattle.vigbuso.specs.Blocks.{chunksOn, ChunksEnds}
 use Rattle.vigbuso.proofs.FaultSteps.{class-book, class-below}

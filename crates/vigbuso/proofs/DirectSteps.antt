@@ -26,9 +26,10 @@ use Rattle.direct.specs.declared.Report.{Report}
 use Rattle.direct.specs.declared.Report.the-variants.{Told}
 use Rattle.arena.specs.Calls.{Committed, commitCall, Done, growCall, releaseCall, containsCall}
 use Rattle.arena.specs.Open.{opened}
-use Rattle.runs.specs.Asks.{BookIn}
+use Rattle.runs.specs.way.Asks.{BookIn}
 use Rattle.runs.specs.Answer.{answerOf, Answers}
-use Rattle.direct.specs.Answer.{grownAs, Grew, Releases, reportOf}
+use Rattle.direct.specs.Answer.{grownAs, Releases, reportOf}
+use Rattle.direct.specs.way.Acts.{Grew}
 use Rattle.vigbuso.specs.Faults.{callFault}
 use Rattle.vigbuso.specs.Direct.{openFault, openOn, noPage, commitOn, CommitEnds, growOn, GrowEnds, releaseOn, containsOn, reportOn, figuresOut, ReportEnds}
 

@@ -9,9 +9,9 @@ use Rattle.classes.specs.Shape.{shapeOf}
 use Rattle.fields.specs.Field.{arena, size, get}
 use Rattle.fields.specs.Ranges.{metaFault}
 use Rattle.model.specs.Release.{ofKind}
-use Rattle.take.specs.TakePlan.{CallAsks}
-use Rattle.stock.specs.Asks.{StockAsks}
-use Rattle.trace.specs.Asks.{BookAsks}
+use Rattle.take.specs.way.TakePlan.{CallAsks}
+use Rattle.stock.specs.way.Asks.{StockAsks}
+use Rattle.trace.specs.way.Asks.{BookAsks}
 use Rattle.trace.specs.Words.{ownerAt, known}
 use Rattle.pool.specs.Pool.{Wish, alloc, free, trim, hostIn}
 use Rattle.poolcalls.specs.Calls.{wishOn, allocOn, freeOn, trimOn, grantedIn, stockedIn}

@@ -13,8 +13,9 @@ use Rattle.calls.specs.Release as Back
 use Rattle.calls.specs.Release.{releaseBlocks}
 use Rattle.release.specs.declared.Released.{Released}
 use Rattle.release.specs.declared.Released.the-variants.{Refused, Fate}
-use Rattle.release.specs.Act.{answerAs, Answered}
-use Rattle.release.specs.Asks.{ClassAsks}
+use Rattle.release.specs.way.Act.{Answered}
+use Rattle.release.specs.Answer.{answerAs}
+use Rattle.release.specs.way.Asks.{ClassAsks}
 use Rattle.vigbuso.specs.Faults.{classFault}
 use Rattle.vigbuso.specs.Blocks.{releaseOn, ReleaseEnds}
 use Rattle.vigbuso.proofs.FaultSteps.{class-book, class-below}

@@ -10,8 +10,9 @@ use Rattle.fields.specs.Field.{arena, size, get}
 use Rattle.classes.specs.Shape.{shapeOf}
 use Rattle.words.specs.Host.{digit}
 use Rattle.calls.specs.Take.{takeCall}
-use Rattle.take.specs.TakeAnswer.{answerOf, TakesInto}
-use Rattle.take.specs.TakePlan.{CallAsks}
+use Rattle.take.specs.way.TakeAnswer.{TakesInto}
+use Rattle.take.specs.Answer.{answerOf}
+use Rattle.take.specs.way.TakePlan.{CallAsks}
 use Rattle.vigbuso.specs.Faults.{classFault}
 use Rattle.vigbuso.specs.Blocks.{takeOn, codeOut, countOut, virginOut, TakeEnds}
 use Rattle.vigbuso.proofs.FaultSteps.{class-book, class-below}

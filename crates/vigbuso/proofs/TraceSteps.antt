@@ -12,9 +12,9 @@ use Rattle.fields.specs.Ranges.{maxPages, lengthFault}
 use Rattle.arena.specs.Open.{opened}
 use Rattle.trace.specs.declared.course.Course.{Course}
 use Rattle.trace.specs.Words.{begins, carried, roomOf, traceOn}
-use Rattle.trace.specs.Asks.{BookAsks}
-use Rattle.trace.specs.Steps.{lent}
-use Rattle.trace.specs.Course.{Ran, endOf}
+use Rattle.trace.specs.way.Asks.{BookAsks}
+use Rattle.trace.specs.way.Steps.{lent}
+use Rattle.trace.specs.way.Course.{Ran, endOf}
 use Rattle.vigbuso.specs.Trace.{TraceEnds}
 use Rattle.vigbuso.proofs.DirectSteps.{sides}
 

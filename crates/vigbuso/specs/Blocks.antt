@@ -14,13 +14,13 @@ use Rattle.take.specs.declared.call.Take.{Take}
 use Rattle.take.specs.declared.call.Take.the-variants.{Refused, Took}
 use Rattle.calls.specs.Take as Heap
 use Rattle.calls.specs.Take.{tookNone, takeCall}
-use Rattle.take.specs.TakeAnswer.{answerOf}
+use Rattle.take.specs.Answer.{answerOf}
 use Rattle.calls.specs.Release as Back
 use Rattle.calls.specs.Release.{releasedNone, releaseBlocks}
 use Rattle.calls.specs.Chunks.{ChunksReleased, chunksNone, releaseChunks}
 use Rattle.release.specs.declared.Released.{Released}
 use Rattle.release.specs.declared.Released.the-variants.{Fate}
-use Rattle.release.specs.Act.{answerAs}
+use Rattle.release.specs.Answer.{answerAs}
 use Rattle.vigbuso.specs.Faults.{classFault}
 
 -- a take of class c among those of ids low to low + many - 1: 0 and 64 for the small ones, 64 and 12 for the medium ones

@@ -7,7 +7,8 @@ ghost use mathlib.Core.Path.{_≡_};
 ghost use Rattle.words.specs.Host.{digit};
 ghost use Rattle.fields.specs.Outcome.{Did};
 ghost use Rattle.runs.specs.Answer.{Answers};
-ghost use Rattle.direct.specs.Answer.{Grew, Releases};
+ghost use Rattle.direct.specs.Answer.{Releases};
+ghost use Rattle.direct.specs.way.Acts.{Grew};
 ghost use Rattle.vigbuso.specs.Direct.{openFault, openOn, commitOn, CommitEnds, growOn, GrowEnds, releaseOn, containsOn, reportOn, ReportEnds};
 
 // The first page of no run.

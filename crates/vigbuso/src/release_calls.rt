@@ -2,7 +2,7 @@
 use crate::faults::class_fault;
 use release::Released;
 ghost use Prim.Native.Nat.{_+_, _≤_};
-ghost use Rattle.release.specs.Act.{Answered};
+ghost use Rattle.release.specs.way.Act.{Answered};
 ghost use Rattle.vigbuso.specs.Blocks.{releaseOn, ReleaseEnds};
 
 // A release of a class among those of ids `low` to `low + many - 1`.

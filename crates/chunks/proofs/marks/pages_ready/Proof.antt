@@ -1,7 +1,7 @@
 use Prim.Native.Nat.{_-_}
 use lib.ListN.{length}
 use Rattle.release.proofs.EverySteps.{EveryInv, every-starts, every-goes-on, every-stops, every-ends}
-use Rattle.chunks.specs.Marks.{pageReady}
+use Rattle.chunks.specs.way.Marks.{pageReady}
 use borrow.Author.Needs.{needs}
 use Rattle.chunks.proofs.marks.pages_ready.Statement.{statement}
 use Rattle.chunks.proofs.marks.pages_ready.Tie as tie

@@ -1,6 +1,6 @@
 use Prim.Native.Nat.{_-_}
 use lib.ListN.{length}
-use Rattle.release.specs.Marks.{takeMarks}
+use Rattle.release.specs.way.Marks.{takeMarks}
 use Rattle.chunks.proofs.MarkSteps.{Sweeping, sweep-starts, sweep-fits, sweep-asks, sweep-goes-on, sweep-ends}
 use borrow.Author.Needs.{needs}
 use Rattle.chunks.proofs.marks.take_pages.Statement.{statement}

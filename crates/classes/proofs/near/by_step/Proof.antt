@@ -2,7 +2,7 @@
 use mathlib.Core.Path.{_≡_}
 use native.Mathlib.Omega.{arith}
 use Rattle.classes.specs.Sizes.{smallSizes, mediumSizes}
-use Rattle.classes.specs.Near.{near, entered}
+use Rattle.classes.specs.way.Near.{near, entered}
 use Rattle.classes.proofs.Match.{past}
 use Rattle.classes.proofs.near.by_step.Statement.{statement}
 use Rattle.classes.proofs.near.by_step.Tie as tie

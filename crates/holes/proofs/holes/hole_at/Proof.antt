@@ -1,7 +1,7 @@
 -- `holes::holes::hole_at` meets its contract: a walk of its MIR, by hand. The place of `holes[i]` is i * 8 past the slice's pointer; the slice is looked into, element i is
 -- taken out of the row, copied whole, and put back, and the token comes back. The code has no check of the bound: it is the contract's to ask.
 use Rattle.holes.proofs.Walk.{refl, sym, ℕ, _<_, _^_, List, [], _∷_, length, getD, URA, fullShare, named, w64, tyPtr, Val, vint, vptr, SProp, ent, GName, Lft, Share, ftrue, fat, flft, Memory, Routine, Heap, WpFn, Tables, Atoms, Fun, givenOf, tables, tablesOf, Given, ‵, _⊛_, ⋆, _$_, _∵_, !, qed, by, move, keep, split, join, rewrite, fsplit, fjoin, suffices, frame, done, whole, sub, look-in, look, look-raw, init, forget, stop, hop, fld, from, load, lit, of-opd, bin, assigns, returns, enter, alloc1, alloc0, params1, pass1, pass0, free1, free0, RattleType, owns, Is, shows, usize, place-is, elem-out, elem-back, looks-slice, shuts-slice, now, sliceVal, ShrSlice, Room, owned, nothing, Args, Vals, onEntry, says, needs, Takens, Ends, ends, shown, number, aHole, byValue, lent, lentAt, holeVals, scaled}
-use Rattle.holes.specs.Scan.{noHole}
+use Rattle.holes.specs.way.Scan.{noHole}
 use Rattle.model.specs.declared.Hole.{Hole}
 use Rattle.model.proofs.Hole as T
 use denote.Struct.Laws as LL

@@ -1,5 +1,5 @@
 use borrow.Author.Needs.{needs}
-use Rattle.holes.specs.Scan.{noBeside, besideAt}
+use Rattle.holes.specs.way.Scan.{noBeside, besideAt}
 use Rattle.holes.proofs.Planning.{Weighing, weighs-start, part-weighs, one-weighs, touches-done}
 use Rattle.holes.proofs.plans.neighbours.Statement.{statement}
 use Rattle.holes.proofs.plans.neighbours.Tie as tie

@@ -4,7 +4,7 @@ use Rattle.holes.proofs.Walk.{_≡_, refl, ℕ, _+_, _<_, _≤_, _^_, L
 use denote.Struct.Laws as laws
 use Rattle.holes.specs.declared.Arena.{Arena}
 use Rattle.holes.specs.declared.record.Draw.{Draw}
-use Rattle.holes.specs.Change.{drawnBy}
+use Rattle.holes.specs.way.Change.{drawnBy}
 use Rattle.holes.proofs.Arena as T
 use Rattle.holes.proofs.record.Draw as U
 use Rattle.holes.proofs.record.drawn

@@ -4,7 +4,7 @@ use Rattle.holes.proofs.Walk.{_≡_, refl, ℕ, _+_, _<_, _^_, List, []
 use denote.Struct.Laws as laws
 use Rattle.holes.specs.declared.Arena.{Arena}
 use Rattle.holes.specs.declared.record.Gain.{Gain}
-use Rattle.holes.specs.Change.{gainedBy}
+use Rattle.holes.specs.way.Change.{gainedBy}
 use Rattle.holes.proofs.Arena as T
 use Rattle.holes.proofs.record.Gain as U
 use Rattle.holes.proofs.record.gained

@@ -1,6 +1,6 @@
 use Rattle.release.proofs.OutSteps.{clean-over, clean-goes-on, clean-stops, clean-ends, mark-has}
 use Rattle.release.proofs.EverySteps.{EveryInv, every-starts}
-use Rattle.release.specs.Marks.{cleanAt}
+use Rattle.release.specs.way.Marks.{cleanAt}
 use Prim.Native.Nat.{_-_}
 use lib.ListN.{length}
 use borrow.Author.Needs.{needs}

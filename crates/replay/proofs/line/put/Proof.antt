@@ -1,6 +1,6 @@
 use borrow.Author.Needs.{needs}
 use mathlib.Core.Path.{ap, _∙_}
-use Rattle.replay.specs.Line.{low}
+use Rattle.replay.specs.way.Line.{low}
 use Rattle.replay.proofs.Reading.{put-in, put-out}
 use Rattle.replay.proofs.line.put.Statement.{statement}
 use Rattle.replay.proofs.line.put.Tie as tie

@@ -3,8 +3,8 @@
 use Rattle.holes.proofs.Walk.{_≡_, refl, ap, _∙_, ℕ, _+_, _<_, _≤_, _^_, List, [], _∷_, length, URA, fullShare, named, Val, vunit, vptr, SProp, ent, id⊢, GName, Lft, Share, ftrue, fat, flft, flent, Memory, Routine, Heap, WpFn, Tables, Atoms, Fun, givenOf, tables, tablesOf, Given, ‵, raw, _⊛_, ⋆, some, later, _$_, _∵_, !, qed, by, move, keep, use1, use2, use3, split, pick, fsplit, fjoin, feqI, feqL, suffices, frame, await, done, whole, sub, look-in, agg, look, init, store, forget, stop, hop, fld, from, load, unit-lit, of-opd, addr, and-then, no-more, assigns, land, returns, enter, alloc1, alloc0, params1, pass1, pass0, free1, free0, Body, lft-new, lft-end, fmOf, RattleType, owns, Is, shows, mem, u32, lends-ref, ref-back, RefT, MutRef, now, MutSlice, Room, finally, owned, peeks, Vals, onEntry, Meets, says, needs, part-in-at, part-out-at, arg, holds, asks-new, asks-lent, calls, Takens, Ends, ends, known, shown, unit, anArena, aDraw, byValue, passedOn, lentAt, machine}
 use Rattle.holes.specs.declared.Arena.{Arena}
 use Rattle.holes.specs.declared.record.Draw.{Draw}
-use Rattle.holes.specs.Change.{drawnBy}
-use Rattle.holes.specs.Record.{storeRecord}
+use Rattle.holes.specs.way.Change.{drawnBy}
+use Rattle.holes.specs.way.Record.{storeRecord}
 use Rattle.holes.proofs.Arena as T
 use Rattle.holes.proofs.record.Draw as U
 use Rattle.holes.proofs.record.commit

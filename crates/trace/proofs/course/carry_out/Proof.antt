@@ -1,7 +1,7 @@
 use Prim.Native.Nat.{_-_}
 use lib.ListN.{length}
 use borrow.Author.Needs.{needs}
-use Rattle.trace.specs.Steps.{lent}
+use Rattle.trace.specs.way.Steps.{lent}
 use Rattle.trace.proofs.CourseLaws.{Onward, onward-start, onward-ends, onward-stops, onward-more, asks-now}
 use Rattle.trace.proofs.course.carry_out.Statement.{statement}
 use Rattle.trace.proofs.course.carry_out.Tie as tie

@@ -4,7 +4,7 @@ use mathlib.Core.Path.{_≡_, refl, _∙_}
 use native.Mathlib.Omega.{arith}
 use borrow.Author.Needs.{needs}
 use lib.ListN.{length, length-set}
-use Rattle.trace.specs.Asks.{straightened}
+use Rattle.trace.specs.way.Asks.{straightened}
 use Rattle.trace.proofs.ListWays.{straight-start, straight-more}
 use Rattle.trace.proofs.lists.straighten.Statement.{statement}
 use Rattle.trace.proofs.lists.straighten.Tie as tie

@@ -1,0 +1,5 @@
+pub mod Record
+pub mod Plan
+pub mod Act
+pub mod Scan
+pub mod Change

@@ -1,0 +1,73 @@
+-- What is claimed of the pool, of every history from an opening of an arena of `size` pages, refused calls included. P is the pool after it.
+use Prim.Native.Nat.{ℕ, _≤_}
+use mathlib.Core.Path.{_≡_}
+use mathlib.Core.Logic.{_⊎_, _↔_}
+use mathlib.Core.List.{List, [], _∷_, _++_}
+use mathlib.Core.Option.{none}
+use mathlib.Core.Bool.{true, false}
+use lib.Dec.{ltb}
+use lib.ListN.{length, replicate}
+use Rattle.facts.specs.Lists.{All, elem, distinct, isSome}
+use Rattle.words.specs.Host.{badHost}
+use Rattle.classes.specs.Shape.{shapeOf, classCount}
+use Rattle.rules.specs.Rules.{Rules}
+use Rattle.model.specs.Calls.{names, isRefused}
+use Rattle.model.specs.Arena as Arenas
+use Rattle.model.specs.Release.{ofKind, outHere}
+use Rattle.model.specs.History.{events, heapAfter}
+use Rattle.model.specs.Entries.{OutIn}
+use Rattle.model.specs.Demands.{Disjoint}
+use Rattle.pool.specs.Bare.{Bare}
+use Rattle.pool.specs.Pool.{PoolCall, Wish, PoolAnswer, to, alloc, free, trim, poolStep, refused, noBlock, freed}
+use Rattle.pool.specs.Told.{poolEvents, poolAfter, heapCalls, toldOf, poolCallsOf, poolAnswersOf, poolRunsOf}
+
+-- two grants not yet freed share a byte exactly when they are the same grant, and none has a byte of a page held by hand
+abbrev pub PoolDisjoint : ℕ → Rules → List PoolCall → Type 0
+PoolDisjoint size rules xs = Disjoint (toldOf (poolEvents size rules xs))
+
+-- the heap's part is what the heap's calls leave, and of these none that names a class is refused: all that is proved of their histories
+-- holds of it
+pub record OnHeap (size : ℕ) (rules : Rules) (xs : List PoolCall) : Type 0 where
+  pub heap : poolAfter size rules xs .heap ≡ heapAfter size rules (heapCalls size rules xs)
+  pub done : All (λ v. isSome (names (v .call)) ≡ true → isRefused (v .answer) ≡ false) (events size rules (heapCalls size rules xs))
+
+-- what is answered to a wish
+abbrev pub answerTo : ℕ → Rules → List PoolCall → ℕ → Wish → PoolAnswer
+answerTo size rules xs c x = poolStep size (poolAfter size rules xs) (to c x) .answer
+
+-- numbers 3 and 4; then a free is carried out exactly if its block is a grant of that class not yet freed, and else is number 9 or 10
+pub record Frees (size : ℕ) (rules : Rules) (xs : List PoolCall) (c h w : ℕ) : Type 0 where
+  pub host : badHost h ≡ true → answerTo size rules xs c (free h w) ≡ refused 3
+  pub class : badHost h ≡ false → ltb c classCount ≡ false → answerTo size rules xs c (free h w) ≡ refused 4
+  pub done : badHost h ≡ false → ltb c classCount ≡ true → (answerTo size rules xs c (free h w) ≡ freed) ↔ OutIn (toldOf (poolEvents size rules xs)) c w
+  pub kind : badHost h ≡ false → ltb c classCount ≡ true → ofKind (shapeOf c .kind) w ≡ false → answerTo size rules xs c (free h w) ≡ refused 9
+  pub stale : badHost h ≡ false → ltb c classCount ≡ true → ofKind (shapeOf c .kind) w ≡ true → (OutIn (toldOf (poolEvents size rules xs)) c w → ⊥)
+      → answerTo size rules xs c (free h w) ≡ refused 10
+
+-- an alloc answers none exactly if the class has no block in stock, no page that could yield one, and the arena no run for it
+pub record AllocNone (size : ℕ) (rules : Rules) (xs : List PoolCall) (c h : ℕ) : Type 0 where
+  pub none : badHost h ≡ false → ltb c classCount ≡ true
+      → (answerTo size rules xs c (alloc h) ≡ noBlock)
+      ↔ ((poolAfter size rules xs .stock c ≡ []) × Bare (poolAfter size rules xs .heap .classes c)
+      × (Arenas.commit size h (shapeOf c .pages) (poolAfter size rules xs .heap .arena) .run ≡ none))
+
+-- a refused call changes nothing, and makes no call of the heap; its number is 3, 4, 9 or 10
+pub record Unchanged (size : ℕ) (rules : Rules) (xs : List PoolCall) (c : ℕ) (x : Wish) : Type 0 where
+  pub same : (n : ℕ) → answerTo size rules xs c x ≡ refused n
+      → (poolStep size (poolAfter size rules xs) (to c x) .pool ≡ poolAfter size rules xs) × (poolStep size (poolAfter size rules xs) (to c x) .calls ≡ [])
+  pub low : (n : ℕ) → answerTo size rules xs c x ≡ refused n → elem n (3 ∷ 4 ∷ 9 ∷ 10 ∷ []) ≡ true
+
+-- a block out of the heap is granted or in stock, and each of these once
+pub record Conserved (size : ℕ) (rules : Rules) (xs : List PoolCall) : Type 0 where
+  pub out : (c w : ℕ) → (outHere (shapeOf c) (poolAfter size rules xs .heap .classes c) w ≡ true)
+      ↔ (OutIn (toldOf (poolEvents size rules xs)) c w ⊎ (elem w (poolAfter size rules xs .stock c) ≡ true))
+  pub either : (c w : ℕ) → OutIn (toldOf (poolEvents size rules xs)) c w → elem w (poolAfter size rules xs .stock c) ≡ false
+  pub once : (c : ℕ) → distinct (poolAfter size rules xs .stock c) ≡ true
+  -- as many trims as there are blocks in stock, or more, leave none there
+  pub trims : (c h k : ℕ) → badHost h ≡ false → ltb c classCount ≡ true → length (poolAfter size rules xs .stock c) ≤ k
+      → poolAfter size rules (xs ++ replicate k (to c (trim h))) .stock c ≡ []
+
+-- where a class's calls are equal, its answers are equal exactly when what the arena gave it is
+pub record PoolAlone (size size′ : ℕ) (rules rules′ : Rules) (c : ℕ) (xs ys : List PoolCall) : Type 0 where
+  pub alone : rules c ≡ rules′ c → poolCallsOf c xs ≡ poolCallsOf c ys
+      → (poolAnswersOf c (poolEvents size rules xs) ≡ poolAnswersOf c (poolEvents size′ rules′ ys)) ↔ (poolRunsOf c (poolEvents size rules xs) ≡ poolRunsOf c (poolEvents size′ rules′ ys))

@@ -1,0 +1,28 @@
+-- A book stands for a pool. n is the arena's length.
+--     StockRep      a class's stock: COUNT in its range, each entry in the arena, and PLACE of entry k is k
+--     PoolRep       the heap, and each class's stock
+--     PoolAgrees    what is said is the model's, and the book stands for the pool afterwards
+use Prim.Native.Nat.{ℕ, _*_, _≤_, _<_}
+use mathlib.Core.Bool.{true}
+use mathlib.Core.List.{List}
+use mathlib.Core.Path.{_≡_}
+use lib.Dec.{ltb}
+use Rattle.refinement.specs.way.Represents.{Represents}
+use Rattle.pool.specs.Stock.{stockRoom}
+use Rattle.pool.specs.Pool.{Pool, Done}
+use Rattle.poolcalls.specs.Stock.{countIn, entryIn, placeIn, stockIn}
+use Rattle.poolcalls.specs.Calls.{Said}
+
+pub record StockRep (n : ℕ) (b : List ℕ) (c : ℕ) (st : List ℕ) : Type 0 where
+  pub same : stockIn b c ≡ st
+  pub few : countIn b c ≤ stockRoom
+  pub low : (k : ℕ) → k < countIn b c → entryIn b c k < 4096 * n
+  pub placed : (k : ℕ) → k < countIn b c → placeIn b (entryIn b c k) ≡ k
+
+pub record PoolRep (n : ℕ) (b : List ℕ) (P : Pool) : Type 0 where
+  pub heap : Represents n b (P .heap)
+  pub stocks : (c : ℕ) → ltb c 76 ≡ true → StockRep n b c (P .stock c)
+
+pub record PoolAgrees (n : ℕ) (s : Said) (d : Done) : Type 0 where
+  pub answer : s .answer ≡ d .answer
+  pub pool : PoolRep n (s .book) (d .pool)

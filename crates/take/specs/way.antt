@@ -1,0 +1,3 @@
+pub mod TakePlan
+pub mod TakeAnswer
+pub mod TakeCount

@@ -1,0 +1,122 @@
+-- What a take's plan and its fill ask of the words, and what a plan answers.
+--     TakeAsks     a book of n pages, its frontier in range, and a class with its shape
+--     share        the blocks that the walk finds on the page with a code, 0 where a test fails
+--     Foretold     a plan: whether every test passes, and then what the fill will yield
+use Prim.Native.Nat.{ℕ, suc, _+_, _-_, _<_, _≤_}
+use mathlib.Core.Bool.{Bool, true, cond, _&&_}
+use mathlib.Core.List.{List, _++_, map}
+use mathlib.Core.Path.{_≡_}
+use lib.Dec.{eqb, leb}
+use lib.ListN.{length, drop}
+use Rattle.classes.specs.declared.Shape.{Shape}
+use Rattle.classes.specs.way.Sound.{Sound}
+use Rattle.fields.specs.Field.{arena, class, page, frontier, partial, empty, owner, free, carved, next, prev, words, get}
+use Rattle.fields.specs.Ranges.{maxPages}
+use Rattle.model.specs.Page.{wordOf}
+use Rattle.pages.specs.Stack.{latest, draw, spliced, pageSlots}
+use Rattle.pages.specs.Links.{top, wake}
+use Rattle.pages.specs.declared.Park.{Park}
+use Rattle.pages.specs.declared.Park.the-variants.{Empty, Cold}
+use Rattle.pages.specs.way.Asks.{DrawAsks}
+use Rattle.take.specs.declared.take_plan.Plan.{Plan}
+use Rattle.calls.specs.Take.{sound, walk, Filled, unlistSpent, fillFrom}
+
+pub record TakeAsks (n : ℕ) (b : List ℕ) (c : ℕ) (sh : Shape) : Type 0 where
+  pub known : c < 76
+  pub shape : Sound sh
+  pub few : n ≤ maxPages
+  pub long : words n ≤ length b
+  pub bound : get b (arena frontier) ≤ n
+
+pub record TopsAsks (b : List ℕ) (q t : ℕ) : Type 0 where
+  pub there : words (q + 1) ≤ length b
+  pub slots : t ≤ pageSlots
+
+pub record SupplyAsks (b : List ℕ) (sh : Shape) (q : ℕ) : Type 0 where
+  pub there : words (q + 1) ≤ length b
+  pub some : get b (page free q) ≤ pageSlots
+  pub carved : get b (page carved q) ≤ sh .capacity
+  pub few : sh .capacity ≤ pageSlots
+
+unfoldable pub share : ℕ → List ℕ → ℕ → Shape → ℕ → ℕ → ℕ → ℕ
+share n b c sh m code y =
+    let q = code - 1 in
+    cond (leb code (get b (arena frontier)) && (eqb (get b (page prev q)) y && sound n b c sh 1 m q)) (length (latest b sh q m)) 0
+
+-- the walk and the fill of a whole take
+abbrev pub walksFrom : ℕ → List ℕ → ℕ → Shape → Bool
+walksFrom n b c sh = walk n b c sh (sh .batch) (sh .batch) (get b (class partial c)) 0
+
+abbrev pub fills : List ℕ → ℕ → Shape → Filled
+fills b c sh = fillFrom b c sh (sh .batch) (sh .batch)
+
+pub record Foretold (p : Plan) (ok : Bool) (f : Filled) : Type 0 where
+  pub fair : p .fair ≡ ok
+  pub count : ok ≡ true → p .count ≡ length (f .blocks)
+  pub virgin : ok ≡ true → p .virgin ≡ f .virgin
+
+-- ---- a store: the class has no partial page, and the store has one
+pub record ParkedAsks (n : ℕ) (b : List ℕ) (c : ℕ) (sh : Shape) (k : Park) : Type 0 where
+  pub asks : TakeAsks n b c sh
+  pub alone : get b (class partial c) ≡ 0
+  pub some : 0 < get b (class (top k) c)
+
+-- the first store that has a page, or the last
+abbrev pub firstStore : List ℕ → ℕ → Park
+firstStore b c = cond (eqb (get b (class empty c)) 0) Cold Empty
+
+-- its newest page heads the partial list
+abbrev pub woken : List ℕ → ℕ → Park → List ℕ
+woken b c k = wake b c k (get b (class (top k) c) - 1)
+
+-- ---- a run that the arena gave, where the class has no page
+pub record TakeRunAsks (b : List ℕ) (c : ℕ) (sh : Shape) (q : ℕ) : Type 0 where
+  pub pages : ℕ
+  pub asks : TakeAsks pages b c sh
+  pub alone : get b (class partial c) ≡ 0
+  pub ends : q + sh .pages ≤ pages
+  pub under : q + sh .pages ≤ get b (arena frontier)
+  pub owners : (i : ℕ) → i < sh .pages → get b (page owner (q + i)) ≡ suc c
+
+-- a take from the arena, and from whatever source
+pub record TakeNewAsks (n : ℕ) (b : List ℕ) (c : ℕ) (sh : Shape) : Type 0 where
+  pub asks : TakeAsks n b c sh
+  pub alone : get b (class partial c) ≡ 0
+
+pub record BlocksAsks (n : ℕ) (b : List ℕ) (c : ℕ) (sh : Shape) (l : List ℕ) : Type 0 where
+  pub known : c < 76
+  pub shape : Sound sh
+  pub few : n ≤ maxPages
+  pub long : words n ≤ length b
+  pub places : sh .batch ≤ length l
+
+pub record CallAsks (n : ℕ) (b : List ℕ) (c : ℕ) : Type 0 where
+  pub known : c < 76
+  pub few : n ≤ maxPages
+  pub long : words n ≤ length b
+
+-- ---- the fill: one turn takes up to m blocks of the head page, to the places below `at`
+pub record TurnAsks (b : List ℕ) (c : ℕ) (sh : Shape) (l : List ℕ) (at m : ℕ) : Type 0 where
+  pub known : c < 76
+  pub some : 0 < get b (class partial c)
+  pub draws : DrawAsks b sh (get b (class partial c) - 1) l at m
+  pub behind : words (get b (page next (get b (class partial c) - 1))) ≤ length b
+  pub before : words (get b (page prev (get b (class partial c) - 1))) ≤ length b
+
+-- it answered r, and left the book b′ and the list l′
+pub record GaveTurn (r : ℕ) (b′ l′ b : List ℕ) (c : ℕ) (sh : Shape) (l : List ℕ) (at m : ℕ) : Type 0 where
+  pub count : r ≡ length (latest b sh (get b (class partial c) - 1) m)
+  pub book : b′ ≡ unlistSpent (draw b sh (get b (class partial c) - 1) m) c sh (get b (class partial c) - 1)
+  pub list : l′ ≡ spliced l (at - length (latest b sh (get b (class partial c) - 1) m)) (map (wordOf sh (get b (class partial c) - 1)) (latest b sh (get b (class partial c) - 1) m))
+
+-- the walk passes, whatever the arena's length, and `at` is what the fill yields
+pub record FillAsks (b : List ℕ) (c : ℕ) (sh : Shape) (l : List ℕ) (at : ℕ) : Type 0 where
+  pub pages : ℕ
+  pub asks : TakeAsks pages b c sh
+  pub walks : walksFrom pages b c sh ≡ true
+  pub count : at ≡ length (fills b c sh .blocks)
+  pub places : at ≤ length l
+
+pub record Filling (b′ l′ : List ℕ) (f : Filled) (l : List ℕ) : Type 0 where
+  pub book : b′ ≡ f .book
+  pub list : l′ ≡ f .blocks ++ drop (length (f .blocks)) l
