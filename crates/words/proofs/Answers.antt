@@ -21,7 +21,7 @@ digit-lt false = omega arith
 pub set-bit : (k w : ℕ) (b : Bool) {n : ℕ} → 1 + k ≤ w → n < 2 ^ k → bitOr n (digit b * 2 ^ k % 2 ^ w) ≡ digit b * 2 ^ k + n
 set-bit k w b {n} h l = ap (bitOr n) (shl-exact 1 k w (digit-lt b) h) ∙ or-shifted-r (digit b) k n l
 
-eqb-digit : (b : Bool) → eqb (digit b) 1 ≡ b
+pub eqb-digit : (b : Bool) → eqb (digit b) 1 ≡ b
 eqb-digit true = refl
 eqb-digit false = refl
 
@@ -86,8 +86,3 @@ next-bit k h e = ap₂ (λ (x y : ℕ). x * 2 ^ k + y) (digit-bit k h) e ∙ sym
 pub host-again : (h : ℕ) → badHost h ≡ false → hostWord (reservationGranted h) (commitGranted h) (discardDone h) (discardZeroes h) ≡ h
 host-again h e =
     next-bit 3 h (next-bit 2 h (next-bit 1 h (omega (arith, digit-bit 0 h)))) ∙ mod-eq-of-lt (omega (arith, ltb-false hostMax h e))
-
--- a digit is 1 exactly if what it tells is true
-pub eqb-digit : (v : Bool) → eqb (digit v) 1 ≡ v
-eqb-digit true = refl
-eqb-digit false = refl
