@@ -19,6 +19,9 @@ use Rattle.vigbuso.proofs.FaultSteps.{class-book, class-below}
 use Rattle.vigbuso.proofs.DirectSteps.{book-in}
 
 -- what the out-parameters tell, of a call's number and answer
+not-none : (j : ℕ) → suc j ≡ 0 → ⊥
+not-none j e = omega arith
+
 module _ (n : ℕ) (g : Bool) where
   code-is : (j : ℕ) → j ≡ codeOut (answerOf j n g)
   code-is zero = refl
@@ -26,11 +29,11 @@ module _ (n : ℕ) (g : Bool) where
 
   count-is : (j old : ℕ) → cond (eqb j 0) n old ≡ countOut (answerOf j n g) old
   count-is zero old = refl
-  count-is (suc j) old = refl
+  count-is (suc j) old = rw (ne-eqb (suc j) 0 (not-none j))
 
   virgin-is : (j old : ℕ) → cond (eqb j 0) (digit g) old ≡ virginOut (answerOf j n g) old
   virgin-is zero old = refl
-  virgin-is (suc j) old = refl
+  virgin-is (suc j) old = rw (ne-eqb (suc j) 0 (not-none j))
 
 pub take-asks : (b : List ℕ) (h r low many c n : ℕ) → low + many ≤ 76 → r ≡ classFault b h many c → r ≡ 0 → n ≡ get b (arena size) → CallAsks n b (low + c)
 take-asks b h r low many c n u e z f =
