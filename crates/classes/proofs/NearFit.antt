@@ -75,9 +75,10 @@ module _ (size id : ℕ) (t : entered (stepOf size) id ≡ true) where
   unfolding entered stepOf
   medium-near l h =
       let step = (size + 61951) / 512 in
-      let u = rw (lt-leb size 4096 (omega arith), lt-leb step 128 (omega arith), lt-leb step 152 (omega arith)) at t in
-      (leb-true 64 id (and-left (leb 64 id) _ u),
-      near-fit (512 * step - 61951) (min (512 * step - 61440) maxMediumSize) size (id - 64) mediumSizes (and-right (leb 64 id) _ u) (omega arith) (omega arith))
+      let u = rw (lt-leb size 4096 (omega arith), lt-leb step 128 (omega arith), lt-leb step 152 (omega arith)) at t in (
+        leb-true 64 id (and-left (leb 64 id) _ u),
+        near-fit (512 * step - 61951) (min (512 * step - 61440) maxMediumSize) size (id - 64) mediumSizes (and-right (leb 64 id) _ u) (omega arith) (omega arith),
+      )
 
 -- ---- the block size of a class, as it is read
 pub small-bytes : (id : ℕ) → id < 64 → blockBytes id ≡ getD smallSizes id 16384

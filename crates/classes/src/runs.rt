@@ -62,5 +62,10 @@ pub fn shape_of(id: u32) -> Shape
     if id < NUM_CLASSES {
         return small_shape(block, small_capacity_for(size), inverse);
     }
-    medium_shape(block, span_pages_for(size), medium_capacity_for(size), inverse)
+    medium_shape(
+        block,
+        span_pages_for(size),
+        medium_capacity_for(size),
+        inverse,
+    )
 }
