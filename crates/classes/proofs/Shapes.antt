@@ -55,22 +55,6 @@ pub shape-sound : (c : ℕ) → Sound (shapeOf c)
 unfolding shapeOf
 shape-sound c = is-sound (shapeOf c) (true-cond sound (ltb c 64) _ _ (small-sound c) (medium-sound (c - 64)))
 
--- a block is no longer than a page
-abbrev narrow : Shape → Bool
-narrow s = leb (s .block) 4096
-
-small-narrow : (c : ℕ) → narrow (smallShape (getD smallSizes c 16384)) ≡ true
-unfolding smallShape smallSizes
-small-narrow c = every-at (λ size. narrow (smallShape size)) smallSizes 16384 c refl refl
-
-medium-narrow : (c : ℕ) → narrow (mediumShape (getD mediumSizes c 65472)) ≡ true
-unfolding mediumShape mediumSizes
-medium-narrow c = every-at (λ size. narrow (mediumShape size)) mediumSizes 65472 c refl refl
-
-pub shape-narrow : (c : ℕ) → shapeOf c .block ≤ 4096
-unfolding shapeOf
-shape-narrow c = leb-true (shapeOf c .block) 4096 (true-cond narrow (ltb c 64) _ _ (small-narrow c) (medium-narrow (c - 64)))
-
 -- ---- a shape made from a block size
 abbrev filled : ℕ → Bool
 filled size = within 16 size pageBytes
