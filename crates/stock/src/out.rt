@@ -9,7 +9,7 @@ ghost use Rattle.calls.specs.Out.{outAt};
 ghost use Rattle.release.specs.Blocks.{blockAt};
 ghost use Rattle.take.specs.TakePlan.{CallAsks};
 ghost use Rattle.stock.specs.Asks.{PageAsks, SmallAsks};
-use classes::shape_at;
+use classes::shape_of;
 use pages::page_within;
 use release::Found;
 use release::Out;
@@ -20,7 +20,7 @@ pub fn out_at(meta: &[u32], n: u32, c: u32, w: u64) -> bool
     requires { ⌜ CallAsks n (now meta) c ⌝ }
     ensures { λ r. ⌜ r ≡ outAt n (now (meta .entry)) c (shapeOf c) w ⌝ }
 {
-    let shape = shape_at(c);
+    let shape = shape_of(c);
     let found = find_out(meta, n, c, shape, w);
     let Out::Block(_, _) = found else {
         return false;
@@ -48,7 +48,7 @@ fn small_at(c: u32, w: u64) -> Found
     requires { ⌜ c < 64 ⌝ }
     ensures { λ r. ⌜ r ≡ blockAt (shapeOf c) (pageAt w) w ⌝ }
 {
-    let shape = shape_at(c);
+    let shape = shape_of(c);
     let inv = shape.inverse;
     let product = std::num::wrapping_sub_u64(w, 3) % 4096 * inv;
     if product % 4294967296 >= inv {
@@ -61,7 +61,7 @@ fn small_at(c: u32, w: u64) -> Found
     Found::At(i)
 }
 
-// A small class has a way of its own: its numbers stay in registers (docs/BACKEND.md).
+// A small class has a way of its own, since its runs are one page: a fifth less than by `out_at` (docs/PERFORMANCE.md).
 fn small_out(meta: &[u32], n: u32, c: u32, w: u64) -> bool
     requires { ⌜ SmallAsks n (now meta) c w ⌝ }
     ensures { λ r. ⌜ r ≡ outAt n (now (meta .entry)) c (shapeOf c) w ⌝ }

@@ -2,7 +2,7 @@
 ghost use mathlib.Core.Path.{_≡_};
 ghost use lib.Dec.{ltb};
 ghost use Rattle.pool.specs.Stock.{stockMost};
-use classes::shape_at;
+use classes::shape_of;
 
 // As crate pool's Stock.antt has them: the fewest and the most blocks, and the granules of 256 KiB.
 const STOCK_LEAST: u32 = 8;
@@ -31,6 +31,6 @@ pub fn has_room(c: u32, k: u32) -> bool
     if k >= STOCK_LIMIT {
         return false;
     }
-    let shape = shape_at(c);
+    let shape = shape_of(c);
     (k + 1) * shape.block <= STOCK_GRANULES
 }

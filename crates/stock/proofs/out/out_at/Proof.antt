@@ -4,8 +4,8 @@ use borrow.Author.Needs.{needs}
 use Rattle.stock.proofs.out.out_at.Statement.{statement}
 use Rattle.stock.proofs.out.out_at.Tie as tie
 
-shape-at-requires : tie.Need-shape-at-requires
-shape-at-requires c κs = search needs
+shape-of-requires : tie.Need-shape-of-requires
+shape-of-requires c κs = search needs
 
 find-out-requires : tie.Need-find-out-requires
 find-out-requires c κs = search class-asks
@@ -26,7 +26,7 @@ pub out-at-spec : {M : Type 1} → statement M
 out-at-spec =
     tie.close
     (tie.spec
-    shape-at-requires
+    shape-of-requires
     find-out-requires
     enum-told
     enum-told-2

@@ -3,8 +3,8 @@ use borrow.Author.Needs.{needs}
 use Rattle.stock.proofs.out.small_at.Statement.{statement}
 use Rattle.stock.proofs.out.small_at.Tie as tie
 
-shape-at-requires : tie.Need-shape-at-requires
-shape-at-requires c κs = search needs
+shape-of-requires : tie.Need-shape-of-requires
+shape-of-requires c κs = search needs
 
 wrapping-sub-u64-requires : tie.Need-wrapping-sub-u64-requires
 wrapping-sub-u64-requires c κs = search needs
@@ -28,7 +28,7 @@ pub small-at-spec : {M : Type 1} → statement M
 small-at-spec =
     tie.close
     (tie.spec
-    shape-at-requires
+    shape-of-requires
     wrapping-sub-u64-requires
     mul-product
     returns

@@ -12,8 +12,8 @@ returns-2 c = search room-few
 returns-3 : tie.Need-returns-3
 returns-3 c = search room-none
 
-shape-at-requires : tie.Need-shape-at-requires
-shape-at-requires c κs = search needs
+shape-of-requires : tie.Need-shape-of-requires
+shape-of-requires c κs = search needs
 
 add-result : tie.Need-add-result
 add-result c = search needs
@@ -26,4 +26,4 @@ returns-4 c = search room-by
 
 pub has-room-spec : {M : Type 1} → statement M
 has-room-spec =
-    tie.close (tie.spec returns returns-2 returns-3 shape-at-requires add-result mul-result returns-4)
+    tie.close (tie.spec returns returns-2 returns-3 shape-of-requires add-result mul-result returns-4)
