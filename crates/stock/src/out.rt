@@ -61,7 +61,7 @@ fn small_at(c: u32, w: u64) -> Found
     Found::At(i)
 }
 
-// A small class has a way of its own: its numbers stay in registers (docs/BACKEND.md).
+// A small class has a way of its own, since its runs are one page: a fifth less than by `out_at` (docs/PERFORMANCE.md).
 fn small_out(meta: &[u32], n: u32, c: u32, w: u64) -> bool
     requires { ⌜ SmallAsks n (now meta) c w ⌝ }
     ensures { λ r. ⌜ r ≡ outAt n (now (meta .entry)) c (shapeOf c) w ⌝ }
