@@ -5,7 +5,7 @@ use native.Mathlib.Omega.{arith}
 use mathlib.Core.Bool.{Bool, true, false, cond, _&&_, false≢true}
 use mathlib.Core.List.{List, [], _∷_}
 use mathlib.Core.Option.{Option, none, some}
-use mathlib.Core.Path.{_≡_, refl, _∙_, subst}
+use mathlib.Core.Path.{_≡_, refl, sym, ap, _∙_, subst}
 use lib.Dec.{leb, ltb}
 use lib.ListN.{length}
 use borrow.Author.Tests.{ltb-true, leb-true, le-leb, lt-ltb, le-ltb}
@@ -18,10 +18,10 @@ use Rattle.rules.specs.declared.Limits.{Limits}
 use Rattle.rules.specs.Rules.{Rules, plainRules, rulesOf, Fit}
 use Rattle.rules.proofs.Cover.{rows-cover, rules-fit, plain-rules}
 use Rattle.model.specs.Calls as Calls
-use Rattle.model.specs.Calls.{Call, Request, Way, turned, straight, toClass, wayOf}
+use Rattle.model.specs.Calls.{Call, isRefused, Request, Way, turned, straight, toClass, wayOf}
 use Rattle.model.specs.Page.{Page, isOut, returned, retire, noneOut}
 use Rattle.model.specs.Class.{Class, Cold, lists, Result, Ask, done, asks, serve, refuse, served, onRun, takeFrom}
-use Rattle.model.specs.Spot.{keepsEmpty, spotOf}
+use Rattle.model.specs.Spot.{keepsEmpty, spotOf, fateOf}
 use Rattle.model.specs.Release as Release
 use Rattle.model.specs.Release.{Site, inPartial, inFull, locate, park, settle, onPage, siteOfFirst, releaseList}
 use Rattle.model.specs.Chunks.{startsAt, settleChunk, settleChunks, releaseChunks, answer}
@@ -29,11 +29,13 @@ use Rattle.model.specs.Heap.{Heap, newHeap, step, route, classCall, interact, f
 use Rattle.model.specs.History.{heapFrom, heapAfter}
 use Rattle.model.proofs.Update.{update-all}
 use Rattle.model.proofs.Alone.{direct-keeps, step-rules}
+use Rattle.model.proofs.Offers.{good}
 use Rattle.refinement.proofs.Found.{Located, inList, inNone, located}
 use Rattle.demands.specs.Start.{Start, pages, ruleRows, rules, lent, Starts, calls}
 use Rattle.demands.specs.Parking.{Within, goesTo, Parking}
 use Rattle.demands.proofs.Calls.{room}
-use Rattle.demands.proofs.Starts.{represents}
+use Rattle.demands.proofs.Starts.{represents, next-agrees}
+use Rattle.demands.proofs.Fates.{freed-by, by-row}
 
 -- ---- one request of a class
 module _ (sh : Shape) (lim : Limits) where
@@ -207,4 +209,12 @@ parking s o =
       within = λ xs. within-after (pages s) (rules s) (calls s xs);
       kept = λ c e k h. small-goes c (rules s c) e k (rules-fit rows r c) h;
       keptSpans = λ c e k h. medium-goes c (rules s c) e k h;
+      fates = λ xs x c h q v ws e u has l m.
+          let ys = calls s xs in
+          let H = heapAfter (pages s) (rules s) ys in
+          let a = next-agrees s o xs x .answer in
+          let f = freed-by (pages s) H x c h ws e (good (pages s) (rules s) ys c) (ap isRefused (sym a) ∙ u) in
+          let r = by-row (pages s) (rules s) ys c h (H .rules c) ws (step (pages s) H x .answer) f q v has l m in
+          let k = ap (λ (z : Rules). z c) (rules-after (pages s) (rules s) ys) in
+          (λ z. a ∙ r .0 z ∙ ap (λ (lim : Limits). Calls.fate (fateOf (shapeOf c) (spotOf (shapeOf c) lim (length (H .classes c .empty)) (length (H .classes c .cold))))) k, λ z. a ∙ r .1 z);
     }

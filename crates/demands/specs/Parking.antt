@@ -5,22 +5,25 @@
 use Prim.Native.Nat.{ℕ, suc, _*_, _≤_, _<_}
 use mathlib.Core.Bool.{Bool, true, false, cond, _&&_}
 use mathlib.Core.List.{List}
+use mathlib.Core.Option.{some}
 use mathlib.Core.Path.{_≡_}
 use lib.Dec.{leb, ltb}
 use lib.ListN.{length}
-use Rattle.facts.specs.Lists.{isNil}
+use Rattle.facts.specs.Lists.{isNil, elem}
 use Rattle.classes.specs.declared.Shape.{Shape}
 use Rattle.classes.specs.Shape.{shapeOf, classCount}
 use Rattle.rules.specs.declared.Limits.{Limits}
 use Rattle.rules.specs.Rules.{plainRules, RowsCover, Fit}
 use Rattle.model.specs.declared.Spot.{Spot}
 use Rattle.model.specs.declared.Spot.the-variants.{ToEmpty, ToCold, ToArena}
-use Rattle.model.specs.Calls.{Call}
+use Rattle.model.specs.Calls.{Call, giveBack, fate, names, isRefused}
 use Rattle.model.specs.Class.{Class}
-use Rattle.model.specs.Spot.{spotOf}
-use Rattle.model.specs.History.{heapAfter}
+use Rattle.model.specs.Spot.{spotOf, fateOf, keptFate}
+use Rattle.model.specs.History.{Event, events, heapAfter}
+use Rattle.model.specs.Entries.{OutIn}
+use Rattle.model.specs.Offered.{blocksAt, HasRun}
 use Rattle.pages.specs.Fair.{limitsAt}
-use Rattle.demands.specs.Start.{Start, pages, ruleRows, rules, calls, bookAfter}
+use Rattle.demands.specs.Start.{Start, pages, ruleRows, rules, calls, bookAfter, next}
 
 pub record Within (sh : Shape) (lim : Limits) (s : Class) : Type 0 where
   pub empty : length (s .empty) ≤ lim .empty
@@ -31,6 +34,10 @@ pub record Within (sh : Shape) (lim : Limits) (s : Class) : Type 0 where
 -- the empty store has room, else the cold one, else the run is the arena's
 abbrev pub goesTo : Bool → Bool → Spot
 goesTo empty cold = cond empty ToEmpty (cond cold ToCold ToArena)
+
+-- the list has every block of the run at q that is out in the class by the history
+abbrev pub Empties : List Event → ℕ → ℕ → List ℕ → Type 0
+Empties vs c q ws = (w : ℕ) → elem w (blocksAt (shapeOf c) q) ≡ true → OutIn vs c w → elem w ws ≡ true
 
 pub record Parking (s : Start) : Type 0 where
   -- rows "must cover 0 to 75 without gap or overlap. A row's limits hold for each of its classes"
@@ -46,3 +53,10 @@ pub record Parking (s : Start) : Type 0 where
   pub kept : (c e k : ℕ) → c < 64 → spotOf (shapeOf c) (rules s c) e k ≡ goesTo (ltb e (rules s c .empty)) (ltb k (rules s c .cold))
   -- a medium one has 8 MiB, 128 pages, of empty spans beside it
   pub keptSpans : (c e k : ℕ) → 64 ≤ c → spotOf (shapeOf c) (rules s c) e k ≡ goesTo (ltb e (rules s c .empty) && leb (suc e * shapeOf c .pages) 128) (ltb k (rules s c .cold))
+  -- over the calls: a release by list that is not refused and has a block of the class's run at q answers 0 where it leaves a block of the run out by the
+  -- history; else the fate of where the run goes, by the row's limits and by how many empty and cold runs the class has
+  pub fates : (xs : List Call) (x : Call) (c h q v : ℕ) (ws : List ℕ) → names x ≡ some (record { class = c; request = giveBack h ws }) → isRefused (next s xs x .answer) ≡ false
+      → (let vs = events (pages s) (rules s) (calls s xs) in
+      let k = heapAfter (pages s) (rules s) (calls s xs) .classes c in
+      HasRun c q vs → elem v ws ≡ true → elem v (blocksAt (shapeOf c) q) ≡ true
+      → (Empties vs c q ws → next s xs x .answer ≡ fate (fateOf (shapeOf c) (spotOf (shapeOf c) (rules s c) (length (k .empty)) (length (k .cold))))) × ((Empties vs c q ws → ⊥) → next s xs x .answer ≡ fate keptFate))
