@@ -1,12 +1,12 @@
-//! What a reader must believe: the definitions that the statements of `demands` and the contracts of `vigbuso` reach by imports. They stand in
-//! crates/*/specs/, and what is only the way to a proof in crates/*/specs/way/. Fails where a believed file imports one of the way, or where a file
+//! What a reader must believe: the definitions that the statements and the contracts of the exported functions reach by imports, and the examples. They stand
+//! in crates/*/specs/, and what is only the way to a proof in crates/*/specs/way/. Fails where a believed file imports one of the way, or where a file
 //! stands outside way/ that no statement reaches. Prints how many lines must be believed. It reads text, not the language.
 use std::collections::{BTreeMap, BTreeSet};
 use std::path::Path;
 use std::{env, fs, process};
 
-/// Statements, and the definitions in the exported functions' contracts.
-const ROOTS: [&str; 2] = ["demands", "vigbuso"];
+/// Crates of statements, and of the contracts of exported functions and of a program. Rows of examples, in files named so, are statements too.
+const ROOTS: [&str; 4] = ["demands", "vigbuso", "witness", "mediumlist"];
 /// They list modules, and define nothing.
 const LISTS: [&str; 2] = ["Lib.antt", "way.antt"];
 
@@ -22,7 +22,7 @@ fn main() {
         read(&entry.path().join("specs/way"), &name, "way.", &mut texts);
     }
     let mut faults = 0;
-    let mut believed: BTreeSet<&Module> = texts.keys().filter(|module| ROOTS.contains(&module.0.as_str()) && !is_way(module)).collect();
+    let mut believed: BTreeSet<&Module> = texts.keys().filter(|module| is_root(module)).collect();
     let mut open: Vec<&Module> = believed.iter().copied().collect();
     while let Some(module) = open.pop() {
         for import in imports(&texts[module]) {
@@ -53,6 +53,10 @@ fn read(folder: &Path, name: &str, prefix: &str, into: &mut BTreeMap<Module, Str
         let text = fs::read_to_string(entry.path()).expect("a source is UTF-8");
         into.insert((name.to_string(), format!("{prefix}{module}")), text);
     }
+}
+
+fn is_root(module: &Module) -> bool {
+    (ROOTS.contains(&module.0.as_str()) || module.1.ends_with("Examples")) && !is_way(module)
 }
 
 fn is_way(module: &Module) -> bool {
