@@ -1,8 +1,8 @@
 -- Holes loaded part by part, the last part first.
 --     part-fair, part-weighed    with a part before the others: whether all are in their range, and what all come to
 --     four-loaded, four-fair     a part of four
-use mathlib.Core.Path.{_≡_, refl, sym, ap, _∙_}
-use Prim.Native.Nat.{ℕ, zero, suc, _+_, _-_, _<_, _≤_}
+use mathlib.Core.Path.{_≡_, refl, sym}
+use Prim.Native.Nat.{ℕ, zero, suc, _+_, _-_, _≤_}
 use native.Mathlib.Omega.{arith}
 use native.Mathlib.Nat.{add-zero}
 use mathlib.Core.Bool.{Bool, true, false, _&&_, and-assoc}
