@@ -35,8 +35,7 @@ use Rattle.arena.specs.Open.{cleared, headWords, limited, ruled}
 use Rattle.arena.specs.Calls.{commitFor, commitCall, given, heldDirect, releaseCall, growCall, containsCall}
 use Rattle.holes.specs.Act.{endNone, endRun, endGiven, settle, fromFrontier, growWith, growActs, clamped}
 use Rattle.runs.specs.Asks.{GiveIn, BookIn, EndsIn}
-use Rattle.runs.specs.Answer.{answerOf, Answers, commitOf}
-use Rattle.runs.proofs.CommitSteps.{told-answer}
+use Rattle.runs.specs.Answer.{answerOf, Answers}
 use Rattle.direct.specs.Answer.{grownAs, growCommit, Grew, Grows, fairGrow, Releases, heldRelease}
 use Rattle.holes.proofs.Acts.{fair-record, grow-acts}
 use Rattle.holes.proofs.PlanLaws.{clamp-commit, clamp-growth, clamp-grow, clamped-le}
@@ -273,8 +272,6 @@ module _ (n : ℕ) (b : List ℕ) (h m : ℕ) where
   unfolding commitCall
   commit-bad t e v = rw (← e, v) (record { answer = refl; book = refl })
 
-  pub commit-goes : (t : Bool) (r w : ℕ) (s : Commit) (x : List ℕ) → BookIn b n → t ≡ badRun m → t ≡ false → r ≡ clamped m → Answers (commitOf w) x (commitFor n b h r (ownerCode direct)) → s ≡ commitOf w → Answers s x (commitCall n b h m)
+  pub commit-goes : (t : Bool) (r : ℕ) (s : Commit) (x : List ℕ) → BookIn b n → t ≡ badRun m → t ≡ false → r ≡ clamped m → Answers s x (commitFor n b h r (ownerCode direct)) → Answers s x (commitCall n b h m)
   unfolding commitCall
-  commit-goes t r w s x k e v f a u =
-      let y = told-answer s w x _ a u in
-      rw (← e, v) (rw (f, clamp-commit n b (le-leb _ _ (k .long)) (k .small) h (ownerCode direct) m) at y)
+  commit-goes t r s x k e v f a = rw (← e, v) (rw (f, clamp-commit n b (le-leb _ _ (k .long)) (k .small) h (ownerCode direct) m) at a)

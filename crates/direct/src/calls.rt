@@ -47,7 +47,7 @@ pub fn commit(meta: &mut [u32], size: u32, host: u32, pages: u64) -> Commit
     if bad_run(pages) {
         return Commit::Refused(6);
     }
-    runs::commit_of(runs::commit_word(meta, size, host, clamp(pages), DIRECT))
+    runs::commit_for(meta, size, host, clamp(pages), DIRECT)
 }
 
 // A run that the direct calls hold.

@@ -1,10 +1,9 @@
 -- The ways out of a commit for an owner and of a growth, and what they ask of the steps.
-use Prim.Native.Nat.{ℕ, zero, suc, _+_, _-_, _*_, _/_, _%_, _^_, _≤_, _<_}
+use Prim.Native.Nat.{ℕ, _+_, _-_, _≤_}
 use native.Mathlib.Omega.{arith}
-use mathlib.Core.Bool.{Bool, true, false, cond}
+use mathlib.Core.Bool.{Bool, true, false}
 use mathlib.Core.List.{List}
 use mathlib.Core.Path.{_≡_, refl, sym, ap, _∙_, subst}
-use lib.Dec.{eqb}
 use borrow.Author.Tests.{le-leb, eq-eqb, ne-eqb}
 use Rattle.words.specs.Limits.{maxPages, holeSlots}
 use Rattle.words.specs.Host.{commitGranted}
@@ -12,15 +11,15 @@ use Rattle.fields.specs.Field.{arena, held, get}
 use Rattle.holes.specs.declared.Arena.{Arena}
 use Rattle.holes.specs.declared.Plan.{Plan}
 use Rattle.runs.specs.declared.Commit.{Commit}
-use Rattle.runs.specs.declared.Commit.the-variants.{Refused, Run, Nothing}
+use Rattle.runs.specs.declared.Commit.the-variants.{Refused, Nothing}
 use Rattle.arena.specs.Load.{loadHole, loadHoles}
 use Rattle.holes.specs.Record.{recordOf, storeRecord}
 use Rattle.arena.specs.Fair.{recordFair, commitFair}
 use Rattle.holes.specs.Plan.{planOf}
-use Rattle.arena.specs.Calls.{Committed, commitFor}
+use Rattle.arena.specs.Calls.{commitFor}
 use Rattle.holes.specs.Act.{withState, endNone, fromFrontier, commitPlanned, planned, commitRead, commitActs, growWith}
 use Rattle.runs.specs.Asks.{RecordIn, HoleIn, PlanIn, EndsIn, RequestIn, BookIn}
-use Rattle.runs.specs.Answer.{Answers, wordOf, commitAs, commitOf}
+use Rattle.runs.specs.Answer.{Answers}
 use Rattle.holes.proofs.Acts.{fair-record, planned-is, ends-of, commit-acts}
 use Rattle.holes.proofs.PlanLaws.{plan-fits}
 
@@ -88,55 +87,3 @@ module _ (n : ℕ) (b : List ℕ) (h m w : ℕ) where
   pub commits-off : (t : Bool) → t ≡ recordFair n b → t ≡ false → Answers (Refused 13) b (commitFor n b h m w)
   unfolding commitFor commitFair
   commits-off t e v = rw (← e, v) (record { answer = refl; book = refl })
-
--- ---- an answer as one number
-pub word-fresh : (x : ℕ) (f : Bool) → f ≡ true → x + 2 ≡ x + cond f 2 1
-word-fresh x f e = rw e
-
-pub word-reused : (x : ℕ) (f : Bool) → f ≡ false → x + 1 ≡ x + cond f 2 1
-word-reused x f e = rw e
-
-module _ (c : Commit) where
-  pub word-refused : (k : ℕ) → c ≡ Refused k → k * 2 ^ 32 ≡ wordOf c
-  word-refused k e = rw e
-
-  pub word-run : (q : ℕ) (f : Bool) (r : ℕ) → c ≡ Run q f → r ≡ q * 2 ^ 32 + cond f 2 1 → r ≡ wordOf c
-  word-run q f r e d = rw e d
-
-word-back : (c : Commit) → commitOf (wordOf c) ≡ c
-word-back (Refused k) =
-    let e : k * 2 ^ 32 % 4 ≡ 0 = omega arith in
-    let d : k * 2 ^ 32 / 2 ^ 32 ≡ k = omega arith in
-    rw (e, d)
-word-back (Run q true) =
-    let e : (q * 2 ^ 32 + 2) % 4 ≡ 2 = omega arith in
-    let d : (q * 2 ^ 32 + 2) / 2 ^ 32 ≡ q = omega arith in
-    rw (e, d)
-word-back (Run q false) =
-    let e : (q * 2 ^ 32 + 1) % 4 ≡ 1 = omega arith in
-    let d : (q * 2 ^ 32 + 1) / 2 ^ 32 ≡ q = omega arith in
-    rw (e, d)
-word-back Nothing = refl
-
-pub told-word : (c : Commit) (w : ℕ) (x : List ℕ) (o : Committed) → Answers c x o → w ≡ wordOf c → Answers (commitOf w) x o
-told-word c w x o k e = subst (λ z. Answers z x o) (sym (ap commitOf e ∙ word-back c)) k
-
-pub told-answer : (c : Commit) (w : ℕ) (x : List ℕ) (o : Committed) → Answers (commitOf w) x o → c ≡ commitOf w → Answers c x o
-told-answer c w x o k e = subst (λ z. Answers z x o) (sym e) k
-
-runs-as : (k v : ℕ) → k < 4 → (k ≡ 0 → ⊥) → (k ≡ 3 → ⊥) → Run v (eqb k 2) ≡ commitAs k v
-runs-as zero v l e d = absurd (e refl)
-runs-as (suc zero) v l e d = refl
-runs-as (suc (suc zero)) v l e d = refl
-runs-as (suc (suc (suc zero))) v l e d = absurd (d refl)
-runs-as (suc (suc (suc (suc k)))) v l e d = absurd (omega arith)
-
-module _ (w : ℕ) where
-  pub of-refused : w % 4 ≡ 0 → Refused (w / 2 ^ 32) ≡ commitOf w
-  of-refused e = rw e
-
-  pub of-nothing : w % 4 ≡ 3 → Nothing ≡ commitOf w
-  of-nothing e = rw e
-
-  pub of-run : (w % 4 ≡ 0 → ⊥) → (w % 4 ≡ 3 → ⊥) → Run (w / 2 ^ 32) (eqb (w % 4) 2) ≡ commitOf w
-  of-run e d = runs-as (w % 4) (w / 2 ^ 32) (omega arith) e d

@@ -7,5 +7,4 @@ pub commit-spec : {M : Type 1} → statement M
 commit-spec =
     tie.close
     (tie.spec
-    (λ c κs. search needs) (λ c. search commit-bad) (λ c κs. search needs) (λ c κs. (search needs, search clamped-fits)) (λ c κs. search needs)
-    (λ c. search needs) (λ c. search commit-goes))
+    (λ c κs. search needs) (λ c. search commit-bad) (λ c κs. search needs) (λ c κs. (search needs, search clamped-fits)) (λ c. search needs) (λ c. search commit-goes))
