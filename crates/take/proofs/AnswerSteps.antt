@@ -1,46 +1,19 @@
--- An answer as one word, and what an answer tells.
-use Prim.Native.Nat.{ℕ, zero, suc, _+_, _*_, _%_, _^_, _≤_, _<_}
+-- What an answer tells: a refusal's number, or the count; and the same through out-parameters.
+use Prim.Native.Nat.{ℕ, zero, suc}
 use native.Mathlib.Omega.{arith}
-use native.Mathlib.Nat.{mod-eq-of-lt}
 use mathlib.Core.Bool.{Bool, true, false}
 use mathlib.Core.List.{List}
-use mathlib.Core.Path.{_≡_, refl, sym, ap, ap₂, _∙_}
-use lib.Dec.{leb}
-use borrow.Author.Tests.{lt-ltb, le-ltb, le-leb, lt-leb}
+use mathlib.Core.Path.{_≡_, refl, sym, ap, _∙_}
+use mir.Val.{boolByte}
+use lib.Dec.{eqb}
+use borrow.Author.Tests.{ne-eqb}
+use Rattle.facts.proofs.Bools.{by-cases}
+use Rattle.words.specs.Host.{digit}
 use Rattle.take.specs.declared.call.Take.{Take}
-use Rattle.take.specs.declared.call.Take.the-variants.{Refused, Took}
 use Rattle.calls.specs.Take as Heap
-use Rattle.take.specs.TakeAnswer.{answerOf, answerIn, Takes}
+use Rattle.take.specs.declared.call.Take.the-variants.{Refused, Took}
+use Rattle.take.specs.TakeAnswer.{answerOf, Takes, TakesInto}
 
-pub word-refused : (w : ℕ) → w < 2 ^ 32 → Refused (w % 2 ^ 32) ≡ answerIn w
-word-refused w h = rw (lt-ltb w (2 ^ 32) h)
-
-pub word-took : (w : ℕ) → 2 ^ 32 ≤ w → Took (w % 2 ^ 32) (leb (2 * 2 ^ 32) w) ≡ answerIn w
-word-took w h = rw (le-ltb w (2 ^ 32) h)
-
-module _ (a : Take) where
-  pub packed-refused : (k : ℕ) → k < 2 ^ 32 → a ≡ Refused k → answerIn k ≡ a
-  packed-refused k h e = sym (word-refused k h) ∙ ap Refused (mod-eq-of-lt h) ∙ sym e
-
-  module _ (m : ℕ) (v : Bool) (h : m < 2 ^ 32) (e : a ≡ Took m v) where
-    pub packed-virgin : v ≡ true → answerIn (2 * 2 ^ 32 + m) ≡ a
-    packed-virgin z =
-        let low : (2 * 2 ^ 32 + m) % 2 ^ 32 ≡ m = omega arith in
-        sym (word-took (2 * 2 ^ 32 + m) (omega arith)) ∙ ap₂ Took low (le-leb (2 * 2 ^ 32) (2 * 2 ^ 32 + m) (omega arith) ∙ sym z) ∙ sym e
-
-    pub packed-used : v ≡ false → answerIn (2 ^ 32 + m) ≡ a
-    packed-used z =
-        let low : (2 ^ 32 + m) % 2 ^ 32 ≡ m = omega arith in
-        sym (word-took (2 ^ 32 + m) (omega arith)) ∙ ap₂ Took low (lt-leb (2 * 2 ^ 32) (2 ^ 32 + m) (omega arith) ∙ sym z) ∙ sym e
-
-module _ (w : ℕ) (r : Take) (b l : List ℕ) (t : Heap.Took) where
-  pub takes-packed : answerIn w ≡ r → Takes r b l t → Takes (answerIn w) b l t
-  takes-packed e h = rw (← e) at h
-
-  pub takes-told : r ≡ answerIn w → Takes (answerIn w) b l t → Takes r b l t
-  takes-told e h = rw (← e) at h
-
--- ---- a refusal's number, or the count
 pub told-refused : (k j : ℕ) (w : Bool) (m : ℕ) → answerOf k j w ≡ Refused m → k ≡ 0 → ⊥
 told-refused zero j w m e y = let z : _≡_ {A = ℕ} 0 1 = cc in omega arith
 told-refused (suc k) j w m e y = omega arith
@@ -56,3 +29,41 @@ told-count (suc k) j w m v e = cc
 pub told-number : (k j : ℕ) (w : Bool) (m : ℕ) → answerOf k j w ≡ Refused m → m ≡ k
 told-number zero j w m e = cc
 told-number (suc k) j w m e = cc
+
+told-virgin : (k j : ℕ) (w : Bool) (m : ℕ) (v : Bool) → answerOf k j w ≡ Took m v → v ≡ w
+told-virgin zero j w m v e = cc
+told-virgin (suc k) j w m v e = cc
+
+-- ---- through out-parameters
+byte-digit : (v : Bool) → boolByte v ≡ digit v
+byte-digit true = refl
+byte-digit false = refl
+
+module _ (t : Heap.Took) (x y : List ℕ) where
+  module _ (s : Take) (k : Takes s x y t) where
+    pub into-refused : (c m v : ℕ) → s ≡ Refused c → TakesInto c x y m m v v t
+    into-refused c m v e =
+        let z = sym (k .answer) ∙ e in
+        let u = ne-eqb (t .code) 0 (told-refused (t .code) (t .count) (t .virgin) c z) in
+        record { code = told-number (t .code) (t .count) (t .virgin) c z; book = k .book; list = k .list; count = rw u; virgin = rw u }
+
+    pub into-took : (j m v : ℕ) (g : Bool) → s ≡ Took j g → TakesInto 0 x y m j v (boolByte g) t
+    into-took j m v g e =
+        let z = sym (k .answer) ∙ e in
+        let u : t .code ≡ 0 = told-code (t .code) (t .count) (t .virgin) j g z in
+        record { code = sym u; book = k .book; list = k .list; count = rw u (told-count (t .code) (t .count) (t .virgin) j g z); virgin = rw u (byte-digit g ∙ ap digit (told-virgin (t .code) (t .count) (t .virgin) j g z)) }
+
+  module _ (r m m′ v v′ : ℕ) (k : TakesInto r x y m m′ v v′ t) where
+    refusal : (j : ℕ) → (j ≡ 0 → ⊥) → Refused j ≡ answerOf j (t .count) (t .virgin)
+    refusal zero d = absurd (d refl)
+    refusal (suc j) d = refl
+
+    pub told-no : (r ≡ 0 → ⊥) → Takes (Refused r) x y t
+    told-no d = record { answer = refusal r d ∙ ap (λ j. answerOf j (t .count) (t .virgin)) (k .code); book = k .book; list = k .list }
+
+    pub told-took : r ≡ 0 → Takes (Took m′ (eqb v′ 1)) x y t
+    told-took z =
+        let u : t .code ≡ 0 = sym (k .code) ∙ z in
+        let e : m′ ≡ t .count = rw u at (k .count) in
+        let f : v′ ≡ digit (t .virgin) = rw u at (k .virgin) in
+        record { answer = by-cases (t .virgin) (λ w. rw (u, e, f, w)) (λ w. rw (u, e, f, w)); book = k .book; list = k .list }

@@ -1,13 +1,14 @@
 -- What a take answers, and that the code answered so.
---     Takes      it is done
---     Readies    its source is at hand: the fill is left
-use Prim.Native.Nat.{ℕ, zero, suc, _*_, _%_, _^_, _≤_}
+--     Takes, TakesInto    it is done; through out-parameters
+--     Readies             its source is at hand: the fill is left
+use Prim.Native.Nat.{ℕ, zero, suc, _≤_}
 use mathlib.Core.Bool.{Bool, false, cond}
 use mathlib.Core.List.{List}
 use mathlib.Core.Option.{some}
 use mathlib.Core.Path.{_≡_}
-use lib.Dec.{ltb, leb}
+use lib.Dec.{eqb}
 use lib.ListN.{length}
+use Rattle.words.specs.Host.{digit}
 use Rattle.classes.specs.declared.Shape.{Shape}
 use Rattle.take.specs.declared.call.Take.{Take}
 use Rattle.take.specs.declared.call.Take.the-variants as Answer
@@ -21,15 +22,19 @@ abbrev pub answerOf : ℕ → ℕ → Bool → Take
 answerOf zero m v = Answer.Took m v
 answerOf (suc k) m v = Answer.Refused (suc k)
 
--- the same as one word: the lower half is the number or the count, the upper 0, or 1, or 2 where all are virgin
-abbrev pub answerIn : ℕ → Take
-answerIn w = cond (ltb w (2 ^ 32)) (Answer.Refused (w % 2 ^ 32)) (Answer.Took (w % 2 ^ 32) (leb (2 * 2 ^ 32) w))
-
 -- it answered r, and left the book b and the list l
 pub record Takes (r : Take) (b l : List ℕ) (t : Took) : Type 0 where
   pub answer : r ≡ answerOf (t .code) (t .count) (t .virgin)
   pub book : b ≡ t .book
   pub list : l ≡ t .list
+
+-- the same through out-parameters: m and v are what they hold before the call, m′ and v′ after it
+pub record TakesInto (r : ℕ) (b l : List ℕ) (m m′ v v′ : ℕ) (t : Took) : Type 0 where
+  pub code : r ≡ t .code
+  pub book : b ≡ t .book
+  pub list : l ≡ t .list
+  pub count : m′ ≡ cond (eqb (t .code) 0) (t .count) m
+  pub virgin : v′ ≡ cond (eqb (t .code) 0) (digit (t .virgin)) v
 
 -- the source answered r and left the book b: whatever list is lent, a refusal and no page are all of the take t, and else the fill is what is left
 pub record Readies (r : Ready) (b : List ℕ) (c : ℕ) (sh : Shape) (t : List ℕ → Took) : Type 0 where

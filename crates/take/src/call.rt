@@ -5,7 +5,7 @@ ghost use Rattle.pages.specs.Asks.{RowAsks};
 ghost use Rattle.calls.specs.Take.{fromPartial, fromPark, takeNew, takeBlocks, takeCall};
 ghost use Rattle.take.specs.TakePlan.{TakeAsks, ParkedAsks, TakeRunAsks, TakeNewAsks, BlocksAsks, CallAsks, firstStore};
 ghost use Rattle.take.specs.TakeCount.{CountAsks};
-ghost use Rattle.take.specs.TakeAnswer.{answerIn, Takes, Readies, onRunAt};
+ghost use Rattle.take.specs.TakeAnswer.{Takes, TakesInto, Readies, onRunAt};
 use crate::take_fill::fill;
 use crate::take_plan::plan_parked;
 use crate::take_plan::plan_partial;
@@ -13,9 +13,6 @@ use crate::take_plan::supply;
 use classes::Shape;
 use pages::Park;
 use runs::Commit;
-
-// 2^32: the halves of an answer's word.
-const WORD: u64 = 4_294_967_296;
 
 // A refusal's number, or how many blocks stand in the list, and whether all are virgin.
 pub enum Take {
@@ -137,45 +134,39 @@ fn take_sized(meta: &mut [u32], n: u32, c: u32, host: u32, list: &mut [u64]) -> 
     take_blocks(meta, n, c, shape, host, list)
 }
 
-// An answer as one word: it is returned in a register, where an enum goes through memory (docs/BACKEND.md).
-fn packed(answer: Take) -> u64
-    ensures { λ r. ⌜ answerIn r ≡ answer ⌝ }
+// The same through the out-parameters that the exported takes have: an enum would go through memory (docs/BACKEND.md).
+pub fn take_into(
+    meta: &mut [u32],
+    n: u32,
+    c: u32,
+    host: u32,
+    list: &mut [u64],
+    count: &mut u32,
+    virgin: &mut u32,
+) -> u32
+    requires { ⌜ CallAsks n (now meta) c ⌝ }
+    ensures { λ r. ⌜ TakesInto r (now (meta .exit)) (now (list .exit)) (now (count .entry)) (now (count .exit)) (now (virgin .entry)) (now (virgin .exit)) (takeCall n (now (meta .entry)) c (shapeOf c) host (now (list .entry))) ⌝ }
 {
-    match answer {
-        Take::Refused(k) => k as u64,
+    match take_sized(meta, n, c, host, list) {
+        Take::Refused(k) => k,
         Take::Took(m, v) => {
-            if v {
-                2 * WORD + m as u64
-            } else {
-                WORD + m as u64
-            }
+            *count = m;
+            *virgin = v as u32;
+            0
         }
     }
 }
 
-// And back.
-pub fn answer_in(w: u64) -> Take
-    ensures { λ r. ⌜ r ≡ answerIn w ⌝ }
-{
-    let m = (w % WORD) as u32;
-    if w < WORD {
-        return Take::Refused(m);
-    }
-    Take::Took(m, 2 * WORD <= w)
-}
-
-// The take with its answer as one word.
-pub fn take_packed(meta: &mut [u32], n: u32, c: u32, host: u32, list: &mut [u64]) -> u64
-    requires { ⌜ CallAsks n (now meta) c ⌝ }
-    ensures { λ r. ⌜ Takes (answerIn r) (now (meta .exit)) (now (list .exit)) (takeCall n (now (meta .entry)) c (shapeOf c) host (now (list .entry))) ⌝ }
-{
-    packed(take_sized(meta, n, c, host, list))
-}
-
-// The same, with its answer as it is.
+// And as one value.
 pub fn take_call(meta: &mut [u32], n: u32, c: u32, host: u32, list: &mut [u64]) -> Take
     requires { ⌜ CallAsks n (now meta) c ⌝ }
     ensures { λ r. ⌜ Takes r (now (meta .exit)) (now (list .exit)) (takeCall n (now (meta .entry)) c (shapeOf c) host (now (list .entry))) ⌝ }
 {
-    answer_in(take_packed(meta, n, c, host, list))
+    let mut count = 0;
+    let mut virgin = 0;
+    let code = take_into(meta, n, c, host, list, &mut count, &mut virgin);
+    if code != 0 {
+        return Take::Refused(code);
+    }
+    Take::Took(count, virgin == 1)
 }

@@ -1,27 +1,38 @@
 -- The ways out of the exported takes.
 use Prim.Native.Nat.{ℕ, zero, suc, _+_, _≤_}
 use native.Mathlib.Omega.{arith}
-use mathlib.Core.Bool.{Bool}
+use mathlib.Core.Bool.{Bool, false, cond}
 use mathlib.Core.List.{List}
-use mathlib.Core.Path.{_≡_, refl, sym, _∙_}
-use mir.Val.{boolByte}
+use mathlib.Core.Path.{_≡_, refl, _∙_}
+use lib.Dec.{eqb}
 use borrow.Author.Tests.{eq-eqb, ne-eqb}
 use Rattle.fields.specs.Field.{arena, size, get}
 use Rattle.classes.specs.Shape.{shapeOf}
-use Rattle.take.specs.declared.call.Take.{Take}
-use Rattle.take.specs.declared.call.Take.the-variants.{Refused, Took}
-use Rattle.calls.specs.Take as Heap
+use Rattle.words.specs.Host.{digit}
 use Rattle.calls.specs.Take.{takeCall}
-use Rattle.take.specs.TakeAnswer.{answerOf, answerIn, Takes}
+use Rattle.take.specs.TakeAnswer.{answerOf, TakesInto}
 use Rattle.take.specs.TakePlan.{CallAsks}
 use Rattle.vigbuso.specs.Faults.{classFault}
-use Rattle.vigbuso.specs.Blocks.{takeOn, TakeEnds}
+use Rattle.vigbuso.specs.Blocks.{takeOn, codeOut, countOut, virginOut, TakeEnds}
 use Rattle.vigbuso.proofs.FaultSteps.{class-book, class-below}
-use Rattle.vigbuso.proofs.DirectSteps.{book-in, byte-digit}
+use Rattle.vigbuso.proofs.DirectSteps.{book-in}
 
-refusal : (k : ℕ) → (k ≡ 0 → ⊥) → (m : ℕ) (v : Bool) → Refused k ≡ answerOf k m v
-refusal zero d m v = absurd (d refl)
-refusal (suc k) d m v = refl
+-- what the out-parameters tell, of a call's number and answer
+not-none : (j : ℕ) → suc j ≡ 0 → ⊥
+not-none j e = omega arith
+
+module _ (n : ℕ) (g : Bool) where
+  code-is : (j : ℕ) → j ≡ codeOut (answerOf j n g)
+  code-is zero = refl
+  code-is (suc j) = refl
+
+  count-is : (j old : ℕ) → cond (eqb j 0) n old ≡ countOut (answerOf j n g) old
+  count-is zero old = refl
+  count-is (suc j) old = rw (ne-eqb (suc j) 0 (not-none j))
+
+  virgin-is : (j old : ℕ) → cond (eqb j 0) (digit g) old ≡ virginOut (answerOf j n g) old
+  virgin-is zero old = refl
+  virgin-is (suc j) old = rw (ne-eqb (suc j) 0 (not-none j))
 
 pub take-asks : (b : List ℕ) (h r low many c n : ℕ) → low + many ≤ 76 → r ≡ classFault b h many c → r ≡ 0 → n ≡ get b (arena size) → CallAsks n b (low + c)
 take-asks b h r low many c n u e z f =
@@ -29,18 +40,14 @@ take-asks b h r low many c n u e z f =
     record { known = omega (arith, class-below b h many c r e z); few = k .small; long = k .long }
 
 module _ (b : List ℕ) (h many c r : ℕ) (e : r ≡ classFault b h many c) (low : ℕ) (l : List ℕ) where
-  pub take-unfit : (r ≡ 0 → ⊥) → Takes (Refused r) b l (takeOn low many b c h l)
+  pub take-unfit : (m v : ℕ) → (r ≡ 0 → ⊥) → TakeEnds (takeOn low many b c h l) r b l m m v v
   unfolding takeOn
-  take-unfit d = rw (← e, ne-eqb r 0 d) (record { answer = refusal r d _ _; book = refl; list = refl })
+  take-unfit m v d =
+      let z = ne-eqb r 0 d in
+      rw (← e, z) (record { code = code-is 0 false r; book = refl; list = refl; count = rw z at (count-is 0 false r m); virgin = rw z at (virgin-is 0 false r v) })
 
-  pub take-goes : (n w : ℕ) (s : Take) (x y : List ℕ) → r ≡ 0 → n ≡ get b (arena size)
-      → Takes (answerIn w) x y (takeCall n b (low + c) (shapeOf (low + c)) h l) → s ≡ answerIn w → Takes s x y (takeOn low many b c h l)
+  pub take-goes : (n s : ℕ) (x y : List ℕ) (m m′ v v′ : ℕ) → r ≡ 0 → n ≡ get b (arena size) → TakesInto s x y m m′ v v′ (takeCall n b (low + c) (shapeOf (low + c)) h l) → TakeEnds (takeOn low many b c h l) s x y m m′ v v′
   unfolding takeOn
-  take-goes n w s x y z f t a = rw (← e, eq-eqb r 0 z, a) (rw f at t)
-
-module _ (t : Heap.Took) (x y : List ℕ) (s : Take) (k : Takes s x y t) where
-  pub take-ends-refused : (c m v : ℕ) → s ≡ Refused c → TakeEnds t c x y m m v v
-  take-ends-refused c m v e = let z = sym (k .answer) ∙ e in record { code = rw z; book = k .book; list = k .list; count = rw z; virgin = rw z }
-
-  pub take-ends-took : (j m v : ℕ) (g : Bool) → s ≡ Took j g → TakeEnds t 0 x y m j v (boolByte g)
-  take-ends-took j m v g e = let z = sym (k .answer) ∙ e in record { code = rw z; book = k .book; list = k .list; count = rw z; virgin = rw z (byte-digit g) }
+  take-goes n s x y m m′ v v′ z f k =
+      let t = takeCall n b (low + c) (shapeOf (low + c)) h l in
+      rw (← e, eq-eqb r 0 z, ← f) (record { code = k .code ∙ code-is (t .count) (t .virgin) (t .code); book = k .book; list = k .list; count = k .count ∙ count-is (t .count) (t .virgin) (t .code) m; virgin = k .virgin ∙ virgin-is (t .count) (t .virgin) (t .code) v })

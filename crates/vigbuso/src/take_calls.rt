@@ -1,21 +1,28 @@
 // The takes. Any number, any list and any book is taken: numbers 1 to 4 stand before each call.
 use crate::faults::class_fault;
-use take::call::Take;
 ghost use Prim.Native.Nat.{_+_, _≤_};
-ghost use Rattle.take.specs.TakeAnswer.{Takes};
 ghost use Rattle.vigbuso.specs.Blocks.{takeOn, TakeEnds};
 
 // A take of a class among those of ids `low` to `low + many - 1`.
-fn take_on(meta: &mut [u32], low: u32, many: u32, class: u32, host: u32, list: &mut [u64]) -> Take
+fn take_on(
+    meta: &mut [u32],
+    low: u32,
+    many: u32,
+    class: u32,
+    host: u32,
+    list: &mut [u64],
+    count: &mut u32,
+    virgin: &mut u32,
+) -> u32
     requires { ⌜ low + many ≤ 76 ⌝ }
-    ensures { λ r. ⌜ Takes r (now (meta .exit)) (now (list .exit)) (takeOn low many (now (meta .entry)) class host (now (list .entry))) ⌝ }
+    ensures { λ r. ⌜ TakeEnds (takeOn low many (now (meta .entry)) class host (now (list .entry))) r (now (meta .exit)) (now (list .exit)) (now (count .entry)) (now (count .exit)) (now (virgin .entry)) (now (virgin .exit)) ⌝ }
 {
     let fault = class_fault(meta, host, many, class);
     if fault != 0 {
-        return Take::Refused(fault);
+        return fault;
     }
     let size = fields::arena::size(meta);
-    take::call::answer_in(take::call::take_packed(meta, size, low + class, host, list))
+    take::call::take_into(meta, size, low + class, host, list, count, virgin)
 }
 
 #[no_mangle]
@@ -29,14 +36,7 @@ pub extern "C" fn vigbuso_take_blocks(
 ) -> u32
     ensures { λ r. ⌜ TakeEnds (takeOn 0 64 (now (meta .entry)) class host (now (list .entry))) r (now (meta .exit)) (now (list .exit)) (now (count .entry)) (now (count .exit)) (now (virgin .entry)) (now (virgin .exit)) ⌝ }
 {
-    match take_on(meta, 0, 64, class, host, list) {
-        Take::Refused(k) => k,
-        Take::Took(m, v) => {
-            *count = m;
-            *virgin = v as u32;
-            0
-        }
-    }
+    take_on(meta, 0, 64, class, host, list, count, virgin)
 }
 
 #[no_mangle]
@@ -50,12 +50,5 @@ pub extern "C" fn vigbuso_medium_take_blocks(
 ) -> u32
     ensures { λ r. ⌜ TakeEnds (takeOn 64 12 (now (meta .entry)) class host (now (list .entry))) r (now (meta .exit)) (now (list .exit)) (now (count .entry)) (now (count .exit)) (now (virgin .entry)) (now (virgin .exit)) ⌝ }
 {
-    match take_on(meta, 64, 12, class, host, list) {
-        Take::Refused(k) => k,
-        Take::Took(m, v) => {
-            *count = m;
-            *virgin = v as u32;
-            0
-        }
-    }
+    take_on(meta, 64, 12, class, host, list, count, virgin)
 }

@@ -10,4 +10,4 @@ take-on-spec =
     tie.close
     (tie.spec
     (λ c κs. search needs) (λ c. search needs) (λ c. search take-unfit) (λ c κs. search (has-size, class-book))
-    (λ c. search id-fits) (λ c κs. search take-asks) (λ c κs. search needs) (λ c. search needs) (λ c. search needs) (λ c. search take-goes))
+    (λ c. search id-fits) (λ c κs. search take-asks) (λ c. search needs) (λ c. search needs) (λ c. search take-goes))
