@@ -476,7 +476,7 @@ uint32_t vigbuso_free(uint32_t *book, size_t book_len, uint32_t size_class, uint
  * Gives one block of a class's stock back to the heap. A stock is emptied by calls until block is VIGBUSO_NONE.
  *   book   book_len words, written
  *   block  the block that went back; VIGBUSO_NONE where the stock is empty
- * Returns 0, or 1, 2, 3, 4, 13.
+ * Returns 0, or 1, 2, 3, 4; on a damaged book alone 13 or 10.
  */
 uint32_t vigbuso_trim(uint32_t *book, size_t book_len, uint32_t size_class, uint32_t host, uint64_t *block);
 
