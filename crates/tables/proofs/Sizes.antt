@@ -1,15 +1,12 @@
 -- Laws of the definitions of `specs/Table`: the bounds of a growth, and one step of the list of sizes.
 use Prim.Native.Nat.{ℕ, zero, suc, _+_, _-_, _*_, _≤_, _<_}
-use mathlib.Core.Bool.{cond}
 use mathlib.Core.Path.{_≡_, refl, sym, ap, _∙_}
 use mathlib.Core.List.{List, [], _∷_, _++_, append-assoc, append-nil}
 use native.Mathlib.Nat.{mul-le-mul, div-le-self}
 use native.Mathlib.Omega.{arith}
 use native.Mathlib.Numerals.{add-one, unary-clauses}
-use lib.Dec.{ltb}
 use lib.ListN.{length, getD, take, drop, set, take-append-drop}
 use lib.Seq.{take-suc-set}
-use borrow.Author.Tests.{lt-ltb, le-ltb}
 use Rattle.tables.specs.Table.{nextSize, sizesFrom, quotientUp, Growth}
 
 pub grown-bound : {a b top : ℕ} (size : ℕ) → Growth a b top → size ≤ top → size * a ≤ 65472000
@@ -59,10 +56,3 @@ fill-done a b top size n i list list₀ all h e d =
     let z : n - i ≡ 0 = omega arith in
     let t : take n list ≡ all = sym (append-nil (take n list)) ∙ rw (z, h) at e in
     sym (take-append-drop n list) ∙ rw (t, d) refl
-
--- a size cut at the top, of which the code and the definition have the same number
-pub cut-below : {w top v : ℕ} → w < top → w ≡ v → w ≡ cond (ltb v top) v top
-cut-below {w} {top} {v} l e = rw (lt-ltb v top (omega arith)) e
-
-pub cut-above : {w top v : ℕ} → top ≤ w → w ≡ v → top ≡ cond (ltb v top) v top
-cut-above {w} {top} {v} l e = rw (le-ltb v top (omega arith))

@@ -1,7 +1,8 @@
 use native.Mathlib.Omega.{arith}
 use borrow.Author.Needs.{needs}
+use borrow.Author.Tests.{lt-ltb, le-ltb}
 use Rattle.tables.specs.Table.{nextSize}
-use Rattle.tables.proofs.Sizes.{grown-bound, quotient-bound, cut-below, cut-above}
+use Rattle.tables.proofs.Sizes.{grown-bound, quotient-bound}
 use Rattle.tables.proofs.next_size.Statement.{statement}
 use Rattle.tables.proofs.next_size.Tie as tie
 
@@ -19,11 +20,11 @@ mul-whole c = omega (arith, quotient-bound (c .args .size) (c .pre .0) (c .pre .
 
 returns : tie.Need-returns
 unfolding nextSize
-returns c = (cut-below (c .if1 .taken) (omega arith), omega arith)
+returns c = (rw (lt-ltb _ _ (c .if1 .taken)), omega arith)
 
 returns-2 : tie.Need-returns-2
 unfolding nextSize
-returns-2 c = (cut-above (c .if1 .left) (omega arith), omega arith)
+returns-2 c = (rw (le-ltb _ _ (c .if1 .left)), omega arith)
 
 pub next-size-spec : {M : Type 1} → statement M
 next-size-spec =
