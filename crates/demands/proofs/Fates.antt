@@ -15,7 +15,7 @@ use Rattle.facts.proofs.Bools.{by-cases, or-right}
 use Rattle.words.specs.Host.{badHost}
 use Rattle.classes.specs.declared.Shape.{Shape}
 use Rattle.classes.specs.Shape.{shapeOf}
-use Rattle.classes.specs.Sound.{Sound}
+use Rattle.classes.specs.way.Sound.{Sound}
 use Rattle.classes.proofs.Shapes.{shape-sound}
 use Rattle.rules.specs.declared.Limits.{Limits}
 use Rattle.rules.specs.Rules.{Rules}

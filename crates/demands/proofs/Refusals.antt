@@ -28,7 +28,7 @@ use Rattle.arena.specs.Load.{statusOf, loadArena}
 use Rattle.arena.specs.Calls.{containsCall}
 use Rattle.runs.specs.Answer.{answerOf, commitCode}
 use Rattle.direct.specs.Answer.{grownAs, growCode}
-use Rattle.take.specs.way.TakeAnswer as Takes
+use Rattle.take.specs.Answer as Takes
 use Rattle.release.specs.Answer.{answerAs}
 use Rattle.vigbuso.specs.Direct.{firstOut, freshOut, grownOut, containsOn}
 use Rattle.vigbuso.specs.Blocks.{codeOut, countOut, virginOut, releaseCode, fateOut}
