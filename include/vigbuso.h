@@ -457,9 +457,9 @@ static inline uint32_t vigbuso_release_all(uint32_t *book, size_t book_len, uint
  * or release for a call. Classes are 0 to 75 by one number: 0 to 63 small, 64 to 75 medium. Of a class that a pool is used for, no
  * block is taken or released by the other calls; those of other classes and the direct calls go on beside it.
  *
- * A block that nobody was given before.
+ * A block that nobody has.
  *   book   book_len words, written
- *   block  its word; VIGBUSO_NONE for none, where the stock is empty and the arena has no run for the class
+ *   block  its word; VIGBUSO_NONE for none, where the stock is empty, no page of the class has a block, and the arena has no run
  * Returns 0, or 1, 2, 3, 4, 13.
  */
 uint32_t vigbuso_alloc(uint32_t *book, size_t book_len, uint32_t size_class, uint32_t host, uint64_t *block);
