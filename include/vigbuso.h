@@ -8,7 +8,7 @@
  * VIGBUSO_BOOK_WORDS(pages). The heap keeps all that it knows there and nothing elsewhere. It never reads or writes the
  * arena's bytes, so they may stand anywhere.
  *
- * vigbuso_size_class, vigbuso_contains, vigbuso_class_of, vigbuso_granted and vigbuso_stocked return their answer. Every other function of the archive
+ * vigbuso_size_class, vigbuso_contains, vigbuso_class_of, vigbuso_granted and vigbuso_stocked return their answer. Every other call of the archive
  * returns 0 if it was carried out, otherwise the number of its refusal (enum vigbuso_refusal); the first that applies is returned. A refused call leaves the book, every
  * list and every out-parameter as they were; only a trace that stopped (16) leaves what its earlier words did.
  *
@@ -334,7 +334,8 @@ uint32_t vigbuso_contains(const uint32_t *book, size_t book_len, uint64_t offset
  * The arena's figures. A run whose blocks are all back is parked in its class's empty or cold store: its pages are held, and idle
  * as well. Idle are also the pages of holes and those above the frontier.
  *   book     book_len words, read
- *   figures  VIGBUSO_FIGURES numbers: commits, reuses, abandoned, pages held, idle pages, pages that are both
+ *   figures  VIGBUSO_FIGURES numbers: commits, granted growths among them; reuses, the commits from a hole; abandoned, the runs given
+ *            back that had no room among the holes, 4,096 with 65,536 pages together; pages held, idle pages, pages that are both
  * Returns 0, or 1, 2, 13.
  */
 uint32_t vigbuso_report(const uint32_t *book, size_t book_len, uint64_t *figures);
@@ -344,16 +345,16 @@ uint32_t vigbuso_report(const uint32_t *book, size_t book_len, uint64_t *figures
  *   book    book_len words, written
  *   list    list_len block words, 64 at least; the first *count are written, the latest popped first, the others kept
  *   count   how many blocks came; 0 for none
- *   virgin  1 if each came from a page not released to since it was last carved from the arena or from a cold page whose
- *           discard zeroed it, else 0; 0 for none
+ *   virgin  1 if a block came and each came from a virgin page: no block was released to it since it came from the arena, or went
+ *           cold with a discard that zeroed it; else 0
  * Returns 0, or 1, 2, 3, 4, 5, 13.
  */
 uint32_t vigbuso_take_blocks(uint32_t *book, size_t book_len, uint32_t size_class, uint32_t host, uint64_t *list,
                              size_t list_len, uint32_t *count, uint32_t *virgin);
 
 /*
- * Takes up to one span's blocks, 8 to 10, of a medium class. The list needs room for one span's blocks; all else as
- * vigbuso_take_blocks.
+ * Takes up to one span's blocks, 8 to 10, of a medium class. The list needs room for one span's blocks, and a span that comes back
+ * from cold is never virgin; all else as vigbuso_take_blocks.
  * Returns 0, or 1, 2, 3, 4, 5, 13.
  */
 uint32_t vigbuso_medium_take_blocks(uint32_t *book, size_t book_len, uint32_t size_class, uint32_t host, uint64_t *list,
@@ -457,9 +458,11 @@ static inline uint32_t vigbuso_release_all(uint32_t *book, size_t book_len, uint
  * or release for a call. Classes are 0 to 75 by one number: 0 to 63 small, 64 to 75 medium. Of a class that a pool is used for, no
  * block is taken or released by the other calls; those of other classes and the direct calls go on beside it.
  *
- * A block that nobody has.
+ * Grants a block that nobody has.
  *   book   book_len words, written
- *   block  its word; VIGBUSO_NONE for none, where the stock is empty, no page of the class has a block, and the arena has no run
+ *   block  its word; VIGBUSO_NONE for none, where the stock is empty, no page of the class has a block and the arena no
+ *          run. Other classes may still have blocks in
+ *          stock: vigbuso_trim gives them back
  * Returns 0, or 1, 2, 3, 4, 13.
  */
 uint32_t vigbuso_alloc(uint32_t *book, size_t book_len, uint32_t size_class, uint32_t host, uint64_t *block);
@@ -484,7 +487,7 @@ uint32_t vigbuso_trim(uint32_t *book, size_t book_len, uint32_t size_class, uint
  * The class that has the page of a block's word: for vigbuso_free where the class is not at hand. It does not say that the block is out;
  * of a granted one it is the class that granted it.
  *   book   book_len words, read
- * Returns 0 to 75; VIGBUSO_CLASSES where no class has the page, and on a book that another call refuses as 1 or 2. For a page that was
+ * Returns 0 to 75; VIGBUSO_CLASSES, which vigbuso_free refuses as 4, where no class has the page, and on a book that another call refuses as 1 or 2. For a page that was
  * never handed out it is what the book happens to hold there; vigbuso_free refuses such a block.
  */
 uint32_t vigbuso_class_of(const uint32_t *book, size_t book_len, uint64_t block);

@@ -157,8 +157,8 @@ impl ReleaseError {
         self.refusal
     }
 
-    /// The first block of the list that the refusal is about, after its place, counted from 0; of one that stands twice, the place
-    /// where it does so. None where the refusal is about no block.
+    /// The first block of the list that the refusal is about, with its place, counted from 0; of one that stands twice, its second
+    /// place. None where the refusal is about no block.
     ///
     /// ```
     /// # use vigbuso::{Class, Heap};
@@ -325,10 +325,10 @@ impl error::Error for OpenError {}
 /// ```
 #[derive(Clone, Copy, PartialEq, Eq, Debug)]
 pub enum AllocError {
-    /// The record exceeds [`Class::MAX_BYTES`](crate::Class::MAX_BYTES): it is for a run of pages. In a [`Region`](crate::Region) it has
-    /// 2 GiB or more.
+    /// The record exceeds [`Class::MAX_BYTES`](crate::Class::MAX_BYTES), the most of a pool and of a store. A
+    /// [`Region`](crate::Region) answers this from 2 GiB on.
     TooLarge,
-    /// The arena has no page left for its class; for a medium one, not enough of them side by side.
+    /// The arena has no page left for it; for a medium block or a record in pages of its own, not enough of them side by side.
     Full,
     /// The alignment is not a power of two up to [`PAGE_BYTES`](crate::PAGE_BYTES).
     Alignment,

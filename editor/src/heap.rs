@@ -10,8 +10,8 @@ use crate::{
     ffi, Block, Chunk, Class, Committed, Fate, Host, OpenError, Refusal, ReleaseError, Report, Rules, Run, Taken,
 };
 
-/// The most pages of an arena. Its book has 17.2 GB, of which only the parts that calls reach take memory: where the system does not
-/// let a program have so much on loan, [lend the book](Heap::on) from a mapping of your own.
+/// The most pages of an arena. Its book has 17.2 GB, of which only the parts that calls reach take memory. Where the system does not
+/// promise a program so much at once, [lend the book](Heap::on) from a mapping of your own.
 ///
 /// ```
 /// # use vigbuso::{Heap, Refusal, MAX_PAGES};
@@ -331,9 +331,9 @@ impl<B: AsRef<[u32]> + AsMut<[u32]>> Heap<B> {
         self.host = host;
     }
 
-    /// Takes up to 64 blocks of a small class, up to one span's of a medium class; none is an empty list. They come from
-    /// partial pages, otherwise from one empty page, otherwise from the newest cold one, otherwise from a new one. So they may
-    /// be on several pages.
+    /// Takes up to 64 blocks of a small class, up to one span's of a medium class. The list is empty if there is none. They come
+    /// from partial pages (those in use that have a block left), otherwise from one page that the class has parked, an empty one
+    /// before the newest cold one, otherwise from a new one. So they may be on several pages.
     ///
     /// ```
     /// # use vigbuso::{Class, Heap};

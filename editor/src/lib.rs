@@ -35,7 +35,7 @@
 //! # Ok::<(), vigbuso::Error>(())
 //! ```
 //!
-//! A [`Heap`] hands them out in batches, as the library's first calls do:
+//! Below a pool is a [`Heap`]. It hands blocks out in batches and has them back in lists:
 //!
 //! ```
 //! use vigbuso::{Class, Heap};
@@ -48,21 +48,22 @@
 //! # Ok::<(), vigbuso::Error>(())
 //! ```
 //!
-//! Every call of the library is a method of [`Heap`] or [`Pool`], the size lookup is [`Class::for_size`]; [`plan`] works out, before a
-//! large fill, how many pages it needs, and [`Heap::from_trace`], after one, what figures its [`Trace`] comes to;
-//! [`short_histories`] lists all that can happen in a few direct calls. A call with bad arguments changes nothing and answers a
+//! Every call of the library on a heap is a method of [`Heap`] or [`Pool`]; the size lookup is [`Class::for_size`]. [`plan`] works out,
+//! before a large fill, how many pages it needs, and [`Heap::from_trace`], after one, what figures its [`Trace`] comes to. Beside the
+//! heap are [`class_table`], [`asker_wins`] and [`short_histories`], which lists all that can happen in a few direct calls: those that
+//! ask for whole runs of pages and give them back ([`Heap::commit`]). A call with bad arguments changes nothing and answers a
 //! [`Refusal`]; only a trace that [stopped](Refusal::Stopped) leaves what it had done. Every error of this crate becomes an [`Error`].
 //!
 //! | arena | blocks in batches | blocks one by one |
 //! |---|---|---|
-//! | [`Heap::open`], [`Heap::open_with`] its own parking [`Rules`], [`Heap::on`], [`Heap::reopen`], [`Heap::resume`] | [`Heap::take`] | [`Pool::alloc`] |
+//! | [`Heap::open`], [`Heap::open_with`] (parking [`Rules`] of its own), [`Heap::on`], [`Heap::reopen`], [`Heap::resume`] | [`Heap::take`] | [`Pool::alloc`] |
 //! | [`Heap::report`], [`Heap::contains`] | [`Heap::release`], [`Heap::release_all`] | [`Pool::free`], [`Pool::free_in`] |
 //! | [`Heap::commit`], [`Heap::grow_frontier`], [`Heap::release_run`] | [`Heap::release_chunks`] | [`Pool::flush`] |
 //!
 //! The code behind the methods of [`Heap`] and [`Pool`] is proved: what each call answers and leaves behind is a definition, and the
 //! library is built only if the code does just that. So it is proved that a block in use is never granted again, and that just the
-//! blocks granted and not yet freed can be freed. This crate is the part that is not proved but tested, what can be misused in debug
-//! and in release builds: types over those calls, [`Region`] and [`Store`] on top, and saves. Document 01, which the comments cite, is
+//! blocks granted and not yet freed can be freed. This crate itself is not proved but tested: the types over those calls, [`Region`] and
+//! [`Store`] on top, and saves; what can be misused, in debug and in release builds. Document 01, which the comments cite, is
 //! the paper that states the heap's rules; `docs/CALLS.md` of the repository describes the C functions and which of them
 //! may change places, `docs/DEMANDS.md` what is proved of them.
 //!

@@ -15,8 +15,8 @@ use crate::{
 /// What `alloc` and `free` do is proved, as the heap's calls are: of every history of a pool's calls, two blocks granted and not yet
 /// freed share no byte, and a free is carried out exactly if its block was granted and not freed since. Every other block is refused
 /// and nothing changes, in every build: freed twice, stale, of another class or kind, inside another block, or never its own. What no
-/// call can tell: once the same block was granted again, an old copy of its [`Block`] names the new grant. [`Region`](crate::Region)
-/// sees that too.
+/// call can tell: once the same block was granted again, an old copy of its [`Block`] names the new grant. An old
+/// handle of a [`Region`](crate::Region) is refused then too.
 ///
 /// All that a pool knows stands in its book, the stocks too. So a pool is a value as a heap is: cloned, compared,
 /// [saved](Pool::save) and [resumed](Pool::resume). Nobody else releases its blocks: of its heap it lends the direct calls and the
@@ -37,7 +37,7 @@ use crate::{
 /// ```
 pub struct Pool<B = Vec<u32>> {
     heap: Heap<B>,
-    /// Blocks granted, which the book has one by one, and their bytes.
+    /// How many blocks are granted, and their bytes. The book has each of them, but not these sums.
     used: usize,
     used_bytes: usize,
 }
@@ -103,7 +103,7 @@ impl Pool {
 }
 
 impl<B: AsRef<[u32]> + AsMut<[u32]>> Pool<B> {
-    /// A pool on a new heap, which no block of is out.
+    /// A pool on a new heap: no block is out.
     fn unused(heap: Heap<B>) -> Pool<B> {
         Pool { heap, used: 0, used_bytes: 0 }
     }
@@ -323,7 +323,7 @@ impl<B: AsRef<[u32]> + AsMut<[u32]>> Pool<B> {
     }
 
     /// All bytes of a block that the pool has granted and not had back, to index the arena with; none for every other one. So no
-    /// neighbour is reached, as [`Block::range`] does with too long a length.
+    /// neighbour is reached; by [`Block::range`] one is, if the length is too great.
     ///
     /// ```
     /// # use vigbuso::Pool;
@@ -339,8 +339,8 @@ impl<B: AsRef<[u32]> + AsMut<[u32]>> Pool<B> {
         Some(block.range(self.class_of(block)?.bytes()))
     }
 
-    /// The blocks that the pool has granted and not had back, each with its class, by pages. Every block of a page that was ever handed
-    /// out is asked for.
+    /// The blocks that the pool has granted and not had back, each with its class, in the order of their pages. It asks for every
+    /// block of every page that was ever handed out.
     ///
     /// ```
     /// # use vigbuso::{Class, Pool};
@@ -542,7 +542,7 @@ impl<B: AsRef<[u32]> + AsMut<[u32]>> Pool<B> {
         self.heap.release_run(run)
     }
 
-    /// The blocks in stock. A page with none of these and none handed out is parked, or the heap has it back.
+    /// The blocks in stock. A page that has none of them and none granted is parked, or the arena has it back.
     ///
     /// ```
     /// # use vigbuso::Pool;

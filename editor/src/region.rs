@@ -28,7 +28,8 @@ const ALIGNED: usize = 16_384;
 /// Records up to [`Class::MAX_BYTES`] bytes stand in the pool's blocks, longer ones, up to 2 GiB less a byte, in pages of their own.
 /// Records of about one length share pages: each of 46 lengths of blocks needs a page at least, and each of 12 above 16,384 bytes three to
 /// eight side by side. So a region for records of many lengths has some pages more than their bytes need, or the answer is soon
-/// [`AllocError::Full`]. A page without a record serves every length again.
+/// [`AllocError::Full`]. A page without a record serves every length again, unless so much went back that the arena has
+/// [abandoned](crate::Report) pages.
 ///
 /// Beside the arena, its book takes a quarter of its length and the marks of its granules a half. That is address space: only what
 /// belongs to pages that were used is ever touched.
@@ -222,8 +223,9 @@ impl Region {
         self.alloc_aligned(record, 1)
     }
 
-    /// Copies a record in, to an address that is a multiple of a power of two up to [`PAGE_BYTES`]. A record that was not asked to be
-    /// aligned stands at a multiple of 16. With its alignment up to 16,384 bytes it stands in a block, else in pages of its own.
+    /// Copies a record in, to an address that is a multiple of a power of two up to [`PAGE_BYTES`]. Every record stands at a multiple
+    /// of 16. One that is aligned to more stands in a block if its length and its alignment less 16 are at most 16,384 bytes together,
+    /// else in pages of its own.
     ///
     /// ```
     /// # use vigbuso::{AllocError, Region};

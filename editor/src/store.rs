@@ -8,8 +8,8 @@ use core::marker::PhantomData;
 
 use crate::{AllocError, Error, Handle, OpenError, Record, Region};
 
-/// Where a [`Store`] has its region: its own, a borrowed one, or one that it shares with other stores. A region that is lent to be
-/// read alone has a store to be read alone.
+/// Where a [`Store`] has its region: its own, a borrowed one, or one that it shares with other stores. On a `&Region` a store can only
+/// be read.
 ///
 /// ```
 /// use std::cell::RefCell;
@@ -88,8 +88,8 @@ impl KeepMut for Rc<RefCell<Region>> {
 
 /// Values of one type, each in a place of its own in a [`Region`].
 ///
-/// A value is kept as its bytes ([`Record`]) and read as a copy, so there is nothing to index. Its [`Handle<T>`](Handle) says its type: one
-/// of another store's type does not compile. In every build a handle whose value was removed is refused from then on, and so is one
+/// A value is kept as its bytes ([`Record`]) and read as a copy, so there is nothing to index. Its [`Handle<T>`](Handle) says its type: a
+/// handle of another type does not compile. In every build a handle whose value was removed is refused from then on, and so is one
 /// of another store of the same type in the same region: stores are told apart by a number.
 ///
 /// A store owns its region, borrows one, or shares one with others ([`Keep`], [`KeepMut`]).

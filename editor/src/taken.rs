@@ -65,8 +65,8 @@ impl Taken {
         &self.list[..self.count]
     }
 
-    /// Whether no block was released to their pages since these were carved: a block came, and each came from a page not
-    /// released to since it was last carved from the arena or from a cold page whose discard zeroed it.
+    /// Whether a block came and each came from a virgin page: no block was released to it since it came from the arena, or went
+    /// cold with a discard that zeroed it. A span that comes back from cold never is virgin.
     ///
     /// It speaks of pages and not of bytes. The blocks read as zeroes only if whoever keeps the arena sees to it: pages were
     /// zero at the start, those that go back to the arena ([`Fate::Arena`](crate::Fate::Arena),
