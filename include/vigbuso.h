@@ -460,9 +460,8 @@ static inline uint32_t vigbuso_release_all(uint32_t *book, size_t book_len, uint
  *
  * Grants a block that nobody has.
  *   book   book_len words, written
- *   block  its word; VIGBUSO_NONE for none, where the stock is empty, no page of the class has a block and the arena no
- *          run. Other classes may still have blocks in
- *          stock: vigbuso_trim gives them back
+ *   block  its word; VIGBUSO_NONE for none, where the stock is empty, no page of the class has a block and the arena has no run.
+ *          Other classes may still have blocks in stock: vigbuso_trim gives them back
  * Returns 0, or 1, 2, 3, 4, 13.
  */
 uint32_t vigbuso_alloc(uint32_t *book, size_t book_len, uint32_t size_class, uint32_t host, uint64_t *block);
