@@ -8,7 +8,7 @@ of RULES is tried in two ways:
             histories of crates/replay/stdin and the tests of editor/tests/boundaries
     model   the rule's definition is changed in a copy of the crates, and `rt dev CRATE` checks the crate's theorems and
             examples. A proof that follows the old definition's shape may fail too, so only what is stated otherwise counts:
-            docs/RULES.md says which that is.
+            docs/DEMANDS.md says which that is.
 
     compare/wrong_rules.py [--heap | --model] [--work FOLDER] [--stored FILE] [WORD ..]
 

@@ -1,5 +1,5 @@
 -- Document 01's examples, as document 02 has them, and rules of both where one that is a little different would answer something else: one table. Histories are
--- on an arena of 64 pages. docs/RULES.md says which rule each row holds.
+-- on an arena of 64 pages. docs/DEMANDS.md says which rule each row holds.
 use Prim.Native.Nat.{ℕ, zero, suc, _+_, _-_, _*_, _/_, _^_}
 use mathlib.Core.List.{List, [], _∷_, _++_, map}
 use mathlib.Core.Option.{none}

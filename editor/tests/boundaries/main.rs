@@ -1,5 +1,5 @@
 //! Document 01's rules, and 02's, where they turn: at their limits, and where a rule that is only a little different would answer
-//! something else. Every expected value is the paper's, written down; docs/RULES.md says which rule each test holds.
+//! something else. Every expected value is the paper's, written down; docs/DEMANDS.md says which rule each test holds.
 
 mod blocks;
 mod chunks;
