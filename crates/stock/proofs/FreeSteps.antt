@@ -1,12 +1,12 @@
 -- The ways out of a free.
 use Prim.Native.Nat.{ℕ, _+_, _*_, _%_, _^_, _≤_, _<_}
 use native.Mathlib.Omega.{arith}
-use mathlib.Core.Bool.{Bool, true, false, cond, not, and-true}
+use mathlib.Core.Bool.{Bool, true, false, cond, not, and-true, true≢false}
 use mathlib.Core.List.{List, [], _∷_}
 use mathlib.Core.Path.{_≡_, refl, sym, ap, _∙_}
 use lib.Dec.{eqb, ltb, leb}
-use borrow.Author.Tests.{le-leb, lt-leb, eq-eqb, eqb-true, ltb-true, leb-false}
-use Rattle.facts.proofs.Bools.{by-cases, and-no}
+use borrow.Author.Tests.{le-ltb, le-leb, lt-leb, eq-eqb, eqb-true, leb-false}
+use Rattle.facts.proofs.Bools.{by-cases, and-no, and-left, and-right}
 use Rattle.words.specs.Word.{kindOf, granuleOf, blockWord}
 use Rattle.classes.specs.Shape.{shapeOf}
 use Rattle.model.specs.Release.{ofKind}
@@ -18,9 +18,13 @@ use Rattle.poolcalls.specs.Stock.{countIn, stocked, pushed}
 use Rattle.pool.specs.Pool.{refused, freed}
 use Rattle.poolcalls.specs.Calls.{said, countFair, gaveOn, freedOn, freeOn, FreeEnds}
 use Rattle.stock.specs.way.Asks.{NearAsks, FreeAsks}
-use Rattle.stock.specs.way.Ends.{Gave, Kept, farFault, unfairFault}
+use Rattle.stock.specs.way.Ends.{Gave, Kept, farFault, isFull}
 use Rattle.stock.proofs.RoomSteps.{room-limit}
 use Rattle.stock.proofs.LookSteps.{behind-kind, behind-granule, far-kind, near-kind, far-out}
+
+not-true : (t : Bool) → not t ≡ true → t ≡ false
+not-true true e = sym e
+not-true false e = refl
 
 -- ---- not in the arena
 pub far-other : (x : ℕ) → 2 ^ 62 ≤ x → 9 ≡ farFault x
@@ -76,44 +80,28 @@ module _ (n : ℕ) (b : List ℕ) (c g w : ℕ) (a : FreeAsks n b c g w) where
   unfolding freeOn
   free-is h = rw (right-kind, not-stocked, and-true (outAt n b c (shapeOf c) w))
 
-  -- room in the stock
-  module _ (k : ℕ) (ek : k ≡ countIn b c) (room : ltb k (stockMost c) ≡ true) where
-    pub keep-low : k < 256
-    keep-low = omega (arith, room-limit c, ltb-true k (stockMost c) room)
+  -- the stock is full: the heap refuses a block that is not out, as the pool does
+  module _ (f : Bool) (k : ℕ) (ek : k ≡ countIn b c) (ef : f ≡ isFull c k) (full : f ≡ true) (h : ℕ) where
+    at-most : leb k 255 ≡ true
+    at-most = and-left (leb k 255) (not (ltb k (stockMost c))) (sym ef ∙ full)
 
-    module _ (o : Bool) (eo : o ≡ outAt n b c (shapeOf c) w) where
-      pub keep-absent : o ≡ false → Kept 10 b n b c w
-      keep-absent z = record { ends = λ h. rw (free-is h, ← eo, z) (record { code = refl; book = refl }) }
+    no-room : ltb k (stockMost c) ≡ false
+    no-room = not-true (ltb k (stockMost c)) (and-right (leb k 255) (not (ltb k (stockMost c))) (sym ef ∙ full))
 
-      pub keep-pushed : (b′ : List ℕ) → o ≡ true → b′ ≡ pushed b c g → Kept 0 b′ n b c w
-      unfolding freedOn
-      keep-pushed b′ z q =
-          let fewer : ltb (countIn b c) (stockMost c) ≡ true = rw ek at room in
-          record { ends = λ h. rw (free-is h, ← eo, z, fewer) (record { code = refl; book = q ∙ ap (pushed b c) (a .granule) }) }
-
-  -- none
-  module _ (k : ℕ) (ek : k ≡ countIn b c) (full : ltb k (stockMost c) ≡ false) (h : ℕ) where
-    full-is : freeOn n b c h w ≡ cond (not (outAt n b c (shapeOf c) w)) (said (refused 10) b) (cond (leb k 255) (gaveOn freed (releaseBlocks n b c (shapeOf c) h (w ∷ []) .book) (releaseBlocks n b c (shapeOf c) h (w ∷ []))) (said (refused 13) b))
+    full-is : freeOn n b c h w ≡ cond (not (outAt n b c (shapeOf c) w)) (said (refused 10) b) (gaveOn freed (releaseBlocks n b c (shapeOf c) h (w ∷ []) .book) (releaseBlocks n b c (shapeOf c) h (w ∷ [])))
     unfolding freedOn countFair
-    full-is = free-is h ∙ rw (← ek, full)
+    full-is = free-is h ∙ rw (← ek, no-room, at-most)
 
-    pub pass-unfair : (r : ℕ) → 255 < k → r ≡ unfairFault n b c w → FreeEnds (freeOn n b c h w) r b
-    pass-unfair r l e =
-        by-cases (outAt n b c (shapeOf c) w)
-        (λ t. rw (full-is, t, lt-leb k 255 l) (record { code = e ∙ rw t; book = refl }))
-        (λ t. rw (full-is, t) (record { code = e ∙ rw t; book = refl }))
-
-    -- the heap refuses a block that is not out, as the pool does
     not-out : outAt n b c (shapeOf c) w ≡ false → releaseBlocks n b c (shapeOf c) h (w ∷ []) ≡ releasedNone b 10
     unfolding releaseBlocks outFault unmarked repeats
     not-out t = rw (right-kind, t)
 
-    pub pass-given : (r : ℕ) (b′ : List ℕ) → k ≤ 255 → Gave r b′ (releaseBlocks n b c (shapeOf c) h (w ∷ [])) → FreeEnds (freeOn n b c h w) r b′
+    free-given : (r : ℕ) (b′ : List ℕ) → Gave r b′ (releaseBlocks n b c (shapeOf c) h (w ∷ [])) → FreeEnds (freeOn n b c h w) r b′
     unfolding gaveOn
-    pass-given r b′ l z =
+    free-given r b′ z =
         by-cases (outAt n b c (shapeOf c) w)
         (λ t.
-        rw (full-is, t, le-leb k 255 l)
+        rw (full-is, t)
         (by-cases (eqb (releaseBlocks n b c (shapeOf c) h (w ∷ []) .code) 0)
         (λ u. rw u (record { code = z .code ∙ eqb-true _ 0 u; book = z .book }))
         (λ u. rw u (record { code = z .code; book = z .book }))))
@@ -121,12 +109,37 @@ module _ (n : ℕ) (b : List ℕ) (c g w : ℕ) (a : FreeAsks n b c g w) where
         let y : Gave r b′ (releasedNone b 10) = rw (not-out t) at z in
         rw (full-is, t) (record { code = y .code; book = y .book }))
 
-module _ (n : ℕ) (b : List ℕ) (c w : ℕ) (o : Bool) (e : o ≡ outAt n b c (shapeOf c) w) where
-  pub unfair-out : o ≡ true → 13 ≡ unfairFault n b c w
-  unfair-out z = rw (← e, z)
+  -- it is not
+  module _ (k : ℕ) (ek : k ≡ countIn b c) (spare : isFull c k ≡ false) (o : Bool) (eo : o ≡ outAt n b c (shapeOf c) w) where
+    pub keep-absent : o ≡ false → Kept 10 b n b c w
+    keep-absent z = record { ends = λ h. rw (free-is h, ← eo, z) (record { code = refl; book = refl }) }
 
-  pub unfair-absent : o ≡ false → 10 ≡ unfairFault n b c w
-  unfair-absent z = rw (← e, z)
+    module _ (z : o ≡ true) where
+      pub keep-beyond : 255 < k → Kept 13 b n b c w
+      unfolding freedOn countFair
+      keep-beyond l =
+          let none : ltb k (stockMost c) ≡ false = le-ltb k (stockMost c) (omega (arith, room-limit c)) in
+          record { ends = λ h. rw (free-is h, ← eo, z, ← ek, none, lt-leb k 255 l) (record { code = refl; book = refl }) }
+
+      has-room : k ≤ 255 → ltb k (stockMost c) ≡ true
+      has-room l = by-cases (ltb k (stockMost c)) (λ t. t) (λ t. let f : true ≡ false = rw (le-leb k 255 l, t) at spare in absurd (true≢false f))
+
+      pub keep-low : k ≤ 255 → k < 256
+      keep-low l = omega arith
+
+      pub keep-pushed : (b′ : List ℕ) → k ≤ 255 → b′ ≡ pushed b c g → Kept 0 b′ n b c w
+      unfolding freedOn
+      keep-pushed b′ l q =
+          let fewer : ltb (countIn b c) (stockMost c) ≡ true = rw (← ek) (has-room l) in
+          record { ends = λ h. rw (free-is h, ← eo, z, fewer) (record { code = refl; book = q ∙ ap (pushed b c) (a .granule) }) }
+
+-- from before the look into the stock
+pub free-full : (n : ℕ) (b : List ℕ) (c g w : ℕ) → NearAsks n b c g w → (s : Bool) → s ≡ stocked b c g → s ≡ false → (f : Bool) (k : ℕ) → k ≡ countIn b c → f ≡ isFull c k → f ≡ true
+    → (h r : ℕ) (b′ : List ℕ) → Gave r b′ (releaseBlocks n b c (shapeOf c) h (w ∷ [])) → FreeEnds (freeOn n b c h w) r b′
+free-full n b c g w a s es z f k ek ef full h r b′ t = free-given n b c g w (free-asks n b c g w a s es z) f k ek ef full h r b′ t
 
 pub free-kept : (n : ℕ) (b : List ℕ) (c h w r : ℕ) (b′ : List ℕ) → Kept r b′ n b c w → FreeEnds (freeOn n b c h w) r b′
 free-kept n b c h w r b′ k = k .ends h
+
+pub not-full : (c k : ℕ) (f : Bool) → f ≡ isFull c k → f ≡ false → isFull c k ≡ false
+not-full c k f e z = sym e ∙ z

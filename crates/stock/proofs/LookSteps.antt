@@ -70,9 +70,6 @@ module _ (c w x : ℕ) (ex : (x + blockWord (shapeOf c .kind) 0) % 2 ^ 64 ≡ w)
       pub near-asks : GranuleAsks n b c x
       near-asks = record { known = a .known; few = a .few; long = a .long; low = l }
 
-      pub near-low : granuleOf w < 4096 * n
-      near-low = omega (arith, behind-granule near)
-
       module _ (s : Bool) (es : s ≡ stocked b c x) where
         near-stocked : stocked b c (granuleOf w) ≡ s
         near-stocked = rw (← (behind-granule near)) (sym es)

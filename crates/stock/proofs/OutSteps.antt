@@ -1,26 +1,29 @@
 -- The ways out of the tests whether a word is a block out in the class.
 use Prim.Native.Nat.{ℕ, zero, suc, _+_, _-_, _*_, _/_, _%_, _^_, _≤_, _<_}
 use native.Mathlib.Omega.{arith}
-use native.Mathlib.Nat.{add-zero, div-add-mod', div-lt-iff-lt-mul}
-use mathlib.Core.Bool.{Bool, true, false, _&&_, and-true, and-false, true≢false}
+use native.Mathlib.Nat.{add-zero, div-add-mod', le-div-iff-mul-le}
+use mathlib.Core.Bool.{Bool, true, false, _&&_, and-true, true≢false}
 use mathlib.Core.List.{List}
 use mathlib.Core.Path.{_≡_, refl, sym, ap, _∙_}
 use lib.Dec.{eqb, ltb, leb}
 use lib.ListN.{length}
 use mir.Val.{Fits}
-use mir.Syntax.{w32, w64}
-use borrow.Author.Tests.{lt-ltb, le-ltb, le-leb, lt-leb, eq-eqb, ne-eqb, eqb-true, leb-true, ltb-true, ltb-false}
+use mir.Syntax.{w32}
+use borrow.Author.Tests.{lt-ltb, le-ltb, le-leb, lt-leb, eq-eqb, ne-eqb, eqb-true, leb-true, leb-false, ltb-true, ltb-false}
+use Rattle.facts.specs.Lists.{every, below}
 use Rattle.facts.proofs.Bools.{by-cases, and-left, and-right}
+use Rattle.facts.proofs.Lists.{every-at}
 use Rattle.words.specs.Word.{granuleOf}
 use Rattle.classes.specs.declared.Shape.{Shape}
-use Rattle.classes.specs.Shape.{shapeOf, smallShape, inverse}
+use Rattle.classes.specs.Sizes.{smallSizes}
+use Rattle.classes.specs.Shape.{shapeOf, smallShape}
 use Rattle.classes.specs.way.Sound.{Sound}
 use Rattle.classes.proofs.Shapes.{shape-sound}
 use Rattle.fields.specs.Field.{arena, page, out, frontier, owner, first, get, words, Has}
 use Rattle.pages.specs.Runs.{whole}
 use Rattle.pages.specs.Stack.{pageAt, blocksFrom, indexOf, isBlock}
 use Rattle.calls.specs.Out.{startOf, inRunOf, outIn, outAt}
-use Rattle.stack.proofs.InverseLaws.{product-fits, quotient-fits, divides, behind-point, past-point, narrow}
+use Rattle.stack.proofs.InverseLaws.{narrow}
 use Rattle.release.specs.declared.Found.{Found}
 use Rattle.release.specs.declared.Found.the-variants.{At, Nothing}
 use Rattle.release.specs.declared.Out.{Out}
@@ -90,34 +93,26 @@ module _ (n : ℕ) (b : List ℕ) (c p : ℕ) (a : PageAsks n b c p) where
       pub page-own : o ≡ c + 1 → (q : ℕ) → q ≡ get b (page first p) → eqb q p ≡ whole n b (shapeOf c) c p
       page-own d q eq = sym (whole-page ∙ rw (← ef, lt-ltb p f h, ← eo, eq-eqb o (suc c) (omega arith), ← eq))
 
+-- as many blocks as the granules behind the header have
+all-capacities : every (λ c. eqb (shapeOf c .capacity) (4093 / shapeOf c .block)) (below 64) ≡ true
+unfolding shapeOf smallShape smallSizes
+all-capacities = refl
+
+pub small-wide : (c : ℕ) (sh : Shape) → sh ≡ shapeOf c → 0 < sh .block
+small-wide c sh es = rw es (omega (arith, shape-sound c .wide))
+
 -- the block of the run at the word's page: y is its granule there, counted from the first block, round the page's end
-module _ (c w : ℕ) (small : c < 64) (sh : Shape) (es : sh ≡ shapeOf c) (x : ℕ) (ex : (x + 3) % 2 ^ 64 ≡ w) (fit : x < 2 ^ 64) where
-  abbrev y : ℕ
-  y = x % 4096
+module _ (c w : ℕ) (small : c < 64) (sh : Shape) (es : sh ≡ shapeOf c) (x : ℕ) (ex : (x + 3) % 2 ^ 64 ≡ w) (fit : x < 2 ^ 64) (y : ℕ) (ey : y ≡ x % 4096) where
+  wide : 0 < shapeOf c .block
+  wide = omega (arith, shape-sound c .wide)
 
-  abbrev m : ℕ
-  m = sh .inverse
+  pub small-sum : Fits w32 (y + sh .block)
+  small-sum =
+      let b : sh .block ≤ 2 ^ 15 = rw es (narrow (shapeOf c) (shape-sound c)) in
+      record { fits = omega arith }
 
-  near : y < 2 ^ 16
-  near = omega arith
-
-  sd : Sound (shapeOf c)
-  sd = shape-sound c
-
-  em : m ≡ inverse (shapeOf c .block)
-  em = rw es (sd .inverts)
-
-  pub small-product : Fits w64 (y * m)
-  small-product = rw es (product-fits (shapeOf c) sd y near)
-
-  pub small-index : Fits w32 (y * m / 2 ^ 32)
-  small-index = rw es (quotient-fits (shapeOf c) sd y near)
-
-  index-is : y * m / 2 ^ 32 ≡ y / shapeOf c .block
-  index-is = rw es (divides (shapeOf c) sd y near)
-
-  room : shapeOf c .capacity * shapeOf c .block ≤ 4093
-  room = omega (arith, sd .fits, small-pages c small, small-header c small)
+  capacity-is : shapeOf c .capacity ≡ 4093 / shapeOf c .block
+  capacity-is = eqb-true (shapeOf c .capacity) (4093 / shapeOf c .block) (every-at (λ j. eqb (shapeOf j .capacity) (4093 / shapeOf j .block)) 64 c all-capacities small)
 
   at-page : granuleOf w ≡ pageAt w * 4096 + granuleOf w % 4096
   at-page = sym (div-add-mod' (granuleOf w) 4096)
@@ -148,19 +143,6 @@ module _ (c w : ℕ) (small : c < 64) (sh : Shape) (es : sh ≡ shapeOf c) (x : 
     unfolding isBlock
     here = rw (from, index-here, difference)
 
-  -- not the first granule of a block
-  part-none : m ≤ y * m % 2 ^ 32 → y / shapeOf c .block * shapeOf c .block ≡ y → ⊥
-  part-none g z =
-      let r : y % shapeOf c .block ≡ 0 = omega (arith, div-add-mod' y (shapeOf c .block)) in
-      omega (arith, rw em at g, behind-point y (shapeOf c .block) near (sd .wide) (narrow (shapeOf c) sd) r)
-
-  whole-block : y * m % 2 ^ 32 < m → y / shapeOf c .block * shapeOf c .block ≡ y
-  whole-block g = by (y % shapeOf c .block) refl
-    where
-      by : (r : ℕ) → y % shapeOf c .block ≡ r → y / shapeOf c .block * shapeOf c .block ≡ y
-      by zero e = omega (arith, div-add-mod' y (shapeOf c .block))
-      by (suc r) e = absurd (omega (arith, rw em at g, past-point y (shapeOf c .block) near (sd .wide) (narrow (shapeOf c) sd) (omega arith)))
-
   none-at : isBlock (shapeOf c) (pageAt w) w ≡ false → Nothing ≡ blockAt (shapeOf c) (pageAt w) w
   none-at e = rw e
 
@@ -168,29 +150,40 @@ module _ (c w : ℕ) (small : c < 64) (sh : Shape) (es : sh ≡ shapeOf c) (x : 
   sides : {P : Type 0} → (granuleOf w % 4096 < 3 → P) → (3 ≤ granuleOf w % 4096 → P) → P
   sides f g = by-cases (ltb (granuleOf w % 4096) 3) (λ t. f (ltb-true _ _ t)) (λ t. g (omega (arith, ltb-false (granuleOf w % 4096) 3 t)))
 
-  pub small-between : m ≤ y * m % 2 ^ 32 → Nothing ≡ blockAt (shapeOf c) (pageAt w) w
-  small-between g = none-at (sides header-none (λ l. here l ∙ rw (ne-eqb _ _ (part-none g))))
+  -- the block at y / block begins at y and ends within the page exactly if the page has so many
+  within : y / shapeOf c .block * shapeOf c .block ≡ y → y + shapeOf c .block ≤ 4093 → y / shapeOf c .block < shapeOf c .capacity
+  within z h = rw capacity-is (le-div-iff-mul-le wide .1 (omega arith))
 
-  module _ (i : ℕ) (ei : i ≡ y * m / 2 ^ 32) where
-    index : i ≡ y / shapeOf c .block
-    index = ei ∙ index-is
+  beyond : 4093 < y + shapeOf c .block → y / shapeOf c .block * shapeOf c .block ≡ y → shapeOf c .capacity ≤ y / shapeOf c .block
+  beyond h z =
+      by-cases (leb (y / shapeOf c .block + 1) (4093 / shapeOf c .block))
+      (λ t. let q : (y / shapeOf c .block + 1) * shapeOf c .block ≤ 4093 = le-div-iff-mul-le wide .0 (leb-true (y / shapeOf c .block + 1) (4093 / shapeOf c .block) t) in absurd (omega arith))
+      (λ t. let q = leb-false (y / shapeOf c .block + 1) (4093 / shapeOf c .block) t in omega (arith, capacity-is))
 
-    pub small-past : sh .capacity ≤ i → Nothing ≡ blockAt (shapeOf c) (pageAt w) w
-    small-past g =
-        let k : shapeOf c .capacity ≤ y / shapeOf c .block = rw (← index, ← es) g in
-        none-at (sides header-none (λ l. here l ∙ rw (le-ltb (y / shapeOf c .block) (shapeOf c .capacity) k) and-none))
-      where
-        and-none : (eqb (y / shapeOf c .block * shapeOf c .block) y && false) ≡ false
-        and-none = simp and-false
+  pub small-past : 4093 < y + sh .block → Nothing ≡ blockAt (shapeOf c) (pageAt w) w
+  small-past g =
+      let k : 4093 < y + shapeOf c .block = rw (← es) g in
+      none-at
+      (sides header-none
+      (λ l. here l ∙ by-cases (eqb (y / shapeOf c .block * shapeOf c .block) y)
+      (λ t. rw (t, le-ltb (y / shapeOf c .block) (shapeOf c .capacity) (beyond k (eqb-true _ y t))))
+      (λ t. rw t)))
 
-    pub small-found : y * m % 2 ^ 32 < m → i < sh .capacity → At i ≡ blockAt (shapeOf c) (pageAt w) w
-    small-found g l =
-        let k : y / shapeOf c .block < shapeOf c .capacity = rw (← index, ← es) l in
-        let n : y < shapeOf c .capacity * shapeOf c .block = div-lt-iff-lt-mul {k = shapeOf c .block} {x = y} {y = shapeOf c .capacity} (omega (arith, sd .wide)) .0 k in
-        sides (λ o. absurd (omega (arith, header-far o, room)))
-        (λ o.
-        let yes : isBlock (shapeOf c) (pageAt w) w ≡ true = here o ∙ rw (eq-eqb (y / shapeOf c .block * shapeOf c .block) y (whole-block g), lt-ltb (y / shapeOf c .block) (shapeOf c .capacity) k) in
-        rw (yes, index-here o) (ap At index))
+  -- not the first granule of a block
+  pub small-between : y + sh .block ≤ 4093 → (y % sh .block ≡ 0 → ⊥) → Nothing ≡ blockAt (shapeOf c) (pageAt w) w
+  small-between g d =
+      let part : y / shapeOf c .block * shapeOf c .block ≡ y → ⊥ = λ z. d (rw es (omega (arith, div-add-mod' y (shapeOf c .block)))) in
+      none-at (sides header-none (λ l. here l ∙ rw (ne-eqb (y / shapeOf c .block * shapeOf c .block) y part)))
+
+  pub small-found : y + sh .block ≤ 4093 → y % sh .block ≡ 0 → At (y / sh .block) ≡ blockAt (shapeOf c) (pageAt w) w
+  small-found g z =
+      let k : y + shapeOf c .block ≤ 4093 = rw (← es) g in
+      let r : y % shapeOf c .block ≡ 0 = rw (← es) z in
+      let u : y / shapeOf c .block * shapeOf c .block ≡ y = omega (arith, div-add-mod' y (shapeOf c .block)) in
+      sides (λ o. absurd (omega (arith, header-far o, wide)))
+      (λ o.
+      let yes : isBlock (shapeOf c) (pageAt w) w ≡ true = here o ∙ rw (eq-eqb (y / shapeOf c .block * shapeOf c .block) y u, lt-ltb (y / shapeOf c .block) (shapeOf c .capacity) (within u k)) in
+      rw (es, yes, index-here o))
 
 -- ---- and the whole
 module _ (n : ℕ) (b : List ℕ) (c w p : ℕ) (a : SmallAsks n b c w) (ep : p ≡ pageAt w) where

@@ -2,12 +2,12 @@
 use Prim.Native.Nat.{ℕ, _+_, _*_, _/_, _^_, _≤_, _<_}
 use native.Mathlib.Omega.{arith}
 use native.Mathlib.Nat.{mul-le-mul, le-div-iff-mul-le}
-use mathlib.Core.Bool.{Bool, true, false}
+use mathlib.Core.Bool.{Bool, true, false, not}
 use mathlib.Core.Path.{_≡_, refl, sym, ap, _∙_}
 use lib.Dec.{eqb, ltb, leb}
 use mir.Val.{Fits}
 use mir.Syntax.{w32}
-use borrow.Author.Tests.{lt-ltb, le-ltb, eqb-true, ltb-true, ltb-false, leb-true, leb-false}
+use borrow.Author.Tests.{lt-ltb, le-ltb, le-leb, lt-leb, eqb-true, ltb-true, ltb-false, leb-true, leb-false}
 use Rattle.facts.specs.Lists.{every, below}
 use Rattle.facts.proofs.Bools.{by-cases}
 use Rattle.facts.proofs.Lists.{every-at}
@@ -17,6 +17,7 @@ use Rattle.classes.specs.Shape.{shapeOf, smallShape}
 use Rattle.classes.proofs.Shapes.{shape-sound}
 use Rattle.stack.proofs.InverseLaws.{narrow}
 use Rattle.pool.specs.Stock.{stockLeast, stockLimit, stockBytes, clamped, stockMost}
+use Rattle.stock.specs.way.Ends.{isFull}
 
 -- a number between the limits, or the limit next to it
 clamped-least : (x : ℕ) → stockLeast ≤ clamped x
@@ -85,5 +86,10 @@ pub room-limit : (c : ℕ) → stockMost c ≤ stockLimit
 unfolding stockMost
 room-limit c = clamped-limit (stockBytes / (shapeOf c .block * 16))
 
-pub room-told : (c k : ℕ) (t v : Bool) → t ≡ ltb k (stockMost c) → t ≡ v → ltb k (stockMost c) ≡ v
-room-told c k t v e f = sym e ∙ f
+-- a full stock
+module _ (c k : ℕ) where
+  pub full-beyond : 255 < k → false ≡ isFull c k
+  full-beyond h = rw (lt-leb k 255 h)
+
+  pub full-told : (t : Bool) → k ≤ 255 → t ≡ ltb k (stockMost c) → not t ≡ isFull c k
+  full-told t h e = rw (le-leb k 255 h, ← e)

@@ -1,13 +1,11 @@
 // A free: the tests in their order, then the stock, or the heap where the stock holds enough.
 ghost use mathlib.Core.Path.{_≡_};
-ghost use mathlib.Core.Bool.{true, false};
-ghost use lib.Dec.{ltb};
+ghost use mathlib.Core.Bool.{false};
 ghost use Rattle.take.specs.way.TakePlan.{CallAsks};
-ghost use Rattle.pool.specs.Stock.{stockMost};
 ghost use Rattle.poolcalls.specs.Stock.{countIn};
 ghost use Rattle.poolcalls.specs.Calls.{freeOn, FreeEnds};
 ghost use Rattle.stock.specs.way.Asks.{NearAsks, FreeAsks};
-ghost use Rattle.stock.specs.way.Ends.{Kept, farFault, unfairFault};
+ghost use Rattle.stock.specs.way.Ends.{Kept, farFault, isFull};
 use crate::cells::count;
 use crate::give::give;
 use crate::look::behind;
@@ -15,7 +13,7 @@ use crate::out::is_out;
 use crate::places::is_stocked;
 use crate::places::push;
 use crate::room::STOCK_ROOM;
-use crate::room::has_room;
+use crate::room::is_full;
 
 // 2^62: words of one kind.
 const KIND: u64 = 4_611_686_018_427_387_904;
@@ -30,42 +28,21 @@ fn far_fault(x: u64) -> u32
     10
 }
 
-// A stock of k blocks that has room for the block at granule g.
+// A stock of k blocks with room for the block at granule g, or a COUNT out of its range.
 fn keep(meta: &mut [u32], n: u32, c: u32, k: u32, g: u32, w: u64) -> u32
     requires { ⌜ FreeAsks n (now meta) c g w ⌝ }
     requires { ⌜ k ≡ countIn (now meta) c ⌝ }
-    requires { ⌜ ltb k (stockMost c) ≡ true ⌝ }
+    requires { ⌜ isFull c k ≡ false ⌝ }
     ensures { λ r. ⌜ Kept r (now (meta .exit)) n (now (meta .entry)) c w ⌝ }
 {
     if is_out(meta, n, c, w) {
+        if k > STOCK_ROOM {
+            return 13;
+        }
         push(meta, n, c, k, g);
         return 0;
     }
     10
-}
-
-// COUNT is out of its range.
-fn unfair(meta: &[u32], n: u32, c: u32, g: u32, w: u64) -> u32
-    requires { ⌜ FreeAsks n (now meta) c g w ⌝ }
-    ensures { λ r. ⌜ r ≡ unfairFault n (now (meta .entry)) c w ⌝ }
-{
-    if is_out(meta, n, c, w) {
-        return 13;
-    }
-    10
-}
-
-// A stock of k blocks, which has none: the heap tests the block itself.
-fn pass_on(meta: &mut [u32], n: u32, c: u32, host: u32, k: u32, g: u32, w: u64) -> u32
-    requires { ⌜ FreeAsks n (now meta) c g w ⌝ }
-    requires { ⌜ k ≡ countIn (now meta) c ⌝ }
-    requires { ⌜ ltb k (stockMost c) ≡ false ⌝ }
-    ensures { λ r. ⌜ FreeEnds (freeOn n (now (meta .entry)) c host w) r (now (meta .exit)) ⌝ }
-{
-    if k > STOCK_ROOM {
-        return unfair(meta, n, c, g, w);
-    }
-    give(meta, n, c, host, w)
 }
 
 // The block at granule g of the arena.
@@ -77,10 +54,11 @@ fn take_back(meta: &mut [u32], n: u32, c: u32, host: u32, g: u32, w: u64) -> u32
         return 10;
     }
     let k = count(meta, c);
-    if has_room(c, k) {
-        return keep(meta, n, c, k, g, w);
+    // A full stock takes none: the heap tests the block itself.
+    if is_full(c, k) {
+        return give(meta, n, c, host, w);
     }
-    pass_on(meta, n, c, host, k, g, w)
+    keep(meta, n, c, k, g, w)
 }
 
 pub fn free(meta: &mut [u32], n: u32, c: u32, host: u32, w: u64) -> u32

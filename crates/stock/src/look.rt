@@ -9,7 +9,7 @@ ghost use Rattle.poolcalls.specs.Calls.{grantedIn, stockedIn};
 ghost use Rattle.take.specs.way.TakePlan.{CallAsks};
 ghost use Rattle.stock.specs.way.Asks.{StockAsks};
 use crate::cells::count;
-use crate::out::is_out;
+use crate::out::out_at;
 use crate::places::is_stocked;
 use crate::room::STOCK_ROOM;
 use crate::top::block_word;
@@ -33,7 +33,7 @@ pub fn granted(meta: &[u32], n: u32, c: u32, w: u64) -> bool
     if is_stocked(meta, n, c, x as u32) {
         return false;
     }
-    is_out(meta, n, c, w)
+    out_at(meta, n, c, w)
 }
 
 // COUNT; 0 where it is out of its range.

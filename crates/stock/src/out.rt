@@ -42,6 +42,9 @@ fn is_run(meta: &[u32], n: u32, c: u32, p: u32) -> bool
     fields::page::first(meta, p) == p
 }
 
+// Granules of a small page behind its header.
+const ROOM: u32 = 4093;
+
 // The block of a small class's run that the word is, in the run that its page would be. The header is 3 granules; what lies in it wraps to behind the
 // blocks.
 fn small_at(c: u32, w: u64) -> Found
@@ -49,16 +52,14 @@ fn small_at(c: u32, w: u64) -> Found
     ensures { λ r. ⌜ r ≡ blockAt (shapeOf c) (pageAt w) w ⌝ }
 {
     let shape = shape_of(c);
-    let inv = shape.inverse;
-    let product = std::num::wrapping_sub_u64(w, 3) % 4096 * inv;
-    if product % 4294967296 >= inv {
+    let y = (std::num::wrapping_sub_u64(w, 3) % 4096) as u32;
+    if y + shape.block > ROOM {
         return Found::Nothing;
     }
-    let i = (product >> 32) as u32;
-    if i >= shape.capacity {
+    if y % shape.block != 0 {
         return Found::Nothing;
     }
-    Found::At(i)
+    Found::At(y / shape.block)
 }
 
 // A small class has a way of its own, since its runs are one page: a fifth less than by `out_at` (docs/PERFORMANCE.md).

@@ -2,6 +2,7 @@
 ghost use mathlib.Core.Path.{_≡_};
 ghost use lib.Dec.{ltb};
 ghost use Rattle.pool.specs.Stock.{stockMost};
+ghost use Rattle.stock.specs.way.Ends.{isFull};
 use classes::shape_of;
 
 // As crate pool's Stock.antt has them: the fewest and the most blocks, and the granules of 256 KiB.
@@ -19,7 +20,7 @@ pub const STOCK_ROOM: u32 = 255;
 
 // A stock of k blocks holds fewer than the class's most. No division: k is below a quotient if k + 1 times the divisor is at most the dividend. The class's
 // numbers are not looked at where the class alone tells.
-pub fn has_room(c: u32, k: u32) -> bool
+fn has_room(c: u32, k: u32) -> bool
     ensures { λ r. ⌜ r ≡ ltb k (stockMost c) ⌝ }
 {
     if c < LIMITED {
@@ -33,4 +34,14 @@ pub fn has_room(c: u32, k: u32) -> bool
     }
     let shape = shape_of(c);
     (k + 1) * shape.block <= STOCK_GRANULES
+}
+
+// A stock of k blocks that holds the class's most. A COUNT beyond every stock's is no full one.
+pub fn is_full(c: u32, k: u32) -> bool
+    ensures { λ r. ⌜ r ≡ isFull c k ⌝ }
+{
+    if k > STOCK_ROOM {
+        return false;
+    }
+    !has_room(c, k)
 }

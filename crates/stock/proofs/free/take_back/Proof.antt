@@ -1,6 +1,5 @@
-use Rattle.stock.proofs.RoomSteps.{room-told}
+use Rattle.stock.proofs.FreeSteps.{free-stocked, free-asks, free-full, not-full, free-kept}
 use borrow.Author.Needs.{needs}
-use Rattle.stock.proofs.FreeSteps.{free-stocked, free-asks, free-kept}
 use Rattle.stock.proofs.free.take_back.Statement.{statement}
 use Rattle.stock.proofs.free.take_back.Tie as tie
 
@@ -16,26 +15,26 @@ returns c = search free-stocked
 count-requires : tie.Need-count-requires
 count-requires c κs = search needs
 
-has-room-requires : tie.Need-has-room-requires
-has-room-requires c κs = search needs
+is-full-requires : tie.Need-is-full-requires
+is-full-requires c κs = search needs
 
-keep-requires : tie.Need-keep-requires
-keep-requires c κs = (search free-asks, (search needs, search room-told))
+give-requires : tie.Need-give-requires
+give-requires c κs = search needs
 
 same-length-2 : tie.Need-same-length-2
 same-length-2 c = search needs
 
 returns-2 : tie.Need-returns-2
-returns-2 c = search free-kept
+returns-2 c = search free-full
 
-pass-on-requires : tie.Need-pass-on-requires
-pass-on-requires c κs = (search free-asks, (search needs, search room-told))
+keep-requires : tie.Need-keep-requires
+keep-requires c κs = (search free-asks, (search needs, search not-full))
 
 same-length-3 : tie.Need-same-length-3
 same-length-3 c = search needs
 
 returns-3 : tie.Need-returns-3
-returns-3 c = search needs
+returns-3 c = search free-kept
 
 pub take-back-spec : {M : Type 1} → statement M
 take-back-spec =
@@ -45,10 +44,10 @@ take-back-spec =
     same-length
     returns
     count-requires
-    has-room-requires
-    keep-requires
+    is-full-requires
+    give-requires
     same-length-2
     returns-2
-    pass-on-requires
+    keep-requires
     same-length-3
     returns-3)

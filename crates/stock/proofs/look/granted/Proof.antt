@@ -1,5 +1,5 @@
 use borrow.Author.Needs.{needs}
-use Rattle.stock.proofs.LookSteps.{granted-far, near-asks, near-low, granted-stocked, granted-out}
+use Rattle.stock.proofs.LookSteps.{granted-far, near-asks, granted-stocked, granted-out}
 use Rattle.stock.proofs.look.granted.Statement.{statement}
 use Rattle.stock.proofs.look.granted.Tie as tie
 
@@ -21,8 +21,8 @@ is-stocked-requires c κs = search near-asks
 returns-2 : tie.Need-returns-2
 returns-2 c = search granted-stocked
 
-is-out-requires : tie.Need-is-out-requires
-is-out-requires c κs = search (needs, near-low)
+out-at-requires : tie.Need-out-at-requires
+out-at-requires c κs = search needs
 
 returns-3 : tie.Need-returns-3
 returns-3 c = search granted-out
@@ -37,5 +37,5 @@ granted-spec =
     cast-is-stocked
     is-stocked-requires
     returns-2
-    is-out-requires
+    out-at-requires
     returns-3)

@@ -1,5 +1,5 @@
-use Rattle.stock.proofs.OutSteps.{small-product, small-between, small-index, small-past, small-found}
 use borrow.Author.Needs.{needs}
+use Rattle.stock.proofs.OutSteps.{small-sum, small-past, small-wide, small-between, small-found}
 use Rattle.stock.proofs.out.small_at.Statement.{statement}
 use Rattle.stock.proofs.out.small_at.Tie as tie
 
@@ -9,17 +9,23 @@ shape-of-requires c κs = search needs
 wrapping-sub-u64-requires : tie.Need-wrapping-sub-u64-requires
 wrapping-sub-u64-requires c κs = search needs
 
-mul-product : tie.Need-mul-product
-mul-product c = search small-product
+cast-y : tie.Need-cast-y
+cast-y c = search needs
+
+add-if1 : tie.Need-add-if1
+add-if1 c = search small-sum
 
 returns : tie.Need-returns
-returns c = search small-between
+returns c = search small-past
 
-cast-i : tie.Need-cast-i
-cast-i c = search small-index
+rem-if2 : tie.Need-rem-if2
+rem-if2 c = search small-wide
 
 returns-2 : tie.Need-returns-2
-returns-2 c = search small-past
+returns-2 c = search small-between
+
+div-t7 : tie.Need-div-t7
+div-t7 c = search small-wide
 
 returns-3 : tie.Need-returns-3
 returns-3 c = search small-found
@@ -30,8 +36,10 @@ small-at-spec =
     (tie.spec
     shape-of-requires
     wrapping-sub-u64-requires
-    mul-product
+    cast-y
+    add-if1
     returns
-    cast-i
+    rem-if2
     returns-2
+    div-t7
     returns-3)
