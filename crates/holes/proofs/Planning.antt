@@ -1,9 +1,10 @@
--- The loops over the holes. Of `search` and `neighbours`: what is found so far is what the holes from `left` on come to; of `search` also: they are in their range.
+-- The loops over the holes: what is found so far is what the holes from `left` on come to; of `search` also: they are in their range.
 --     weighs-start, part-weighs, one-weighs    before the first turn; a part, or a hole, is weighed
 --     searches-start, part-again, one-again    the same, where each is in its range
 --     part-no, one-no, searches-done           the ways out of `search`: one is out of its range; none is left
 --     plans-none, plans-unfair, plans-found    the plan, of what a search answers
---     touches-done, ends-are, ends-not         the ways out of `neighbours`, and of the test of a give's range
+--     touches-done                             the way out of `neighbours`
+--     ends-again, ends-done                    the test of a give's range: a hole is tested; none is left
 use mathlib.Core.Path.{_≡_, refl, sym, ap, _∙_, subst}
 use Prim.Native.Nat.{ℕ, _-_, _<_, _≤_, _^_}
 use native.Mathlib.Omega.{arith}
@@ -23,7 +24,7 @@ use Rattle.holes.specs.way.Plan.{planAs, planOf, Searches, neighboursOf}
 use Rattle.holes.specs.way.Scan.{noBest, betterOf, weighed, bestOf, codeAt, noBeside, besideAt}
 use Rattle.holes.proofs.Loading.{and-true, part-fair, part-weighed}
 use Rattle.holes.proofs.Least.{plan-is}
-use Rattle.holes.proofs.Touching.{neighbours-are, all-ends-fair}
+use Rattle.holes.proofs.Touching.{neighbours-are, fairAt, all-ends-fair}
 
 -- the holes that the words hold at the index i and on, of so many
 abbrev from : List ℕ → ℕ → ℕ → List Hole
@@ -163,12 +164,9 @@ module _ (b : List ℕ) (count total f pages : ℕ) where
 pub touches-done : (b : List ℕ) (count : ℕ) (run : Edges) (sides : Beside) (left : ℕ) → Weighing (besideAt run) noBeside b count sides left → left ≤ 0 → sides ≡ neighboursOf (loadHoles b 0 count) run
 touches-done b count run sides left k l = weighs-done (besideAt run) noBeside b count sides left k l ∙ neighbours-are run (loadHoles b 0 count)
 
--- every hole is in a give's range: a search for no page finds none that is not
-module _ (b : List ℕ) (f count c : ℕ) (k : Searches (planOf (loadHoles b 0 count) f f 0) c) where
-  pub ends-are : (c ≡ 2 ^ 32 → ⊥) → true ≡ every (holeEndsFair f) (loadHoles b 0 count)
-  unfolding planOf
-  ends-are d = sym (found-fair _ c k d) ∙ all-ends-fair f (loadHoles b 0 count)
+module _ (b : List ℕ) (count f : ℕ) (t : Bool) (left : ℕ) (k : Weighing (fairAt f) true b count t left) where
+  pub ends-again : 0 < left → (h : Hole) → h ≡ loadHole b (left - 1) → (s : Bool) → s ≡ holeEndsFair f h → Weighing (fairAt f) true b count (s && t) (left - 1)
+  ends-again l h e s g = one-weighs (fairAt f) true b count t left k l h e (s && t) (ap (λ (y : Bool). y && t) g)
 
-  pub ends-not : c ≡ 2 ^ 32 → false ≡ every (holeEndsFair f) (loadHoles b 0 count)
-  unfolding planOf
-  ends-not d = sym (found-not _ c k d) ∙ all-ends-fair f (loadHoles b 0 count)
+  pub ends-done : left ≤ 0 → t ≡ every (holeEndsFair f) (loadHoles b 0 count)
+  ends-done l = weighs-done (fairAt f) true b count t left k l ∙ all-ends-fair f (loadHoles b 0 count) 0

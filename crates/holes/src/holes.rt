@@ -7,7 +7,7 @@ ghost use mathlib.Core.Bool.{cond};
 ghost use lib.ListN.{length, getD, take};
 ghost use Rattle.fields.specs.Field.{hole, pages, Has};
 ghost use Rattle.arena.specs.Load.{loadHole};
-ghost use Rattle.arena.specs.Fair.{holeFair};
+ghost use Rattle.arena.specs.Fair.{holeEndsFair, holeFair};
 ghost use Rattle.holes.specs.way.Scan.{noHole, key, betterOf, bestOf, besideAt, besideOf};
 
 pub fn hole_at(holes: &[Hole], i: usize) -> Hole
@@ -23,13 +23,16 @@ pub struct Best {
     pub code: u32,
 }
 
+// Each half of a key is below it.
+pub const HALF: u64 = 1 << 32;
+
 // In its upper half the pages beyond the need, which wrap where they are too few and so come after all others, and in its lower half the
 // first page. The least key is the lowest page of the least length that is enough.
 fn key_of(need: u32, h: Hole) -> u64
     ensures { λ r. ⌜ r ≡ key need h ⌝ }
 {
     let over = wrapping_sub_u32(h.pages, need);
-    (over as u64) * 4_294_967_296 + (h.first as u64)
+    (over as u64) * HALF + (h.first as u64)
 }
 
 // The hole at `i`, unless the best of those behind it has a lesser key.
@@ -120,7 +123,17 @@ pub fn hole_from(meta: &[u32], i: u32) -> Hole
     }
 }
 
-// Number 13's test. The sum has 64 bits, so it does not wrap.
+// Number 13's test of a hole that a give reads: it has a page, and ends at or below the frontier. It has 32 bits and no branch, so that a
+// loop over it takes several holes at a time. One less than no page wraps to the greatest number, which is below none.
+pub fn hole_ends_fair(h: Hole, frontier: u32) -> bool
+    ensures { λ r. ⌜ r ≡ holeEndsFair frontier h ⌝ }
+{
+    let below = h.first <= frontier;
+    let enough = wrapping_sub_u32(h.pages, 1) < wrapping_sub_u32(frontier, h.first);
+    below & enough
+}
+
+// Of one that a commit reads: it has at most `total` pages, too. The sum has 64 bits, so it does not wrap.
 pub fn hole_fair(h: Hole, total: u32, frontier: u32) -> bool
     ensures { λ r. ⌜ r ≡ holeFair total frontier h ⌝ }
 {

@@ -2,8 +2,10 @@
 use super::holes::Beside;
 use super::holes::Best;
 use super::holes::Edges;
+use super::holes::HALF;
 use super::holes::beside_at;
 use super::holes::better;
+use super::holes::hole_ends_fair;
 use super::holes::hole_fair;
 use super::holes::hole_from;
 use super::holes::scan;
@@ -17,18 +19,18 @@ ghost use lib.ListN.{length};
 ghost use Rattle.facts.specs.Lists.{every};
 ghost use Rattle.model.specs.HoleStore.{holeSlots};
 ghost use Rattle.arena.specs.Load.{loadHoles};
-ghost use Rattle.arena.specs.Fair.{holeFair};
+ghost use Rattle.arena.specs.Fair.{holeEndsFair, holeFair};
 ghost use Rattle.holes.specs.way.Plan.{planOf, Searches, neighboursOf};
 ghost use Rattle.holes.specs.way.Scan.{bestOf, codeAt, besideOf};
 
 // What a search answers where a hole is out of its range: it is beyond every code.
-pub const UNFAIR: u64 = 4_294_967_296;
+pub const UNFAIR: u64 = 1 << 32;
 
-// What the least key says: its hole, if that has enough pages.
+// What the least key says: its hole, if that has enough pages. Of one that has not, the pages beyond the need wrapped.
 fn code_at(need: u32, best: Best) -> u32
     ensures { λ r. ⌜ r ≡ codeAt need best ⌝ }
 {
-    if 4_294_967_296 <= best.key / 4_294_967_296 + (need as u64) {
+    if HALF <= best.key / HALF + (need as u64) {
         return 0;
     }
     best.code
@@ -79,7 +81,7 @@ pub fn search(meta: &[u32], count: u32, total: u32, frontier: u32, pages: u32) -
     ensures { λ r. ⌜ Searches (planOf (loadHoles (now (meta .entry)) 0 count) total frontier pages) r ⌝ }
 {
     let mut best = Best {
-        key: 18_446_744_073_709_551_615,
+        key: u64::MAX,
         code: 0,
     };
     let mut left = count;
@@ -126,7 +128,22 @@ pub fn plan(meta: &[u32], a: Arena, pages: u32) -> Plan
     }
 }
 
-// The holes that a run touches, looked for in the same parts.
+// Is every hole in a give's range. None ends the loop, so that it takes several at a time.
+pub fn all_end_fair(meta: &[u32], count: u32, frontier: u32) -> bool
+    requires { ⌜ (count ≤ holeSlots) × (40000 ≤ length (now meta)) ⌝ }
+    ensures { λ r. ⌜ r ≡ every (holeEndsFair frontier) (loadHoles (now (meta .entry)) 0 count) ⌝ }
+{
+    let mut fair = true;
+    let mut left = count;
+    while 0 < left {
+        left -= 1;
+        let h = hole_from(meta, left);
+        fair = hole_ends_fair(h, frontier) & fair;
+    }
+    fair
+}
+
+// The holes that a run touches, looked for in the parts of a search.
 pub fn neighbours(meta: &[u32], count: u32, run: Edges) -> Beside
     requires { ⌜ (count ≤ holeSlots) × (40000 ≤ length (now meta)) ⌝ }
     ensures { λ r. ⌜ r ≡ neighboursOf (loadHoles (now (meta .entry)) 0 count) run ⌝ }

@@ -1,16 +1,16 @@
 -- The ways out of the functions, over plain values.
-use Prim.Native.Nat.{ℕ, zero, suc, _+_, _-_, _≤_, _<_, _^_}
+use Prim.Native.Nat.{ℕ, zero, suc, _+_, _-_, _≤_, _<_}
 use native.Mathlib.Omega.{arith}
 use native.Mathlib.Numerals.{add-one}
-use mathlib.Core.Bool.{Bool, false, not}
+use mathlib.Core.Bool.{Bool, false}
 use mathlib.Core.List.{List}
 use mathlib.Core.Option.{Option}
 use mathlib.Core.Path.{_≡_, refl, sym, ap, _∙_, subst}
-use lib.Dec.{leb, eqb}
+use lib.Dec.{leb}
 use lib.ListN.{length}
-use borrow.Author.Tests.{lt-ltb, le-ltb, le-leb, lt-leb, eq-eqb, ne-eqb, eqb-true, eqb-false}
+use borrow.Author.Tests.{lt-ltb, le-ltb, le-leb, lt-leb, eq-eqb, ne-eqb}
 use Rattle.facts.specs.Lists.{every}
-use Rattle.facts.proofs.Bools.{by-cases, and-no}
+use Rattle.facts.proofs.Bools.{and-no}
 use Rattle.words.specs.Limits.{holeSlots, holePagesMax}
 use Rattle.fields.specs.Field as Field
 use Rattle.fields.specs.Field.{arena, page, owner, state, frontier, holes, holePages, held, pages, get, put}
@@ -20,7 +20,7 @@ use Rattle.holes.specs.declared.holes.Beside.{Beside}
 use Rattle.holes.specs.declared.record.Gain.{Gain}
 use Rattle.holes.specs.way.Change.{gainedBy, gains, lost}
 use Rattle.holes.specs.way.Record.{abandoning}
-use Rattle.holes.specs.way.Plan.{indexCode, planOf, Searches, neighboursOf}
+use Rattle.holes.specs.way.Plan.{indexCode, neighboursOf}
 use Rattle.arena.specs.Fair.{recordFair, holeEndsFair, holesEndFair}
 use Rattle.arena.specs.Owners.{own}
 use Rattle.arena.specs.Load.{loadHole, loadHoles}
@@ -32,7 +32,6 @@ use Rattle.model.proofs.Placing.{Found, found, not-found, finds}
 use Rattle.holes.specs.way.Act.{bothWords, placeWords, placeRecord, Places, edges, touching, giveWords, giveRecord, Gives}
 use Rattle.holes.proofs.StoreLaws.{loaded-at}
 use Rattle.holes.proofs.EndsFair.{ends-at}
-use Rattle.holes.proofs.Planning.{ends-are, ends-not}
 use Rattle.runs.specs.way.Asks.{StoreIn, SlotIn, StoredIn, TouchIn}
 
 -- ---- the record's test: one failing word is enough
@@ -92,13 +91,9 @@ module _ (b₀ : List ℕ) (first pages w : ℕ) where
   owns-done b p left k l = let z : left ≡ 0 = omega arith in none w b p left z ∙ k .rest
 
 -- ---- the holes' test
-module _ (b : List ℕ) (f count c : ℕ) (e : f ≡ get b (arena frontier)) (d : count ≡ get b (arena holes)) (k : Searches (planOf (loadHoles b 0 count) f f 0) c) where
-  ends-told : every (holeEndsFair f) (loadHoles b 0 count) ≡ holesEndFair b
-  unfolding holesEndFair
-  ends-told = rw (e, d)
-
-  pub told-fair : not (eqb c (2 ^ 32)) ≡ holesEndFair b
-  told-fair = by-cases (eqb c (2 ^ 32)) (λ t. rw t (ends-not b f count c k (eqb-true c (2 ^ 32) t) ∙ ends-told)) (λ t. rw t (ends-are b f count c k (eqb-false c (2 ^ 32) t) ∙ ends-told))
+pub told-fair : (b : List ℕ) (f count : ℕ) → f ≡ get b (arena frontier) → count ≡ get b (arena holes) → (t : Bool) → t ≡ every (holeEndsFair f) (loadHoles b 0 count) → t ≡ holesEndFair b
+unfolding holesEndFair
+told-fair b f count e d t g = rw (← e, ← d) g
 
 -- ---- a run placed among the holes, by the codes c and d of those that it touches
 module _ (b : List ℕ) (a : Arena) (m q : ℕ) where

@@ -46,12 +46,14 @@ pub fn record_fair(meta: &[u32], size: u32) -> bool
     fields::arena::held(meta) <= size
 }
 
-// Is every hole in a give's range: that of a commit, where the holes could have as many pages as the frontier is high.
+// Is every hole in a give's range.
 pub fn holes_fair(meta: &[u32]) -> bool
     requires { ⌜ (40000 ≤ length (now meta)) × (get (now meta) (arena holes) ≤ holeSlots) ⌝ }
     ensures { λ r. ⌜ r ≡ holesEndFair (now (meta .entry)) ⌝ }
 {
-    let f = fields::arena::frontier(meta);
-    let code = plans::search(meta, fields::arena::holes(meta), f, f, 0);
-    code != plans::UNFAIR
+    plans::all_end_fair(
+        meta,
+        fields::arena::holes(meta),
+        fields::arena::frontier(meta),
+    )
 }
