@@ -33,7 +33,7 @@ use Rattle.vigbuso.specs.Pool.{poolOn, classOn, grantedOn, stockedOn}
 use Rattle.demands.specs.Ranges.{Use, strays}
 use Rattle.demands.specs.Reads.{takeReads, barren, markReads, releaseReads, stockReads, topReads}
 use Rattle.demands.specs.Refusals.{Row, firstNumber}
-use Rattle.demands.specs.PoolRefusals.{poolEarly, allocTable, freeTable, trimTable, lookEarly, grantedTable, stockedTable, PoolDemand1}
+use Rattle.demands.specs.PoolRefusals.{poolEarly, allocTable, freeTable, trimTable, bookTable, lookEarly, grantedTable, stockedTable, PoolDemand1}
 use Rattle.demands.proofs.Ranges.{fits-append, number-13, take-strays, top-strays, release-strays}
 use Rattle.demands.proofs.RefusalsLaws.{Ends, ends, turn, unless, book-turn, chain}
 use Rattle.demands.proofs.RefusalsCalls.{take-row, last-code}
@@ -347,6 +347,14 @@ module _ (b : List ℕ) (w : ℕ) where
       (λ e. by-cases (known k) (λ t. rw (e, t) (omega (arith, leb-true k 76 (and-right (leb 1 k) _ t)))) (λ t. rw (e, t) (omega arith)))
       (λ e. rw e (omega arith))
 
+  book-first : cond (eqb (metaFault b) 0) 0 (metaFault b) ≡ firstNumber (bookTable b)
+  unfolding metaFault
+  book-first = book-turn {R = ℕ} (λ x. x) (λ x. Unit {0}) [] (λ x. x) 0 (λ x. refl) (λ x. tt) (record { number = refl; kept = λ d. tt }) (get b (arena size)) b .number
+
+  class-none : (firstNumber (bookTable b) ≡ 0 → ⊥) → classOn b w ≡ classCount
+  unfolding classOn
+  class-none d = by-cases (eqb (metaFault b) 0) (λ e. absurd (d (sym book-first ∙ rw e))) (λ e. rw e)
+
   class-owned : (c : ℕ) → admits b c ≡ true → (classOn b w ≡ c) ↔ ((pageAt w < get b (arena size)) × (get b (page owner (pageAt w)) ≡ suc c))
   unfolding classOn admits ownerAt
   class-owned c a =
@@ -379,6 +387,7 @@ pool-demand-1 = record {
     low = rw e (class-low b w);
     granted = λ c z. e ∙ granted-class b c w (granted-yes b c w z);
     owned = λ c z. rw e (class-owned b w c (clear b c [] z .admitted));
+    none = λ d. e ∙ class-none b w d;
   };
   trim = λ b c h r b′ w w′ e. refuses _ _ _ _ (trim-table b c h) _ r refl (e .code) λ d s. (e .book ∙ s, e .block ∙ block-kept (poolOn b c (trim h) .answer) w d);
 }

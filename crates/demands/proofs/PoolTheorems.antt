@@ -1,5 +1,5 @@
 -- The pool's demand holds of every history of the exported calls, on the words.
-use Prim.Native.Nat.{ℕ, _≤_}
+use Prim.Native.Nat.{ℕ, zero, suc, _≤_}
 use mathlib.Core.Bool.{true, false, true≢false}
 use mathlib.Core.List.{List, [], _∷_, _++_, map, head-eq-of-cons-eq, tail-eq-of-cons-eq}
 use mathlib.Core.Logic.{_↔_, inl, inr}
@@ -8,7 +8,7 @@ use mathlib.Core.Path.{_≡_, refl, sym, ap, ap₂, _∙_, subst}
 use lib.Dec.{eqb, ltb}
 use lib.ListN.{length, getD, replicate}
 use native.Mathlib.Omega.{arith}
-use borrow.Author.Tests.{not-true, eq-eqb}
+use borrow.Author.Tests.{not-true}
 use Rattle.facts.specs.Lists.{elem, distinct}
 use Rattle.facts.proofs.Bools.{by-cases, and-left, and-right}
 use Rattle.words.specs.Host.{badHost}
@@ -18,11 +18,12 @@ use Rattle.rules.specs.Rules.{Rules, rulesOf}
 use Rattle.fields.specs.Field.{arena, size, get}
 use Rattle.fields.specs.Ranges.{maxPages, metaFault}
 use Rattle.model.specs.Arena as Arenas
-use Rattle.model.specs.Calls.{Call, Answer, Named, names, giveBack, isRefused}
+use Rattle.model.specs.Calls.{Call, Answer, Named, names}
 use Rattle.model.specs.Release.{ofKind, outHere}
 use Rattle.model.specs.Heap.{Heap, newHeap, step}
-use Rattle.model.specs.History.{Event, heapAfter}
+use Rattle.model.specs.History.{Event, events, heapAfter}
 use Rattle.model.specs.Entries.{OutIn}
+use Rattle.model.specs.Offered.{Spent}
 use Rattle.model.proofs.Ways.{goes}
 use Rattle.model.proofs.Alone.{other}
 use Rattle.arena.specs.Load.{loadArena}
@@ -34,20 +35,19 @@ use Rattle.refinement.proofs.ArenaReached.{heap-next, reached-after}
 use Rattle.refinement.proofs.Book.{setting-of}
 use Rattle.refinement.proofs.Found.{out-here}
 use Rattle.refinement.proofs.Whole.{call-whole}
-use Rattle.pool.specs.Pool.{Pool, newPool, PoolCall, PoolAnswer, Wish, to, alloc, free, trim, callBy, callFor, poolStep, Plan, Done, carry, ends, firstOf, numberOf, refused, trimmed, noBlock}
+use Rattle.pool.specs.Pool.{Pool, newPool, PoolCall, PoolAnswer, Wish, to, alloc, free, trim, callBy, poolStep, noBlock}
 use Rattle.pool.specs.Told.{PoolEvent, toldOf, poolEvents, poolEventsFrom, poolAfter, heapCalls, poolAnswersOf, isOf}
 use Rattle.pool.specs.way.Claims.{answerTo}
-use Rattle.pool.specs.Bare.{Bare}
-use Rattle.pool.proofs.Plans.{Planned, is-turned, is-bare, is-trimmed, planned}
 use Rattle.pool.proofs.Apart.{pool-disjoint}
 use Rattle.pool.proofs.Frees.{frees, unchanged}
 use Rattle.pool.proofs.OnHeap.{on-heap}
-use Rattle.pool.proofs.Conserved.{alloc-none, conserved}
+use Rattle.pool.proofs.Conserved.{alloc-none, trims, conserved}
 use Rattle.pool.proofs.Alone.{pool-alone}
-use Rattle.poolcalls.specs.Stock.{stockIn, stocked}
-use Rattle.poolcalls.specs.Calls.{grantedIn}
+use Rattle.poolcalls.specs.Stock.{countIn, stockFrom, stockIn, stocked}
+use Rattle.poolcalls.specs.Calls.{grantedIn, trimOn}
 use Rattle.vigbuso.specs.Faults.{admits}
 use Rattle.vigbuso.specs.Pool.{poolOn, grantedOn}
+use Rattle.poolrefinement.specs.Run.{askOn}
 use Rattle.poolrefinement.specs.way.Represents.{PoolRep, StockRep}
 use Rattle.poolcalls.specs.HeapWords.{heapWord}
 use Rattle.poolrefinement.proofs.Whole.{pool-agrees}
@@ -58,7 +58,7 @@ use Rattle.poolrefinement.proofs.Runs.{stands}
 use Rattle.demands.specs.Call.{call}
 use Rattle.demands.specs.Run.{Opens, bookAfter}
 use Rattle.demands.specs.way.PoolStands.{PoolStands}
-use Rattle.demands.specs.Pool.{poolRun, poolBook, heard, poolHeard, poolTold, FreeAnswers, PoolAt, PoolDemand}
+use Rattle.demands.specs.Pool.{poolRun, poolBook, heard, poolHeard, poolTold, FreeAnswers, TrimAnswers, PoolAt, PoolDemand}
 use Rattle.demands.proofs.Calls.{room, no-fault, call-is}
 use Rattle.demands.proofs.Histories.{run-represents}
 use Rattle.demands.proofs.Told.{bare, bare-live, live-bare, bare-disjoint}
@@ -88,23 +88,14 @@ module _ (n : ℕ) (some-pages : 1 ≤ n) (few-pages : n ≤ maxPages) (rules : 
       let same : call b y .answer ≡ call e y .answer = ap (λ r. r .answer) u ∙ p .answer ∙ sym (q .answer) ∙ sym (ap (λ r. r .answer) v) in
       ap₂ (λ (a : Answer) (zs : List Answer). a ∷ zs) same (answers-same ys (made ++ y ∷ []) (call b y .book) (call e y .book) R₁ Q₁)
 
--- ---- a trim: the block that it answers was the stock's top
-record Leaves (n : ℕ) (P : Pool) (c w : ℕ) (o : Done) : Type 0 where
-  low : ltb c classCount ≡ true
-  top : P .stock c ≡ w ∷ o .pool .stock c
+-- an empty stock has COUNT 0, and a trim then leaves the book
+none-counted : (b : List ℕ) (c k : ℕ) → stockFrom b c k ≡ [] → k ≡ 0
+none-counted b c zero e = refl
+none-counted b c (suc k) e = let z : _≡_ {A = ℕ} 0 1 = cc in absurd (omega arith)
 
-top-leaves : (n : ℕ) (P : Pool) (c h w : ℕ) {p : Plan} → Planned c (P .heap .classes c) (P .stock c) (trim h) p → carry n P c (trim h) p .answer ≡ trimmed w → Leaves n P c w (carry n P c (trim h) p)
-unfolding carry ends
-top-leaves n P c h w (is-turned m) e = let z : _≡_ {A = ℕ} 0 1 = cc in absurd (omega arith)
-top-leaves n P c h w (is-bare y) e = let z : _≡_ {A = ℕ} 0 1 = cc in absurd (omega arith)
-top-leaves n P c h w (is-trimmed {w = v} {ws = ws} ok low y) e =
-    by-cases (isRefused (step n (P .heap) (callFor c (giveBack h (v ∷ []))) .answer))
-    (λ r. let u : refused (numberOf (step n (P .heap) (callFor c (giveBack h (v ∷ []))) .answer)) ≡ trimmed w = rw r at e in let z : _≡_ {A = ℕ} 0 1 = cc in absurd (omega arith))
-    (λ r.
-    let u : firstOf (P .stock c) ≡ trimmed w = rw r at e in
-    let f : trimmed v ≡ trimmed w = sym (ap firstOf y) ∙ u in
-    let same : v ≡ w = cc in
-    record { low = low; top = rw (r, eq-eqb c c refl) (y ∙ ap (λ x. x ∷ ws) same) })
+trim-still : (n : ℕ) (b : List ℕ) (c h : ℕ) → badHost h ≡ false → ltb c classCount ≡ true → stockIn b c ≡ [] → askOn n b c (trim h) .book ≡ b
+unfolding askOn trimOn
+trim-still n b c h ok low e = rw (ok, low, none-counted b c (countIn b c) e)
 
 module _ (n : ℕ) (rows b : List ℕ) (o : Opens n rows b) (xs : List PoolCall) where
   abbrev d : List ℕ
@@ -127,9 +118,6 @@ module _ (n : ℕ) (rows b : List ℕ) (o : Opens n rows b) (xs : List PoolCall)
 
   heap : Represents n d (heapAfter n (rulesOf rows) made)
   heap = stands n few (rulesOf rows) xs d rep
-
-  on : P .heap ≡ heapAfter n (rulesOf rows) made
-  on = on-heap n few (rulesOf rows) xs .heap
 
   -- a wish is answered as the model's
   answer-is : (c : ℕ) (x : Wish) → poolOn d c x .answer ≡ answerTo n (rulesOf rows) xs c x
@@ -160,13 +148,13 @@ module _ (n : ℕ) (rows b : List ℕ) (o : Opens n rows b) (xs : List PoolCall)
   stock-is c hc = rep .stocks c hc .same
 
   none-answers : (c h : ℕ) → badHost h ≡ false → ltb c classCount ≡ true
-      → (poolOn d c (alloc h) .answer ≡ noBlock) ↔ ((stockIn d c ≡ []) × Bare (heapAfter n (rulesOf rows) made .classes c) × (Arenas.commit n h (shapeOf c .pages) (loadArena d) .run ≡ none))
+      → (poolOn d c (alloc h) .answer ≡ noBlock) ↔ ((stockIn d c ≡ []) × Spent (events n (rulesOf rows) made) c × (Arenas.commit n h (shapeOf c .pages) (loadArena d) .run ≡ none))
   none-answers c h ok low =
       let a = answer-is c (alloc h) in
       let f = alloc-none n few (rulesOf rows) xs c h .none ok low in
       let runs = ap (λ g. Arenas.commit n h (shapeOf c .pages) g .run) (rep .heap .arena .loads) in (
-        (λ e. let t = f .0 (sym a ∙ e) in (stock-is c low ∙ t .0, subst (λ (H : Heap). Bare (H .classes c)) on (t .1), runs ∙ t .2)),
-        (λ t. a ∙ f .1 (sym (stock-is c low) ∙ t .0, subst (λ (H : Heap). Bare (H .classes c)) (sym on) (t .1), sym runs ∙ t .2)),
+        (λ e. let t = f .0 (sym a ∙ e) in (stock-is c low ∙ t .0, t .1, runs ∙ t .2)),
+        (λ t. a ∙ f .1 (sym (stock-is c low) ∙ t .0, t .1, sym runs ∙ t .2)),
       )
 
   -- the heap's test of a block
@@ -211,16 +199,21 @@ module _ (n : ℕ) (rows b : List ℕ) (o : Opens n rows b) (xs : List PoolCall)
             rw (no-fault n d (room n rows b o .some-pages) few (heapAfter n (rulesOf rows) made) heap, hc, k, sized, out-test c w hc k ∙ cons .out c w .1 (inl v), stock-test c w hc k ∙ cons .either c w v)),
       )
 
-  -- the stock after a trim
-  trim-stock : (c h w : ℕ) → poolOn d c (trim h) .answer ≡ trimmed w → stockIn d c ≡ w ∷ stockIn (poolOn d c (trim h) .book) c
-  unfolding poolStep
-  trim-stock c h w e =
-      let t = top-leaves n P c h w (planned c (P .heap .classes c) (P .stock c) (trim h)) (sym (answer-is c (trim h)) ∙ e) in
-      let same : stockIn (poolOn d c (trim h) .book) c ≡ poolStep n P (to c (trim h)) .pool .stock c
-      = ap (λ s. stockIn (s .book) c) (ask-is n (room n rows b o .some-pages) few d P rep c (trim h)) ∙ pool-agrees n few (rulesOf rows) xs d rep c (trim h) .pool .stocks c (t .low) .same in
-      stock-is c (t .low) ∙ t .top ∙ ap (λ s. w ∷ s) (sym same)
+  -- a trim
+  trim-answers : (c h : ℕ) → badHost h ≡ false → ltb c classCount ≡ true → TrimAnswers d c h
+  trim-answers c h ok low =
+      let a = answer-is c (trim h) in
+      let t = trims n few (rulesOf rows) xs c h ok low in
+      let asked = ask-is n (room n rows b o .some-pages) few d P rep c (trim h) in
+      let after : stockIn (poolOn d c (trim h) .book) c ≡ poolStep n P (to c (trim h)) .pool .stock c
+      = ap (λ s. stockIn (s .book) c) asked ∙ pool-agrees n few (rulesOf rows) xs d rep c (trim h) .pool .stocks c low .same in
+      record {
+        none = ((λ e. stock-is c low ∙ t .none .0 (sym a ∙ e)), (λ e. a ∙ t .none .1 (sym (stock-is c low) ∙ e)));
+        still = λ e. ap (λ s. s .book) asked ∙ trim-still n d c h ok low e;
+        top = λ w ws e. let v = t .top w ws (sym (stock-is c low) ∙ e) in (a ∙ v .0, after ∙ v .1);
+      }
 
-  holds-after : PoolAt n rows d xs (poolTold n rows b xs) made
+  holds-after : PoolAt n rows d (poolTold n rows b xs) made
   holds-after =
       let cons = conserved n few (rulesOf rows) xs in
       record {
@@ -240,7 +233,7 @@ module _ (n : ℕ) (rows b : List ℕ) (o : Opens n rows b) (xs : List PoolCall)
         class = λ c w u. granted-class d c w (granted-told c w .1 u);
         stocked = λ c hc. stocked-rep n d c (P .stock c) (rep .stocks c hc) (admitted c hc);
         few = λ c hc. few-rep n d c (P .stock c) (rep .stocks c hc);
-        trimmed = trim-stock;
+        trimmed = trim-answers;
       }
 
   trims-empty : (c h k : ℕ) → badHost h ≡ false → ltb c classCount ≡ true → length (stockIn d c) ≤ k → stockIn (poolBook n rows b (xs ++ replicate k (to c (trim h)))) c ≡ []

@@ -20,8 +20,8 @@ use Rattle.demands.specs.Parking.{goesTo}
 
 -- of a start without rows, an opening or a trace: "equality with the Rust is claimed for these alone" (document 02, A.9)
 pub record Equality (s : Start) : Type 0 where
-  -- as long as no given run touches a hole (A.4) and each hole that document 01's rules choose is the lowest page (A.8), each call is answered as
-  -- these rules answer it
+  -- as long as no given run that the total allows touches a hole (A.4) and each hole that document 01's rules choose is the lowest page (A.8), each
+  -- call is answered as these rules answer it
   pub answered : (xs : List Call) → Claimed (pages s) (calls s xs) → answersIn (replies s xs) ≡ originalAnswers (pages s) (calls s xs)
   -- whatever calls ys follow: "only for the calls before the first such choice"
   pub before : (xs ys : List Call) → Claimed (pages s) (calls s xs)

@@ -19,15 +19,15 @@ use Rattle.rules.specs.Rules.{rulesOf}
 use Rattle.model.specs.Calls.{Call, Named, names, isRefused}
 use Rattle.model.specs.Arena as Arenas
 use Rattle.model.specs.Release.{ofKind}
-use Rattle.model.specs.History.{Event, events, heapAfter}
+use Rattle.model.specs.History.{Event, events}
 use Rattle.model.specs.Entries.{OutIn}
+use Rattle.model.specs.Offered.{Spent}
 use Rattle.model.specs.Demands.{Disjoint}
 use Rattle.arena.specs.Load.{loadArena}
 use Rattle.calls.specs.Out.{outAt}
 use Rattle.pool.specs.Stock.{stockRoom}
 use Rattle.pool.specs.Pool.{PoolCall, PoolAnswer, Wish, Direct, to, direct, alloc, free, trim, callBy, answered, refused, trimmed, noBlock, freed}
 use Rattle.pool.specs.Told.{PoolEvent, toldOf, poolEvents, heapCalls, poolCallsOf, poolAnswersOf, poolRunsOf}
-use Rattle.pool.specs.Bare.{Bare}
 use Rattle.poolcalls.specs.Stock.{stockIn}
 use Rattle.poolcalls.specs.Calls.{Said, said}
 use Rattle.vigbuso.specs.Direct.{openOn}
@@ -69,15 +69,22 @@ pub record FreeAnswers (b : List ℕ) (vs : List Event) (c h w : ℕ) : Type 0 w
   pub kind : badHost h ≡ false → ltb c classCount ≡ true → ofKind (shapeOf c .kind) w ≡ false → poolOn b c (free h w) .answer ≡ refused 9
   pub stale : badHost h ≡ false → ltb c classCount ≡ true → ofKind (shapeOf c .kind) w ≡ true → (OutIn vs c w → ⊥) → poolOn b c (free h w) .answer ≡ refused 10
 
--- after the history xs, which left the book d and told vs; `made` are the heap's calls that it made
-pub record PoolAt (n : ℕ) (rows d : List ℕ) (xs : List PoolCall) (vs : List Event) (made : List Call) : Type 0 where
+-- a trim answers none exactly if the class has no block in stock, and then leaves the book; else it answers the stock's top, and leaves the others there
+pub record TrimAnswers (b : List ℕ) (c h : ℕ) : Type 0 where
+  pub none : (poolOn b c (trim h) .answer ≡ noBlock) ↔ (stockIn b c ≡ [])
+  pub still : stockIn b c ≡ [] → poolOn b c (trim h) .book ≡ b
+  pub top : (w : ℕ) (ws : List ℕ) → stockIn b c ≡ w ∷ ws → (poolOn b c (trim h) .answer ≡ trimmed w) × (stockIn (poolOn b c (trim h) .book) c ≡ ws)
+
+-- after a history that left the book d and told vs; `made` are the heap's calls that it made
+pub record PoolAt (n : ℕ) (rows d : List ℕ) (vs : List Event) (made : List Call) : Type 0 where
   -- two grants not yet freed share a byte exactly when they are the same grant; none shares a byte with a page held by hand
   pub disjoint : Disjoint vs
   pub frees : (c h w : ℕ) → FreeAnswers d vs c h w
-  -- an alloc answers none exactly if the class has no block in stock and no page that could yield one, and the arena no run for it
+  -- an alloc answers none exactly if the class has no block in stock, every block of every run of it is out by the heap's calls, and the arena has
+  -- no run for it
   pub none : (c h : ℕ) → badHost h ≡ false → ltb c classCount ≡ true
       → (poolOn d c (alloc h) .answer ≡ noBlock)
-      ↔ ((stockIn d c ≡ []) × Bare (heapAfter n (rulesOf rows) made .classes c) × (Arenas.commit n h (shapeOf c .pages) (loadArena d) .run ≡ none))
+      ↔ ((stockIn d c ≡ []) × Spent (events n (rulesOf rows) made) c × (Arenas.commit n h (shapeOf c .pages) (loadArena d) .run ≡ none))
   -- the heap's calls that the history makes are a history of document 01's calls, of which none that names a class is refused (`heapPart` below: the heap's
   -- part of the book is what they leave)
   pub made-done : All (λ v. isSome (names (v .call)) ≡ true → isRefused (v .answer) ≡ false) (events n (rulesOf rows) made)
@@ -93,12 +100,12 @@ pub record PoolAt (n : ℕ) (rows d : List ℕ) (xs : List PoolCall) (vs : List 
   pub granted : (c w : ℕ) → (grantedOn d c w ≡ true) ↔ OutIn vs c w
   pub class : (c w : ℕ) → OutIn vs c w → classOn d w ≡ c
   pub stocked : (c : ℕ) → ltb c classCount ≡ true → stockedOn d c ≡ length (stockIn d c)
-  -- no stock holds more than its room; a trim answers the block that leaves it, and leaves the others
+  -- no stock holds more than its room
   pub few : (c : ℕ) → ltb c classCount ≡ true → length (stockIn d c) ≤ stockRoom
-  pub trimmed : (c h w : ℕ) → poolOn d c (trim h) .answer ≡ trimmed w → stockIn d c ≡ w ∷ stockIn (poolOn d c (trim h) .book) c
+  pub trimmed : (c h : ℕ) → badHost h ≡ false → ltb c classCount ≡ true → TrimAnswers d c h
 
 pub record PoolDemand : Type 0 where
-  pub after : (n : ℕ) (rows b : List ℕ) → Opens n rows b → (xs : List PoolCall) → PoolAt n rows (poolBook n rows b xs) xs (poolTold n rows b xs) (heapCalls n (rulesOf rows) xs)
+  pub after : (n : ℕ) (rows b : List ℕ) → Opens n rows b → (xs : List PoolCall) → PoolAt n rows (poolBook n rows b xs) (poolTold n rows b xs) (heapCalls n (rulesOf rows) xs)
   -- each call answers what the pool's rules say
   pub rules : (n : ℕ) (rows b : List ℕ) → Opens n rows b → (xs : List PoolCall) → poolRun n rows b xs ≡ map (λ v. v .answer) (poolEvents n (rulesOf rows) xs)
   -- as many trims as there are blocks in stock, or more, leave none there: what is out then is granted

@@ -69,10 +69,13 @@ abbrev pub TrimRefuses : Type 0
 TrimRefuses = (b : List ℕ) (c h r : ℕ) (b′ : List ℕ) (w w′ : ℕ) → BlockEnds (poolOn b c (trim h)) r b′ w w′ → Refuses (trimTable b c h) r ((b′ ≡ b) × (w′ ≡ w))
 
 -- ---- the calls that only read refuse nothing; a table says when they have an answer
-abbrev pub lookEarly : List ℕ → ℕ → List Row
-lookEarly b c =
+abbrev pub bookTable : List ℕ → List Row
+bookTable b =
     let n = get b (arena size) in
-    (1, badLength n) ∷ (2, tooShort n b) ∷ (4, noClass classCount c) ∷ []
+    (1, badLength n) ∷ (2, tooShort n b) ∷ []
+
+abbrev pub lookEarly : List ℕ → ℕ → List Row
+lookEarly b c = bookTable b ++ (4, noClass classCount c) ∷ []
 
 -- what vigbuso_free asks of the block
 abbrev pub grantedTable : List ℕ → ℕ → ℕ → List Row
@@ -89,11 +92,12 @@ pub record StockedAnswer (b : List ℕ) (c r : ℕ) : Type 0 where
   pub counted : firstNumber (stockedTable b c) ≡ 0 → r ≡ countIn b c
   pub none : (firstNumber (stockedTable b c) ≡ 0 → ⊥) → r ≡ 0
 
--- a class that the block is granted in is its page's, by OWNER
+-- a class that the block is granted in is its page's, by OWNER; above all classes where the page has none, and on a book that 1 or 2 refuses
 pub record ClassAnswer (b : List ℕ) (w r : ℕ) : Type 0 where
   pub low : r ≤ classCount
   pub granted : (c : ℕ) → firstNumber (grantedTable b c w) ≡ 0 → r ≡ c
   pub owned : (c : ℕ) → firstNumber (lookEarly b c) ≡ 0 → (r ≡ c) ↔ ((pageAt w < get b (arena size)) × (get b (page owner (pageAt w)) ≡ suc c))
+  pub none : (firstNumber (bookTable b) ≡ 0 → ⊥) → r ≡ classCount
 
 pub record PoolDemand1 : Type 0 where
   pub alloc : AllocRefuses

@@ -1,4 +1,4 @@
--- Arenas that differ in the order of their holes alone answer alike, and go on differing in it alone.
+-- Arenas that differ in the order of their holes and in the three counts alone answer alike, and go on differing in these alone.
 use Prim.Native.Nat.{ℕ, _+_, _-_, _≤_, _<_}
 use mathlib.Core.Path.{_≡_, refl, sym, ap, _∙_, ap₂, subst}
 use mathlib.Core.List.{List, [], _∷_}
@@ -14,7 +14,7 @@ use Rattle.facts.specs.Lists.{All, total, isSome}
 use Rattle.facts.proofs.Bools.{by-cases, and-left, and-right}
 use Rattle.model.specs.Cover.{covers, coversAll}
 use Rattle.model.specs.HoleStore.{HoleStore, hole, holeAt, removeAt, cutFrom, takeAt, endsAt, startsAt, holeBefore, holeAfter, holeSlots, holePagesMax, insert, hasRoom, accepts}
-use Rattle.model.specs.Arena.{Arena, Status, unasked, ready, disabled, withStatus, withFrontier, more, counted, give, giveAll, given, drawFrom, draw, grant, commitReady, commitAs, commit, canGrow, grow}
+use Rattle.model.specs.Arena.{Arena, Status, unasked, ready, disabled, withStatus, withFrontier, counted, give, giveAll, given, drawFrom, draw, grant, commitReady, commitAs, commit, canGrow, grow}
 use Rattle.model.specs.Order.{isHole, SameHoles, SameArena, SameGiven, SameGrown}
 use Rattle.model.specs.Ledger.{above}
 use Rattle.model.proofs.Runs.{covers-in, above-cut}
@@ -195,9 +195,9 @@ module _ (n q : ℕ) (one : 1 ≤ n) (a b : Arena) (s : SameArena a b) (k : Soun
   give-same =
       by-cases (accepts n q (a .store))
       (λ e. let d : accepts n q (b .store) ≡ true = sym accepts-same ∙ e in
-      rw (e, d) (record { status = s .status; frontier = s .frontier; holes = λ x m. insert-same (λ h. num (isHole x m h)); total = ap (λ t. t + n) (s .total); commits = s .commits; reuses = s .reuses; abandoned = s .abandoned }))
+      rw (e, d) (record { status = s .status; frontier = s .frontier; holes = λ x m. insert-same (λ h. num (isHole x m h)); total = ap (λ t. t + n) (s .total) }))
       (λ e. let d : accepts n q (b .store) ≡ false = sym accepts-same ∙ e in
-      rw (e, d) (record { status = s .status; frontier = s .frontier; holes = s .holes; total = s .total; commits = s .commits; reuses = s .reuses; abandoned = ap more (s .abandoned) }))
+      rw (e, d) (record { status = s .status; frontier = s .frontier; holes = s .holes; total = s .total }))
 
 -- giving in turn, where no page is given that is idle
 pub give-all-same : (n : ℕ) → 1 ≤ n → (qs : List ℕ) (a b : Arena) → SameArena a b → Tidy (a .store) → ((x : ℕ) → idle x a + coversAll n qs x ≤ 1) → SameArena (giveAll n qs a) (giveAll n qs b)
@@ -250,9 +250,6 @@ module _ (size n : ℕ) (a b : Arena) (s : SameArena a b) where
           frontier = s .frontier;
           holes = λ q m. (let f : Hole → ℕ = λ h. num (isHole q m h) in omega (arith, sum f, take-sums n i (a .store) (k .inside) f, take-sums n j (b .store) (l .inside) f, ap f same, ap (restSum n f) same));
           total = take-total n i (a .store) ∙ ap (λ t. t - n) (s .total) ∙ sym (take-total n j (b .store));
-          commits = s .commits;
-          reuses = s .reuses;
-          abandoned = s .abandoned;
         };
       }
   from-same (at-hole i k w) (no-hole l) e = let z : _≡_ {A = ℕ} 0 1 = cc in absurd (omega arith)
@@ -263,7 +260,7 @@ module _ (size n : ℕ) (a b : Arena) (s : SameArena a b) where
       rw (d, d′) (record {
         run = ap some (s .frontier);
         fresh = refl;
-        arena = record { status = s .status; frontier = ap (λ f. f + n) (s .frontier); holes = s .holes; total = s .total; commits = s .commits; reuses = s .reuses; abandoned = s .abandoned };
+        arena = record { status = s .status; frontier = ap (λ f. f + n) (s .frontier); holes = s .holes; total = s .total };
       }))
       (λ d. let d′ : leb (b .frontier + n) size ≡ false = rw (s .frontier) at d in rw (d, d′) (same-given a b none false s))
 
@@ -273,10 +270,10 @@ module _ (size n : ℕ) (a b : Arena) (s : SameArena a b) where
 
 -- committing
 counted-same : (f : Bool) (a b : Arena) → SameArena a b → SameArena (counted f a) (counted f b)
-counted-same f a b s = record { status = s .status; frontier = s .frontier; holes = s .holes; total = s .total; commits = ap more (s .commits); reuses = ap (λ r. cond f r (more r)) (s .reuses); abandoned = s .abandoned }
+counted-same f a b s = record { status = s .status; frontier = s .frontier; holes = s .holes; total = s .total }
 
 status-same : (x : Status) (a b : Arena) → SameArena a b → SameArena (withStatus x a) (withStatus x b)
-status-same x a b s = record { status = refl; frontier = s .frontier; holes = s .holes; total = s .total; commits = s .commits; reuses = s .reuses; abandoned = s .abandoned }
+status-same x a b s = record { status = refl; frontier = s .frontier; holes = s .holes; total = s .total }
 
 module _ (size h n : ℕ) (one : 1 ≤ n) where
   grant-same : (a b : Arena) (o : Option ℕ) (f : Bool) → SameArena a b → Sound a → SameGiven (grant h n a o f) (grant h n b o f)
@@ -315,7 +312,7 @@ module _ (size h e n : ℕ) (one : 1 ≤ n) (a b : Arena) (s : SameArena a b) (k
   up x = withFrontier (e + n) x
 
   up-same : SameArena (up a) (up b)
-  up-same = record { status = s .status; frontier = refl; holes = s .holes; total = s .total; commits = s .commits; reuses = s .reuses; abandoned = s .abandoned }
+  up-same = record { status = s .status; frontier = refl; holes = s .holes; total = s .total }
 
   up-sound : canGrow size e n a ≡ true → Sound (up a)
   up-sound c = record { tidy = k .tidy; once = λ x. omega (arith, k .once x, above-cut n e x, ap (λ f. above f x) (eqb-true (a .frontier) e (and-left (eqb (a .frontier) e) (leb (e + n) size) c))) }

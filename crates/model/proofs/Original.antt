@@ -1,5 +1,5 @@
--- By document 01's own hole store each call is answered as by the model and leaves its heap, along every history in which no given run touches a
--- hole and each hole chosen is the lowest page.
+-- By document 01's own hole store each call is answered as by the model and leaves its heap, along every history in which no given run that the
+-- total allows touches a hole and each hole chosen is the lowest page.
 use Prim.Native.Nat.{ℕ, suc, _+_, _-_}
 use mathlib.Core.Path.{_≡_, refl, sym, ap, ap₂, _∙_, subst}
 use mathlib.Core.List.{List, [], _∷_, _++_, map}

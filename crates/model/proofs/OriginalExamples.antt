@@ -36,4 +36,4 @@ apart n q hs z y (inr t) = none-starts (q + n) hs y (t .0) (t .1)
 
 pub claimed-calls : Claimed 300 claimedCalls
 unfolding Holes.cutFrom Arenas.drawFrom Heaps.newHeap Heaps.heldDirect Heaps.badRun Calls.wayOf Holes.lowestThat Remembered.remember Remembered.stillHolds Remembered.leastAbove Remembered.choose Remembered.forget Remembered.hasSlot Remembered.give Remembered.drawBy Remembered.draw Remembered.grant Remembered.commitReady Remembered.commitAs Original.commitCall Original.releaseCall Original.directCall Original.step
-claimed-calls = (tt, ((apart 1 0 [] refl refl, tt), ((apart 2 4 (hole 0 1 ∷ []) refl refl, tt), (((λ e. omega arith, (λ e. omega arith, tt)), tt), ((apart 3 8 (hole 4 2 ∷ []) refl refl, tt), (((λ e. omega arith, (λ e. omega arith, tt)), tt), (((λ e. omega arith, tt), tt), (((λ e. omega arith, tt), tt), tt))))))))
+claimed-calls = (tt, ((λ l. apart 1 0 [] refl refl, tt), ((λ l. apart 2 4 (hole 0 1 ∷ []) refl refl, tt), (((λ e. omega arith, (λ e. omega arith, tt)), tt), ((λ l. apart 3 8 (hole 4 2 ∷ []) refl refl, tt), (((λ e. omega arith, (λ e. omega arith, tt)), tt), (((λ e. omega arith, tt), tt), (((λ e. omega arith, tt), tt), tt))))))))

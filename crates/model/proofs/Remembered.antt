@@ -1,5 +1,5 @@
 -- Document 01's choice of a hole is one of the least sufficient length; where it is the lowest page it is the model's. A given run that touches no
--- hole goes where the model puts it. So a call's part at the arena is the model's, memory aside.
+-- hole, or passes the total, goes where the model puts it. So a call's part at the arena is the model's, memory aside.
 use Prim.Native.Nat.{ℕ, _+_, _≤_, _<_}
 use mathlib.Core.Path.{_≡_, refl, sym, ap, _∙_}
 use mathlib.Core.List.{List, [], _∷_}
@@ -9,13 +9,12 @@ use mathlib.Core.Logic.{inl, inr}
 use native.Mathlib.Omega.{arith}
 use lib.Dec.{eqb, leb, ltb}
 use lib.ListN.{length}
-use borrow.Author.Tests.{eqb-true, eqb-false, eq-eqb, ltb-true, ltb-false, lt-ltb}
+use borrow.Author.Tests.{eqb-true, eqb-false, eq-eqb, leb-true, ltb-true, ltb-false, lt-ltb}
 use Rattle.facts.specs.Lists.{All, total}
 use Rattle.facts.proofs.Bools.{by-cases, and-left, and-right}
 use Rattle.words.specs.Host.{reservationGranted, commitGranted}
 use Rattle.model.specs.Cover.{covers}
 use Rattle.model.specs.declared.Hole.{Hole}
-use Rattle.model.specs.HoleStore as Stores
 use Rattle.model.specs.HoleStore.{hole, holeAt, setAt, endsAt, startsAt, holeSlots, holePagesMax, insert, place, accepts}
 use Rattle.model.specs.Arena as Arenas
 use Rattle.model.specs.Arena.{Status, unasked, ready, disabled, withStatus, withFrontier, drawFrom, canGrow}
@@ -155,11 +154,11 @@ module _ (hs : List Hole) (d : Apart hs) where
 
 -- ---- giving
 module _ (n q : ℕ) (s : State) where
-  gives : give n q s .acts ≡ gave (holesOf s) q n ∷ s .acts
+  gives : give n q s .acts ≡ gave (s .arena .store) q n ∷ s .acts
   unfolding give
   gives = by-cases (hasSlot n (s .arena .store)) (λ e. rw e) (λ e. rw e)
 
-  pub give-fine : All Alike (give n q s .acts) → (Touches n q (holesOf s) → ⊥) × All Alike (s .acts)
+  pub give-fine : All Alike (give n q s .acts) → Alike (gave (s .arena .store) q n) × All Alike (s .acts)
   give-fine f = rw gives at f
 
   no-before : (Touches n q (holesOf s) → ⊥) → {o : Option ℕ} → Found (endsAt q) (holesOf s) o → o ≡ none
@@ -170,11 +169,14 @@ module _ (n q : ℕ) (s : State) where
   no-after t (found j l e) = absurd (t (inr (j, (l, eqb-true (holeAt j (holesOf s) .first) (q + n) e))))
   no-after t (not-found z) = refl
 
-  pub give-same : (Touches n q (holesOf s) → ⊥) → give n q s .arena ≡ Arenas.give n q (s .arena)
+  pub give-same : Alike (gave (s .arena .store) q n) → give n q s .arena ≡ Arenas.give n q (s .arena)
   unfolding give hasSlot Arenas.give accepts insert place
-  give-same t =
+  give-same k =
+      by-cases (leb (s .arena .store .total + n) holePagesMax)
+      (λ l. let t = k (leb-true (s .arena .store .total + n) holePagesMax l) in
       rw (no-before t (finds (endsAt q) (holesOf s)), no-after t (finds (startsAt (q + n)) (holesOf s)))
-      (by-cases (leb (s .arena .store .total + n) holePagesMax && ltb (length (holesOf s)) holeSlots) (λ e. rw e) (λ e. rw e))
+      (by-cases (leb (s .arena .store .total + n) holePagesMax && ltb (length (holesOf s)) holeSlots) (λ e. rw e) (λ e. rw e)))
+      (λ l. rw l)
 
 pub gives-fine : (n : ℕ) (qs : List ℕ) (s : State) → All Alike (giveAll n qs s .acts) → All Alike (s .acts)
 gives-fine n [] s f = f

@@ -1,7 +1,8 @@
--- Heaps that differ in the order of their holes alone answer every call alike, along every history.
+-- Heaps that differ in the order of their holes and in the three counts alone answer every call alike, a report's counts aside, along every
+-- history.
 use Prim.Native.Nat.{ℕ, suc, _+_, _-_, _≤_}
 use mathlib.Core.Path.{_≡_, refl, ap, ap₂, subst}
-use mathlib.Core.List.{List, [], _∷_}
+use mathlib.Core.List.{List, [], _∷_, map}
 use mathlib.Core.Option.{Option}
 use mathlib.Core.Bool.{Bool, true, false, cond}
 use native.Mathlib.Omega.{arith}
@@ -21,7 +22,7 @@ use Rattle.model.specs.History.{eventsFrom, heapFrom, heapAfter}
 use Rattle.model.specs.Entries.{Entry}
 use Rattle.model.specs.Ledger.{classAbandons}
 use Rattle.model.specs.Demands.{Orderless}
-use Rattle.model.specs.Order.{SameArena, SameHeap, SameGiven, SameOutcome}
+use Rattle.model.specs.Order.{SameArena, SameHeap, SameGiven, SameOutcome, withoutCounts, countless}
 use Rattle.model.proofs.ArenaLaws.{idle, give-all-law}
 use Rattle.model.proofs.Tidy.{Tidy}
 use Rattle.model.proofs.Order.{Sound, give-same, give-all-same, commit-same, grow-same}
@@ -41,7 +42,7 @@ module _ (size : ℕ) (H : Heap) (b : Arena) (s : SameArena (H .arena) b) (k : S
   abbrev K : Heap
   K = with b H
 
-  same-unchanged : (x y : Answer) → x ≡ y → SameOutcome (unchanged H x) (unchanged K y)
+  same-unchanged : (x y : Answer) → countless x ≡ countless y → SameOutcome (unchanged H x) (unchanged K y)
   same-unchanged x y e = record { heap = record { arena = s; holder = refl; classes = refl; rules = refl }; answer = e; run = refl }
 
   same : (x : Answer) → SameOutcome (unchanged H x) (unchanged K x)
@@ -79,7 +80,7 @@ module _ (size : ℕ) (H : Heap) (b : Arena) (s : SameArena (H .arena) b) (k : S
   unfolding commitCall
   commit-call h n e =
       let w = commit-same size h n (good-run n e) (H .arena) b s k in
-      record { heap = record { arena = w .arena; holder = ap (λ o. passTo direct (coversRun n o) (H .holder)) (w .run); classes = refl; rules = refl }; answer = ap₂ answerRun (w .run) (w .fresh); run = refl }
+      record { heap = record { arena = w .arena; holder = ap (λ o. passTo direct (coversRun n o) (H .holder)) (w .run); classes = refl; rules = refl }; answer = ap₂ (λ o f. countless (answerRun o f)) (w .run) (w .fresh); run = refl }
 
   grow-call : (h q old new : ℕ) → badGrowth old new ≡ false → SameOutcome (growCall size H h q old new) (growCall size K h q old new)
   unfolding growCall
@@ -91,8 +92,8 @@ module _ (size : ℕ) (H : Heap) (b : Arena) (s : SameArena (H .arena) b) (k : S
   unfolding releaseCall
   release-call q n e = record { heap = record { arena = give-same n q (good-run n e) (H .arena) b s k; holder = refl; classes = refl; rules = refl }; answer = refl; run = refl }
 
-  figures-same : figures size H ≡ figures size K
-  figures-same = let c = s .commits in let r = s .reuses in let n = s .abandoned in let t = s .total in let f = s .frontier in cc
+  figures-same : withoutCounts (figures size H) ≡ withoutCounts (figures size K)
+  figures-same = let t = s .total in let f = s .frontier in cc
 
   contains-same : (o m : ℕ) → Arenas.contains size o m (H .arena) ≡ Arenas.contains size o m b
   unfolding Arenas.contains
@@ -145,18 +146,20 @@ module _ (size n : ℕ) (H : Heap) (es : List Entry) (f : ℕ → Bool) (l : ℕ
 
 -- along a history
 module _ (size : ℕ) where
-  events-same : (n : ℕ) (H : Heap) (es : List Entry) (f : ℕ → Bool) (l : ℕ → ℕ) → Inv size n H es f l → Tidy (H .arena .store) → (K : Heap) → SameHeap H K → (zs : List Call)
-      → (eventsFrom size H zs ≡ eventsFrom size K zs) × SameHeap (heapFrom size H zs) (heapFrom size K zs)
-  events-same n H es f l inv t K k [] = (refl, k)
-  events-same n H es f l inv t K k (z ∷ zs) =
+  record SameFrom (H K : Heap) (zs : List Call) : Type 0 where
+    alike : map (λ v. countless (v .answer)) (eventsFrom size H zs) ≡ map (λ v. countless (v .answer)) (eventsFrom size K zs)
+    runs : map (λ v. v .run) (eventsFrom size H zs) ≡ map (λ v. v .run) (eventsFrom size K zs)
+    stays : SameHeap (heapFrom size H zs) (heapFrom size K zs)
+
+  from-same : (n : ℕ) (H : Heap) (es : List Entry) (f : ℕ → Bool) (l : ℕ → ℕ) → Inv size n H es f l → Tidy (H .arena .store) → (K : Heap) → SameHeap H K → (zs : List Call) → SameFrom H K zs
+  from-same n H es f l inv t K k [] = record { alike = refl; runs = refl; stays = k }
+  from-same n H es f l inv t K k (z ∷ zs) =
       let w = step-same size n H es f l inv t K k z in
-      let ih = events-same (suc n) (step size H z .heap) _ _ _ (step-inv size n H es f l inv z) (tidy-step size H (once-inv inv) t z) (step size K z .heap) (w .heap) zs in
-      (ap₂ _∷_ (ap₂ (λ a r. record { call = z; answer = a; run = r }) (w .answer) (w .run)) (ih .0), ih .1)
+      let ih = from-same (suc n) (step size H z .heap) _ _ _ (step-inv size n H es f l inv z) (tidy-step size H (once-inv inv) t z) (step size K z .heap) (w .heap) zs in
+      record { alike = ap₂ _∷_ (w .answer) (ih .alike); runs = ap₂ _∷_ (w .run) (ih .runs); stays = ih .stays }
 
   pub orderless : (rules : Rules) (xs ys : List Call) → Orderless size rules xs ys
   orderless rules xs ys =
-      let i = kept size rules xs .inv in
-      record {
-        alike = λ k zs. events-same _ (heapAfter size rules xs) _ _ _ i (tidy-after size rules xs) (heapAfter size rules ys) k zs .0;
-        stays = λ k zs. events-same _ (heapAfter size rules xs) _ _ _ i (tidy-after size rules xs) (heapAfter size rules ys) k zs .1;
-      }
+      let same : SameHeap (heapAfter size rules xs) (heapAfter size rules ys) → (zs : List Call) → SameFrom (heapAfter size rules xs) (heapAfter size rules ys) zs
+      = λ k zs. from-same _ (heapAfter size rules xs) _ _ _ (kept size rules xs .inv) (tidy-after size rules xs) (heapAfter size rules ys) k zs in
+      record { alike = λ k zs. same k zs .alike; runs = λ k zs. same k zs .runs; stays = λ k zs. same k zs .stays }

@@ -2,7 +2,7 @@
 use Prim.Native.Nat.{ℕ, _+_, _*_, _/_, _≤_, _<_}
 use mathlib.Core.Path.{_≡_}
 use mathlib.Core.Logic.{_↔_}
-use mathlib.Core.List.{List, []}
+use mathlib.Core.List.{List, [], map}
 use mathlib.Core.Bool.{true, false}
 use mathlib.Core.Option.{some}
 use lib.ListN.{length}
@@ -24,7 +24,7 @@ use Rattle.model.specs.Held.{gained, lost, parkedAt, idleAt}
 use Rattle.model.specs.BestFit.{Commits}
 use Rattle.model.specs.HoleStore.{accepts}
 use Rattle.model.specs.Joining.{NoTwoTouch, HasRoom, JoinedWhere}
-use Rattle.model.specs.Order.{SameHeap}
+use Rattle.model.specs.Order.{SameHeap, countless}
 use Rattle.model.specs.Yields.{Listed, TakeYields}
 use Rattle.model.specs.Offered.{Spent, NonePartial, NoneListed, Virgin}
 use Rattle.model.specs.Heap.{newHeap}
@@ -41,10 +41,13 @@ pub record Joining (size : ℕ) (rules : Rules) (xs : List Call) : Type 0 where
   pub joinedWhere : (n q : ℕ) → 1 ≤ n → accepts n q (heapAfter size rules xs .arena .store) ≡ true
       → JoinedWhere n q (heapAfter size rules xs .arena .store .holes) (Arenas.give n q (heapAfter size rules xs .arena) .store .holes)
 
--- Document 02, A.8: where two histories lead to heaps that differ in the order of their holes alone, every further history is answered
--- alike, with the same runs, and they go on differing in it alone
+-- Document 02, A.8: where two histories lead to heaps that differ in the order of their holes and in the three counts alone, every further
+-- history is answered alike but for these counts in a report, with the same runs, and they go on differing in these alone
 pub record Orderless (size : ℕ) (rules : Rules) (xs ys : List Call) : Type 0 where
-  pub alike : SameHeap (heapAfter size rules xs) (heapAfter size rules ys) → (zs : List Call) → eventsFrom size (heapAfter size rules xs) zs ≡ eventsFrom size (heapAfter size rules ys) zs
+  pub alike : SameHeap (heapAfter size rules xs) (heapAfter size rules ys) → (zs : List Call)
+      → map (λ v. countless (v .answer)) (eventsFrom size (heapAfter size rules xs) zs) ≡ map (λ v. countless (v .answer)) (eventsFrom size (heapAfter size rules ys) zs)
+  pub runs : SameHeap (heapAfter size rules xs) (heapAfter size rules ys) → (zs : List Call)
+      → map (λ v. v .run) (eventsFrom size (heapAfter size rules xs) zs) ≡ map (λ v. v .run) (eventsFrom size (heapAfter size rules ys) zs)
   pub stays : SameHeap (heapAfter size rules xs) (heapAfter size rules ys) → (zs : List Call) → SameHeap (heapFrom size (heapAfter size rules xs) zs) (heapFrom size (heapAfter size rules ys) zs)
 
 -- Demand 2: "Each source is tried only if the earlier gave no block", so a take is empty only if the arena was asked and gave none

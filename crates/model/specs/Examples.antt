@@ -14,6 +14,7 @@ use Rattle.classes.specs.Examples as Lookups
 use Rattle.rules.specs.declared.Limits.{Limits}
 use Rattle.rules.specs.Rules.{limits, plainRules, rulesOf}
 use Rattle.model.specs.declared.Hole.{Hole}
+use Rattle.model.specs.declared.Figures.{Figures}
 use Rattle.model.specs.Calls.{Call, takeBlocks, mediumTakeBlocks, releaseBlocks, mediumReleaseBlocks, releaseBinChunks, commit, growFrontier, release, contains, report, Answer, refused, taken, fate, fates, run, noRun, released, grown, contained, reported}
 use Rattle.model.specs.HoleStore.{HoleStore, hole, store, takeAt, accepts}
 use Rattle.model.specs.Page.{Page, carveAs}
@@ -21,17 +22,19 @@ use Rattle.model.specs.Class.{newClass, lists, Ask, serve, takeFrom}
 use Rattle.model.specs.Release.{Settled, park}
 use Rattle.model.specs.Chunks.{releaseChunks}
 use Rattle.model.specs.Arena.{ready}
-use Rattle.model.specs.Heap.{Heap, nobody}
+use Rattle.model.specs.Heap.{Heap, nobody, step}
+use Rattle.model.specs.Order.{countless}
 use Rattle.model.specs.History.{answers, heapAfter, eventsFrom}
 
 -- what is told: the class of a size; of a history, each call's answer, and the holes stored after the last; an emptied run's fate, and
--- how many empty and cold ones its class then has; whether a given run is stored; or a class's answer that needs no arena
+-- how many empty and cold ones its class then has; whether a given run is stored; a class's answer that needs no arena; or two of these
 pub data Told : Type 0 where
   lookup : (class : Sized) → Told
   history : (answers : List Answer) (holes : List Hole) → Told
   parked : (fate empty cold : ℕ) → Told
   stored : Bool → Told
   answered : Answer → Told
+  both : (one other : Told) → Told
 
 pub record Example : Type 0 where
   pub found : Told
@@ -46,6 +49,22 @@ onRuled rows xs zs hs = record { found = history (answers 64 (rulesOf rows) xs) 
 
 abbrev pub onNewHeap : List Call → List Answer → List Hole → Example
 onNewHeap xs zs hs = onRuled [] xs zs hs
+
+-- after each of two histories the holes, a report, and what is answered to the same calls then, a report's three counts aside
+abbrev goneOn : List Call → List Call → Told
+goneOn xs zs =
+    let H = heapAfter 64 plainRules xs in
+    history (step 64 H report .answer ∷ map (λ v. countless (v .answer)) (eventsFrom 64 H zs)) (H .arena .store .holes)
+
+unfoldable pub onBoth : List Call → List Call → List Call → Figures → List Hole → Figures → List Hole → List Answer → Example
+onBoth xs ys zs f hs g gs rs = record { found = both (goneOn xs zs) (goneOn ys zs); expected = both (history (reported f ∷ rs) hs) (history (reported g ∷ rs) gs) }
+
+-- three holes; and the same, after one of them was taken and given back
+abbrev pub threeHoles : List Call
+threeHoles = commit 15 10 ∷ release 15 0 2 ∷ release 15 4 2 ∷ release 15 8 2 ∷ []
+
+abbrev pub usedLonger : List Call
+usedLonger = threeHoles ++ commit 15 2 ∷ release 15 0 2 ∷ []
 
 -- from a heap whose three counts are the highest that there are, with one hole, whose store says that it holds all the pages that a store may
 abbrev fullCounts : Heap
@@ -176,6 +195,12 @@ rules =
     -- and not a longer one with a lower page
     ∷ onNewHeap (commit 15 13 ∷ release 15 8 2 ∷ release 15 0 3 ∷ release 15 4 2 ∷ release 15 11 2 ∷ commit 15 2 ∷ commit 15 2 ∷ commit 15 1 ∷ [])
     (run 0 true ∷ released ∷ released ∷ released ∷ released ∷ run 4 false ∷ run 8 false ∷ run 11 false ∷ []) (hole 12 1 ∷ hole 0 3 ∷ [])
+    -- "Two machines with the same grid gave different placements after one had been used longer": with one more commit the holes stand in another
+    -- order, and a take, a commit and a report are answered alike
+    ∷ onBoth threeHoles usedLonger (take45 ∷ commit 15 2 ∷ report ∷ [])
+    (record { commits = 1; reuses = 0; abandoned = 0; held = 4; idle = 60; overlap = 0 }) (hole 0 2 ∷ hole 4 2 ∷ hole 8 2 ∷ [])
+    (record { commits = 2; reuses = 1; abandoned = 0; held = 4; idle = 60; overlap = 0 }) (hole 8 2 ∷ hole 4 2 ∷ hole 0 2 ∷ [])
+    (taken45 0 true ∷ run 4 false ∷ reported (record { commits = 0; reuses = 0; abandoned = 0; held = 7; idle = 57; overlap = 0 }) ∷ [])
     -- "A longer hole is cut at its front and keeps its index."
     ∷ onNewHeap (commit 15 9 ∷ release 15 0 5 ∷ release 15 6 2 ∷ commit 15 3 ∷ [])
     (run 0 true ∷ released ∷ released ∷ run 0 false ∷ []) (hole 3 2 ∷ hole 6 2 ∷ [])

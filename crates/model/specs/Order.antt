@@ -1,4 +1,5 @@
--- The order of the holes shows in no answer (document 02, A.8), as statements.
+-- The order of the holes shows in no answer, and how much a heap was used shows in a report's three counts alone (document 02, A.8), as
+-- statements.
 use Prim.Native.Nat.{ℕ}
 use mathlib.Core.List.{List}
 use mathlib.Core.Bool.{Bool, cond, _&&_}
@@ -6,6 +7,8 @@ use mathlib.Core.Path.{_≡_}
 use lib.Dec.{eqb}
 use Rattle.facts.specs.Lists.{total}
 use Rattle.model.specs.declared.Hole.{Hole}
+use Rattle.model.specs.declared.Figures.{Figures}
+use Rattle.model.specs.Calls.{Answer, refused, taken, fate, fates, run, noRun, released, grown, contained, reported}
 use Rattle.model.specs.Arena.{Arena, Given, Grown}
 use Rattle.model.specs.Heap.{Heap, Outcome}
 
@@ -16,15 +19,12 @@ isHole q n h = eqb (h .first) q && eqb (h .pages) n
 abbrev pub SameHoles : List Hole → List Hole → Type 0
 SameHoles hs gs = (q n : ℕ) → total (λ h. cond (isHole q n h) 1 0) hs ≡ total (λ h. cond (isHole q n h) 1 0) gs
 
--- two arenas, two heaps that differ in the order of their holes alone
+-- two arenas, two heaps that differ in the order of their holes and in the three counts alone: a heap that was used longer has counted more
 pub record SameArena (a b : Arena) : Type 0 where
   pub status : a .status ≡ b .status
   pub frontier : a .frontier ≡ b .frontier
   pub holes : SameHoles (a .store .holes) (b .store .holes)
   pub total : a .store .total ≡ b .store .total
-  pub commits : a .commits ≡ b .commits
-  pub reuses : a .reuses ≡ b .reuses
-  pub abandoned : a .abandoned ≡ b .abandoned
 
 pub record SameHeap (H K : Heap) : Type 0 where
   pub arena : SameArena (H .arena) (K .arena)
@@ -32,7 +32,23 @@ pub record SameHeap (H K : Heap) : Type 0 where
   pub classes : H .classes ≡ K .classes
   pub rules : H .rules ≡ K .rules
 
--- two commits, two growths, two calls that are answered alike, and differ afterwards in the order of holes alone
+-- an answer, a report's three counts left out
+abbrev pub withoutCounts : Figures → Figures
+withoutCounts f = record { commits = 0; reuses = 0; abandoned = 0; held = f .held; idle = f .idle; overlap = f .overlap }
+
+abbrev pub countless : Answer → Answer
+countless (refused n) = refused n
+countless (taken n l v) = taken n l v
+countless (fate n) = fate n
+countless (fates l) = fates l
+countless (run q f) = run q f
+countless noRun = noRun
+countless released = released
+countless (grown b) = grown b
+countless (contained b) = contained b
+countless (reported f) = reported (withoutCounts f)
+
+-- two commits, two growths, two calls that are answered alike, and go on differing in these alone
 pub record SameGiven (g d : Given) : Type 0 where
   pub run : g .run ≡ d .run
   pub fresh : g .fresh ≡ d .fresh
@@ -44,5 +60,5 @@ pub record SameGrown (g d : Grown) : Type 0 where
 
 pub record SameOutcome (o p : Outcome) : Type 0 where
   pub heap : SameHeap (o .heap) (p .heap)
-  pub answer : o .answer ≡ p .answer
+  pub answer : countless (o .answer) ≡ countless (p .answer)
   pub run : o .run ≡ p .run

@@ -1,9 +1,9 @@
 -- The heap by document 01's own hole store (specs/Remembered), and how far its answers are the model's. All that documents 01 and 02 say of classes,
 -- refusals and reports is the model's; only what is asked of the arena differs. No code reads this.
 --     step         one call by these rules: the heap, the memory, the answer, and what it did to the holes
---     Claimed      no given run touches a hole, and each hole chosen is the lowest page: here equality is claimed
+--     Claimed      no given run that the total allows touches a hole, and each hole chosen is the lowest page: here equality is claimed
 --     Equality     the answers are then the model's, call by call
-use Prim.Native.Nat.{ℕ, _+_, _-_}
+use Prim.Native.Nat.{ℕ, _+_, _-_, _≤_}
 use mathlib.Core.List.{List, [], _∷_, _++_}
 use mathlib.Core.Option.{none}
 use mathlib.Core.Bool.{false, cond, not}
@@ -15,6 +15,7 @@ use Rattle.rules.specs.Rules.{plainRules}
 use Rattle.model.specs.Cover.{covers, coversRun}
 use Rattle.model.specs.Calls as Calls
 use Rattle.model.specs.Calls.{Call, Answer, Request, Way, turned, straight, toClass, wayOf, hostOf, refused, released}
+use Rattle.model.specs.HoleStore.{holePagesMax}
 use Rattle.model.specs.Arena as Arenas
 use Rattle.model.specs.Class.{Ask, done, asks, serve}
 use Rattle.model.specs.Chunks.{answer}
@@ -123,10 +124,11 @@ abbrev pub originalHeap : ℕ → List Call → Heap
 originalHeap size xs = heapFrom size (newHeap plainRules) noMemory xs
 
 -- an act that document 02 leaves as it was. A.4, "histories in which no two holes would touch": the given run neither starts where a hole ends nor
--- ends where one starts. A.8, "Where the Rust would choose another equal hole": the one chosen has the lowest page of its length.
+-- ends where one starts, or it would pass the total, so that both abandon it. A.8, "Where the Rust would choose another equal hole": the one chosen
+-- has the lowest page of its length.
 abbrev pub Alike : Act → Type 0
 Alike (chose hs i) = Which hs i
-Alike (gave hs q n) = Touches n q hs → ⊥
+Alike (gave s q n) = s .total + n ≤ holePagesMax → Touches n q (s .holes) → ⊥
 
 -- the calls for which equality is claimed: all their acts are such
 abbrev pub Claimed : ℕ → List Call → Type 0

@@ -83,10 +83,10 @@ hasSlot n s = leb (s .total + n) holePagesMax && ltb (length (s .holes)) holeSlo
 abbrev pub append : ℕ → ℕ → HoleStore → HoleStore
 append n q s = store (s .holes ++ hole q n ∷ []) (s .total + n)
 
--- what was done to the holes hs: hole i was chosen, n pages from q on were given
+-- what was done: of the holes hs hole i was chosen; to the store s n pages from q on were given
 pub data Act : Type 0 where
   chose : (hs : List Hole) (i : ℕ) → Act
-  gave : (hs : List Hole) (q n : ℕ) → Act
+  gave : (s : HoleStore) (q n : ℕ) → Act
 
 -- the arena, its memory, and what the call did to the holes so far, newest first; no rule reads the last
 pub record State : Type 0 where
@@ -106,8 +106,8 @@ holesOf s = s .arena .store .holes
 unfoldable pub give : ℕ → ℕ → State → State
 give n q s =
     cond (hasSlot n (s .arena .store))
-    (state (withStore (append n q (s .arena .store)) (s .arena)) (remember n (some (length (holesOf s))) (s .memory)) (gave (holesOf s) q n ∷ s .acts))
-    (state (abandon (s .arena)) (s .memory) (gave (holesOf s) q n ∷ s .acts))
+    (state (withStore (append n q (s .arena .store)) (s .arena)) (remember n (some (length (holesOf s))) (s .memory)) (gave (s .arena .store) q n ∷ s .acts))
+    (state (abandon (s .arena)) (s .memory) (gave (s .arena .store) q n ∷ s .acts))
 
 abbrev pub giveAll : ℕ → List ℕ → State → State
 giveAll n [] s = s

@@ -1,12 +1,13 @@
--- A block out of the heap is granted or in stock, and each of these once; an alloc that answers none; trims that empty a stock.
+-- A block out of the heap is granted or in stock, and each of these once; an alloc that answers none; what a trim answers, and trims that empty a
+-- stock.
 use Prim.Native.Nat.{ℕ, zero, suc, _+_, _≤_}
 use mathlib.Core.Path.{_≡_, refl, sym, ap, _∙_, subst}
 use mathlib.Core.List.{List, [], _∷_, _++_}
 use mathlib.Core.Bool.{Bool, true, false}
-use mathlib.Core.Logic.{inl, inr}
+use mathlib.Core.Logic.{_↔_, inl, inr}
 use native.Mathlib.Omega.{arith}
 use lib.Dec.{ltb}
-use lib.ListN.{length, replicate}
+use lib.ListN.{length, drop, replicate}
 use borrow.Author.Tests.{eq-eqb}
 use Rattle.facts.specs.Lists.{count, distinct, elem}
 use Rattle.facts.proofs.Bools.{by-cases}
@@ -16,13 +17,16 @@ use Rattle.classes.specs.Shape.{shapeOf, classCount}
 use Rattle.classes.proofs.Shapes.{shape-sound}
 use Rattle.rules.specs.Rules.{Rules}
 use Rattle.model.specs.Entries.{Entry}
+use Rattle.model.specs.Heap.{Heap}
+use Rattle.model.specs.History.{events}
+use Rattle.model.specs.Offered.{Spent, NoneListed}
 use Rattle.model.specs.Yields.{Listed}
 use Rattle.model.proofs.Counts.{elem-count, count-elem, count-not}
 use Rattle.model.proofs.Sites.{here-out}
-use Rattle.model.proofs.Theorems.{yielding}
-use Rattle.pool.specs.Pool.{Pool, newPool, PoolCall, to, trim, poolStep, plan, planTrim, carry, ends}
+use Rattle.model.proofs.Theorems.{yielding, offered}
+use Rattle.pool.specs.Pool.{Pool, newPool, PoolCall, to, trim, poolStep, plan, planTrim, carry, ends, firstOf, noBlock}
 use Rattle.pool.specs.Told.{toldOf, poolEvents, poolFrom, poolAfter, heapCalls}
-use Rattle.pool.specs.way.Claims.{AllocNone, Conserved}
+use Rattle.pool.specs.way.Claims.{AllocNone, Trims, Conserved}
 use Rattle.pool.proofs.Kept.{PoolInv, PoolKept, pool-kept, call-kept, at-most}
 use Rattle.pool.proofs.Frees.{out-there, stock-out, gives, told-out, out-told, none-when}
 use Rattle.pool.proofs.OnHeap.{on-heap}
@@ -35,17 +39,28 @@ pool-append size P (x ∷ xs) ys = pool-append size (poolStep size P x .pool) xs
 pub listed-after : (size : ℕ) → size ≤ maxPages → (rules : Rules) (xs : List PoolCall) (c : ℕ) → Listed (shapeOf c) (poolAfter size rules xs .heap .classes c)
 listed-after size small rules xs c = subst (λ H. Listed (shapeOf c) (H .classes c)) (sym (on-heap size small rules xs .heap)) (yielding size rules (heapCalls size rules xs) .listed c)
 
+-- its lists are empty exactly if all its blocks are out by the heap's calls
+spent-after : (size : ℕ) → size ≤ maxPages → (rules : Rules) (xs : List PoolCall) (c : ℕ) → Spent (events size rules (heapCalls size rules xs)) c ↔ NoneListed (poolAfter size rules xs .heap .classes c)
+spent-after size small rules xs c =
+    let ys = heapCalls size rules xs in
+    subst (λ (H : Heap). Spent (events size rules ys) c ↔ NoneListed (H .classes c)) (sym (on-heap size small rules xs .heap)) (offered size rules ys .spent c)
+
 pub alloc-none : (size : ℕ) → size ≤ maxPages → (rules : Rules) (xs : List PoolCall) (c h : ℕ) → AllocNone size rules xs c h
-alloc-none size small rules xs c h = record { none = λ ok low. none-when size (poolAfter size rules xs) c h ok low (listed-after size small rules xs c) }
+alloc-none size small rules xs c h = record {
+  none = λ ok low.
+      let f = none-when size (poolAfter size rules xs) c h ok low (listed-after size small rules xs c) in
+      let u = spent-after size small rules xs c in
+      ((λ e. let t = f .0 e in (t .0, u .1 (t .1), t .2)), (λ t. f .1 (t .0, u .0 (t .1), t .2)));
+}
 
 -- ---- trims
-abbrev rest : List ℕ → List ℕ
-rest [] = []
-rest (w ∷ ws) = ws
-
-rest-few : (s : List ℕ) (k : ℕ) → length s ≤ suc k → length (rest s) ≤ k
+rest-few : (s : List ℕ) (k : ℕ) → length s ≤ suc k → length (drop 1 s) ≤ k
 rest-few [] k h = omega arith
 rest-few (w ∷ ws) k h = omega arith
+
+none-first : (s : List ℕ) → firstOf s ≡ noBlock → s ≡ []
+none-first [] e = refl
+none-first (w ∷ ws) e = let z : _≡_ {A = ℕ} 0 1 = cc in absurd (omega arith)
 
 none-few : (s : List ℕ) → length s ≤ 0 → s ≡ []
 none-few [] h = refl
@@ -53,16 +68,33 @@ none-few (w ∷ ws) h = absurd (omega arith)
 
 module _ (size : ℕ) (small : size ≤ maxPages) (c h : ℕ) (ok : badHost h ≡ false) (low : ltb c classCount ≡ true) where
   module _ (n k : ℕ) (P : Pool) (es gs : List Entry) (f : ℕ → Bool) (l : ℕ → ℕ) (K : PoolInv size n k P es gs f l) where
-    trimmed-left : (st : List ℕ) → P .stock c ≡ st → poolStep size P (to c (trim h)) .pool .stock c ≡ rest st
+    trimmed-left : (st : List ℕ) → P .stock c ≡ st → poolStep size P (to c (trim h)) .pool .stock c ≡ drop 1 st
     unfolding poolStep plan planTrim carry ends
     trimmed-left [] e = rw (ok, low, e, eq-eqb c c refl)
     trimmed-left (w ∷ ws) e = rw (ok, low, e, gives size small n k P es gs f l K c w h ok low (stock-out size small n k P es gs f l K c w ws e), eq-eqb c c refl)
+
+    trimmed-first : (st : List ℕ) → P .stock c ≡ st → poolStep size P (to c (trim h)) .answer ≡ firstOf st
+    unfolding poolStep plan planTrim carry ends
+    trimmed-first [] e = rw (ok, low, e)
+    trimmed-first (w ∷ ws) e = rw (ok, low, e, gives size small n k P es gs f l K c w h ok low (stock-out size small n k P es gs f l K c w ws e)) (ap firstOf e)
 
   trims-left : (j k : ℕ) (P : Pool) (gs : List Entry) (f : ℕ → Bool) → PoolKept size k P gs f → length (P .stock c) ≤ j → poolFrom size P (replicate j (to c (trim h))) .stock c ≡ []
   trims-left zero k P gs f K few = none-few (P .stock c) few
   trims-left (suc j) k P gs f K few =
       let e = trimmed-left (K .number) k P (K .entries) gs f (K .lost) (K .holds) (P .stock c) refl in
       trims-left j (suc k) (poolStep size P (to c (trim h)) .pool) _ _ (call-kept size (K .number) k P (K .entries) gs f (K .lost) (K .holds) (to c (trim h))) (rw e (rest-few (P .stock c) j few))
+
+pub trims : (size : ℕ) → size ≤ maxPages → (rules : Rules) (xs : List PoolCall) (c h : ℕ) → badHost h ≡ false → ltb c classCount ≡ true → Trims size rules xs c h
+trims size small rules xs c h ok low =
+    let P = poolAfter size rules xs in
+    let I = pool-kept size rules xs .kept .holds in
+    record {
+      none = (
+        (λ e. none-first (P .stock c) (sym (trimmed-first size small c h ok low _ _ P _ _ _ _ I (P .stock c) refl) ∙ e)),
+        trimmed-first size small c h ok low _ _ P _ _ _ _ I [],
+      );
+      top = λ w ws e. (trimmed-first size small c h ok low _ _ P _ _ _ _ I (w ∷ ws) e, trimmed-left size small c h ok low _ _ P _ _ _ _ I (w ∷ ws) e);
+    }
 
 -- ---- each once
 once-each : (s : List ℕ) → ((w : ℕ) → count w s ≤ 1) → distinct s ≡ true

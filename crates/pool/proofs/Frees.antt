@@ -31,6 +31,7 @@ use Rattle.model.specs.Heap.{Outcome, offer, step, classCall, interact, finish}
 use Rattle.model.specs.Entries.{Entry, OutIn}
 use Rattle.model.specs.History.{Event}
 use Rattle.model.specs.Yields.{Listed}
+use Rattle.model.specs.Offered.{NoneListed}
 use Rattle.model.proofs.Counts.{count-not}
 use Rattle.model.proofs.Fold.{liveFrom, live-in, in-live}
 use Rattle.model.proofs.EntryCounts.{is, is-self, in-total, counted}
@@ -41,7 +42,6 @@ use Rattle.pool.specs.Stock.{stockMost, blank}
 use Rattle.pool.specs.Pool.{Pool, PoolCall, Plan, Wish, to, alloc, free, turn, poolStep, carry, plan, planFree, planAlloc, isGranted, bring, ends, callFor, refused, noBlock, freed, trimmed}
 use Rattle.pool.specs.Told.{toldOf, poolEvents, poolAfter}
 use Rattle.pool.specs.way.Claims.{Frees, Unchanged}
-use Rattle.pool.specs.Bare.{Bare}
 use Rattle.pool.proofs.Kept.{PoolInv, pool-kept, at-most, grant-one}
 use Rattle.pool.proofs.Plans.{Planned, is-turned, is-popped, is-taken, is-put, is-given, is-bare, is-trimmed, planned, plan-low}
 use Rattle.pool.proofs.HeapCalls.{step-take, step-give, give-done, take-done, take-few, Within, take-within}
@@ -189,7 +189,7 @@ module _ (size h : ℕ) (a : Arena) (lim : Limits) (sh : Shape) (ok : Sound sh) 
 
 module _ (size : ℕ) (P : Pool) (c h : ℕ) (ok : badHost h ≡ false) (low : ltb c classCount ≡ true) (listed : Listed (shapeOf c) (P .heap .classes c)) where
   abbrev Nothing : Type 0
-  Nothing = (P .stock c ≡ []) × Bare (P .heap .classes c) × (Arenas.commit size h (shapeOf c .pages) (P .heap .arena) .run ≡ none)
+  Nothing = (P .stock c ≡ []) × NoneListed (P .heap .classes c) × (Arenas.commit size h (shapeOf c .pages) (P .heap .arena) .run ≡ none)
 
   blocks-are : blocksOf (took size P c h .answer)
       ≡ blocksFrom size h (P .heap .arena) (P .heap .rules c) (shapeOf c) (shape-sound c) (P .heap .classes c .partial) (P .heap .classes c .empty) (P .heap .classes c .cold) (P .heap .classes c .full)

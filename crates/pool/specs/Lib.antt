@@ -1,5 +1,4 @@
 pub mod Stock
 pub mod Pool
 pub mod Told
-pub mod Bare
 pub mod way

@@ -16,9 +16,9 @@ use Rattle.model.specs.Arena as Arenas
 use Rattle.model.specs.Release.{ofKind, outHere}
 use Rattle.model.specs.History.{events, heapAfter}
 use Rattle.model.specs.Entries.{OutIn}
+use Rattle.model.specs.Offered.{Spent}
 use Rattle.model.specs.Demands.{Disjoint}
-use Rattle.pool.specs.Bare.{Bare}
-use Rattle.pool.specs.Pool.{PoolCall, Wish, PoolAnswer, to, alloc, free, trim, poolStep, refused, noBlock, freed}
+use Rattle.pool.specs.Pool.{PoolCall, Wish, PoolAnswer, to, alloc, free, trim, poolStep, refused, trimmed, noBlock, freed}
 use Rattle.pool.specs.Told.{poolEvents, poolAfter, heapCalls, toldOf, poolCallsOf, poolAnswersOf, poolRunsOf}
 
 -- two grants not yet freed share a byte exactly when they are the same grant, and none has a byte of a page held by hand
@@ -44,12 +44,19 @@ pub record Frees (size : ℕ) (rules : Rules) (xs : List PoolCall) (c h w : ℕ)
   pub stale : badHost h ≡ false → ltb c classCount ≡ true → ofKind (shapeOf c .kind) w ≡ true → (OutIn (toldOf (poolEvents size rules xs)) c w → ⊥)
       → answerTo size rules xs c (free h w) ≡ refused 10
 
--- an alloc answers none exactly if the class has no block in stock, no page that could yield one, and the arena no run for it
+-- an alloc answers none exactly if the class has no block in stock, every block of every run of it is out by the heap's calls, and the arena
+-- has no run for it
 pub record AllocNone (size : ℕ) (rules : Rules) (xs : List PoolCall) (c h : ℕ) : Type 0 where
   pub none : badHost h ≡ false → ltb c classCount ≡ true
       → (answerTo size rules xs c (alloc h) ≡ noBlock)
-      ↔ ((poolAfter size rules xs .stock c ≡ []) × Bare (poolAfter size rules xs .heap .classes c)
+      ↔ ((poolAfter size rules xs .stock c ≡ []) × Spent (events size rules (heapCalls size rules xs)) c
       × (Arenas.commit size h (shapeOf c .pages) (poolAfter size rules xs .heap .arena) .run ≡ none))
+
+-- a trim answers none exactly if the class has no block in stock; else the stock's top, and leaves the others
+pub record Trims (size : ℕ) (rules : Rules) (xs : List PoolCall) (c h : ℕ) : Type 0 where
+  pub none : (answerTo size rules xs c (trim h) ≡ noBlock) ↔ (poolAfter size rules xs .stock c ≡ [])
+  pub top : (w : ℕ) (ws : List ℕ) → poolAfter size rules xs .stock c ≡ w ∷ ws
+      → (answerTo size rules xs c (trim h) ≡ trimmed w) × (poolStep size (poolAfter size rules xs) (to c (trim h)) .pool .stock c ≡ ws)
 
 -- a refused call changes nothing, and makes no call of the heap; its number is 3, 4, 9 or 10
 pub record Unchanged (size : ℕ) (rules : Rules) (xs : List PoolCall) (c : ℕ) (x : Wish) : Type 0 where
