@@ -172,7 +172,7 @@ module _ (sh : Shape) (lim : Limits) (s : Class) (h : ℕ) (ws gs fs : List ℕ)
     refused-eleven u t e = rw (listed, grouped, few, room, kinds, groupKinds, u, t, e)
 
 -- ---- on the words
-small-paged : (c : ℕ) → c < 64 → shapeOf c .pages ≡ 1
+pub small-paged : (c : ℕ) → c < 64 → shapeOf c .pages ≡ 1
 unfolding shapeOf smallShape
 small-paged c l = rw (lt-ltb c 64 l)
 
