@@ -4,12 +4,12 @@
 use Prim.Native.Nat.{ℕ, _+_, _≤_, _<_}
 use native.Mathlib.Omega.{arith}
 use mathlib.Core.Bool.{Bool, true, false, not, _&&_, _||_, false≢true}
-use mathlib.Core.List.{List, [], _∷_, map}
+use mathlib.Core.List.{List, [], _∷_, _++_, map}
 use mathlib.Core.Logic.{_↔_}
 use mathlib.Core.Option.{Option, none, some}
 use mathlib.Core.Path.{_≡_, refl, sym, ap, _∙_}
 use lib.Dec.{eqb, ltb}
-use lib.ListN.{length}
+use lib.ListN.{length, drop}
 use borrow.Author.Tests.{eq-eqb, eqb-true, eqb-false, not-false, ltb-false, le-ltb, lt-ltb}
 use Rattle.facts.specs.Lists.{isNil, filter, every, isSome, elem, distinct}
 use Rattle.facts.proofs.Bools.{by-cases, and-left, and-right, nor-left, nor-right}
@@ -27,7 +27,7 @@ use Rattle.model.specs.Calls.{Call, Named, names, isRefused}
 use Rattle.model.specs.Page.{isOut}
 use Rattle.model.specs.Class.{Class, serve}
 use Rattle.model.specs.Release.{Site, locate, ofKind, outHere, repeats}
-use Rattle.model.specs.Chunks.{chunksMax, startsAt, blocksOn, fitsOn, chunkFits, chunkedOn, chunked, releaseChunks, answer}
+use Rattle.model.specs.Chunks.{chunksMax, startsAt, blocksOn, fitsOn, chunkFits, chunkedOn, chunked, settleChunks, releaseChunks, answer}
 use Rattle.model.specs.Heap.{offer, finish, interact, classCall}
 use Rattle.model.specs.History.{heapAfter}
 use Rattle.model.specs.Entries.{AllOut}
@@ -110,20 +110,20 @@ module _ (sh : Shape) (ok : Sound sh) (s : Class) (good : GoodClass sh s) (once 
 
 -- all numbers after 3, on a class
 module _ (sh : Shape) (lim : Limits) (s : Class) (h : ℕ) (ws gs fs : List ℕ) (g : Option ℕ) where
-  record Tests : Type 0 where
-    listed : isNil ws ≡ false
-    grouped : isNil gs ≡ false
-    few : ltb chunksMax (length gs) ≡ false
-    room : ltb (length fs) (length gs) ≡ false
-    kinds : every (ofKind (sh .kind)) ws ≡ true
-    groupKinds : every (ofKind chunkKind) gs ≡ true
-    out : every (outHere sh s) ws ≡ true
-    single : distinct ws ≡ true
-    pages : distinct (map pageOf gs) ≡ true
-    counts : every (chunkFits sh s ws) gs ≡ true
-    present : every (chunked sh s gs) ws ≡ true
+  pub record Tests : Type 0 where
+    pub listed : isNil ws ≡ false
+    pub grouped : isNil gs ≡ false
+    pub few : ltb chunksMax (length gs) ≡ false
+    pub room : ltb (length fs) (length gs) ≡ false
+    pub kinds : every (ofKind (sh .kind)) ws ≡ true
+    pub groupKinds : every (ofKind chunkKind) gs ≡ true
+    pub out : every (outHere sh s) ws ≡ true
+    pub single : distinct ws ≡ true
+    pub pages : distinct (map pageOf gs) ≡ true
+    pub counts : every (chunkFits sh s ws) gs ≡ true
+    pub present : every (chunked sh s gs) ws ≡ true
 
-  chunks-tests : isRefused (serve (answer sh lim s (Calls.giveChunks h ws gs fs)) g .answer) ≡ false → Tests
+  pub chunks-tests : isRefused (serve (answer sh lim s (Calls.giveChunks h ws gs fs)) g .answer) ≡ false → Tests
   unfolding answer releaseChunks
   chunks-tests u =
       let p7 = passed s 7 (isNil ws || isNil gs) _ g u in
@@ -150,10 +150,14 @@ module _ (sh : Shape) (lim : Limits) (s : Class) (h : ℕ) (ws gs fs : List ℕ)
         present = and-right (every (chunkFits sh s ws) gs) (every (chunked sh s gs) ws) u11;
       }
 
-  tests-chunks : Tests → isRefused (serve (answer sh lim s (Calls.giveChunks h ws gs fs)) g .answer) ≡ false
+  -- its answer then
+  pub tests-fates : Tests → serve (answer sh lim s (Calls.giveChunks h ws gs fs)) g .answer ≡ Calls.fates (settleChunks sh lim h ws s gs .fates ++ drop (length gs) fs)
   unfolding answer releaseChunks
-  tests-chunks t =
+  tests-fates t =
       rw (t .listed, t .grouped, t .few, t .room, t .kinds, t .groupKinds, single-here sh s ws (t .out) (t .single), t .out, t .pages, t .counts, t .present)
+
+  tests-chunks : Tests → isRefused (serve (answer sh lim s (Calls.giveChunks h ws gs fs)) g .answer) ≡ false
+  tests-chunks t = ap isRefused (tests-fates t)
 
   -- the lists pass all tests before 15, and fail that of 15, of 10 or of 11
   module _ (listed : isNil ws ≡ false) (grouped : isNil gs ≡ false) (few : ltb chunksMax (length gs) ≡ false) (room : ltb (length fs) (length gs) ≡ false)
@@ -172,7 +176,7 @@ module _ (sh : Shape) (lim : Limits) (s : Class) (h : ℕ) (ws gs fs : List ℕ)
     refused-eleven u t e = rw (listed, grouped, few, room, kinds, groupKinds, u, t, e)
 
 -- ---- on the words
-small-paged : (c : ℕ) → c < 64 → shapeOf c .pages ≡ 1
+pub small-paged : (c : ℕ) → c < 64 → shapeOf c .pages ≡ 1
 unfolding shapeOf smallShape
 small-paged c l = rw (lt-ltb c 64 l)
 

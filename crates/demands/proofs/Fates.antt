@@ -30,6 +30,7 @@ use Rattle.model.specs.Release.{Site, inPartial, inFull, locate, parkIn, park, 
 use Rattle.model.specs.Chunks.{startsAt, answer}
 use Rattle.model.specs.Heap.{Heap, step, classCall, interact, finish, offer}
 use Rattle.model.specs.History.{Event, events, heapAfter}
+use Rattle.model.specs.Entries.{OutIn}
 use Rattle.model.specs.Offered.{blocksAt, HasRun}
 use Rattle.model.proofs.Counts.{count-append, elem-count, count-in, every-count, each-once, distinct-count}
 use Rattle.model.proofs.Pages.{outOf, beginsOn, is-out, return-moves, none-out-of}
@@ -40,9 +41,15 @@ use Rattle.model.proofs.Offers.{once, run-counted, out-counted, counted-out, ou
 use Rattle.refinement.proofs.Found.{Located, inList, inNone, located}
 use Rattle.demands.specs.Parking.{Empties}
 
+-- the stores are as they were while a page with blocks out is away
+pub beside : {t : Page → Bool} {s : Class} {x : Site} → Located t s (some x) → (length (x .without .empty) ≡ length (s .empty)) × (length (x .without .cold) ≡ length (s .cold))
+unfolding inPartial inFull
+beside (inList f k) = (refl, refl)
+beside (inNone f k) = (refl, refl)
+
 -- ---- one release of a class
 module _ (sh : Shape) (ok : Sound sh) (lim : Limits) (h : ℕ) where
-  in-fate : (s : Class) (p : Page) (t : Spot) → parkIn sh h s p t .fate ≡ fateOf sh t
+  pub in-fate : (s : Class) (p : Page) (t : Spot) → parkIn sh h s p t .fate ≡ fateOf sh t
   in-fate s p ToEmpty = refl
   in-fate s p ToCold = refl
   in-fate s p ToArena = refl
@@ -53,7 +60,7 @@ module _ (sh : Shape) (ok : Sound sh) (lim : Limits) (h : ℕ) where
     pub empty : length (site .without .empty) ≡ length (s .empty)
     pub cold : length (site .without .cold) ≡ length (s .cold)
     pub outs : every (λ w. isOut sh w (site .page)) ws ≡ true
-    pub once : distinct ws ≡ true
+    pub once : (w : ℕ) → count w ws ≤ 1
     pub is : a ≡ fate (settle sh lim h false ws site .fate)
 
   page-freed : (g : Option ℕ) (s : Class) (ws : List ℕ) (t : Page → Bool) (o : Option Site) → Located t s o → SiteLaws sh s o → distinct ws ≡ true
@@ -62,12 +69,8 @@ module _ (sh : Shape) (ok : Sound sh) (lim : Limits) (h : ℕ) where
   page-freed g s ws t none l law d u = absurd (true≢false u)
   page-freed g s ws t (some x) l law d u =
       by-cases (every (λ w. isOut sh w (x .page)) ws)
-      (λ e. let k = beside t s l in rw e (record { site = x; law = law; empty = k .0; cold = k .1; outs = e; once = d; is = refl }))
+      (λ e. let k = beside l in rw e (record { site = x; law = law; empty = k .0; cold = k .1; outs = e; once = λ w. distinct-count w ws d; is = refl }))
       (λ e. absurd (true≢false (rw e at u)))
-    where
-      beside : (t : Page → Bool) (s : Class) {x : Site} → Located t s (some x) → (length (x .without .empty) ≡ length (s .empty)) × (length (x .without .cold) ≡ length (s .cold))
-      beside t s (inList f k) = unfold inPartial in (refl, refl)
-      beside t s (inNone f k) = unfold inFull in (refl, refl)
 
   freed : (g : Option ℕ) (s : Class) → GoodClass sh s → (ws : List ℕ) → isRefused (serve (releaseList sh lim h s ws) g .answer) ≡ false → Freed s ws (serve (releaseList sh lim h s ws) g .answer)
   unfolding releaseList repeats onPage
@@ -90,7 +93,7 @@ module _ (sh : Shape) (ok : Sound sh) (lim : Limits) (h : ℕ) where
     p = f .site .page
 
     moves : (w : ℕ) → outOf sh w (returned ws p) + count w ws ≡ outOf sh w p
-    moves = return-moves sh ok ws p (f .law .page) (λ w. distinct-count w ws (f .once)) (λ w. every-count (λ v. isOut sh v p) w ws (f .outs))
+    moves = return-moves sh ok ws p (f .law .page) (f .once) (λ w. every-count (λ v. isOut sh v p) w ws (f .outs))
 
     fate-gone : noneOut sh (returned ws p) ≡ true → a ≡ fate (fateOf sh (spotOf sh lim (length (s .empty)) (length (s .cold))))
     unfolding settle park
@@ -150,33 +153,38 @@ module _ (size : ℕ) (limits : Rules) (xs : List Call) (c h : ℕ) (lim : Limit
   abbrev vs : List Event
   vs = events size limits xs
 
-  module _ (f : Freed sh (shape-sound c) lim h s ws a) (q v : ℕ) (has : HasRun c q vs) (listed : elem v ws ≡ true) (block : elem v (blocksAt sh q) ≡ true) where
+  module _ (f : Freed sh (shape-sound c) lim h s ws a) where
     abbrev page : Page
     page = f .site .page
 
-    same : page .first ≡ q
-    same =
-        let o = every-count (λ w. isOut sh w page) v ws (f .outs) (elem-count v ws listed) in
-        let z = beginsOn sh (shape-sound c) v in
-        two-runs sh (shape-sound c) (page .first) s (once size limits xs c) q z
-        (block-on sh (shape-sound c) v (page .first) (block-of sh (shape-sound c) v page (f .law .page) o)) (block-on sh (shape-sound c) v q block)
-        (weighed sh (shape-sound c) lim h s ws a f) (omega (arith, run-counted size limits xs c q has))
+    -- the run at q is the page's
+    module _ (q : ℕ) (run : page .first ≡ q) where
+      pub emptied-none : Empties vs c q ws → noneOut sh (returned ws page) ≡ true
+      emptied-none k =
+          listed-none sh (shape-sound c) lim h s ws a f (λ w o.
+          k w (rw (← run) (block-of sh (shape-sound c) w page (f .law .page) o))
+          (counted-out size limits xs c w (omega (arith, f .law .out-rest (outOf sh w), is-out sh (shape-sound c) w page o))))
 
-    emptied-none : Empties vs c q ws → noneOut sh (returned ws page) ≡ true
-    emptied-none k =
-        listed-none sh (shape-sound c) lim h s ws a f (λ w o.
-        k w (rw (← same) (block-of sh (shape-sound c) w page (f .law .page) o))
-        (counted-out size limits xs c w (omega (arith, f .law .out-rest (outOf sh w), is-out sh (shape-sound c) w page o))))
+      pub out-there : (w : ℕ) → elem w (blocksAt sh q) ≡ true → OutIn vs c w → 1 ≤ outOf sh w page
+      out-there w m o = here sh (shape-sound c) lim h s ws a f (once size limits xs c) w (rw run m) (out-counted size limits xs c w o)
 
-    none-emptied : noneOut sh (returned ws page) ≡ true → Empties vs c q ws
-    none-emptied e w m o =
-        none-listed sh (shape-sound c) lim h s ws a f e w (here sh (shape-sound c) lim h s ws a f (once size limits xs c) w (rw same m) (out-counted size limits xs c w o))
+      pub none-emptied : noneOut sh (returned ws page) ≡ true → Empties vs c q ws
+      none-emptied e w m o = none-listed sh (shape-sound c) lim h s ws a f e w (out-there w m o)
 
-    pub by-row : (Empties vs c q ws → a ≡ fate (fateOf sh (spotOf sh lim (length (s .empty)) (length (s .cold))))) × ((Empties vs c q ws → ⊥) → a ≡ fate keptFate)
-    by-row = (
-      λ k. fate-gone sh (shape-sound c) lim h s ws a f (emptied-none k),
-      λ k. by-cases (noneOut sh (returned ws page)) (λ e. absurd (k (none-emptied e))) (fate-stays sh (shape-sound c) lim h s ws a f),
-    )
+    module _ (q v : ℕ) (has : HasRun c q vs) (listed : elem v ws ≡ true) (block : elem v (blocksAt sh q) ≡ true) where
+      same : page .first ≡ q
+      same =
+          let o = every-count (λ w. isOut sh w page) v ws (f .outs) (elem-count v ws listed) in
+          let z = beginsOn sh (shape-sound c) v in
+          two-runs sh (shape-sound c) (page .first) s (once size limits xs c) q z
+          (block-on sh (shape-sound c) v (page .first) (block-of sh (shape-sound c) v page (f .law .page) o)) (block-on sh (shape-sound c) v q block)
+          (weighed sh (shape-sound c) lim h s ws a f) (omega (arith, run-counted size limits xs c q has))
+
+      pub by-row : (Empties vs c q ws → a ≡ fate (fateOf sh (spotOf sh lim (length (s .empty)) (length (s .cold))))) × ((Empties vs c q ws → ⊥) → a ≡ fate keptFate)
+      by-row = (
+        λ k. fate-gone sh (shape-sound c) lim h s ws a f (emptied-none q same k),
+        λ k. by-cases (noneOut sh (returned ws page)) (λ e. absurd (k (none-emptied q same e))) (fate-stays sh (shape-sound c) lim h s ws a f),
+      )
 
 -- a call that is such a release
 pub freed-by : (size : ℕ) (H : Heap) (x : Call) (c h : ℕ) (ws : List ℕ) → names x ≡ some (record { class = c; request = Calls.giveBack h ws }) → GoodClass (shapeOf c) (H .classes c)

@@ -1,14 +1,16 @@
 -- Document 02, A.3, on any book: no call but a take writes a word of marks, and a take makes it 0 where it does.
---     Keeps      every word of marks is as it was; Clears, as it was or 0
+--     Keeps          every word of marks is as it was; Clears, as it was or 0
+--     given-fits     a release that gives a run to the arena has tested HOLES, by which the holes are written; gives-tested, of groups
 use Prim.Native.Nat.{ℕ, zero, suc, _+_, _-_, _*_, _/_, _≤_, _<_}
 use native.Mathlib.Omega.{arith}
 use mathlib.Core.Bool.{Bool, true, false, cond, not, _&&_, _||_, true≢false, false≢true}
-use mathlib.Core.List.{List, [], _∷_, _++_, map}
+use mathlib.Core.List.{List, [], _∷_, map}
 use mathlib.Core.Logic.{_⊎_, inl, inr, ⊎-elim}
 use mathlib.Core.Option.{Option, none, some}
 use mathlib.Core.Path.{_≡_, refl, sym, ap, _∙_, subst, fun-ext}
 use lib.Dec.{eqb, ltb, leb}
-use lib.ListN.{length, getD, set}
+use lib.ListN.{length, drop, getD, set}
+use lib.Seq.{getD-set-other}
 use borrow.Author.Tests.{ltb-true, ltb-false, leb-true, leb-false, le-leb, lt-ltb, eqb-true, eqb-false, eq-eqb, ne-eqb, not-true, not-false}
 use Rattle.facts.specs.Lists.{isNil, All, every, filter, elem, distinct}
 use Rattle.facts.proofs.Bools.{by-cases, and-left, and-right, nor-left, nor-right}
@@ -18,9 +20,10 @@ use Rattle.classes.specs.declared.Shape.{Shape}
 use Rattle.classes.specs.Shape.{shapeOf}
 use Rattle.classes.specs.way.Sound.{Sound}
 use Rattle.classes.proofs.Shapes.{shape-sound}
+use Rattle.rules.specs.Rules.{rulesOf}
 use Rattle.fields.specs.Field as Fields
-use Rattle.fields.specs.Field.{ClassField, Field, next, prev, region, off, row, pageOff, first, arena, mark, class, hole, page, out, slot, size, state, frontier, holes, held, partial, empty, cold, get, put, same, words}
-use Rattle.fields.specs.Ranges.{metaFault, maxPages}
+use Rattle.fields.specs.Field.{ClassField, Field, next, prev, region, off, row, pageOff, first, arena, mark, class, hole, page, out, slot, size, state, frontier, holes, held, partial, empty, cold, get, put, same, ok, words}
+use Rattle.fields.specs.Ranges.{lengthFault, metaFault, maxPages}
 use Rattle.fields.specs.Clear.{clearOut, clearMarks}
 use Rattle.fields.proofs.Sound.{sound}
 use Rattle.fields.proofs.Laws.{get-put-other}
@@ -29,35 +32,38 @@ use Rattle.fields.proofs.Clear.{changes-clear}
 use Rattle.model.specs.Calls as Calls
 use Rattle.model.specs.Calls.{Call}
 use Rattle.model.proofs.ArenaTidy.{few-give}
-use Rattle.model.specs.Spot.{arenaFate}
+use Rattle.model.proofs.Counts.{filter-all}
+use Rattle.model.specs.Spot.{isArena, keptFate, arenaFate}
 use Rattle.model.specs.Release.{ofKind}
 use Rattle.model.specs.Chunks.{chunksMax}
 use Rattle.arena.specs.Load.{loadArena, loadStore}
 use Rattle.arena.specs.Fair.{recordFair, commitFair, growFair, giveFair}
 use Rattle.model.specs.Arena as Model
 use Rattle.model.specs.Heap.{badRun, badGrowth}
-use Rattle.model.specs.History.{heapAfter}
 use Rattle.model.specs.declared.Spot.{Spot}
 use Rattle.model.specs.declared.Spot.the-variants.{ToEmpty, ToCold, ToArena}
 use Rattle.arena.specs.Store.{storeArena}
 use Rattle.arena.specs.Owners.{own}
+use Rattle.arena.specs.Open as Open
+use Rattle.arena.specs.Open.{headWords, opened}
 use Rattle.arena.specs.Calls.{Committed, Done, commitFor, commitCall, growCall, releaseCall, heldDirect, given}
 use Rattle.arena.proofs.Frames.{loaded-length}
-use Rattle.pages.specs.Stack.{latest, draw, hasMore, marks, back, pageAt, indexOf, isBlock, blocksFrom}
+use Rattle.pages.specs.Stack.{latest, draw, hasMore, marks, pushed, back, pageAt, indexOf, isBlock, blocksFrom}
 use Rattle.pages.specs.Links.{link, unlink, stow, unstow, top, stored}
 use Rattle.pages.specs.Carve.{outWords, newRun, bareRun}
 use Rattle.pages.specs.Runs.{nameRun}
 use Rattle.pages.specs.declared.Park.{Park}
 use Rattle.pages.specs.declared.Park.the-variants.{Empty, Cold}
 use Rattle.pages.proofs.Downs.{small, every-below}
-use Rattle.pages.proofs.Marks.{marks-changes, marks-kept}
+use Rattle.pages.proofs.Marks.{isMark, length-marks, marks-changes, marks-kept}
 use Rattle.pages.proofs.Draws.{latest-below, draw-changes}
 use Rattle.pages.proofs.Frames.{changes-link, changes-unlink, changes-unstow, changes-stow, changes-name, changes-carve, changes-pushed}
 use Rattle.calls.specs.Take.{Took, tookNone, walk, parkFair, fillFrom, unlistSpent, filled, fromPartial, fromPark, onRun, takeNew, takeBlocks, takeCall}
 use Rattle.pages.specs.Fair.{headerFair}
-use Rattle.calls.specs.Out.{startOf, outIn, inRunOf, outAt, unmarked, repeats, outFault}
-use Rattle.calls.specs.Release.{Released, firstOf, releaseFair, giveBackAt, lastStep, releaseBlocks, pageFair, spotAt, parkAt, parkedIn, unlisted, relisted, emptied, leaves, placed}
+use Rattle.calls.specs.Out.{startOf, outIn, inRunOf, outAt, outFault}
+use Rattle.calls.specs.Release.{Released, released, firstOf, releaseFair, giveBackAt, lastStep, releaseBlocks, pageFair, rowFair, spotFair, spotAt, parkAt, parkedIn, unlisted, relisted, emptied, leaves, placed}
 use Rattle.calls.specs.Chunks.{blocksOn, chunkFits, chunksMatch, chunksFair, releaseChunks, chunkBackAt, settleChunks, giveRuns}
+use Rattle.calls.proofs.Out.{passed}
 use Rattle.take.specs.way.TakePlan.{TakeAsks, ParkedAsks, TakeRunAsks, walksFrom, woken}
 use Rattle.take.proofs.TakePages.{positive}
 use Rattle.take.proofs.Walk.{stops, walk-step}
@@ -65,21 +71,32 @@ use Rattle.take.proofs.Fill.{turned, length-map}
 use Rattle.take.proofs.TakeParked.{woken-asks, woken-walks}
 use Rattle.take.proofs.TakeGranted.{commit-granted}
 use Rattle.take.proofs.TakeSteps.{linked-asks, linked-walks}
+use Rattle.release.proofs.Spots.{arena-alone}
+use Rattle.release.proofs.OutLaws.{start-of-out}
+use Rattle.release.proofs.BackSteps.{onStack, push-changes, free-now}
+use Rattle.chunks.specs.way.Pass.{cleared, pushAll}
+use Rattle.chunks.specs.way.GiveAsks.{givesFair}
+use Rattle.chunks.specs.way.CallAsks.{PassAsks}
+use Rattle.chunks.proofs.Gather.{gathered}
+use Rattle.chunks.proofs.GatherGives.{gives-in}
+use Rattle.chunks.proofs.CallTests.{fair-pages}
+use Rattle.chunks.proofs.CallPasses.{settle-next}
+use Rattle.trace.specs.Words.{traceOn}
 use Rattle.vigbuso.specs.Faults.{callFault, classFault}
 use Rattle.vigbuso.specs.Direct as Direct
-use Rattle.vigbuso.specs.Direct.{commitOn, growOn}
+use Rattle.vigbuso.specs.Direct.{openFault, openOn, commitOn, growOn}
 use Rattle.vigbuso.specs.Blocks as Blocks
 use Rattle.vigbuso.specs.Blocks.{takeOn, chunksOn}
 use Rattle.refinement.specs.Run.{bookFrom}
-use Rattle.refinement.proofs.ArenaFair.{loads-number}
-use Rattle.refinement.proofs.ArenaReached.{reached-after}
 use Rattle.refinement.proofs.ArenaStore.{store-written}
 use Rattle.refinement.proofs.ArenaFrames.{isStep, committed-changes, grown-changes, given-changes, own-changes}
+use Rattle.refinement.proofs.OpenRep.{ruled-changes}
 use Rattle.demands.specs.Call.{call}
-use Rattle.demands.specs.Start.{Start, pages, rules, begun, Starts, calls, bookAfter}
+use Rattle.demands.specs.Start.{Start, opening, trace, pages, ruleRows, lent, Starts, calls, bookAfter}
 use Rattle.demands.specs.Marks.{isTake, LeftOrZero, MarksStay}
-use Rattle.demands.proofs.Histories.{book-split}
-use Rattle.demands.proofs.Starts.{represents}
+use Rattle.demands.proofs.Calls.{room-plain, opens}
+use Rattle.demands.proofs.ChunkReturns.{small-paged}
+use Rattle.demands.proofs.Starts.{as-opening}
 
 -- ---- one word
 abbrev notMark : Field → Bool
@@ -133,11 +150,22 @@ clear-clears b q zero h = keeps-clears (changes-none notMark b)
 clear-clears b q (suc m) h = clears-then (clear-clears b q m (omega arith)) (put-clears (clearMarks b q m) q m (omega arith))
 
 -- ---- the arena
+-- what is tested before the arena is written
+record-fits : (n : ℕ) (b : List ℕ) → recordFair n b ≡ true → get b (arena holes) ≤ 4096
+unfolding recordFair
+record-fits n b e =
+    leb-true (get b (arena holes)) 4096 (and-left (leb (get b (arena holes)) 4096) _ (and-right (leb (get b (arena frontier)) n) _ (and-right (leb (get b (arena state)) 2) _ e)))
+
+give-fits : (n : ℕ) (b : List ℕ) (m : ℕ) → giveFair n b m ≡ true → get b (arena holes) ≤ 4096
+unfolding giveFair
+give-fits n b m e = record-fits n b (and-left (recordFair n b) _ e)
+
+loaded-few : (b : List ℕ) → get b (arena holes) ≤ 4096 → length (loadArena b .store .holes) ≤ 4096
+unfolding loadArena loadStore
+loaded-few b f = omega (arith, loaded-length b 0 (get b (arena holes)))
+
 fair-few : (n : ℕ) (b : List ℕ) → recordFair n b ≡ true → length (loadArena b .store .holes) ≤ 4096
-unfolding recordFair loadArena loadStore
-fair-few n b e =
-    let h = and-left (leb (get b (arena holes)) 4096) _ (and-right (leb (get b (arena frontier)) n) _ (and-right (leb (get b (arena state)) 2) _ e)) in
-    omega (arith, loaded-length b 0 (get b (arena holes)), leb-true (get b (arena holes)) 4096 h)
+fair-few n b e = loaded-few b (record-fits n b e)
 
 module _ (n : ℕ) (b : List ℕ) where
   commit-keeps : (h m w : ℕ) → Keeps b (commitFor n b h m w .book)
@@ -351,18 +379,17 @@ pages-mark (page k p) e = refl
 pages-mark (out p i) e = refl
 pages-mark (slot p i) e = refl
 
+pages-keep : (b b′ : List ℕ) → Changes inPages b b′ → Keeps b b′
+pages-keep b b′ h = changes-mono inPages notMark b b′ pages-mark h
+
 pages-stay : (b b′ : List ℕ) → get b (arena holes) ≤ 4096 → Changes inPages b b′ → Stays b b′
-pages-stay b b′ f h = record { keeps = changes-mono inPages notMark b b′ pages-mark h; fits = rw (h .kept (arena holes) refl refl) f }
+pages-stay b b′ f h = record { keeps = pages-keep b b′ h; fits = rw (h .kept (arena holes) refl refl) f }
 
 stays-none : (b : List ℕ) → get b (arena holes) ≤ 4096 → Stays b b
 stays-none b f = record { keeps = changes-none notMark b; fits = f }
 
 stays-then : {a b c : List ℕ} → Stays a b → Stays b c → Stays a c
 stays-then {a} {b} {c} h k = record { keeps = changes-trans notMark a b c (h .keeps) (k .keeps); fits = k .fits }
-
-loaded-few : (b : List ℕ) → get b (arena holes) ≤ 4096 → length (loadArena b .store .holes) ≤ 4096
-unfolding loadArena loadStore
-loaded-few b f = omega (arith, loaded-length b 0 (get b (arena holes)))
 
 module _ (n : ℕ) where
   given-stays : (b : List ℕ) → leb (words n) (length b) ≡ true → get b (arena holes) ≤ 4096 → (q m : ℕ) → Stays b (given b q m)
@@ -378,6 +405,14 @@ module _ (n : ℕ) where
   runs-stay : (b : List ℕ) → leb (words n) (length b) ≡ true → get b (arena holes) ≤ 4096 → (m : ℕ) (qs : List ℕ) → Stays b (giveRuns b m qs)
   runs-stay b hb f m [] = stays-none b f
   runs-stay b hb f m (q ∷ qs) = let s = given-stays b hb f q m in stays-then s (runs-stay (given b q m) (rw (s .keeps .long) hb) (s .fits) m qs)
+
+  -- where there are runs to give, the record was tested
+  runs-keep : (b : List ℕ) → leb (words n) (length b) ≡ true → (m : ℕ) → m ≡ 1 → (qs : List ℕ) → givesFair n b (length qs * m) ≡ true → Keeps b (giveRuns b m qs)
+  unfolding givesFair
+  runs-keep b hb m one [] f = changes-none notMark b
+  runs-keep b hb m one (q ∷ qs) f =
+      let some : eqb (suc (length qs) * m) 0 ≡ false = ne-eqb (suc (length qs) * m) 0 (λ e. let z : suc (length qs) * 1 ≡ 0 = rw one at e in omega arith) in
+      runs-stay b hb (give-fits n b (suc (length qs) * m) (rw some at f)) m (q ∷ qs) .keeps
 
 -- ---- the groups of a release in turn
 blocks-fine : Shape → List ℕ → ℕ → Bool
@@ -434,14 +469,6 @@ module _ (c : ℕ) (hc : ltb c 76 ≡ true) (sh : Shape) (few : sh .capacity ≤
 
 -- ---- what the tests say
 module _ (n : ℕ) (b : List ℕ) (c : ℕ) (sh : Shape) (few : sh .capacity ≤ 4096) where
-  out-all : (ws : List ℕ) → eqb (outFault n b c sh ws) 0 ≡ true → every (outAt n b c sh) ws ≡ true
-  unfolding outFault
-  out-all ws e =
-      by-cases (every (outAt n b c sh) ws) (λ o. o)
-      (λ o. absurd (by-cases (unmarked n b c sh ws)
-      (λ u. by-cases (repeats n b c sh ws) (λ r. false≢true (rw (u, r) at e)) (λ r. false≢true (rw (u, r, o) at e)))
-      (λ u. false≢true (rw u at e))))
-
   all-fine : (ws : List ℕ) → every (outAt n b c sh) ws ≡ true → every (blocks-fine sh b) ws ≡ true
   unfolding blocks-fine outAt outIn
   all-fine [] e = refl
@@ -457,20 +484,55 @@ module _ (n : ℕ) (b : List ℕ) (c : ℕ) (sh : Shape) (few : sh .capacity ≤
       omega (arith, leb-true (get b (page Fields.carved q)) (sh .capacity) (and-left _ _ p), leb-true (get b (page Fields.free q) + m) (get b (page Fields.carved q)) (and-left _ _ r))
 
 -- ---- the releases
-module _ (n : ℕ) (b : List ℕ) (hb : leb (words n) (length b) ≡ true) (fit : get b (arena holes) ≤ 4096) (c : ℕ) (hc : ltb c 76 ≡ true) (sh : Shape) (few : sh .capacity ≤ 4096) (h : ℕ) where
+module _ (n : ℕ) (small-arena : n ≤ maxPages) (b : List ℕ) (hb : leb (words n) (length b) ≡ true) (c : ℕ) (hc : ltb c 76 ≡ true) (sh : Shape) (sd : Sound sh) (h : ℕ) where
+  few : sh .capacity ≤ 4096
+  few = sd .few
+
   abbrev q-of : List ℕ → ℕ
   q-of ws = startOf b (firstOf ws)
 
-  filter-all : (t : ℕ → Bool) (ws : List ℕ) → every t ws ≡ true → filter t ws ≡ ws
-  filter-all t [] e = refl
-  filter-all t (w ∷ ws) e = rw (and-left (t w) _ e) (ap (λ vs. w ∷ vs) (filter-all t ws (and-right (t w) _ e)))
+  first-low : (ws : List ℕ) → isNil ws ≡ false → every (outAt n b c sh) ws ≡ true → q-of ws < n
+  first-low [] e o = absurd (true≢false e)
+  first-low (w ∷ ws) e o = start-of-out n c sh sd b w (and-left (outAt n b c sh w) _ o)
 
-  last-keeps : (q : ℕ) (r : Released) → Changes inPages b (r .book) → Keeps b (lastStep sh q r .book)
-  last-keeps q r k =
-      let s = pages-stay b (r .book) fit k in
+  -- a run that goes to the arena is one for which the record was tested
+  given-fits : (q : ℕ) (is : List ℕ) → q < n → every small is ≡ true → get b (page Fields.free q) + length is ≤ 4096 → (m : ℕ) → length is ≡ m → releaseFair n b c sh m q ≡ true
+      → placed false (back b q is) c sh h q .fate ≡ arenaFate → get b (arena holes) ≤ 4096
+  unfolding releaseFair spotFair parkAt back
+  given-fits q is low s l m k f e = by (pushed (marks b q 0 is) q is) refl _ refl e
+    where
+      free-was : get (marks b q 0 is) (page Fields.free q) ≡ get b (page Fields.free q)
+      free-was = marks-kept b q 0 is s (page Fields.free q) refl refl
+
+      room : get (marks b q 0 is) (page Fields.free q) + length is ≤ 4096
+      room = rw free-was l
+
+      same : (g : Field) → ok g ≡ true → isMark g ≡ false → onStack g ≡ false → get (pushed (marks b q 0 is) q is) g ≡ get b g
+      same g o u v = push-changes (marks b q 0 is) q is room .kept g o v ∙ marks-kept b q 0 is s g o u
+
+      spot : spotAt (pushed (marks b q 0 is) q is) c sh ≡ spotAt b c sh
+      spot = rw (same (class Fields.emptyCount c) hc refl refl, same (class Fields.coldCount c) hc refl refl, same (class Fields.emptyLimit c) hc refl refl, same (class Fields.coldLimit c) hc refl refl)
+
+      free-is : get (pushed (marks b q 0 is) q is) (page Fields.free q) ≡ get b (page Fields.free q) + length is
+      free-is = free-now (marks b q 0 is) q is room (omega (arith, length-marks b q 0 is, leb-true (words n) (length b) hb)) ∙ ap (λ x. x + length is) free-was
+
+      by : (d : List ℕ) → d ≡ pushed (marks b q 0 is) q is → (t : Bool) → eqb (get d (page Fields.carved q)) (get d (page Fields.free q)) ≡ t
+          → cond t (parkAt d c sh h q) (released (relisted d c q) keptFate) .fate ≡ arenaFate → get b (arena holes) ≤ 4096
+      by d z true x y =
+          let u : get d (page Fields.free q) ≡ get b (page Fields.free q) + length is = rw z free-is in
+          let v : get d (page Fields.carved q) ≡ get b (page Fields.carved q) = rw z (same (page Fields.carved q) refl refl refl) in
+          let w : spotAt d c sh ≡ spotAt b c sh = rw z spot in
+          let g : isArena (spotAt b c sh) ≡ true = ap isArena (sym w) ∙ arena-alone sh (spotAt d c sh) y in
+          let a : eqb (get b (page Fields.free q) + m) (get b (page Fields.carved q)) ≡ true = eq-eqb (get b (page Fields.free q) + m) (get b (page Fields.carved q)) (omega (arith, eqb-true (get d (page Fields.carved q)) (get d (page Fields.free q)) x)) in
+          give-fits n b (sh .pages) (rw (a, g) at (and-right (rowFair b c) _ (and-right (pageFair b sh m q) _ (and-right (leb (get b (arena frontier)) n) _ f))))
+      by d z false x y = absurd (omega (arith, y))
+
+  last-keeps : (q : ℕ) (r : Released) → Changes inPages b (r .book) → (r .fate ≡ arenaFate → get b (arena holes) ≤ 4096) → Keeps b (lastStep sh q r .book)
+  last-keeps q r k fit =
       by-cases (eqb (r .fate) arenaFate)
-      (λ e. rw e (changes-trans notMark b (r .book) _ (s .keeps) (given-stays n (r .book) (rw (k .long) hb) (s .fits) q (sh .pages) .keeps)))
-      (λ e. rw e (s .keeps))
+      (λ e. let s = pages-stay b (r .book) (fit (eqb-true (r .fate) arenaFate e)) k in
+      rw e (changes-trans notMark b (r .book) _ (s .keeps) (given-stays n (r .book) (rw (k .long) hb) (s .fits) q (sh .pages) .keeps)))
+      (λ e. rw e (pages-keep b (r .book) k))
 
   list-keeps : (ws : List ℕ) → Keeps b (releaseBlocks n b c sh h ws .book)
   unfolding releaseBlocks releaseFair giveBackAt
@@ -482,10 +544,12 @@ module _ (n : ℕ) (b : List ℕ) (hb : leb (words n) (length b) ≡ true) (fit 
       by-cases (eqb (outFault n b c sh ws) 0) (λ e₃.
       by-cases (every (λ w. eqb (startOf b w) (q-of ws)) ws) (λ e₄.
       by-cases (releaseFair n b c sh (length ws) (q-of ws)) (λ e₅.
-      let fine = all-fine n b c sh few ws (out-all n b c sh few ws e₃) in
+      let outs = passed n b c sh ws (eqb-true (outFault n b c sh ws) 0 e₃) .out in
+      let fine = all-fine n b c sh few ws outs in
       let s : every small (map (indexOf sh (q-of ws)) ws) ≡ true = rw (filter-all (λ w. eqb (startOf b w) (q-of ws)) ws e₄) at (on-small c hc sh few h ws b fine b (λ x. refl) (q-of ws) ws fine) in
       let l : get b (page Fields.free (q-of ws)) + length (map (indexOf sh (q-of ws)) ws) ≤ 4096 = omega (arith, length-map (indexOf sh q) ws, page-roomy n b c sh few (length ws) q (and-left (pageFair b sh (length ws) q) _ (and-right (leb (get b (arena frontier)) n) _ e₅))) in
-      rw (e₁, e₂, e₃, e₄, e₅) (last-keeps q (placed false (back b q is) c sh h q) (returns inPages c q hc (lets-pages c q) sh few h false b is s l)))
+      rw (e₁, e₂, e₃, e₄, e₅) (last-keeps q (placed false (back b q is) c sh h q) (returns inPages c q hc (lets-pages c q) sh few h false b is s l)
+      (given-fits q is (first-low ws e₁ outs) s l (length ws) (length-map (indexOf sh q) ws) e₅)))
       (λ e₅. rw (e₁, e₂, e₃, e₄, e₅) (changes-none notMark b)))
       (λ e₄. rw (e₁, e₂, e₃, e₄) (changes-none notMark b)))
       (λ e₃. rw (e₁, e₂, e₃) (changes-none notMark b)))
@@ -503,23 +567,38 @@ module _ (n : ℕ) (b : List ℕ) (hb : leb (words n) (length b) ≡ true) (fit 
   all-frees ws [] fine = tt
   all-frees ws (g ∷ gs) fine = (refl, all-frees ws gs fine)
 
-  chunks-keep : (ws gs fs : List ℕ) → Keeps b (releaseChunks n b c sh h ws gs fs .book)
+  -- the runs that go to the arena are those for which the record was tested (crate chunks)
+  gives-tested : sh .pages ≡ 1 → (ws gs fs : List ℕ) → (ltb chunksMax (length gs) || ltb (length fs) (length gs)) ≡ false → every (outAt n b c sh) ws ≡ true → chunksMatch b ws gs ≡ true → chunksFair n b c sh gs ≡ true
+      → (let s = settleChunks b c sh h ws gs in givesFair n (s .book) (length (s .gives) * sh .pages) ≡ true)
+  gives-tested one ws gs fs e o m f =
+      let a : PassAsks n b c sh ws gs = record {
+        call = record { class = record { known = ltb-true c 76 hc; sound = sd; few = small-arena; long = leb-true (words n) (length b) hb }; single = one };
+        out = o;
+        chunks = ltb-false chunksMax (length gs) (nor-left (ltb chunksMax (length gs)) _ e);
+      } in
+      let g = settle-next n b c sh ws gs a m f fs (ltb-false (length fs) (length gs) (nor-right (ltb chunksMax (length gs)) _ e)) h .giving .fair in
+      let z = gives-in c hc sh sd h (pushAll (cleared b sh ws) sh ws) gs (drop (length gs) fs) in
+      let p = gathered n b c sh ws sd one hb o h gs hc m (fair-pages n b c sh gs f) in
+      rw (← z, p) at g
+
+  chunks-keep : sh .pages ≡ 1 → (ws gs fs : List ℕ) → Keeps b (releaseChunks n b c sh h ws gs fs .book)
   unfolding releaseChunks chunksMatch chunksFair
-  chunks-keep ws gs fs =
+  chunks-keep one ws gs fs =
       by-cases (isNil ws || isNil gs) (λ e. rw e (changes-none notMark b)) λ e₁.
       by-cases (ltb chunksMax (length gs) || ltb (length fs) (length gs)) (λ e. rw (e₁, e) (changes-none notMark b)) λ e₂.
       by-cases (every (ofKind (sh .kind)) ws && every (ofKind chunkKind) gs) (λ e₃.
       by-cases (eqb (outFault n b c sh ws) 0) (λ e₄.
       by-cases (chunksMatch b ws gs) (λ e₅.
       by-cases (chunksFair n b c sh gs) (λ e₆.
-      let fine = all-fine n b c sh few ws (out-all n b c sh few ws e₄) in
+      let outs = passed n b c sh ws (eqb-true (outFault n b c sh ws) 0 e₄) .out in
+      let fine = all-fine n b c sh few ws outs in
       let u = and-left (distinct (map pageOf gs)) _ e₅ in
       let fits = and-left (every (chunkFits b ws) gs) _ (and-right (distinct (map pageOf gs)) _ e₅) in
       let fair = and-left (every (λ g. pageFair b sh (countOf g) (pageOf g)) gs) _ (and-right (leb (get b (arena frontier)) n) _ e₆) in
       let s = settleChunks b c sh h ws gs in
       let k = settle-changes c hc sh few h ws b fine gs b (λ x. refl) u (all-roomy ws gs fine fits fair) (all-frees ws gs fine) in
-      let y = pages-stay b (s .book) fit k in
-      rw (e₁, e₂, e₃, e₄, e₅, e₆) (changes-trans notMark b (s .book) _ (y .keeps) (runs-stay n (s .book) (rw (k .long) hb) (y .fits) (sh .pages) (s .gives) .keeps)))
+      rw (e₁, e₂, e₃, e₄, e₅, e₆)
+      (changes-trans notMark b (s .book) _ (pages-keep b (s .book) k) (runs-keep n (s .book) (rw (k .long) hb) (sh .pages) one (s .gives) (gives-tested one ws gs fs e₂ outs e₅ e₆))))
       (λ e₆. rw (e₁, e₂, e₃, e₄, e₅, e₆) (changes-none notMark b)))
       (λ e₅. rw (e₁, e₂, e₃, e₄, e₅) (changes-none notMark b)))
       (λ e₄. rw (e₁, e₂, e₃, e₄) (changes-none notMark b)))
@@ -579,19 +658,19 @@ module _ (low many : ℕ) (top76 : low + many ≤ 76) (b : List ℕ) (c h : ℕ)
       rw e (take-clears (get b (arena size)) (m .few) (low + c) (shapeOf (low + c)) (shape-sound (low + c)) b h l (let z = m .below in omega arith) (leb-true _ _ (m .long))))
       (λ e. rw e (clears-none b))
 
-  list-leaves : (ws : List ℕ) → get b (arena holes) ≤ 4096 → Keeps b (Blocks.releaseOn low many b c h ws .book)
+  list-leaves : (ws : List ℕ) → Keeps b (Blocks.releaseOn low many b c h ws .book)
   unfolding Blocks.releaseOn
-  list-leaves ws fit =
+  list-leaves ws =
       by-cases (eqb (classFault b h many c) 0)
       (λ e. let m = named b h many c e in
-      rw e (list-keeps (get b (arena size)) b (m .long) fit (low + c) (lt-ltb (low + c) 76 (let z = m .below in omega arith)) (shapeOf (low + c)) (shape-sound (low + c) .few) h ws))
+      rw e (list-keeps (get b (arena size)) (m .few) b (m .long) (low + c) (lt-ltb (low + c) 76 (let z = m .below in omega arith)) (shapeOf (low + c)) (shape-sound (low + c)) h ws))
       (λ e. rw e (changes-none notMark b))
 
-group-leaves : (b : List ℕ) (c h : ℕ) (ws gs fs : List ℕ) → get b (arena holes) ≤ 4096 → Keeps b (chunksOn b c h ws gs fs .book)
+group-leaves : (b : List ℕ) (c h : ℕ) (ws gs fs : List ℕ) → Keeps b (chunksOn b c h ws gs fs .book)
 unfolding chunksOn
-group-leaves b c h ws gs fs fit =
+group-leaves b c h ws gs fs =
     by-cases (eqb (classFault b h 64 c) 0)
-    (λ e. let m = named b h 64 c e in rw e (chunks-keep (get b (arena size)) b (m .long) fit c (lt-ltb c 76 (let z = m .below in omega arith)) (shapeOf c) (shape-sound c .few) h ws gs fs))
+    (λ e. let m = named b h 64 c e in rw e (chunks-keep (get b (arena size)) (m .few) b (m .long) c (lt-ltb c 76 (let z = m .below in omega arith)) (shapeOf c) (shape-sound c) h (small-paged c (m .below)) ws gs fs))
     (λ e. rw e (changes-none notMark b))
 
 kept-at : {b b′ : List ℕ} → Keeps b b′ → (p j : ℕ) → j < 128 → get b′ (mark p j) ≡ get b (mark p j)
@@ -601,18 +680,18 @@ direct-turn : (b : List ℕ) (t : Bool) {A : Type 0} (f : A → List ℕ) (x y :
 direct-turn b true f x y e k = k
 direct-turn b false f x y e k = rw e (changes-none notMark b)
 
-others-keep : (b : List ℕ) (x : Call) → isTake x ≡ false → get b (arena holes) ≤ 4096 → Keeps b (call b x .book)
+others-keep : (b : List ℕ) (x : Call) → isTake x ≡ false → Keeps b (call b x .book)
 unfolding call commitOn growOn Direct.releaseOn
-others-keep b (Calls.takeBlocks c h l) t fit = absurd (true≢false t)
-others-keep b (Calls.mediumTakeBlocks c h l) t fit = absurd (true≢false t)
-others-keep b (Calls.releaseBlocks c h ws) t fit = list-leaves 0 64 (omega arith) b c h ws fit
-others-keep b (Calls.mediumReleaseBlocks c h ws) t fit = list-leaves 64 12 (omega arith) b c h ws fit
-others-keep b (Calls.releaseBinChunks c h ws gs fs) t fit = group-leaves b c h ws gs fs fit
-others-keep b (Calls.commit h m) t fit = direct-turn b (eqb (callFault b h) 0) (λ (w : Committed). w .book) _ _ refl (call-keeps (get b (arena size)) b h m)
-others-keep b (Calls.growFrontier h q old new) t fit = direct-turn b (eqb (callFault b h) 0) (λ (w : Done). w .book) _ _ refl (grow-keeps (get b (arena size)) b h q old new)
-others-keep b (Calls.release h q m) t fit = direct-turn b (eqb (callFault b h) 0) (λ (w : Done). w .book) _ _ refl (release-keeps (get b (arena size)) b q m)
-others-keep b (Calls.contains o k) t fit = changes-none notMark b
-others-keep b Calls.report t fit = changes-none notMark b
+others-keep b (Calls.takeBlocks c h l) t = absurd (true≢false t)
+others-keep b (Calls.mediumTakeBlocks c h l) t = absurd (true≢false t)
+others-keep b (Calls.releaseBlocks c h ws) t = list-leaves 0 64 (omega arith) b c h ws
+others-keep b (Calls.mediumReleaseBlocks c h ws) t = list-leaves 64 12 (omega arith) b c h ws
+others-keep b (Calls.releaseBinChunks c h ws gs fs) t = group-leaves b c h ws gs fs
+others-keep b (Calls.commit h m) t = direct-turn b (eqb (callFault b h) 0) (λ (w : Committed). w .book) _ _ refl (call-keeps (get b (arena size)) b h m)
+others-keep b (Calls.growFrontier h q old new) t = direct-turn b (eqb (callFault b h) 0) (λ (w : Done). w .book) _ _ refl (grow-keeps (get b (arena size)) b h q old new)
+others-keep b (Calls.release h q m) t = direct-turn b (eqb (callFault b h) 0) (λ (w : Done). w .book) _ _ refl (release-keeps (get b (arena size)) b q m)
+others-keep b (Calls.contains o k) t = changes-none notMark b
+others-keep b Calls.report t = changes-none notMark b
 
 takes-clear : (b : List ℕ) (x : Call) → isTake x ≡ true → Clears b (call b x .book)
 unfolding call
@@ -627,25 +706,57 @@ takes-clear b (Calls.release h q m) t = absurd (false≢true t)
 takes-clear b (Calls.contains o k) t = absurd (false≢true t)
 takes-clear b Calls.report t = absurd (false≢true t)
 
-any-clears : (b : List ℕ) (x : Call) → get b (arena holes) ≤ 4096 → Clears b (call b x .book)
-any-clears b x fit = by-cases (isTake x) (takes-clear b x) (λ t. keeps-clears (others-keep b x t fit))
+any-clears : (b : List ℕ) (x : Call) → Clears b (call b x .book)
+any-clears b x = by-cases (isTake x) (takes-clear b x) (λ t. keeps-clears (others-keep b x t))
 
 -- ---- a history
-module _ (s : Start) (o : Starts s) where
-  reached-fits : (xs : List Call) → get (bookAfter s xs) (arena holes) ≤ 4096
-  reached-fits xs =
-      let H = heapAfter (pages s) (rules s) (calls s xs) in
-      omega (arith, loads-number (bookAfter s xs) (H .arena) (represents s o xs .arena .loads), reached-after (pages s) (rules s) (calls s xs) .tidy .slots)
+calls-clear : (xs : List Call) (b : List ℕ) → Clears b (bookFrom call b xs)
+calls-clear [] b = clears-none b
+calls-clear (x ∷ xs) b = clears-then (any-clears b x) (calls-clear xs (call b x .book))
 
-  history-clears : (zs xs : List Call) → Clears (bookAfter s xs) (bookFrom call (bookAfter s xs) zs)
-  history-clears [] xs = clears-none (bookAfter s xs)
-  history-clears (z ∷ zs) xs =
-      let e = book-split (begun s) xs (z ∷ []) in
-      clears-then (any-clears (bookAfter s xs) z (reached-fits xs)) (subst (λ d. Clears d (bookFrom call d zs)) e (history-clears zs (xs ++ z ∷ [])))
+-- an opening writes the first words, and no word of marks is one
+cleared-past : (b : List ℕ) (k i : ℕ) → k ≤ i → getD (Open.cleared b k) i 0 ≡ getD b i 0
+unfolding Open.cleared
+cleared-past b zero i l = refl
+cleared-past b (suc k) i l = getD-set-other (Open.cleared b k) k i 0 0 (λ e. omega arith) ∙ cleared-past b k i (omega arith)
+
+module _ (n : ℕ) (rows b : List ℕ) where
+  opened-leaves : (p j : ℕ) → j < 128 → get (opened n (rulesOf rows) b) (mark p j) ≡ get b (mark p j)
+  unfolding opened headWords get
+  opened-leaves p j l =
+      let o = lt-ltb j 128 l in
+      ruled-changes (put (Open.cleared b 768) (arena size) n) (rulesOf rows) 76 (omega arith) .kept (mark p j) o refl
+      ∙ get-put-other (Open.cleared b 768) (arena size) (mark p j) n refl o refl
+      ∙ cleared-past b 768 (40144 + 4112 * p + j) (omega arith)
+
+  open-leaves : (p j : ℕ) → j < 128 → get (openOn b n rows .book) (mark p j) ≡ get b (mark p j)
+  unfolding openOn
+  open-leaves p j l = by-cases (eqb (openFault n rows b) 0) (λ e. rw e (opened-leaves p j l)) (λ e. rw e)
+
+started-clears : (s : Start) → Starts s → (xs : List Call) → Clears (lent s) (bookAfter s xs)
+started-clears s o xs =
+    rw (as-opening s o xs .book)
+    (clears-then (record { left = λ p j l. inl (open-leaves (pages s) (ruleRows s) (lent s) p j l) }) (calls-clear (calls s xs) (openOn (lent s) (pages s) (ruleRows s) .book)))
+
+-- a refused one leaves the book as it was lent
+from-lent : (b d : List ℕ) → d ≡ b → (xs : List Call) → Clears b (bookFrom call d xs)
+from-lent b d e xs = subst (λ z. Clears b (bookFrom call z xs)) (sym e) (calls-clear xs b)
+
+history-clears : (s : Start) (xs : List Call) → Clears (lent s) (bookAfter s xs)
+unfolding openOn traceOn
+history-clears (opening n rows b) xs =
+    by-cases (eqb (openFault n rows b) 0)
+    (λ e. started-clears (opening n rows b) (rw e) xs)
+    (λ e. from-lent b (openOn b n rows .book) (rw e) xs)
+history-clears (trace n b ws bl fl dn) xs =
+    by-cases (eqb (lengthFault n (length b)) 0)
+    (λ e. started-clears (trace n b ws bl fl dn) (opens n [] b (room-plain n b (eqb-true (lengthFault n (length b)) 0 e))) xs)
+    (λ e. from-lent b (traceOn b n ws bl fl dn .book) (rw e) xs)
 
 pub marks-stay : MarksStay
 marks-stay = record {
-  others = λ b x t fit. kept-at (others-keep b x t fit);
+  others = λ b x t. kept-at (others-keep b x t);
   takes = λ b x t. takes-clear b x t .left;
-  history = λ s o xs. history-clears s o xs [] .left;
+  opens = open-leaves;
+  history = λ s xs. history-clears s xs .left;
 }

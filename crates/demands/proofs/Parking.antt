@@ -26,16 +26,18 @@ use Rattle.model.specs.Release as Release
 use Rattle.model.specs.Release.{Site, inPartial, inFull, locate, park, settle, onPage, siteOfFirst, releaseList}
 use Rattle.model.specs.Chunks.{startsAt, settleChunk, settleChunks, releaseChunks, answer}
 use Rattle.model.specs.Heap.{Heap, newHeap, step, route, classCall, interact, finish}
-use Rattle.model.specs.History.{heapFrom, heapAfter}
+use Rattle.model.specs.Held.{fatesIn}
+use Rattle.model.specs.History.{events, heapFrom, heapAfter}
 use Rattle.model.proofs.Update.{update-all}
 use Rattle.model.proofs.Alone.{direct-keeps, step-rules}
 use Rattle.model.proofs.Offers.{good}
 use Rattle.refinement.proofs.Found.{Located, inList, inNone, located}
 use Rattle.demands.specs.Start.{Start, pages, ruleRows, rules, lent, Starts, calls}
-use Rattle.demands.specs.Parking.{Within, goesTo, Parking}
+use Rattle.demands.specs.Parking.{Within, goesTo, GroupsGo, Parking}
 use Rattle.demands.proofs.Calls.{room}
 use Rattle.demands.proofs.Starts.{represents, next-agrees}
 use Rattle.demands.proofs.Fates.{freed-by, by-row}
+use Rattle.demands.proofs.GroupFates.{groups-fated}
 
 -- ---- one request of a class
 module _ (sh : Shape) (lim : Limits) where
@@ -217,4 +219,11 @@ parking s o =
           let r = by-row (pages s) (rules s) ys c h (H .rules c) ws (step (pages s) H x .answer) f q v has l m in
           let k = ap (λ (z : Rules). z c) (rules-after (pages s) (rules s) ys) in
           (λ z. a ∙ r .0 z ∙ ap (λ (lim : Limits). Calls.fate (fateOf (shapeOf c) (spotOf (shapeOf c) lim (length (H .classes c .empty)) (length (H .classes c .cold))))) k, λ z. a ∙ r .1 z);
+      groupFates = λ xs c h ws gs fs l u.
+          let ys = calls s xs in
+          let H = heapAfter (pages s) (rules s) ys in
+          let a = next-agrees s o xs (Calls.releaseBinChunks c h ws gs fs) .answer in
+          let g = groups-fated (pages s) (rules s) ys c h ws gs fs l (ap isRefused (sym a) ∙ u) in
+          let k = ap (λ (z : Rules). z c) (rules-after (pages s) (rules s) ys) in
+          rw a (subst (λ (lim : Limits). GroupsGo (events (pages s) (rules s) ys) c lim ws (length (H .classes c .empty)) (length (H .classes c .cold)) gs (fatesIn (length gs) (step (pages s) H (Calls.releaseBinChunks c h ws gs fs) .answer))) k g);
     }

@@ -1,17 +1,17 @@
 -- Document 02, A.3, on any book: what a call does to the words of marks. The book need not be reached from an opening, and the page need not be a class's
 -- (`Repeats.Unmarked`). proofs/Marks proves it.
---     MarksStay    a call that is no take leaves each word of marks as it was; a take leaves it or makes it 0
-use Prim.Native.Nat.{ℕ, _≤_, _<_}
+--     MarksStay    a call that is no take leaves each word of marks as it was; a take leaves it or makes it 0; so after every history it is 0 or as it was lent
+use Prim.Native.Nat.{ℕ, _<_}
 use mathlib.Core.Bool.{Bool, true, false}
 use mathlib.Core.List.{List}
 use mathlib.Core.Logic.{_⊎_}
 use mathlib.Core.Path.{_≡_}
-use Rattle.words.specs.Limits.{holeSlots}
-use Rattle.fields.specs.Field.{arena, mark, holes, get}
+use Rattle.fields.specs.Field.{mark, get}
 use Rattle.model.specs.Calls as Calls
 use Rattle.model.specs.Calls.{Call}
+use Rattle.vigbuso.specs.Direct.{openOn}
 use Rattle.demands.specs.Call.{call}
-use Rattle.demands.specs.Start.{Start, begun, Starts, bookAfter}
+use Rattle.demands.specs.Start.{Start, lent, bookAfter}
 
 abbrev pub isTake : Call → Bool
 isTake (Calls.takeBlocks c h l) = true
@@ -30,8 +30,9 @@ abbrev pub LeftOrZero : List ℕ → List ℕ → ℕ → ℕ → Type 0
 LeftOrZero b b′ p j = (get b′ (mark p j) ≡ get b (mark p j)) ⊎ (get b′ (mark p j) ≡ 0)
 
 pub record MarksStay : Type 0 where
-  -- on any book whose count of holes, the word HOLES, is in its range
-  pub others : (b : List ℕ) (x : Call) → isTake x ≡ false → get b (arena holes) ≤ holeSlots → (p j : ℕ) → j < 128 → get (call b x .book) (mark p j) ≡ get b (mark p j)
+  pub others : (b : List ℕ) (x : Call) → isTake x ≡ false → (p j : ℕ) → j < 128 → get (call b x .book) (mark p j) ≡ get b (mark p j)
   pub takes : (b : List ℕ) (x : Call) → isTake x ≡ true → (p j : ℕ) → j < 128 → LeftOrZero b (call b x .book) p j
-  -- so after any history each word of marks of each page, also of one that is no class's, is 0 or as the start left it
-  pub history : (s : Start) → Starts s → (xs : List Call) (p j : ℕ) → j < 128 → LeftOrZero (begun s) (bookAfter s xs) p j
+  -- an opening leaves each
+  pub opens : (n : ℕ) (rows b : List ℕ) (p j : ℕ) → j < 128 → get (openOn b n rows .book) (mark p j) ≡ get b (mark p j)
+  -- so after an opening or a trace, refused or not, and any calls each word of marks of each page, also of one that is no class's, is 0 or as it was lent
+  pub history : (s : Start) (xs : List Call) (p j : ℕ) → j < 128 → LeftOrZero (lent s) (bookAfter s xs) p j

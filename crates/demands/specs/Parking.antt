@@ -1,26 +1,31 @@
 -- Document 02, A.9, of a start: an unrefused opening with its rule rows, or a trace, which has none. proofs/Parking proves it.
 --     Within     a class has parked no more runs than its limits allow
 --     goesTo     the store that an emptied run goes to, or the arena
+--     Empties    a release returns all that is out of a run
+--     GroupsGo   the fates of a group release
 --     Parking    what the rows say, and that it holds after every history
-use Prim.Native.Nat.{ℕ, suc, _*_, _≤_, _<_}
+use Prim.Native.Nat.{ℕ, suc, _+_, _*_, _≤_, _<_}
 use mathlib.Core.Bool.{Bool, true, false, cond, _&&_}
-use mathlib.Core.List.{List}
+use mathlib.Core.List.{List, [], _∷_}
 use mathlib.Core.Option.{some}
 use mathlib.Core.Path.{_≡_}
-use lib.Dec.{leb, ltb}
+use lib.Dec.{eqb, leb, ltb}
 use lib.ListN.{length}
 use Rattle.facts.specs.Lists.{isNil, elem}
+use Rattle.words.specs.Host.{digit}
+use Rattle.words.specs.Word.{pageOf}
 use Rattle.classes.specs.declared.Shape.{Shape}
 use Rattle.classes.specs.Shape.{shapeOf, classCount}
 use Rattle.rules.specs.declared.Limits.{Limits}
 use Rattle.rules.specs.Rules.{plainRules, RowsCover, Fit}
 use Rattle.model.specs.declared.Spot.{Spot}
 use Rattle.model.specs.declared.Spot.the-variants.{ToEmpty, ToCold, ToArena}
-use Rattle.model.specs.Calls.{Call, giveBack, fate, names, isRefused}
+use Rattle.model.specs.Calls.{Call, releaseBinChunks, giveBack, fate, names, isRefused}
 use Rattle.model.specs.Class.{Class}
-use Rattle.model.specs.Spot.{spotOf, fateOf, keptFate}
+use Rattle.model.specs.Spot.{spotOf, fateOf, keptFate, retired}
 use Rattle.model.specs.History.{Event, events, heapAfter}
 use Rattle.model.specs.Entries.{OutIn}
+use Rattle.model.specs.Held.{fatesIn}
 use Rattle.model.specs.Offered.{blocksAt, HasRun}
 use Rattle.pages.specs.Fair.{limitsAt}
 use Rattle.demands.specs.Start.{Start, pages, ruleRows, rules, calls, bookAfter, next}
@@ -38,6 +43,19 @@ goesTo empty cold = cond empty ToEmpty (cond cold ToCold ToArena)
 -- the list has every block of the run at q that is out in the class by the history
 abbrev pub Empties : List Event → ℕ → ℕ → List ℕ → Type 0
 Empties vs c q ws = (w : ℕ) → elem w (blocksAt (shapeOf c) q) ≡ true → OutIn vs c w → elem w ws ≡ true
+
+-- a group g of the list ws with the fate u, the class having e empty and k cold runs before it
+pub record GroupGoes (vs : List Event) (c : ℕ) (lim : Limits) (ws : List ℕ) (e k g u : ℕ) : Type 0 where
+  pub emptied : Empties vs c (pageOf g) ws → u ≡ retired (fateOf (shapeOf c) (spotOf (shapeOf c) lim e k))
+  pub kept : (Empties vs c (pageOf g) ws → ⊥) → u ≡ keptFate
+
+-- all groups, in their order: each by the counts as those before it left them, which their fates tell, since only small classes have groups
+abbrev pub GroupsGo : List Event → ℕ → Limits → List ℕ → ℕ → ℕ → List ℕ → List ℕ → Type 0
+GroupsGo vs c lim ws e k [] us = Unit {0}
+GroupsGo vs c lim ws e k (g ∷ gs) [] = ⊥
+GroupsGo vs c lim ws e k (g ∷ gs) (u ∷ us) =
+    GroupGoes vs c lim ws e k g u
+    × GroupsGo vs c lim ws (e + digit (eqb u (retired (fateOf (shapeOf c) ToEmpty)))) (k + digit (eqb u (retired (fateOf (shapeOf c) ToCold)))) gs us
 
 pub record Parking (s : Start) : Type 0 where
   -- rows "must cover 0 to 75 without gap or overlap. A row's limits hold for each of its classes"
@@ -60,3 +78,8 @@ pub record Parking (s : Start) : Type 0 where
       let k = heapAfter (pages s) (rules s) (calls s xs) .classes c in
       HasRun c q vs → elem v ws ≡ true → elem v (blocksAt (shapeOf c) q) ≡ true
       → (Empties vs c q ws → next s xs x .answer ≡ fate (fateOf (shapeOf c) (spotOf (shapeOf c) (rules s c) (length (k .empty)) (length (k .cold))))) × ((Empties vs c q ws → ⊥) → next s xs x .answer ≡ fate keptFate))
+  -- a group release that is not refused: each group's run in turn, the page that the group names
+  pub groupFates : (xs : List Call) (c h : ℕ) (ws gs fs : List ℕ) → c < 64
+      → (let a = next s xs (releaseBinChunks c h ws gs fs) .answer in
+      let k = heapAfter (pages s) (rules s) (calls s xs) .classes c in
+      isRefused a ≡ false → GroupsGo (events (pages s) (rules s) (calls s xs)) c (rules s c) ws (length (k .empty)) (length (k .cold)) gs (fatesIn (length gs) a))

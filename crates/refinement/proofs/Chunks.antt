@@ -43,10 +43,10 @@ use Rattle.refinement.proofs.Found.{Located, inList, inNone, located, l
 use Rattle.refinement.proofs.Release.{SettledRep, stays, goes, settle-chunk}
 
 -- what settling a page adds, where e empty and k cold pages were: a page to the store that the spot names, or a run for the arena
-record Adds (e k : ℕ) (spot : Spot) (gone : Bool) (y : Settled) : Type 0 where
-  empty : length (y .class .empty) ≡ cond gone (e + digit (isEmpty spot)) e
-  cold : length (y .class .cold) ≡ cond gone (k + digit (isCold spot)) k
-  gives : length (y .gives) ≡ cond gone (digit (isArena spot)) 0
+pub record Adds (e k : ℕ) (spot : Spot) (gone : Bool) (y : Settled) : Type 0 where
+  pub empty : length (y .class .empty) ≡ cond gone (e + digit (isEmpty spot)) e
+  pub cold : length (y .class .cold) ≡ cond gone (k + digit (isCold spot)) k
+  pub gives : length (y .gives) ≡ cond gone (digit (isArena spot)) 0
 
 -- ---- the model's settling of one page
 module _ (sh : Shape) (lim : Limits) (h : ℕ) where
@@ -81,7 +81,7 @@ module _ (sh : Shape) (lim : Limits) (h : ℕ) where
   unfolding park
   park-adds s p = in-adds s p (spotIn sh lim s)
 
-  settle-adds : {t : Page → Bool} {s : Class} {x : Site} → Located t s (some x) → (ws : List ℕ)
+  pub settle-adds : {t : Page → Bool} {s : Class} {x : Site} → Located t s (some x) → (ws : List ℕ)
       → Adds (length (s .empty)) (length (s .cold)) (spotIn sh lim s) (noneOut sh (returned ws (x .page))) (settle sh lim h true ws x)
   unfolding settle inPartial inFull
   settle-adds {s = s} (inList f k) ws =

@@ -49,7 +49,7 @@ cleared-at b (suc k) i l u =
 abbrev isRule : Field → Bool
 isRule g = eqb (region g) 2 && leb 5 (off g)
 
-ruled-changes : (b : List ℕ) (rules : Rules) (k : ℕ) → k ≤ 76 → Changes isRule b (ruled b rules k)
+pub ruled-changes : (b : List ℕ) (rules : Rules) (k : ℕ) → k ≤ 76 → Changes isRule b (ruled b rules k)
 unfolding ruled
 ruled-changes b rules zero l = changes-none isRule b
 ruled-changes b rules (suc k) l =
