@@ -1,39 +1,39 @@
 -- The ways out of a commit for an owner and of a growth, and what they ask of the steps.
-use Prim.Native.Nat.{ℕ, _+_, _-_, _≤_}
+use Prim.Native.Nat.{ℕ, zero, suc, _+_, _-_, _≤_}
 use native.Mathlib.Omega.{arith}
-use mathlib.Core.Bool.{Bool, true, false}
+use mathlib.Core.Bool.{Bool, true, false, cond, not, true≢false}
 use mathlib.Core.List.{List}
 use mathlib.Core.Path.{_≡_, refl, sym, ap, _∙_, subst}
-use borrow.Author.Tests.{le-leb, eq-eqb, ne-eqb}
+use mir.Val.{Fits}
+use mir.Syntax.{w32}
+use lib.Dec.{eqb, leb}
+use lib.ListN.{length}
+use borrow.Author.Tests.{le-leb, eq-eqb, ne-eqb, not-true, not-false}
+use Rattle.facts.proofs.Bools.{by-cases}
 use Rattle.words.specs.Limits.{maxPages, holeSlots}
 use Rattle.words.specs.Host.{commitGranted}
-use Rattle.fields.specs.Field.{arena, held, get}
+use Rattle.fields.specs.Field.{arena, held, get, words}
 use Rattle.holes.specs.declared.Arena.{Arena}
 use Rattle.holes.specs.declared.Plan.{Plan}
 use Rattle.runs.specs.declared.Commit.{Commit}
 use Rattle.runs.specs.declared.Commit.the-variants.{Refused, Nothing}
 use Rattle.arena.specs.Load.{loadHole, loadHoles}
 use Rattle.holes.specs.way.Record.{recordOf, storeRecord}
-use Rattle.arena.specs.Fair.{recordFair, commitFair}
-use Rattle.holes.specs.way.Plan.{planOf}
-use Rattle.arena.specs.Calls.{commitFor}
-use Rattle.holes.specs.way.Act.{withState, endNone, fromFrontier, commitPlanned, planned, commitRead, commitActs, growWith}
+use Rattle.arena.specs.Fair.{recordFair}
+use Rattle.holes.specs.way.Plan.{planAs, planOf}
+use Rattle.arena.specs.Calls.{commitRefused, commitFor}
+use Rattle.holes.specs.way.Act.{withState, endNone, endRun, settle, fromFrontier, holeDrawn, commitDrawn, nextState, commitPlanned, planned, commitRead, commitActs, growWith}
 use Rattle.runs.specs.way.Asks.{RecordIn, HoleIn, PlanIn, EndsIn, RequestIn, BookIn}
+use Rattle.runs.specs.way.Found.{found, hasRun, Finds}
 use Rattle.runs.specs.Answer.{Answers}
 use Rattle.holes.proofs.Acts.{fair-record, planned-is, ends-of, commit-acts}
 use Rattle.holes.proofs.PlanLaws.{plan-fits}
 
 -- ---- the record that was loaded
-pub fair-told : (n : ℕ) (b : List ℕ) (t : Bool) → t ≡ recordFair n b → t ≡ true → recordFair n b ≡ true
-fair-told n b t e v = sym e ∙ v
-
 pub loaded-record : (n : ℕ) (b : List ℕ) (a : Arena) → recordFair n b ≡ true → a ≡ recordOf b → RecordIn n a
 loaded-record n b a t f =
     let z = fair-record n b t in
     subst (λ y. RecordIn n y) (sym f) (record { moved = z .frontier; few = z .holes; short = z .holePages })
-
-pub loaded-few : (n : ℕ) (b : List ℕ) (a : Arena) → recordFair n b ≡ true → a ≡ recordOf b → a .count ≤ holeSlots
-loaded-few n b a t f = loaded-record n b a t f .few
 
 pub request-in : (n : ℕ) (b : List ℕ) (h m d w : ℕ) → BookIn b n → recordFair n b ≡ true → m ≤ maxPages + 1 → d ≡ get b (arena held)
     → RequestIn b (record { size = n; pages = m; host = h; owner = w; held = d })
@@ -55,35 +55,86 @@ module _ (n : ℕ) (b : List ℕ) (a : Arena) (h e m w d : ℕ) where
   unfolding growWith
   grows-there s x z k = rw (eq-eqb (a .frontier) e z) k
 
--- ---- a commit
-module _ (n : ℕ) (b : List ℕ) (h m w d : ℕ) (a : Arena) (e : a ≡ recordOf b) where
-  module _ (p : Plan) (g : p ≡ planOf (loadHoles b 0 (a .count)) (a .total) (a .frontier) m) where
-    plan-is : p ≡ planned b m
-    unfolding planned
-    plan-is = g ∙ ap (λ y. planOf (loadHoles b 0 (y .count)) (y .total) (y .frontier) m) e
+-- ---- a commit that is granted answers a run where it finds one
+next-off : (s : ℕ) → eqb (nextState s 15) 2 ≡ eqb s 2
+next-off zero = refl
+next-off (suc s) = refl
 
-    pub plan-in : p .fair ≡ true → PlanIn b a (p .code) m
-    plan-in t z =
-        let k = plan-fits b m p plan-is t z in
-        subst (λ y. HoleIn y (p .code - 1) (loadHole b (p .code - 1)) m) (sym e) (record { stored = k .stored; enough = k .enough; within = k .within; ends = k .ends })
+planned-runs : (n : ℕ) (b : List ℕ) (a : Arena) (code m w d : ℕ) → hasRun (commitPlanned n b a code m 15 w d) ≡ cond (eqb (a .state) 2) false (cond (eqb code 0) (leb (a .frontier + m) n) true)
+unfolding commitPlanned commitDrawn fromFrontier holeDrawn settle endRun endNone
+planned-runs n b a code m w d =
+    by-cases (eqb (a .state) 2)
+    (λ e. rw (next-off (a .state), e))
+    (λ e. by-cases (eqb code 0)
+    (λ u. by-cases (leb (a .frontier + m) n) (λ v. rw (next-off (a .state), e, u, v)) (λ v. rw (next-off (a .state), e, u, v)))
+    (λ u. rw (next-off (a .state), e, u)))
 
-    pub among-ends : p .fair ≡ true → EndsIn b a
-    among-ends t = subst (λ y. EndsIn b y) (sym e) (ends-of b (sym (ap (λ z. z .fair) (plan-is ∙ planned-is b m)) ∙ t))
+-- ---- what a commit finds
+module _ (n : ℕ) (b : List ℕ) (m : ℕ) where
+  module _ (t : Bool) (e : t ≡ recordFair n b) where
+    pub find-few : (a : Arena) → t ≡ true → a ≡ recordOf b → a .count ≤ holeSlots
+    find-few a v f = loaded-record n b a (sym e ∙ v) f .few
 
-    pub among-on : (s : Commit) (x : List ℕ) → p .fair ≡ true → Answers s x (commitPlanned n b a (p .code) m h w d) → Answers s x (commitRead n b h m w d)
-    unfolding commitRead
-    among-on s x t k = rw (← plan-is, t, ← e) k
+    pub find-on : (a : Arena) (p : Plan) → t ≡ true → a ≡ recordOf b → p ≡ planOf (loadHoles b 0 (a .count)) (a .total) (a .frontier) m → p ≡ found n b m
+    unfolding found planned
+    find-on a p v f g = g ∙ ap (λ y. planOf (loadHoles b 0 (y .count)) (y .total) (y .frontier) m) f ∙ rw (← e, v)
 
-    pub among-off : p .fair ≡ false → Answers (Refused 13) b (commitRead n b h m w d)
-    unfolding commitRead
-    among-off t = rw (← plan-is, t) (record { answer = refl; book = refl })
+    pub find-off : t ≡ false → planAs false 0 ≡ found n b m
+    unfolding found
+    find-off v = rw (← e, v)
 
-module _ (n : ℕ) (b : List ℕ) (h m w : ℕ) where
-  pub commits-on : (t : Bool) (d : ℕ) (s : Commit) (x : List ℕ) → BookIn b n → t ≡ recordFair n b → t ≡ true → d ≡ get b (arena held) → Answers s x (commitRead n b h m w d) → Answers s x (commitFor n b h m w)
-  unfolding commitActs
-  commits-on t d s x k e v f a =
-      subst (λ z. Answers s x z) (commit-acts n b (le-leb _ _ (k .long)) h m w) (rw (← e, v, ← f) a)
+  -- the commit goes by it
+  found-commits : BookIn b n → (h w : ℕ) → commitFor n b h m w ≡ cond (found n b m .fair) (commitPlanned n b (recordOf b) (found n b m .code) m h w (get b (arena held))) (commitRefused b 13)
+  unfolding commitActs commitRead found
+  found-commits k h w = sym (commit-acts n b (le-leb (words n) (length b) (k .long)) h m w) ∙ by-cases (recordFair n b) (λ v. rw v) (λ v. rw v)
 
-  pub commits-off : (t : Bool) → t ≡ recordFair n b → t ≡ false → Answers (Refused 13) b (commitFor n b h m w)
-  unfolding commitFor commitFair
-  commits-off t e v = rw (← e, v) (record { answer = refl; book = refl })
+  module _ (p : Plan) (e : p ≡ found n b m) where
+    pub commits-off : (h w : ℕ) → BookIn b n → not (p .fair) ≡ true → Answers (Refused 13) b (commitFor n b h m w)
+    commits-off h w k t = rw (found-commits k h w, ← e, not-true (p .fair) t) (record { answer = refl; book = refl })
+
+    pub would-not : BookIn b n → not (p .fair) ≡ true → Finds false n b m
+    would-not k t w = rw (found-commits k 15 w, ← e, not-true (p .fair) t)
+
+    module _ (t : not (p .fair) ≡ false) (a : Arena) (f : a ≡ recordOf b) where
+      fair : p .fair ≡ true
+      fair = not-false (p .fair) t
+
+      found-fair : (recordFair n b ≡ true) × (p ≡ planned b m)
+      unfolding found
+      found-fair =
+          by-cases (recordFair n b)
+          (λ v. (v, rw v at e))
+          (λ v. absurd (true≢false (sym fair ∙ ap (λ z. z .fair) (rw v at e))))
+
+      pub found-record : RecordIn n a
+      found-record = loaded-record n b a (found-fair .0) f
+
+      pub found-sum : BookIn b n → m ≤ maxPages + 1 → Fits w32 (a .frontier + m)
+      found-sum k l = let z = found-record .moved in let y = k .small in record { fits = omega arith }
+
+      pub found-request : (h d w : ℕ) → BookIn b n → m ≤ maxPages + 1 → d ≡ get b (arena held) → RequestIn b (record { size = n; pages = m; host = h; owner = w; held = d })
+      found-request h d w k l g = request-in n b h m d w k (found-fair .0) l g
+
+      pub found-in : PlanIn b a (p .code) m
+      found-in z =
+          let k = plan-fits b m p (found-fair .1) fair z in
+          subst (λ y. HoleIn y (p .code - 1) (loadHole b (p .code - 1)) m) (sym f) (record { stored = k .stored; enough = k .enough; within = k .within; ends = k .ends })
+
+      pub found-ends : EndsIn b a
+      found-ends = subst (λ y. EndsIn b y) (sym f) (ends-of b (sym (ap (λ z. z .fair) (found-fair .1 ∙ planned-is b m)) ∙ fair))
+
+      pub commits-on : (h w d : ℕ) (s : Commit) (x : List ℕ) → BookIn b n → d ≡ get b (arena held) → Answers s x (commitPlanned n b a (p .code) m h w d) → Answers s x (commitFor n b h m w)
+      commits-on h w d s x k g y = rw (found-commits k h w, ← e, fair, ← f, ← g) y
+
+      -- it answers a run where the arena is not disabled, and there is a hole, or room at the frontier
+      would : BookIn b n → (w : ℕ) → hasRun (commitFor n b 15 m w) ≡ cond (eqb (a .state) 2) false (cond (eqb (p .code) 0) (leb (a .frontier + m) n) true)
+      would k w = rw (found-commits k 15 w, ← e, fair, ← f) (planned-runs n b a (p .code) m w (get b (arena held)))
+
+      pub would-off : BookIn b n → a .state ≡ 2 → Finds false n b m
+      would-off k u w = sym (would k w ∙ rw u)
+
+      pub would-fresh : BookIn b n → (a .state ≡ 2 → ⊥) → p .code ≡ 0 → Finds (leb (a .frontier + m) n) n b m
+      would-fresh k u v w = sym (would k w ∙ rw (ne-eqb (a .state) 2 u, v))
+
+      pub would-reuse : BookIn b n → (a .state ≡ 2 → ⊥) → (p .code ≡ 0 → ⊥) → Finds true n b m
+      would-reuse k u v w = sym (would k w ∙ rw (ne-eqb (a .state) 2 u, ne-eqb (p .code) 0 v))

@@ -2,4 +2,3 @@ mod RecordSteps
 mod ActSteps
 mod GiveSteps
 pub mod CommitSteps
-pub mod WouldSteps

@@ -5,17 +5,15 @@ pub mod growth;
 pub mod load;
 pub mod owners;
 mod store;
-pub mod would;
 
+use holes::Plan;
 use holes::plans;
 ghost use mathlib.Core.Path.{_≡_};
-ghost use mathlib.Core.Bool.{true};
 ghost use Prim.Native.Nat.{_+_, _≤_};
 ghost use Rattle.words.specs.Limits.{maxPages};
-ghost use Rattle.arena.specs.Fair.{recordFair};
 ghost use Rattle.arena.specs.Calls.{commitFor};
-ghost use Rattle.holes.specs.way.Act.{commitRead};
-ghost use Rattle.runs.specs.way.Asks.{BookIn, RequestIn};
+ghost use Rattle.runs.specs.way.Asks.{BookIn};
+ghost use Rattle.runs.specs.way.Found.{found, Finds};
 ghost use Rattle.runs.specs.Answer.{Answers};
 
 // What is asked of the arena: pages for an owner, in an arena of so many pages; the host word, and HELD as it was.
@@ -41,16 +39,38 @@ pub enum Commit {
     Nothing,
 }
 
-fn commit_read(meta: &mut [u32], q: Request) -> Commit
-    requires { ⌜ RequestIn (now meta) q × (recordFair (q .size) (now meta) ≡ true) ⌝ }
-    ensures { λ r. ⌜ Answers r (now (meta .exit)) (commitRead (q .size) (now (meta .entry)) (q .host) (q .pages) (q .owner) (q .held)) ⌝ }
+// What a commit finds among the holes, where every word that it reads is in its range. Nothing is written.
+fn find(meta: &[u32], size: u32, pages: u32) -> Plan
+    requires { ⌜ BookIn (now meta) size ⌝ }
+    ensures { λ r. ⌜ r ≡ found size (now (meta .entry)) pages ⌝ }
 {
-    let a = load::load_record(meta);
-    let p = plans::plan(meta, a, q.pages);
-    if p.fair {
-        return act::commit_planned(meta, a, p.code, q);
+    if load::record_fair(meta, size) {
+        let a = load::load_record(meta);
+        return plans::plan(meta, a, pages);
     }
-    Commit::Refused(13)
+    Plan {
+        fair: false,
+        code: 0,
+    }
+}
+
+// Would a commit answer a run, all being granted.
+pub fn would_commit(meta: &[u32], size: u32, pages: u32) -> bool
+    requires { ⌜ BookIn (now meta) size × (pages ≤ maxPages + 1) ⌝ }
+    ensures { λ r. ⌜ Finds r size (now (meta .entry)) pages ⌝ }
+{
+    let p = find(meta, size, pages);
+    if !p.fair {
+        return false;
+    }
+    let a = load::load_record(meta);
+    if a.state == 2 {
+        return false;
+    }
+    if p.code == 0 {
+        return a.frontier + pages <= size;
+    }
+    true
 }
 
 // A run longer than any arena is asked for by one page more than that.
@@ -58,15 +78,17 @@ pub fn commit_for(meta: &mut [u32], size: u32, host: u32, pages: u32, owner: u32
     requires { ⌜ BookIn (now meta) size × (pages ≤ maxPages + 1) ⌝ }
     ensures { λ r. ⌜ Answers r (now (meta .exit)) (commitFor size (now (meta .entry)) host pages owner) ⌝ }
 {
-    if load::record_fair(meta, size) {
-        let q = Request {
-            size,
-            pages,
-            host,
-            owner,
-            held: fields::arena::held(meta),
-        };
-        return commit_read(meta, q);
+    let p = find(meta, size, pages);
+    if !p.fair {
+        return Commit::Refused(13);
     }
-    Commit::Refused(13)
+    let q = Request {
+        size,
+        pages,
+        host,
+        owner,
+        held: fields::arena::held(meta),
+    };
+    let a = load::load_record(meta);
+    act::commit_planned(meta, a, p.code, q)
 }

@@ -8,6 +8,7 @@ mod single;
 
 pub use blocks::has_more;
 pub use blocks::index_of;
+pub use blocks::min;
 pub use blocks::word_of;
 pub use draw::draw_blocks;
 pub use push::lay_blocks;

@@ -11,6 +11,5 @@ pub mod TakeGranted
 pub mod TakeNew
 pub mod TakeSteps
 pub mod TakeSpares
-pub mod CountSteps
 pub mod AnswerSteps
 pub mod InArena

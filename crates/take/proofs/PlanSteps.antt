@@ -1,7 +1,7 @@
 -- The ways out of the functions that plan a take, and what their loops keep.
 use Prim.Native.Nat.{ℕ, zero, suc, _+_, _-_, _≤_, _<_, min}
 use native.Mathlib.Omega.{arith}
-use mathlib.Core.Bool.{Bool, true, false, not, _&&_, and-false}
+use mathlib.Core.Bool.{Bool, true, false, cond, not, _&&_, and-false}
 use mathlib.Core.List.{List}
 use mathlib.Core.Path.{_≡_, refl, sym, ap, _∙_}
 use lib.Dec.{eqb, ltb, leb}
@@ -17,7 +17,7 @@ use Rattle.pages.proofs.Draws.{latest-length}
 use Rattle.pages.specs.Fair.{headerFair}
 use Rattle.pages.proofs.FairLaws.{carved-low, room-left}
 use Rattle.calls.specs.Take.{pageReady, sound, walk}
-use Rattle.take.specs.declared.take_plan.Plan.{Plan}
+use Rattle.take.specs.declared.take_plan.Plan.the-variants.{Refused, Fill}
 use Rattle.take.specs.way.TakePlan.{TakeAsks, TopsAsks, SupplyAsks, share, walksFrom, fills, Foretold}
 use Rattle.take.proofs.TakePages.{sound-fair, fair-sound, whole-below, latest-some, latest-most, positive}
 use Rattle.take.proofs.Walk.{planned, planned-stops, planned-goes, stops, stops-full, stops-none, walk-stops, walk-step}
@@ -202,40 +202,35 @@ module _ (n : ℕ) (b : List ℕ) (c : ℕ) (sh : Shape) where
   turn-next j m code y a e h z = omega (arith, turn-there j m code y a e h z)
 
   -- ---- the ends
-  foretold : (r : Plan) (t : Bool) → TakeAsks n b c sh → r .fair ≡ t → t ≡ walksFrom n b c sh → r .count ≡ planned b sh (sh .batch) (sh .batch) head .count
-      → r .virgin ≡ planned b sh (sh .batch) (sh .batch) head .virgin → Foretold r (walksFrom n b c sh) (fills b c sh)
-  foretold r t a f w p u =
-      let same : walksFrom n b c sh ≡ true → foreseen (fills b c sh) ≡ planned b sh (sh .batch) (sh .batch) head =
-      λ g. fill-planned n c (lt-ltb c 76 (a .known)) sh (a .shape) (sh .batch) (sh .batch) b (le-leb (words n) (length b) (a .long)) (a .bound) g in
-      record {
-        fair = f ∙ w;
-        count = λ g. p ∙ sym (ap (λ t. t .count) (same g));
-        virgin = λ g. u ∙ sym (ap (λ t. t .virgin) (same g));
-      }
-
-  ends : (code y left : ℕ) (v t : Bool) → TakeAsks n b c sh → PlanInv code y left v → stops left code ≡ true → t ≡ leb code (get b (arena frontier))
-      → Foretold (record { fair = t; count = sh .batch - left; virgin = v }) (walksFrom n b c sh) (fills b c sh)
-  ends code y left v t a i s e =
+  ends : (code y left : ℕ) (v : Bool) → TakeAsks n b c sh → PlanInv code y left v → stops left code ≡ true
+      → Foretold (cond (leb code (get b (arena frontier))) (Fill (sh .batch - left) v) (Refused 13)) (walksFrom n b c sh) (fills b c sh)
+  ends code y left v a i s =
       let g = planned-stops b sh (i .fuel) left code s in
-      foretold (record { fair = t; count = sh .batch - left; virgin = v }) t a refl (e ∙ sym (walk-stops n b c sh (i .fuel) left code y s) ∙ i .walks)
-      (omega (arith, i .counts, ap (λ t. t .count) g))
-      (sym (and-true v) ∙ sym (ap (λ t. v && t .virgin) g) ∙ i .virgins)
+      let w : walksFrom n b c sh ≡ leb code (get b (arena frontier)) = sym (i .walks) ∙ walk-stops n b c sh (i .fuel) left code y s in
+      let p : sh .batch - left ≡ planned b sh (sh .batch) (sh .batch) head .count = omega (arith, i .counts, ap (λ t. t .count) g) in
+      let u : v ≡ planned b sh (sh .batch) (sh .batch) head .virgin = sym (and-true v) ∙ sym (ap (λ t. v && t .virgin) g) ∙ i .virgins in
+      by-cases (walksFrom n b c sh)
+      (λ t.
+      let f = fill-planned n c (lt-ltb c 76 (a .known)) sh (a .shape) (sh .batch) (sh .batch) b (le-leb (words n) (length b) (a .long)) (a .bound) t in
+      rw (← w, t, p, u) (ap (λ z. Fill (z .count) (z .virgin)) (sym f)))
+      (λ t. rw (← w, t))
     where
       and-true : (x : Bool) → (x && true) ≡ x
       and-true true = refl
       and-true false = refl
 
-  pub plan-empty : (code y left : ℕ) (v : Bool) → TakeAsks n b c sh → PlanInv code y left v → code ≡ 0
-      → Foretold (record { fair = true; count = sh .batch - left; virgin = v }) (walksFrom n b c sh) (fills b c sh)
-  plan-empty code y left v a i z = ends code y left v true a i (stops-none left code z) (sym (le-leb code (get b (arena frontier)) (omega arith)))
+  pub plan-empty : (code y left : ℕ) (v : Bool) → TakeAsks n b c sh → PlanInv code y left v → code ≡ 0 → Foretold (Fill (sh .batch - left) v) (walksFrom n b c sh) (fills b c sh)
+  plan-empty code y left v a i z = rw (le-leb code (get b (arena frontier)) (omega arith)) at (ends code y left v a i (stops-none left code z))
 
-  pub plan-done : (code y left f : ℕ) (v : Bool) → TakeAsks n b c sh → left ≡ 0 → PlanInv code y left v → f ≡ get b (arena frontier)
-      → Foretold (record { fair = leb code f; count = sh .batch; virgin = v }) (walksFrom n b c sh) (fills b c sh)
-  plan-done code y left f v a z i e =
-      rw (sub-none (sh .batch) left z) at (ends code y left v (leb code f) a i (stops-full left code z) (rw e))
-    where
-      sub-none : (x y : ℕ) → y ≡ 0 → x - y ≡ x
-      sub-none x y e = omega arith
+  module _ (code y left f : ℕ) (v : Bool) (a : TakeAsks n b c sh) (z : left ≡ 0) (i : PlanInv code y left v) (e : f ≡ get b (arena frontier)) where
+    pub plan-above : f < code → Foretold (Refused 13) (walksFrom n b c sh) (fills b c sh)
+    plan-above l = rw (lt-leb code (get b (arena frontier)) (omega arith)) at (ends code y left v a i (stops-full left code z))
+
+    pub plan-done : code ≤ f → Foretold (Fill (sh .batch) v) (walksFrom n b c sh) (fills b c sh)
+    plan-done l = rw (le-leb code (get b (arena frontier)) (omega arith), sub-none (sh .batch) left z) at (ends code y left v a i (stops-full left code z))
+      where
+        sub-none : (x y : ℕ) → y ≡ 0 → x - y ≡ x
+        sub-none x y e = omega arith
 
   fails : (k j m code y : ℕ) → (m ≡ 0 → ⊥) → m ≤ k → (code ≡ 0 → ⊥) → j ≡ share n b c sh m code y → j ≡ 0 → walk n b c sh k m code y ≡ true → ⊥
   unfolding share
@@ -246,8 +241,6 @@ module _ (n : ℕ) (b : List ℕ) (c : ℕ) (sh : Shape) where
       let t : share n b c sh m code y ≡ length (latest b sh (code - 1) m) = rw (s .below, s .before, eq-eqb y y refl, fair-sound n b c sh 1 m (code - 1) (s .fair)) in
       omega (arith, some, sym e ∙ o, t)
 
-  pub plan-fails : (code y left j : ℕ) (v : Bool) → (left ≡ 0 → ⊥) → PlanInv code y left v → (code ≡ 0 → ⊥) → j ≡ share n b c sh left code y → j ≡ 0
-      → Foretold (record { fair = false; count = 0; virgin = false }) (walksFrom n b c sh) (fills b c sh)
+  pub plan-fails : (code y left j : ℕ) (v : Bool) → (left ≡ 0 → ⊥) → PlanInv code y left v → (code ≡ 0 → ⊥) → j ≡ share n b c sh left code y → j ≡ 0 → Foretold (Refused 13) (walksFrom n b c sh) (fills b c sh)
   plan-fails code y left j v h i z e o =
-      let no : walksFrom n b c sh ≡ true → ⊥ = λ w. fails (i .fuel) j left code y h (i .enough) z e o (i .walks ∙ w) in
-      record { fair = by-cases (walksFrom n b c sh) (λ w. absurd (no w)) (λ w. sym w); count = λ w. absurd (no w); virgin = λ w. absurd (no w) }
+      by-cases (walksFrom n b c sh) (λ w. absurd (fails (i .fuel) j left code y h (i .enough) z e o (i .walks ∙ w))) (λ w. rw w)

@@ -1,7 +1,7 @@
 -- A take from a store: its newest page becomes the partial list.
 use Prim.Native.Nat.{ℕ, suc, _+_, _-_, _≤_, _<_}
 use native.Mathlib.Omega.{arith}
-use mathlib.Core.Bool.{Bool, true, false, not, and-false, true≢false}
+use mathlib.Core.Bool.{Bool, true, false, not, and-false}
 use mathlib.Core.List.{List}
 use mathlib.Core.Path.{_≡_, refl, sym, ap, _∙_}
 use lib.Dec.{eqb, ltb, leb}
@@ -20,6 +20,7 @@ use Rattle.pages.specs.way.Asks.{WakeAsks}
 use Rattle.pages.proofs.Frames.{changes-unstow}
 use Rattle.pages.specs.Fair.{storeFair}
 use Rattle.calls.specs.Take.{sound, parkFair}
+use Rattle.take.specs.declared.take_plan.Plan.the-variants.{Refused, Fill}
 use Rattle.take.specs.way.TakePlan.{TakeAsks, SupplyAsks, walksFrom, fills, Foretold, ParkedAsks, woken}
 use Rattle.take.proofs.TakePages.{Fair, sound-fair, whole-below, Alike, fair-alike, latest-alike}
 use Rattle.take.proofs.TakeAlone.{link-changes, alone-walks, alone-planned}
@@ -171,24 +172,16 @@ module _ (n : ℕ) (b : List ℕ) (c : ℕ) (sh : Shape) (k : Park) (a : ParkedA
 
 -- ---- the plan
 module _ (n : ℕ) (b : List ℕ) (c : ℕ) (sh : Shape) (k : Park) where
-  pub parked-fails : (r : Bool) → r ≡ parkFair n b c sh k → not r ≡ true
-      → Foretold (record { fair = false; count = 0; virgin = false }) (parkFair n b c sh k) (fills (woken b c k) c sh)
-  parked-fails r e h =
-      let no : parkFair n b c sh k ≡ false = sym e ∙ not-true r h in
-      let never : parkFair n b c sh k ≡ true → ⊥ = λ t. true≢false (sym t ∙ no) in
-      record { fair = sym no; count = λ t. absurd (never t); virgin = λ t. absurd (never t) }
+  pub parked-fails : (r : Bool) → r ≡ parkFair n b c sh k → not r ≡ true → Foretold (Refused 13) (parkFair n b c sh k) (fills (woken b c k) c sh)
+  parked-fails r e h = rw (← e, not-true r h)
 
   pub parked-done : (r : Bool) (x m v : ℕ) → ParkedAsks n b c sh k → r ≡ parkFair n b c sh k → not r ≡ false → x ≡ get b (class (top k) c)
       → m ≡ length (latest b sh (x - 1) (sh .batch)) → v ≡ get b (page virgin (x - 1))
-      → Foretold (record { fair = true; count = m; virgin = eqb v 1 }) (parkFair n b c sh k) (fills (woken b c k) c sh)
+      → Foretold (Fill m (eqb v 1)) (parkFair n b c sh k) (fills (woken b c k) c sh)
   parked-done r x m v a e h ex em ev =
       let yes : parkFair n b c sh k ≡ true = sym e ∙ not-false r h in
       let w = woken-planned n b c sh k a yes in
-      record {
-        fair = sym yes;
-        count = λ t. rw (em, ex) (sym (ap (λ z. z .count) w));
-        virgin = λ t. rw (ev, ex) (sym (ap (λ z. z .virgin) w));
-      }
+      rw (yes, em, ev, ex) (ap (λ z. Fill (z .count) (z .virgin)) (sym w))
 
   pub plan-there : (r : Bool) (x : ℕ) → ParkedAsks n b c sh k → r ≡ parkFair n b c sh k → not r ≡ false → x ≡ get b (class (top k) c) → SupplyAsks b sh (x - 1)
   plan-there r x a e h ex = rw ex (parked-supply n b c sh k a (sym e ∙ not-false r h))

@@ -1,19 +1,21 @@
 -- The ways out of the takes.
-use Prim.Native.Nat.{ℕ, zero, suc, _+_, _-_, _≤_, _<_}
+use Prim.Native.Nat.{ℕ, zero, suc, _+_, _-_, _≤_, _<_, min}
 use native.Mathlib.Omega.{arith}
 use native.Mathlib.Numerals.{add-one}
-use mathlib.Core.Bool.{Bool, true, false, cond, not}
+use mathlib.Core.Bool.{Bool, true, false, cond}
 use mathlib.Core.List.{List}
 use mathlib.Core.Option.{Option, none, some}
 use mathlib.Core.Path.{_≡_, refl, sym, ap, _∙_}
 use lib.Dec.{eqb, ltb, leb}
 use lib.ListN.{length}
-use borrow.Author.Tests.{lt-ltb, le-ltb, le-leb, leb-true, eq-eqb, ne-eqb, eqb-true, not-true, not-false}
+use borrow.Author.Tests.{lt-ltb, le-ltb, le-leb, eq-eqb, ne-eqb, eqb-true}
+use Rattle.facts.specs.Lists.{isSome}
 use Rattle.facts.proofs.Bools.{by-cases}
 use Rattle.classes.specs.declared.Shape.{Shape}
 use Rattle.classes.specs.Shape.{shapeOf}
 use Rattle.classes.proofs.Shapes.{shape-sound}
-use Rattle.fields.specs.Field.{arena, class, page, frontier, partial, empty, cold, free, carved, words, get}
+use Rattle.fields.specs.Field.{arena, class, frontier, partial, empty, cold, words, get}
+use Rattle.fields.specs.Ranges.{maxPages}
 use Rattle.fields.proofs.Changes.{Changes}
 use Rattle.runs.specs.declared.Commit as Commit
 use Rattle.runs.specs.declared.Commit.the-variants as Made
@@ -21,108 +23,32 @@ use Rattle.arena.specs.Fair.{commitFair}
 use Rattle.arena.specs.Calls.{Committed, commitRefused, commitFor}
 use Rattle.runs.specs.Answer as Arena
 use Rattle.runs.specs.Answer.{Answers}
-use Rattle.model.specs.Arena as Model
+use Rattle.runs.specs.way.Found.{hasRun, Finds}
 use Rattle.pages.specs.Stack.{latest}
 use Rattle.pages.specs.Links.{link, top, wake}
-use Rattle.pages.specs.Carve.{newRun}
+use Rattle.pages.specs.Carve.{stocked, newRun}
 use Rattle.pages.specs.declared.Park.{Park}
 use Rattle.pages.specs.declared.Park.the-variants.{Empty, Cold}
-use Rattle.pages.specs.way.Asks.{WakeAsks, LinkAsks, NewAsks}
+use Rattle.pages.specs.way.Asks.{RowAsks, WakeAsks, LinkAsks, NewAsks}
+use Rattle.pages.proofs.Draws.{latest-length}
 use Rattle.take.specs.declared.call.Take as Taken
-use Rattle.take.specs.declared.call.Ready.{Ready}
-use Rattle.take.specs.declared.call.Ready.the-variants as Found
 use Rattle.take.specs.declared.call.Take.the-variants as Answer
 use Rattle.take.specs.declared.take_plan.Plan.{Plan}
-use Rattle.calls.specs.Take.{parkFair, Took, filled, fromPartial, fromPark, onRun, takeNew, takeBlocks, takeCall}
-use Rattle.take.specs.way.TakePlan.{TakeAsks, SupplyAsks, TakeRunAsks, TakeNewAsks, BlocksAsks, CallAsks, walksFrom, fills, Foretold, ParkedAsks, firstStore, woken, FillAsks, Filling}
-use Rattle.take.specs.way.TakeAnswer.{Takes, Readies, onRunAt}
+use Rattle.take.specs.declared.take_plan.Plan.the-variants.{Refused, Nothing, Fill}
+use Rattle.calls.specs.Take.{parkFair, Took, fromPartial, fromPark, onRun, takeNew, takeBlocks, takeCall}
+use Rattle.take.specs.way.TakePlan.{TakeAsks, TakeRunAsks, TakeNewAsks, SourceAsks, BlocksAsks, CallAsks, walksFrom, fills, Foretold, ParkedAsks, firstStore, woken, readied, FirstAsks, FillAsks, Filling}
+use Rattle.take.specs.way.TakeAnswer.{Takes, Serves, Readies, Plans, Counts, onRunAt}
 use Rattle.take.specs.Answer.{answerOf}
 use Rattle.take.proofs.TakePages.{Fair}
 use Rattle.take.proofs.Fill.{fill-most, foreseen, fill-planned}
 use Rattle.take.proofs.TakeAlone.{link-changes, alone-walks, alone-planned}
-use Rattle.take.proofs.TakeNew.{isNew, new-changes, new-fair, new-virgin}
+use Rattle.take.proofs.TakeNew.{isNew, stocked-le, new-changes, new-free, new-carved, new-fair, new-virgin}
 use Rattle.take.proofs.TakeGranted.{commit-granted}
 use Rattle.take.proofs.TakeParked.{parked-wakes, woken-asks, woken-walks}
 
--- ---- every take that is done
-module _ (b : List ℕ) (c : ℕ) (sh : Shape) (l : List ℕ) where
-  fits : (n k : ℕ) → TakeAsks n b c sh → walksFrom n b c sh ≡ true → k ≡ length (fills b c sh .blocks) → sh .batch ≤ length l → FillAsks b c sh l k
-  fits n k a w e h = record { pages = n; asks = a; walks = w; count = e; places = omega (arith, fill-most c sh (sh .batch) (sh .batch) b) }
-
-  took-all : (k : ℕ) (v : Bool) (b′ l′ : List ℕ) → k ≡ length (fills b c sh .blocks) → v ≡ fills b c sh .virgin → Filling b′ l′ (fills b c sh) l → Takes (Answer.Took k v) b′ l′ (filled b c sh l)
-  took-all k v b′ l′ e e′ f = record { answer = rw (e, e′); book = f .book; list = f .list }
-
--- ---- a source: it refuses, has nothing, or has what fills the list
-module _ (b : List ℕ) (c : ℕ) (sh : Shape) (t : List ℕ → Took) where
-  refuses : (k : ℕ) → ((l : List ℕ) → Takes (Answer.Refused k) b l (t l)) → Readies (Found.Refused k) b c sh t
-  refuses k h =
-      record {
-        refused = λ j e l. let z : k ≡ j = cc in rw z at (h l);
-        nothing = λ e. absurd (let z : _≡_ {A = ℕ} 0 1 = cc in omega arith);
-        asks = λ m v e. absurd (let z : _≡_ {A = ℕ} 0 1 = cc in omega arith);
-        ends = λ m v e. absurd (let z : _≡_ {A = ℕ} 0 1 = cc in omega arith);
-      }
-
-  has-none : ((l : List ℕ) → Takes (Answer.Took 0 false) b l (t l)) → Readies Found.Nothing b c sh t
-  has-none h =
-      record {
-        refused = λ j e. absurd (let z : _≡_ {A = ℕ} 0 1 = cc in omega arith);
-        nothing = λ e. h;
-        asks = λ m v e. absurd (let z : _≡_ {A = ℕ} 0 1 = cc in omega arith);
-        ends = λ m v e. absurd (let z : _≡_ {A = ℕ} 0 1 = cc in omega arith);
-      }
-
-  has-some : (k : ℕ) (w : Bool) → ((l : List ℕ) → sh .batch ≤ length l → FillAsks b c sh l k) → ((l b′ l′ : List ℕ) → Filling b′ l′ (fills b c sh) l → Takes (Answer.Took k w) b′ l′ (t l)) → Readies (Found.Fill k w) b c sh t
-  has-some k w h g =
-      record {
-        refused = λ j e. absurd (let z : _≡_ {A = ℕ} 0 1 = cc in omega arith);
-        nothing = λ e. absurd (let z : _≡_ {A = ℕ} 0 1 = cc in omega arith);
-        asks = λ m v e l r. let z : k ≡ m = cc in rw z at (h l r);
-        ends = λ m v e l b′ l′ f. let z : Answer.Took k w ≡ Answer.Took m v = cc in rw z at (g l b′ l′ f);
-      }
-
-  -- another way to say the same take
-  said : (r : Ready) (u : List ℕ → Took) → ((l : List ℕ) → u l ≡ t l) → Readies r b c sh t → Readies r b c sh u
-  said r u e h =
-      record {
-        refused = λ k f l. rw (e l) (h .refused k f l);
-        nothing = λ f l. rw (e l) (h .nothing f l);
-        asks = h .asks;
-        ends = λ m v f l b′ l′ g. rw (e l) (h .ends m v f l b′ l′ g);
-      }
-
--- ---- the partial list
-module _ (n : ℕ) (b : List ℕ) (c : ℕ) (sh : Shape) (p : Plan) (f : Foretold p (walksFrom n b c sh) (fills b c sh)) where
-  pub partial-refused : not (p .fair) ≡ true → Readies (Found.Refused 13) b c sh (fromPartial n b c sh)
-  unfolding fromPartial
-  partial-refused h = refuses b c sh (fromPartial n b c sh) 13 (λ l. rw (sym (f .fair) ∙ not-true (p .fair) h) (record { answer = refl; book = refl; list = refl }))
-
-  pub partial-ready : TakeAsks n b c sh → not (p .fair) ≡ false → Readies (Found.Fill (p .count) (p .virgin)) b c sh (fromPartial n b c sh)
-  unfolding fromPartial
-  partial-ready a h =
-      let w = sym (f .fair) ∙ not-false (p .fair) h in
-      has-some b c sh (fromPartial n b c sh) (p .count) (p .virgin)
-      (λ l r. fits b c sh l n (p .count) a w (f .count w) r)
-      (λ l b′ l′ g. rw w (took-all b c sh l (p .count) (p .virgin) b′ l′ (f .count w) (f .virgin w) g))
-
--- ---- a store
-module _ (n : ℕ) (b : List ℕ) (c : ℕ) (sh : Shape) (k : Park) (p : Plan) (f : Foretold p (parkFair n b c sh k) (fills (woken b c k) c sh)) where
-  pub parked-refused : not (p .fair) ≡ true → Readies (Found.Refused 13) b c sh (fromPark n b c sh k)
-  unfolding fromPark
-  parked-refused h = refuses b c sh (fromPark n b c sh k) 13 (λ l. rw (sym (f .fair) ∙ not-true (p .fair) h) (record { answer = refl; book = refl; list = refl }))
-
-  pub parked-wake : (x : ℕ) → ParkedAsks n b c sh k → not (p .fair) ≡ false → x ≡ get b (class (top k) c) → WakeAsks b c k (x - 1)
-  parked-wake x a h e = rw e (parked-wakes n b c sh k a (sym (f .fair) ∙ not-false (p .fair) h))
-
-  pub parked-ready : (x : ℕ) (b₁ : List ℕ) → ParkedAsks n b c sh k → not (p .fair) ≡ false → x ≡ get b (class (top k) c) → b₁ ≡ wake b c k (x - 1)
-      → Readies (Found.Fill (p .count) (p .virgin)) b₁ c sh (fromPark n b c sh k)
-  unfolding fromPark
-  parked-ready x b₁ a h e e₁ =
-      let w = sym (f .fair) ∙ not-false (p .fair) h in
-      rw (e₁, e)
-      (has-some (woken b c k) c sh (fromPark n b c sh k) (p .count) (p .virgin)
-      (λ l r. fits (woken b c k) c sh l n (p .count) (woken-asks n b c sh k a w) (woken-walks n b c sh k a w) (f .count w) r)
-      (λ l b′ l′ g. rw w (took-all (woken b c k) c sh l (p .count) (p .virgin) b′ l′ (f .count w) (f .virgin w) g)))
+-- another way to say the same take
+said : {f g : List ℕ → Took} → ((l : List ℕ) → f l ≡ g l) → f ≡ g
+said h = λ i. λ l. h l i
 
 -- ---- a run of the arena
 module _ (b : List ℕ) (c : ℕ) (sh : Shape) (q : ℕ) where
@@ -174,19 +100,12 @@ module _ (b : List ℕ) (c : ℕ) (sh : Shape) (q : ℕ) where
     pub linked-walks : walksFrom n (link (newRun b sh q) c q) c sh ≡ true
     linked-walks = alone-walks n (newRun b sh q) long₁ c hc q (lt-ltb q n in-arena) alone sh (a .asks .shape .few) 0 (sh .batch) fair wants under₁ (sh .batch) (a .asks .shape .gives)
 
-    pub linked-planned : foreseen (fills (link (newRun b sh q) c q) c sh) ≡ record { count = length (latest (newRun b sh q) sh q (sh .batch)); virgin = true }
+    linked-planned : foreseen (fills (link (newRun b sh q) c q) c sh) ≡ record { count = length (latest (newRun b sh q) sh q (sh .batch)); virgin = true }
     linked-planned =
         let w = linked-asks in
         fill-planned n c hc sh (a .asks .shape) (sh .batch) (sh .batch) (link (newRun b sh q) c q) (le-leb (words n) (length (link (newRun b sh q) c q)) (w .long)) (w .bound) linked-walks
         ∙ alone-planned n (newRun b sh q) long₁ c hc q (lt-ltb q n in-arena) alone sh (a .asks .shape .few) 0 (sh .batch) fair wants under₁ (sh .batch) (a .asks .shape .gives)
         ∙ rw (new-virgin n b hb c sh (a .asks .shape) q (a .ends) (a .under) (a .owners))
-
-  pub run-supply : (b₁ : List ℕ) → TakeRunAsks b c sh q → b₁ ≡ newRun b sh q → SupplyAsks b₁ sh q
-  run-supply b₁ a e =
-      let f = fair a in
-      let x = leb-true (get (newRun b sh q) (page free q)) (get (newRun b sh q) (page carved q)) (f .stack) in
-      let y = leb-true (get (newRun b sh q) (page carved q)) (sh .capacity) (f .within) in
-      rw e (record { there = rw (changes a .long) (omega (arith, in-arena a, a .asks .long)); some = omega (arith, a .asks .shape .few); carved = y; few = a .asks .shape .few })
 
   pub run-links : (b₁ : List ℕ) → TakeRunAsks b c sh q → b₁ ≡ newRun b sh q → LinkAsks b₁ c q
   run-links b₁ a e =
@@ -197,16 +116,26 @@ module _ (b : List ℕ) (c : ℕ) (sh : Shape) (q : ℕ) where
         head = rw (alone a, changes a .long) (omega (arith, in-arena a, a .asks .long));
       })
 
-  pub run-ready : (b₁ : List ℕ) (k : ℕ) (b₂ : List ℕ) → TakeRunAsks b c sh q → b₁ ≡ newRun b sh q → k ≡ length (latest b₁ sh q (sh .batch)) → b₂ ≡ link b₁ c q
-      → Readies (Found.Fill k true) b₂ c sh (onRunAt b c sh q)
-  unfolding onRun
-  run-ready b₁ k b₂ a e ek e₂ =
-      let b₃ = link (newRun b sh q) c q in
-      let many : k ≡ length (fills b₃ c sh .blocks) = (rw e at ek) ∙ sym (ap (λ z. z .count) (linked-planned a)) in
-      rw (e₂, e)
-      (has-some b₃ c sh (onRunAt b c sh q) k true
-      (λ l r. fits b₃ c sh l (a .pages) k (linked-asks a) (linked-walks a) many r)
-      (λ l b′ l′ g. took-all b₃ c sh l k true b′ l′ many (sym (ap (λ z. z .virgin) (linked-planned a))) g))
+  module _ (a : TakeRunAsks b c sh q) where
+    gives : (m k top : ℕ) → k ≤ top → min m k + min (m - k) (top - k) ≡ min m top
+    gives m k top h = omega arith
+
+    -- with no block out it gives what is wanted, up to its capacity
+    run-gives : length (latest (newRun b sh q) sh q (sh .batch)) ≡ min (sh .batch) (sh .capacity)
+    run-gives =
+        let fr = new-free (a .pages) b (hb a) c sh (a .asks .shape) q (a .ends) (a .under) (a .owners) in
+        let ca = new-carved (a .pages) b (hb a) c sh (a .asks .shape) q (a .ends) (a .under) (a .owners) in
+        latest-length (newRun b sh q) sh q (sh .batch) ∙ rw (fr, ca) (gives (sh .batch) (stocked sh) (sh .capacity) (stocked-le sh))
+
+    run-serves : Serves (min (sh .batch) (sh .capacity)) true (link (newRun b sh q) c q) c sh (onRunAt b c sh q)
+    unfolding onRun
+    run-serves =
+        let p = linked-planned a in
+        record { pages = a .pages; asks = linked-asks a; walks = linked-walks a; count = sym (ap (λ z. z .count) p ∙ run-gives); virgin = sym (ap (λ z. z .virgin) p); is = λ l. refl }
+
+  pub run-ready : (b₁ b₂ : List ℕ) (k : ℕ) → TakeRunAsks b c sh q → b₁ ≡ newRun b sh q → b₂ ≡ link b₁ c q → k ≡ min (sh .batch) (sh .capacity) → Readies (Fill k true) b₂ c sh (onRunAt b c sh q)
+  unfolding Readies
+  run-ready b₁ b₂ k a e e₂ ek = rw (e₂, e, ek) (run-serves a)
 
 -- ---- what the arena answered
 answer-refused : (code : ℕ) (run : Option ℕ) (f : Bool) (k : ℕ) → Arena.answerOf code run f ≡ Made.Refused k → (code ≡ k) × (k ≡ 0 → ⊥)
@@ -244,19 +173,18 @@ module _ (n : ℕ) (b : List ℕ) (c : ℕ) (sh : Shape) (h : ℕ) where
     told : Answers r b₁ commits
     told = rw add-one at a
 
-    pub new-refused : (k : ℕ) → r ≡ Made.Refused k → Readies (Found.Refused k) b₁ c sh (takeNew n b c sh h)
-    unfolding takeNew
-    new-refused k e =
+    pub new-refused : (k : ℕ) → r ≡ Made.Refused k → Readies (Refused k) b₁ c sh (takeNew n b c sh h)
+    unfolding takeNew Readies
+    new-refused k e l =
         let u = answer-refused (commits .code) (commits .run) (commits .fresh) k (sym (told .answer) ∙ e) in
         let d : commits .code ≡ 0 → ⊥ = λ z. u .1 (sym (u .0) ∙ z) in
-        refuses b₁ c sh (takeNew n b c sh h) k
-        (λ l. rw (ne-eqb (commits .code) 0 d, u .0) (record { answer = numbered k (u .1); book = told .book ∙ refused-keeps d; list = refl }))
+        rw (ne-eqb (commits .code) 0 d, u .0) (record { answer = numbered k (u .1); book = told .book ∙ refused-keeps d; list = refl })
 
-    pub new-none : r ≡ Made.Nothing → Readies Found.Nothing b₁ c sh (takeNew n b c sh h)
-    unfolding takeNew onRun
-    new-none e =
+    pub new-none : r ≡ Made.Nothing → Readies Nothing b₁ c sh (takeNew n b c sh h)
+    unfolding takeNew onRun Readies
+    new-none e l =
         let u = answer-none (commits .code) (commits .run) (commits .fresh) (sym (told .answer) ∙ e) in
-        has-none b₁ c sh (takeNew n b c sh h) (λ l. rw (u .0, u .1) (record { answer = refl; book = told .book; list = refl }))
+        rw (u .0, u .1) (record { answer = refl; book = told .book; list = refl })
 
     module _ (q : ℕ) (f : Bool) (e : r ≡ Made.Run q f) where
       granted : (commits .code ≡ 0) × (commits .run ≡ some q)
@@ -274,44 +202,94 @@ module _ (n : ℕ) (b : List ℕ) (c : ℕ) (sh : Shape) (h : ℕ) where
             owners = g .owners;
           })
 
-      pub new-ready : (s : Ready) (b₂ : List ℕ) → Readies s b₂ c sh (onRunAt b₁ c sh q) → Readies s b₂ c sh (takeNew n b c sh h)
+      pub new-ready : (s : Plan) (b₂ : List ℕ) → Readies s b₂ c sh (onRunAt b₁ c sh q) → Readies s b₂ c sh (takeNew n b c sh h)
       unfolding takeNew
-      new-ready s b₂ t = said b₂ c sh (onRunAt b₁ c sh q) s (takeNew n b c sh h) (λ l. rw (granted .0, granted .1, told .book)) t
+      new-ready s b₂ t = let z : takeNew n b c sh h ≡ onRunAt b₁ c sh q = said (λ l. rw (granted .0, granted .1, told .book)) in rw z t
 
--- ---- the sources in their order
-module _ (n : ℕ) (b : List ℕ) (c : ℕ) (sh : Shape) (h f : ℕ) (e : f ≡ get b (arena frontier)) where
-  pub blocks-unfair : n < f → Readies (Found.Refused 13) b c sh (takeBlocks n b c sh h)
-  unfolding takeBlocks
-  blocks-unfair u = refuses b c sh (takeBlocks n b c sh h) 13 (λ l. rw (← e, lt-ltb n f u) (record { answer = refl; book = refl; list = refl }))
+-- ---- a parked page heads the partial list
+module _ (b : List ℕ) (c x : ℕ) (ex : x ≡ get b (class partial c)) where
+  pub woken-first : (k : Park) (y : ℕ) (b₁ : List ℕ) → x ≡ 0 → k ≡ firstStore b c → y ≡ get b (class (top k) c) → b₁ ≡ wake b c k (y - 1) → b₁ ≡ readied b c
+  unfolding readied
+  woken-first k y b₁ z ek ey e₁ = rw (← ex, z, ← ek, ← ey) e₁
 
-  module _ (u : f ≤ n) (x : ℕ) (ex : x ≡ get b (class partial c)) where
-    pub blocks-partial : (s : Ready) → (x ≡ 0 → ⊥) → Readies s b c sh (fromPartial n b c sh) → Readies s b c sh (takeBlocks n b c sh h)
-    unfolding takeBlocks
-    blocks-partial s d t = said b c sh (fromPartial n b c sh) s (takeBlocks n b c sh h) (λ l. rw (← e, le-ltb n f u, ← ex, ne-eqb x 0 d)) t
+  pub listed-first : (x ≡ 0 → ⊥) → b ≡ readied b c
+  unfolding readied
+  listed-first d = rw (← ex, ne-eqb x 0 d)
 
-    module _ (z : x ≡ 0) (k : Park) (ek : k ≡ firstStore b c) (y : ℕ) (ey : y ≡ get b (class (top k) c)) where
-      -- no store has a page where the first has none
-      no-empty : y ≡ 0 → get b (class empty c) ≡ 0
-      no-empty o = by-cases (eqb (get b (class empty c)) 0) (eqb-true (get b (class empty c)) 0) (λ w. let k′ : k ≡ Empty = ek ∙ rw w in sym (ap (λ j. get b (class (top j) c)) k′) ∙ sym ey ∙ o)
+  module _ (a : FirstAsks b c) (z : x ≡ 0) (k : Park) (ek : k ≡ firstStore b c) (y : ℕ) (ey : y ≡ get b (class (top k) c)) where
+    pub first-some : 1 ≤ y
+    first-some = let o = a .some (sym ex ∙ z) in rw (ey, ek) o
 
-      no-cold : y ≡ 0 → get b (class cold c) ≡ 0
-      no-cold o = let k′ : k ≡ Cold = ek ∙ rw (eq-eqb (get b (class empty c)) 0 (no-empty o)) in sym (ap (λ j. get b (class (top j) c)) k′) ∙ sym ey ∙ o
+    pub first-wakes : WakeAsks b c k (y - 1)
+    first-wakes = let o = a .wakes (sym ex ∙ z) in rw (ey, ek) o
 
-      pub blocks-new : (s : Ready) (b₁ : List ℕ) → y ≡ 0 → Readies s b₁ c sh (takeNew n b c sh h) → Readies s b₁ c sh (takeBlocks n b c sh h)
-      unfolding takeBlocks
-      blocks-new s b₁ o t = said b₁ c sh (takeNew n b c sh h) s (takeBlocks n b c sh h) (λ l. rw (← e, le-ltb n f u, ← ex, z, no-empty o, no-cold o)) t
+-- ---- the first source that has a page
+module _ (n : ℕ) (b : List ℕ) (c : ℕ) (sh : Shape) (f : ℕ) (e : f ≡ get b (arena frontier)) where
+  pub plan-unfair : n < f → Plans (Refused 13) n b c sh
+  unfolding Plans takeBlocks
+  plan-unfair u = (refl, λ h l. rw (← e, lt-ltb n f u))
 
-      pub blocks-parked : (s : Ready) (b₁ : List ℕ) → (y ≡ 0 → ⊥) → Readies s b₁ c sh (fromPark n b c sh k) → Readies s b₁ c sh (takeBlocks n b c sh h)
-      unfolding takeBlocks
-      blocks-parked s b₁ d t =
-          by-cases (eqb (get b (class empty c)) 0)
-          (λ w.
-          let k′ : k ≡ Cold = ek ∙ rw w in
-          let some-cold : get b (class cold c) ≡ 0 → ⊥ = λ o. d (ey ∙ ap (λ j. get b (class (top j) c)) k′ ∙ o) in
-          said b₁ c sh (fromPark n b c sh k) s (takeBlocks n b c sh h) (λ l. rw (← e, le-ltb n f u, ← ex, z, w, ne-eqb (get b (class cold c)) 0 some-cold, k′)) t)
-          (λ w.
-          let k′ : k ≡ Empty = ek ∙ rw w in
-          said b₁ c sh (fromPark n b c sh k) s (takeBlocks n b c sh h) (λ l. rw (← e, le-ltb n f u, ← ex, z, w, k′)) t)
+  module _ (a : SourceAsks n b c sh) (u : f ≤ n) where
+    source-asks : TakeAsks n b c sh
+    source-asks = record { known = a .known; shape = a .shape; few = a .few; long = a .long; bound = omega arith }
+
+    row : RowAsks b c
+    row = record { known = a .known; long = omega (arith, a .long) }
+
+    module _ (x : ℕ) (ex : x ≡ get b (class partial c)) where
+      module _ (d : x ≡ 0 → ⊥) where
+        lists : (h : ℕ) (l : List ℕ) → takeBlocks n b c sh h l ≡ fromPartial n b c sh l
+        unfolding takeBlocks
+        lists h l = rw (← e, le-ltb n f u, ← ex, ne-eqb x 0 d)
+
+        pub plan-listed : (p : Plan) → Foretold p (walksFrom n b c sh) (fills b c sh) → Plans p n b c sh
+        unfolding Plans fromPartial
+        plan-listed p t =
+            let never : get b (class partial c) ≡ 0 → ⊥ = λ o. d (ex ∙ o) in
+            by-cases (walksFrom n b c sh)
+            (λ w. rw (t, w) (
+              record { row = row; some = λ o. absurd (never o); wakes = λ o. absurd (never o) },
+              λ h. rw (← (listed-first b c x ex d)) (record { pages = n; asks = source-asks; walks = w; count = refl; virgin = refl; is = λ l. lists h l ∙ rw w }),
+            ))
+            (λ w. rw (t, w) (refl, λ h l. lists h l ∙ rw w))
+
+      module _ (z : x ≡ 0) (k : Park) (ek : k ≡ firstStore b c) (y : ℕ) (ey : y ≡ get b (class (top k) c)) where
+        -- no store has a page where the first has none
+        no-empty : y ≡ 0 → get b (class empty c) ≡ 0
+        no-empty o = by-cases (eqb (get b (class empty c)) 0) (eqb-true (get b (class empty c)) 0) (λ w. let k′ : k ≡ Empty = ek ∙ rw w in sym (ap (λ j. get b (class (top j) c)) k′) ∙ sym ey ∙ o)
+
+        no-cold : y ≡ 0 → get b (class cold c) ≡ 0
+        no-cold o = let k′ : k ≡ Cold = ek ∙ rw (eq-eqb (get b (class empty c)) 0 (no-empty o)) in sym (ap (λ j. get b (class (top j) c)) k′) ∙ sym ey ∙ o
+
+        pub plan-none : y ≡ 0 → Plans Nothing n b c sh
+        unfolding Plans takeBlocks
+        plan-none o = (record { asks = source-asks; alone = sym ex ∙ z }, λ h l. rw (← e, le-ltb n f u, ← ex, z, no-empty o, no-cold o))
+
+        module _ (d : y ≡ 0 → ⊥) where
+          parks : (h : ℕ) (l : List ℕ) → takeBlocks n b c sh h l ≡ fromPark n b c sh k l
+          unfolding takeBlocks
+          parks h l =
+              by-cases (eqb (get b (class empty c)) 0)
+              (λ w.
+              let k′ : k ≡ Cold = ek ∙ rw w in
+              let some-cold : get b (class cold c) ≡ 0 → ⊥ = λ o. d (ey ∙ ap (λ j. get b (class (top j) c)) k′ ∙ o) in
+              rw (← e, le-ltb n f u, ← ex, z, w, ne-eqb (get b (class cold c)) 0 some-cold, k′))
+              (λ w. let k′ : k ≡ Empty = ek ∙ rw w in rw (← e, le-ltb n f u, ← ex, z, w, k′))
+
+          parked-asks : ParkedAsks n b c sh k
+          parked-asks = record { asks = source-asks; alone = sym ex ∙ z; some = omega (arith, ey, d) }
+
+          pub plan-stored : (p : Plan) → Foretold p (parkFair n b c sh k) (fills (woken b c k) c sh) → Plans p n b c sh
+          unfolding Plans fromPark
+          plan-stored p t =
+              let g = parked-asks in
+              by-cases (parkFair n b c sh k)
+              (λ w. rw (t, w) (
+                record { row = row; some = λ _. rw (← ek) (g .some); wakes = λ _. rw (← ek) (parked-wakes n b c sh k g w) },
+                λ h. rw (← (woken-first b c x ex k y (woken b c k) z ek ey (ap (λ j. wake b c k (j - 1)) (sym ey))))
+                    (record { pages = n; asks = woken-asks n b c sh k g w; walks = woken-walks n b c sh k g w; count = refl; virgin = refl; is = λ l. parks h l ∙ rw w }),
+              ))
+              (λ w. rw (t, w) (refl, λ h l. parks h l ∙ rw w))
 
 pub store-empty : (b : List ℕ) (c y : ℕ) → y ≡ get b (class empty c) → (y ≡ 0 → ⊥) → Empty ≡ firstStore b c
 store-empty b c y e d = rw (← e, ne-eqb y 0 d)
@@ -319,20 +297,99 @@ store-empty b c y e d = rw (← e, ne-eqb y 0 d)
 pub store-cold : (b : List ℕ) (c y : ℕ) → y ≡ get b (class empty c) → y ≡ 0 → Cold ≡ firstStore b c
 store-cold b c y e z = rw (← e, eq-eqb y 0 z)
 
+-- ---- it is made ready
+module _ (n : ℕ) (b : List ℕ) (c : ℕ) (sh : Shape) (p : Plan) (a : Plans p n b c sh) where
+  pub made-refused : (h k : ℕ) → p ≡ Refused k → Readies (Refused k) b c sh (takeBlocks n b c sh h)
+  unfolding Plans Readies
+  made-refused h k e l = let q = rw e at a in rw (q .1 h l, q .0) (record { answer = refl; book = refl; list = refl })
+
+  pub made-asks : p ≡ Nothing → TakeNewAsks n b c sh
+  unfolding Plans
+  made-asks e = let q = rw e at a in q .0
+
+  pub made-new : (h : ℕ) (s : Plan) (b₁ : List ℕ) → p ≡ Nothing → Readies s b₁ c sh (takeNew n b c sh h) → Readies s b₁ c sh (takeBlocks n b c sh h)
+  unfolding Plans
+  made-new h s b₁ e t = let q = rw e at a in let z : takeBlocks n b c sh h ≡ takeNew n b c sh h = said (q .1 h) in rw z t
+
+  module _ (m : ℕ) (v : Bool) (e : p ≡ Fill m v) where
+    pub made-first : FirstAsks b c
+    unfolding Plans
+    made-first = let q = rw e at a in q .0
+
+    pub made-ready : (h : ℕ) (b₁ : List ℕ) → b₁ ≡ readied b c → Readies (Fill m v) b₁ c sh (takeBlocks n b c sh h)
+    unfolding Plans Readies
+    made-ready h b₁ e₁ = let q = rw e at a in rw e₁ (q .1 h)
+
+-- ---- the class's shape
+pub shape-asks : (n : ℕ) (b : List ℕ) (c : ℕ) (sh : Shape) → sh ≡ shapeOf c → CallAsks n b c → SourceAsks n b c sh
+shape-asks n b c sh e a = record { known = a .known; shape = rw e (shape-sound c); few = a .few; long = a .long }
+
+pub shape-pages : (c : ℕ) (sh : Shape) → sh ≡ shapeOf c → sh .pages ≤ maxPages + 1
+shape-pages c sh e = omega (arith, shape-sound c .short, ap (λ z. z .pages) e)
+
+-- ---- how many blocks it is, all being granted
+module _ (n : ℕ) (b : List ℕ) (c : ℕ) (sh : Shape) (i : sh ≡ shapeOf c) (p : Plan) (a : Plans p n b c sh) where
+  pub counts-none : (k : ℕ) → p ≡ Refused k → Counts 0 n b c (shapeOf c)
+  unfolding Plans
+  counts-none k e l = let q = rw e at a in rw (← i, q .1 15 l)
+
+  pub counts-some : (m : ℕ) (v : Bool) → p ≡ Fill m v → Counts m n b c (shapeOf c)
+  unfolding Plans
+  counts-some m v e l = let q = rw e at a in rw (← i, q .1 15 .is l) (q .1 15 .count)
+
+  module _ (e : p ≡ Nothing) where
+    plan : Plans Nothing n b c sh
+    plan = rw e at a
+
+    abbrev commits′ : Committed
+    commits′ = commitFor n b 15 (sh .pages) (suc c)
+
+    no-page : TakeNewAsks n b c sh
+    unfolding Plans
+    no-page = plan .0
+
+    new-count : (l : List ℕ) → takeBlocks n b c sh 15 l .count ≡ cond (hasRun commits′) (min (sh .batch) (sh .capacity)) 0
+    unfolding Plans takeNew onRun
+    new-count l =
+        rw (plan .1 15 l)
+        (by-cases (eqb (commits′ .code) 0)
+        (λ w. rw w (go (commits′ .run) refl (eqb-true (commits′ .code) 0 w)))
+        (λ w. rw w))
+      where
+        go : (o : Option ℕ) → commits′ .run ≡ o → commits′ .code ≡ 0 → onRun (commits′ .book) c sh l (commits′ .run) .count ≡ cond (isSome (commits′ .run)) (min (sh .batch) (sh .capacity)) 0
+        go none g w = rw g
+        go (some q) g w =
+            let r = new-runs n b c sh 15 (Made.Run q (commits′ .fresh)) (commits′ .book) (rw add-one (record { answer = rw (w, g); book = refl })) q (commits′ .fresh) refl no-page in
+            let s = run-serves (commits′ .book) c sh q r in
+            rw g (ap (λ z. z .count) (s .is l) ∙ sym (s .count))
+
+    module _ (t : Bool) (j : Finds t n b (sh .pages)) where
+      pub counts-new : (k : ℕ) → t ≡ true → k ≡ min (sh .batch) (sh .capacity) → Counts k n b c (shapeOf c)
+      counts-new k w g l = rw (← i) (g ∙ sym (new-count l ∙ rw (← (j (suc c)), w)))
+
+      pub counts-off : t ≡ false → Counts 0 n b c (shapeOf c)
+      counts-off w l = rw (← i) (sym (new-count l ∙ rw (← (j (suc c)), w)))
+
 -- ---- the fill
-module _ (n : ℕ) (b : List ℕ) (c : ℕ) (sh : Shape) (h : ℕ) (l : List ℕ) (r : Ready) (b₁ : List ℕ) (a : Readies r b₁ c sh (takeBlocks n b c sh h)) where
-  pub take-refused : (k : ℕ) → r ≡ Found.Refused k → Takes (Answer.Refused k) b₁ l (takeBlocks n b c sh h l)
-  take-refused k e = a .refused k e l
+module _ (n : ℕ) (b : List ℕ) (c : ℕ) (sh : Shape) (h : ℕ) (l : List ℕ) (r : Plan) (b₁ : List ℕ) (a : Readies r b₁ c sh (takeBlocks n b c sh h)) where
+  pub take-refused : (k : ℕ) → r ≡ Refused k → Takes (Answer.Refused k) b₁ l (takeBlocks n b c sh h l)
+  unfolding Readies
+  take-refused k e = let q = rw e at a in q l
 
-  pub take-none : r ≡ Found.Nothing → Takes (Answer.Took 0 false) b₁ l (takeBlocks n b c sh h l)
-  take-none e = a .nothing e l
+  pub take-none : r ≡ Nothing → Takes (Answer.Took 0 false) b₁ l (takeBlocks n b c sh h l)
+  unfolding Readies
+  take-none e = let q = rw e at a in q l
 
-  module _ (m : ℕ) (v : Bool) (e : r ≡ Found.Fill m v) where
+  module _ (m : ℕ) (v : Bool) (e : r ≡ Fill m v) where
+    serves : Serves m v b₁ c sh (takeBlocks n b c sh h)
+    unfolding Readies
+    serves = rw e at a
+
     pub take-fills : BlocksAsks n b c sh l → FillAsks b₁ c sh l m
-    take-fills k = a .asks m v e l (k .places)
+    take-fills k = let s = serves in record { pages = s .pages; asks = s .asks; walks = s .walks; count = s .count; places = omega (arith, fill-most c sh (sh .batch) (sh .batch) b₁, s .count, k .places) }
 
     pub take-took : (b′ l′ : List ℕ) → Filling b′ l′ (fills b₁ c sh) l → Takes (Answer.Took m v) b′ l′ (takeBlocks n b c sh h l)
-    take-took b′ l′ g = a .ends m v e l b′ l′ g
+    take-took b′ l′ g = let s = serves in rw (s .is l, s .count, s .virgin) (record { answer = refl; book = g .book; list = g .list })
 
 -- ---- the call
 module _ (n : ℕ) (b : List ℕ) (c h : ℕ) (l : List ℕ) where
@@ -341,7 +398,7 @@ module _ (n : ℕ) (b : List ℕ) (c h : ℕ) (l : List ℕ) where
   call-short sh e s = rw (← e, lt-ltb (length l) (sh .batch) s) (record { answer = refl; book = refl; list = refl })
 
   pub call-asks : (sh : Shape) → CallAsks n b c → sh ≡ shapeOf c → sh .batch ≤ length l → BlocksAsks n b c sh l
-  call-asks sh a e s = record { known = a .known; shape = rw e (shape-sound c); few = a .few; long = a .long; places = s }
+  call-asks sh a e s = record { source = shape-asks n b c sh e a; places = s }
 
   pub call-done : (sh : Shape) (r : Taken.Take) (b′ l′ : List ℕ) → sh ≡ shapeOf c → sh .batch ≤ length l → Takes r b′ l′ (takeBlocks n b c sh h l) → Takes r b′ l′ (takeCall n b c (shapeOf c) h l)
   unfolding takeCall

@@ -1,3 +1,2 @@
 pub mod TakePlan
 pub mod TakeAnswer
-pub mod TakeCount

@@ -1,17 +1,14 @@
 // Takes of blocks, small and medium, from number 5 on: the first source that has a page is made ready, then the list is filled.
 ghost use mathlib.Core.Path.{_≡_};
 ghost use Rattle.classes.specs.Shape.{shapeOf};
-ghost use Rattle.pages.specs.way.Asks.{RowAsks};
-ghost use Rattle.calls.specs.Take.{fromPartial, fromPark, takeNew, takeBlocks, takeCall};
-ghost use Rattle.take.specs.way.TakePlan.{TakeAsks, ParkedAsks, TakeRunAsks, TakeNewAsks, BlocksAsks, CallAsks, firstStore};
-ghost use Rattle.take.specs.way.TakeCount.{CountAsks};
-ghost use Rattle.take.specs.way.TakeAnswer.{Takes, TakesInto, Readies, onRunAt};
+ghost use Rattle.calls.specs.Take.{takeNew, takeBlocks, takeCall};
+ghost use Rattle.take.specs.way.TakePlan.{readied, FirstAsks, TakeRunAsks, TakeNewAsks, SourceAsks, BlocksAsks, CallAsks};
+ghost use Rattle.take.specs.way.TakeAnswer.{Takes, TakesInto, Readies, Counts, onRunAt};
 use crate::take_fill::fill;
-use crate::take_plan::plan_parked;
-use crate::take_plan::plan_partial;
-use crate::take_plan::supply;
+use crate::take_plan::Plan;
+use crate::take_plan::first_store;
+use crate::take_plan::plan_take;
 use classes::Shape;
-use pages::Park;
 use runs::Commit;
 
 // A refusal's number, or how many blocks stand in the list, and whether all are virgin.
@@ -20,90 +17,54 @@ pub enum Take {
     Took(u32, bool),
 }
 
-// What a source has: a refusal's number, no page, or how many blocks the partial list gives now, and whether all are virgin.
-pub enum Ready {
-    Refused(u32),
-    Nothing,
-    Fill(u32, bool),
-}
-
-// The partial list.
-fn ready_partial(meta: &[u32], n: u32, c: u32, shape: Shape) -> Ready
-    requires { ⌜ TakeAsks n (now meta) c shape ⌝ }
-    ensures { λ r. ⌜ Readies r (now (meta .entry)) c shape (fromPartial n (now (meta .entry)) c shape) ⌝ }
-{
-    let plan = plan_partial(meta, n, c, shape);
-    if !plan.fair {
-        return Ready::Refused(13);
-    }
-    Ready::Fill(plan.count, plan.virgin)
-}
-
-// The newest page of a store, where there is no partial page.
-fn ready_parked(meta: &mut [u32], n: u32, c: u32, shape: Shape, park: Park) -> Ready
-    requires { ⌜ ParkedAsks n (now meta) c shape park ⌝ }
-    ensures { λ r. ⌜ Readies r (now (meta .exit)) c shape (fromPark n (now (meta .entry)) c shape park) ⌝ }
-{
-    let plan = plan_parked(meta, n, c, shape, park);
-    if !plan.fair {
-        return Ready::Refused(13);
-    }
-    let q = lists::store_top(meta, c, park) - 1;
-    lists::wake(meta, c, park, q);
-    Ready::Fill(plan.count, plan.virgin)
-}
-
 // A run that the arena gave, as the class's only page.
-fn ready_run(meta: &mut [u32], c: u32, shape: Shape, q: u32) -> Ready
+fn ready_run(meta: &mut [u32], c: u32, shape: Shape, q: u32) -> Plan
     requires { ⌜ TakeRunAsks (now meta) c shape q ⌝ }
     ensures { λ r. ⌜ Readies r (now (meta .exit)) c shape (onRunAt (now (meta .entry)) c shape q) ⌝ }
 {
     lists::new_run(meta, shape, q);
-    let count = supply(meta, shape, q, shape.batch);
     lists::link_partial(meta, c, q);
-    Ready::Fill(count, true)
+    Plan::Fill(stack::min(shape.batch, shape.capacity), true)
 }
 
 // A new run from the arena; none is a take of no block.
-fn ready_new(meta: &mut [u32], n: u32, c: u32, shape: Shape, host: u32) -> Ready
+fn ready_new(meta: &mut [u32], n: u32, c: u32, shape: Shape, host: u32) -> Plan
     requires { ⌜ TakeNewAsks n (now meta) c shape ⌝ }
     ensures { λ r. ⌜ Readies r (now (meta .exit)) c shape (takeNew n (now (meta .entry)) c shape host) ⌝ }
 {
     let commit = runs::commit_for(meta, n, host, shape.pages, c + 1);
     match commit {
-        Commit::Refused(k) => Ready::Refused(k),
-        Commit::Nothing => Ready::Nothing,
+        Commit::Refused(k) => Plan::Refused(k),
+        Commit::Nothing => Plan::Nothing,
         Commit::Run(q, _) => ready_run(meta, c, shape, q),
     }
 }
 
-// The store that a take turns to first.
-fn first_store(meta: &[u32], c: u32) -> Park
-    requires { ⌜ RowAsks (now meta) c ⌝ }
-    ensures { λ r. ⌜ r ≡ firstStore (now (meta .entry)) c ⌝ }
+// A parked page heads the partial list, where there is no partial page.
+fn wake_first(meta: &mut [u32], c: u32)
+    requires { ⌜ FirstAsks (now meta) c ⌝ }
+    ensures { λ _. ⌜ now (meta .exit) ≡ readied (now (meta .entry)) c ⌝ }
 {
-    if fields::class::empty(meta, c) != 0 {
-        return Park::Empty;
+    if fields::class::partial(meta, c) == 0 {
+        let park = first_store(meta, c);
+        let q = lists::store_top(meta, c, park) - 1;
+        lists::wake(meta, c, park, q);
     }
-    Park::Cold
 }
 
-// The first source that has a page. Each stands once, so that all of it is one function and its structs stay in registers (docs/BACKEND.md).
-fn make_ready(meta: &mut [u32], n: u32, c: u32, shape: Shape, host: u32) -> Ready
-    requires { ⌜ CountAsks n (now meta) c shape ⌝ }
+// The page of the source that the plan chose heads the partial list.
+fn make_ready(meta: &mut [u32], n: u32, c: u32, shape: Shape, host: u32) -> Plan
+    requires { ⌜ SourceAsks n (now meta) c shape ⌝ }
     ensures { λ r. ⌜ Readies r (now (meta .exit)) c shape (takeBlocks n (now (meta .entry)) c shape host) ⌝ }
 {
-    if n < fields::arena::frontier(meta) {
-        return Ready::Refused(13);
+    match plan_take(meta, n, c, shape) {
+        Plan::Refused(k) => Plan::Refused(k),
+        Plan::Nothing => ready_new(meta, n, c, shape, host),
+        Plan::Fill(m, v) => {
+            wake_first(meta, c);
+            Plan::Fill(m, v)
+        }
     }
-    if fields::class::partial(meta, c) != 0 {
-        return ready_partial(meta, n, c, shape);
-    }
-    let park = first_store(meta, c);
-    if lists::store_top(meta, c, park) == 0 {
-        return ready_new(meta, n, c, shape, host);
-    }
-    ready_parked(meta, n, c, shape, park)
 }
 
 // From the first source that has a page.
@@ -113,9 +74,9 @@ fn take_blocks(meta: &mut [u32], n: u32, c: u32, shape: Shape, host: u32, list: 
 {
     let found = make_ready(meta, n, c, shape, host);
     match found {
-        Ready::Refused(k) => Take::Refused(k),
-        Ready::Nothing => Take::Took(0, false),
-        Ready::Fill(m, v) => {
+        Plan::Refused(k) => Take::Refused(k),
+        Plan::Nothing => Take::Took(0, false),
+        Plan::Fill(m, v) => {
             fill(meta, c, shape, list, m);
             Take::Took(m, v)
         }
@@ -169,4 +130,22 @@ pub fn take_call(meta: &mut [u32], n: u32, c: u32, host: u32, list: &mut [u64]) 
         return Take::Refused(code);
     }
     Take::Took(count, virgin == 1)
+}
+
+// How many blocks a take would answer, all being granted: the plan's. Nothing is written.
+pub fn take_count(meta: &[u32], n: u32, c: u32) -> u32
+    requires { ⌜ CallAsks n (now meta) c ⌝ }
+    ensures { λ r. ⌜ Counts r n (now (meta .entry)) c (shapeOf c) ⌝ }
+{
+    let shape = classes::shape_of(c);
+    match plan_take(meta, n, c, shape) {
+        Plan::Refused(_) => 0,
+        Plan::Nothing => {
+            if runs::would_commit(meta, n, shape.pages) {
+                return stack::min(shape.batch, shape.capacity);
+            }
+            0
+        }
+        Plan::Fill(m, _) => m,
+    }
 }

@@ -6,18 +6,19 @@ ghost use lib.Dec.{eqb};
 ghost use lib.ListN.{length};
 ghost use Rattle.fields.specs.Field.{page, virgin, words, get};
 ghost use Rattle.pages.specs.Stack.{latest};
-ghost use Rattle.pages.specs.way.Asks.{PageAsks};
+ghost use Rattle.pages.specs.way.Asks.{RowAsks, PageAsks};
 ghost use Rattle.calls.specs.Take.{pageReady, sound, parkFair};
-ghost use Rattle.take.specs.way.TakePlan.{TakeAsks, SupplyAsks, share, walksFrom, fills, Foretold, ParkedAsks, woken};
+ghost use Rattle.take.specs.way.TakePlan.{TakeAsks, SupplyAsks, share, walksFrom, fills, Foretold, ParkedAsks, firstStore, woken, SourceAsks};
+ghost use Rattle.take.specs.way.TakeAnswer.{Plans};
 use crate::tops::tops_below;
 use classes::Shape;
 use pages::Park;
 
-// Whether every test passed; then how many blocks the fill will give, and whether all are virgin.
-pub struct Plan {
-    pub fair: bool,
-    pub count: u32,
-    pub virgin: bool,
+// What a source has: a refusal's number, no page, or how many blocks the partial list gives then, and whether all are virgin.
+pub enum Plan {
+    Refused(u32),
+    Nothing,
+    Fill(u32, bool),
 }
 
 // How many blocks a page gives when m are wanted.
@@ -94,30 +95,21 @@ pub fn plan_partial(meta: &[u32], n: u32, c: u32, shape: Shape) -> Plan
     let mut virgin = true;
     while left != 0 {
         if code == 0 {
-            return Plan {
-                fair: true,
-                count: shape.batch - left,
-                virgin,
-            };
+            return Plan::Fill(shape.batch - left, virgin);
         }
         let j = share(meta, n, c, shape, left, code, prev);
         if j == 0 {
-            return Plan {
-                fair: false,
-                count: 0,
-                virgin: false,
-            };
+            return Plan::Refused(13);
         }
         left -= j;
         virgin = still_virgin(meta, code - 1, virgin);
         prev = code;
         code = fields::page::next(meta, code - 1);
     }
-    Plan {
-        fair: code <= fields::arena::frontier(meta),
-        count: shape.batch,
-        virgin,
+    if code > fields::arena::frontier(meta) {
+        return Plan::Refused(13);
     }
+    Plan::Fill(shape.batch, virgin)
 }
 
 // The newest page of a store is one that a take can use.
@@ -144,17 +136,38 @@ pub fn plan_parked(meta: &[u32], n: u32, c: u32, shape: Shape, park: Park) -> Pl
     ensures { λ r. ⌜ Foretold r (parkFair n (now (meta .entry)) c shape park) (fills (woken (now (meta .entry)) c park) c shape) ⌝ }
 {
     if !park_fair(meta, n, c, shape, park) {
-        return Plan {
-            fair: false,
-            count: 0,
-            virgin: false,
-        };
+        return Plan::Refused(13);
     }
     let q = lists::store_top(meta, c, park) - 1;
     let count = supply(meta, shape, q, shape.batch);
-    Plan {
-        fair: true,
-        count,
-        virgin: fields::page::virgin(meta, q) == 1,
+    Plan::Fill(count, fields::page::virgin(meta, q) == 1)
+}
+
+// The store that a take turns to first.
+pub fn first_store(meta: &[u32], c: u32) -> Park
+    requires { ⌜ RowAsks (now meta) c ⌝ }
+    ensures { λ r. ⌜ r ≡ firstStore (now (meta .entry)) c ⌝ }
+{
+    if fields::class::empty(meta, c) != 0 {
+        return Park::Empty;
     }
+    Park::Cold
+}
+
+// The first source that has a page; with none the arena is to be asked.
+pub fn plan_take(meta: &[u32], n: u32, c: u32, shape: Shape) -> Plan
+    requires { ⌜ SourceAsks n (now meta) c shape ⌝ }
+    ensures { λ r. ⌜ Plans r n (now (meta .entry)) c shape ⌝ }
+{
+    if n < fields::arena::frontier(meta) {
+        return Plan::Refused(13);
+    }
+    if fields::class::partial(meta, c) != 0 {
+        return plan_partial(meta, n, c, shape);
+    }
+    let park = first_store(meta, c);
+    if lists::store_top(meta, c, park) == 0 {
+        return Plan::Nothing;
+    }
+    plan_parked(meta, n, c, shape, park)
 }

@@ -16,9 +16,8 @@ use Rattle.classes.proofs.Shapes.{shape-sound}
 use Rattle.calls.specs.Take.{takeCall}
 use Rattle.take.specs.declared.call.Take.{Take}
 use Rattle.take.specs.declared.call.Take.the-variants.{Refused, Took}
-use Rattle.take.specs.way.TakeAnswer.{Takes}
+use Rattle.take.specs.way.TakeAnswer.{Takes, Counts}
 use Rattle.take.proofs.AnswerSteps.{told-refused, told-code, told-count}
-use Rattle.take.specs.way.TakeCount.{Counts}
 use Rattle.trace.specs.declared.steps.Tally.{Tally}
 use Rattle.trace.specs.declared.steps.Step.the-variants.{Stops, Goes}
 use Rattle.trace.specs.Trace as Trace

@@ -72,7 +72,7 @@ pub fn has_room(meta: &[u32], n: u32, c: u32, room: usize) -> bool
     if 64 <= room {
         return true;
     }
-    take::count::take_count(meta, n, c) as usize <= room
+    take::call::take_count(meta, n, c) as usize <= room
 }
 
 // A take whose blocks come to the list from place `at` on.

@@ -1,22 +1,24 @@
 -- That the code answered as a take does.
 --     Takes, TakesInto    it is done; through out-parameters
+--     Plans               what it will do is planned, and nothing is written
 --     Readies             its source is at hand: the fill is left
-use Prim.Native.Nat.{ℕ, _≤_}
-use mathlib.Core.Bool.{Bool, false, cond}
+--     Counts              its count is told
+use Prim.Native.Nat.{ℕ}
+use mathlib.Core.Bool.{Bool, true, false, cond}
 use mathlib.Core.List.{List}
 use mathlib.Core.Option.{some}
 use mathlib.Core.Path.{_≡_}
 use lib.Dec.{eqb}
 use lib.ListN.{length}
-use Rattle.words.specs.Host.{digit}
+use Rattle.words.specs.Host.{hostMax, digit}
 use Rattle.classes.specs.declared.Shape.{Shape}
 use Rattle.take.specs.declared.call.Take.{Take}
 use Rattle.take.specs.declared.call.Take.the-variants as Answer
-use Rattle.take.specs.declared.call.Ready.{Ready}
-use Rattle.take.specs.declared.call.Ready.the-variants as Found
-use Rattle.calls.specs.Take.{Took, onRun}
+use Rattle.take.specs.declared.take_plan.Plan.{Plan}
+use Rattle.take.specs.declared.take_plan.Plan.the-variants.{Refused, Nothing, Fill}
+use Rattle.calls.specs.Take.{Took, tookNone, filled, onRun, takeNew, takeBlocks}
 use Rattle.take.specs.Answer.{answerOf}
-use Rattle.take.specs.way.TakePlan.{FillAsks, Filling, fills}
+use Rattle.take.specs.way.TakePlan.{TakeAsks, walksFrom, fills, readied, FirstAsks, TakeNewAsks}
 
 -- it answered r, and left the book b and the list l
 pub record Takes (r : Take) (b l : List ℕ) (t : Took) : Type 0 where
@@ -32,12 +34,30 @@ pub record TakesInto (r : ℕ) (b l : List ℕ) (m m′ v v′ : ℕ) (t : Took)
   pub count : m′ ≡ cond (eqb (t .code) 0) (t .count) m
   pub virgin : v′ ≡ cond (eqb (t .code) 0) (digit (t .virgin)) v
 
+-- the take t is a fill from the partial list of b: of m blocks, all virgin or not
+pub record Serves (m : ℕ) (v : Bool) (b : List ℕ) (c : ℕ) (sh : Shape) (t : List ℕ → Took) : Type 0 where
+  pub pages : ℕ
+  pub asks : TakeAsks pages b c sh
+  pub walks : walksFrom pages b c sh ≡ true
+  pub count : m ≡ length (fills b c sh .blocks)
+  pub virgin : v ≡ fills b c sh .virgin
+  pub is : (l : List ℕ) → t l ≡ filled b c sh l
+
 -- the source answered r and left the book b: whatever list is lent, a refusal and no page are all of the take t, and else the fill is what is left
-pub record Readies (r : Ready) (b : List ℕ) (c : ℕ) (sh : Shape) (t : List ℕ → Took) : Type 0 where
-  pub refused : (k : ℕ) → r ≡ Found.Refused k → (l : List ℕ) → Takes (Answer.Refused k) b l (t l)
-  pub nothing : r ≡ Found.Nothing → (l : List ℕ) → Takes (Answer.Took 0 false) b l (t l)
-  pub asks : (m : ℕ) (v : Bool) → r ≡ Found.Fill m v → (l : List ℕ) → sh .batch ≤ length l → FillAsks b c sh l m
-  pub ends : (m : ℕ) (v : Bool) → r ≡ Found.Fill m v → (l b′ l′ : List ℕ) → Filling b′ l′ (fills b c sh) l → Takes (Answer.Took m v) b′ l′ (t l)
+unfoldable pub Readies : Plan → List ℕ → ℕ → Shape → (List ℕ → Took) → Type 0
+Readies (Refused k) b c sh t = (l : List ℕ) → Takes (Answer.Refused k) b l (t l)
+Readies Nothing b c sh t = (l : List ℕ) → Takes (Answer.Took 0 false) b l (t l)
+Readies (Fill m v) b c sh t = Serves m v b c sh t
+
+-- what a take on the book b will do, whatever the host answers and whatever list is lent
+unfoldable pub Plans : Plan → ℕ → List ℕ → ℕ → Shape → Type 0
+Plans (Refused k) n b c sh = (k ≡ 13) × ((h : ℕ) (l : List ℕ) → takeBlocks n b c sh h l ≡ tookNone b l 13)
+Plans Nothing n b c sh = TakeNewAsks n b c sh × ((h : ℕ) (l : List ℕ) → takeBlocks n b c sh h l ≡ takeNew n b c sh h l)
+Plans (Fill m v) n b c sh = FirstAsks b c × ((h : ℕ) → Serves m v (readied b c) c sh (takeBlocks n b c sh h))
+
+-- how many blocks it answers, all being granted
+abbrev pub Counts : ℕ → ℕ → List ℕ → ℕ → Shape → Type 0
+Counts r n b c sh = (l : List ℕ) → r ≡ takeBlocks n b c sh hostMax l .count
 
 abbrev pub onRunAt : List ℕ → ℕ → Shape → ℕ → List ℕ → Took
 onRunAt b c sh q l = onRun b c sh l (some q)

@@ -1,7 +1,7 @@
 -- What a take's plan and its fill ask of the words, and what a plan answers.
 --     TakeAsks     a book of n pages, its frontier in range, and a class with its shape
 --     share        the blocks that the walk finds on the page with a code, 0 where a test fails
---     Foretold     a plan: whether every test passes, and then what the fill will yield
+--     Foretold     the plan of one source: a refusal where a test fails, else what the fill will yield
 use Prim.Native.Nat.{ℕ, suc, _+_, _-_, _<_, _≤_}
 use mathlib.Core.Bool.{Bool, true, cond, _&&_}
 use mathlib.Core.List.{List, _++_, map}
@@ -17,8 +17,9 @@ use Rattle.pages.specs.Stack.{latest, draw, spliced, pageSlots}
 use Rattle.pages.specs.Links.{top, wake}
 use Rattle.pages.specs.declared.Park.{Park}
 use Rattle.pages.specs.declared.Park.the-variants.{Empty, Cold}
-use Rattle.pages.specs.way.Asks.{DrawAsks}
+use Rattle.pages.specs.way.Asks.{RowAsks, WakeAsks, DrawAsks}
 use Rattle.take.specs.declared.take_plan.Plan.{Plan}
+use Rattle.take.specs.declared.take_plan.Plan.the-variants.{Refused, Fill}
 use Rattle.calls.specs.Take.{sound, walk, Filled, unlistSpent, fillFrom}
 
 pub record TakeAsks (n : ℕ) (b : List ℕ) (c : ℕ) (sh : Shape) : Type 0 where
@@ -50,10 +51,8 @@ walksFrom n b c sh = walk n b c sh (sh .batch) (sh .batch) (get b (class partial
 abbrev pub fills : List ℕ → ℕ → Shape → Filled
 fills b c sh = fillFrom b c sh (sh .batch) (sh .batch)
 
-pub record Foretold (p : Plan) (ok : Bool) (f : Filled) : Type 0 where
-  pub fair : p .fair ≡ ok
-  pub count : ok ≡ true → p .count ≡ length (f .blocks)
-  pub virgin : ok ≡ true → p .virgin ≡ f .virgin
+abbrev pub Foretold : Plan → Bool → Filled → Type 0
+Foretold p ok f = p ≡ cond ok (Fill (length (f .blocks)) (f .virgin)) (Refused 13)
 
 -- ---- a store: the class has no partial page, and the store has one
 pub record ParkedAsks (n : ℕ) (b : List ℕ) (c : ℕ) (sh : Shape) (k : Park) : Type 0 where
@@ -69,6 +68,15 @@ firstStore b c = cond (eqb (get b (class empty c)) 0) Cold Empty
 abbrev pub woken : List ℕ → ℕ → Park → List ℕ
 woken b c k = wake b c k (get b (class (top k) c) - 1)
 
+-- a parked page does, where there is no partial page
+unfoldable pub readied : List ℕ → ℕ → List ℕ
+readied b c = cond (eqb (get b (class partial c)) 0) (woken b c (firstStore b c)) b
+
+pub record FirstAsks (b : List ℕ) (c : ℕ) : Type 0 where
+  pub row : RowAsks b c
+  pub some : get b (class partial c) ≡ 0 → 0 < get b (class (top (firstStore b c)) c)
+  pub wakes : get b (class partial c) ≡ 0 → WakeAsks b c (firstStore b c) (get b (class (top (firstStore b c)) c) - 1)
+
 -- ---- a run that the arena gave, where the class has no page
 pub record TakeRunAsks (b : List ℕ) (c : ℕ) (sh : Shape) (q : ℕ) : Type 0 where
   pub pages : ℕ
@@ -83,11 +91,14 @@ pub record TakeNewAsks (n : ℕ) (b : List ℕ) (c : ℕ) (sh : Shape) : Type 0 
   pub asks : TakeAsks n b c sh
   pub alone : get b (class partial c) ≡ 0
 
-pub record BlocksAsks (n : ℕ) (b : List ℕ) (c : ℕ) (sh : Shape) (l : List ℕ) : Type 0 where
+pub record SourceAsks (n : ℕ) (b : List ℕ) (c : ℕ) (sh : Shape) : Type 0 where
   pub known : c < 76
   pub shape : Sound sh
   pub few : n ≤ maxPages
   pub long : words n ≤ length b
+
+pub record BlocksAsks (n : ℕ) (b : List ℕ) (c : ℕ) (sh : Shape) (l : List ℕ) : Type 0 where
+  pub source : SourceAsks n b c sh
   pub places : sh .batch ≤ length l
 
 pub record CallAsks (n : ℕ) (b : List ℕ) (c : ℕ) : Type 0 where

@@ -1,5 +1,5 @@
 use borrow.Author.Needs.{needs}
-use Rattle.take.proofs.TakeSteps.{run-new, run-supply, run-links, run-ready}
+use Rattle.take.proofs.TakeSteps.{run-new, run-links, run-ready}
 use Rattle.take.proofs.call.ready_run.Statement.{statement}
 use Rattle.take.proofs.call.ready_run.Tie as tie
 
@@ -8,7 +8,7 @@ ready-run-spec =
     tie.close
     (tie.spec
     (λ c κs. search run-new)
-    (λ c κs. search run-supply)
     (λ c κs. search run-links)
+    (λ c κs. search needs)
     (λ c. search needs)
     (λ c. search run-ready))

@@ -1,5 +1,5 @@
 use borrow.Author.Needs.{needs}
-use Rattle.take.proofs.PlanSteps.{PlanInv, plan-starts, plan-again, plan-empty, plan-fails, plan-done, turn-most, turn-there, turn-next}
+use Rattle.take.proofs.PlanSteps.{PlanInv, plan-starts, plan-again, plan-empty, plan-fails, plan-above, plan-done, turn-most, turn-there, turn-next}
 use Rattle.take.proofs.take_plan.plan_partial.Statement.{statement}
 use Rattle.take.proofs.take_plan.plan_partial.Tie as tie
 
@@ -29,4 +29,5 @@ plan-partial-spec =
     (λ c. search needs)
     (λ c. search plan-again)
     (λ c κs. search needs)
+    (λ c. search plan-above)
     (λ c. search plan-done))

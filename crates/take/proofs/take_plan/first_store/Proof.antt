@@ -1,7 +1,7 @@
 use borrow.Author.Needs.{needs}
 use Rattle.take.proofs.TakeSteps.{store-empty, store-cold}
-use Rattle.take.proofs.call.first_store.Statement.{statement}
-use Rattle.take.proofs.call.first_store.Tie as tie
+use Rattle.take.proofs.take_plan.first_store.Statement.{statement}
+use Rattle.take.proofs.take_plan.first_store.Tie as tie
 
 pub first-store-spec : {M : Type 1} → statement M
 first-store-spec =
