@@ -36,7 +36,7 @@ use Rattle.model.proofs.Outs as Blocks
 
 module _ (sh : Shape) (ok : Sound sh) where
   -- the words of a run
-  word-in : (q i k : ℕ) → i < k → 1 ≤ count (wordOf sh q i) (wordsFrom sh q 0 k)
+  pub word-in : (q i k : ℕ) → i < k → 1 ≤ count (wordOf sh q i) (wordsFrom sh q 0 k)
   word-in q i zero h = absurd (omega arith)
   word-in q i (suc k) h =
       by-cases (eqb (wordOf sh q i) (wordOf sh q (0 + k)))
@@ -52,7 +52,7 @@ module _ (sh : Shape) (ok : Sound sh) where
       omega arith
 
   -- a page with no more has all its blocks out
-  full-out : (p : Page) → GoodPage sh p → hasMore sh p ≡ false → (w : ℕ) → elem w (blocksAt sh (p .first)) ≡ true → 1 ≤ outOf sh w p
+  pub full-out : (p : Page) → GoodPage sh p → hasMore sh p ≡ false → (w : ℕ) → elem w (blocksAt sh (p .first)) ≡ true → 1 ≤ outOf sh w p
   unfolding hasMore carvedWords
   full-out p good e w m = go (p .free) (ltb (p .carved) (sh .capacity)) refl e
     where
@@ -64,12 +64,12 @@ module _ (sh : Shape) (ok : Sound sh) where
       go (x ∷ f) b d e = absurd (true≢false e)
 
   -- one with more has a block that is not
-  record Spare (p : Page) : Type 0 where
-    word : ℕ
-    block : elem word (blocksAt sh (p .first)) ≡ true
-    in-hand : outOf sh word p ≡ 0
+  pub record Spare (p : Page) : Type 0 where
+    pub word : ℕ
+    pub block : elem word (blocksAt sh (p .first)) ≡ true
+    pub in-hand : outOf sh word p ≡ 0
 
-  spare : (p : Page) → GoodPage sh p → hasMore sh p ≡ true → Spare p
+  pub spare : (p : Page) → GoodPage sh p → hasMore sh p ≡ true → Spare p
   unfolding hasMore carvedWords
   spare p good e = go (p .free) refl (ltb (p .carved) (sh .capacity)) refl e
     where

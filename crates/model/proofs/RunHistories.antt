@@ -48,7 +48,7 @@ silent : (c q : ℕ) (C : Class) (h b : Bool) (v : Event) → gets c q v ≡ fal
     → Counted (shapeOf c) (shape-sound c) q C h b → Counted (shapeOf c) (shape-sound c) q C (sinceNext (gets c q) (yieldsUp c q) h v) (sinceNext (renews c q) (touches c q) b v)
 silent c q C h b v g u z t k = rw (g, u, z, t, and-yes h, and-yes b) k
 
-refused-named : (c : ℕ) (t : Request → Answer → Bool) (nm : Option Named) (n : ℕ) → ((r : Request) → t r (Calls.refused n) ≡ false) → named c t nm (Calls.refused n) ≡ false
+pub refused-named : (c : ℕ) (t : Request → Answer → Bool) (nm : Option Named) (n : ℕ) → ((r : Request) → t r (Calls.refused n) ≡ false) → named c t nm (Calls.refused n) ≡ false
 refused-named c t none n h = refl
 refused-named c t (some d) n h = rw (h (d .request)) (and-no (eqb (d .class) c))
 

@@ -155,11 +155,11 @@ module _ (sh : Shape) (ok : Sound sh) (lim : Limits) where
   take-takes l [] [] [] fs good y g = run-takes l fs g
 
 -- ---- one more call
-record With (size : ℕ) (H : Heap) (xs : List Call) (x : Call) : Type 0 where
-  told : eventsFrom size H (xs ++ x ∷ []) ≡ eventsFrom size H xs ++ eventOf x (step size (heapFrom size H xs) x) ∷ []
-  heap : heapFrom size H (xs ++ x ∷ []) ≡ step size (heapFrom size H xs) x .heap
+pub record With (size : ℕ) (H : Heap) (xs : List Call) (x : Call) : Type 0 where
+  pub told : eventsFrom size H (xs ++ x ∷ []) ≡ eventsFrom size H xs ++ eventOf x (step size (heapFrom size H xs) x) ∷ []
+  pub heap : heapFrom size H (xs ++ x ∷ []) ≡ step size (heapFrom size H xs) x .heap
 
-one-more : (size : ℕ) (H : Heap) (xs : List Call) (x : Call) → With size H xs x
+pub one-more : (size : ℕ) (H : Heap) (xs : List Call) (x : Call) → With size H xs x
 one-more size H [] x = record { told = refl; heap = refl }
 one-more size H (y ∷ xs) x =
     let ih = one-more size (step size H y .heap) xs x in

@@ -12,7 +12,7 @@ use Rattle.model.specs.Calls.{Call, Request}
 use Rattle.model.specs.Chunks.{answer}
 use Rattle.model.specs.Heap.{Heap, figures}
 use Rattle.model.specs.History.{events, heapAfter}
-use Rattle.model.specs.Demands.{BestFit, Joining, Yielding, Offered, Virgins, Outs, Conserved, Figured, Demand3, IsoDisjoint, Commute, StaysHome, Orderless}
+use Rattle.model.specs.Demands.{BestFit, Joining, Yielding, Offered, Sources, Virgins, Outs, Conserved, Figured, Demand3, IsoDisjoint, Commute, StaysHome, Orderless}
 use Rattle.model.proofs.HistoryArena as Arenas
 use Rattle.model.proofs.SameHeaps as Orders
 use Rattle.model.proofs.Yields as Yields
@@ -31,6 +31,7 @@ use Rattle.model.proofs.Alone as Alone
 use Rattle.model.proofs.Apart as Apart
 use Rattle.model.proofs.Outs as Blocks
 use Rattle.model.proofs.TakesTold as Takes
+use Rattle.model.proofs.Sources as Order
 use Rattle.model.proofs.Commute as Calls
 
 -- Demand 2
@@ -51,6 +52,10 @@ yielding = Yields.yielding
 -- what is at hand is offered, and virgin, by the history
 pub offered : (size : ℕ) (rules : Rules) (xs : List Call) → Offered size rules xs
 offered = Takes.offered
+
+-- in which order a take turns to its sources
+pub sources : (size : ℕ) (rules : Rules) (xs : List Call) → Sources size rules xs
+sources = Order.sources
 
 pub virgins : (size : ℕ) (rules : Rules) (xs : List Call) → Virgins size rules xs
 virgins = Takes.virgins

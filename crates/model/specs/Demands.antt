@@ -17,7 +17,7 @@ use Rattle.model.specs.Class.{Class, Ask, done}
 use Rattle.model.specs.Release.{outHere}
 use Rattle.model.specs.Chunks.{answer}
 use Rattle.model.specs.Heap.{Heap, isHeld, isDirect, classCall, step}
-use Rattle.model.specs.History.{Event, events, withCall, heapAfter, callsOf, answersOf, runsOf, eventsFrom, heapFrom}
+use Rattle.model.specs.History.{Event, eventOf, events, withCall, heapAfter, callsOf, answersOf, runsOf, eventsFrom, heapFrom}
 use Rattle.model.specs.Entries.{Entry, Live, OutIn, AllOut, HasByte, firstByte, blockBytes, directAfter}
 use Rattle.model.specs.Ledger.{inHoles, above, runsWith, heldBy, abandonedFrom}
 use Rattle.model.specs.Held.{gained, lost, parkedAt, idleAt}
@@ -27,6 +27,7 @@ use Rattle.model.specs.Joining.{NoTwoTouch, HasRoom, JoinedWhere}
 use Rattle.model.specs.Order.{SameHeap, countless}
 use Rattle.model.specs.Yields.{Listed, TakeYields}
 use Rattle.model.specs.Offered.{Spent, NonePartial, NoneListed, Virgin}
+use Rattle.model.specs.Sources.{Turns}
 use Rattle.model.specs.Heap.{newHeap}
 
 -- Demand 2: a commit on the heap after a history answers by best fit, or none with its reason
@@ -64,6 +65,12 @@ pub record Offered (size : ℕ) (rules : Rules) (xs : List Call) : Type 0 where
       → length (blocksOf (step size (heapAfter size rules xs) x .answer)) < shapeOf c .batch → NonePartial (withCall size rules xs x) c
   pub most : (x : Call) (c h : ℕ) (l : List ℕ) → names x ≡ some (record { class = c; request = take h l }) → isRefused (step size (heapAfter size rules xs) x .answer) ≡ false
       → length (blocksOf (step size (heapAfter size rules xs) x .answer)) ≤ shapeOf c .batch
+
+-- Demand 2: "partial pages from the list's head, otherwise one empty page, otherwise the newest cold page, otherwise a new one. Each source is
+-- tried only if the earlier gave no block": what each source has is told from the history
+pub record Sources (size : ℕ) (rules : Rules) (xs : List Call) : Type 0 where
+  pub turns : (x : Call) (c h : ℕ) (l : List ℕ) → names x ≡ some (record { class = c; request = take h l }) → isRefused (step size (heapAfter size rules xs) x .answer) ≡ false
+      → Turns (events size rules xs) c (eventOf x (step size (heapAfter size rules xs) x))
 
 -- Demand 2: "Virgin is yes exactly if a block came and each came from a page not released to since it was last carved from the arena or from a
 -- cold page whose discard zeroed it", told from the history

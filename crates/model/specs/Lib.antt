@@ -16,6 +16,7 @@ pub mod Reservation
 pub mod Counted
 pub mod Groups
 pub mod Offered
+pub mod Sources
 pub mod BestFit
 pub mod Joining
 pub mod Order
