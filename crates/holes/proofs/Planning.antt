@@ -11,7 +11,7 @@ use native.Mathlib.Omega.{arith}
 use mathlib.Core.Bool.{Bool, true, false, not, _&&_, true≢false}
 use mathlib.Core.List.{List, []}
 use Rattle.facts.specs.Lists.{every}
-use Rattle.facts.proofs.Bools.{by-cases}
+use Rattle.facts.proofs.Bools.{by-cases, not-true}
 use Rattle.model.specs.declared.Hole.{Hole}
 use Rattle.model.specs.HoleStore.{leastFit}
 use Rattle.arena.specs.Load.{loadHole, loadHoles}
@@ -65,9 +65,6 @@ pub record Searching (b : List ℕ) (count total f pages : ℕ) (best : Best) (l
   pub weighs : Weighing (betterOf pages) noBest b count best left
   pub fair : every (holeFair total f) (from b count left) ≡ true
 
-no-is : (t : Bool) → not t ≡ true → t ≡ false
-no-is t d = by-cases t (λ y. absurd (true≢false (sym d ∙ ap not y))) (λ y. y)
-
 yes-is : (t : Bool) → not t ≡ false → t ≡ true
 yes-is t d = by-cases t (λ y. y) (λ y. absurd (true≢false (ap not (sym y) ∙ d)))
 
@@ -108,7 +105,7 @@ module _ (b : List ℕ) (count total f pages : ℕ) where
           let u = k .weighs .up-to in
           let z : count - 0 ≡ count = omega arith in
           let e : every ok (loadHoles b 0 count) ≡ false = ap (λ (n : ℕ). every ok (loadHoles b 0 n)) (sym z) ∙ sym (part-fair b 0 i count (omega arith) (omega arith) ok)
-          ∙ ap (λ (s : Bool). s && every ok (loadHoles b 0 (i - 0))) (so ∙ no-is t d) in
+          ∙ ap (λ (s : Bool). s && every ok (loadHoles b 0 (i - 0))) (so ∙ not-true t d) in
           rw e (record { told = refl; small = λ y. absurd (true≢false (sym y)) })
 
     -- a part

@@ -10,7 +10,7 @@ use lib.ListN.{length, getD, take, drop, length-take}
 use lib.Seq.{drop-cons, getD-take}
 use borrow.Author.Tests.{eq-eqb, ne-eqb}
 use Rattle.facts.specs.Lists.{every, filter}
-use Rattle.facts.proofs.Bools.{and-right}
+use Rattle.facts.proofs.Bools.{and-right, not-true}
 use Rattle.facts.proofs.Lists.{drop-past}
 use Rattle.classes.specs.declared.Shape.{Shape}
 use Rattle.fields.specs.Field.{mark, out, get, put, Has}
@@ -174,13 +174,9 @@ module _ (n : ℕ) (b : List ℕ) (c : ℕ) (sh : Shape) (ws : List ℕ) where
       pub pass-goes-on : r ≡ true → length b″ ≡ length b′ → PassInv n b c sh ws b″ (i + 1)
       unfolding markCount markBook
       pass-goes-on t j =
-          let x : isMarked b′ sh (getD ws i 0) ≡ false = unset (isMarked b′ sh (getD ws i 0)) (told ∙ t) in
+          let x : isMarked b′ sh (getD ws i 0) ≡ false = not-true (isMarked b′ sh (getD ws i 0)) (told ∙ t) in
           let y : b″ ≡ marked b′ sh (getD ws i 0) = now-marked t in
           record { within = omega arith; long = j ∙ v .long; answer = omega (arith, rw (cons, here .out, x, ← y) at (v .answer)); left = rw (cons, here .out, x, ← y) at (v .left) }
-        where
-          unset : (u : Bool) → not u ≡ true → u ≡ false
-          unset true z = sym z
-          unset false z = refl
 
       pub pass-stops : r ≡ false → MarkedList i b″ n b c sh ws
       unfolding markCount markBook

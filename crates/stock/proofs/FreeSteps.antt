@@ -6,7 +6,7 @@ use mathlib.Core.List.{List, [], _∷_}
 use mathlib.Core.Path.{_≡_, refl, sym, ap, _∙_}
 use lib.Dec.{eqb, ltb, leb}
 use borrow.Author.Tests.{le-ltb, le-leb, lt-leb, eq-eqb, eqb-true, leb-false}
-use Rattle.facts.proofs.Bools.{by-cases, and-no, and-left, and-right}
+use Rattle.facts.proofs.Bools.{by-cases, and-no, and-left, and-right, not-true}
 use Rattle.words.specs.Word.{kindOf, granuleOf, blockWord}
 use Rattle.classes.specs.Shape.{shapeOf}
 use Rattle.model.specs.Release.{ofKind}
@@ -21,10 +21,6 @@ use Rattle.stock.specs.way.Asks.{NearAsks, FreeAsks}
 use Rattle.stock.specs.way.Ends.{Gave, Kept, farFault, isFull}
 use Rattle.stock.proofs.RoomSteps.{room-limit}
 use Rattle.stock.proofs.LookSteps.{behind-kind, behind-granule, far-kind, near-kind, far-out}
-
-not-true : (t : Bool) → not t ≡ true → t ≡ false
-not-true true e = sym e
-not-true false e = refl
 
 -- ---- not in the arena
 pub far-other : (x : ℕ) → 2 ^ 62 ≤ x → 9 ≡ farFault x

@@ -1,5 +1,5 @@
 -- The ways out of the tests whether a word is a block out in the class.
-use Prim.Native.Nat.{ℕ, zero, suc, _+_, _-_, _*_, _/_, _%_, _^_, _≤_, _<_}
+use Prim.Native.Nat.{ℕ, suc, _+_, _-_, _*_, _/_, _%_, _^_, _≤_, _<_}
 use native.Mathlib.Omega.{arith}
 use native.Mathlib.Nat.{add-zero, div-add-mod', le-div-iff-mul-le}
 use mathlib.Core.Bool.{Bool, true, false, _&&_, and-true, true≢false}
