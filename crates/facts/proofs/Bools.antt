@@ -1,5 +1,5 @@
 -- Facts on tests.
-use mathlib.Core.Bool.{Bool, true, false, not, _&&_, _||_, true≢false, false≢true}
+use mathlib.Core.Bool.{Bool, true, false, _&&_, _||_, true≢false, false≢true}
 use mathlib.Core.Path.{_≡_, refl, sym}
 use mathlib.Core.Logic.{_⊎_, inl, inr}
 
@@ -50,7 +50,3 @@ nor-left false t e = refl
 pub nor-right : (s t : Bool) → (s || t) ≡ false → t ≡ false
 nor-right true t e = absurd (true≢false e)
 nor-right false t e = e
-
-pub not-true : (t : Bool) → not t ≡ true → t ≡ false
-not-true true e = sym e
-not-true false e = refl

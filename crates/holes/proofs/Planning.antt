@@ -10,8 +10,9 @@ use Prim.Native.Nat.{ℕ, _-_, _<_, _≤_, _^_}
 use native.Mathlib.Omega.{arith}
 use mathlib.Core.Bool.{Bool, true, false, not, _&&_, true≢false}
 use mathlib.Core.List.{List, []}
+use borrow.Author.Tests.{not-true}
 use Rattle.facts.specs.Lists.{every}
-use Rattle.facts.proofs.Bools.{by-cases, not-true}
+use Rattle.facts.proofs.Bools.{by-cases}
 use Rattle.model.specs.declared.Hole.{Hole}
 use Rattle.model.specs.HoleStore.{leastFit}
 use Rattle.arena.specs.Load.{loadHole, loadHoles}

@@ -8,9 +8,9 @@ use mathlib.Core.Path.{_≡_, refl, sym, ap, _∙_}
 use lib.Dec.{eqb}
 use lib.ListN.{length, getD, take, drop, length-take}
 use lib.Seq.{drop-cons, getD-take}
-use borrow.Author.Tests.{eq-eqb, ne-eqb}
+use borrow.Author.Tests.{eq-eqb, ne-eqb, not-true}
 use Rattle.facts.specs.Lists.{every, filter}
-use Rattle.facts.proofs.Bools.{and-right, not-true}
+use Rattle.facts.proofs.Bools.{and-right}
 use Rattle.facts.proofs.Lists.{drop-past}
 use Rattle.classes.specs.declared.Shape.{Shape}
 use Rattle.fields.specs.Field.{mark, out, get, put, Has}

@@ -5,8 +5,8 @@ use mathlib.Core.Bool.{Bool, true, false, cond, not, and-true, true≢false}
 use mathlib.Core.List.{List, [], _∷_}
 use mathlib.Core.Path.{_≡_, refl, sym, ap, _∙_}
 use lib.Dec.{eqb, ltb, leb}
-use borrow.Author.Tests.{le-ltb, le-leb, lt-leb, eq-eqb, eqb-true, leb-false}
-use Rattle.facts.proofs.Bools.{by-cases, and-no, and-left, and-right, not-true}
+use borrow.Author.Tests.{le-ltb, le-leb, lt-leb, eq-eqb, eqb-true, leb-false, not-true}
+use Rattle.facts.proofs.Bools.{by-cases, and-no, and-left, and-right}
 use Rattle.words.specs.Word.{kindOf, granuleOf, blockWord}
 use Rattle.classes.specs.Shape.{shapeOf}
 use Rattle.model.specs.Release.{ofKind}

@@ -21,7 +21,7 @@ use Rattle.take.specs.declared.take_plan.Plan.the-variants.{Refused, Fil
 use Rattle.take.specs.way.TakePlan.{TakeAsks, TopsAsks, SupplyAsks, share, walksFrom, fills, Foretold}
 use Rattle.take.proofs.TakePages.{sound-fair, fair-sound, whole-below, latest-some, latest-most, positive}
 use Rattle.take.proofs.Walk.{planned, planned-stops, planned-goes, stops, stops-full, stops-none, walk-stops, walk-step}
-use Rattle.take.proofs.Fill.{foreseen, fill-planned}
+use Rattle.take.proofs.Fill.{fill-planned}
 
 -- ---- how many blocks a page gives
 module _ (b : List ℕ) (sh : Shape) (q m : ℕ) where
