@@ -2,7 +2,7 @@
 --     commit-fits    a direct commit that is not refused is answered by best fit
 --     run-fits       so is the commit that a class's call asks for, and it asks for one exactly as `Asks` says
 --     take-yields    a take that is not refused answers a block, or the arena has no run for it
---     take-fewer     one that answers fewer than it may leaves nothing at hand in a run in use; take-most, take-virgin
+--     take-fewer     one that answers fewer than it may leaves nothing at hand in a run in use; take-most, take-turns, take-virgin
 use Prim.Native.Nat.{ℕ, _≤_, _<_}
 use mathlib.Core.Bool.{Bool, true, false, cond, false≢true}
 use mathlib.Core.List.{List, [], _∷_, _++_}
@@ -33,7 +33,8 @@ use Rattle.model.specs.History.{Event, heapAfter, withCall}
 use Rattle.model.specs.BestFit.{Commits, from-hole, from-frontier, unusable, ungranted, exhausted}
 use Rattle.model.specs.Yields.{TakeYields, refuses, yields, asks-first}
 use Rattle.model.specs.Offered.{Spent, NonePartial, NoneListed, Virgin}
-use Rattle.model.proofs.Theorems.{best-fit, yielding, offered, virgins, conserved}
+use Rattle.model.specs.Sources.{Turns}
+use Rattle.model.proofs.Theorems.{best-fit, yielding, offered, sources, virgins, conserved}
 use Rattle.model.proofs.Ways.{host-of}
 use Rattle.arena.specs.Load.{loadArena}
 use Rattle.demands.specs.Run.{Opens, run, bookAfter, next, recounted, recountedWith}
@@ -236,6 +237,12 @@ module _ (n : ℕ) (rows b : List ℕ) (o : Opens n rows b) (xs : List Call) whe
 
       pub take-most : length (blocksOf (next n rows b xs x .answer)) ≤ shapeOf c .batch
       take-most = rw agrees (offered n (rulesOf rows) xs .most x c h l e unrefused)
+
+      pub take-turns : Turns (recounted n (rulesOf rows) xs (run n rows b xs)) c (record { call = x; answer = next n rows b xs x .answer; run = step n (heapAfter n (rulesOf rows) xs) x .run })
+      take-turns =
+          subst (λ (a : Answer). Turns (recounted n (rulesOf rows) xs (run n rows b xs)) c (record { call = x; answer = a; run = step n (heapAfter n (rulesOf rows) xs) x .run })) (sym agrees)
+          (subst (λ (us : List Event). Turns us c (record { call = x; answer = step n (heapAfter n (rulesOf rows) xs) x .answer; run = step n (heapAfter n (rulesOf rows) xs) x .run })) (sym (recounted-is n rows b o xs))
+          (sources n (rulesOf rows) xs .turns x c h l e unrefused))
 
       pub take-virgin : Virgin (recountedWith n (rulesOf rows) (bookAfter n rows b xs) xs (run n rows b xs) x) c (next n rows b xs x .answer)
       take-virgin =

@@ -29,7 +29,7 @@ use Rattle.demands.proofs.Contracts as Contracts
 use Rattle.demands.proofs.Histories as Histories
 use Rattle.demands.proofs.Told.{told-answers, told-disjoint, told-iso}
 use Rattle.demands.proofs.Sizes as Sizes
-use Rattle.demands.proofs.Fits.{commit-fits, run-fits, holes-counted, take-yields, take-fewer, take-most, take-virgin}
+use Rattle.demands.proofs.Fits.{commit-fits, run-fits, holes-counted, take-yields, take-fewer, take-most, take-turns, take-virgin}
 use Rattle.demands.proofs.Returns.{word-returns, list-returns, repeated, not-out, not-together}
 use Rattle.demands.proofs.ChunkReturns.{chunks-return, chunks-repeated, chunks-not-out, chunks-not-grouped}
 use Rattle.demands.proofs.Held.{held-releases, unheld-refused, held-grows, unheld-stays, growth-fits}
@@ -88,6 +88,7 @@ at-opening n rows b o xs = record {
   takes = take-yields n rows b o xs;
   fewer = take-fewer n rows b o xs;
   most = take-most n rows b o xs;
+  sources = take-turns n rows b o xs;
   virgin = take-virgin n rows b o xs;
   returns = word-returns n rows b o xs;
   returnsList = list-returns n rows b o xs;

@@ -24,6 +24,7 @@ use Rattle.model.specs.Heap.{badRun, answerRun, offer, step}
 use Rattle.model.specs.History.{Event, answers, events, heapAfter, callsOf, answersOf, runsOf}
 use Rattle.model.specs.Entries.{Entry, Live, HasByte, blockBytes, OutIn, AllOut, directAfter}
 use Rattle.model.specs.Offered.{Spent, NonePartial, Virgin}
+use Rattle.model.specs.Sources.{Turns}
 use Rattle.model.specs.BestFit.{Commits, usable}
 use Rattle.model.specs.Joining.{NoTwoTouch, HasRoom, JoinedWhere}
 use Rattle.model.specs.Demands.{Disjoint, IsoDisjoint}
@@ -130,6 +131,10 @@ pub record Demand2At (n : ℕ) (limits : Rules) (b : List ℕ) (xs : List Call) 
       → length (blocksOf (call b x .answer)) < shapeOf c .batch → NonePartial (recountedWith n limits b xs rs x) c
   pub most : (x : Call) (c h : ℕ) (l : List ℕ) → names x ≡ some (record { class = c; request = Calls.take h l }) → call b x .code ≡ 0
       → length (blocksOf (call b x .answer)) ≤ shapeOf c .batch
+  -- its blocks come from the sources in order: partial runs, an empty one, a cold one, each exactly if the class has one and none of an earlier
+  -- source, by the history before it
+  pub sources : (x : Call) (c h : ℕ) (l : List ℕ) → names x ≡ some (record { class = c; request = Calls.take h l }) → call b x .code ≡ 0
+      → Turns (recounted n limits xs rs) c (record { call = x; answer = call b x .answer; run = step n (heapAfter n limits xs) x .run })
   -- its virgin is yes exactly if a block came and each came from a run that no unrefused release had a block of since the arena gave it or a
   -- release parked it cold with a discard that zeroed it
   pub virgin : (x : Call) (c h : ℕ) (l : List ℕ) → names x ≡ some (record { class = c; request = Calls.take h l }) → call b x .code ≡ 0
