@@ -5,12 +5,12 @@ use Prim.Native.Nat.{ℕ, _+_, _≤_}
 use mathlib.Core.Path.{_≡_, refl, sym, ap, _∙_}
 use mathlib.Core.List.{List, [], _∷_, map}
 use mathlib.Core.Logic.{_⊎_, inl, inr}
-use mathlib.Core.Bool.{Bool, true, false, cond, not, _&&_, _||_, false≢true}
+use mathlib.Core.Bool.{Bool, true, false, cond, not, _&&_, _||_}
 use native.Mathlib.Omega.{arith}
 use lib.Dec.{eqb}
 use borrow.Author.Tests.{eqb-true, eqb-false, eq-eqb, ne-eqb, not-true}
 use Rattle.facts.specs.Lists.{All, total, elem, count}
-use Rattle.facts.proofs.Bools.{by-cases, and-left, and-right, or-left, or-right}
+use Rattle.facts.proofs.Bools.{by-cases, and-left, and-right, or-right}
 use Rattle.words.specs.Word.{pageOf}
 use Rattle.model.specs.Page.{Page}
 use Rattle.model.specs.Class.{Cold}

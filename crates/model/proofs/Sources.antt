@@ -4,7 +4,7 @@ use mathlib.Core.Path.{_≡_, refl, sym, ap, _∙_, subst}
 use mathlib.Core.List.{List, [], _∷_, _++_}
 use mathlib.Core.Option.{Option, none, some}
 use mathlib.Core.Logic.{_⊎_, inl, inr}
-use mathlib.Core.Bool.{Bool, true, false, cond, not, true≢false, false≢true}
+use mathlib.Core.Bool.{true, false, cond, true≢false, false≢true}
 use native.Mathlib.Omega.{arith}
 use lib.Dec.{eqb, ltb}
 use lib.ListN.{length}
@@ -19,9 +19,9 @@ use Rattle.classes.proofs.Shapes.{shape-sound}
 use Rattle.rules.specs.declared.Limits.{Limits}
 use Rattle.rules.specs.Rules.{Rules}
 use Rattle.model.specs.Calls as Calls
-use Rattle.model.specs.Calls.{Call, Answer, names, hostIn, wayOf, isRefused, blocksOf}
+use Rattle.model.specs.Calls.{Call, names, hostIn, wayOf, isRefused, blocksOf}
 use Rattle.model.specs.Cover.{covers}
-use Rattle.model.specs.Page.{Page, wordOf, isMedium, carve, carveAs, carvedWords, hasMore, noneOut, pop, reused}
+use Rattle.model.specs.Page.{Page, wordOf, isMedium, carve, carvedWords, hasMore, noneOut, pop, reused}
 use Rattle.model.specs.Class.{Class, Cold, Ask, serve, after, fillFromList, served, thawed, onRun, takeFrom}
 use Rattle.model.specs.Chunks.{startsAt, answer}
 use Rattle.model.specs.Heap.{Heap, newHeap, offer, finish, interact, classCall, step}

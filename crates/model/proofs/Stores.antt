@@ -39,7 +39,7 @@ use Rattle.model.specs.Sources.{chills, draws, behind, releasesAfter, fo
 use Rattle.model.proofs.Counts.{count-append, elem-count, count-in, every-count}
 use Rattle.model.proofs.Runs.{covers-in}
 use Rattle.model.proofs.Find.{all-at, FoundLaws, found-law}
-use Rattle.model.proofs.Pages.{outOf, on, beginsOn, GoodPage, pop-good, pop-moves, none-out-of, carve-empty, carve-on, reused-empty, reused-on, thawed-empty, thawed-on, fills}
+use Rattle.model.proofs.Pages.{on, beginsOn, GoodPage, pop-moves, none-out-of, carve-empty, reused-empty, reused-on, thawed-empty, thawed-on, fills}
 use Rattle.model.proofs.Sites.{Once, GoodClass, SiteLaw, SiteLaws, locate-law, Tells, locate-tells}
 use Rattle.model.proofs.Update.{update-same}
 use Rattle.model.proofs.Ways.{Goes, is-turned, is-straight, is-class, goes}
