@@ -8,9 +8,9 @@ use mathlib.Core.List.{List, [], _∷_, _++_}
 use mathlib.Core.Path.{_≡_, refl, sym, ap, _∙_}
 use lib.Dec.{eqb, ltb, leb}
 use lib.ListN.{length, drop, length-append}
-use borrow.Author.Tests.{lt-ltb, leb-true, le-leb, eq-eqb, eqb-true, eqb-false, ne-eqb}
+use borrow.Author.Tests.{lt-ltb, leb-true, le-leb, eq-eqb}
 use Rattle.facts.specs.Lists.{every, All}
-use Rattle.facts.proofs.Bools.{by-cases, and-left, and-right}
+use Rattle.facts.proofs.Bools.{and-left, and-right, eqb-turned}
 use Rattle.facts.proofs.Lists.{every-same}
 use Rattle.words.specs.Word.{countOf, pageOf}
 use Rattle.classes.specs.declared.Shape.{Shape}
@@ -54,12 +54,6 @@ push-stacks b sh (w ∷ ws) a =
     let d = pushAll b sh ws in
     let l : get (pushAll b sh ws) (page free (pageAt w)) < 4096 = rw (push-free b sh ws a′ q) (omega (arith, e, a .slots q (omega (arith, e)))) in
     changes-put stacked b _ (page free q) _ refl refl (changes-put stacked b d (slot q (get d (page free q))) _ (lt-ltb _ 4096 l) refl (push-stacks b sh ws a′))
-
-eqb-turned : (x y : ℕ) → eqb x y ≡ eqb y x
-eqb-turned x y =
-    by-cases (eqb x y)
-    (λ e. e ∙ sym (eq-eqb y x (sym (eqb-true x y e))))
-    (λ e. e ∙ sym (ne-eqb y x (λ z. eqb-false x y e (sym z))))
 
 every-both : (t u v : ℕ → Bool) → ((g : ℕ) → t g ≡ true → u g ≡ true → v g ≡ true) → (gs : List ℕ) → every t gs ≡ true → every u gs ≡ true → every v gs ≡ true
 every-both t u v k [] e f = refl

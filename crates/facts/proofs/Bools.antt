@@ -1,7 +1,10 @@
 -- Facts on tests.
+use Prim.Native.Nat.{ℕ}
 use mathlib.Core.Bool.{Bool, true, false, _&&_, _||_, true≢false, false≢true}
-use mathlib.Core.Path.{_≡_, refl, sym}
+use mathlib.Core.Path.{_≡_, refl, sym, _∙_}
 use mathlib.Core.Logic.{_⊎_, inl, inr}
+use lib.Dec.{eqb}
+use borrow.Author.Tests.{eq-eqb, ne-eqb, eqb-true, eqb-false}
 
 -- by cases on a test, with what it answered
 pub by-cases {ℓ} : {P : Type ℓ} (b : Bool) → (b ≡ true → P) → (b ≡ false → P) → P
@@ -50,3 +53,9 @@ nor-left false t e = refl
 pub nor-right : (s t : Bool) → (s || t) ≡ false → t ≡ false
 nor-right true t e = absurd (true≢false e)
 nor-right false t e = e
+
+pub eqb-turned : (x y : ℕ) → eqb x y ≡ eqb y x
+eqb-turned x y =
+    by-cases (eqb x y)
+    (λ e. e ∙ sym (eq-eqb y x (sym (eqb-true x y e))))
+    (λ e. e ∙ sym (ne-eqb y x (λ z. eqb-false x y e (sym z))))

@@ -2,23 +2,20 @@
 --     Ordered     each run of a list was released to after those behind it, as o tells
 --     nextAt      what a release to the run at r makes of the telling; nextAll, releases in turn
 use Prim.Native.Nat.{ℕ, _+_, _≤_}
-use mathlib.Core.Path.{_≡_, refl, sym, ap, _∙_}
+use mathlib.Core.Path.{_≡_, refl, ap}
 use mathlib.Core.List.{List, [], _∷_, map}
 use mathlib.Core.Logic.{_⊎_, inl, inr}
 use mathlib.Core.Bool.{Bool, true, false, cond, not, _&&_, _||_}
 use native.Mathlib.Omega.{arith}
 use lib.Dec.{eqb}
-use borrow.Author.Tests.{eqb-true, eqb-false, eq-eqb, ne-eqb, not-true}
+use borrow.Author.Tests.{eqb-true, eq-eqb, not-true}
 use Rattle.facts.specs.Lists.{All, total, elem, count}
-use Rattle.facts.proofs.Bools.{by-cases, and-left, and-right, or-right}
+use Rattle.facts.proofs.Bools.{by-cases, and-left, and-right, or-right, eqb-turned}
 use Rattle.words.specs.Word.{pageOf}
 use Rattle.model.specs.Page.{Page}
 use Rattle.model.specs.Class.{Cold}
 use Rattle.model.specs.Chunks.{startsAt}
 use Rattle.model.specs.Sources.{behind}
-
-pub flip : (m n : ℕ) → eqb m n ≡ eqb n m
-flip m n = by-cases (eqb m n) (λ e. e ∙ sym (eq-eqb n m (sym (eqb-true m n e)))) (λ e. e ∙ sym (ne-eqb n m (λ p. eqb-false m n e (sym p))))
 
 -- the pages at which runs begin
 abbrev pub firsts : List Page → List ℕ
@@ -29,11 +26,11 @@ coldFirsts cs = map (λ (c : Cold). c .first) cs
 
 pub firsts-count : (q : ℕ) (ps : List Page) → count q (firsts ps) ≡ total (λ p. cond (startsAt q p) 1 0) ps
 firsts-count q [] = refl
-firsts-count q (p ∷ ps) = rw (flip q (p .first)) (omega (arith, firsts-count q ps))
+firsts-count q (p ∷ ps) = rw (eqb-turned q (p .first)) (omega (arith, firsts-count q ps))
 
 pub cold-count : (q : ℕ) (cs : List Cold) → count q (coldFirsts cs) ≡ total (λ (c : Cold). cond (eqb (c .first) q) 1 0) cs
 cold-count q [] = refl
-cold-count q (c ∷ cs) = rw (flip q (c .first)) (omega (arith, cold-count q cs))
+cold-count q (c ∷ cs) = rw (eqb-turned q (c .first)) (omega (arith, cold-count q cs))
 
 abbrev pub Ordered : (ℕ → ℕ → Bool) → List ℕ → Type 0
 Ordered o [] = Unit {0}

@@ -31,7 +31,7 @@ use Rattle.model.proofs.RunsTold.{Counted, and-yes}
 use Rattle.model.proofs.RunRequests.{gotAt, Follow, Follows, follows-done, follows-asks, answer-follows, unfated}
 
 -- every class, every page: does the class have a run there, is it clean
-abbrev Tellings : Type 0
+abbrev pub Tellings : Type 0
 Tellings = ℕ → ℕ → Bool
 
 pub record RunsAre (H : Heap) (hs bs : Tellings) : Type 0 where
@@ -67,7 +67,7 @@ unfolding offer
 offered c q H size h a x (follows-done f) = f
 offered c q H size h a x (follows-asks f) = f _
 
-abbrev AllOnce : Heap → Type 0
+abbrev pub AllOnce : Heap → Type 0
 AllOnce H = (c : ℕ) → Once (shapeOf c) (H .classes c)
 
 pub inv-once : (size n : ℕ) (H : Heap) (es : List Entry) (f : ℕ → Bool) (l : ℕ → ℕ) → Inv size n H es f l → AllOnce H

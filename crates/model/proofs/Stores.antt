@@ -13,7 +13,7 @@ use lib.ListN as ListN
 use lib.Seq.{take-append-seam}
 use borrow.Author.Tests.{eqb-true, eqb-false, eq-eqb, ne-eqb, leb-true, ltb-true, not-true, not-false}
 use Rattle.facts.specs.Lists.{isNil, every, any, All, total, elem, distinct, count}
-use Rattle.facts.proofs.Bools.{by-cases, and-left, and-right, and-no, or-left, or-right}
+use Rattle.facts.proofs.Bools.{by-cases, and-left, and-right, and-no, or-left, or-right, eqb-turned}
 use Rattle.words.specs.Word.{pageOf}
 use Rattle.classes.specs.declared.Shape.{Shape}
 use Rattle.classes.specs.Shape.{shapeOf, smallShape, mediumShape}
@@ -51,9 +51,9 @@ use Rattle.model.proofs.Yields.{AllListed, route-listed}
 use Rattle.model.proofs.Since.{sinceNext, sinceFrom}
 use Rattle.model.proofs.RunsTold.{each, and-yes, any-passing, passing-any, block-of, block-on, weigh-once, total-le}
 use Rattle.model.proofs.Weights.{weigh, SiteWeight, SiteWeights, site-weight, settle-weighs}
-use Rattle.model.proofs.Newest.{flip, firsts, coldFirsts, firsts-count, cold-count, Ordered, ordered-map, nextAt, ordered-beside, ordered-top, nextAll, all-told}
+use Rattle.model.proofs.Newest.{firsts, coldFirsts, firsts-count, cold-count, Ordered, ordered-map, nextAt, ordered-beside, ordered-top, nextAll, all-told}
 use Rattle.model.proofs.RunRequests.{unfated}
-use Rattle.model.proofs.RunHistories.{inv-once, refused-named}
+use Rattle.model.proofs.RunHistories.{Tellings, AllOnce, inv-once, refused-named}
 use Rattle.model.proofs.TakesTold.{pop-block, some-block, came}
 use Rattle.model.proofs.Offers.{outs-on}
 
@@ -541,7 +541,7 @@ module _ (sh : Shape) (ok : Sound sh) (lim : Limits) (paged : isMedium sh ≡ fa
       let y = settles h s x k true (blocksOn sh ws (x .page)) in
       record {
         busy = y .busy;
-        cold = λ q. y .cold q ∙ ap (λ i. chilled sh q (s .cold) + i) (one-at (startsAt q (x .page)) _ ∙ ap (λ i. one-if (i && wentCold (settle sh lim h true (blocksOn sh ws (x .page)) x .fate))) (ap (λ n. eqb n q) (eqb-true (x .page .first) (pageOf g) t) ∙ flip (pageOf g) q));
+        cold = λ q. y .cold q ∙ ap (λ i. chilled sh q (s .cold) + i) (one-at (startsAt q (x .page)) _ ∙ ap (λ i. one-if (i && wentCold (settle sh lim h true (blocksOn sh ws (x .page)) x .fate))) (ap (λ n. eqb n q) (eqb-true (x .page .first) (pageOf g) t) ∙ eqb-turned (pageOf g) q));
       }
 
   chunks-settle : (h : ℕ) (ws gs : List ℕ) (s : Class) → AllSettles gs s (settleChunks sh lim h ws s gs)
@@ -660,26 +660,20 @@ module _ (sh : Shape) (ok : Sound sh) (lim : Limits) (paged : isMedium sh ≡ fa
   answer-keeps s good one y (Calls.giveChunks h ws gs fs) = search (keeps-cond, keeps-refuse, chunks-keep s good one y h ws gs fs) depth 10
 
 -- ---- after every history
-abbrev Colds : Type 0
-Colds = ℕ → ℕ → Bool
-
 abbrev Orders : Type 0
 Orders = ℕ → ℕ → ℕ → Bool
 
-abbrev AllStand : Heap → Colds → Orders → Type 0
+abbrev AllStand : Heap → Tellings → Orders → Type 0
 AllStand H bs os = (c : ℕ) → Stands (shapeOf c) (H .classes c) (bs c) (os c)
 
-abbrev AllOnce : Heap → Type 0
-AllOnce H = (c : ℕ) → Once (shapeOf c) (H .classes c)
-
-abbrev coldAfter : Event → Colds → Colds
+abbrev coldAfter : Event → Tellings → Tellings
 coldAfter v bs = λ c q. sinceNext (chills c q) (draws c q) (bs c q) v
 
 abbrev laterAfter : Event → Orders → Orders
 laterAfter v os = λ c i j. sinceNext (follows c i j) (touches c j) (os c i j) v
 
 -- an event tells nothing if no test passes
-silent : (c : ℕ) (s : Class) (bs : Colds) (os : Orders) (v : Event) → ((q : ℕ) → chills c q v ≡ false) → ((q : ℕ) → draws c q v ≡ false) → ((q : ℕ) → touches c q v ≡ false)
+silent : (c : ℕ) (s : Class) (bs : Tellings) (os : Orders) (v : Event) → ((q : ℕ) → chills c q v ≡ false) → ((q : ℕ) → draws c q v ≡ false) → ((q : ℕ) → touches c q v ≡ false)
     → Stands (shapeOf c) s (bs c) (os c) → Stands (shapeOf c) s (coldAfter v bs c) (laterAfter v os c)
 silent c s bs os v f g t k = record {
   busy = k .busy;
@@ -700,7 +694,7 @@ unfolding offer
 served-keeps sh s a size h H x (keeps-done k) = k
 served-keeps sh s a size h H x (keeps-asks k) = k _
 
-module _ (size : ℕ) (H : Heap) (good : (c : ℕ) → GoodClass (shapeOf c) (H .classes c)) (one : AllOnce H) (listed : AllListed H) (bs : Colds) (os : Orders) (k : AllStand H bs os) where
+module _ (size : ℕ) (H : Heap) (good : (c : ℕ) → GoodClass (shapeOf c) (H .classes c)) (one : AllOnce H) (listed : AllListed H) (bs : Tellings) (os : Orders) (k : AllStand H bs os) where
   module _ (x : Call) (d : Named) (e : names x ≡ some d) (once : AllOnce (classCall size H (d .class) (d .request) .heap)) where
     abbrev now : Event
     now = eventOf x (classCall size H (d .class) (d .request))
@@ -743,7 +737,7 @@ module _ (size : ℕ) (H : Heap) (good : (c : ℕ) → GoodClass (shapeOf c) (H 
   route-stands x (is-class d t e) once c =
       at-class (λ j s. Stands (shapeOf j) s (coldAfter (now x d e once) bs j) (laterAfter (now x d e once) os j)) (H .classes) (d .class) _ (own x d e once) (λ j n. others x d e once j n) c
 
-stand-from : (size n : ℕ) (H : Heap) (es : List Entry) (f : ℕ → Bool) (l : ℕ → ℕ) → Inv size n H es f l → AllListed H → (bs : Colds) (os : Orders) → AllStand H bs os → (xs : List Call)
+stand-from : (size n : ℕ) (H : Heap) (es : List Entry) (f : ℕ → Bool) (l : ℕ → ℕ) → Inv size n H es f l → AllListed H → (bs : Tellings) (os : Orders) → AllStand H bs os → (xs : List Call)
     → AllStand (heapFrom size H xs) (λ c q. sinceFrom (chills c q) (draws c q) (bs c q) (eventsFrom size H xs)) (λ c i j. sinceFrom (follows c i j) (touches c j) (os c i j) (eventsFrom size H xs))
 unfolding step
 stand-from size n H es f l inv y bs os k [] = k
