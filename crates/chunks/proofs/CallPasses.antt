@@ -26,8 +26,8 @@ use Rattle.pages.specs.Fair.{linksFair, limitsAt}
 use Rattle.release.proofs.Bits.{isBit, in-run-kept}
 use Rattle.release.proofs.FairSteps.{links-fair}
 use Rattle.release.proofs.OutLaws.{run-of-out, block-of-out, index-of-out, page-of-out}
-use Rattle.tally.specs.way.Match.{wordsOn, Matched}
-use Rattle.tally.proofs.MatchLaws.{arena-is}
+use Rattle.chunks.specs.way.Match.{wordsOn, Matched}
+use Rattle.chunks.proofs.MatchLaws.{arena-is}
 use Rattle.chunks.specs.way.Pass.{cleared, pushOne, pushAll, givesIn}
 use Rattle.chunks.specs.way.PushAsks.{ownBlock, PushAllAsks}
 use Rattle.chunks.specs.way.FairAsks.{ChunksFairAsks}

@@ -33,7 +33,7 @@ use Rattle.release.proofs.FairSteps.{page-room, page-carved}
 use Rattle.fields.specs.Ranges.{maxPages}
 use Rattle.pages.proofs.Downs.{every-mono}
 use Rattle.model.specs.Chunks.{chunksMax}
-use Rattle.tally.specs.way.Match.{wordsOn, pageFits, hasPage, pagesMatch, inArena, MatchAsks}
+use Rattle.chunks.specs.way.Match.{wordsOn, pageFits, hasPage, pagesMatch, inArena, MatchAsks}
 use Rattle.chunks.specs.way.CallAsks.{CallAsks}
 
 -- ---- what number 11's test asks

@@ -33,9 +33,9 @@ use Rattle.arena.specs.Fair.{recordFair, holeEndsFair, holesEndFair, giveFair}
 use Rattle.arena.specs.Owners.{own}
 use Rattle.arena.specs.Calls.{given}
 use Rattle.arena.proofs.Frames.{loaded-length, isOwner, holes-same, holes-there, arena-changes, own-changes}
-use Rattle.holes.proofs.StoreLaws.{holes-length}
-use Rattle.holes.proofs.EndsFair.{place-fair}
-use Rattle.holes.proofs.Acts.{FairRecord, fair-record, status-code}
+use Rattle.runs.proofs.StoreLaws.{holes-length}
+use Rattle.runs.proofs.EndsFair.{place-fair}
+use Rattle.runs.proofs.Acts.{FairRecord, fair-record, status-code}
 use Rattle.runs.specs.way.Asks.{GiveIn}
 use Rattle.calls.specs.Chunks.{givesOf, giveRuns}
 use Rattle.chunks.specs.way.Pass.{givesIn}

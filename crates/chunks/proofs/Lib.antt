@@ -1,3 +1,9 @@
+mod Indices
+mod NameLaws
+mod MatchLaws
+mod NameSteps
+mod CountSteps
+mod MatchSteps
 pub mod GatherPlace
 pub mod GatherPush
 pub mod Gather

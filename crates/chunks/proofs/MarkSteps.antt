@@ -32,8 +32,8 @@ use Rattle.release.proofs.OutLaws.{run-of-out}
 use Rattle.release.proofs.MarkLaws.{mark-bits}
 use Rattle.release.proofs.RunMarks.{fresh-changes, AllFresh, all-fresh, not-marked, not-repeated}
 use Rattle.release.proofs.Testing.{fault-none}
-use Rattle.tally.specs.way.Match.{isPage, inArena, hasPage, pageFits, pagesMatch, arenaMatch, Matched}
-use Rattle.tally.proofs.MatchLaws.{low-page}
+use Rattle.chunks.specs.way.Match.{isPage, inArena, hasPage, pageFits, pagesMatch, arenaMatch, Matched}
+use Rattle.chunks.proofs.MatchLaws.{low-page}
 use Rattle.chunks.specs.way.Pass.{cleared}
 use Rattle.chunks.specs.way.CallAsks.{passFault, testFault}
 use Rattle.chunks.specs.way.Marks.{pageReady, ownCount, ownBook, sweep, takePages, clearPages}

@@ -26,7 +26,7 @@ use Rattle.release.specs.way.Marks.{markAt, setMark, freshAt, markedIn, freshIn
 use Rattle.release.proofs.RunLaws.{not-before, not-behind}
 use Rattle.release.proofs.TakeMarks.{lengths, takes-marked, out-past, mark-past, out-still, mark-still}
 use Rattle.release.proofs.RunMarks.{none-taken, none-cleared, clear-past, clear-away, fresh-low, fresh-word, fresh-out, fresh-mark, clears-by, inWhole}
-use Rattle.tally.specs.way.Match.{hasPage, inArena}
+use Rattle.chunks.specs.way.Match.{hasPage, inArena}
 use Rattle.chunks.specs.way.Pass.{cleared}
 use Rattle.chunks.specs.way.Marks.{pageReady, ownCount, ownBook, takePages, clearPages}
 

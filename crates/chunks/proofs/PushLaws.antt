@@ -22,7 +22,7 @@ use Rattle.pages.specs.Stack.{indexOf, isBlock, pageAt}
 use Rattle.chunks.specs.way.CallAsks.{hasBit, BitsAsks}
 use Rattle.chunks.specs.way.Pass.{cleared, pushOne, pushAll}
 use Rattle.chunks.specs.way.PushAsks.{ownBlock, PushAllAsks}
-use Rattle.tally.specs.way.Match.{wordsOn}
+use Rattle.chunks.specs.way.Match.{wordsOn}
 
 -- ---- one block
 pub one-length : (b : List ℕ) (q i : ℕ) → length (pushOne b q i) ≡ length b

@@ -24,7 +24,7 @@ use Rattle.fields.proofs.Laws.{get-put-same, put-comm, put-put-same, put-get, l
 use Rattle.pages.specs.way.Asks.{LayAsks, IndexAsks}
 use Rattle.pages.specs.Stack.{blocksFrom, indexOf, isBlock, pageAt, push}
 use Rattle.pages.proofs.Pushes.{length-push}
-use Rattle.tally.specs.way.Match.{wordsOn}
+use Rattle.chunks.specs.way.Match.{wordsOn}
 use Rattle.chunks.specs.way.Pass.{pushOne, pushAll}
 use Rattle.chunks.specs.way.PushAsks.{ownBlock, onPage, inReach, PushAllAsks, SpotAsks, TailAsks, TailOn, LastAsks, PushedFrom}
 use Rattle.chunks.proofs.PushLaws.{Pushing, push-length, push-free, on-here, on-other, on-more, asks-drop}

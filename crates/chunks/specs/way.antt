@@ -1,3 +1,6 @@
+pub mod Match
+pub mod Tally
+pub mod TallyAsks
 pub mod Pass
 pub mod PushAsks
 pub mod GiveAsks

@@ -3,6 +3,8 @@ ghost use Rattle.calls.specs.Chunks.{releaseChunks};
 ghost use Rattle.chunks.specs.way.CallAsks.{allPlaced, settledTo, passFault, testFault, CallAsks, ListedAsks, TestAsks, PassAsks, SettleAsks, TakenBy, ChunksAnswered};
 use super::fair::chunks_fair;
 use super::gives::give_chunks;
+use super::matching::MAX_CHUNKS;
+use super::matching::chunks_match;
 use super::place::place_chunks;
 use super::push::push_blocks;
 use super::push::take_blocks;
@@ -10,8 +12,6 @@ use super::quick::try_take;
 use classes::Shape;
 use release::all_of_kind;
 use release::out_fault;
-use tally::MAX_CHUNKS;
-use tally::chunks_match;
 use words::Word;
 
 // The blocks back on their stacks, their pages placed, and the runs that leave the class to the arena.

@@ -3,6 +3,7 @@ ghost use mathlib.Core.Path.{_≡_};
 ghost use Rattle.facts.specs.Lists.{every};
 ghost use Rattle.chunks.specs.way.Marks.{pageReady, takePages, clearPages};
 ghost use Rattle.chunks.specs.way.MarkAsks.{OwnAsks, OwnMarked, SweepAsks, ReadyAsks};
+use super::naming::is_page;
 use classes::Shape;
 use pages::chunk_page;
 use pages::page_within;
@@ -10,7 +11,6 @@ use release::clear_marks;
 use release::mark_run;
 use release::no_marks;
 use release::take_marks;
-use tally::is_page;
 
 // Whether a chunk's page is a run of the class, and its first m words of marks are 0.
 fn page_ready(meta: &[u32], n: u32, c: u32, shape: Shape, m: u32, chunk: u64) -> bool

@@ -10,9 +10,9 @@ ghost use Rattle.chunks.specs.way.Pass.{cleared, pushAll};
 ghost use Rattle.chunks.specs.way.PushAsks.{ownBlock, onPage, inReach, PushAllAsks, SpotAsks, TailAsks, TailOn, LastAsks, PushedFrom};
 ghost use Rattle.chunks.specs.way.CallAsks.{BitsAsks};
 use classes::Shape;
+use lists::index_of;
+use lists::lay_blocks;
 use pages::page_within;
-use stack::index_of;
-use stack::lay_blocks;
 
 // A word's block is out no longer.
 fn take_block(meta: &mut [u32], n: u32, shape: Shape, w: u64)

@@ -5,8 +5,8 @@ use super::marks::clear_pages;
 use super::marks::mark_words;
 use super::marks::pages_ready;
 use super::marks::take_pages;
+use super::matching::chunks_match;
 use classes::Shape;
-use tally::chunks_match;
 
 // All listed blocks are marked: they are taken, or else the marks are.
 fn take_marked(meta: &mut [u32], n: u32, c: u32, shape: Shape, m: u32, chunks: &[u64]) -> bool

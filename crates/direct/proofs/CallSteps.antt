@@ -23,23 +23,23 @@ use Rattle.fields.proofs.Laws.{length-put}
 use Rattle.direct.specs.way.Asks.{RowIn}
 use Rattle.model.specs.Heap.{badRun, badGrowth, direct}
 use Rattle.model.specs.Arena as Model
-use Rattle.holes.specs.declared.Arena.{Arena}
+use Rattle.runs.specs.declared.Arena.{Arena}
 use Rattle.runs.specs.declared.Commit.{Commit}
 use Rattle.runs.specs.declared.Commit.the-variants.{Refused}
 use Rattle.direct.specs.declared.Grow.{Grow}
 use Rattle.arena.specs.Load.{statusOf, loadArena}
 use Rattle.arena.specs.Owners.{ownerCode}
-use Rattle.holes.specs.way.Record.{recordOf}
+use Rattle.runs.specs.way.Record.{recordOf}
 use Rattle.arena.specs.Fair.{recordFair, holesEndFair, giveFair, growGives, growFair}
 use Rattle.arena.specs.Open.{cleared, headWords, limited, ruled}
 use Rattle.arena.specs.Calls.{commitFor, commitCall, given, heldDirect, releaseCall, growCall, containsCall}
-use Rattle.holes.specs.way.Act.{endNone, endRun, endGiven, settle, fromFrontier, growWith, growActs, clamped}
+use Rattle.runs.specs.way.Act.{endNone, endRun, endGiven, settle, fromFrontier, growWith, growActs, clamped}
 use Rattle.runs.specs.way.Asks.{GiveIn, BookIn, EndsIn}
 use Rattle.runs.specs.Answer.{answerOf, Answers}
 use Rattle.direct.specs.Answer.{grownAs, Releases}
 use Rattle.direct.specs.way.Acts.{growCommit, Grew, Grows, fairGrow, heldRelease}
-use Rattle.holes.proofs.Acts.{fair-record, grow-acts}
-use Rattle.holes.proofs.PlanLaws.{clamp-commit, clamp-growth, clamp-grow, clamped-le}
+use Rattle.runs.proofs.Acts.{fair-record, grow-acts}
+use Rattle.runs.proofs.PlanLaws.{clamp-commit, clamp-growth, clamp-grow, clamped-le}
 
 -- ---- numbers
 pub bad-none : (m : ℕ) → m ≡ 0 → true ≡ badRun m

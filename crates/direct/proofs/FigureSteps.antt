@@ -18,13 +18,13 @@ use Rattle.classes.proofs.Shapes.{shape-sound}
 use Rattle.fields.specs.Field.{arena, class, held, emptyCount, coldCount, get}
 use Rattle.model.specs.declared.Figures.{Figures}
 use Rattle.model.specs.Heap.{parkedPages}
-use Rattle.holes.specs.declared.Arena.{Arena}
+use Rattle.runs.specs.declared.Arena.{Arena}
 use Rattle.direct.specs.declared.Report.the-variants.{Told, Refused}
 use Rattle.arena.specs.Load.{loadStore, loadArena}
 use Rattle.arena.specs.Fair.{recordFair, countsFair, allCountsFair, reportFair}
 use Rattle.arena.specs.Calls.{parkedRuns, figures}
-use Rattle.holes.specs.way.Record.{recordOf}
-use Rattle.holes.proofs.Acts.{fair-record}
+use Rattle.runs.specs.way.Record.{recordOf}
+use Rattle.runs.proofs.Acts.{fair-record}
 use Rattle.runs.specs.way.Asks.{BookIn}
 use Rattle.direct.specs.Answer.{reportOf}
 use Rattle.direct.specs.way.Asks.{CountsIn, parkedMax, Parks}

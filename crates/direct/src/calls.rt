@@ -16,7 +16,7 @@ ghost use Rattle.model.specs.Heap.{badRun, badGrowth, direct};
 ghost use Rattle.arena.specs.Owners.{ownerCode};
 ghost use Rattle.arena.specs.Fair.{growFair};
 ghost use Rattle.arena.specs.Calls.{commitCall, releaseCall, growCall, containsCall};
-ghost use Rattle.holes.specs.way.Act.{clamped, growActs};
+ghost use Rattle.runs.specs.way.Act.{clamped, growActs};
 ghost use Rattle.runs.specs.way.Asks.{BookIn};
 ghost use Rattle.runs.specs.Answer.{Answers};
 ghost use Rattle.direct.specs.Answer.{Releases};

@@ -1,5 +1,4 @@
 // Opening: 0 in the words before the holes, then the arena's length and the limits of every class.
-ghost use mathlib.Core.List.{[]};
 ghost use mathlib.Core.Path.{_≡_};
 ghost use Prim.Native.Nat.{_≤_};
 ghost use lib.ListN.{length};
@@ -47,13 +46,4 @@ pub fn open(meta: &mut [u32], pages: u32, rows: &[u32])
     clear_head(meta);
     fields::arena::set_size(meta, pages);
     set_rules(meta, rows);
-}
-
-// Without rows.
-pub fn open_plain(meta: &mut [u32], pages: u32)
-    requires { ⌜ 40000 ≤ length (now meta) ⌝ }
-    ensures { λ _. ⌜ now (meta .exit) ≡ opened pages (rulesOf []) (now (meta .entry)) ⌝ }
-{
-    let none: [u32; 1] = [0; 1];
-    open(meta, pages, &none[..0]);
 }

@@ -17,7 +17,7 @@ use Rattle.fields.specs.Ranges.{maxPages}
 use Rattle.model.specs.Page.{wordOf}
 use Rattle.model.specs.Release.{ofKind}
 use Rattle.pages.specs.Stack.{blocksFrom, indexOf, isBlock}
-use Rattle.stack.proofs.InverseLaws.{behind-point, past-point, narrow, product-fits, divides, quotient-fits}
+use Rattle.lists.proofs.InverseLaws.{behind-point, past-point, narrow, product-fits, divides, quotient-fits}
 use Rattle.release.specs.declared.Found.the-variants.{At, Nothing}
 use Rattle.release.specs.way.Blocks.{found, blockAt, blockIn}
 use Rattle.release.specs.way.MarkAsks.{Near}

@@ -16,7 +16,6 @@ pub use fair::spot_of;
 pub use kinds::all_of_kind;
 pub use marks::clear_marks;
 pub use marks::mark_run;
-pub use marks::marks_of;
 pub use marks::no_marks;
 pub use marks::take_marks;
 pub use one::release_one;

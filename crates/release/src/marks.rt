@@ -14,7 +14,7 @@ use super::Found;
 use super::blocks::behind;
 use super::blocks::block_in;
 use classes::Shape;
-use stack::word_of;
+use lists::word_of;
 
 // Whether the n blocks from 32 j + s on, whose bits are in one word, are out and not marked; they then are marked.
 fn mark_bits(meta: &mut [u32], q: u32, j: u32, s: u32, n: u32) -> bool

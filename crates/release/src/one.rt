@@ -19,8 +19,8 @@ use super::fair::row_fair;
 use super::park::relist;
 use classes::Shape;
 use classes::shape_of;
-use stack::push_one;
-use stack::word_of;
+use lists::push_one;
+use lists::word_of;
 
 // Block i of the run at q is out, and its word of marks is 0.
 fn is_ready(meta: &[u32], q: u32, i: u32) -> bool

@@ -105,7 +105,7 @@ fn give_back(meta: &mut [u32], c: u32, shape: Shape, host: u32, q: u32, list: &[
     requires { ⌜ BackAsks (now meta) c shape q (now list) ⌝ }
     ensures { λ r. ⌜ Parked r (now (meta .exit)) (settleAt (now (meta .entry)) c shape host q (map (indexOf shape q) (now (list .entry)))) ⌝ }
 {
-    stack::push_list(meta, shape, q, list);
+    lists::push_list(meta, shape, q, list);
     if fields::page::carved(meta, q) == fields::page::free(meta, q) {
         return park_empty_page(meta, c, shape, host, q);
     }

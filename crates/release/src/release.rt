@@ -31,8 +31,8 @@ use super::park::settle;
 use super::tests::out_fault;
 use classes::Shape;
 use classes::shape_of;
+use lists::index_of;
 use pages::page_within;
-use stack::index_of;
 
 // Whether a word's run begins at q; every listed word's.
 fn starts_at(meta: &[u32], n: u32, q: u32, w: u64) -> bool

@@ -11,24 +11,24 @@ use Rattle.facts.proofs.Bools.{by-cases}
 use Rattle.words.specs.Limits.{holeSlots}
 use Rattle.words.specs.Host.{reservationGranted, commitGranted}
 use Rattle.fields.specs.Field.{arena, held, put}
-use Rattle.holes.specs.declared.Arena.{Arena}
-use Rattle.holes.specs.declared.record.Draw.{Draw}
-use Rattle.holes.specs.declared.record.Gain.{Gain}
+use Rattle.runs.specs.declared.Arena.{Arena}
+use Rattle.runs.specs.declared.record.Draw.{Draw}
+use Rattle.runs.specs.declared.record.Gain.{Gain}
 use Rattle.model.specs.declared.Hole.{Hole}
 use Rattle.model.specs.HoleStore.{hole}
 use Rattle.runs.specs.declared.Request.{Request}
 use Rattle.runs.specs.declared.Commit.{Commit}
 use Rattle.runs.specs.declared.Commit.the-variants.{Run, Nothing}
-use Rattle.holes.specs.way.Change.{drawnBy, gainedBy}
-use Rattle.holes.specs.way.Record.{storeRecord, advanced, counted}
+use Rattle.runs.specs.way.Change.{drawnBy, gainedBy}
+use Rattle.runs.specs.way.Record.{storeRecord, advanced, counted}
 use Rattle.arena.specs.Owners.{own}
 use Rattle.arena.specs.Load.{loadHole, loadHoles}
 use Rattle.arena.specs.Store.{storeHole}
-use Rattle.holes.specs.way.Act.{withState, Gives, drawWords, drawRecord, Draws, endNone, endRun, endGiven, settle, fromFrontier, holeDrawn, commitDrawn, nextState, commitPlanned}
+use Rattle.runs.specs.way.Act.{withState, Gives, drawWords, drawRecord, Draws, endNone, endRun, endGiven, settle, fromFrontier, holeDrawn, commitDrawn, nextState, commitPlanned}
 use Rattle.runs.specs.way.Asks.{RecordIn, HoleIn, PlanIn, EndsIn, RequestIn, RunIn, BackIn}
 use Rattle.runs.specs.Answer.{Answers}
-use Rattle.holes.proofs.StoreLaws.{hole-length}
-use Rattle.holes.proofs.EndsFair.{ends-more, draw-fair}
+use Rattle.runs.proofs.StoreLaws.{hole-length}
+use Rattle.runs.proofs.EndsFair.{ends-more, draw-fair}
 
 -- ---- the record afterwards
 abbrev drawOf : ℕ → ℕ → ℕ → ℕ → Bool → Bool → Draw

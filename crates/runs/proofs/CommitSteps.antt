@@ -13,21 +13,21 @@ use Rattle.facts.proofs.Bools.{by-cases}
 use Rattle.words.specs.Limits.{maxPages, holeSlots}
 use Rattle.words.specs.Host.{commitGranted}
 use Rattle.fields.specs.Field.{arena, held, get, words}
-use Rattle.holes.specs.declared.Arena.{Arena}
-use Rattle.holes.specs.declared.Plan.{Plan}
+use Rattle.runs.specs.declared.Arena.{Arena}
+use Rattle.runs.specs.declared.Plan.{Plan}
 use Rattle.runs.specs.declared.Commit.{Commit}
 use Rattle.runs.specs.declared.Commit.the-variants.{Refused, Nothing}
 use Rattle.arena.specs.Load.{loadHole, loadHoles}
-use Rattle.holes.specs.way.Record.{recordOf, storeRecord}
+use Rattle.runs.specs.way.Record.{recordOf, storeRecord}
 use Rattle.arena.specs.Fair.{recordFair}
-use Rattle.holes.specs.way.Plan.{planAs, planOf}
+use Rattle.runs.specs.way.Plan.{planAs, planOf}
 use Rattle.arena.specs.Calls.{commitRefused, commitFor}
-use Rattle.holes.specs.way.Act.{withState, endNone, endRun, settle, fromFrontier, holeDrawn, commitDrawn, nextState, commitPlanned, planned, commitRead, commitActs, growWith}
+use Rattle.runs.specs.way.Act.{withState, endNone, endRun, settle, fromFrontier, holeDrawn, commitDrawn, nextState, commitPlanned, planned, commitRead, commitActs, growWith}
 use Rattle.runs.specs.way.Asks.{RecordIn, HoleIn, PlanIn, EndsIn, RequestIn, BookIn}
 use Rattle.runs.specs.way.Found.{found, hasRun, Finds}
 use Rattle.runs.specs.Answer.{Answers}
-use Rattle.holes.proofs.Acts.{fair-record, planned-is, ends-of, commit-acts}
-use Rattle.holes.proofs.PlanLaws.{plan-fits}
+use Rattle.runs.proofs.Acts.{fair-record, planned-is, ends-of, commit-acts}
+use Rattle.runs.proofs.PlanLaws.{plan-fits}
 
 -- ---- the record that was loaded
 pub loaded-record : (n : ℕ) (b : List ℕ) (a : Arena) → recordFair n b ≡ true → a ≡ recordOf b → RecordIn n a

@@ -12,14 +12,14 @@ use Rattle.words.specs.Host.{commitGranted}
 use Rattle.model.specs.Heap.{direct}
 use Rattle.arena.specs.Owners.{ownerCode}
 use Rattle.fields.specs.Field.{arena, page, owner, frontier, holes, held, get, put}
-use Rattle.holes.specs.declared.Arena.{Arena}
-use Rattle.holes.specs.way.Record.{recordOf}
+use Rattle.runs.specs.declared.Arena.{Arena}
+use Rattle.runs.specs.way.Record.{recordOf}
 use Rattle.arena.specs.Fair.{recordFair, holesEndFair, giveFair, growGives, growFair}
 use Rattle.arena.specs.Load.{loadArena}
 use Rattle.arena.specs.Calls.{given, everyDirect, heldDirect}
-use Rattle.holes.specs.way.Act.{endGiven, givenWith, giveActs}
+use Rattle.runs.specs.way.Act.{endGiven, givenWith, giveActs}
 use Rattle.runs.specs.way.Asks.{StoreIn, GiveIn, BackIn}
-use Rattle.holes.proofs.Acts.{FairRecord, fair-record, give-acts}
+use Rattle.runs.proofs.Acts.{FairRecord, fair-record, give-acts}
 
 -- ---- giving
 module _ (n : ℕ) (b : List ℕ) (m : ℕ) where

@@ -1,3 +1,19 @@
+pub mod StoreLaws
+pub mod EndsFair
+mod Joins
+pub mod Acts
+pub mod PlanLaws
+mod Calling
+mod Laid
+mod Least
+mod Loading
+mod Looping
+mod Planning
+mod Proving
+mod Scanning
+mod Scans
+mod Touching
+mod Walk
 mod RecordSteps
 mod ActSteps
 mod GiveSteps

@@ -15,12 +15,12 @@ use Rattle.words.specs.Limits.{holeSlots, holePagesMax}
 use Rattle.fields.specs.Field as Field
 use Rattle.fields.specs.Field.{arena, page, owner, state, frontier, holes, holePages, held, pages, get, put}
 use Rattle.fields.proofs.Laws.{length-put}
-use Rattle.holes.specs.declared.Arena.{Arena}
-use Rattle.holes.specs.declared.holes.Beside.{Beside}
-use Rattle.holes.specs.declared.record.Gain.{Gain}
-use Rattle.holes.specs.way.Change.{gainedBy, gains, lost}
-use Rattle.holes.specs.way.Record.{abandoning}
-use Rattle.holes.specs.way.Plan.{indexCode, neighboursOf}
+use Rattle.runs.specs.declared.Arena.{Arena}
+use Rattle.runs.specs.declared.holes.Beside.{Beside}
+use Rattle.runs.specs.declared.record.Gain.{Gain}
+use Rattle.runs.specs.way.Change.{gainedBy, gains, lost}
+use Rattle.runs.specs.way.Record.{abandoning}
+use Rattle.runs.specs.way.Plan.{indexCode, neighboursOf}
 use Rattle.arena.specs.Fair.{recordFair, holeEndsFair, holesEndFair}
 use Rattle.arena.specs.Owners.{own}
 use Rattle.arena.specs.Load.{loadHole, loadHoles}
@@ -29,9 +29,9 @@ use Rattle.arena.proofs.Frames.{loaded-length}
 use Rattle.model.specs.declared.Hole.{Hole}
 use Rattle.model.specs.HoleStore.{hole, holeAt, endsAt, startsAt, holeBefore, holeAfter, withBefore, withAfter, withBoth}
 use Rattle.model.proofs.Placing.{Found, found, not-found, finds}
-use Rattle.holes.specs.way.Act.{bothWords, placeWords, placeRecord, Places, edges, touching, giveWords, giveRecord, Gives}
-use Rattle.holes.proofs.StoreLaws.{loaded-at}
-use Rattle.holes.proofs.EndsFair.{ends-at}
+use Rattle.runs.specs.way.Act.{bothWords, placeWords, placeRecord, Places, edges, touching, giveWords, giveRecord, Gives}
+use Rattle.runs.proofs.StoreLaws.{loaded-at}
+use Rattle.runs.proofs.EndsFair.{ends-at}
 use Rattle.runs.specs.way.Asks.{StoreIn, SlotIn, StoredIn, TouchIn}
 
 -- ---- the record's test: one failing word is enough

@@ -1,2 +1,7 @@
+pub mod Record
+pub mod Plan
+pub mod Act
+pub mod Scan
+pub mod Change
 pub mod Asks
 pub mod Found

@@ -1,14 +1,14 @@
 // A commit: the plan reads and tests, the act writes, and nothing fails in it any more.
+use super::Arena;
 use super::Back;
 use super::Commit;
 use super::Request;
 use super::give;
+use super::holes::hole_from;
 use super::owners;
+use super::record;
+use super::record::Draw;
 use super::store;
-use holes::Arena;
-use holes::holes::hole_from;
-use holes::record;
-use holes::record::Draw;
 use model::Hole;
 use words::Host;
 ghost use mathlib.Core.Path.{_≡_};
@@ -20,9 +20,9 @@ ghost use Rattle.words.specs.Host.{commitGranted};
 ghost use Rattle.fields.specs.Field.{arena, held, put};
 ghost use Rattle.arena.specs.Load.{loadHole};
 ghost use Rattle.arena.specs.Owners.{own};
-ghost use Rattle.holes.specs.way.Record.{storeRecord};
-ghost use Rattle.holes.specs.way.Change.{drawnBy};
-ghost use Rattle.holes.specs.way.Act.{withState, Draws, endNone, endGiven, fromFrontier, holeDrawn, commitDrawn, nextState, commitPlanned};
+ghost use Rattle.runs.specs.way.Record.{storeRecord};
+ghost use Rattle.runs.specs.way.Change.{drawnBy};
+ghost use Rattle.runs.specs.way.Act.{withState, Draws, endNone, endGiven, fromFrontier, holeDrawn, commitDrawn, nextState, commitPlanned};
 ghost use Rattle.runs.specs.way.Asks.{RecordIn, HoleIn, PlanIn, EndsIn, RequestIn, RunIn, BackIn};
 ghost use Rattle.runs.specs.Answer.{Answers};
 

@@ -1,12 +1,12 @@
 // A run goes to the holes, or is abandoned.
+use super::Arena;
 use super::Back;
+use super::holes::Edges;
 use super::load;
 use super::owners;
+use super::plans;
+use super::record::Gain;
 use super::store;
-use holes::Arena;
-use holes::holes::Edges;
-use holes::plans;
-use holes::record::Gain;
 use words::limits::HOLE_PAGES_MAX;
 use words::limits::HOLE_SLOTS;
 ghost use mathlib.Core.Path.{_≡_};
@@ -18,8 +18,8 @@ ghost use Rattle.arena.specs.Load.{loadHole};
 ghost use Rattle.arena.specs.Store.{storeHole};
 ghost use Rattle.arena.specs.Fair.{giveFair};
 ghost use Rattle.arena.specs.Calls.{given};
-ghost use Rattle.holes.specs.way.Change.{gains, lost};
-ghost use Rattle.holes.specs.way.Act.{bothWords, Places, Gives, endGiven};
+ghost use Rattle.runs.specs.way.Change.{gains, lost};
+ghost use Rattle.runs.specs.way.Act.{bothWords, Places, Gives, endGiven};
 ghost use Rattle.runs.specs.way.Asks.{StoreIn, SlotIn, StoredIn, TouchIn, GiveIn, BackIn};
 
 // The holes gain pages; the run is lost.

@@ -1,10 +1,10 @@
 // A growth at the frontier: the added pages are settled as a commit of them is.
+use super::Arena;
 use super::Commit;
 use super::Request;
 use super::act;
 use super::load;
 use super::store;
-use holes::Arena;
 use words::Host;
 ghost use mathlib.Core.Path.{_≡_};
 ghost use mathlib.Core.Bool.{false};
@@ -12,7 +12,7 @@ ghost use Prim.Native.Nat.{_+_, _≤_};
 ghost use Rattle.words.specs.Limits.{maxPages};
 ghost use Rattle.words.specs.Host.{commitGranted};
 ghost use Rattle.arena.specs.Fair.{growGives, growFair};
-ghost use Rattle.holes.specs.way.Act.{growWith};
+ghost use Rattle.runs.specs.way.Act.{growWith};
 ghost use Rattle.runs.specs.way.Asks.{RecordIn, EndsIn, RequestIn, BookIn};
 ghost use Rattle.runs.specs.Answer.{Answers};
 

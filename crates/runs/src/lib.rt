@@ -1,13 +1,15 @@
-// Runs of pages on the words: the arena's record and holes are read and tested, one step is done, and what changed is written.
-pub mod act;
+// The arena on the words: its record and holes are read and tested, one step is done, and what changed is written. The holes are lent as slices, the
+// record by `&mut`, as document 01 names them.
+mod act;
 pub mod give;
 pub mod growth;
+mod holes;
 pub mod load;
 pub mod owners;
+mod plans;
+mod record;
 mod store;
 
-use holes::Plan;
-use holes::plans;
 ghost use mathlib.Core.Path.{_≡_};
 ghost use Prim.Native.Nat.{_+_, _≤_};
 ghost use Rattle.words.specs.Limits.{maxPages};
@@ -15,6 +17,25 @@ ghost use Rattle.arena.specs.Calls.{commitFor};
 ghost use Rattle.runs.specs.way.Asks.{BookIn};
 ghost use Rattle.runs.specs.way.Found.{found, Finds};
 ghost use Rattle.runs.specs.Answer.{Answers};
+
+// The arena's state, frontier and three counts, with the number of holes and of the pages in them.
+pub struct Arena {
+    pub state: u32,
+    pub frontier: u32,
+    pub count: u32,
+    pub total: u32,
+    pub commits: u64,
+    pub reuses: u64,
+    pub abandoned: u64,
+}
+
+// What a commit of some pages finds among the holes.
+pub struct Plan {
+    // Every hole is in its range.
+    pub fair: bool,
+    // The chosen hole: its index and one, or 0 for none.
+    pub code: u32,
+}
 
 // What is asked of the arena: pages for an owner, in an arena of so many pages; the host word, and HELD as it was.
 pub struct Request {

@@ -1,12 +1,12 @@
 // The arena's record as the words hold it, and number 13's tests of it.
-use holes::Arena;
-use holes::plans;
+use super::Arena;
+use super::plans;
 use words::limits::HOLE_PAGES_MAX;
 use words::limits::HOLE_SLOTS;
 ghost use mathlib.Core.Path.{_≡_};
 ghost use Prim.Native.Nat.{_≤_};
 ghost use lib.ListN.{length};
-ghost use Rattle.holes.specs.way.Record.{recordOf};
+ghost use Rattle.runs.specs.way.Record.{recordOf};
 ghost use Rattle.words.specs.Limits.{holeSlots};
 ghost use Rattle.fields.specs.Field.{arena, holes, get};
 ghost use Rattle.arena.specs.Fair.{recordFair, holesEndFair};

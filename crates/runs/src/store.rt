@@ -1,16 +1,16 @@
 // The record and a hole, written to the words. The record is a local of the function that lends it, to be changed in place, and stores it.
-use holes::Arena;
-use holes::record;
-use holes::record::Draw;
-use holes::record::Gain;
+use super::Arena;
+use super::record;
+use super::record::Draw;
+use super::record::Gain;
 ghost use mathlib.Core.Path.{_≡_};
 ghost use Prim.Native.Nat.{_+_, _≤_, _<_, _^_};
 ghost use lib.ListN.{length};
 ghost use Rattle.words.specs.Limits.{holeSlots};
 ghost use Rattle.model.specs.HoleStore.{hole};
 ghost use Rattle.arena.specs.Store.{storeHole, storeCounts, storeTop};
-ghost use Rattle.holes.specs.way.Change.{drawnBy, gainedBy};
-ghost use Rattle.holes.specs.way.Record.{storeRecord};
+ghost use Rattle.runs.specs.way.Change.{drawnBy, gainedBy};
+ghost use Rattle.runs.specs.way.Record.{storeRecord};
 
 fn store_counts(meta: &mut [u32], a: Arena)
     requires { ⌜ 40000 ≤ length (now meta) ⌝ }

@@ -23,7 +23,7 @@ use Rattle.fields.specs.Field.{arena, page, out, frontier, owner, first, get, w
 use Rattle.pages.specs.Runs.{whole}
 use Rattle.pages.specs.Stack.{pageAt, blocksFrom, indexOf, isBlock}
 use Rattle.calls.specs.Out.{startOf, inRunOf, outIn, outAt}
-use Rattle.stack.proofs.InverseLaws.{narrow}
+use Rattle.lists.proofs.InverseLaws.{narrow}
 use Rattle.release.specs.declared.Found.{Found}
 use Rattle.release.specs.declared.Found.the-variants.{At, Nothing}
 use Rattle.release.specs.declared.Out.{Out}

@@ -15,7 +15,7 @@ use Rattle.classes.specs.declared.Shape.{Shape}
 use Rattle.classes.specs.Sizes.{smallSizes}
 use Rattle.classes.specs.Shape.{shapeOf, smallShape}
 use Rattle.classes.proofs.Shapes.{shape-sound}
-use Rattle.stack.proofs.InverseLaws.{narrow}
+use Rattle.lists.proofs.InverseLaws.{narrow}
 use Rattle.pool.specs.Stock.{stockLeast, stockLimit, stockBytes, clamped, stockMost}
 use Rattle.stock.specs.way.Ends.{isFull}
 

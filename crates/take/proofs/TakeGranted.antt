@@ -18,17 +18,17 @@ use Rattle.fields.specs.Field.{arena, class, hole, page, frontier, held, partia
 use Rattle.fields.proofs.Laws.{get-put-same, get-put-other, length-put}
 use Rattle.fields.proofs.Changes.{Changes, changes-none, changes-put}
 use Rattle.model.specs.declared.Hole.{Hole}
-use Rattle.holes.specs.declared.Arena.{Arena}
+use Rattle.runs.specs.declared.Arena.{Arena}
 use Rattle.arena.specs.Load.{loadHole}
 use Rattle.arena.specs.Store.{storeHole, storeCounts, storeTop}
-use Rattle.holes.specs.way.Record.{recordOf, storeRecord, advanced, counted}
+use Rattle.runs.specs.way.Record.{recordOf, storeRecord, advanced, counted}
 use Rattle.arena.specs.Fair.{recordFair}
 use Rattle.arena.specs.Owners.{own}
 use Rattle.arena.specs.Calls.{Committed, commitRefused, commitFor}
-use Rattle.holes.specs.way.Act.{withState, drawWords, drawRecord, endNone, endRun, endGiven, settle, fromFrontier, holeDrawn, commitDrawn, nextState, commitPlanned, planned, commitRead, commitActs}
+use Rattle.runs.specs.way.Act.{withState, drawWords, drawRecord, endNone, endRun, endGiven, settle, fromFrontier, holeDrawn, commitDrawn, nextState, commitPlanned, planned, commitRead, commitActs}
 use Rattle.arena.proofs.Frames.{isStored, isOwner, record-changes, own-changes}
-use Rattle.holes.proofs.Acts.{FairRecord, fair-record, commit-acts}
-use Rattle.holes.proofs.PlanLaws.{plan-fits}
+use Rattle.runs.proofs.Acts.{FairRecord, fair-record, commit-acts}
+use Rattle.runs.proofs.PlanLaws.{plan-fits}
 
 pub record Granted (n : ℕ) (b b′ : List ℕ) (m q w : ℕ) : Type 0 where
   pub ends : q + m ≤ n

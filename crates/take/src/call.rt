@@ -24,7 +24,7 @@ fn ready_run(meta: &mut [u32], c: u32, shape: Shape, q: u32) -> Plan
 {
     lists::new_run(meta, shape, q);
     lists::link_partial(meta, c, q);
-    Plan::Fill(stack::min(shape.batch, shape.capacity), true)
+    Plan::Fill(lists::min(shape.batch, shape.capacity), true)
 }
 
 // A new run from the arena; none is a take of no block.
@@ -142,7 +142,7 @@ pub fn take_count(meta: &[u32], n: u32, c: u32) -> u32
         Plan::Refused(_) => 0,
         Plan::Nothing => {
             if runs::would_commit(meta, n, shape.pages) {
-                return stack::min(shape.batch, shape.capacity);
+                return lists::min(shape.batch, shape.capacity);
             }
             0
         }

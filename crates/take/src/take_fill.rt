@@ -10,7 +10,7 @@ fn unlist_spent(meta: &mut [u32], c: u32, shape: Shape, q: u32)
     requires { ⌜ UnlinkAsks (now meta) c q ⌝ }
     ensures { λ _. ⌜ now (meta .exit) ≡ unlistSpent (now (meta .entry)) c shape q ⌝ }
 {
-    if !stack::has_more(meta, shape, q) {
+    if !lists::has_more(meta, shape, q) {
         lists::unlink_partial(meta, c, q);
     }
 }
@@ -21,7 +21,7 @@ fn fill_page(meta: &mut [u32], c: u32, shape: Shape, list: &mut [u64], at: u32, 
     ensures { λ r. ⌜ GaveTurn r (now (meta .exit)) (now (list .exit)) (now (meta .entry)) c shape (now (list .entry)) at m ⌝ }
 {
     let q = fields::class::partial(meta, c) - 1;
-    let j = stack::draw_blocks(meta, shape, q, list, at, m);
+    let j = lists::draw_blocks(meta, shape, q, list, at, m);
     unlist_spent(meta, c, shape, q);
     j
 }

@@ -41,7 +41,7 @@ fn page_ready(meta: &[u32], shape: Shape, l: u32, q: u32) -> bool
     if fields::page::listed(meta, q) != l {
         return false;
     }
-    stack::has_more(meta, shape, q)
+    lists::has_more(meta, shape, q)
 }
 
 // The run at q is the class's, in its ranges, and the m blocks wanted are on its stack or new.

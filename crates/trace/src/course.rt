@@ -1,4 +1,10 @@
 // A trace's words in turn, up to the first that stops it.
+ghost use mathlib.Core.List.{[]};
+ghost use mathlib.Core.Path.{_≡_};
+ghost use Prim.Native.Nat.{_≤_};
+ghost use lib.ListN.{length};
+ghost use Rattle.rules.specs.Rules.{rulesOf};
+ghost use Rattle.arena.specs.Open.{opened};
 ghost use Rattle.trace.specs.way.Steps.{lent};
 ghost use Rattle.trace.specs.way.Course.{Coursed, Ran};
 ghost use Rattle.trace.specs.way.Asks.{BookAsks};
@@ -49,6 +55,15 @@ pub fn carry_out(
     }
 }
 
+// An opening without rows.
+fn open_plain(meta: &mut [u32], pages: u32)
+    requires { ⌜ 40000 ≤ length (now meta) ⌝ }
+    ensures { λ _. ⌜ now (meta .exit) ≡ opened pages (rulesOf []) (now (meta .entry)) ⌝ }
+{
+    let none: [u32; 1] = [0; 1];
+    direct::open::open(meta, pages, &none[..0]);
+}
+
 // A whole trace: it opens the book, goes on word by word, and leaves the blocks as they were handed out.
 pub fn run(
     meta: &mut [u32],
@@ -60,7 +75,7 @@ pub fn run(
     requires { ⌜ BookAsks n (now meta) ⌝ }
     ensures { λ r. ⌜ Ran r n (lent (now (meta .entry)) (now (blocks .entry)) (now (figures .entry))) (lent (now (meta .exit)) (now (blocks .exit)) (now (figures .exit))) (now (trace .entry)) ⌝ }
 {
-    direct::open::open_plain(meta, n);
+    open_plain(meta, n);
     let course = carry_out(meta, n, trace, blocks, figures);
     straighten(blocks, course.tally.at);
     course

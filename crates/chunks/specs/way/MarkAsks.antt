@@ -13,7 +13,7 @@ use Rattle.model.specs.Chunks.{chunksMax}
 use Rattle.pages.specs.Carve.{outWords}
 use Rattle.calls.specs.Chunks.{chunksFair}
 use Rattle.release.specs.way.Asks.{ClassAsks}
-use Rattle.tally.specs.way.Match.{inArena, arenaMatch}
+use Rattle.chunks.specs.way.Match.{inArena, arenaMatch}
 use Rattle.chunks.specs.way.FairAsks.{PagesAsks, ChunksFairAsks}
 use Rattle.chunks.specs.way.Marks.{pageReady, ownCount, ownBook, takePages, clearPages}
 use Rattle.chunks.specs.way.Pass.{cleared}

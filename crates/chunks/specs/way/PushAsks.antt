@@ -14,7 +14,7 @@ use Rattle.fields.specs.Field.{page, free, words, get}
 use Rattle.fields.specs.Ranges.{maxPages}
 use Rattle.pages.specs.way.Asks.{PushAsks}
 use Rattle.pages.specs.Stack.{isBlock, pageAt, pageSlots}
-use Rattle.tally.specs.way.Match.{wordsOn}
+use Rattle.chunks.specs.way.Match.{wordsOn}
 use Rattle.chunks.specs.way.Pass.{pushAll}
 
 unfoldable pub ownBlock : Shape → ℕ → Bool

@@ -13,7 +13,7 @@ use Rattle.direct.specs.declared.Grow.the-variants.{Yes, No}
 use Rattle.arena.specs.Owners.{ownerCode}
 use Rattle.arena.specs.Fair.{giveFair, growFair}
 use Rattle.arena.specs.Calls.{Committed, commitRefused, Done, doneRefused, given}
-use Rattle.holes.specs.way.Act.{growActs}
+use Rattle.runs.specs.way.Act.{growActs}
 use Rattle.direct.specs.Answer.{grownAs}
 
 pub record Grew (r : Grow) (b : List ℕ) (o : Done) : Type 0 where

@@ -8,7 +8,7 @@ use Rattle.words.specs.Limits.{maxPages, holeSlots, holePagesMax}
 use Rattle.facts.specs.Lists.{every}
 use Rattle.fields.specs.Field.{hole, pages, get, words}
 use Rattle.model.specs.declared.Hole.{Hole}
-use Rattle.holes.specs.declared.Arena.{Arena}
+use Rattle.runs.specs.declared.Arena.{Arena}
 use Rattle.runs.specs.declared.Request.{Request}
 use Rattle.runs.specs.declared.Back.{Back}
 use Rattle.arena.specs.Load.{loadHole, loadHoles}

@@ -8,9 +8,9 @@ use Rattle.facts.specs.Lists.{isSome}
 use Rattle.words.specs.Host.{hostMax}
 use Rattle.arena.specs.Fair.{recordFair}
 use Rattle.arena.specs.Calls.{Committed, commitFor}
-use Rattle.holes.specs.declared.Plan.{Plan}
-use Rattle.holes.specs.way.Plan.{planAs}
-use Rattle.holes.specs.way.Act.{planned}
+use Rattle.runs.specs.declared.Plan.{Plan}
+use Rattle.runs.specs.way.Plan.{planAs}
+use Rattle.runs.specs.way.Act.{planned}
 
 unfoldable pub found : ℕ → List ℕ → ℕ → Plan
 found n b m = cond (recordFair n b) (planned b m) (planAs false 0)

@@ -1,7 +1,0 @@
-use borrow.Author.Needs.{needs}
-use Rattle.holes.proofs.Least.{better-stays, better-goes}
-use Rattle.holes.proofs.holes.better.Statement.{statement}
-use Rattle.holes.proofs.holes.better.Tie as tie
-
-pub better-spec : {M : Type 1} → statement M
-better-spec = tie.close (tie.spec (λ c κs. search needs) (λ c. search better-stays) (λ c. search needs) (λ c. search better-goes))

@@ -1,9 +1,0 @@
-use borrow.Author.Needs.{needs}
-use Rattle.holes.proofs.holes.code_if.Statement.{statement}
-use Rattle.holes.proofs.holes.code_if.Tie as tie
-
-returns : tie.Need-returns
-returns c = simp (c .if1 .taken)
-
-pub code-if-spec : {M : Type 1} → statement M
-code-if-spec = tie.close (tie.spec (λ c. search needs) returns (λ c. search needs))

@@ -1,9 +1,0 @@
-use borrow.Author.Needs.{needs}
-use Rattle.holes.proofs.record.gained.Statement.{statement}
-use Rattle.holes.proofs.record.gained.Tie as tie
-
-returns : tie.Need-returns
-returns c = cc
-
-pub gained-spec : {M : Type 1} → statement M
-gained-spec = tie.close (tie.spec (λ c. search needs) (λ c κs. search needs) returns)

@@ -1,5 +1,0 @@
-pub mod Record
-pub mod Plan
-pub mod Act
-pub mod Scan
-pub mod Change

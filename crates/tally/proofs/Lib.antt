@@ -1,6 +1,0 @@
-pub mod Indices
-pub mod NameLaws
-pub mod MatchLaws
-pub mod NameSteps
-pub mod CountSteps
-pub mod MatchSteps

@@ -1,3 +1,0 @@
-pub mod Match
-pub mod Tally
-pub mod Asks
